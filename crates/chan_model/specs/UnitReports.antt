@@ -1,0 +1,126 @@
+-- What a unit asks of its device, and what it does with the device's answer (own).
+use Rattle.std.specs.Prelude.{ℕ, ◌%◌, Bool, true, false, not, ◌==◌, ◌&&◌, ◌||◌, nat_le, if◌then◌else◌, Option, None, Some, is_none, List, length, bit_and}
+use Rattle.scsw_irb.specs.declared.status.DeviceStatus.{DeviceStatus}
+use Rattle.chan_model.specs.declared.names.Side.{Side}
+use Rattle.chan_model.specs.declared.signal.Load.TheVariants as load
+use Rattle.chan_model.specs.declared.signal.Up.TheVariants as up
+use Rattle.chan_model.specs.declared.report.Call.TheVariants as call
+use Rattle.chan_model.specs.declared.report.Call.{Call}
+use Rattle.chan_model.specs.declared.report.DeviceAnswer.{DeviceAnswer}
+use Rattle.chan_model.specs.declared.report.DeviceAnswer.TheVariants.{Asks, Absorbed, Ended}
+use Rattle.chan_model.specs.declared.report.Report.{Report}
+use Rattle.chan_model.specs.declared.report.Work.{Work}
+use Rattle.chan_model.specs.declared.report.Work.TheVariants as work
+use Rattle.chan_model.specs.declared.unit_state.Place.{Place}
+use Rattle.chan_model.specs.declared.unit_state.Place.TheVariants.{On, Ask, Away}
+use Rattle.chan_model.specs.declared.unit_state.Own.{Own}
+use Rattle.chan_model.specs.declared.unit_state.Own.TheVariants.{Idle, Owned}
+use Rattle.chan_model.specs.declared.unit_state.Progress.{Progress}
+use Rattle.chan_model.specs.declared.unit_state.Progress.TheVariants as progress
+use Rattle.chan_model.specs.declared.unit_state.AtHand.{AtHand}
+use Rattle.chan_model.specs.declared.unit_state.UnitState.{UnitState}
+use Rattle.chan_model.specs.Sides.{same_side}
+use Rattle.chan_model.specs.UnitTable.{UnitStep, sends}
+
+-- the bits of a device status (SA22-7832, chapter 16)
+abbrev pub has_channel_end : DeviceStatus → Bool
+has_channel_end status = bit_and status.0 0x08 == 0x08
+
+abbrev pub has_device_end : DeviceStatus → Bool
+has_device_end status = bit_and status.0 0x04 == 0x04
+
+abbrev pub has_unit_check : DeviceStatus → Bool
+has_unit_check status = bit_and status.0 0x02 == 0x02
+
+-- write and control commands move bytes to the device: their codes are odd
+abbrev pub is_outward : ℕ → Bool
+is_outward code = code % 2 == 1
+
+-- an End after which no other comes: any but channel end alone
+abbrev pub is_last_end : DeviceStatus → Bool
+is_last_end status = not (has_channel_end status) || (has_device_end status || has_unit_check status)
+
+-- the statuses that a device may give at first: channel end alone, or unit check alone
+abbrev pub is_initial : DeviceStatus → Bool
+is_initial status = (status.0 == 0x08) || (status.0 == 0x02)
+
+-- no bytes wait at the device, none will be moved, and no Data is unanswered
+abbrev pub has_moved_all : AtHand → Bool
+has_moved_all x = x.stopped && (is_none x.given && is_none x.unanswered)
+
+-- when a command may end with this status: at once, or where it is halted before it began; after its bytes or a halt,
+-- with device end; after its channel end, with device end alone
+abbrev pub may_end : Bool → AtHand → Progress → DeviceStatus → Bool → Bool
+may_end halted x progress.New status more = not more && (is_initial status || (halted && (status.0 == 0x0C)))
+may_end halted x progress.Working status more = (halted || has_moved_all x) && has_device_end status
+may_end halted x progress.ChannelEnded status more = has_device_end status && not (has_channel_end status)
+may_end halted x progress.Ended status more = false
+
+-- the Data of this command
+abbrev pub data_sent : UnitState → ℕ → ℕ → ℕ → AtHand → ℕ → Option UnitStep
+data_sent u p t c x count =
+    sends (record u { at_hand = Some (record x { progress = progress.Working; given = None; unanswered = Some (load.Absorbed count) }) }) p
+    (up.Data t c u.last_command x.sequence (load.Absorbed count))
+
+abbrev pub absorbed : UnitState → ℕ → ℕ → ℕ → AtHand → Option (List ℕ) → ℕ → Option UnitStep
+absorbed u p t c x None count = None
+absorbed u p t c x (Some bytes) count = if nat_le count (length bytes) then data_sent u p t c x count else None
+
+abbrev pub after_end : DeviceStatus → Progress
+after_end status = if is_last_end status then progress.Ended else progress.ChannelEnded
+
+abbrev pub end_sent : UnitState → ℕ → ℕ → AtHand → DeviceStatus → Bool → Option UnitStep
+end_sent u p t x status more =
+    sends (record u { at_hand = Some (record x { progress = after_end status }) }) p (up.End t u.last_command status more)
+
+-- an answer of the device, at each progress of the command at hand
+abbrev pub answer_taken : UnitState → ℕ → ℕ → ℕ → AtHand → Progress → DeviceAnswer → Option UnitStep
+answer_taken u p t c x at (Ended status more) = if may_end u.halted x at status more then end_sent u p t x status more else None
+answer_taken u p t c x progress.New Asks = if is_outward x.code then data_sent u p t c x 0 else None
+answer_taken u p t c x progress.Working (Absorbed count) = absorbed u p t c x x.given count
+answer_taken u p t c x at answer = None
+
+abbrev pub report_on : UnitState → ℕ → Place → Option AtHand → Report → Option UnitStep
+report_on u t (On p c) (Some x) r = if r.sequence == x.sequence then answer_taken u p t c x x.progress r.answer else None
+report_on u t place at_hand r = None
+
+abbrev pub report_of : UnitState → Own → Report → Option UnitStep
+report_of u Idle r = None
+report_of u (Owned k t place) r =
+    if same_side k r.side && ((r.number == t) && (r.command == u.last_command)) then report_on u t place u.at_hand r else None
+
+-- What the unit does with a report; None where it is stale or against the law of devices.
+abbrev pub unit_reports : UnitState → Report → Option UnitStep
+unit_reports u r = report_of u u.own r
+
+-- a call for the command at hand
+abbrev pub calling : UnitState → Side → ℕ → AtHand → Call → Option Work
+calling u side t x c = Some (work.Call side t u.last_command x.sequence c)
+
+abbrev pub halted_report : UnitState → Side → ℕ → AtHand → Option Work
+halted_report u side t x =
+    Some (work.Report (record { side = side; number = t; command = u.last_command; sequence = x.sequence; answer = Ended (record { 0 = 0x0C }) false }))
+
+abbrev pub work_on_bytes : UnitState → Side → ℕ → AtHand → Option (List ℕ) → Option Work
+work_on_bytes u side t x (Some bytes) = calling u side t x (call.Absorb bytes)
+work_on_bytes u side t x None = if x.stopped then calling u side t x call.Finish else None
+
+abbrev pub work_at : UnitState → Side → ℕ → AtHand → Progress → Option Work
+work_at u side t x progress.New = if u.halted then halted_report u side t x else calling u side t x (call.Initial x.code)
+work_at u side t x progress.Working =
+    if u.halted then calling u side t x call.Finish
+    else (if is_none x.unanswered then work_on_bytes u side t x x.given else None)
+work_at u side t x progress.ChannelEnded = calling u side t x call.Finish
+work_at u side t x progress.Ended = None
+
+abbrev pub work_of_place : UnitState → Side → ℕ → Place → Option AtHand → Option Work
+work_of_place u side t (On p c) (Some x) = work_at u side t x x.progress
+work_of_place u side t place at_hand = None
+
+abbrev pub work_of_owner : UnitState → Own → Option Work
+work_of_owner u Idle = None
+work_of_owner u (Owned side t place) = work_of_place u side t place u.at_hand
+
+-- What the unit has to do next while its program is connected: a call of the device, or a report without a call.
+abbrev pub unit_work : UnitState → Option Work
+unit_work u = work_of_owner u u.own

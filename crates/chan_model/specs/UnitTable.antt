@@ -1,0 +1,193 @@
+-- The device's side (own): for each signal from a subchannel of one side, for each act, and for each report, the new
+-- state and the signal that is sent. None stands where a signal is ignored, and where an act or report is refused.
+use Rattle.std.specs.Prelude.{ℕ, ◌+◌, Bool, true, false, not, ◌==◌, ◌&&◌, ◌||◌, nat_lt, nat_le, if◌then◌else◌, Option, None, Some, List, [], ◌∷◌, length}
+use Rattle.chan_model.specs.declared.names.Side.{Side}
+use Rattle.chan_model.specs.declared.names.Side.TheVariants.{First, Second}
+use Rattle.chan_model.specs.declared.signal.OnPath.{OnPath}
+use Rattle.chan_model.specs.declared.signal.Load.{Load}
+use Rattle.chan_model.specs.declared.signal.Down.{Down}
+use Rattle.chan_model.specs.declared.signal.Down.TheVariants as down
+use Rattle.chan_model.specs.declared.signal.Up.{Up}
+use Rattle.chan_model.specs.declared.signal.Up.TheVariants as up
+use Rattle.chan_model.specs.declared.unit_state.Place.{Place}
+use Rattle.chan_model.specs.declared.unit_state.Place.TheVariants.{On, Ask, Away}
+use Rattle.chan_model.specs.declared.unit_state.Own.{Own}
+use Rattle.chan_model.specs.declared.unit_state.Own.TheVariants.{Idle, Owned}
+use Rattle.chan_model.specs.declared.unit_state.SideState.{SideState}
+use Rattle.chan_model.specs.declared.unit_state.Progress.TheVariants.{New}
+use Rattle.chan_model.specs.declared.unit_state.AtHand.{AtHand}
+use Rattle.chan_model.specs.declared.unit_state.Attention.{Attention}
+use Rattle.chan_model.specs.declared.unit_state.UnitState.{UnitState}
+use Rattle.chan_model.specs.Sides.{same_side}
+use Rattle.chan_model.specs.Loads.{load_length}
+
+pub record UnitStep : Type 0 where
+  pub state : UnitState
+  pub sent : Option (OnPath Up)
+
+abbrev pub changes : UnitState → Option UnitStep
+changes u = Some (record { state = u; sent = None })
+
+abbrev pub sends : UnitState → ℕ → Up → Option UnitStep
+sends u p s = Some (record { state = u; sent = Some (record { path = p; signal = s }) })
+
+-- a unit at the opening
+abbrev pub quiet_side : SideState
+quiet_side = record { floor = 0; fresh = false }
+
+abbrev pub idle_unit : UnitState
+idle_unit = record { restarts = 0; first = quiet_side; second = quiet_side; own = Idle; last_command = 0; at_hand = None; halted = false; attentions = 0; attention = None; end_owed = false }
+
+-- what is kept of one side
+abbrev pub side_of : UnitState → Side → SideState
+side_of u First = u.first
+side_of u Second = u.second
+
+abbrev pub with_side : UnitState → Side → SideState → UnitState
+with_side u First s = record u { first = s }
+with_side u Second s = record u { second = s }
+
+-- the device is held by the program of this side and number
+abbrev pub is_owner : Own → Side → ℕ → Bool
+is_owner Idle side t = false
+is_owner (Owned k u place) side t = same_side k side && (t == u)
+
+-- the device is held by a program of this side
+abbrev pub owns : Own → Side → Bool
+owns Idle side = false
+owns (Owned k u place) side = same_side k side
+
+abbrev pub is_place_on : Place → ℕ → Bool
+is_place_on (On p d) c = c == d
+is_place_on place c = false
+
+-- the program of this side and number is connected by this connection
+abbrev pub is_owner_on : Own → Side → ℕ → ℕ → Bool
+is_owner_on Idle side t c = false
+is_owner_on (Owned k u place) side t c = (same_side k side && (t == u)) && is_place_on place c
+
+-- the device is let go, and its command forgotten
+abbrev pub freed : UnitState → UnitState
+freed u = record u { own = Idle; last_command = 0; at_hand = None; halted = false }
+
+-- Select: above the floor of its side, which becomes its number whether it is accepted or not; may: the control unit may
+-- serve the unit
+abbrev pub raised : UnitState → Side → ℕ → UnitState
+raised u side t = with_side u side (record (side_of u side) { floor = t })
+
+abbrev pub held : UnitState → Side → ℕ → ℕ → UnitState
+held u side t p = record u { own = Owned side t (On p 0); last_command = 0; at_hand = None; halted = false }
+
+abbrev pub selected : UnitState → Own → Side → ℕ → ℕ → Bool → Option UnitStep
+selected u Idle side p t may = if may then sends (held u side t p) p (up.Accept t) else sends u p (up.Busy t)
+selected u (Owned k v place) side p t may = sends u p (up.Busy t)
+
+-- Command: the next of the program that holds the device
+abbrev pub new_command : ℕ → ℕ → AtHand
+new_command code room = record { code = code; room = room; progress = New; sequence = 0; unanswered = None; asked = 0; again = false; given = None; stopped = false }
+
+abbrev pub commanded : UnitState → Side → ℕ → ℕ → ℕ → ℕ → Option UnitStep
+commanded u side t n code room =
+    if is_owner u.own side t && (n == u.last_command + 1)
+    then changes (record u { last_command = n; at_hand = Some (new_command code room) })
+    else None
+
+-- Give: the next chunk of the command at hand; no bytes stop the transfer
+abbrev pub kept : List ℕ → Option (List ℕ)
+kept [] = None
+kept (b ∷ bs) = Some (b ∷ bs)
+
+abbrev pub with_given : AtHand → ℕ → List ℕ → AtHand
+with_given x s bytes = record x { sequence = s; unanswered = None; again = false; given = kept bytes; stopped = x.stopped || (length bytes == 0) }
+
+abbrev pub given_next : UnitState → Option AtHand → ℕ → List ℕ → Option UnitStep
+given_next u None s bytes = None
+given_next u (Some x) s bytes = if s == x.sequence + 1 then changes (record u { at_hand = Some (with_given x s bytes) }) else None
+
+abbrev pub given : UnitState → Side → ℕ → ℕ → ℕ → ℕ → List ℕ → Option UnitStep
+given u side t c n s bytes =
+    if is_owner_on u.own side t c && (n == u.last_command) then given_next u u.at_hand s bytes else None
+
+-- Took: the last Data is answered; no room, or fewer bytes than were asked for, stop the transfer
+abbrev pub with_answer : AtHand → Load → ℕ → AtHand
+with_answer x load room = record x { unanswered = None; again = false; room = room; stopped = x.stopped || ((room == 0) || nat_lt (load_length load) x.asked) }
+
+abbrev pub answered_load : UnitState → AtHand → Option Load → ℕ → Option UnitStep
+answered_load u x None room = None
+answered_load u x (Some load) room = changes (record u { at_hand = Some (with_answer x load room) })
+
+abbrev pub answered_last : UnitState → Option AtHand → ℕ → ℕ → Option UnitStep
+answered_last u None s room = None
+answered_last u (Some x) s room = if s == x.sequence then answered_load u x x.unanswered room else None
+
+abbrev pub answered : UnitState → Side → ℕ → ℕ → ℕ → ℕ → Option UnitStep
+answered u side t n s room =
+    if is_owner u.own side t && (n == u.last_command) then answered_last u u.at_hand s room else None
+
+-- Grant: of the connection asked for; an older one is answered by Leave
+abbrev pub granted_at : UnitState → Side → ℕ → Place → ℕ → ℕ → Option UnitStep
+granted_at u side t (Ask q d) p c =
+    if c == d then changes (record u { own = Owned side t (On q d) })
+    else (if nat_lt c d then sends u p (up.Leave t c) else None)
+granted_at u side t (On q d) p c = if nat_lt c d then sends u p (up.Leave t c) else None
+granted_at u side t (Away d) p c = if nat_lt c d then sends u p (up.Leave t c) else None
+
+abbrev pub granted : UnitState → Own → Side → ℕ → ℕ → ℕ → Option UnitStep
+granted u Idle side p t c = None
+granted u (Owned k v place) side p t c = if same_side k side && (t == v) then granted_at u k v place p c else None
+
+-- Refuse: of the connection asked for
+abbrev pub refused_at : UnitState → Side → ℕ → Place → ℕ → Option UnitStep
+refused_at u side t (Ask q d) c = if c == d then changes (record u { own = Owned side t (Away d) }) else None
+refused_at u side t place c = None
+
+abbrev pub refused : UnitState → Own → Side → ℕ → ℕ → Option UnitStep
+refused u Idle side t c = None
+refused u (Owned k v place) side t c = if same_side k side && (t == v) then refused_at u k v place c else None
+
+-- Halt: once for a program
+abbrev pub halting : UnitState → Side → ℕ → Option UnitStep
+halting u side t = if is_owner u.own side t && not u.halted then changes (record u { halted = true }) else None
+
+-- Release: by the program that holds the device
+abbrev pub releasing : UnitState → Side → ℕ → ℕ → Option UnitStep
+releasing u side p t = if is_owner u.own side t then sends (freed u) p (up.Released t) else None
+
+-- Reset: with the unit's own restart count, where its side is fresh, or its number above the floor; a program of the
+-- other side stays
+abbrev pub without_side : UnitState → Side → UnitState
+without_side u side = if owns u.own side then freed u else u
+
+abbrev pub reset_side : UnitState → Side → ℕ → UnitState
+reset_side u side r = with_side (without_side u side) side (record { floor = r; fresh = false })
+
+abbrev pub resets : UnitState → Side → ℕ → ℕ → Bool
+resets u side r b = (b == u.restarts) && ((side_of u side).fresh || nat_lt (side_of u side).floor r)
+
+-- Got: of the attention that is not answered
+abbrev pub forgetting : UnitState → Option Attention → Side → ℕ → Option UnitStep
+forgetting u None side a = None
+forgetting u (Some x) side a = if same_side x.side side && (a == x.number) then changes (record u { attention = None }) else None
+
+-- in a side that is fresh any other signal is answered by Notice
+abbrev pub telling : UnitState → ℕ → Option UnitStep
+telling u p = sends u p (up.Notice u.restarts)
+
+abbrev pub unit_works : UnitState → Side → ℕ → Down → Bool → Option UnitStep
+unit_works u side p (down.Select t) may = if nat_lt (side_of u side).floor t then selected (raised u side t) u.own side p t may else None
+unit_works u side p (down.Command t n code room) may = commanded u side t n code room
+unit_works u side p (down.Grant t c) may = granted u u.own side p t c
+unit_works u side p (down.Refuse t c) may = refused u u.own side t c
+unit_works u side p (down.Took t n s room) may = answered u side t n s room
+unit_works u side p (down.Give t c n s bytes) may = given u side t c n s bytes
+unit_works u side p (down.Halt t) may = halting u side t
+unit_works u side p (down.Release t) may = releasing u side p t
+unit_works u side p (down.Reset r b) may = None
+unit_works u side p (down.Got a) may = forgetting u u.attention side a
+
+-- What the unit does with a signal of this side that came by path p.
+abbrev pub unit_takes : UnitState → Side → ℕ → Down → Bool → Option UnitStep
+unit_takes u side p (down.Reset r b) may =
+    if resets u side r b then sends (reset_side u side r) p (up.Cleared r)
+    else (if (side_of u side).fresh then telling u p else None)
+unit_takes u side p d may = if (side_of u side).fresh then telling u p else unit_works u side p d may

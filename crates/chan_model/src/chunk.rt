@@ -1,0 +1,75 @@
+//! The bytes that one signal moves.
+
+ghost use Rattle.std.specs.Prelude.{◌≡◌, ◌≤◌, [], ◌∷◌, ◌++◌, ◌<◌, length};
+
+use arrayvec::ArrayVec;
+use std::marker::Model;
+
+/// The most bytes that a chunk has.
+pub const CHUNK_BYTES: usize = 256;
+
+/// At most 256 bytes.
+#[derive(Drop)]
+pub struct Chunk {
+    bytes: ArrayVec<u8, 256>,
+}
+
+impl Model for Chunk {
+    ghost use Rattle.std.specs.Prelude.{ℕ, List};
+
+    ghost Value = { List ℕ };
+
+    ghost view = { λ c. c.bytes.items };
+}
+
+impl Chunk {
+    /// No bytes.
+    pub fn new() -> Self
+        ensures { result ≡ [] }
+    {
+        Chunk {
+            bytes: ArrayVec::new(),
+        }
+    }
+
+    /// These bytes.
+    pub fn of(bytes: &[u8]) -> Self
+        requires { length bytes.now ≤ 256 }
+        ensures { result ≡ bytes.now }
+    {
+        let mut kept = ArrayVec::new();
+        let _ = kept.try_extend_from_slice(bytes);
+        Chunk { bytes: kept }
+    }
+
+    /// One byte more.
+    pub fn push(&mut self, byte: u8)
+        requires { length self.old < 256 }
+        ensures { self.new ≡ self.old ++ byte ∷ [] }
+    {
+        self.bytes.push(byte);
+    }
+
+    /// The bytes.
+    pub fn as_slice(&self) -> &[u8]
+        ensures value { result.now ≡ self.now }
+        ensures bound { length result.now ≤ 256 }
+    {
+        self.bytes.as_slice()
+    }
+
+    /// How many there are.
+    pub fn len(&self) -> usize
+        ensures value { result ≡ length self.now }
+        ensures bound { result ≤ 256 }
+    {
+        self.bytes.len()
+    }
+
+    /// The same bytes again; it takes no memory.
+    pub fn copy(&self) -> Self
+        ensures { result ≡ self.now }
+    {
+        Chunk::of(self.bytes.as_slice())
+    }
+}

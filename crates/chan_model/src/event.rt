@@ -1,0 +1,79 @@
+//! Events: what may happen to a channel subsystem, one at a time.
+
+ghost use Rattle.std.specs.Prelude.{◌≡◌};
+
+use crate::chunk::Chunk;
+use crate::names::Cpu;
+use crate::report::Report;
+
+/// An I/O instruction (SA22-7832, chapter 14). `subchannel` is general register 1: the subsystem-identification word.
+#[derive(Clone, Copy, Debug)]
+pub enum Instruction {
+    /// START SUBCHANNEL with the ORB at this real address.
+    Ssch {
+        subchannel: u32,
+        address: u32,
+    },
+    /// TEST SUBCHANNEL, which stores an IRB at this real address.
+    Tsch {
+        subchannel: u32,
+        address: u32,
+    },
+    /// The interruption subclass and the multipath mode are set, and the subchannel is enabled, under the conditions of
+    /// MODIFY SUBCHANNEL.
+    Enable {
+        subchannel: u32,
+        subclass: u8,
+        multipath: bool,
+    },
+}
+
+/// An event. `subchannel` is a subsystem-identification word, `path` the index of a path of that subchannel.
+#[derive(Drop)]
+pub enum Event {
+    /// Bytes are put into storage at an absolute address.
+    Put { address: u32, bytes: Chunk },
+    /// A CPU executes an instruction.
+    Execute { cpu: Cpu, instruction: Instruction },
+    /// The subsystem does what it must for a subchannel.
+    Choose { subchannel: u32 },
+    /// The subchannel takes the signal that waits longest on the wire up of a path.
+    Up { subchannel: u32, path: u32 },
+    /// The unit takes the signal that waits longest on the wire down of a path.
+    Down { subchannel: u32, path: u32 },
+    /// A device answered.
+    Report { unit: u32, report: Report },
+}
+
+impl Event {
+    /// The same event; it takes no memory.
+    pub fn copy(&self) -> Self
+        ensures { result ≡ self.now }
+    {
+        match self {
+            Event::Put { address, bytes } => Event::Put {
+                address: *address,
+                bytes: bytes.copy(),
+            },
+            Event::Execute { cpu, instruction } => Event::Execute {
+                cpu: *cpu,
+                instruction: *instruction,
+            },
+            Event::Choose { subchannel } => Event::Choose {
+                subchannel: *subchannel,
+            },
+            Event::Up { subchannel, path } => Event::Up {
+                subchannel: *subchannel,
+                path: *path,
+            },
+            Event::Down { subchannel, path } => Event::Down {
+                subchannel: *subchannel,
+                path: *path,
+            },
+            Event::Report { unit, report } => Event::Report {
+                unit: *unit,
+                report: *report,
+            },
+        }
+    }
+}

@@ -1,0 +1,126 @@
+//! Replies: what an accepted event answers.
+
+ghost use Rattle.std.specs.Prelude.{◌≡◌};
+
+use crate::event::Event;
+use crate::names::Path;
+use crate::signal::{Down, OnPath, Up};
+use scsw_irb::scsw::Scsw;
+use scsw_irb::serials::Serials;
+
+/// The condition code of an instruction on a subchannel (SA22-7832, chapter 14). The codes 0 and 1 bring the serials of
+/// the subchannel as the instruction leaves them.
+#[derive(Clone, Copy, Debug)]
+pub enum Answer {
+    Zero(Serials),
+    One(Serials),
+    Two,
+    Three,
+}
+
+/// What an accepted event answers.
+#[derive(Drop)]
+pub enum Reply {
+    Done,
+    /// The condition code of an instruction that shows no status.
+    Code(Answer),
+    /// The condition code 0 or 1 of TSCH, with the subchannel-status word that was stored.
+    Status {
+        answer: Answer,
+        scsw: Scsw,
+    },
+    /// A program was offered under this number on this path; `resumed` says that it was suspended before.
+    Offered {
+        number: u64,
+        path: Path,
+        resumed: bool,
+    },
+    /// Choosing made status pending.
+    Pending,
+    /// There was nothing to choose.
+    Idle,
+    /// A subchannel met this signal; `taken` says that a state changed or a signal was sent.
+    Up {
+        signal: Up,
+        taken: bool,
+        sent: Option<OnPath<Down>>,
+    },
+    /// A unit met this signal; `taken` says that its state changed or a signal was sent.
+    Down {
+        signal: Down,
+        taken: bool,
+        sent: Option<OnPath<Up>>,
+    },
+}
+
+/// An accepted event with its reply.
+#[derive(Drop)]
+pub struct Entry {
+    pub event: Event,
+    pub reply: Reply,
+}
+
+impl Reply {
+    /// The same reply; it takes no memory.
+    pub fn copy(&self) -> Self
+        ensures { result ≡ self.now }
+    {
+        match self {
+            Reply::Done => Reply::Done,
+            Reply::Code(answer) => Reply::Code(*answer),
+            Reply::Status { answer, scsw } => Reply::Status {
+                answer: *answer,
+                scsw: *scsw,
+            },
+            Reply::Offered {
+                number,
+                path,
+                resumed,
+            } => Reply::Offered {
+                number: *number,
+                path: *path,
+                resumed: *resumed,
+            },
+            Reply::Pending => Reply::Pending,
+            Reply::Idle => Reply::Idle,
+            Reply::Up {
+                signal,
+                taken,
+                sent,
+            } => Reply::Up {
+                signal: signal.copy(),
+                taken: *taken,
+                sent: copy_down(sent),
+            },
+            Reply::Down {
+                signal,
+                taken,
+                sent,
+            } => Reply::Down {
+                signal: signal.copy(),
+                taken: *taken,
+                sent: copy_up(sent),
+            },
+        }
+    }
+}
+
+/// The same signal, where there is one.
+fn copy_down(sent: &Option<OnPath<Down>>) -> Option<OnPath<Down>>
+    ensures { result ≡ sent.now }
+{
+    match sent {
+        Some(signal) => Some(signal.copy()),
+        None => None,
+    }
+}
+
+/// The same signal, where there is one.
+fn copy_up(sent: &Option<OnPath<Up>>) -> Option<OnPath<Up>>
+    ensures { result ≡ sent.now }
+{
+    match sent {
+        Some(signal) => Some(signal.copy()),
+        None => None,
+    }
+}

@@ -1,0 +1,98 @@
+//! The device's side (own): a unit that one or two subchannels reach.
+
+use crate::chunk::Chunk;
+use crate::names::{Path, Side};
+use crate::signal::Load;
+
+/// Where the program is that holds the device.
+#[derive(Clone, Copy, Debug)]
+pub enum Place {
+    /// Connected on this path.
+    On { path: Path, connection: u64 },
+    /// Asking for this path.
+    Ask { path: Path, connection: u64 },
+    /// At work without a path.
+    Away { connection: u64 },
+}
+
+/// Whom the device is held by.
+#[derive(Clone, Copy, Debug)]
+pub enum Own {
+    Idle,
+    /// The program of this number, of one side.
+    Owned {
+        side: Side,
+        number: u64,
+        place: Place,
+    },
+}
+
+/// What the unit keeps of one side.
+#[derive(Clone, Copy, Debug)]
+pub struct SideState {
+    /// The greatest number taken of this side.
+    pub floor: u64,
+    /// The side has not been reset since the last restart.
+    pub fresh: bool,
+}
+
+/// How far the device is with a command.
+#[derive(Clone, Copy, Debug)]
+pub enum Progress {
+    /// Not begun.
+    New,
+    /// Begun; its bytes are moved.
+    Working,
+    /// Its channel end is sent.
+    ChannelEnded,
+    /// Its last End is sent.
+    Ended,
+}
+
+/// The command at hand.
+#[derive(Drop)]
+pub struct AtHand {
+    pub code: u8,
+    /// How many bytes of a read may come.
+    pub room: u16,
+    pub progress: Progress,
+    /// The number of the last chunk.
+    pub sequence: u64,
+    /// What was sent last by Data and is not answered.
+    pub unanswered: Option<Load>,
+    /// How many bytes of a read were asked for last.
+    pub asked: u16,
+    /// What is not answered is to be sent again.
+    pub again: bool,
+    /// The bytes of a write that the device has not absorbed.
+    pub given: Option<Chunk>,
+    /// No more bytes will be moved.
+    pub stopped: bool,
+}
+
+/// An attention that was sent and is not answered.
+#[derive(Clone, Copy, Debug)]
+pub struct Attention {
+    pub number: u64,
+    pub side: Side,
+}
+
+/// The whole of a unit.
+#[derive(Drop)]
+pub struct UnitState {
+    /// How often it was restarted.
+    pub restarts: u64,
+    pub first: SideState,
+    pub second: SideState,
+    pub own: Own,
+    /// The number of the last command of the program that holds it.
+    pub last_command: u64,
+    pub at_hand: Option<AtHand>,
+    /// The program is to end.
+    pub halted: bool,
+    /// How many attentions were drawn.
+    pub attentions: u64,
+    pub attention: Option<Attention>,
+    /// Its next attention says control unit end.
+    pub end_owed: bool,
+}
