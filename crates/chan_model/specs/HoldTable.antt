@@ -5,6 +5,7 @@ use Rattle.chan_model.specs.declared.hold_state.HoldPhase.{HoldPhase}
 use Rattle.chan_model.specs.declared.hold_state.HoldPhase.TheVariants.{Free, Offer, On, Away, Letting, Reset}
 use Rattle.chan_model.specs.declared.hold_state.HoldState.{HoldState}
 use Rattle.chan_model.specs.declared.signal.OnPath.{OnPath}
+use Rattle.chan_model.specs.declared.signal.Taken.{Taken}
 use Rattle.chan_model.specs.declared.signal.Down.{Down}
 use Rattle.chan_model.specs.declared.signal.Down.TheVariants as down
 use Rattle.chan_model.specs.declared.signal.Up.{Up}
@@ -119,3 +120,12 @@ resetting h r = record h { phase = Reset r; reset_path = None }
 abbrev pub sending_reset : HoldState → HoldPhase → ℕ → Option HoldStep
 sending_reset h (Reset r) p = Some (sending (record h { reset_path = Some p }) p (down.Reset r h.known))
 sending_reset h phase p = None
+
+-- the state after a signal, and what came of it
+abbrev pub hold_after : HoldState → Option HoldStep → HoldState
+hold_after h None = h
+hold_after h (Some step) = step.state
+
+abbrev pub came_of : Option HoldStep → Taken Down
+came_of None = record { taken = false; sent = None }
+came_of (Some step) = record { taken = true; sent = step.sent }

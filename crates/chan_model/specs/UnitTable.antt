@@ -1,9 +1,11 @@
 -- The device's side (own): for each signal from a subchannel of one side, for each act, and for each report, the new
 -- state and the signal that is sent. None stands where a signal is ignored, and where an act or report is refused.
-use Rattle.std.specs.Prelude.{ℕ, ◌+◌, Bool, true, false, not, ◌==◌, ◌&&◌, ◌||◌, nat_lt, nat_le, if◌then◌else◌, Option, None, Some, List, [], ◌∷◌, length}
+use Rattle.std.specs.Prelude.{ℕ, ◌+◌, Bool, true, false, not, ◌==◌, ◌&&◌, ◌||◌, nat_lt, nat_le, if◌then◌else◌, Option, None, Some, is_some, List, [], ◌∷◌, length}
+use Rattle.scsw_irb.specs.declared.status.DeviceStatus.{DeviceStatus}
 use Rattle.chan_model.specs.declared.names.Side.{Side}
 use Rattle.chan_model.specs.declared.names.Side.TheVariants.{First, Second}
 use Rattle.chan_model.specs.declared.signal.OnPath.{OnPath}
+use Rattle.chan_model.specs.declared.signal.Taken.{Taken}
 use Rattle.chan_model.specs.declared.signal.Load.{Load}
 use Rattle.chan_model.specs.declared.signal.Down.{Down}
 use Rattle.chan_model.specs.declared.signal.Down.TheVariants as down
@@ -191,3 +193,69 @@ unit_takes u side p (down.Reset r b) may =
     if resets u side r b then sends (reset_side u side r) p (up.Cleared r)
     else (if (side_of u side).fresh then telling u p else None)
 unit_takes u side p d may = if (side_of u side).fresh then telling u p else unit_works u side p d may
+
+-- the state after a signal, and what came of it
+abbrev pub unit_after : UnitState → Option UnitStep → UnitState
+unit_after u None = u
+unit_after u (Some step) = step.state
+
+abbrev pub came_of : Option UnitStep → Taken Up
+came_of None = record { taken = false; sent = None }
+came_of (Some step) = record { taken = true; sent = step.sent }
+
+-- the path that something is sent on, where something is
+abbrev pub path_of_sent : Option (OnPath Up) → Option ℕ
+path_of_sent None = None
+path_of_sent (Some s) = Some s.path
+
+abbrev pub answer_path : Option UnitStep → Option ℕ
+answer_path None = None
+answer_path (Some step) = path_of_sent step.sent
+
+-- Acts of the unit. Leave: the program that is connected works on without the path; a Data that is not answered will be
+-- sent again.
+abbrev pub marked_again : Option AtHand → Option AtHand
+marked_again None = None
+marked_again (Some x) = Some (record x { again = x.again || is_some x.unanswered })
+
+abbrev pub leaving_from : UnitState → Side → ℕ → Place → Option UnitStep
+leaving_from u side t (On p c) = sends (record u { own = Owned side t (Away c); at_hand = marked_again u.at_hand }) p (up.Leave t c)
+leaving_from u side t place = None
+
+abbrev pub leaving : UnitState → Own → Option UnitStep
+leaving u Idle = None
+leaving u (Owned side t place) = leaving_from u side t place
+
+-- Ask: for a path, under the next connection number
+abbrev pub asking_from : UnitState → Side → ℕ → Place → ℕ → Option UnitStep
+asking_from u side t (On q c) p = None
+asking_from u side t (Ask q c) p = sends (record u { own = Owned side t (Ask p (c + 1)) }) p (up.Back t (c + 1))
+asking_from u side t (Away c) p = sends (record u { own = Owned side t (Ask p (c + 1)) }) p (up.Back t (c + 1))
+
+abbrev pub asking : UnitState → Own → ℕ → Option UnitStep
+asking u Idle p = None
+asking u (Owned side t place) p = asking_from u side t place p
+
+-- Attention: of an idle unit, on a side that is not fresh
+abbrev pub is_idle : Own → Bool
+is_idle Idle = true
+is_idle (Owned side t place) = false
+
+abbrev pub attention_status : Bool → DeviceStatus
+attention_status true = record { 0 = 0x20 }
+attention_status false = record { 0 = 0x80 }
+
+abbrev pub attending : UnitState → Side → ℕ → Option UnitStep
+attending u side p =
+    if is_idle u.own && not (side_of u side).fresh
+    then sends (record u { attentions = u.attentions + 1; attention = Some (record { number = u.attentions + 1; side = side }); end_owed = false }) p
+    (up.Attn (u.attentions + 1) (attention_status u.end_owed))
+    else None
+
+-- Restart: both sides are fresh, and what was at hand is forgotten
+abbrev pub restarted : UnitState → UnitState
+restarted u = record (freed u) { restarts = u.restarts + 1; first = record u.first { fresh = true }; second = record u.second { fresh = true }; attention = None }
+
+-- Notice: of a side that is fresh
+abbrev pub noticing : UnitState → Side → ℕ → Option UnitStep
+noticing u side p = if (side_of u side).fresh then telling u p else None

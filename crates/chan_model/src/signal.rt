@@ -14,6 +14,13 @@ pub struct OnPath<S> {
     pub signal: S,
 }
 
+/// What came of a signal that was met: whether a state changed or a signal was sent, and the signal.
+#[derive(Drop)]
+pub struct Taken<S> {
+    pub taken: bool,
+    pub sent: Option<OnPath<S>>,
+}
+
 /// A signal from the subsystem to a unit.
 ///
 /// `number` is the number of an offer, `connection` that of a connection, `command` that of a command of one program,
