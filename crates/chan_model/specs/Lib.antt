@@ -6,3 +6,5 @@ pub mod ResetCauses
 pub mod UnitTable
 pub mod Agreement
 pub mod UnitReports
+pub mod ConditionCodes
+pub mod Status

@@ -1,0 +1,126 @@
+-- Status: what makes it pending, and what TEST SUBCHANNEL leaves of it (SA22-7832, chapter 16; the bits that each cause
+-- shows are this project's own choice).
+use Rattle.std.specs.Prelude.{◌≡◌, ◌<◌, ℕ, ◌+◌, Bool, true, false, not, ◌&&◌, ◌||◌, nat_lt, if◌then◌else◌, Option, None, Some, unwrap_or, bit_or}
+use Rattle.scsw_irb.specs.declared.scsw.DeferredCode.{DeferredCode}
+use Rattle.scsw_irb.specs.declared.scsw.DeferredCode.TheVariants as deferred
+use Rattle.scsw_irb.specs.declared.scsw.FunctionControl.{FunctionControl}
+use Rattle.scsw_irb.specs.declared.scsw.ActivityControl.{ActivityControl}
+use Rattle.scsw_irb.specs.declared.scsw.StatusControl.{StatusControl}
+use Rattle.scsw_irb.specs.declared.scsw.Scsw.{Scsw}
+use Rattle.scsw_irb.specs.declared.serials.Serials.{Serials}
+use Rattle.scsw_irb.specs.declared.status.DeviceStatus.{DeviceStatus}
+use Rattle.scsw_irb.specs.declared.status.SubchannelStatus.{SubchannelStatus}
+use Rattle.chan_model.specs.UnitReports.{has_unit_check, is_last_end}
+
+abbrev pub no_function : FunctionControl
+no_function = record { start = false; halt = false; clear = false }
+
+abbrev pub no_activity : ActivityControl
+no_activity = record { resume_pending = false; start_pending = false; halt_pending = false; clear_pending = false; subchannel_active = false; device_active = false; suspended = false }
+
+abbrev pub no_status : StatusControl
+no_status = record { alert = false; intermediate = false; primary = false; secondary = false; pending = false }
+
+abbrev pub no_device_status : DeviceStatus
+no_device_status = record { 0 = 0 }
+
+abbrev pub no_subchannel_status : SubchannelStatus
+no_subchannel_status = record { 0 = 0 }
+
+-- what one cause shows: status control beside pending, the activity left, both status bytes, a deferred condition code
+-- where it sets one, and the command address and the count
+pub record Shown : Type 0 where
+  pub conditions : StatusControl
+  pub activity : ActivityControl
+  pub device : DeviceStatus
+  pub subchannel : SubchannelStatus
+  pub deferred : Option DeferredCode
+  pub command_address : ℕ
+  pub count : ℕ
+
+-- status joins the status that is pending, and begins from nothing where none is
+abbrev pub joined_conditions : StatusControl → StatusControl → StatusControl
+joined_conditions old new = record {
+  alert = old.alert || new.alert;
+  intermediate = old.intermediate || new.intermediate;
+  primary = old.primary || new.primary;
+  secondary = old.secondary || new.secondary;
+  pending = true
+}
+
+abbrev pub with_joined : Scsw → StatusControl → DeviceStatus → SubchannelStatus → Shown → Scsw
+with_joined scsw conditions device subchannel shown = record scsw {
+  activity = shown.activity;
+  status = joined_conditions conditions shown.conditions;
+  device_status = record { 0 = bit_or device.0 shown.device.0 };
+  subchannel_status = record { 0 = bit_or subchannel.0 shown.subchannel.0 };
+  deferred = unwrap_or shown.deferred scsw.deferred;
+  command_address = shown.command_address;
+  count = shown.count
+}
+
+abbrev pub with_status : Scsw → Shown → Scsw
+with_status scsw shown =
+    if scsw.status.pending
+    then with_joined scsw scsw.status scsw.device_status scsw.subchannel_status shown
+    else with_joined scsw no_status no_device_status no_subchannel_status shown
+
+-- a subchannel that is not enabled gets no status, but its activity changes as if it did (own)
+abbrev pub scsw_made : Bool → Scsw → Shown → Scsw
+scsw_made enabled scsw shown = if enabled then with_status scsw shown else record scsw { activity = shown.activity }
+
+-- each status made pending is counted
+abbrev pub serials_made : Bool → Serials → Serials
+serials_made enabled serials = if enabled then record serials { made = serials.made + 1 } else serials
+
+-- status is pending exactly where some status that was made is not cleared
+abbrev pub is_uncleared : Serials → Bool
+is_uncleared serials = nat_lt serials.cleared serials.made
+
+-- all that was made is cleared
+abbrev pub serials_cleared : Serials → Serials
+serials_cleared serials = record serials { cleared = serials.made }
+
+-- primary status is shown once in a program, and not where its clear is in progress
+abbrev pub shows_primary : FunctionControl → Bool → Bool
+shows_primary functions shown_before = functions.start && (not functions.clear && not shown_before)
+
+abbrev pub conditions : Bool → Bool → Bool → StatusControl
+conditions alert primary secondary = record no_status { alert = alert; primary = primary; secondary = secondary }
+
+-- TEST SUBCHANNEL of pending status: intermediate status alone leaves the functions
+abbrev pub intermediate_alone : StatusControl → Bool
+intermediate_alone s = s.intermediate && (not s.alert && (not s.primary && not s.secondary))
+
+abbrev pub active_alone : ActivityControl → ActivityControl
+active_alone a = record no_activity { subchannel_active = a.subchannel_active; device_active = a.device_active }
+
+-- the whole is cleared but what is active
+abbrev pub ended_scsw : Scsw → Scsw
+ended_scsw scsw = record scsw {
+  functions = no_function;
+  activity = active_alone scsw.activity;
+  status = no_status;
+  path_not_operational = false;
+  deferred = deferred.Zero
+}
+
+-- intermediate status alone: of a suspended program resume pending, N and the deferred code go too
+abbrev pub suspended_scsw : Scsw → Scsw
+suspended_scsw scsw = record scsw {
+  activity = record scsw.activity { resume_pending = false };
+  status = no_status;
+  path_not_operational = false;
+  deferred = deferred.Zero
+}
+
+abbrev pub intermediate_cleared : Scsw → Scsw
+intermediate_cleared scsw =
+    if not scsw.activity.suspended then record scsw { status = no_status }
+    else (if scsw.functions.halt then ended_scsw scsw else suspended_scsw scsw)
+
+-- the status word that TEST SUBCHANNEL leaves
+abbrev pub tested_scsw : Scsw → Scsw
+tested_scsw scsw =
+    if not scsw.status.pending then scsw
+    else (if intermediate_alone scsw.status then intermediate_cleared scsw else ended_scsw scsw)
