@@ -1,0 +1,46 @@
+-- What the instructions leave of a subchannel (SA22-7832, chapter 14; the effects are this project's own choice).
+use Rattle.std.specs.Prelude.{ℕ, ◌+◌, Bool, true, false, not, if◌then◌else◌, Option, None, Some}
+use Rattle.orb_block.specs.declared.Orb.{Orb}
+use Rattle.scsw_irb.specs.declared.scsw.DeferredCode.TheVariants as deferred
+use Rattle.scsw_irb.specs.declared.scsw.Scsw.{Scsw}
+use Rattle.chan_model.specs.ConditionCodes.{Condition}
+use Rattle.chan_model.specs.PathSets.{paths_of_mask}
+use Rattle.chan_model.specs.Status.{no_function, no_activity, no_device_status, no_subchannel_status, serials_cleared, tested_scsw}
+use Rattle.machine_model.specs.declared.state.Program.{Program}
+use Rattle.machine_model.specs.declared.state.SubchannelState.{SubchannelState}
+use Rattle.machine_model.specs.State.{no_paths}
+
+-- what an instruction finds of a provided subchannel
+abbrev pub condition_of : SubchannelState → Condition
+condition_of s = record {
+  provided = true; enabled = s.pmcw.enabled; functions = s.scsw.functions; activity = s.scsw.activity; status = s.scsw.status;
+  may_suspend = s.scsw.suspend
+}
+
+-- START: the status word shows the ORB's fields, the start function and start pending; an earlier program's device active
+-- stays
+abbrev pub started_scsw : Scsw → Orb → Scsw
+started_scsw scsw orb = record scsw {
+  key = orb.key; key_fits = orb.key_fits; suspend = orb.suspend; deferred = deferred.Zero; format_one = orb.format_one;
+  prefetch = orb.prefetch; initial_status = orb.initial_status; address_limit = orb.address_limit;
+  suppress_suspended = orb.suppress_suspended; path_not_operational = false;
+  functions = record no_function { start = true };
+  activity = record no_activity { start_pending = true; device_active = scsw.activity.device_active };
+  command_address = orb.program; device_status = no_device_status; subchannel_status = no_subchannel_status; count = 0
+}
+
+abbrev pub started : SubchannelState → Orb → SubchannelState
+started s orb = record s {
+  pmcw = record s.pmcw { parameter = orb.parameter; logical = paths_of_mask orb.paths; not_operational = no_paths };
+  scsw = started_scsw s.scsw orb;
+  starts = s.starts + 1;
+  waiting = Some (record { start = s.starts + 1; orb = orb; single_path = not s.pmcw.multipath })
+}
+
+-- TEST: all status that was made is cleared
+abbrev pub tested : SubchannelState → SubchannelState
+tested s = record s { scsw = tested_scsw s.scsw; serials = serials_cleared s.serials }
+
+-- the interruption subclass and the mode are set, and the subchannel is enabled
+abbrev pub enabled : SubchannelState → ℕ → Bool → SubchannelState
+enabled s subclass multipath = record s { pmcw = record s.pmcw { subclass = subclass; multipath = multipath; enabled = true } }

@@ -1,0 +1,102 @@
+-- What there is of a channel subsystem, as small values.
+use Rattle.std.specs.Prelude.{◌≡◌, ℕ, ◌+◌, ◌==◌, ◌&&◌, Bool, true, false, List, [], ◌∷◌, map, length, replicate, slice_get, slice_set, unwrap_or, Option, None, Some, if◌then◌else◌}
+use Rattle.std.proofs.Common.{lit<}
+use Rattle.scsw_irb.specs.declared.scsw.DeferredCode.TheVariants as deferred
+use Rattle.scsw_irb.specs.declared.scsw.Scsw.{Scsw}
+use Rattle.storage_keys.specs.Storage.{Contents, cleared}
+use Rattle.chan_model.specs.declared.unit_state.UnitState.{UnitState}
+use Rattle.chan_model.specs.declared.reply.Entry.{Entry}
+use Rattle.chan_model.specs.HoldTable.{free_hold}
+use Rattle.chan_model.specs.UnitTable.{idle_unit}
+use Rattle.chan_model.specs.Status.{no_function, no_activity, no_status, no_device_status, no_subchannel_status}
+use Rattle.channel_config.specs.declared.names.SubchannelId.{SubchannelId}
+use Rattle.channel_config.specs.declared.parts.SubchannelSetup.{SubchannelSetup}
+use Rattle.channel_config.specs.Setup.{Setup, set_count}
+use Rattle.channel_config.specs.SubchannelWords.{subchannel_named}
+use Rattle.wires.specs.Queues.{Queues, no_signals}
+use Rattle.machine_model.specs.declared.state.Pmcw.{Pmcw}
+use Rattle.machine_model.specs.declared.state.SubchannelState.{SubchannelState}
+use Rattle.machine_model.specs.declared.state.Subchannel.{Subchannel}
+
+-- storage, how many sets of subchannels there are, the subchannels in the order of their configuration, and the units
+pub record State : Type 0 where
+  pub storage : Contents
+  pub sets : ℕ
+  pub subs : List Subchannel
+  pub units : List UnitState
+
+-- a state, and the accepted events with their replies that led there
+pub record Past : Type 0 where
+  pub state : State
+  pub history : List Entry
+
+-- a subchannel at the opening: not enabled, all its paths logically available and operational (own)
+abbrev pub all_paths : List Bool
+all_paths = replicate 8 true
+
+abbrev pub no_paths : List Bool
+no_paths = replicate 8 false
+
+abbrev pub opening_pmcw : Pmcw
+opening_pmcw = record { parameter = 0; subclass = 0; enabled = false; multipath = false; logical = all_paths; not_operational = no_paths; last_used = None; operational = all_paths }
+
+abbrev pub opening_scsw : Scsw
+opening_scsw = record {
+  key = 0; suspend = false; deferred = deferred.Zero; format_one = false; prefetch = false; initial_status = false;
+  address_limit = false; suppress_suspended = false; path_not_operational = false;
+  functions = no_function; activity = no_activity; status = no_status;
+  command_address = 0; device_status = no_device_status; subchannel_status = no_subchannel_status; count = 0;
+  key_fits = lit< tt
+}
+
+abbrev pub opening_subchannel : SubchannelState
+opening_subchannel = record {
+  pmcw = opening_pmcw; scsw = opening_scsw; serials = record { made = 0; cleared = 0 };
+  drawn = 0; starts = 0; waiting = None; begun = None; hold = free_hold; offered = 0; last_path = None; dedicated = None
+}
+
+abbrev pub opened : SubchannelSetup → Subchannel
+opened setup = record { setup = setup; state = opening_subchannel; wires = no_signals }
+
+-- the opening of a machine that is set up so
+abbrev pub opening_of : Setup → State
+opening_of setup = record {
+  storage = cleared (unwrap_or setup.blocks 0);
+  sets = set_count setup;
+  subs = map opened setup.subchannels;
+  units = map (λ kind. idle_unit) setup.units
+}
+
+-- the place of the subchannel that a subsystem-identification word names, where it is provided
+abbrev pub is_named : SubchannelId → Subchannel → Bool
+is_named id sub = (sub.setup.id.set == id.set) && (sub.setup.id.number == id.number)
+
+abbrev pub one_later : Option ℕ → Option ℕ
+one_later None = None
+one_later (Some place) = Some (place + 1)
+
+abbrev pub place_in : SubchannelId → List Subchannel → Option ℕ
+place_in id [] = None
+place_in id (sub ∷ subs) = if is_named id sub then Some 0 else one_later (place_in id subs)
+
+abbrev pub place_of_id : List Subchannel → Option SubchannelId → Option ℕ
+place_of_id subs None = None
+place_of_id subs (Some id) = place_in id subs
+
+abbrev pub place_of : State → ℕ → Option ℕ
+place_of s word = place_of_id s.subs (subchannel_named s.sets word)
+
+abbrev pub sub_at : List Subchannel → Option ℕ → Option Subchannel
+sub_at subs None = None
+sub_at subs (Some place) = slice_get subs place
+
+-- the subchannel that a word names
+abbrev pub sub_of : State → ℕ → Option Subchannel
+sub_of s word = sub_at s.subs (place_of s word)
+
+-- the state with this subchannel at this place
+abbrev pub with_sub : State → ℕ → Subchannel → State
+with_sub s place sub = record s { subs = slice_set s.subs place sub }
+
+abbrev pub with_unit : State → ℕ → UnitState → State
+with_unit s place u = record s { units = slice_set s.units place u }

@@ -1,0 +1,87 @@
+-- The statuses of a subchannel, by their causes (SA22-7832, chapter 16; the bits are this project's own choice).
+use Rattle.std.specs.Prelude.{ℕ, Bool, true, false, not, ◌==◌, ◌&&◌, ◌||◌, if◌then◌else◌, Option, None, Some, is_some, bit_or}
+use Rattle.scsw_irb.specs.declared.scsw.DeferredCode.TheVariants as deferred
+use Rattle.scsw_irb.specs.declared.scsw.ActivityControl.{ActivityControl}
+use Rattle.scsw_irb.specs.declared.scsw.Scsw.{Scsw}
+use Rattle.scsw_irb.specs.declared.status.DeviceStatus.{DeviceStatus}
+use Rattle.scsw_irb.specs.declared.status.SubchannelStatus.{SubchannelStatus}
+use Rattle.chan_model.specs.Status.{Shown, scsw_made, serials_made, conditions, shows_primary, no_activity, no_device_status, no_subchannel_status}
+use Rattle.chan_model.specs.UnitReports.{has_channel_end, has_device_end, has_unit_check}
+use Rattle.machine_model.specs.declared.state.Check.{Check}
+use Rattle.machine_model.specs.declared.state.Check.TheVariants.{Program, Protection}
+use Rattle.machine_model.specs.declared.state.Transfer.{Transfer}
+use Rattle.machine_model.specs.declared.state.Begun.{Begun}
+use Rattle.machine_model.specs.declared.state.SubchannelState.{SubchannelState}
+
+-- a status is made pending
+abbrev pub with_status : SubchannelState → Shown → SubchannelState
+with_status s shown = record s { scsw = scsw_made s.pmcw.enabled s.scsw shown; serials = serials_made s.pmcw.enabled s.serials }
+
+-- the subchannel status of a check, and of an incorrect length
+abbrev pub check_bits : Option Check → ℕ
+check_bits None = 0
+check_bits (Some Program) = 0x20
+check_bits (Some Protection) = 0x10
+
+abbrev pub length_bits : Bool → ℕ
+length_bits true = 0x40
+length_bits false = 0
+
+-- a start found no path: deferred condition code 3
+abbrev pub no_path_shown : Scsw → Shown
+no_path_shown scsw = record {
+  conditions = conditions true true true; activity = no_activity; device = no_device_status; subchannel = no_subchannel_status;
+  deferred = Some deferred.Three; command_address = scsw.command_address; count = scsw.count
+}
+
+-- a command could not be fetched, or may not take control
+abbrev pub fetch_fault_shown : ℕ → Check → Shown
+fetch_fault_shown tried check = record {
+  conditions = conditions true true true; activity = no_activity; device = no_device_status;
+  subchannel = record { 0 = check_bits (Some check) }; deferred = None; command_address = tried; count = 0
+}
+
+-- an incorrect length is shown at the first End of a command, where bytes are left on one side; not with unit check alone
+-- (own), nor where SLI is one; for a command that ended at once only in format 1 where L is zero
+abbrev pub is_unit_check_alone : DeviceStatus → Bool
+is_unit_check_alone status = has_unit_check status && (not (has_channel_end status) && not (has_device_end status))
+
+abbrev pub is_channel_end_alone : DeviceStatus → Bool
+is_channel_end_alone status = has_channel_end status && not (has_device_end status)
+
+abbrev pub shows_length : Begun → DeviceStatus → Bool → Bool
+shows_length b status more =
+    not b.transfer.ended
+    && ((not (b.transfer.residual == 0) || more)
+    && (not (is_unit_check_alone status)
+    && (not b.transfer.suppress_length
+    && (not (is_channel_end_alone status) || (b.program.orb.format_one && not b.program.orb.suppress_length)))))
+
+abbrev pub end_bits : Begun → DeviceStatus → Bool → SubchannelStatus
+end_bits b status more = record { 0 = bit_or (length_bits (shows_length b status more)) (check_bits b.transfer.fault) }
+
+abbrev pub is_alert : Begun → DeviceStatus → Bool
+is_alert b status = has_unit_check status || is_some b.transfer.fault
+
+-- channel end alone: primary status, and the device works on
+abbrev pub channel_end_shown : Scsw → Begun → DeviceStatus → Bool → Shown
+channel_end_shown scsw b status more = record {
+  conditions = conditions (is_alert b status) (shows_primary scsw.functions b.primary_shown) false;
+  activity = record no_activity { device_active = true }; device = status; subchannel = end_bits b status more;
+  deferred = None; command_address = b.tried; count = b.transfer.residual
+}
+
+-- the last End of a program
+abbrev pub last_end_shown : Scsw → Begun → DeviceStatus → Bool → Shown
+last_end_shown scsw b status more = record {
+  conditions = conditions (is_alert b status) (shows_primary scsw.functions b.primary_shown) true;
+  activity = no_activity; device = status; subchannel = end_bits b status more;
+  deferred = None; command_address = b.tried; count = b.transfer.residual
+}
+
+-- the last End of an earlier program while a start waits: deferred condition code 1, and the start is over (own)
+abbrev pub earlier_end_shown : Scsw → Begun → DeviceStatus → Bool → Shown
+earlier_end_shown scsw b status more = record {
+  conditions = conditions true false false; activity = no_activity; device = status; subchannel = end_bits b status more;
+  deferred = Some deferred.One; command_address = scsw.command_address; count = scsw.count
+}
