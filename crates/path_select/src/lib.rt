@@ -1,0 +1,86 @@
+//! Which of the usable paths of a subchannel is taken (own).
+#![tactic(auto)]
+
+ghost use Rattle.std.specs.Prelude.{◌<◌, ◌+◌};
+ghost use Rattle.path_select.specs.Choice.{IsChoice, IsLowest, IsNextFrom, following};
+
+use chan_model::names::Path;
+use chan_model::paths::PathSet;
+
+/// Picks one of the usable paths.
+pub trait PathChoice {
+    /// A path of the set; None where it is empty. `last` is the path of the choice before.
+    fn choose(&self, usable: &PathSet, last: Option<Path>) -> Option<Path>
+        ensures { IsChoice usable.now result };
+}
+
+/// The lowest path.
+#[derive(Clone, Copy, Debug)]
+pub struct Lowest;
+
+/// The path that follows the last one, where path 0 follows path 7, and is usable; at first the lowest.
+#[derive(Clone, Copy, Debug)]
+pub struct Rotating;
+
+impl PathChoice for Lowest {
+    fn choose(&self, usable: &PathSet, _last: Option<Path>) -> Option<Path>
+        ensures law { IsChoice usable.now result }
+        ensures lowest { IsLowest usable.now result }
+    {
+        first_from(usable, 0)
+    }
+}
+
+impl PathChoice for Rotating {
+    fn choose(&self, usable: &PathSet, last: Option<Path>) -> Option<Path>
+        ensures law { IsChoice usable.now result }
+        ensures next { IsNextFrom usable.now (following last) result }
+    {
+        match last {
+            Some(path) => first_from(usable, (path.index() + 1) % 8),
+            None => first_from(usable, 0),
+        }
+    }
+}
+
+/// The usable path that comes first, counted from this one on.
+fn first_from(usable: &PathSet, first: usize) -> Option<Path>
+    requires { first < 8 }
+    ensures law { IsChoice usable.now result }
+    ensures next { IsNextFrom usable.now first result }
+{
+    for step in 0..8 {
+        let index = (first + step) % 8;
+        if usable[index] {
+            return Path::new(index as u32);
+        }
+    }
+    None
+}
+
+#[cfg(test)]
+mod tests {
+    use super::*;
+    use chan_model::paths::paths_of_mask;
+
+    fn chosen<P: PathChoice>(choice: &P, mask: u8, last: Option<u32>) -> Option<usize> {
+        let last = last.and_then(Path::new);
+        Some(choice.choose(&paths_of_mask(mask), last)?.index())
+    }
+
+    #[test]
+    fn paths_are_chosen_by_any_rule(rt: HostRuntime) {
+        assert_eq!(rt; chosen(&Lowest, 0x25, Some(2)), Some(2));
+        assert_eq!(rt; chosen(&Lowest, 0, Some(2)), None);
+        for (mask, last, want) in [
+            (0xFF, None, Some(0)),
+            (0x25, None, Some(2)),
+            (0x25, Some(2), Some(5)),
+            (0x25, Some(7), Some(2)),
+            (0x20, Some(2), Some(2)),
+            (0, Some(2), None),
+        ] {
+            assert_eq!(rt; chosen(&Rotating, mask, last), want, "mask {mask}");
+        }
+    }
+}
