@@ -1,6 +1,6 @@
-//! How many statuses were made and cleared.
+//! How many statuses there have been.
 
-/// The counts of one subchannel: statuses made pending, and how many of them are cleared.
+/// The counts of the statuses that a subchannel made pending and of those that were cleared.
 #[derive(Clone, Copy, Debug, PartialEq, Eq)]
 pub struct Serials {
     pub made: u64,

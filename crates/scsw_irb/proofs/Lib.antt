@@ -1,0 +1,2 @@
+pub mod IrbLemmas
+pub mod Fits
