@@ -5,20 +5,11 @@ use Rattle.scsw_irb.specs.declared.scsw.FunctionControl.{FunctionControl}
 use Rattle.scsw_irb.specs.declared.scsw.ActivityControl.{ActivityControl}
 use Rattle.scsw_irb.specs.declared.scsw.StatusControl.{StatusControl}
 use Rattle.scsw_irb.specs.declared.serials.Serials.{Serials}
+use Rattle.chan_model.specs.declared.status.Condition.{Condition}
 use Rattle.chan_model.specs.declared.reply.ConditionCode.{ConditionCode}
 use Rattle.chan_model.specs.declared.reply.ConditionCode.TheVariants.{Zero, One, Two, Three}
 use Rattle.chan_model.specs.declared.reply.Answer.{Answer}
 use Rattle.chan_model.specs.declared.reply.Answer.TheVariants as answer
-
--- what an instruction finds of its subchannel: whether it is provided and enabled, the functions, activity and status
--- that its status word shows, and whether the ORB of its program has S one
-pub record Condition : Type 0 where
-  pub provided : Bool
-  pub enabled : Bool
-  pub functions : FunctionControl
-  pub activity : ActivityControl
-  pub status : StatusControl
-  pub may_suspend : Bool
 
 abbrev pub any_function : FunctionControl → Bool
 any_function f = f.start || (f.halt || f.clear)

@@ -1,7 +1,7 @@
 -- Status: what makes it pending, and what TEST SUBCHANNEL leaves of it (SA22-7832, chapter 16; the bits that each cause
 -- shows are this project's own choice).
 use Rattle.std.specs.Prelude.{◌≡◌, ◌<◌, ℕ, ◌+◌, Bool, true, false, not, ◌&&◌, ◌||◌, nat_lt, if◌then◌else◌, Option, None, Some, unwrap_or, bit_or}
-use Rattle.scsw_irb.specs.declared.scsw.DeferredCode.{DeferredCode}
+use Rattle.scsw_irb.specs.Empty.{no_functions, no_activity, no_status}
 use Rattle.scsw_irb.specs.declared.scsw.DeferredCode.TheVariants as deferred
 use Rattle.scsw_irb.specs.declared.scsw.FunctionControl.{FunctionControl}
 use Rattle.scsw_irb.specs.declared.scsw.ActivityControl.{ActivityControl}
@@ -10,33 +10,13 @@ use Rattle.scsw_irb.specs.declared.scsw.Scsw.{Scsw}
 use Rattle.scsw_irb.specs.declared.serials.Serials.{Serials}
 use Rattle.scsw_irb.specs.declared.status.DeviceStatus.{DeviceStatus}
 use Rattle.scsw_irb.specs.declared.status.SubchannelStatus.{SubchannelStatus}
-use Rattle.chan_model.specs.UnitReports.{has_unit_check, is_last_end}
-
-abbrev pub no_function : FunctionControl
-no_function = record { start = false; halt = false; clear = false }
-
-abbrev pub no_activity : ActivityControl
-no_activity = record { resume_pending = false; start_pending = false; halt_pending = false; clear_pending = false; subchannel_active = false; device_active = false; suspended = false }
-
-abbrev pub no_status : StatusControl
-no_status = record { alert = false; intermediate = false; primary = false; secondary = false; pending = false }
+use Rattle.chan_model.specs.declared.status.Shown.{Shown}
 
 abbrev pub no_device_status : DeviceStatus
 no_device_status = record { 0 = 0 }
 
 abbrev pub no_subchannel_status : SubchannelStatus
 no_subchannel_status = record { 0 = 0 }
-
--- what one cause shows: status control beside pending, the activity left, both status bytes, a deferred condition code
--- where it sets one, and the command address and the count
-pub record Shown : Type 0 where
-  pub conditions : StatusControl
-  pub activity : ActivityControl
-  pub device : DeviceStatus
-  pub subchannel : SubchannelStatus
-  pub deferred : Option DeferredCode
-  pub command_address : ℕ
-  pub count : ℕ
 
 -- status joins the status that is pending, and begins from nothing where none is
 abbrev pub joined_conditions : StatusControl → StatusControl → StatusControl
@@ -98,7 +78,7 @@ active_alone a = record no_activity { subchannel_active = a.subchannel_active; d
 -- the whole is cleared but what is active
 abbrev pub ended_scsw : Scsw → Scsw
 ended_scsw scsw = record scsw {
-  functions = no_function;
+  functions = no_functions;
   activity = active_alone scsw.activity;
   status = no_status;
   path_not_operational = false;

@@ -1,5 +1,6 @@
 -- What a unit asks of its device, and what it does with the device's answer (own).
-use Rattle.std.specs.Prelude.{ℕ, ◌%◌, Bool, true, false, not, ◌==◌, ◌&&◌, ◌||◌, nat_le, if◌then◌else◌, Option, None, Some, is_none, List, length, bit_and}
+use Rattle.std.specs.Prelude.{ℕ, ◌%◌, Bool, true, false, not, ◌==◌, ◌&&◌, ◌||◌, nat_le, if◌then◌else◌, Option, None, Some, is_none, List, length}
+use Rattle.scsw_irb.specs.Status.{has}
 use Rattle.scsw_irb.specs.declared.status.DeviceStatus.{DeviceStatus}
 use Rattle.chan_model.specs.declared.names.Side.{Side}
 use Rattle.chan_model.specs.declared.signal.Load.TheVariants as load
@@ -24,13 +25,13 @@ use Rattle.chan_model.specs.UnitTable.{UnitStep, sends}
 
 -- the bits of a device status (SA22-7832, chapter 16)
 abbrev pub has_channel_end : DeviceStatus → Bool
-has_channel_end status = bit_and status.0 0x08 == 0x08
+has_channel_end status = has status.0 0x08
 
 abbrev pub has_device_end : DeviceStatus → Bool
-has_device_end status = bit_and status.0 0x04 == 0x04
+has_device_end status = has status.0 0x04
 
 abbrev pub has_unit_check : DeviceStatus → Bool
-has_unit_check status = bit_and status.0 0x02 == 0x02
+has_unit_check status = has status.0 0x02
 
 -- write and control commands move bytes to the device: their codes are odd
 abbrev pub is_outward : ℕ → Bool

@@ -11,4 +11,5 @@ pub mod paths;
 pub mod reply;
 pub mod report;
 pub mod signal;
+pub mod status;
 pub mod unit_state;

@@ -5,6 +5,8 @@ use Rattle.chan_model.specs.declared.hold_state.HoldPhase.{HoldPhase}
 use Rattle.chan_model.specs.declared.hold_state.HoldPhase.TheVariants as hold
 use Rattle.chan_model.specs.HoldTable.{offering}
 use Rattle.chan_model.specs.ResetCauses.{engaged_path, is_path}
+use Rattle.machine_model.specs.declared.state.Chosen.{Chosen}
+use Rattle.machine_model.specs.declared.state.Chosen.TheVariants.{Idle, Over, Offers}
 use Rattle.machine_model.specs.declared.state.Program.{Program}
 use Rattle.machine_model.specs.declared.state.SubchannelState.{SubchannelState}
 use Rattle.machine_model.specs.declared.state.Subchannel.{Subchannel}
@@ -54,11 +56,6 @@ is_any set = list_any (λ member. member) set
 
 -- a program waits: it is offered on the chosen path where the hold is free, and is over where the hold is free or to be
 -- reset and no path is allowed
-pub data Chosen : Type 0 where
-  Idle : Chosen
-  Over : Chosen
-  Offers : (program : Program) → (path : ℕ) → Chosen
-
 abbrev pub chosen_free : Program → Bool → Option ℕ → Chosen
 chosen_free program any (Some path) = Offers program path
 chosen_free program any None = if any then Idle else Over

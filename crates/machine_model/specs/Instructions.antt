@@ -3,9 +3,10 @@ use Rattle.std.specs.Prelude.{ℕ, ◌+◌, Bool, true, false, not, if◌then◌
 use Rattle.orb_block.specs.declared.Orb.{Orb}
 use Rattle.scsw_irb.specs.declared.scsw.DeferredCode.TheVariants as deferred
 use Rattle.scsw_irb.specs.declared.scsw.Scsw.{Scsw}
-use Rattle.chan_model.specs.ConditionCodes.{Condition}
+use Rattle.scsw_irb.specs.Empty.{no_functions, no_activity}
+use Rattle.chan_model.specs.declared.status.Condition.{Condition}
 use Rattle.chan_model.specs.PathSets.{paths_of_mask}
-use Rattle.chan_model.specs.Status.{no_function, no_activity, no_device_status, no_subchannel_status, serials_cleared, tested_scsw}
+use Rattle.chan_model.specs.Status.{no_device_status, no_subchannel_status, serials_cleared, tested_scsw}
 use Rattle.machine_model.specs.declared.state.Program.{Program}
 use Rattle.machine_model.specs.declared.state.SubchannelState.{SubchannelState}
 use Rattle.machine_model.specs.State.{no_paths}
@@ -24,7 +25,7 @@ started_scsw scsw orb = record scsw {
   key = orb.key; key_fits = orb.key_fits; suspend = orb.suspend; deferred = deferred.Zero; format_one = orb.format_one;
   prefetch = orb.prefetch; initial_status = orb.initial_status; address_limit = orb.address_limit;
   suppress_suspended = orb.suppress_suspended; path_not_operational = false;
-  functions = record no_function { start = true };
+  functions = record no_functions { start = true };
   activity = record no_activity { start_pending = true; device_active = scsw.activity.device_active };
   command_address = orb.program; device_status = no_device_status; subchannel_status = no_subchannel_status; count = 0
 }

@@ -9,6 +9,7 @@ use Rattle.storage_keys.specs.declared.StorageFault.{StorageFault}
 use Rattle.storage_keys.specs.declared.StorageFault.TheVariants as storage
 use Rattle.machine_model.specs.declared.state.Check.{Check}
 use Rattle.machine_model.specs.declared.state.Check.TheVariants.{Program, Protection}
+use Rattle.machine_model.specs.declared.state.Given.{Given}
 use Rattle.machine_model.specs.declared.state.Transfer.{Transfer}
 
 -- an access that the key refuses is a protection check; any other that fails is a program check
@@ -50,10 +51,6 @@ has_stopped t = t.stopped || is_some t.fault
 abbrev pub next_bytes : Contents → ℕ → Transfer → Result (List ℕ) StorageFault
 next_bytes storage key t =
     if has_stopped t then Ok [] else fetched storage key (t.address + (t.count - t.residual)) (min t.residual 256)
-
-pub record Given : Type 0 where
-  pub transfer : Transfer
-  pub bytes : List ℕ
 
 -- the next chunk as it is given to the device; a chunk that can't be fetched is a fault, and no bytes are given
 abbrev pub given_of : Transfer → Result (List ℕ) StorageFault → Given

@@ -1,19 +1,16 @@
 -- What there is of a channel subsystem, as small values.
 use Rattle.std.specs.Prelude.{◌≡◌, ℕ, ◌+◌, ◌==◌, ◌&&◌, Bool, true, false, List, [], ◌∷◌, map, length, replicate, slice_get, slice_set, unwrap_or, Option, None, Some, if◌then◌else◌}
-use Rattle.std.proofs.Common.{lit<}
-use Rattle.scsw_irb.specs.declared.scsw.DeferredCode.TheVariants as deferred
-use Rattle.scsw_irb.specs.declared.scsw.Scsw.{Scsw}
+use Rattle.scsw_irb.specs.Empty.{zero_scsw}
 use Rattle.storage_keys.specs.Storage.{Contents, cleared}
 use Rattle.chan_model.specs.declared.unit_state.UnitState.{UnitState}
 use Rattle.chan_model.specs.declared.reply.Entry.{Entry}
 use Rattle.chan_model.specs.HoldTable.{free_hold}
 use Rattle.chan_model.specs.UnitTable.{idle_unit}
-use Rattle.chan_model.specs.Status.{no_function, no_activity, no_status, no_device_status, no_subchannel_status}
 use Rattle.channel_config.specs.declared.names.SubchannelId.{SubchannelId}
 use Rattle.channel_config.specs.declared.parts.SubchannelSetup.{SubchannelSetup}
 use Rattle.channel_config.specs.Setup.{Setup, set_count}
 use Rattle.channel_config.specs.SubchannelWords.{subchannel_named}
-use Rattle.wires.specs.Queues.{Queues, no_signals}
+use Rattle.wires.specs.Queues.{Queues, no_queues}
 use Rattle.machine_model.specs.declared.state.Pmcw.{Pmcw}
 use Rattle.machine_model.specs.declared.state.SubchannelState.{SubchannelState}
 use Rattle.machine_model.specs.declared.state.Subchannel.{Subchannel}
@@ -40,23 +37,14 @@ no_paths = replicate 8 false
 abbrev pub opening_pmcw : Pmcw
 opening_pmcw = record { parameter = 0; subclass = 0; enabled = false; multipath = false; logical = all_paths; not_operational = no_paths; last_used = None; operational = all_paths }
 
-abbrev pub opening_scsw : Scsw
-opening_scsw = record {
-  key = 0; suspend = false; deferred = deferred.Zero; format_one = false; prefetch = false; initial_status = false;
-  address_limit = false; suppress_suspended = false; path_not_operational = false;
-  functions = no_function; activity = no_activity; status = no_status;
-  command_address = 0; device_status = no_device_status; subchannel_status = no_subchannel_status; count = 0;
-  key_fits = lit< tt
-}
-
 abbrev pub opening_subchannel : SubchannelState
 opening_subchannel = record {
-  pmcw = opening_pmcw; scsw = opening_scsw; serials = record { made = 0; cleared = 0 };
+  pmcw = opening_pmcw; scsw = zero_scsw; serials = record { made = 0; cleared = 0 };
   drawn = 0; starts = 0; waiting = None; begun = None; hold = free_hold; offered = 0; last_path = None; dedicated = None
 }
 
 abbrev pub opened : SubchannelSetup → Subchannel
-opened setup = record { setup = setup; state = opening_subchannel; wires = no_signals }
+opened setup = record { setup = setup; state = opening_subchannel; wires = no_queues }
 
 -- the opening of a machine that is set up so
 abbrev pub opening_of : Setup → State

@@ -5,7 +5,9 @@ use Rattle.scsw_irb.specs.declared.scsw.ActivityControl.{ActivityControl}
 use Rattle.scsw_irb.specs.declared.scsw.Scsw.{Scsw}
 use Rattle.scsw_irb.specs.declared.status.DeviceStatus.{DeviceStatus}
 use Rattle.scsw_irb.specs.declared.status.SubchannelStatus.{SubchannelStatus}
-use Rattle.chan_model.specs.Status.{Shown, scsw_made, serials_made, conditions, shows_primary, no_activity, no_device_status, no_subchannel_status}
+use Rattle.scsw_irb.specs.Empty.{no_activity}
+use Rattle.chan_model.specs.declared.status.Shown.{Shown}
+use Rattle.chan_model.specs.Status.{scsw_made, serials_made, conditions, shows_primary, no_device_status, no_subchannel_status}
 use Rattle.chan_model.specs.UnitReports.{has_channel_end, has_device_end, has_unit_check}
 use Rattle.machine_model.specs.declared.state.Check.{Check}
 use Rattle.machine_model.specs.declared.state.Check.TheVariants.{Program, Protection}

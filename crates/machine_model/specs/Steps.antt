@@ -37,14 +37,17 @@ use Rattle.chan_model.specs.UnitReports.{unit_reports}
 use Rattle.channel_config.specs.declared.names.SubchannelId.{SubchannelId}
 use Rattle.channel_config.specs.SubchannelWords.{subchannel_named}
 use Rattle.path_select.specs.Choice.{IsChoice}
-use Rattle.wires.specs.Queues.{Queues, queue}
+use Rattle.wires.specs.Queues.{Queues, queue, sent, taken}
 use Rattle.machine_model.specs.declared.state.SubchannelState.{SubchannelState}
 use Rattle.machine_model.specs.declared.state.Subchannel.{Subchannel}
 use Rattle.machine_model.specs.declared.state.Program.{Program}
 use Rattle.machine_model.specs.State.{State, place_of, place_of_id, place_in, one_later, sub_at, with_sub, with_unit}
 use Rattle.machine_model.specs.Instructions.{condition_of, started, tested, enabled}
-use Rattle.machine_model.specs.Choosing.{Chosen, Idle, Over, Offers, chosen, offered, without_path, usable_paths}
-use Rattle.machine_model.specs.Taking.{UpStep, takes_up}
+use Rattle.machine_model.specs.declared.state.Chosen.{Chosen}
+use Rattle.machine_model.specs.declared.state.Chosen.TheVariants.{Idle, Over, Offers}
+use Rattle.machine_model.specs.declared.state.UpStep.{UpStep}
+use Rattle.machine_model.specs.Choosing.{chosen, offered, without_path, usable_paths}
+use Rattle.machine_model.specs.Taking.{takes_up}
 
 -- what an accepted event answers and leaves
 pub record Turn : Type 0 where
@@ -140,12 +143,6 @@ Executes s cpu i r = Executes_on s cpu i (subchannel_named s.sets (word_of i)) r
 abbrev pub is_full : {A : Type 0} → List (List A) → ℕ → Bool
 is_full queues path = length (queue queues path) == 8
 
-abbrev pub with_sent : {A : Type 0} → List (List A) → ℕ → A → List (List A)
-with_sent queues path signal = slice_set queues path (queue queues path ++ signal ∷ [])
-
-abbrev pub without_front : {A : Type 0} → List (List A) → ℕ → List (List A)
-without_front queues path = slice_set queues path (drop 1 (queue queues path))
-
 -- a signal that must be sent finds its wire full
 abbrev pub finds_full : {A : Type 0} → List (List A) → Option (OnPath A) → Bool
 finds_full queues None = false
@@ -153,7 +150,7 @@ finds_full queues (Some s) = is_full queues s.path
 
 abbrev pub with_any_sent : {A : Type 0} → List (List A) → Option (OnPath A) → List (List A)
 with_any_sent queues None = queues
-with_any_sent queues (Some s) = with_sent queues s.path s.signal
+with_any_sent queues (Some s) = sent queues s.path s.signal
 
 -- Choose
 abbrev pub choose_with : State → ℕ → Subchannel → Chosen → Outcome
@@ -164,7 +161,7 @@ choose_with s place sub (Offers program path) =
     else does (reply.Offered (sub.state.drawn + 1) path false)
         (with_sub s place (record sub {
             state = offered sub.state program path;
-            wires = record sub.wires { down = with_sent sub.wires.down path (down.Select (sub.state.drawn + 1)) } }))
+            wires = record sub.wires { down = sent sub.wires.down path (down.Select (sub.state.drawn + 1)) } }))
 
 abbrev pub Chooses : State → Option ℕ → Option Subchannel → Outcome → Type 0
 Chooses s None sub r = r ≡ Err fault.NoSuchSubchannel
@@ -179,7 +176,7 @@ up_with s place sub path signal step =
     else does (reply.Up signal step.came.taken step.came.sent)
         (with_sub s place (record sub {
             state = step.state;
-            wires = record { down = with_any_sent sub.wires.down step.came.sent; up = without_front sub.wires.up path } }))
+            wires = record { down = with_any_sent sub.wires.down step.came.sent; up = taken sub.wires.up path } }))
 
 abbrev pub up_front : State → ℕ → Subchannel → ℕ → Option Up → Outcome
 up_front s place sub path None = Err fault.NotSent
@@ -199,7 +196,7 @@ down_with s place sub path signal u step =
     else does (reply.Down signal (unit.came_of step).taken (unit.came_of step).sent)
         (with_unit
             (with_sub s place (record sub {
-                wires = record { down = without_front sub.wires.down path; up = with_any_sent sub.wires.up (unit.came_of step).sent } }))
+                wires = record { down = taken sub.wires.down path; up = with_any_sent sub.wires.up (unit.came_of step).sent } }))
             sub.setup.unit (unit_after u step))
 
 abbrev pub down_front : State → ℕ → Subchannel → ℕ → UnitState → Option Down → Outcome
@@ -226,17 +223,17 @@ reached_in place side [] = None
 reached_in place side (sub ∷ subs) = if reaches place side sub then Some 0 else one_later (reached_in place side subs)
 
 abbrev pub report_sent : State → ℕ → UnitStep → OnPath Up → Option ℕ → Option Subchannel → Outcome
-report_sent s place step sent None sub = Err fault.NotNow
-report_sent s place step sent (Some at) None = Err fault.NotNow
-report_sent s place step sent (Some at) (Some sub) =
-    if is_full sub.wires.up sent.path then Err fault.WireFull
+report_sent s place step up_sent None sub = Err fault.NotNow
+report_sent s place step up_sent (Some at) None = Err fault.NotNow
+report_sent s place step up_sent (Some at) (Some sub) =
+    if is_full sub.wires.up up_sent.path then Err fault.WireFull
     else does reply.Done
-        (with_unit (with_sub s at (record sub { wires = record sub.wires { up = with_sent sub.wires.up sent.path sent.signal } })) place step.state)
+        (with_unit (with_sub s at (record sub { wires = record sub.wires { up = sent sub.wires.up up_sent.path up_sent.signal } })) place step.state)
 
 abbrev pub report_by : State → ℕ → Side → UnitStep → Option (OnPath Up) → Outcome
 report_by s place side step None = Err fault.NotNow
-report_by s place side step (Some sent) =
-    report_sent s place step sent (reached_in place side s.subs) (sub_at s.subs (reached_in place side s.subs))
+report_by s place side step (Some up_sent) =
+    report_sent s place step up_sent (reached_in place side s.subs) (sub_at s.subs (reached_in place side s.subs))
 
 abbrev pub report_with : State → ℕ → Side → Option UnitStep → Outcome
 report_with s place side None = Err fault.NotNow

@@ -15,21 +15,18 @@ use Rattle.chan_model.specs.declared.signal.Up.{Up}
 use Rattle.chan_model.specs.declared.signal.Up.TheVariants as up
 use Rattle.chan_model.specs.HoldTable.{HoldStep, hold_takes, hold_after, came_of, is_connected, is_on, letting_go}
 use Rattle.chan_model.specs.Loads.{load_length}
-use Rattle.chan_model.specs.Status.{Shown}
+use Rattle.chan_model.specs.declared.status.Shown.{Shown}
 use Rattle.chan_model.specs.UnitReports.{is_last_end, has_unit_check}
 use Rattle.machine_model.specs.declared.state.Check.{Check}
 use Rattle.machine_model.specs.declared.state.Pmcw.{Pmcw}
 use Rattle.machine_model.specs.declared.state.Program.{Program}
 use Rattle.machine_model.specs.declared.state.Transfer.{Transfer}
 use Rattle.machine_model.specs.declared.state.Begun.{Begun}
+use Rattle.machine_model.specs.declared.state.Given.{Given}
 use Rattle.machine_model.specs.declared.state.SubchannelState.{SubchannelState}
-use Rattle.machine_model.specs.Programs.{first_command, with_moved, is_current, next_given, Given}
+use Rattle.machine_model.specs.declared.state.UpStep.{UpStep}
+use Rattle.machine_model.specs.Programs.{first_command, with_moved, is_current, next_given}
 use Rattle.machine_model.specs.Statuses.{with_status, fetch_fault_shown, channel_end_shown, last_end_shown, earlier_end_shown}
-
--- the subchannel after a signal, and what came of it
-pub record UpStep : Type 0 where
-  pub state : SubchannelState
-  pub came : Taken Down
 
 abbrev pub ignoring : SubchannelState → UpStep
 ignoring s = record { state = s; came = record { taken = false; sent = None } }
@@ -41,12 +38,10 @@ abbrev pub sending : SubchannelState → ℕ → Down → UpStep
 sending s p d = record { state = s; came = record { taken = true; sent = Some (record { path = p; signal = d }) } }
 
 -- the hold lets the device go, where it is connected
-abbrev pub let_go_by : SubchannelState → Option HoldStep → UpStep
-let_go_by s None = quietly s
-let_go_by s (Some step) = record { state = record s { hold = step.state }; came = record { taken = true; sent = step.sent } }
-
 abbrev pub let_go : SubchannelState → UpStep
-let_go s = let_go_by s (letting_go s.hold s.hold.phase)
+let_go s =
+    let step = letting_go s.hold s.hold.phase in
+    record { state = record s { hold = hold_after s.hold step }; came = record { taken = true; sent = (came_of step).sent } }
 
 -- the hold alone takes the signal
 abbrev pub by_hold : SubchannelState → Option HoldStep → UpStep
@@ -85,9 +80,11 @@ accepted_by storage s (hold.On t p c) came = begin_waiting storage (record s { p
 accepted_by storage s (hold.Letting t p) came = record { state = record s { pmcw = with_path s.pmcw p }; came = came }
 accepted_by storage s phase came = record { state = s; came = came }
 
+abbrev pub accept_by : Contents → SubchannelState → HoldState → Taken Down → UpStep
+accept_by storage s hold came = if came.taken then accepted_by storage (record s { hold = hold }) hold.phase came else ignoring s
+
 abbrev pub accept : Contents → SubchannelState → Option HoldStep → UpStep
-accept storage s None = ignoring s
-accept storage s (Some step) = accepted_by storage (record s { hold = step.state }) step.state.phase (came_of (Some step))
+accept storage s step = accept_by storage s (hold_after s.hold step) (came_of step)
 
 -- Data: bytes were moved, and the next are given; the first Data of a command ends a dedicated allegiance
 abbrev pub giving : SubchannelState → Begun → ℕ → ℕ → ℕ → ℕ → ℕ → Given → UpStep
@@ -101,8 +98,8 @@ move_data storage s (Some b) p t c n seq load =
     then giving s b p t c n seq (next_given storage b.program.orb.key (with_moved b.transfer seq (load_length load)))
     else ignoring s
 
-abbrev pub data : Contents → SubchannelState → ℕ → ℕ → ℕ → ℕ → ℕ → Load → UpStep
-data storage s p t c n seq load =
+abbrev pub take_data : Contents → SubchannelState → ℕ → ℕ → ℕ → ℕ → ℕ → Load → UpStep
+take_data storage s p t c n seq load =
     if is_connected s.hold.phase p t c then move_data storage s s.begun p t c n seq load else ignoring s
 
 -- End: unit check brings a dedicated allegiance to its path, any other End ends one; the last End of a program makes
@@ -138,6 +135,6 @@ end_command s p t n status more = if is_on s.hold.phase t then end_of s s.begun 
 -- what a subchannel does with a signal
 abbrev pub takes_up : Contents → SubchannelState → ℕ → Up → UpStep
 takes_up storage s p (up.Accept t) = accept storage s (hold_takes s.hold p (up.Accept t) (waits_as s.waiting s.offered))
-takes_up storage s p (up.Data t c n seq load) = data storage s p t c n seq load
+takes_up storage s p (up.Data t c n seq load) = take_data storage s p t c n seq load
 takes_up storage s p (up.End t n status more) = end_command s p t n status more
 takes_up storage s p signal = by_hold s (hold_takes s.hold p signal false)

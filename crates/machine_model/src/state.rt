@@ -2,9 +2,11 @@
 
 ghost use Rattle.std.specs.Prelude.{◌≡◌, ◌<◌, ◌^◌, ◌↔◌, IsSome, IfSome};
 
+use chan_model::chunk::Chunk;
 use chan_model::hold_state::HoldState;
 use chan_model::names::Path;
 use chan_model::paths::PathSet;
+use chan_model::signal::{Down, Taken};
 use channel_config::parts::SubchannelSetup;
 use orb_block::Orb;
 use scsw_irb::scsw::Scsw;
@@ -156,4 +158,29 @@ pub struct Subchannel {
     pub setup: SubchannelSetup,
     pub state: SubchannelState,
     pub wires: Wires,
+}
+
+/// The next bytes of a transfer, as they are given to the device.
+#[derive(Drop)]
+pub struct Given {
+    pub transfer: Transfer,
+    pub bytes: Chunk,
+}
+
+/// What the subsystem does of itself for a subchannel.
+#[derive(Clone, Copy)]
+pub enum Chosen {
+    /// Nothing.
+    Idle,
+    /// The program that waits is over: it found no path.
+    Over,
+    /// The program that waits is offered on a path.
+    Offers { program: Program, path: Path },
+}
+
+/// A subchannel after a signal, and what came of the signal.
+#[derive(Drop)]
+pub struct UpStep {
+    pub state: SubchannelState,
+    pub came: Taken<Down>,
 }
