@@ -1,0 +1,160 @@
+//! The wires between one subchannel and its unit (own).
+#![tactic(auto)]
+
+mod way;
+
+ghost use Rattle.std.specs.Prelude.{◌≡◌, ◌<◌, ◌↔◌, None, Some, IsTrue, IsSome, MatchOption, length};
+ghost use Rattle.std.specs.Bool.{OnFalse};
+ghost use Rattle.wires.specs.Queues.{no_queues, queue, first_of, sent, taken, lost};
+
+use crate::way::Way;
+use chan_model::names::Path;
+use chan_model::signal::{Down, Up};
+use std::marker::Model;
+
+/// The signals that wait, for each path down to the unit and up to the subchannel. A wire holds at most 8.
+#[derive(Drop)]
+pub struct Wires {
+    down: Way<Down>,
+    up: Way<Up>,
+}
+
+impl Model for Wires {
+    ghost use Rattle.wires.specs.Queues.{Queues};
+
+    ghost Value = { Queues };
+
+    ghost view = { λ w. record { down = w.down; up = w.up } };
+}
+
+impl Wires {
+    /// No signal waits.
+    pub fn new() -> Self
+        ensures { result ≡ no_queues }
+    {
+        Wires {
+            down: Way::new(),
+            up: Way::new(),
+        }
+    }
+
+    /// Whether the wire down of a path has no room.
+    pub fn down_is_full(&self, path: Path) -> bool
+        ensures full { IsTrue result ↔ (length (queue self.now.down path) ≡ 8) }
+        ensures room { OnFalse result (length (queue self.now.down path) < 8) }
+    {
+        self.down.is_full(path)
+    }
+
+    /// Sends a signal down.
+    pub fn send_down(&mut self, path: Path, signal: Down)
+        requires { length (queue self.old.down path) < 8 }
+        ensures { self.new ≡ record self.old { down = sent self.old.down path signal } }
+    {
+        self.down.send(path, signal);
+    }
+
+    /// The signal that waits longest on the wire down of a path; None where none waits.
+    pub fn front_down(&self, path: Path) -> Option<&Down>
+        ensures waits { IsSome result ↔ (0 < length (queue self.now.down path)) }
+        ensures first { MatchOption result (first_of self.now.down path ≡ None) (λ signal. first_of self.now.down path ≡ Some signal.now) }
+    {
+        self.down.front(path)
+    }
+
+    /// Takes that signal.
+    pub fn take_down(&mut self, path: Path) -> Down
+        requires { 0 < length (queue self.old.down path) }
+        ensures first { first_of self.old.down path ≡ Some result }
+        ensures rest { self.new ≡ record self.old { down = taken self.old.down path } }
+    {
+        self.down.take(path)
+    }
+
+    /// Whether the wire up of a path has no room.
+    pub fn up_is_full(&self, path: Path) -> bool
+        ensures full { IsTrue result ↔ (length (queue self.now.up path) ≡ 8) }
+        ensures room { OnFalse result (length (queue self.now.up path) < 8) }
+    {
+        self.up.is_full(path)
+    }
+
+    /// Sends a signal up.
+    pub fn send_up(&mut self, path: Path, signal: Up)
+        requires { length (queue self.old.up path) < 8 }
+        ensures { self.new ≡ record self.old { up = sent self.old.up path signal } }
+    {
+        self.up.send(path, signal);
+    }
+
+    /// The signal that waits longest on the wire up of a path; None where none waits.
+    pub fn front_up(&self, path: Path) -> Option<&Up>
+        ensures waits { IsSome result ↔ (0 < length (queue self.now.up path)) }
+        ensures first { MatchOption result (first_of self.now.up path ≡ None) (λ signal. first_of self.now.up path ≡ Some signal.now) }
+    {
+        self.up.front(path)
+    }
+
+    /// Takes that signal.
+    pub fn take_up(&mut self, path: Path) -> Up
+        requires { 0 < length (queue self.old.up path) }
+        ensures first { first_of self.old.up path ≡ Some result }
+        ensures rest { self.new ≡ record self.old { up = taken self.old.up path } }
+    {
+        self.up.take(path)
+    }
+
+    /// All signals on a path vanish, both ways.
+    pub fn lose(&mut self, path: Path)
+        ensures { self.new ≡ record { down = lost self.old.down path; up = lost self.old.up path } }
+    {
+        self.down.lose(path);
+        self.up.lose(path);
+    }
+}
+
+#[cfg(test)]
+mod tests {
+    use super::*;
+
+    #[test]
+    fn signals_arrive_in_order(rt: HostRuntime) {
+        let mut wires = Wires::new();
+        let path = Path::new(7).unwrap();
+        for number in 1..10 {
+            let room = !wires.down_is_full(path);
+            assert_eq!(rt; room, number < 9, "room for {number}");
+            if room {
+                wires.send_down(path, Down::Select { number });
+            }
+        }
+        for number in 1..9 {
+            let waits = wires.front_down(path).is_some();
+            assert!(rt; waits, "{number} waits");
+            let taken = wires.take_down(path);
+            assert!(rt;
+                matches!(taken, Down::Select { number: n } if n == number),
+                "{number} taken"
+            );
+        }
+        assert!(rt; wires.front_down(path).is_none());
+    }
+
+    #[test]
+    fn signals_are_lost_with_their_path(rt: HostRuntime) {
+        let mut wires = Wires::new();
+        let path = Path::new(0).unwrap();
+        assert!(rt; !wires.up_is_full(path));
+        wires.send_up(path, Up::Busy { number: 5 });
+        assert!(rt; matches!(wires.front_up(path), Some(Up::Busy { number: 5 })));
+        let taken = wires.take_up(path);
+        assert!(rt; matches!(taken, Up::Busy { number: 5 }));
+        assert!(rt; !wires.up_is_full(path));
+        wires.send_up(path, taken);
+        assert!(rt; !wires.down_is_full(path));
+        wires.send_down(path, Down::Halt { number: 5 });
+        wires.lose(path);
+        assert!(rt; wires.front_up(path).is_none());
+        assert!(rt; wires.front_down(path).is_none());
+    }
+}
