@@ -1,8 +1,8 @@
 -- Two keys of the same bits are the same key.
-use Rattle.std.proofs.Common.{◌≡◌, ℕ, ◌<◌, Bool, false, refl, ap}
+use Rattle.std.proofs.Common.{◌≡◌, ◌<◌, false, ap}
 use Rattle.std.proofs.Math.Bridge.{le_prop}
 use Rattle.storage_keys.specs.declared.key.Key.{Key}
-use Rattle.storage_keys.specs.Storage.{open_key}
+use Rattle.storage_keys.specs.Storage.{zero_key}
 
-pub all_zero : (fits : 0 < 16) → record { access = 0; fetch_protected = false; referenced = false; changed = false; access_fits = fits } ≡ open_key
-all_zero fits = ap (λ (h : 0 < 16). let k : Key = record { access = 0; fetch_protected = false; referenced = false; changed = false; access_fits = h } in k) (le_prop fits open_key.access_fits)
+pub all_zero : (fits : 0 < 16) → record { access = 0; fetch_protected = false; referenced = false; changed = false; access_fits = fits } ≡ zero_key
+all_zero fits = ap (λ (h : 0 < 16). let k : Key = record { access = 0; fetch_protected = false; referenced = false; changed = false; access_fits = h } in k) (le_prop fits zero_key.access_fits)

@@ -1,2 +1,3 @@
 pub mod KeyLemmas
 pub mod OperandLemmas
+pub mod ByteLemmas

@@ -1,6 +1,6 @@
 -- Operands: the area that a prefix names is in storage, so an operand is in storage by its real addresses, and
 -- bytes of one area of 8,192 stay in a row.
-use Rattle.std.proofs.Common.{◌≡◌, ℕ, zero, suc, ◌+◌, ◌-◌, ◌*◌, ◌%◌, ◌<◌, ◌≤◌, Bool, true, false, ◌&&◌, ◌||◌, ◌==◌, List, [], ◌∷◌, ◌++◌, length, map, take, drop, get_or, set, refl, sym, ap, ◌∙◌, subst, arith, add-one, length-append, append_assoc}
+use Rattle.std.proofs.Common.{◌≡◌, ℕ, zero, suc, ◌+◌, ◌-◌, ◌%◌, ◌<◌, ◌≤◌, Bool, ◌&&◌, ◌||◌, ◌==◌, List, [], ◌∷◌, ◌++◌, length, map, take, drop, set, refl, sym, ap, ◌∙◌, arith, add-one, length-append, append_assoc}
 use Rattle.std.specs.Prelude.{nat_lt, nat_le, slice_index, slice_range}
 use Rattle.std.specs.List.{list_all, range_with_len}
 use Rattle.std.proofs.Math.Seq.{sets, take-add}
@@ -44,10 +44,10 @@ places-one_area s h cpu real n fits =
     same_lists (map (absolute s cpu) (range_with_len real n)) (range_with_len (absolute s cpu real) n)
     (length-map-range_with_len (absolute s cpu) real n ∙ sym (length-range_with_len (absolute s cpu real) n))
     (λ k d below.
-      let within : k < n = omega (arith, below, length-map-range_with_len (absolute s cpu) real n) in
-      get_or-map-range_with_len (absolute s cpu) real n k (real + k) d within refl
-      ∙ absolute_under-add (slice_index s.prefixes cpu) real n k (h.prefixes cpu).0 fits within
-      ∙ sym (get_or-range_with_len (absolute s cpu real) n k d within))
+    let within : k < n = omega (arith, below, length-map-range_with_len (absolute s cpu) real n) in
+    get_or-map-range_with_len (absolute s cpu) real n k (real + k) d within refl
+    ∙ absolute_under-add (slice_index s.prefixes cpu) real n k (h.prefixes cpu).0 fits within
+    ∙ sym (get_or-range_with_len (absolute s cpu real) n k d within))
 
 area_inside : (prefix size real n : ℕ) → IsPrefix size prefix → real % 8192 + n ≤ 8192 → real + n ≤ size → 65536 ≤ size → absolute_under prefix real + n ≤ size
 area_inside prefix size real n names area inside least =
@@ -55,20 +55,20 @@ area_inside prefix size real n names area inside least =
     let named : prefix + 8192 ≤ size = names.1 in
     grind (arith, nat_tests)
 
-pub length-slice_range : (xs : List ℕ) (a n : ℕ) → a + n ≤ length xs → length (slice_range xs a (a + n)) ≡ n
-length-slice_range xs a n h = omega (arith, length-take (a + n - a) (drop a xs), length-drop a xs)
+pub length-slice_range : (xs : List ℕ) (a n : ℕ) → (0 < n → a + n ≤ length xs) → length (slice_range xs a (a + n)) ≡ n
+length-slice_range xs a n h = grind (arith, length-take (a + n - a) (drop a xs), length-drop a xs)
 
-map-slice_index-range : (bytes : List ℕ) (a n : ℕ) → a + n ≤ length bytes → map (slice_index bytes) (range_with_len a n) ≡ slice_range bytes a (a + n)
+pub map-slice_index-range : (bytes : List ℕ) (a n : ℕ) → (0 < n → a + n ≤ length bytes) → map (slice_index bytes) (range_with_len a n) ≡ slice_range bytes a (a + n)
 map-slice_index-range bytes a n h =
     same_lists (map (slice_index bytes) (range_with_len a n)) (slice_range bytes a (a + n))
     (length-map-range_with_len (slice_index bytes) a n ∙ sym (length-slice_range bytes a n h))
     (λ k d below.
-      let within : k < n = omega (arith, below, length-map-range_with_len (slice_index bytes) a n) in
-      let left : k < a + n - a = omega arith in
-      let inside : a + k < length bytes = omega arith in
-      get_or-map-range_with_len (slice_index bytes) a n k (a + k) d within refl
-      ∙ sym (get_or_default_zero bytes (a + k) d inside)
-      ∙ sym (get_or-take (a + n - a) (drop a bytes) k d left ∙ get_or-drop a bytes k d))
+    let within : k < n = omega (arith, below, length-map-range_with_len (slice_index bytes) a n) in
+    let left : k < a + n - a = omega arith in
+    let inside : a + k < length bytes = omega arith in
+    get_or-map-range_with_len (slice_index bytes) a n k (a + k) d within refl
+    ∙ sym (get_or_default_zero bytes (a + k) d inside)
+    ∙ sym (get_or-take (a + n - a) (drop a bytes) k d left ∙ get_or-drop a bytes k d))
 
 range_with_len-add : (a m n : ℕ) → range_with_len a (m + n) ≡ range_with_len a m ++ range_with_len (a + m) n
 range_with_len-add a zero n =
@@ -104,7 +104,7 @@ with_values-sets (v ∷ vs) bytes a = with_values-sets vs (set bytes a v) (a + 1
 with_values-range : (vs bytes : List ℕ) (a : ℕ) → a + length vs ≤ length bytes → with_values bytes (range_with_len a (length vs)) vs ≡ take a bytes ++ (vs ++ drop (a + length vs) bytes)
 with_values-range vs bytes a h = with_values-sets vs bytes a ∙ sets-eq vs bytes a h ∙ append_assoc (take a bytes) vs (drop (a + length vs) bytes)
 
-length-with_values : (bytes ps vs : List ℕ) → length (with_values bytes ps vs) ≡ length bytes
+pub length-with_values : (bytes ps vs : List ℕ) → length (with_values bytes ps vs) ≡ length bytes
 length-with_values bytes [] vs = refl
 length-with_values bytes (p ∷ ps) [] = refl
 length-with_values bytes (p ∷ ps) (v ∷ vs) = length-with_values (set bytes p v) ps vs ∙ length-set bytes p v
@@ -116,7 +116,7 @@ piece_inside s h cpu real n area inside = area_inside (slice_index s.prefixes cp
 pub piece_read : (s : Contents) → IsStorage s → (cpu real n : ℕ) → real % 8192 + n ≤ 8192 → real + n ≤ length s.bytes
     → slice_range s.bytes (absolute s cpu real) (absolute s cpu real + n) ≡ map (slice_index s.bytes) (places s cpu real n)
 piece_read s h cpu real n area inside =
-    sym (ap (map (slice_index s.bytes)) (places-one_area s h cpu real n area) ∙ map-slice_index-range s.bytes (absolute s cpu real) n (piece_inside s h cpu real n area inside))
+    sym (ap (map (slice_index s.bytes)) (places-one_area s h cpu real n area) ∙ map-slice_index-range s.bytes (absolute s cpu real) n (λ _. piece_inside s h cpu real n area inside))
 
 pub piece_stored : (s : Contents) → IsStorage s → (cpu real : ℕ) (values : List ℕ) → real % 8192 + length values ≤ 8192 → real + length values ≤ length s.bytes
     → put_at s (absolute s cpu real) values ≡ operand_stored s cpu real values

@@ -1,7 +1,6 @@
 -- What main storage holds, and what each access to it answers (SA22-7832, chapter 3).
 use Rattle.std.specs.Prelude.{◌≡◌, ℕ, ◌+◌, ◌-◌, ◌*◌, ◌/◌, ◌%◌, ◌^◌, ◌≤◌, Bool, true, false, not, ◌&&◌, ◌||◌, ◌==◌, nat_lt, nat_le, if◌then◌else◌, List, [], ◌∷◌, ◌++◌, map, length, take, drop, replicate, slice_get, slice_index, slice_set, slice_range, Result, Ok, Err, ok_or}
 use Rattle.std.specs.List.{list_all, range_with_len}
-use Rattle.std.specs.Result.{result_map_both}
 use Rattle.std.proofs.Common.{lit<}
 use Rattle.storage_keys.specs.declared.key.Key.{Key}
 use Rattle.storage_keys.specs.declared.StorageFault.{StorageFault}
@@ -25,13 +24,13 @@ pub record IsStorage (storage : Contents) : Type 0 where
   pub cpus : length storage.prefixes ≡ 16
   pub prefixes : (cpu : ℕ) → IsPrefix (length storage.bytes) (slice_index storage.prefixes cpu)
 
--- the key of each block at first: every access is permitted
-abbrev pub open_key : Key
-open_key = record { access = 0; fetch_protected = false; referenced = false; changed = false; access_fits = lit< tt }
+-- the key of each block at first (own)
+abbrev pub zero_key : Key
+zero_key = record { access = 0; fetch_protected = false; referenced = false; changed = false; access_fits = lit< tt }
 
 -- storage of so many blocks at first (own)
 abbrev pub cleared : ℕ → Contents
-cleared blocks = record { bytes = replicate (4096 * blocks) 0; keys = replicate blocks open_key; prefixes = replicate 16 0 }
+cleared blocks = record { bytes = replicate (4096 * blocks) 0; keys = replicate blocks zero_key; prefixes = replicate 16 0 }
 
 -- Keys
 

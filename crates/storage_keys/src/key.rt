@@ -19,8 +19,8 @@ pub struct Key {
 impl Key {
     ghost use Rattle.storage_keys.specs.Storage.{byte_of, key_permits_fetch, key_permits_store};
 
-    /// The key that every block has at first (own): each access is permitted.
-    pub const OPEN: Key = Key {
+    /// The key that every block has at first (own).
+    pub const ZERO: Key = Key {
         access: 0,
         fetch_protected: false,
         referenced: false,

@@ -5,6 +5,9 @@ ghost use Rattle.std.specs.Prelude.{◌≡◌, ℕ, ◌+◌, ◌-◌, ◌%◌, �
 ghost use Rattle.storage_keys.specs.Storage as spec;
 
 pub mod key;
+pub mod law;
+#[cfg(test)]
+mod tests;
 
 use key::Key;
 use std::alloc::{AllocError, Global};
@@ -56,7 +59,7 @@ impl Storage {
         let blocks = blocks as usize;
         Ok(Storage {
             bytes: vec![in alloc; 0; BLOCK * blocks]?,
-            keys: vec![in alloc; Key::OPEN; blocks]?,
+            keys: vec![in alloc; Key::ZERO; blocks]?,
             prefixes: [0; 16],
         })
     }
@@ -175,7 +178,13 @@ impl Storage {
     }
 
     /// Whether the operand of an instruction is on its boundary and in storage, as `operand` asks.
-    pub fn check_operand(&self, cpu: u8, address: u32, count: usize, boundary: u32) -> Result<(), StorageFault>
+    pub fn check_operand(
+        &self,
+        cpu: u8,
+        address: u32,
+        count: usize,
+        boundary: u32,
+    ) -> Result<(), StorageFault>
         requires cpu { cpu < 16 }
         requires boundary { 0 < boundary }
         ensures checked { result ≡ spec.operand_check self.now cpu address count boundary }
@@ -193,7 +202,12 @@ impl Storage {
     /// The bytes of an instruction's operand at a CPU's real address, fetched with key 0.
     /// Specification where the address is no multiple of `boundary`, otherwise Addressing where a
     /// byte is not in storage. Each byte's address is turned to an absolute one by itself.
-    pub fn operand<const N: usize>(&self, cpu: u8, address: u32, boundary: u32) -> Result<[u8; N], StorageFault>
+    pub fn operand<const N: usize>(
+        &self,
+        cpu: u8,
+        address: u32,
+        boundary: u32,
+    ) -> Result<[u8; N], StorageFault>
         requires cpu { cpu < 16 }
         requires boundary { 0 < boundary }
         ensures { result ≡ spec.operand_at self.now cpu address N boundary }
@@ -313,14 +327,18 @@ impl Storage {
         requires { IsTrue (spec.is_inside self.now address count) }
         ensures { result ≡ spec.permits_fetch self.now key address count }
     {
-        self.keys_of(address, count).iter().all(|block| block.permits_fetch(key))
+        self.keys_of(address, count)
+            .iter()
+            .all(|block| block.permits_fetch(key))
     }
 
     fn permits_store(&self, key: u8, address: u32, count: usize) -> bool
         requires { IsTrue (spec.is_inside self.now address count) }
         ensures { result ≡ spec.permits_store self.now key address count }
     {
-        self.keys_of(address, count).iter().all(|block| block.permits_store(key))
+        self.keys_of(address, count)
+            .iter()
+            .all(|block| block.permits_store(key))
     }
 
     fn part(&self, address: u32, count: usize) -> &[u8]

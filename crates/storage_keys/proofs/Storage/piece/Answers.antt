@@ -1,5 +1,4 @@
 -- A piece of one area stands in a row.
-use Rattle.std.proofs.Common.{rules, arith, ◌∙◌}
 use Rattle.storage_keys.proofs.OperandLemmas.{piece_read}
 use Rattle.storage_keys.proofs.Storage.piece.Goals as goal
 

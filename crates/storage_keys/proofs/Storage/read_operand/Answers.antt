@@ -1,7 +1,5 @@
 -- What is read so far, piece by piece.
-use Rattle.std.proofs.Common.{◌≡◌, ◌+◌, ◌-◌, ◌≤◌, arith, length, map, min, ap, ◌∙◌, sym}
-use Rattle.std.specs.Prelude.{slice_index}
-use Rattle.storage_keys.specs.Storage.{places}
+use Rattle.std.proofs.Common.{◌+◌, ◌≤◌, arith, length, ap, ◌∙◌, sym}
 use Rattle.storage_keys.proofs.OperandLemmas.{read-nil, read_more, length-read, length-slice_range}
 use Rattle.storage_keys.proofs.Storage.read_operand.Goals as goal
 
@@ -11,7 +9,7 @@ loop-done-init c = record { within = omega arith; here = omega arith; read = rea
 pub copy_from_slice-requires : goal.copy_from_slice-requires
 copy_from_slice-requires c =
     let within : c.loop-done.done + c.piece_length-count.result ≤ length c.loop-done.bytes = omega arith in
-    length-slice_range c.loop-done.bytes c.loop-done.done c.piece_length-count.result within
+    length-slice_range c.loop-done.bytes c.loop-done.done c.piece_length-count.result (λ _. within)
     ∙ sym (ap length c.piece.ensures.piece ∙ length-read c.args.self.now c.args.cpu c.loop-done.real c.piece_length-count.result)
 
 pub loop-done-preserved : goal.loop-done-preserved
@@ -21,5 +19,5 @@ loop-done-preserved c =
       within = omega (arith, c.type_inv.bytes 0);
       here = omega arith;
       read = read_more c.args.self.now c.args.cpu c.args.address c.loop-done.done c.piece_length-count.result _ c.loop-done.bytes c.copy_from_slice.new.self within c.loop-done.invariant.read
-        (c.copy_from_slice.ensures.after ∙ rw (← c.loop-done.invariant.here) c.piece.ensures.piece)
+          (c.copy_from_slice.ensures.after ∙ rw (← c.loop-done.invariant.here) c.piece.ensures.piece);
     }

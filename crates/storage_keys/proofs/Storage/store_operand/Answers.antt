@@ -1,6 +1,6 @@
 -- What is stored so far, piece by piece.
-use Rattle.std.proofs.Common.{◌≡◌, ◌+◌, ◌-◌, ◌≤◌, arith, length, min, ap, ◌∙◌, sym}
-use Rattle.storage_keys.specs.Storage.{Contents, operand_stored}
+use Rattle.std.proofs.Common.{◌≡◌, ◌+◌, ◌≤◌, arith, length, ap, ◌∙◌, sym}
+use Rattle.storage_keys.specs.Storage.{Contents}
 use Rattle.storage_keys.proofs.OperandLemmas.{operand_stored-nil, stored_more, length-operand_stored, length-slice_range}
 use Rattle.storage_keys.proofs.Storage.store_operand.Goals as goal
 
@@ -12,7 +12,7 @@ store_piece-requires-clause-inside c =
     let within : c.loop-done.done + c.piece_length-count.result ≤ length c.args.bytes.now = omega arith in
     let size : length c.loop-done.self.bytes ≡ length c.args.self.now.bytes =
     ap (λ (s : Contents). length s.bytes) c.loop-done.invariant.stored ∙ length-operand_stored c.args.self.now c.args.cpu c.args.address _ in
-    omega (arith, length-slice_range c.args.bytes.now c.loop-done.done c.piece_length-count.result within)
+    omega (arith, length-slice_range c.args.bytes.now c.loop-done.done c.piece_length-count.result (λ _. within))
 
 pub overflow_add-real : goal.overflow_add-real
 overflow_add-real c =
@@ -27,5 +27,5 @@ loop-done-preserved c =
       within = within;
       here = omega arith;
       stored = stored_more c.args.self.now c.loop-done.self c.store_piece.new.self c.args.cpu c.args.address c.loop-done.done c.piece_length-count.result c.args.bytes.now within
-        c.loop-done.invariant.stored (rw (← c.loop-done.invariant.here) c.store_piece.ensures.stored)
+          c.loop-done.invariant.stored (rw (← c.loop-done.invariant.here) c.store_piece.ensures.stored);
     }

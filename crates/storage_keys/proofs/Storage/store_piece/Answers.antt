@@ -1,5 +1,4 @@
 -- A piece of one area is stored in a row.
-use Rattle.std.proofs.Common.{rules, arith, ◌∙◌}
 use Rattle.storage_keys.proofs.OperandLemmas.{piece_stored}
 use Rattle.storage_keys.proofs.Storage.store_piece.Goals as goal
 

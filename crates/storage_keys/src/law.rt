@@ -1,0 +1,26 @@
+//! What fetches and stores mean byte by byte.
+
+ghost use Rattle.std.specs.Prelude.{◌≡◌, ◌≢◌, ℕ, ◌+◌, ◌<◌, ◌≤◌, List, IsTrue, Ok, length, map, slice_index};
+ghost use Rattle.std.specs.List.{range_with_len};
+ghost use Rattle.storage_keys.specs.Storage.{Contents, IsStorage, is_inside, fetched, put_at, absolute, operand_stored};
+
+/// The bytes that a fetch answers are those at its addresses, in order.
+pub fn fetched_bytes()
+    ensures { (storage : Contents) (key address count : ℕ) (bytes : List ℕ) → fetched storage key address count ≡ Ok bytes → bytes ≡ map (slice_index storage.bytes) (range_with_len address count) }
+{}
+
+/// Bytes that are put, or stored, stand at their addresses in order, and all other bytes stay.
+pub fn put_bytes()
+    ensures size { (storage : Contents) (address : ℕ) (bytes : List ℕ) → IsTrue (is_inside storage address (length bytes)) → length (put_at storage address bytes).bytes ≡ length storage.bytes }
+    ensures placed { (storage : Contents) (address : ℕ) (bytes : List ℕ) → IsTrue (is_inside storage address (length bytes)) → (i : ℕ) → i < length bytes → slice_index (put_at storage address bytes).bytes (address + i) ≡ slice_index bytes i }
+    ensures before { (storage : Contents) (address : ℕ) (bytes : List ℕ) → IsTrue (is_inside storage address (length bytes)) → (place : ℕ) → place < address → slice_index (put_at storage address bytes).bytes place ≡ slice_index storage.bytes place }
+    ensures after { (storage : Contents) (address : ℕ) (bytes : List ℕ) → IsTrue (is_inside storage address (length bytes)) → (place : ℕ) → address + length bytes ≤ place → slice_index (put_at storage address bytes).bytes place ≡ slice_index storage.bytes place }
+{}
+
+/// The bytes of an operand that is stored stand at the absolute addresses of its real ones, in
+/// order, and all other bytes stay.
+pub fn operand_bytes()
+    ensures size { (storage : Contents) (cpu address : ℕ) (bytes : List ℕ) → length (operand_stored storage cpu address bytes).bytes ≡ length storage.bytes }
+    ensures placed { (storage : Contents) (cpu address : ℕ) (bytes : List ℕ) → IsStorage storage → address + length bytes ≤ length storage.bytes → (i : ℕ) → i < length bytes → slice_index (operand_stored storage cpu address bytes).bytes (absolute storage cpu (address + i)) ≡ slice_index bytes i }
+    ensures others { (storage : Contents) (cpu address : ℕ) (bytes : List ℕ) (place : ℕ) → ((i : ℕ) → i < length bytes → place ≢ absolute storage cpu (address + i)) → slice_index (operand_stored storage cpu address bytes).bytes place ≡ slice_index storage.bytes place }
+{}
