@@ -94,9 +94,12 @@ suspended_scsw scsw = record scsw {
   deferred = deferred.Zero
 }
 
+abbrev pub without_status : Scsw → Scsw
+without_status scsw = record scsw { status = no_status }
+
 abbrev pub intermediate_cleared : Scsw → Scsw
 intermediate_cleared scsw =
-    if not scsw.activity.suspended then record scsw { status = no_status }
+    if not scsw.activity.suspended then without_status scsw
     else (if scsw.functions.halt then ended_scsw scsw else suspended_scsw scsw)
 
 -- the status word that TEST SUBCHANNEL leaves

@@ -7,6 +7,7 @@ use Rattle.scsw_irb.specs.Empty.{no_functions, no_activity}
 use Rattle.chan_model.specs.declared.status.Condition.{Condition}
 use Rattle.chan_model.specs.PathSets.{paths_of_mask}
 use Rattle.chan_model.specs.Status.{no_device_status, no_subchannel_status, serials_cleared, tested_scsw}
+use Rattle.machine_model.specs.declared.state.Pmcw.{Pmcw}
 use Rattle.machine_model.specs.declared.state.Program.{Program}
 use Rattle.machine_model.specs.declared.state.SubchannelState.{SubchannelState}
 use Rattle.machine_model.specs.State.{no_paths}
@@ -30,9 +31,12 @@ started_scsw scsw orb = record scsw {
   command_address = orb.program; device_status = no_device_status; subchannel_status = no_subchannel_status; count = 0
 }
 
+abbrev pub started_pmcw : Pmcw → Orb → Pmcw
+started_pmcw pmcw orb = record pmcw { parameter = orb.parameter; logical = paths_of_mask orb.paths; not_operational = no_paths }
+
 abbrev pub started : SubchannelState → Orb → SubchannelState
 started s orb = record s {
-  pmcw = record s.pmcw { parameter = orb.parameter; logical = paths_of_mask orb.paths; not_operational = no_paths };
+  pmcw = started_pmcw s.pmcw orb;
   scsw = started_scsw s.scsw orb;
   starts = s.starts + 1;
   waiting = Some (record { start = s.starts + 1; orb = orb; single_path = not s.pmcw.multipath })
@@ -43,5 +47,8 @@ abbrev pub tested : SubchannelState → SubchannelState
 tested s = record s { scsw = tested_scsw s.scsw; serials = serials_cleared s.serials }
 
 -- the interruption subclass and the mode are set, and the subchannel is enabled
+abbrev pub enabled_pmcw : Pmcw → ℕ → Bool → Pmcw
+enabled_pmcw pmcw subclass multipath = record pmcw { subclass = subclass; multipath = multipath; enabled = true }
+
 abbrev pub enabled : SubchannelState → ℕ → Bool → SubchannelState
-enabled s subclass multipath = record s { pmcw = record s.pmcw { subclass = subclass; multipath = multipath; enabled = true } }
+enabled s subclass multipath = record s { pmcw = enabled_pmcw s.pmcw subclass multipath }

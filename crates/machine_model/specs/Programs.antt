@@ -1,6 +1,6 @@
 -- A channel program of one write command (SA22-7832, chapter 15). The command is of format 1 and class write, with no flag
 -- but SLI; any other is a program check when it is fetched (own, until whole channel programs are served).
-use Rattle.std.specs.Prelude.{ℕ, ◌+◌, ◌-◌, ◌%◌, ◌^◌, Bool, true, false, not, ◌==◌, ◌&&◌, ◌||◌, nat_lt, min, if◌then◌else◌, Option, None, Some, is_some, List, [], length, Result, Ok, Err}
+use Rattle.std.specs.Prelude.{ℕ, ◌+◌, ◌-◌, ◌≤◌, ◌%◌, ◌^◌, Bool, true, false, not, ◌==◌, ◌&&◌, ◌||◌, nat_lt, min, if◌then◌else◌, Option, None, Some, is_some, List, [], length, Result, Ok, Err}
 use Rattle.zbits.specs.Bits.{field_of}
 use Rattle.zbits.specs.Words.{word_at}
 use Rattle.orb_block.specs.declared.Orb.{Orb}
@@ -19,12 +19,15 @@ check_of storage.Protection = Protection
 check_of storage.Specification = Program
 
 -- a block of format 1: command, flags, count, a zero bit and the data address
+abbrev pub serves_flags : ℕ → Bool
+serves_flags flags = (flags == 0) || (flags == 0x20)
+
 abbrev pub is_served : Orb → ℕ → ℕ → Bool
 is_served orb control address =
-    (orb.format_one && not orb.modified_words)
-    && ((field_of control 0 7 % 4 == 1)
-    && (((field_of control 8 15 == 0) || (field_of control 8 15 == 0x20))
-    && nat_lt address (2 ^ 31)))
+    nat_lt address (2 ^ 31)
+    && (orb.format_one
+    && (not orb.modified_words
+    && ((field_of control 0 7 % 4 == 1) && serves_flags (field_of control 8 15))))
 
 abbrev pub transfer_of : ℕ → ℕ → Transfer
 transfer_of control address = record {
@@ -53,9 +56,18 @@ next_bytes storage key t =
     if has_stopped t then Ok [] else fetched storage key (t.address + (t.count - t.residual)) (min t.residual 256)
 
 -- the next chunk as it is given to the device; a chunk that can't be fetched is a fault, and no bytes are given
+abbrev pub IsChunk : List ℕ → Type 0
+IsChunk bytes = length bytes ≤ 256
+
+abbrev pub given_bytes : Transfer → List ℕ → Given
+given_bytes t bytes = record { transfer = record t { offered = length bytes }; bytes = bytes }
+
+abbrev pub given_fault : Transfer → StorageFault → Given
+given_fault t fault = record { transfer = record t { offered = 0; fault = Some (check_of fault) }; bytes = [] }
+
 abbrev pub given_of : Transfer → Result (List ℕ) StorageFault → Given
-given_of t (Ok bytes) = record { transfer = record t { offered = length bytes }; bytes = bytes }
-given_of t (Err fault) = record { transfer = record t { offered = 0; fault = Some (check_of fault) }; bytes = [] }
+given_of t (Ok bytes) = given_bytes t bytes
+given_of t (Err fault) = given_fault t fault
 
 abbrev pub next_given : Contents → ℕ → Transfer → Given
 next_given storage key t = given_of t (next_bytes storage key t)

@@ -51,13 +51,18 @@ is_unit_check_alone status = has_unit_check status && (not (has_channel_end stat
 abbrev pub is_channel_end_alone : DeviceStatus → Bool
 is_channel_end_alone status = has_channel_end status && not (has_device_end status)
 
+abbrev pub is_short : Begun → Bool → Bool
+is_short b more = not (b.transfer.residual == 0) || more
+
+abbrev pub shows_immediate : Begun → DeviceStatus → Bool
+shows_immediate b status = not (is_channel_end_alone status) || (b.program.orb.format_one && not b.program.orb.suppress_length)
+
 abbrev pub shows_length : Begun → DeviceStatus → Bool → Bool
 shows_length b status more =
     not b.transfer.ended
-    && ((not (b.transfer.residual == 0) || more)
+    && (is_short b more
     && (not (is_unit_check_alone status)
-    && (not b.transfer.suppress_length
-    && (not (is_channel_end_alone status) || (b.program.orb.format_one && not b.program.orb.suppress_length)))))
+    && (not b.transfer.suppress_length && shows_immediate b status)))
 
 abbrev pub end_bits : Begun → DeviceStatus → Bool → SubchannelStatus
 end_bits b status more = record { 0 = bit_or (length_bits (shows_length b status more)) (check_bits b.transfer.fault) }

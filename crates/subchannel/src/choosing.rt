@@ -1,0 +1,1 @@
+//! What the subsystem does of itself for a subchannel.

@@ -1,0 +1,1 @@
+//! What a subchannel does with a signal that came up by a path.
