@@ -1,0 +1,233 @@
+//! The subsystem's side of one subchannel (own): what it takes the device to be held by.
+#![tactic(auto)]
+
+mod rows;
+
+ghost use Rattle.std.specs.Prelude.{◌≡◌, Some};
+ghost use Rattle.chan_model.specs.HoldTable as table;
+ghost use Rattle.chan_model.specs.ResetCauses as causes;
+ghost use Rattle.chan_model.specs.declared.hold_state.HoldPhase.TheVariants as phase;
+
+use chan_model::hold_state::{HoldPhase, HoldState};
+use chan_model::names::Path;
+use chan_model::signal::{Down, OnPath, Taken, Up};
+use std::marker::Model;
+
+/// What the subsystem takes the device of one subchannel to be held by.
+#[derive(Clone, Copy, Debug)]
+pub struct Hold {
+    state: HoldState,
+}
+
+impl Model for Hold {
+    ghost use Rattle.chan_model.specs.declared.hold_state.HoldState.{HoldState};
+
+    ghost Value = { HoldState };
+
+    ghost view = { λ h. h.state };
+
+    ghost inverse = { λ s. record { state = s } };
+}
+
+impl Hold {
+    /// Nothing holds the device.
+    pub fn new() -> Self
+        ensures { result ≡ table.free_hold }
+    {
+        Hold {
+            state: HoldState {
+                phase: HoldPhase::Free,
+                seen: 0,
+                known: 0,
+                reset_path: None,
+                first_path: None,
+                single_path: false,
+            },
+        }
+    }
+
+    /// All that there is of it.
+    pub fn state(&self) -> HoldState
+        ensures { result ≡ self.now }
+    {
+        self.state
+    }
+
+    /// Offers the program under this number on a path.
+    pub fn offer(&mut self, number: u64, path: Path, single_path: bool) -> OnPath<Down>
+        requires { self.old.phase ≡ phase.Free }
+        ensures state { self.new ≡ (table.offering self.old number path single_path).state }
+        ensures sent { Some result ≡ (table.offering self.old number path single_path).sent }
+    {
+        self.state.phase = HoldPhase::Offer { number, path };
+        self.state.single_path = single_path;
+        OnPath {
+            path,
+            signal: Down::Select { number },
+        }
+    }
+
+    /// Takes a signal that came by a path.
+    ///
+    /// What `may` says depends on the signal: at Accept, that the program goes on; at Back, that it may be connected on
+    /// this path; at Attn, that the subchannel can show it.
+    pub fn take(&mut self, path: Path, signal: &Up, may: bool) -> Taken<Down>
+        ensures state { self.new ≡ table.hold_after self.old (table.hold_takes self.old path signal.now may) }
+        ensures came { result ≡ table.came_of (table.hold_takes self.old path signal.now may) }
+    {
+        rows::takes(&mut self.state, path, signal, may)
+    }
+
+    /// Whether the program of this number is connected on this path, by this connection.
+    pub fn is_connected(&self, path: Path, number: u64, connection: u64) -> bool
+        ensures { result ≡ table.is_connected self.now.phase path number connection }
+    {
+        match self.state.phase {
+            HoldPhase::On {
+                number: held,
+                path: at,
+                connection: last,
+            } => number == held && path.same(at) && connection == last,
+            _ => false,
+        }
+    }
+
+    /// Whether the program of this number is connected.
+    pub fn is_on(&self, number: u64) -> bool
+        ensures { result ≡ table.is_on self.now.phase number }
+    {
+        match self.state.phase {
+            HoldPhase::On { number: held, .. } => number == held,
+            _ => false,
+        }
+    }
+
+    /// Lets the device go. None where no program is connected, and then nothing changes.
+    pub fn let_go(&mut self) -> Option<OnPath<Down>>
+        ensures state { self.new ≡ table.hold_after self.old (table.letting_go self.old self.old.phase) }
+        ensures sent { result ≡ (table.came_of (table.letting_go self.old self.old.phase)).sent }
+    {
+        let phase = self.state.phase;
+        match phase {
+            HoldPhase::On { number, path, .. } => {
+                self.state.phase = HoldPhase::Letting { number, path };
+                Some(OnPath {
+                    path,
+                    signal: Down::Release { number },
+                })
+            }
+            _ => None,
+        }
+    }
+
+    /// The device is to be reset under this number; the Reset is not sent yet.
+    pub fn reset(&mut self, number: u64)
+        ensures { self.new ≡ table.resetting self.old number }
+    {
+        self.state.phase = HoldPhase::Reset { number };
+        self.state.reset_path = None;
+    }
+
+    /// Sends the Reset on a path. None where there is none to send, and then nothing changes.
+    pub fn send_reset(&mut self, path: Path) -> Option<OnPath<Down>>
+        ensures state { self.new ≡ table.hold_after self.old (table.sending_reset self.old self.old.phase path) }
+        ensures sent { result ≡ (table.came_of (table.sending_reset self.old self.old.phase path)).sent }
+    {
+        match self.state.phase {
+            HoldPhase::Reset { number } => {
+                self.state.reset_path = Some(path);
+                Some(OnPath {
+                    path,
+                    signal: Down::Reset {
+                        number,
+                        restarts: self.state.known,
+                    },
+                })
+            }
+            _ => None,
+        }
+    }
+
+    /// A path went down or was reset: whether the device is to be reset for it, under this number.
+    pub fn path_down(&mut self, path: Path, number: u64) -> bool
+        ensures state { self.new ≡ causes.path_lost self.old path number }
+        ensures reset { result ≡ causes.rests_on self.old path }
+    {
+        let rests = rows::rests_on(&self.state, path);
+        if rests {
+            self.reset(number);
+        }
+        rests
+    }
+
+    /// The path whose engine it engages: its active allegiance (SA22-7832, chapter 15).
+    pub fn engaged_path(&self) -> Option<Path>
+        ensures { result ≡ causes.engaged_path self.now.phase }
+    {
+        rows::engaged_path(&self.state)
+    }
+}
+
+#[cfg(test)]
+mod tests {
+    use super::*;
+
+    #[test]
+    fn a_program_leaves_comes_back_and_ends(rt: HostRuntime) {
+        let mut hold = Hold::new();
+        let first = Path::new(2).unwrap();
+        let second = Path::new(5).unwrap();
+        let select = hold.offer(1, first, false);
+        assert!(rt; matches!(select.signal, Down::Select { number: 1 }));
+        let accept = hold.take(first, &Up::Accept { number: 1 }, true);
+        assert!(rt; accept.taken && accept.sent.is_none());
+        assert!(rt; hold.is_on(1) && hold.is_connected(first, 1, 0));
+        let leave = Up::Leave {
+            number: 1,
+            connection: 0,
+        };
+        assert!(rt; hold.take(first, &leave, true).taken);
+        assert!(rt; !hold.is_on(1) && hold.engaged_path().is_none());
+        let back = Up::Back {
+            number: 1,
+            connection: 1,
+        };
+        let grant = hold.take(second, &back, true).sent.map(|sent| sent.signal);
+        assert!(rt;
+            matches!(
+                grant,
+                Some(Down::Grant {
+                    number: 1,
+                    connection: 1
+                })
+            )
+        );
+        assert!(rt; hold.is_connected(second, 1, 1));
+        let release = hold.let_go().map(|sent| sent.signal);
+        assert!(rt; matches!(release, Some(Down::Release { number: 1 })));
+        assert!(rt; hold.take(second, &Up::Released { number: 1 }, true).taken);
+        assert!(rt; matches!(hold.state().phase, HoldPhase::Free));
+    }
+
+    #[test]
+    fn a_reset_is_sent_again_where_its_path_is_lost(rt: HostRuntime) {
+        let mut hold = Hold::new();
+        let path = Path::new(4).unwrap();
+        assert!(rt; hold.take(path, &Up::Notice { restarts: 3 }, true).taken);
+        hold.reset(7);
+        assert!(rt; !hold.path_down(path, 8));
+        let reset = hold.send_reset(path).map(|sent| sent.signal);
+        assert!(rt;
+            matches!(
+                reset,
+                Some(Down::Reset {
+                    number: 7,
+                    restarts: 3
+                })
+            )
+        );
+        assert!(rt; hold.path_down(path, 9));
+        assert!(rt; !hold.take(path, &Up::Cleared { number: 7 }, true).taken);
+        assert!(rt; hold.take(path, &Up::Cleared { number: 9 }, true).taken);
+    }
+}

@@ -1,0 +1,272 @@
+//! What the hold does with each signal, and what its state says.
+
+ghost use Rattle.std.specs.Prelude.{◌≡◌, None, Some, true};
+ghost use Rattle.chan_model.specs.HoldTable as table;
+ghost use Rattle.chan_model.specs.ResetCauses as causes;
+
+use chan_model::hold_state::{HoldPhase, HoldState};
+use chan_model::names::Path;
+use chan_model::signal::{Down, OnPath, Taken, Up};
+
+/// A signal that came by a path.
+pub fn takes(hold: &mut HoldState, path: Path, signal: &Up, may: bool) -> Taken<Down>
+    ensures state { hold.new ≡ table.hold_after hold.old (table.hold_takes hold.old path signal.now may) }
+    ensures came { result ≡ table.came_of (table.hold_takes hold.old path signal.now may) }
+{
+    match signal {
+        Up::Accept { number } => accepted(hold, *number, may),
+        Up::Busy { number } => found_busy(hold, *number),
+        Up::Leave { number, connection } => left(hold, *number, *connection),
+        Up::Back { number, connection } => asked_back(hold, path, *number, *connection, may),
+        Up::Data { .. } | Up::End { .. } => ignored(),
+        Up::Released { number } => released(hold, *number),
+        Up::Cleared { number } => cleared(hold, *number),
+        Up::Notice { restarts } => noticed(hold, *restarts),
+        Up::Attn { attention, .. } => attended(hold, path, *attention, may),
+    }
+}
+
+/// Nothing came of it.
+fn ignored() -> Taken<Down>
+    ensures { result ≡ table.came_of None }
+{
+    Taken {
+        taken: false,
+        sent: None,
+    }
+}
+
+/// The state changed, and nothing was sent.
+fn quietly() -> Taken<Down>
+    ensures { result ≡ record { taken = true; sent = None } }
+{
+    Taken {
+        taken: true,
+        sent: None,
+    }
+}
+
+/// A signal was sent on a path.
+fn sending(path: Path, signal: Down) -> Taken<Down>
+    ensures { result ≡ record { taken = true; sent = Some (record { path = path; signal = signal }) } }
+{
+    Taken {
+        taken: true,
+        sent: Some(OnPath { path, signal }),
+    }
+}
+
+/// Accept of the number that is offered: the program goes on, or lets the device go at once.
+fn accepted(hold: &mut HoldState, number: u64, may: bool) -> Taken<Down>
+    ensures state { hold.new ≡ table.hold_after hold.old (table.accepted hold.old hold.old.phase number may) }
+    ensures came { result ≡ table.came_of (table.accepted hold.old hold.old.phase number may) }
+{
+    let phase = hold.phase;
+    match phase {
+        HoldPhase::Offer {
+            number: offered,
+            path,
+        } if number == offered => begun(hold, offered, path, may),
+        _ => ignored(),
+    }
+}
+
+/// The program of this number was accepted on this path.
+fn begun(hold: &mut HoldState, number: u64, path: Path, goes_on: bool) -> Taken<Down>
+    ensures state { hold.new ≡ (table.begun hold.old number path goes_on).state }
+    ensures came { result ≡ table.came_of (Some (table.begun hold.old number path goes_on)) }
+{
+    hold.seen = 0;
+    hold.first_path = Some(path);
+    if goes_on {
+        hold.phase = HoldPhase::On {
+            number,
+            path,
+            connection: 0,
+        };
+        quietly()
+    } else {
+        hold.phase = HoldPhase::Letting { number, path };
+        sending(path, Down::Release { number })
+    }
+}
+
+/// Busy at the number that is offered: the program waits again.
+fn found_busy(hold: &mut HoldState, number: u64) -> Taken<Down>
+    ensures state { hold.new ≡ table.hold_after hold.old (table.found_busy hold.old hold.old.phase number) }
+    ensures came { result ≡ table.came_of (table.found_busy hold.old hold.old.phase number) }
+{
+    match hold.phase {
+        HoldPhase::Offer {
+            number: offered,
+            ..
+        } if number == offered => {
+            hold.phase = HoldPhase::Free;
+            quietly()
+        }
+        _ => ignored(),
+    }
+}
+
+/// Leave of the connection at hand.
+fn left(hold: &mut HoldState, number: u64, connection: u64) -> Taken<Down>
+    ensures state { hold.new ≡ table.hold_after hold.old (table.left hold.old hold.old.phase number connection) }
+    ensures came { result ≡ table.came_of (table.left hold.old hold.old.phase number connection) }
+{
+    match hold.phase {
+        HoldPhase::On {
+            number: held,
+            connection: last,
+            ..
+        } if number == held && last == connection => {
+            hold.phase = HoldPhase::Away { number: held };
+            quietly()
+        }
+        _ => ignored(),
+    }
+}
+
+/// Back under a connection above the last seen: granted where the program is away and may come, refused elsewhere.
+fn asked_back(
+    hold: &mut HoldState,
+    path: Path,
+    number: u64,
+    connection: u64,
+    may: bool,
+) -> Taken<Down>
+    ensures state { hold.new ≡ table.hold_after hold.old (table.asked_back hold.old hold.old.phase path number connection may) }
+    ensures came { result ≡ table.came_of (table.asked_back hold.old hold.old.phase path number connection may) }
+{
+    match hold.phase {
+        HoldPhase::On { number: held, .. } if number == held && hold.seen < connection => {
+            refusing(hold, path, held, connection)
+        }
+        HoldPhase::Away { number: held } if number == held && hold.seen < connection => {
+            if may {
+                granting(hold, path, held, connection)
+            } else {
+                refusing(hold, path, held, connection)
+            }
+        }
+        _ => ignored(),
+    }
+}
+
+/// A connection is refused on the path by which it came.
+fn refusing(hold: &mut HoldState, path: Path, number: u64, connection: u64) -> Taken<Down>
+    ensures state { hold.new ≡ (table.refusing hold.old path number connection).state }
+    ensures came { result ≡ table.came_of (Some (table.refusing hold.old path number connection)) }
+{
+    hold.seen = connection;
+    sending(path, Down::Refuse { number, connection })
+}
+
+/// A connection is granted on the path by which it came.
+fn granting(hold: &mut HoldState, path: Path, number: u64, connection: u64) -> Taken<Down>
+    ensures state { hold.new ≡ (table.granting hold.old path number connection).state }
+    ensures came { result ≡ table.came_of (Some (table.granting hold.old path number connection)) }
+{
+    hold.seen = connection;
+    hold.phase = HoldPhase::On {
+        number,
+        path,
+        connection,
+    };
+    sending(path, Down::Grant { number, connection })
+}
+
+/// Released of the number that is let go.
+fn released(hold: &mut HoldState, number: u64) -> Taken<Down>
+    ensures state { hold.new ≡ table.hold_after hold.old (table.released hold.old hold.old.phase number) }
+    ensures came { result ≡ table.came_of (table.released hold.old hold.old.phase number) }
+{
+    match hold.phase {
+        HoldPhase::Letting { number: let_go, .. } if number == let_go => {
+            hold.phase = HoldPhase::Free;
+            quietly()
+        }
+        _ => ignored(),
+    }
+}
+
+/// Cleared of the Reset's number.
+fn cleared(hold: &mut HoldState, number: u64) -> Taken<Down>
+    ensures state { hold.new ≡ table.hold_after hold.old (table.cleared hold.old hold.old.phase number) }
+    ensures came { result ≡ table.came_of (table.cleared hold.old hold.old.phase number) }
+{
+    match hold.phase {
+        HoldPhase::Reset { number: last } if number == last => {
+            hold.phase = HoldPhase::Free;
+            hold.reset_path = None;
+            quietly()
+        }
+        _ => ignored(),
+    }
+}
+
+/// Notice of more restarts than are known.
+fn noticed(hold: &mut HoldState, restarts: u64) -> Taken<Down>
+    ensures state { hold.new ≡ table.hold_after hold.old (table.noticed hold.old restarts) }
+    ensures came { result ≡ table.came_of (table.noticed hold.old restarts) }
+{
+    if hold.known < restarts {
+        hold.known = restarts;
+        quietly()
+    } else {
+        ignored()
+    }
+}
+
+/// Attn where nothing holds the device: answered where the subchannel can show it.
+fn attended(hold: &mut HoldState, path: Path, attention: u64, may: bool) -> Taken<Down>
+    ensures state { hold.new ≡ table.hold_after hold.old (table.attended hold.old hold.old.phase path attention may) }
+    ensures came { result ≡ table.came_of (table.attended hold.old hold.old.phase path attention may) }
+{
+    match hold.phase {
+        HoldPhase::Free if may => sending(path, Down::Got { attention }),
+        _ => ignored(),
+    }
+}
+
+/// The path of Offer, On or Letting.
+pub fn engaged_path(hold: &HoldState) -> Option<Path>
+    ensures { result ≡ causes.engaged_path hold.now.phase }
+{
+    match hold.phase {
+        HoldPhase::Offer { path, .. }
+        | HoldPhase::On { path, .. }
+        | HoldPhase::Letting { path, .. } => Some(path),
+        HoldPhase::Free | HoldPhase::Away { .. } | HoldPhase::Reset { .. } => None,
+    }
+}
+
+/// Whether it rests on a path: engaged there, or dedicated to it in single-path mode, or waiting there for the answer to
+/// a Reset.
+pub fn rests_on(hold: &HoldState, path: Path) -> bool
+    ensures { result ≡ causes.rests_on hold.now path }
+{
+    is_path(engaged_path(hold), path)
+        || (is_held(hold) && hold.single_path && is_path(hold.first_path, path))
+        || (is_reset(hold) && is_path(hold.reset_path, path))
+}
+
+/// Whether a program holds the device.
+fn is_held(hold: &HoldState) -> bool
+    ensures { result ≡ causes.is_held hold.now.phase }
+{
+    matches!(hold.phase, HoldPhase::On { .. } | HoldPhase::Away { .. })
+}
+
+/// Whether the device is to be reset.
+fn is_reset(hold: &HoldState) -> bool
+    ensures { result ≡ causes.is_reset hold.now.phase }
+{
+    matches!(hold.phase, HoldPhase::Reset { .. })
+}
+
+/// Whether there is a path, and it is this one.
+fn is_path(path: Option<Path>, other: Path) -> bool
+    ensures { result ≡ causes.is_path path other }
+{
+    path.is_some_and(|path| path.same(other))
+}
