@@ -46,6 +46,13 @@ impl Hold {
         }
     }
 
+    /// The side that is in this state.
+    pub fn of(state: HoldState) -> Self
+        ensures { result ≡ state }
+    {
+        Hold { state }
+    }
+
     /// All that there is of it.
     pub fn state(&self) -> HoldState
         ensures { result ≡ self.now }

@@ -12,6 +12,9 @@ use Rattle.machine_model.specs.declared.state.SubchannelState.{SubchannelState}
 use Rattle.machine_model.specs.declared.state.Subchannel.{Subchannel}
 use Rattle.machine_model.specs.Statuses.{with_status, no_path_shown}
 
+abbrev pub is_member : List Bool → ℕ → Bool
+is_member set path = slice_index_or set path false
+
 -- a path is allowed where it is installed, logically available, and that of a dedicated allegiance where one stands
 abbrev pub keeps_dedicated : Option ℕ → ℕ → Bool
 keeps_dedicated None path = true
@@ -20,7 +23,7 @@ keeps_dedicated (Some d) path = d == path
 abbrev pub is_allowed : Subchannel → ℕ → Bool
 is_allowed sub path =
     nat_lt path (length sub.setup.paths)
-    && (slice_index_or sub.state.pmcw.logical path false && keeps_dedicated sub.state.dedicated path)
+    && (is_member sub.state.pmcw.logical path && keeps_dedicated sub.state.dedicated path)
 
 -- the engine of a channel path serves one subchannel: the one whose hold is offered, connected or letting go there
 abbrev pub is_chpid : Option ℕ → ℕ → Bool
@@ -34,9 +37,12 @@ engages_at sub (Some path) chpid = is_chpid (slice_get sub.setup.paths path) chp
 abbrev pub engages : ℕ → Subchannel → Bool
 engages chpid sub = engages_at sub (engaged_path sub.state.hold.phase) chpid
 
+abbrev pub any_engages : List Subchannel → ℕ → Bool
+any_engages subs chpid = list_any (engages chpid) subs
+
 abbrev pub is_engaged : List Subchannel → Option ℕ → Bool
 is_engaged subs None = false
-is_engaged subs (Some chpid) = list_any (engages chpid) subs
+is_engaged subs (Some chpid) = any_engages subs chpid
 
 -- a path is usable where it is allowed and its engine is free
 abbrev pub is_usable : List Subchannel → Subchannel → ℕ → Bool
@@ -52,17 +58,22 @@ abbrev pub usable_paths : List Subchannel → Subchannel → List Bool
 usable_paths subs sub = each_path (is_usable subs sub)
 
 abbrev pub is_any : List Bool → Bool
-is_any set = list_any (λ member. member) set
+is_any set =
+    is_member set 0 || (is_member set 1 || (is_member set 2 || (is_member set 3
+    || (is_member set 4 || (is_member set 5 || (is_member set 6 || is_member set 7))))))
 
 -- a program waits: it is offered on the chosen path where the hold is free, and is over where the hold is free or to be
 -- reset and no path is allowed
+abbrev pub idle_or_over : Bool → Chosen
+idle_or_over any = if any then Idle else Over
+
 abbrev pub chosen_free : Program → Bool → Option ℕ → Chosen
 chosen_free program any (Some path) = Offers program path
-chosen_free program any None = if any then Idle else Over
+chosen_free program any None = idle_or_over any
 
 abbrev pub chosen_at : HoldPhase → Program → Bool → Option ℕ → Chosen
 chosen_at hold.Free program any choice = chosen_free program any choice
-chosen_at (hold.Reset r) program any choice = if any then Idle else Over
+chosen_at (hold.Reset r) program any choice = idle_or_over any
 chosen_at phase program any choice = Idle
 
 abbrev pub chosen_for : HoldPhase → Option Program → Bool → Option ℕ → Chosen
@@ -71,6 +82,12 @@ chosen_for phase (Some program) any choice = chosen_at phase program any choice
 
 abbrev pub chosen : Subchannel → Option ℕ → Chosen
 chosen sub choice = chosen_for sub.state.hold.phase sub.state.waiting (is_any (allowed_paths sub)) choice
+
+-- an offer is made where the hold is free
+abbrev pub IsFreeToOffer : Chosen → HoldPhase → Type 0
+IsFreeToOffer Idle phase = Unit {0}
+IsFreeToOffer Over phase = Unit {0}
+IsFreeToOffer (Offers program path) phase = phase ≡ hold.Free
 
 -- the program is offered under a fresh number
 abbrev pub offered : SubchannelState → Program → ℕ → SubchannelState

@@ -1,5 +1,5 @@
 -- What a subchannel does with a signal that came up by a path (own).
-use Rattle.std.specs.Prelude.{ℕ, ◌+◌, ◌-◌, Bool, true, false, not, ◌==◌, ◌&&◌, ◌||◌, if◌then◌else◌, Option, None, Some, is_some, List, [], slice_set, Result, Ok, Err}
+use Rattle.std.specs.Prelude.{ℕ, ◌+◌, ◌-◌, ◌<◌, ◌^◌, Bool, true, false, not, ◌==◌, ◌&&◌, ◌||◌, if◌then◌else◌, Option, None, Some, is_some, List, [], slice_set, Result, Ok, Err}
 use Rattle.scsw_irb.specs.declared.scsw.ActivityControl.{ActivityControl}
 use Rattle.scsw_irb.specs.declared.scsw.Scsw.{Scsw}
 use Rattle.scsw_irb.specs.declared.status.DeviceStatus.{DeviceStatus}
@@ -58,18 +58,24 @@ with_path pmcw p = record pmcw { last_used = Some p; operational = slice_set pmc
 abbrev pub working : ActivityControl → ActivityControl
 working a = record a { start_pending = false; resume_pending = false; suspended = false; subchannel_active = true; device_active = true }
 
+abbrev pub working_scsw : Scsw → Scsw
+working_scsw scsw = record scsw { activity = working scsw.activity }
+
 abbrev pub taking_over : SubchannelState → Program → Transfer → SubchannelState
 taking_over s program transfer = record s {
-  scsw = record s.scsw { activity = working s.scsw.activity };
+  scsw = working_scsw s.scsw;
   waiting = None;
   begun = Some (record { program = program; tried = program.orb.program + 8; primary_shown = false; transfer = transfer })
 }
 
 -- its first command is sent; where it can't be, the program is over with status, and lets the device go
+abbrev pub fetch_fault : SubchannelState → Program → Check → UpStep
+fetch_fault s program check =
+    let_go (with_status (record s { waiting = None }) (fetch_fault_shown (program.orb.program + 8) check))
+
 abbrev pub beginning : SubchannelState → ℕ → ℕ → Program → Result Transfer Check → UpStep
 beginning s p t program (Ok transfer) = sending (taking_over s program transfer) p (down.Command t 1 transfer.code 0)
-beginning s p t program (Err check) =
-    let_go (with_status (record s { waiting = None }) (fetch_fault_shown (program.orb.program + 8) check))
+beginning s p t program (Err check) = fetch_fault s program check
 
 abbrev pub begin_waiting : Contents → SubchannelState → ℕ → ℕ → Option Program → UpStep
 begin_waiting storage s p t None = quietly s
@@ -85,6 +91,11 @@ accept_by storage s hold came = if came.taken then accepted_by storage (record s
 
 abbrev pub accept : Contents → SubchannelState → Option HoldStep → UpStep
 accept storage s step = accept_by storage s (hold_after s.hold step) (came_of step)
+
+-- a number that can be raised
+abbrev pub IsBelow : Option Begun → Type 0
+IsBelow None = Unit {0}
+IsBelow (Some b) = b.transfer.sequence + 1 < 2 ^ 63
 
 -- Data: bytes were moved, and the next are given; the first Data of a command ends a dedicated allegiance
 abbrev pub giving : SubchannelState → Begun → ℕ → ℕ → ℕ → ℕ → ℕ → Given → UpStep
