@@ -31,7 +31,7 @@ use Rattle.chan_model.specs.declared.reply.Entry.{Entry}
 use Rattle.chan_model.specs.ConditionCodes.{ssch_code, tsch_code, msch_code, answer_of}
 use Rattle.chan_model.specs.PathSets.{mask_of_path}
 use Rattle.chan_model.specs.Sides.{same_side}
-use Rattle.chan_model.specs.UnitTable as «unit»
+use Rattle.chan_model.specs.UnitTable as unit_table
 use Rattle.chan_model.specs.UnitTable.{UnitStep, unit_takes, unit_after}
 use Rattle.chan_model.specs.UnitReports.{unit_reports}
 use Rattle.channel_config.specs.declared.names.SubchannelId.{SubchannelId}
@@ -68,68 +68,105 @@ put_turn_of s (Err f) = Err (fault.Storage f)
 abbrev pub put_turn : State → ℕ → List ℕ → Outcome
 put_turn s address bytes = put_turn_of s (put s.storage address bytes)
 
--- an instruction's subchannel, at its place, as an instruction leaves it
-abbrev pub left_by : State → ℕ → Subchannel → SubchannelState → State
-left_by s place sub new = with_sub s place (record sub { state = new })
+-- what an event at one subchannel answers and leaves of it
+pub record SubTurn : Type 0 where
+  pub reply : Reply
+  pub sub : Subchannel
+
+abbrev pub leaves : Reply → Subchannel → SubTurn
+leaves r sub = record { reply = r; sub = sub }
+
+abbrev pub with_state : Subchannel → SubchannelState → Subchannel
+with_state sub state = record sub { state = state }
+
+abbrev pub at_place : State → ℕ → SubTurn → Outcome
+at_place s place t = does t.reply (with_sub s place t.sub)
 
 -- START
-abbrev pub start_with : State → ℕ → Subchannel → Orb → ConditionCode → Outcome
-start_with s place sub orb code.Zero = does (reply.Code (answer.Zero sub.state.serials)) (left_by s place sub (started sub.state orb))
-start_with s place sub orb other = does (reply.Code (answer_of other sub.state.serials)) s
+abbrev pub start_with : Subchannel → Orb → ConditionCode → SubTurn
+start_with sub orb code.Zero = leaves (reply.Code (answer.Zero sub.state.serials)) (with_state sub (started sub.state orb))
+start_with sub orb code.One = leaves (reply.Code (answer.One sub.state.serials)) sub
+start_with sub orb code.Two = leaves (reply.Code answer.Two) sub
+start_with sub orb code.Three = leaves (reply.Code answer.Three) sub
+
+abbrev pub start_sub : Subchannel → Orb → SubTurn
+start_sub sub orb = start_with sub orb (ssch_code (condition_of sub.state))
+
+-- a subchannel that is not provided answers 3
+abbrev pub not_provided : State → Outcome
+not_provided s = does (reply.Code answer.Three) s
 
 abbrev pub start_at : State → Option ℕ → Option Subchannel → Orb → Outcome
-start_at s None sub orb = does (reply.Code answer.Three) s
-start_at s (Some place) None orb = does (reply.Code answer.Three) s
-start_at s (Some place) (Some sub) orb = start_with s place sub orb (ssch_code (condition_of sub.state))
+start_at s None sub orb = not_provided s
+start_at s (Some place) None orb = not_provided s
+start_at s (Some place) (Some sub) orb = at_place s place (start_sub sub orb)
 
 -- the contents of the ORB are tested before the condition code is
-abbrev pub Starts : State → SubchannelId → Result (List ℕ) StorageFault → Outcome → Type 0
-Starts s id (Err f) r = r ≡ Err (fault.Storage f)
-Starts s id (Ok image) r =
+abbrev pub Starts_with : State → Option ℕ → Option Subchannel → List ℕ → Outcome → Type 0
+Starts_with s place sub image r =
     (¬ IsAllowed image × (r ≡ Err fault.Operand))
-    ⊎ ((orb : Orb) × (image ≡ image_of (tables orb)) × (r ≡ start_at s (place_in id s.subs) (sub_at s.subs (place_in id s.subs)) orb))
+    ⊎ ((orb : Orb) × (image ≡ image_of (tables orb)) × (r ≡ start_at s place sub orb))
 
--- TEST
+abbrev pub Starts : State → Option ℕ → Option Subchannel → Result (List ℕ) StorageFault → Outcome → Type 0
+Starts s place sub (Err f) r = r ≡ Err (fault.Storage f)
+Starts s place sub (Ok image) r = Starts_with s place sub image r
+
+-- TEST: the IRB is stored with code 0 and 1
 abbrev pub irb_of : SubchannelState → Irb
 irb_of s = record { scsw = s.scsw; last_path_used = mask_of_path s.pmcw.last_used }
 
-abbrev pub test_with : State → ℕ → ℕ → ℕ → Subchannel → ConditionCode → Outcome
-test_with s cpu address place sub code.Three = does (reply.Code answer.Three) s
-test_with s cpu address place sub code.Two = does (reply.Code answer.Two) s
-test_with s cpu address place sub code.One =
-    does (reply.Status (answer.One sub.state.serials) sub.state.scsw)
-        (record s { storage = operand_stored s.storage cpu address (image_of (irb_tables (irb_of sub.state))) })
-test_with s cpu address place sub code.Zero =
-    does (reply.Status (answer.Zero (tested sub.state).serials) sub.state.scsw)
-        (left_by (record s { storage = operand_stored s.storage cpu address (image_of (irb_tables (irb_of sub.state))) }) place sub (tested sub.state))
+abbrev pub test_with : Subchannel → ConditionCode → SubTurn
+test_with sub code.Zero = leaves (reply.Status (answer.Zero (tested sub.state).serials) sub.state.scsw) (with_state sub (tested sub.state))
+test_with sub code.One = leaves (reply.Status (answer.One sub.state.serials) sub.state.scsw) sub
+test_with sub code.Two = leaves (reply.Code answer.Two) sub
+test_with sub code.Three = leaves (reply.Code answer.Three) sub
+
+abbrev pub stores_irb : ConditionCode → Bool
+stores_irb code.Zero = true
+stores_irb code.One = true
+stores_irb code.Two = false
+stores_irb code.Three = false
+
+abbrev pub with_irb : State → ℕ → ℕ → Subchannel → Bool → State
+with_irb s cpu address sub stores =
+    if stores then record s { storage = operand_stored s.storage cpu address (image_of (irb_tables (irb_of sub.state))) } else s
+
+abbrev pub test_sub : State → ℕ → ℕ → ℕ → Subchannel → ConditionCode → Outcome
+test_sub s cpu address place sub code = at_place (with_irb s cpu address sub (stores_irb code)) place (test_with sub code)
 
 abbrev pub test_at : State → ℕ → ℕ → Option ℕ → Option Subchannel → Outcome
-test_at s cpu address None sub = does (reply.Code answer.Three) s
-test_at s cpu address (Some place) None = does (reply.Code answer.Three) s
-test_at s cpu address (Some place) (Some sub) = test_with s cpu address place sub (tsch_code (condition_of sub.state))
+test_at s cpu address None sub = not_provided s
+test_at s cpu address (Some place) None = not_provided s
+test_at s cpu address (Some place) (Some sub) = test_sub s cpu address place sub (tsch_code (condition_of sub.state))
 
-abbrev pub tests : State → ℕ → ℕ → SubchannelId → Result (Unit {0}) StorageFault → Outcome
-tests s cpu address id (Err f) = Err (fault.Storage f)
-tests s cpu address id (Ok u) = test_at s cpu address (place_in id s.subs) (sub_at s.subs (place_in id s.subs))
+abbrev pub tests : State → ℕ → ℕ → Option ℕ → Option Subchannel → Result (Unit {0}) StorageFault → Outcome
+tests s cpu address place sub (Err f) = Err (fault.Storage f)
+tests s cpu address place sub (Ok u) = test_at s cpu address place sub
 
 -- enabling: under the conditions of MODIFY
-abbrev pub enable_with : State → ℕ → Subchannel → ℕ → Bool → ConditionCode → Outcome
-enable_with s place sub subclass multipath code.Zero =
-    does (reply.Code (answer.Zero sub.state.serials)) (left_by s place sub (enabled sub.state subclass multipath))
-enable_with s place sub subclass multipath other = does (reply.Code (answer_of other sub.state.serials)) s
+abbrev pub enable_with : Subchannel → ℕ → Bool → ConditionCode → SubTurn
+enable_with sub subclass multipath code.Zero = leaves (reply.Code (answer.Zero sub.state.serials)) (with_state sub (enabled sub.state subclass multipath))
+enable_with sub subclass multipath code.One = leaves (reply.Code (answer.One sub.state.serials)) sub
+enable_with sub subclass multipath code.Two = leaves (reply.Code answer.Two) sub
+enable_with sub subclass multipath code.Three = leaves (reply.Code answer.Three) sub
+
+abbrev pub enable_sub : Subchannel → ℕ → Bool → SubTurn
+enable_sub sub subclass multipath = enable_with sub subclass multipath (msch_code (condition_of sub.state))
 
 abbrev pub enable_at : State → Option ℕ → Option Subchannel → ℕ → Bool → Outcome
-enable_at s None sub subclass multipath = does (reply.Code answer.Three) s
-enable_at s (Some place) None subclass multipath = does (reply.Code answer.Three) s
-enable_at s (Some place) (Some sub) subclass multipath = enable_with s place sub subclass multipath (msch_code (condition_of sub.state))
+enable_at s None sub subclass multipath = not_provided s
+enable_at s (Some place) None subclass multipath = not_provided s
+enable_at s (Some place) (Some sub) subclass multipath = at_place s place (enable_sub sub subclass multipath)
 
 -- the tests of an instruction: general register 1, alignment, addressing, contents, condition code
+abbrev pub Executes_at : State → ℕ → Instruction → Option ℕ → Option Subchannel → Outcome → Type 0
+Executes_at s cpu (instruction.Ssch word address) place sub r = Starts s place sub (operand_at s.storage cpu address 12 4) r
+Executes_at s cpu (instruction.Tsch word address) place sub r = r ≡ tests s cpu address place sub (operand_check s.storage cpu address 64 4)
+Executes_at s cpu (instruction.Enable word subclass multipath) place sub r = r ≡ enable_at s place sub subclass multipath
+
 abbrev pub Executes_on : State → ℕ → Instruction → Option SubchannelId → Outcome → Type 0
 Executes_on s cpu i None r = r ≡ Err fault.Operand
-Executes_on s cpu (instruction.Ssch word address) (Some id) r = Starts s id (operand_at s.storage cpu address 12 4) r
-Executes_on s cpu (instruction.Tsch word address) (Some id) r = r ≡ tests s cpu address id (operand_check s.storage cpu address 64 4)
-Executes_on s cpu (instruction.Enable word subclass multipath) (Some id) r =
-    r ≡ enable_at s (place_in id s.subs) (sub_at s.subs (place_in id s.subs)) subclass multipath
+Executes_on s cpu i (Some id) r = Executes_at s cpu i (place_in id s.subs) (sub_at s.subs (place_in id s.subs)) r
 
 abbrev pub word_of : Instruction → ℕ
 word_of (instruction.Ssch word address) = word
@@ -153,61 +190,75 @@ with_any_sent queues None = queues
 with_any_sent queues (Some s) = sent queues s.path s.signal
 
 -- Choose
-abbrev pub choose_with : State → ℕ → Subchannel → Chosen → Outcome
-choose_with s place sub Idle = does reply.Idle s
-choose_with s place sub Over = does reply.Pending (with_sub s place (record sub { state = without_path sub.state }))
-choose_with s place sub (Offers program path) =
+abbrev pub choose_sub : Subchannel → Chosen → Result SubTurn Fault
+choose_sub sub Idle = Ok (leaves reply.Idle sub)
+choose_sub sub Over = Ok (leaves reply.Pending (with_state sub (without_path sub.state)))
+choose_sub sub (Offers program path) =
     if is_full sub.wires.down path then Err fault.WireFull
-    else does (reply.Offered (sub.state.drawn + 1) path false)
-        (with_sub s place (record sub {
-            state = offered sub.state program path;
-            wires = record sub.wires { down = sent sub.wires.down path (down.Select (sub.state.drawn + 1)) } }))
+    else Ok (leaves (reply.Offered (sub.state.drawn + 1) path false)
+        (record sub { state = offered sub.state program path; wires = record sub.wires { down = sent sub.wires.down path (down.Select (sub.state.drawn + 1)) } }))
+
+abbrev pub at_sub : State → ℕ → Result SubTurn Fault → Outcome
+at_sub s place (Err f) = Err f
+at_sub s place (Ok t) = at_place s place t
 
 abbrev pub Chooses : State → Option ℕ → Option Subchannel → Outcome → Type 0
 Chooses s None sub r = r ≡ Err fault.NoSuchSubchannel
 Chooses s (Some place) None r = r ≡ Err fault.NoSuchSubchannel
 Chooses s (Some place) (Some sub) r =
-    (choice : Option ℕ) × IsChoice (usable_paths s.subs sub) choice × (r ≡ choose_with s place sub (chosen sub choice))
+    (choice : Option ℕ) × IsChoice (usable_paths s.subs sub) choice × (r ≡ at_sub s place (choose_sub sub (chosen sub choice)))
 
 -- Up: the subchannel takes the signal that waits longest
-abbrev pub up_with : State → ℕ → Subchannel → ℕ → Up → UpStep → Outcome
-up_with s place sub path signal step =
+abbrev pub up_with : Subchannel → ℕ → Up → UpStep → Result SubTurn Fault
+up_with sub path signal step =
     if finds_full sub.wires.down step.came.sent then Err fault.WireFull
-    else does (reply.Up signal step.came.taken step.came.sent)
-        (with_sub s place (record sub {
-            state = step.state;
-            wires = record { down = with_any_sent sub.wires.down step.came.sent; up = taken sub.wires.up path } }))
+    else Ok (leaves (reply.Up signal step.came.taken step.came.sent)
+        (record sub { state = step.state; wires = record { down = with_any_sent sub.wires.down step.came.sent; up = taken sub.wires.up path } }))
 
-abbrev pub up_front : State → ℕ → Subchannel → ℕ → Option Up → Outcome
-up_front s place sub path None = Err fault.NotSent
-up_front s place sub path (Some signal) = up_with s place sub path signal (takes_up s.storage sub.state path signal)
+abbrev pub up_front : Contents → Subchannel → ℕ → Option Up → Result SubTurn Fault
+up_front storage sub path None = Err fault.NotSent
+up_front storage sub path (Some signal) = up_with sub path signal (takes_up storage sub.state path signal)
+
+abbrev pub up_sub : Contents → Subchannel → ℕ → Result SubTurn Fault
+up_sub storage sub path =
+    if nat_lt path (length sub.setup.paths) then up_front storage sub path (slice_get (queue sub.wires.up path) 0)
+    else Err fault.NoSuchPath
 
 abbrev pub up_at : State → Option ℕ → Option Subchannel → ℕ → Outcome
 up_at s None sub path = Err fault.NoSuchSubchannel
 up_at s (Some place) None path = Err fault.NoSuchSubchannel
-up_at s (Some place) (Some sub) path =
-    if nat_lt path (length sub.setup.paths) then up_front s place sub path (slice_get (queue sub.wires.up path) 0)
-    else Err fault.NoSuchPath
+up_at s (Some place) (Some sub) path = at_sub s place (up_sub s.storage sub path)
 
 -- Down: the unit takes the signal that waits longest; its control unit may serve it
-abbrev pub down_with : State → ℕ → Subchannel → ℕ → Down → UnitState → Option UnitStep → Outcome
-down_with s place sub path signal u step =
-    if finds_full sub.wires.up (unit.came_of step).sent then Err fault.WireFull
-    else does (reply.Down signal (unit.came_of step).taken (unit.came_of step).sent)
-        (with_unit
-            (with_sub s place (record sub {
-                wires = record { down = taken sub.wires.down path; up = with_any_sent sub.wires.up (unit.came_of step).sent } }))
-            sub.setup.unit (unit_after u step))
+pub record DownTurn : Type 0 where
+  pub reply : Reply
+  pub sub : Subchannel
+  pub «unit» : UnitState
 
-abbrev pub down_front : State → ℕ → Subchannel → ℕ → UnitState → Option Down → Outcome
-down_front s place sub path u None = Err fault.NotSent
-down_front s place sub path u (Some signal) = down_with s place sub path signal u (unit_takes u sub.setup.side path signal true)
+abbrev pub down_with : Subchannel → ℕ → Down → UnitState → Option UnitStep → Result DownTurn Fault
+down_with sub path signal u step =
+    if finds_full sub.wires.up (unit_table.came_of step).sent then Err fault.WireFull
+    else Ok (record {
+        reply = reply.Down signal (unit_table.came_of step).taken (unit_table.came_of step).sent;
+        sub = record sub { wires = record { down = taken sub.wires.down path; up = with_any_sent sub.wires.up (unit_table.came_of step).sent } };
+        «unit» = unit_after u step })
+
+abbrev pub down_front : Subchannel → ℕ → UnitState → Option Down → Result DownTurn Fault
+down_front sub path u None = Err fault.NotSent
+down_front sub path u (Some signal) = down_with sub path signal u (unit_takes u sub.setup.side path signal true)
+
+abbrev pub down_sub : Subchannel → ℕ → UnitState → Result DownTurn Fault
+down_sub sub path u =
+    if nat_lt path (length sub.setup.paths) then down_front sub path u (slice_get (queue sub.wires.down path) 0)
+    else Err fault.NoSuchPath
+
+abbrev pub at_unit : State → ℕ → ℕ → Result DownTurn Fault → Outcome
+at_unit s place «unit» (Err f) = Err f
+at_unit s place «unit» (Ok t) = does t.reply (with_unit (with_sub s place t.sub) «unit» t.«unit»)
 
 abbrev pub down_unit : State → ℕ → Subchannel → ℕ → Option UnitState → Outcome
 down_unit s place sub path None = Err fault.NoSuchUnit
-down_unit s place sub path (Some u) =
-    if nat_lt path (length sub.setup.paths) then down_front s place sub path u (slice_get (queue sub.wires.down path) 0)
-    else Err fault.NoSuchPath
+down_unit s place sub path (Some u) = at_unit s place sub.setup.unit (down_sub sub path u)
 
 abbrev pub down_at : State → Option ℕ → Option Subchannel → ℕ → Outcome
 down_at s None sub path = Err fault.NoSuchSubchannel
@@ -222,26 +273,28 @@ abbrev pub reached_in : ℕ → Side → List Subchannel → Option ℕ
 reached_in place side [] = None
 reached_in place side (sub ∷ subs) = if reaches place side sub then Some 0 else one_later (reached_in place side subs)
 
-abbrev pub report_sent : State → ℕ → UnitStep → OnPath Up → Option ℕ → Option Subchannel → Outcome
-report_sent s place step up_sent None sub = Err fault.NotNow
-report_sent s place step up_sent (Some at) None = Err fault.NotNow
-report_sent s place step up_sent (Some at) (Some sub) =
+abbrev pub with_up_sent : Subchannel → OnPath Up → Subchannel
+with_up_sent sub s = record sub { wires = record sub.wires { up = sent sub.wires.up s.path s.signal } }
+
+abbrev pub report_sent : State → ℕ → UnitStep → OnPath Up → ℕ → Subchannel → Outcome
+report_sent s place step up_sent at sub =
     if is_full sub.wires.up up_sent.path then Err fault.WireFull
-    else does reply.Done
-        (with_unit (with_sub s at (record sub { wires = record sub.wires { up = sent sub.wires.up up_sent.path up_sent.signal } })) place step.state)
+    else does reply.Done (with_unit (with_sub s at (with_up_sent sub up_sent)) place step.state)
 
-abbrev pub report_by : State → ℕ → Side → UnitStep → Option (OnPath Up) → Outcome
-report_by s place side step None = Err fault.NotNow
-report_by s place side step (Some up_sent) =
-    report_sent s place step up_sent (reached_in place side s.subs) (sub_at s.subs (reached_in place side s.subs))
+abbrev pub report_by : State → ℕ → UnitStep → Option (OnPath Up) → Option ℕ → Option Subchannel → Outcome
+report_by s place step None at sub = Err fault.NotNow
+report_by s place step (Some up_sent) None sub = Err fault.NotNow
+report_by s place step (Some up_sent) (Some at) None = Err fault.NotNow
+report_by s place step (Some up_sent) (Some at) (Some sub) = report_sent s place step up_sent at sub
 
-abbrev pub report_with : State → ℕ → Side → Option UnitStep → Outcome
-report_with s place side None = Err fault.NotNow
-report_with s place side (Some step) = report_by s place side step step.sent
+abbrev pub report_with : State → ℕ → Option UnitStep → Option ℕ → Option Subchannel → Outcome
+report_with s place None at sub = Err fault.NotNow
+report_with s place (Some step) at sub = report_by s place step step.sent at sub
 
 abbrev pub report_at : State → ℕ → Option UnitState → Report → Outcome
 report_at s place None report = Err fault.NoSuchUnit
-report_at s place (Some u) report = report_with s place report.side (unit_reports u report)
+report_at s place (Some u) report =
+    report_with s place (unit_reports u report) (reached_in place report.side s.subs) (sub_at s.subs (reached_in place report.side s.subs))
 
 -- What an event comes to: its turn, or its refusal.
 abbrev pub Steps : State → Event → Outcome → Type 0
@@ -257,6 +310,21 @@ Step old e r new = Steps old e (does r new)
 
 abbrev pub IsRefused : State → Event → Fault → Type 0
 IsRefused s e f = Steps s e (Err f)
+
+-- what a call that performs an event answered and left: a step, or a refusal that changed nothing
+abbrev pub Performs : State → Event → Result Reply Fault → State → Type 0
+Performs old e (Ok r) new = Step old e r new
+Performs old e (Err f) new = IsRefused old e f × (new ≡ old)
+
+-- the same, where the outcome is determined
+abbrev pub Gives : State → Outcome → Result Reply Fault → State → Type 0
+Gives old outcome (Ok r) new = outcome ≡ does r new
+Gives old outcome (Err f) new = (outcome ≡ Err f) × (new ≡ old)
+
+-- the same of one subchannel
+abbrev pub GivesSub : Subchannel → Result SubTurn Fault → Result Reply Fault → Subchannel → Type 0
+GivesSub old outcome (Ok r) new = outcome ≡ Ok (leaves r new)
+GivesSub old outcome (Err f) new = (outcome ≡ Err f) × (new ≡ old)
 
 -- from the opening these entries lead to a state
 pub data Run (opening : State) : List Entry → State → Type 0 where

@@ -1,0 +1,5 @@
+pub mod SubchannelWords
+pub mod Setup
+pub mod Lawful
+pub mod Refusing
+pub mod Numbers

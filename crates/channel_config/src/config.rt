@@ -1,0 +1,295 @@
+//! The configuration of a machine.
+
+ghost use Rattle.std.specs.Prelude.{◌≡◌, ◌==◌, ◌≤◌, ◌<◌, length, true, Some, None, IfSome, unwrap_or, if◌then◌else◌};
+ghost use Rattle.std.specs.List.{list_all};
+ghost use Rattle.channel_config.specs.Setup as spec;
+ghost use Rattle.channel_config.specs.Refusing.{Configures};
+ghost use Rattle.channel_config.specs.Numbers.{AreSmall};
+
+use crate::names::{SubchannelId, subchannel_named};
+use crate::parts::{ChpidList, SubchannelSetup, UnitKind};
+use chan_model::names::Side;
+use std::alloc::{AllocFailed, Global};
+use std::marker::Model;
+
+/// Why a line of a configuration is refused.
+#[derive(Clone, Copy, Debug, PartialEq, Eq)]
+pub enum ConfigFault {
+    /// A growth was refused.
+    NoMemory,
+    /// The rule of this number is broken (own).
+    Rule(u8),
+}
+
+impl<T: Drop> From<AllocFailed<T>> for ConfigFault {
+    ghost use Rattle.std.specs.Prelude.{◌≡◌};
+    ghost use Rattle.channel_config.specs.declared.config.ConfigFault.TheVariants.{NoMemory};
+
+    ghost from_gives = { λ _ fault. fault ≡ NoMemory };
+
+    fn from(_: AllocFailed<T>) -> Self {
+        ConfigFault::NoMemory
+    }
+}
+
+/// The configuration of a machine, made line by line. A line that is refused changes nothing.
+#[derive(Drop)]
+pub struct Config {
+    blocks: Option<u32>,
+    sets: Option<u8>,
+    paths: Vec<u8>,
+    units: Vec<UnitKind>,
+    subchannels: Vec<SubchannelSetup>,
+}
+
+impl Model for Config {
+    ghost use Rattle.channel_config.specs.Setup.{Setup};
+
+    ghost Value = { Setup };
+
+    ghost use Rattle.channel_config.specs.Lawful.{IsLawful};
+
+    ghost view = { λ c. record { blocks = c.blocks; sets = c.sets; paths = c.paths.items; units = c.units.items; subchannels = c.subchannels.items } };
+
+    ghost invariant = { λ c. IsLawful (record { blocks = c.blocks; sets = c.sets; paths = c.paths.items; units = c.units.items; subchannels = c.subchannels.items }) };
+}
+
+impl Config {
+    ghost use Rattle.channel_config.specs.Lawful.{IsLawful};
+
+    /// Nothing is configured.
+    pub fn new(alloc: Global) -> Self
+        ensures { result ≡ spec.no_setup }
+    {
+        Config {
+            blocks: None,
+            sets: None,
+            paths: Vec::new(alloc),
+            units: Vec::new(alloc),
+            subchannels: Vec::new(alloc),
+        }
+    }
+
+    /// The size of storage, in blocks of 4,096 bytes. Rule 1: it is given twice, or is not 10 to 1000 (hexadecimal).
+    pub fn storage(&mut self, blocks: u32) -> Result<(), ConfigFault>
+        ensures { Configures self.old self.new result (spec.with_storage self.old blocks) }
+    {
+        if self.blocks.is_some() || blocks < 0x10 || blocks > 0x1000 {
+            return Err(ConfigFault::Rule(1));
+        }
+        self.blocks = Some(blocks);
+        Ok(())
+    }
+
+    /// How many sets of subchannels there are. Rule 8: it is given twice, or after a subchannel, or is not 1 to 4.
+    pub fn sets(&mut self, sets: u32) -> Result<(), ConfigFault>
+        ensures { Configures self.old self.new result (spec.with_sets self.old sets) }
+    {
+        if self.sets.is_some() || !self.subchannels.is_empty() || sets < 1 || sets > 4 {
+            return Err(ConfigFault::Rule(8));
+        }
+        self.sets = Some(sets as u8);
+        Ok(())
+    }
+
+    /// One channel path more, by its identifier. Rule 2: it is given twice, or is above FF (hexadecimal).
+    pub fn path(&mut self, chpid: u32) -> Result<(), ConfigFault>
+        ensures { Configures self.old self.new result (spec.with_path self.old chpid) }
+    {
+        if chpid > 0xFF || has_chpid(&self.paths, chpid) {
+            return Err(ConfigFault::Rule(2));
+        }
+        self.paths.push(chpid as u8)?;
+        Ok(())
+    }
+
+    /// One unit more. Rule 3: its number is not the next, or is above 3FF (hexadecimal).
+    pub fn unit(&mut self, number: u32, kind: UnitKind) -> Result<(), ConfigFault>
+        ensures { Configures self.old self.new result (spec.with_unit self.old number kind) }
+    {
+        if number as usize != self.units.len() || number > 0x3FF {
+            return Err(ConfigFault::Rule(3));
+        }
+        self.units.push(kind)?;
+        Ok(())
+    }
+
+    /// One subchannel more, with its device number, its unit and its channel paths by path index. `word` is the
+    /// subsystem-identification word that names it (SA22-7832, chapter 13).
+    ///
+    /// Rule 7: the word names no subchannel of a set that there is, or not the next of its set, or one above FF
+    /// (hexadecimal), or the device number is above FFFF. Rule 4: the unit is unknown, or two subchannels use it already.
+    /// Rule 5: a path is unknown or given twice, or there are none or more than eight.
+    pub fn subchannel(
+        &mut self,
+        word: u32,
+        device: u32,
+        unit: u32,
+        paths: &[u32],
+    ) -> Result<(), ConfigFault>
+        ensures { Configures self.old self.new result (spec.with_subchannel self.old word device unit paths.now) }
+    {
+        if device > 0xFFFF {
+            return Err(ConfigFault::Rule(7));
+        }
+        let Some(id) = self.next_subchannel(word) else {
+            return Err(ConfigFault::Rule(7));
+        };
+        let Some(side) = self.side_left(unit) else {
+            return Err(ConfigFault::Rule(4));
+        };
+        let Some(paths) = chpids_of(&self.paths, paths) else {
+            return Err(ConfigFault::Rule(5));
+        };
+        let setup = SubchannelSetup {
+            id,
+            device: device as u16,
+            unit: unit as u16,
+            side,
+            paths,
+        };
+        self.subchannels.push(setup)?;
+        Ok(())
+    }
+
+    /// The subchannel that the word names, where it is the next of its set.
+    fn next_subchannel(&self, word: u32) -> Option<SubchannelId>
+        ensures value { result ≡ spec.next_subchannel self.now word }
+        ensures set { IfSome result (λ id. id.set < spec.set_count self.now) }
+        ensures room { IfSome result (λ id. spec.count_in_set self.now.subchannels id.set < 0x100) }
+    {
+        let id = subchannel_named(self.set_count(), word)?;
+        if usize::from(id.number) == count_in_set(&self.subchannels, id.set) && id.number <= 0xFF {
+            Some(id)
+        } else {
+            None
+        }
+    }
+
+    /// The side that is left of a unit.
+    fn side_left(&self, unit: u32) -> Option<Side>
+        ensures value { result ≡ spec.side_left self.now unit }
+        ensures known { IfSome result (λ _. unit < length self.now.units) }
+        ensures bound { IfSome result (λ _. unit < 0x400) }
+    {
+        if unit as usize >= self.units.len() {
+            return None;
+        }
+        match uses_of(&self.subchannels, unit) {
+            0 => Some(Side::First),
+            1 => Some(Side::Second),
+            _ => None,
+        }
+    }
+
+    /// How many blocks of 4,096 bytes storage has, where that was said.
+    pub fn blocks(&self) -> Option<u32>
+        ensures value { result ≡ self.now.blocks }
+        ensures range { IfSome result (λ n. (0x10 ≤ n) × (n ≤ 0x1000)) }
+    {
+        self.blocks
+    }
+
+    /// How many sets of subchannels there are.
+    pub fn set_count(&self) -> u8
+        ensures value { result ≡ spec.set_count self.now }
+        ensures range { (1 ≤ result) × (result ≤ 4) }
+    {
+        self.sets.unwrap_or(1)
+    }
+
+    /// The identifiers of the channel paths, in the order of their lines.
+    pub fn paths(&self) -> &[u8]
+        ensures { result.now ≡ self.now.paths }
+    {
+        self.paths.as_slice()
+    }
+
+    /// The units, by number.
+    pub fn units(&self) -> &[UnitKind]
+        ensures { result.now ≡ self.now.units }
+    {
+        self.units.as_slice()
+    }
+
+    /// The subchannels, in the order of their lines.
+    pub fn subchannels(&self) -> &[SubchannelSetup]
+        ensures value { result.now ≡ self.now.subchannels }
+        ensures lawful { IsLawful self.now }
+    {
+        self.subchannels.as_slice()
+    }
+}
+
+/// Whether the path is among these.
+fn has_chpid(chpids: &[u8], chpid: u32) -> bool
+    ensures { result ≡ spec.has_number chpids.now chpid }
+{
+    chpids.iter().any(|known| u32::from(*known) == chpid)
+}
+
+/// Whether all these paths are among those that are known.
+fn are_known(known: &[u8], chpids: &[u32]) -> bool
+    ensures { result ≡ list_all (spec.has_number known.now) chpids.now }
+{
+    chpids.iter().all(|chpid| has_chpid(known, *chpid))
+}
+
+/// Whether no two of these are the same.
+fn are_distinct(numbers: &[u32]) -> bool
+    ensures { result ≡ spec.are_distinct numbers.now }
+{
+    let mut rest = numbers;
+    'tails: loop {
+        match rest {
+            [] => return true,
+            [first, others @ ..] => {
+                if others.contains(first) {
+                    return false;
+                }
+                rest = others;
+            }
+        }
+    }
+}
+
+/// These paths, where they can be those of a subchannel.
+fn chpids_of(known: &[u8], paths: &[u32]) -> Option<ChpidList>
+    ensures value { result ≡ (if spec.are_paths known.now paths.now then Some paths.now else None) }
+    ensures placed { IfSome result (λ l. spec.are_paths known.now l ≡ true) }
+{
+    if paths.is_empty() || paths.len() > 8 || !are_known(known, paths) || !are_distinct(paths) {
+        return None;
+    }
+    Some(list_of(paths))
+}
+
+/// The list of these paths.
+fn list_of(paths: &[u32]) -> ChpidList
+    requires short { length paths.now ≤ 8 }
+    requires small { AreSmall paths.now }
+    ensures { result ≡ paths.now }
+{
+    let mut chpids = ChpidList::new();
+    for chpid in paths {
+        chpids.push(*chpid as u8);
+    }
+    chpids
+}
+
+/// How many subchannels there are of a set.
+fn count_in_set(subchannels: &[SubchannelSetup], set: u8) -> usize
+    ensures { result ≡ spec.count_in_set subchannels.now set }
+{
+    subchannels.iter().filter(|sub| sub.id.set == set).count()
+}
+
+/// How many subchannels use a unit.
+fn uses_of(subchannels: &[SubchannelSetup], unit: u32) -> usize
+    ensures { result ≡ spec.uses_of subchannels.now unit }
+{
+    subchannels
+        .iter()
+        .filter(|sub| u32::from(sub.unit) == unit)
+        .count()
+}

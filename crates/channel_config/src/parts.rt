@@ -1,0 +1,69 @@
+//! What a machine is set up of.
+
+ghost use Rattle.std.specs.Prelude.{◌≡◌, ◌≤◌, [], ◌∷◌, ◌++◌, ◌<◌, length};
+
+use crate::names::SubchannelId;
+use arrayvec::ArrayVec;
+use chan_model::names::Side;
+use std::marker::Model;
+
+/// What kind of device a unit is.
+#[derive(Clone, Copy, Debug, PartialEq, Eq)]
+pub enum UnitKind {
+    /// 32 blocks of 64 bytes (own).
+    Block,
+}
+
+/// The channel-path identifiers (CHPIDs) of a subchannel, by path index: at most eight (SA22-7832, chapter 13).
+#[derive(Drop)]
+pub struct ChpidList {
+    chpids: ArrayVec<u8, 8>,
+}
+
+impl Model for ChpidList {
+    ghost use Rattle.std.specs.Prelude.{ℕ, List};
+
+    ghost Value = { List ℕ };
+
+    ghost view = { λ l. l.chpids.items };
+}
+
+impl ChpidList {
+    /// No paths.
+    pub fn new() -> Self
+        ensures { result ≡ [] }
+    {
+        ChpidList {
+            chpids: ArrayVec::new(),
+        }
+    }
+
+    /// One path more.
+    pub fn push(&mut self, chpid: u8)
+        requires { length self.old < 8 }
+        ensures { self.new ≡ self.old ++ chpid ∷ [] }
+    {
+        self.chpids.push(chpid);
+    }
+
+    /// The identifiers in the order of the path indices.
+    pub fn as_slice(&self) -> &[u8]
+        ensures value { result.now ≡ self.now }
+        ensures bound { length result.now ≤ 8 }
+    {
+        self.chpids.as_slice()
+    }
+}
+
+/// A subchannel of a machine.
+#[derive(Drop)]
+pub struct SubchannelSetup {
+    pub id: SubchannelId,
+    /// The device number that programs know it by.
+    pub device: u16,
+    /// The number of its unit.
+    pub unit: u16,
+    /// Which side of the unit it reaches: the first subchannel of a unit reaches its first side (own).
+    pub side: Side,
+    pub paths: ChpidList,
+}
