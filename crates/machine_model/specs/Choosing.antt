@@ -84,10 +84,13 @@ abbrev pub chosen : Subchannel → Option ℕ → Chosen
 chosen sub choice = chosen_for sub.state.hold.phase sub.state.waiting (is_any (allowed_paths sub)) choice
 
 -- an offer is made where the hold is free
+abbrev pub IsFree : HoldPhase → Type 0
+IsFree phase = phase ≡ hold.Free
+
 abbrev pub IsFreeToOffer : Chosen → HoldPhase → Type 0
 IsFreeToOffer Idle phase = Unit {0}
 IsFreeToOffer Over phase = Unit {0}
-IsFreeToOffer (Offers program path) phase = phase ≡ hold.Free
+IsFreeToOffer (Offers program path) phase = IsFree phase
 
 -- the program is offered under a fresh number
 abbrev pub offered : SubchannelState → Program → ℕ → SubchannelState

@@ -5,3 +5,4 @@ pub mod Instructions
 pub mod Choosing
 pub mod Taking
 pub mod Steps
+pub mod Bounds

@@ -1,5 +1,5 @@
 -- The steps of a channel subsystem, and its runs.
-use Rattle.std.specs.Prelude.{◌≡◌, ℕ, ◌+◌, Bool, true, false, not, ◌==◌, ◌&&◌, nat_lt, if◌then◌else◌, Option, None, Some, List, [], ◌∷◌, ◌++◌, length, drop, slice_get, slice_set, Result, Ok, Err, ◌⊎◌}
+use Rattle.std.specs.Prelude.{◌≡◌, ◌<◌, ℕ, ◌+◌, Bool, true, false, not, ◌==◌, ◌&&◌, nat_lt, if◌then◌else◌, Option, None, Some, List, [], ◌∷◌, ◌++◌, length, drop, slice_get, slice_set, Result, Ok, Err, ◌⊎◌}
 use Rattle.zbits.specs.Layout.{image_of}
 use Rattle.orb_block.specs.declared.Orb.{Orb}
 use Rattle.orb_block.specs.OrbTable.{tables, IsAllowed}
@@ -185,18 +185,26 @@ abbrev pub finds_full : {A : Type 0} → List (List A) → Option (OnPath A) →
 finds_full queues None = false
 finds_full queues (Some s) = is_full queues s.path
 
+-- where it doesn't, there is room
+abbrev pub HasRoom : {A : Type 0} → List (List A) → Option (OnPath A) → Bool → Type 0
+HasRoom queues None full = Unit {0}
+HasRoom queues (Some s) full = full ≡ false → length (queue queues s.path) < 8
+
 abbrev pub with_any_sent : {A : Type 0} → List (List A) → Option (OnPath A) → List (List A)
 with_any_sent queues None = queues
 with_any_sent queues (Some s) = sent queues s.path s.signal
 
 -- Choose
-abbrev pub choose_sub : Subchannel → Chosen → Result SubTurn Fault
-choose_sub sub Idle = Ok (leaves reply.Idle sub)
-choose_sub sub Over = Ok (leaves reply.Pending (with_state sub (without_path sub.state)))
-choose_sub sub (Offers program path) =
+abbrev pub offer_sub : Subchannel → Program → ℕ → Result SubTurn Fault
+offer_sub sub program path =
     if is_full sub.wires.down path then Err fault.WireFull
     else Ok (leaves (reply.Offered (sub.state.drawn + 1) path false)
         (record sub { state = offered sub.state program path; wires = record sub.wires { down = sent sub.wires.down path (down.Select (sub.state.drawn + 1)) } }))
+
+abbrev pub choose_sub : Subchannel → Chosen → Result SubTurn Fault
+choose_sub sub Idle = Ok (leaves reply.Idle sub)
+choose_sub sub Over = Ok (leaves reply.Pending (with_state sub (without_path sub.state)))
+choose_sub sub (Offers program path) = offer_sub sub program path
 
 abbrev pub at_sub : State → ℕ → Result SubTurn Fault → Outcome
 at_sub s place (Err f) = Err f
@@ -207,6 +215,11 @@ Chooses s None sub r = r ≡ Err fault.NoSuchSubchannel
 Chooses s (Some place) None r = r ≡ Err fault.NoSuchSubchannel
 Chooses s (Some place) (Some sub) r =
     (choice : Option ℕ) × IsChoice (usable_paths s.subs sub) choice × (r ≡ at_sub s place (choose_sub sub (chosen sub choice)))
+
+-- the path of this index, where the subchannel has one
+abbrev pub PathOf : Subchannel → ℕ → Option ℕ → Type 0
+PathOf sub path None = nat_lt path (length sub.setup.paths) ≡ false
+PathOf sub path (Some p) = (nat_lt path (length sub.setup.paths) ≡ true) × (p ≡ path)
 
 -- Up: the subchannel takes the signal that waits longest
 abbrev pub up_with : Subchannel → ℕ → Up → UpStep → Result SubTurn Fault

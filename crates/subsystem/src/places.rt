@@ -1,0 +1,47 @@
+//! Where a subchannel stands among all.
+
+ghost use Rattle.std.specs.Prelude.{◌≡◌, ◌<◌, IfSome, length};
+ghost use Rattle.machine_model.specs.State as state_spec;
+ghost use Rattle.machine_model.specs.Steps as spec;
+
+use chan_model::names::Side;
+use channel_config::names::SubchannelId;
+use machine_model::state::Subchannel;
+
+fn is_named(id: SubchannelId, sub: &Subchannel) -> bool
+    ensures { result ≡ state_spec.is_named id sub.now }
+{
+    sub.setup.id.set == id.set && sub.setup.id.number == id.number
+}
+
+/// The place of the subchannel of this name.
+pub fn place_in(id: SubchannelId, subs: &[Subchannel]) -> Option<usize>
+    ensures place { result ≡ state_spec.place_in id subs.now }
+    ensures bound { IfSome result (λ place. place < length subs.now) }
+{
+    for (place, sub) in subs.iter().enumerate() {
+        if is_named(id, sub) {
+            return Some(place);
+        }
+    }
+    None
+}
+
+fn reaches(unit: usize, side: Side, sub: &Subchannel) -> bool
+    ensures { result ≡ spec.reaches «unit» side sub.now }
+{
+    usize::from(sub.setup.unit) == unit && sub.setup.side.same(side)
+}
+
+/// The place of the subchannel that reaches this side of a unit.
+pub fn reached_in(unit: usize, side: Side, subs: &[Subchannel]) -> Option<usize>
+    ensures place { result ≡ spec.reached_in «unit» side subs.now }
+    ensures bound { IfSome result (λ place. place < length subs.now) }
+{
+    for (place, sub) in subs.iter().enumerate() {
+        if reaches(unit, side, sub) {
+            return Some(place);
+        }
+    }
+    None
+}
