@@ -1,0 +1,153 @@
+//! What the unit does of itself.
+
+ghost use Rattle.std.specs.Prelude.{◌≡◌, ◌<◌, ◌+◌, ◌^◌};
+ghost use Rattle.chan_model.specs.UnitTable as table;
+ghost use Rattle.unit.specs.UnitWords as words;
+
+use crate::parts::{free, side_of};
+use chan_model::names::{Path, Side};
+use chan_model::signal::{OnPath, Up};
+use chan_model::unit_state::{AtHand, Attention, Own, Place, UnitState};
+use scsw_irb::status::DeviceStatus;
+
+/// Leave: the program that is connected works on without the path.
+pub fn leaving(unit: &mut UnitState) -> Option<OnPath<Up>>
+    ensures state { unit.new ≡ table.unit_after unit.old (table.leaving unit.old unit.old.own) }
+    ensures sent { result ≡ (table.came_of (table.leaving unit.old unit.old.own)).sent }
+{
+    match unit.own {
+        Own::Idle => None,
+        Own::Owned {
+            side,
+            number,
+            place,
+        } => leaving_from(unit, side, number, place),
+    }
+}
+
+/// Leave from a place of the program that holds the device.
+fn leaving_from(unit: &mut UnitState, side: Side, number: u64, place: Place) -> Option<OnPath<Up>>
+    ensures state { unit.new ≡ table.unit_after unit.old (table.leaving_from unit.old side number place) }
+    ensures sent { result ≡ (table.came_of (table.leaving_from unit.old side number place)).sent }
+{
+    match place {
+        Place::On { path, connection } => {
+            unit.own = Own::Owned {
+                side,
+                number,
+                place: Place::Away { connection },
+            };
+            mark_again(&mut unit.at_hand);
+            Some(OnPath {
+                path,
+                signal: Up::Leave { number, connection },
+            })
+        }
+        _ => None,
+    }
+}
+
+/// A Data that is not answered will be sent again.
+fn mark_again(at_hand: &mut Option<AtHand>)
+    ensures { at_hand.new ≡ table.marked_again at_hand.old }
+{
+    if let Some(command) = at_hand {
+        command.again = command.again || command.unanswered.is_some();
+    }
+}
+
+/// Ask: for a path, under the next connection number.
+pub fn asking(unit: &mut UnitState, path: Path) -> Option<OnPath<Up>>
+    requires { words.last_connection unit.old.own < 2 ^ 63 }
+    ensures state { unit.new ≡ table.unit_after unit.old (table.asking unit.old unit.old.own path) }
+    ensures sent { result ≡ (table.came_of (table.asking unit.old unit.old.own path)).sent }
+{
+    match unit.own {
+        Own::Owned {
+            side,
+            number,
+            place: Place::Ask { connection, .. } | Place::Away { connection },
+        } => {
+            let connection = connection + 1;
+            unit.own = Own::Owned {
+                side,
+                number,
+                place: Place::Ask { path, connection },
+            };
+            Some(OnPath {
+                path,
+                signal: Up::Back { number, connection },
+            })
+        }
+        _ => None,
+    }
+}
+
+/// Attention: of an idle unit, on a side that is not fresh.
+pub fn attending(unit: &mut UnitState, side: Side, path: Path) -> Option<OnPath<Up>>
+    requires { unit.old.attentions < 2 ^ 63 }
+    ensures state { unit.new ≡ table.unit_after unit.old (table.attending unit.old side path) }
+    ensures sent { result ≡ (table.came_of (table.attending unit.old side path)).sent }
+{
+    if !is_idle(unit.own) || side_of(unit, side).fresh {
+        return None;
+    }
+    let number = unit.attentions + 1;
+    let status = attention_status(unit.end_owed);
+    unit.attentions = number;
+    unit.attention = Some(Attention { number, side });
+    unit.end_owed = false;
+    Some(OnPath {
+        path,
+        signal: Up::Attn {
+            attention: number,
+            status,
+        },
+    })
+}
+
+/// Whether nothing holds the device.
+fn is_idle(own: Own) -> bool
+    ensures { result ≡ table.is_idle own }
+{
+    matches!(own, Own::Idle)
+}
+
+/// The status of an attention: control unit end where it is owed.
+fn attention_status(end_owed: bool) -> DeviceStatus
+    ensures { result ≡ table.attention_status end_owed }
+{
+    if end_owed {
+        DeviceStatus::CONTROL_UNIT_END
+    } else {
+        DeviceStatus::ATTENTION
+    }
+}
+
+/// Restart: both sides are fresh, and what was at hand is forgotten.
+pub fn restart(unit: &mut UnitState)
+    requires { unit.old.restarts < 2 ^ 63 }
+    ensures { unit.new ≡ table.restarted unit.old }
+{
+    free(unit);
+    unit.restarts += 1;
+    unit.first.fresh = true;
+    unit.second.fresh = true;
+    unit.attention = None;
+}
+
+/// Notice: of a side that is fresh.
+pub fn noticing(unit: &UnitState, side: Side, path: Path) -> Option<OnPath<Up>>
+    ensures { result ≡ (table.came_of (table.noticing unit.now side path)).sent }
+{
+    if side_of(unit, side).fresh {
+        Some(OnPath {
+            path,
+            signal: Up::Notice {
+                restarts: unit.restarts,
+            },
+        })
+    } else {
+        None
+    }
+}

@@ -1,0 +1,129 @@
+//! What the unit does with the commands and the bytes of the program that holds it.
+
+ghost use Rattle.std.specs.Prelude.{◌≡◌, IfSome};
+ghost use Rattle.chan_model.specs.UnitTable as table;
+
+use crate::parts::{follows, ignored, is_owner, is_owner_on, quietly};
+use chan_model::chunk::Chunk;
+use chan_model::names::Side;
+use chan_model::signal::{Taken, Up};
+use chan_model::unit_state::{AtHand, Progress, UnitState};
+
+/// Command: the next of the program that holds the device.
+pub fn commanded(unit: &mut UnitState, side: Side, number: u64, command: u64, code: u8, room: u16) -> Taken<Up>
+    ensures state { unit.new ≡ table.unit_after unit.old (table.commanded unit.old side number command code room) }
+    ensures came { result ≡ table.came_of (table.commanded unit.old side number command code room) }
+{
+    if is_owner(unit, side, number) && follows(command, unit.last_command) {
+        unit.last_command = command;
+        unit.at_hand = Some(new_command(code, room));
+        quietly()
+    } else {
+        ignored()
+    }
+}
+
+/// A command that is not begun.
+fn new_command(code: u8, room: u16) -> AtHand
+    ensures { result ≡ table.new_command code room }
+{
+    AtHand {
+        code,
+        room,
+        progress: Progress::New,
+        sequence: 0,
+        unanswered: None,
+        asked: 0,
+        again: false,
+        given: None,
+        stopped: false,
+    }
+}
+
+/// Give: the next chunk of the command at hand.
+pub fn given(unit: &mut UnitState, side: Side, number: u64, connection: u64, command: u64, sequence: u64, bytes: &Chunk) -> Taken<Up>
+    ensures state { unit.new ≡ table.unit_after unit.old (table.given unit.old side number connection command sequence bytes.now) }
+    ensures came { result ≡ table.came_of (table.given unit.old side number connection command sequence bytes.now) }
+{
+    if is_owner_on(unit, side, number, connection) && command == unit.last_command {
+        given_next(unit, sequence, bytes)
+    } else {
+        ignored()
+    }
+}
+
+/// Give of the command at hand: the chunk that follows the last.
+fn given_next(unit: &mut UnitState, sequence: u64, bytes: &Chunk) -> Taken<Up>
+    ensures state { unit.new ≡ table.unit_after unit.old (table.given_next unit.old unit.old.at_hand sequence bytes.now) }
+    ensures came { result ≡ table.came_of (table.given_next unit.old unit.old.at_hand sequence bytes.now) }
+{
+    match &mut unit.at_hand {
+        Some(command) if follows(sequence, command.sequence) => {
+            give(command, sequence, bytes);
+            quietly()
+        }
+        _ => ignored(),
+    }
+}
+
+/// The command has these bytes; none stop the transfer.
+fn give(command: &mut AtHand, sequence: u64, bytes: &Chunk)
+    ensures { command.new ≡ table.with_given command.old sequence bytes.now }
+{
+    command.sequence = sequence;
+    command.unanswered = None;
+    command.again = false;
+    command.given = kept(bytes);
+    command.stopped = command.stopped || bytes.len() == 0;
+}
+
+/// The bytes, where there are any.
+fn kept(bytes: &Chunk) -> Option<Chunk>
+    ensures { result ≡ table.kept bytes.now }
+{
+    match bytes.as_slice() {
+        [] => None,
+        [_, ..] => Some(bytes.copy()),
+    }
+}
+
+/// Took: the last Data of the command is answered.
+pub fn answered(unit: &mut UnitState, side: Side, number: u64, command: u64, sequence: u64, room: u16) -> Taken<Up>
+    ensures state { unit.new ≡ table.unit_after unit.old (table.answered unit.old side number command sequence room) }
+    ensures came { result ≡ table.came_of (table.answered unit.old side number command sequence room) }
+{
+    if is_owner(unit, side, number) && command == unit.last_command {
+        answered_last(unit, sequence, room)
+    } else {
+        ignored()
+    }
+}
+
+/// Took of the last chunk, where its Data is not answered.
+fn answered_last(unit: &mut UnitState, sequence: u64, room: u16) -> Taken<Up>
+    ensures state { unit.new ≡ table.unit_after unit.old (table.answered_last unit.old unit.old.at_hand sequence room) }
+    ensures came { result ≡ table.came_of (table.answered_last unit.old unit.old.at_hand sequence room) }
+{
+    match &mut unit.at_hand {
+        Some(command) if sequence == command.sequence && command.unanswered.is_some() => {
+            settle(command, room);
+            quietly()
+        }
+        _ => ignored(),
+    }
+}
+
+/// The Data that was not answered is answered: no room, or fewer bytes than were asked for, stop the transfer.
+fn settle(command: &mut AtHand, room: u16)
+    ensures { IfSome command.old.unanswered (λ load. command.new ≡ table.with_answer command.old load room) }
+{
+    let asked = usize::from(command.asked);
+    let short = command
+        .unanswered
+        .as_ref()
+        .is_some_and(|load| load.len() < asked);
+    command.unanswered = None;
+    command.again = false;
+    command.room = room;
+    command.stopped = command.stopped || room == 0 || short;
+}

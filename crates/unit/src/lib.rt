@@ -1,0 +1,152 @@
+//! The device's side (own): a unit that one or two subchannels reach.
+#![tactic(auto)]
+
+mod acts;
+mod commands;
+mod parts;
+mod reports;
+mod signals;
+mod works;
+
+ghost use Rattle.std.specs.Prelude.{◌≡◌, ◌<◌, ◌^◌};
+ghost use Rattle.chan_model.specs.UnitReports as reports;
+ghost use Rattle.chan_model.specs.UnitTable as table;
+ghost use Rattle.unit.specs.UnitWords as words;
+
+use chan_model::names::{Path, Side};
+use chan_model::report::{Report, Work};
+use chan_model::signal::{Down, OnPath, Taken, Up};
+use chan_model::unit_state::{Own, SideState, UnitState};
+use std::marker::Model;
+
+/// A unit: whom its device is held by, what it keeps of each side, and the command at hand.
+#[derive(Drop)]
+pub struct Unit {
+    state: UnitState,
+}
+
+impl Model for Unit {
+    ghost use Rattle.chan_model.specs.declared.unit_state.UnitState.{UnitState};
+
+    ghost Value = { UnitState };
+
+    ghost view = { λ u. u.state };
+}
+
+impl Unit {
+    /// Nothing holds it.
+    pub fn new() -> Self
+        ensures { result ≡ table.idle_unit }
+    {
+        let quiet = SideState {
+            floor: 0,
+            fresh: false,
+        };
+        Unit {
+            state: UnitState {
+                restarts: 0,
+                first: quiet,
+                second: quiet,
+                own: Own::Idle,
+                last_command: 0,
+                at_hand: None,
+                halted: false,
+                attentions: 0,
+                attention: None,
+                end_owed: false,
+            },
+        }
+    }
+
+    /// All that there is of it.
+    pub fn state(&self) -> &UnitState
+        ensures { result.now ≡ self.now }
+    {
+        &self.state
+    }
+
+    /// Whom the device is held by.
+    pub fn own(&self) -> Own
+        ensures { result ≡ self.now.own }
+    {
+        self.state.own
+    }
+
+    /// Takes a signal of a side that came by a path. `may` says, at Select, that the control unit may serve it.
+    pub fn take(&mut self, side: Side, path: Path, signal: &Down, may: bool) -> Taken<Up>
+        ensures state { self.new ≡ table.unit_after self.old (table.unit_takes self.old side path signal.now may) }
+        ensures came { result ≡ table.came_of (table.unit_takes self.old side path signal.now may) }
+    {
+        signals::takes(&mut self.state, side, path, signal, may)
+    }
+
+    /// Whether a signal of a side is answered, by which path it comes and whatever the control unit may do.
+    pub fn answers(&self, side: Side, signal: &Down) -> bool
+        ensures { result ≡ words.is_answered self.now side signal.now }
+    {
+        signals::answers(&self.state, side, signal)
+    }
+
+    /// Takes the device's answer. None where it is stale or against the law of devices, and then nothing changes.
+    pub fn report(&mut self, report: &Report) -> Option<OnPath<Up>>
+        ensures state { self.new ≡ table.unit_after self.old (reports.unit_reports self.old report.now) }
+        ensures sent { result ≡ (table.came_of (reports.unit_reports self.old report.now)).sent }
+    {
+        reports::reports(&mut self.state, report)
+    }
+
+    /// The path that the signal of a report is sent on. None where the report is refused.
+    pub fn report_path(&self, report: &Report) -> Option<Path>
+        ensures { result ≡ table.answer_path (reports.unit_reports self.now report.now) }
+    {
+        reports::report_path(&self.state, report)
+    }
+
+    /// What it has to do next, while its program is connected.
+    pub fn work(&self) -> Option<Work>
+        ensures { result ≡ reports.unit_work self.now }
+    {
+        works::work(&self.state)
+    }
+
+    /// Leaves the path of its program, which works on. None where no program is connected, and then nothing changes.
+    pub fn leave(&mut self) -> Option<OnPath<Up>>
+        ensures state { self.new ≡ table.unit_after self.old (table.leaving self.old self.old.own) }
+        ensures sent { result ≡ (table.came_of (table.leaving self.old self.old.own)).sent }
+    {
+        acts::leaving(&mut self.state)
+    }
+
+    /// Asks for a path. None where no program is without one, and then nothing changes.
+    pub fn ask(&mut self, path: Path) -> Option<OnPath<Up>>
+        requires { words.last_connection self.old.own < 2 ^ 63 }
+        ensures state { self.new ≡ table.unit_after self.old (table.asking self.old self.old.own path) }
+        ensures sent { result ≡ (table.came_of (table.asking self.old self.old.own path)).sent }
+    {
+        acts::asking(&mut self.state, path)
+    }
+
+    /// Asks a side for attention. None where a program holds the device or the side is fresh, and then nothing changes.
+    pub fn attention(&mut self, side: Side, path: Path) -> Option<OnPath<Up>>
+        requires { self.old.attentions < 2 ^ 63 }
+        ensures state { self.new ≡ table.unit_after self.old (table.attending self.old side path) }
+        ensures sent { result ≡ (table.came_of (table.attending self.old side path)).sent }
+    {
+        acts::attending(&mut self.state, side, path)
+    }
+
+    /// Restarts the device: it forgets its program, and both sides are fresh.
+    pub fn restart(&mut self)
+        requires { self.old.restarts < 2 ^ 63 }
+        ensures { self.new ≡ table.restarted self.old }
+    {
+        acts::restart(&mut self.state);
+    }
+
+    /// Tells a side that is fresh how often it was restarted. None where the side is not fresh.
+    pub fn notice(&self, side: Side, path: Path) -> Option<OnPath<Up>>
+        ensures { result ≡ (table.came_of (table.noticing self.now side path)).sent }
+    {
+        acts::noticing(&self.state, side, path)
+    }
+}

@@ -1,0 +1,125 @@
+//! The parts of a unit's state that its tables speak of.
+
+ghost use Rattle.std.specs.Prelude.{◌≡◌, ◌==◌, ◌+◌, None, Some, true};
+ghost use Rattle.chan_model.specs.UnitTable as table;
+
+use chan_model::names::{Path, Side};
+use chan_model::signal::{OnPath, Taken, Up};
+use chan_model::unit_state::{Own, Place, SideState, UnitState};
+
+/// Nothing came of a signal.
+pub fn ignored() -> Taken<Up>
+    ensures { result ≡ table.came_of None }
+{
+    Taken {
+        taken: false,
+        sent: None,
+    }
+}
+
+/// The state changed, and nothing was sent.
+pub fn quietly() -> Taken<Up>
+    ensures { result ≡ record { taken = true; sent = None } }
+{
+    Taken {
+        taken: true,
+        sent: None,
+    }
+}
+
+/// A signal was sent on a path.
+pub fn sending(path: Path, signal: Up) -> Taken<Up>
+    ensures { result ≡ record { taken = true; sent = Some (record { path = path; signal = signal }) } }
+{
+    Taken {
+        taken: true,
+        sent: Some(OnPath { path, signal }),
+    }
+}
+
+/// What is kept of a side.
+pub fn side_of(unit: &UnitState, side: Side) -> SideState
+    ensures { result ≡ table.side_of unit.now side }
+{
+    match side {
+        Side::First => unit.first,
+        Side::Second => unit.second,
+    }
+}
+
+/// This is kept of a side from now on.
+pub fn keep_side(unit: &mut UnitState, side: Side, kept: SideState)
+    ensures { unit.new ≡ table.with_side unit.old side kept }
+{
+    match side {
+        Side::First => unit.first = kept,
+        Side::Second => unit.second = kept,
+    }
+}
+
+/// Whether the device is held by the program of this side and number.
+pub fn is_owner(unit: &UnitState, side: Side, number: u64) -> bool
+    ensures { result ≡ table.is_owner unit.now.own side number }
+{
+    match unit.own {
+        Own::Idle => false,
+        Own::Owned {
+            side: owner,
+            number: held,
+            ..
+        } => owner.same(side) && number == held,
+    }
+}
+
+/// Whether that program is connected by this connection.
+pub fn is_owner_on(unit: &UnitState, side: Side, number: u64, connection: u64) -> bool
+    ensures { result ≡ table.is_owner_on unit.now.own side number connection }
+{
+    match unit.own {
+        Own::Idle => false,
+        Own::Owned {
+            side: owner,
+            number: held,
+            place,
+        } => owner.same(side) && number == held && is_place_on(place, connection),
+    }
+}
+
+/// Whether a place is on a path by this connection.
+fn is_place_on(place: Place, connection: u64) -> bool
+    ensures { result ≡ table.is_place_on place connection }
+{
+    match place {
+        Place::On {
+            connection: last, ..
+        } => connection == last,
+        _ => false,
+    }
+}
+
+/// Whether the device is held by a program of this side.
+pub fn owns(unit: &UnitState, side: Side) -> bool
+    ensures { result ≡ table.owns unit.now.own side }
+{
+    match unit.own {
+        Own::Idle => false,
+        Own::Owned { side: owner, .. } => owner.same(side),
+    }
+}
+
+/// The device is let go, and its command forgotten.
+pub fn free(unit: &mut UnitState)
+    ensures { unit.new ≡ table.freed unit.old }
+{
+    unit.own = Own::Idle;
+    unit.last_command = 0;
+    unit.at_hand = None;
+    unit.halted = false;
+}
+
+/// Whether a number is the next after the last.
+pub fn follows(number: u64, last: u64) -> bool
+    ensures { result ≡ (number == last + 1) }
+{
+    number > last && number - last == 1
+}

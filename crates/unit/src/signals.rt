@@ -1,0 +1,340 @@
+//! What the unit does with each signal of a subchannel.
+
+ghost use Rattle.std.specs.Prelude.{◌≡◌, None, Some, false, if◌then◌else◌, is_some, nat_lt, true};
+ghost use Rattle.chan_model.specs.UnitTable as table;
+ghost use Rattle.chan_model.specs.declared.signal.Down.TheVariants as down;
+ghost use Rattle.chan_model.specs.declared.signal.Up.TheVariants as up;
+ghost use Rattle.unit.specs.UnitWords as words;
+
+use crate::commands;
+use crate::parts::{free, ignored, is_owner, keep_side, owns, quietly, sending, side_of};
+use chan_model::names::{Path, Side};
+use chan_model::signal::{Down, Taken, Up};
+use chan_model::unit_state::{Own, Place, SideState, UnitState};
+
+/// A signal of a side that came by a path.
+pub fn takes(unit: &mut UnitState, side: Side, path: Path, signal: &Down, may: bool) -> Taken<Up>
+    ensures state { unit.new ≡ table.unit_after unit.old (table.unit_takes unit.old side path signal.now may) }
+    ensures came { result ≡ table.came_of (table.unit_takes unit.old side path signal.now may) }
+{
+    if let Down::Reset { number, restarts } = signal {
+        reset(unit, side, path, *number, *restarts)
+    } else if side_of(unit, side).fresh {
+        telling(unit, path)
+    } else {
+        works(unit, side, path, signal, may)
+    }
+}
+
+/// A signal of a side that is not fresh, but Reset.
+fn works(unit: &mut UnitState, side: Side, path: Path, signal: &Down, may: bool) -> Taken<Up>
+    ensures state { unit.new ≡ table.unit_after unit.old (table.unit_works unit.old side path signal.now may) }
+    ensures came { result ≡ table.came_of (table.unit_works unit.old side path signal.now may) }
+{
+    match signal {
+        Down::Select { number } => offered(unit, side, path, *number, may),
+        Down::Command {
+            number,
+            command,
+            code,
+            room,
+        } => commands::commanded(unit, side, *number, *command, *code, *room),
+        Down::Grant { number, connection } => granted(unit, side, path, *number, *connection),
+        Down::Refuse { number, connection } => refused(unit, side, *number, *connection),
+        Down::Took {
+            number,
+            command,
+            sequence,
+            room,
+        } => commands::answered(unit, side, *number, *command, *sequence, *room),
+        Down::Give {
+            number,
+            connection,
+            command,
+            sequence,
+            bytes,
+        } => commands::given(unit, side, *number, *connection, *command, *sequence, bytes),
+        Down::Halt { number } => halting(unit, side, *number),
+        Down::Release { number } => releasing(unit, side, path, *number),
+        Down::Reset { .. } => ignored(),
+        Down::Got { attention } => forgetting(unit, side, *attention),
+    }
+}
+
+/// In a side that is fresh: how often the device was restarted.
+fn telling(unit: &UnitState, path: Path) -> Taken<Up>
+    ensures { result ≡ table.came_of (table.telling unit.now path) }
+{
+    sending(
+        path,
+        Up::Notice {
+            restarts: unit.restarts,
+        },
+    )
+}
+
+/// Select: ignored at or below the floor of its side.
+fn offered(unit: &mut UnitState, side: Side, path: Path, number: u64, may: bool) -> Taken<Up>
+    ensures state { unit.new ≡ table.unit_after unit.old (table.unit_works unit.old side path (down.Select number) may) }
+    ensures came { result ≡ table.came_of (table.unit_works unit.old side path (down.Select number) may) }
+{
+    let own = unit.own;
+    if side_of(unit, side).floor < number {
+        raise(unit, side, number);
+        selected(unit, own, side, path, number, may)
+    } else {
+        ignored()
+    }
+}
+
+/// The floor of a side becomes this number.
+fn raise(unit: &mut UnitState, side: Side, number: u64)
+    ensures { unit.new ≡ table.raised unit.old side number }
+{
+    let fresh = side_of(unit, side).fresh;
+    keep_side(
+        unit,
+        side,
+        SideState {
+            floor: number,
+            fresh,
+        },
+    );
+}
+
+/// Select above the floor: accepted where nothing holds the device and the control unit may serve it.
+fn selected(unit: &mut UnitState, own: Own, side: Side, path: Path, number: u64, may: bool) -> Taken<Up>
+    ensures state { unit.new ≡ table.unit_after unit.old (table.selected unit.old own side path number may) }
+    ensures came { result ≡ table.came_of (table.selected unit.old own side path number may) }
+{
+    match own {
+        Own::Idle if may => {
+            hold(unit, side, path, number);
+            sending(path, Up::Accept { number })
+        }
+        _ => sending(path, Up::Busy { number }),
+    }
+}
+
+/// The device is held by the program of this number, which is connected on this path.
+fn hold(unit: &mut UnitState, side: Side, path: Path, number: u64)
+    ensures { unit.new ≡ table.held unit.old side number path }
+{
+    free(unit);
+    unit.own = Own::Owned {
+        side,
+        number,
+        place: Place::On {
+            path,
+            connection: 0,
+        },
+    };
+}
+
+/// Grant: of the connection asked for; an older one is answered by Leave.
+fn granted(unit: &mut UnitState, side: Side, path: Path, number: u64, connection: u64) -> Taken<Up>
+    ensures state { unit.new ≡ table.unit_after unit.old (table.granted unit.old unit.old.own side path number connection) }
+    ensures came { result ≡ table.came_of (table.granted unit.old unit.old.own side path number connection) }
+{
+    let own = unit.own;
+    match own {
+        Own::Owned {
+            side: owner,
+            number: held,
+            place,
+        } if owner.same(side) && number == held => {
+            granted_at(unit, owner, held, place, path, connection)
+        }
+        _ => ignored(),
+    }
+}
+
+/// Grant of the program that holds the device, at its place.
+fn granted_at(unit: &mut UnitState, side: Side, number: u64, place: Place, path: Path, connection: u64) -> Taken<Up>
+    ensures state { unit.new ≡ table.unit_after unit.old (table.granted_at unit.old side number place path connection) }
+    ensures came { result ≡ table.came_of (table.granted_at unit.old side number place path connection) }
+{
+    match place {
+        Place::Ask {
+            path: asked,
+            connection: last,
+        } => {
+            if connection == last {
+                unit.own = Own::Owned {
+                    side,
+                    number,
+                    place: Place::On {
+                        path: asked,
+                        connection: last,
+                    },
+                };
+                quietly()
+            } else {
+                granted_late(number, path, connection, last)
+            }
+        }
+        Place::On {
+            connection: last, ..
+        }
+        | Place::Away { connection: last } => granted_late(number, path, connection, last),
+    }
+}
+
+/// Grant of an older connection than the last.
+fn granted_late(number: u64, path: Path, connection: u64, last: u64) -> Taken<Up>
+    ensures { result ≡ (if nat_lt connection last then record { taken = true; sent = Some (record { path = path; signal = up.Leave number connection }) } else record { taken = false; sent = None }) }
+{
+    if connection < last {
+        sending(path, Up::Leave { number, connection })
+    } else {
+        ignored()
+    }
+}
+
+/// Refuse: of the connection asked for.
+fn refused(unit: &mut UnitState, side: Side, number: u64, connection: u64) -> Taken<Up>
+    ensures state { unit.new ≡ table.unit_after unit.old (table.refused unit.old unit.old.own side number connection) }
+    ensures came { result ≡ table.came_of (table.refused unit.old unit.old.own side number connection) }
+{
+    match unit.own {
+        Own::Owned {
+            side: owner,
+            number: held,
+            place: Place::Ask {
+                connection: last, ..
+            },
+        } if owner.same(side) && number == held && connection == last => {
+            unit.own = Own::Owned {
+                side: owner,
+                number: held,
+                place: Place::Away { connection: last },
+            };
+            quietly()
+        }
+        _ => ignored(),
+    }
+}
+
+/// Halt: once for a program.
+fn halting(unit: &mut UnitState, side: Side, number: u64) -> Taken<Up>
+    ensures state { unit.new ≡ table.unit_after unit.old (table.halting unit.old side number) }
+    ensures came { result ≡ table.came_of (table.halting unit.old side number) }
+{
+    if is_owner(unit, side, number) && !unit.halted {
+        unit.halted = true;
+        quietly()
+    } else {
+        ignored()
+    }
+}
+
+/// Release: by the program that holds the device.
+fn releasing(unit: &mut UnitState, side: Side, path: Path, number: u64) -> Taken<Up>
+    ensures state { unit.new ≡ table.unit_after unit.old (table.releasing unit.old side path number) }
+    ensures came { result ≡ table.came_of (table.releasing unit.old side path number) }
+{
+    if is_owner(unit, side, number) {
+        free(unit);
+        sending(path, Up::Released { number })
+    } else {
+        ignored()
+    }
+}
+
+/// Reset: taken with the device's own restart count, where its side is fresh or its number above the floor.
+fn reset(unit: &mut UnitState, side: Side, path: Path, number: u64, restarts: u64) -> Taken<Up>
+    ensures state { unit.new ≡ table.unit_after unit.old (table.unit_takes unit.old side path (down.Reset number restarts) false) }
+    ensures came { result ≡ table.came_of (table.unit_takes unit.old side path (down.Reset number restarts) false) }
+{
+    if resets(unit, side, number, restarts) {
+        reset_side(unit, side, number);
+        sending(path, Up::Cleared { number })
+    } else if side_of(unit, side).fresh {
+        telling(unit, path)
+    } else {
+        ignored()
+    }
+}
+
+/// Whether a Reset is taken.
+pub fn resets(unit: &UnitState, side: Side, number: u64, restarts: u64) -> bool
+    ensures { result ≡ table.resets unit.now side number restarts }
+{
+    let kept = side_of(unit, side);
+    restarts == unit.restarts && (kept.fresh || kept.floor < number)
+}
+
+/// A side is reset under this number; a program of the other side stays.
+fn reset_side(unit: &mut UnitState, side: Side, number: u64)
+    ensures { unit.new ≡ table.reset_side unit.old side number }
+{
+    if owns(unit, side) {
+        free(unit);
+    }
+    keep_side(
+        unit,
+        side,
+        SideState {
+            floor: number,
+            fresh: false,
+        },
+    );
+}
+
+/// Got: of the attention that is not answered.
+fn forgetting(unit: &mut UnitState, side: Side, attention: u64) -> Taken<Up>
+    ensures state { unit.new ≡ table.unit_after unit.old (table.forgetting unit.old unit.old.attention side attention) }
+    ensures came { result ≡ table.came_of (table.forgetting unit.old unit.old.attention side attention) }
+{
+    match unit.attention {
+        Some(last) if last.side.same(side) && attention == last.number => {
+            unit.attention = None;
+            quietly()
+        }
+        _ => ignored(),
+    }
+}
+
+/// Whether a signal is answered.
+pub fn answers(unit: &UnitState, side: Side, signal: &Down) -> bool
+    ensures { result ≡ words.is_answered unit.now side signal.now }
+{
+    if let Down::Reset { number, restarts } = signal {
+        resets(unit, side, *number, *restarts) || side_of(unit, side).fresh
+    } else {
+        side_of(unit, side).fresh || is_work_answered(unit, side, signal)
+    }
+}
+
+/// Whether a signal of a side that is not fresh is answered.
+fn is_work_answered(unit: &UnitState, side: Side, signal: &Down) -> bool
+    ensures { result ≡ is_some (table.came_of (table.unit_works unit.now side 0 signal.now false)).sent }
+{
+    match signal {
+        Down::Select { number } => side_of(unit, side).floor < *number,
+        Down::Grant { number, connection } => is_granted_late(unit, side, *number, *connection),
+        Down::Release { number } => is_owner(unit, side, *number),
+        _ => false,
+    }
+}
+
+/// Whether a Grant is of an older connection than the last of the program that holds the device.
+fn is_granted_late(unit: &UnitState, side: Side, number: u64, connection: u64) -> bool
+    ensures { result ≡ is_some (table.came_of (table.granted unit.now unit.now.own side 0 number connection)).sent }
+{
+    match unit.own {
+        Own::Idle => false,
+        Own::Owned {
+            side: owner,
+            number: held,
+            place:
+                Place::On {
+                    connection: last, ..
+                }
+                | Place::Ask {
+                    connection: last, ..
+                }
+                | Place::Away { connection: last },
+        } => owner.same(side) && number == held && connection < last,
+    }
+}
