@@ -63,9 +63,13 @@ abbrev pub one_later : Option ℕ → Option ℕ
 one_later None = None
 one_later (Some place) = Some (place + 1)
 
+-- the place of the first subchannel that passes a test
+abbrev pub first_place : (Subchannel → Bool) → List Subchannel → Option ℕ
+first_place test [] = None
+first_place test (sub ∷ subs) = if test sub then Some 0 else one_later (first_place test subs)
+
 abbrev pub place_in : SubchannelId → List Subchannel → Option ℕ
-place_in id [] = None
-place_in id (sub ∷ subs) = if is_named id sub then Some 0 else one_later (place_in id subs)
+place_in id subs = first_place (is_named id) subs
 
 abbrev pub place_of_id : List Subchannel → Option SubchannelId → Option ℕ
 place_of_id subs None = None

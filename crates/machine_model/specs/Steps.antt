@@ -41,7 +41,7 @@ use Rattle.wires.specs.Queues.{Queues, queue, sent, taken}
 use Rattle.machine_model.specs.declared.state.SubchannelState.{SubchannelState}
 use Rattle.machine_model.specs.declared.state.Subchannel.{Subchannel}
 use Rattle.machine_model.specs.declared.state.Program.{Program}
-use Rattle.machine_model.specs.State.{State, place_of, place_of_id, place_in, one_later, sub_at, with_sub, with_unit}
+use Rattle.machine_model.specs.State.{State, place_of, place_of_id, place_in, first_place, sub_at, with_sub, with_unit}
 use Rattle.machine_model.specs.Instructions.{condition_of, started, tested, enabled}
 use Rattle.machine_model.specs.declared.state.Chosen.{Chosen}
 use Rattle.machine_model.specs.declared.state.Chosen.TheVariants.{Idle, Over, Offers}
@@ -283,31 +283,29 @@ abbrev pub reaches : ℕ → Side → Subchannel → Bool
 reaches place side sub = (sub.setup.unit == place) && same_side sub.setup.side side
 
 abbrev pub reached_in : ℕ → Side → List Subchannel → Option ℕ
-reached_in place side [] = None
-reached_in place side (sub ∷ subs) = if reaches place side sub then Some 0 else one_later (reached_in place side subs)
+reached_in place side subs = first_place (reaches place side) subs
 
 abbrev pub with_up_sent : Subchannel → OnPath Up → Subchannel
 with_up_sent sub s = record sub { wires = record sub.wires { up = sent sub.wires.up s.path s.signal } }
 
-abbrev pub report_sent : State → ℕ → UnitStep → OnPath Up → ℕ → Subchannel → Outcome
-report_sent s place step up_sent at sub =
-    if is_full sub.wires.up up_sent.path then Err fault.WireFull
-    else does reply.Done (with_unit (with_sub s at (with_up_sent sub up_sent)) place step.state)
+abbrev pub report_sends : Subchannel → UnitState → Option (OnPath Up) → Result DownTurn Fault
+report_sends sub u None = Err fault.NotNow
+report_sends sub u (Some s) =
+    if is_full sub.wires.up s.path then Err fault.WireFull
+    else Ok (record { reply = reply.Done; sub = with_up_sent sub s; «unit» = u })
 
-abbrev pub report_by : State → ℕ → UnitStep → Option (OnPath Up) → Option ℕ → Option Subchannel → Outcome
-report_by s place step None at sub = Err fault.NotNow
-report_by s place step (Some up_sent) None sub = Err fault.NotNow
-report_by s place step (Some up_sent) (Some at) None = Err fault.NotNow
-report_by s place step (Some up_sent) (Some at) (Some sub) = report_sent s place step up_sent at sub
+abbrev pub report_sub : Subchannel → UnitState → Report → Result DownTurn Fault
+report_sub sub u report = report_sends sub (unit_after u (unit_reports u report)) (unit_table.came_of (unit_reports u report)).sent
 
-abbrev pub report_with : State → ℕ → Option UnitStep → Option ℕ → Option Subchannel → Outcome
-report_with s place None at sub = Err fault.NotNow
-report_with s place (Some step) at sub = report_by s place step step.sent at sub
+abbrev pub report_to : State → ℕ → UnitState → Report → Option ℕ → Option Subchannel → Outcome
+report_to s place u report None sub = Err fault.NotNow
+report_to s place u report (Some at) None = Err fault.NotNow
+report_to s place u report (Some at) (Some sub) = at_unit s at place (report_sub sub u report)
 
 abbrev pub report_at : State → ℕ → Option UnitState → Report → Outcome
 report_at s place None report = Err fault.NoSuchUnit
 report_at s place (Some u) report =
-    report_with s place (unit_reports u report) (reached_in place report.side s.subs) (sub_at s.subs (reached_in place report.side s.subs))
+    report_to s place u report (reached_in place report.side s.subs) (sub_at s.subs (reached_in place report.side s.subs))
 
 -- What an event comes to: its turn, or its refusal.
 abbrev pub Steps : State → Event → Outcome → Type 0
@@ -333,6 +331,11 @@ Performs old e (Err f) new = IsRefused old e f × (new ≡ old)
 abbrev pub Gives : State → Outcome → Result Reply Fault → State → Type 0
 Gives old outcome (Ok r) new = outcome ≡ does r new
 Gives old outcome (Err f) new = (outcome ≡ Err f) × (new ≡ old)
+
+-- the same of one subchannel and its unit
+abbrev pub GivesBoth : Subchannel → UnitState → Result DownTurn Fault → Result Reply Fault → Subchannel → UnitState → Type 0
+GivesBoth old u outcome (Ok r) new v = outcome ≡ Ok (record { reply = r; sub = new; «unit» = v })
+GivesBoth old u outcome (Err f) new v = (outcome ≡ Err f) × ((new ≡ old) × (v ≡ u))
 
 -- the same of one subchannel
 abbrev pub GivesSub : Subchannel → Result SubTurn Fault → Result Reply Fault → Subchannel → Type 0

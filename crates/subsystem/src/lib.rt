@@ -1,10 +1,7 @@
 //! A channel subsystem of many subchannels: one event at a time, with the history of all that was accepted.
 #![tactic(auto)]
 
-pub mod history;
 mod machine;
 mod places;
-mod subsystem;
 mod turns;
 
-pub use subsystem::Subsystem;

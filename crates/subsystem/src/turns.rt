@@ -1,15 +1,16 @@
 //! What an event does at one subchannel.
 
-ghost use Rattle.std.specs.Prelude.{◌≡◌, ◌<◌, ◌^◌};
+ghost use Rattle.std.specs.Prelude.{◌≡◌, ◌<◌, ◌^◌, true, false};
 ghost use Rattle.machine_model.specs.Steps as spec;
 ghost use Rattle.machine_model.specs.Choosing as choosing_spec;
 ghost use Rattle.machine_model.specs.Bounds.{IsRoomy};
 ghost use Rattle.chan_model.specs.UnitTable as unit_spec;
 
 use chan_model::fault::Fault;
-use chan_model::names::Path;
+use chan_model::names::{Path, Side};
 use chan_model::paths::mask_of_path;
 use chan_model::reply::{Answer, ConditionCode, Reply};
+use chan_model::report::Report;
 use chan_model::signal::{Down, OnPath, Taken, Up};
 use machine_model::state::{Chosen, Program, Subchannel, SubchannelState, UpStep};
 use orb_block::Orb;
@@ -186,4 +187,62 @@ pub fn up_sub(storage: &Storage, sub: &mut Subchannel, path: u32) -> Result<Repl
         taken,
         sent,
     })
+}
+
+/// Whether the answer of a unit to a signal finds its wire full.
+fn answer_finds_full(wires: &Wires, unit: &Unit, side: Side, path: Path, signal: &Down) -> bool
+    ensures full { result ≡ spec.finds_full wires.now.up (unit_spec.came_of (unit_spec.unit_takes «unit».now side path signal.now true)).sent }
+    ensures room { spec.HasRoom wires.now.up (unit_spec.came_of (unit_spec.unit_takes «unit».now side path signal.now true)).sent result }
+{
+    unit.answers(side, signal) && wires.up_is_full(path)
+}
+
+fn send_any_up(wires: &mut Wires, sent: &Option<OnPath<Up>>)
+    requires { spec.HasRoom wires.old.up sent.now false }
+    ensures { wires.new ≡ record wires.old { up = spec.with_any_sent wires.old.up sent.now } }
+{
+    if let Some(signal) = sent {
+        wires.send_up(signal.path, signal.signal.copy());
+    }
+}
+
+/// The unit takes the signal that waits longest on the wire down of a path.
+pub fn down_sub(sub: &mut Subchannel, unit: &mut Unit, path: u32) -> Result<Reply, Fault>
+    ensures { spec.GivesBoth sub.old «unit».old (spec.down_sub sub.old path «unit».old) result sub.new «unit».new }
+{
+    let Some(path) = path_of(sub, path) else {
+        return Err(Fault::NoSuchPath);
+    };
+    let side = sub.setup.side;
+    let Some(front) = sub.wires.front_down(path) else {
+        return Err(Fault::NotSent);
+    };
+    if answer_finds_full(&sub.wires, unit, side, path, front) {
+        return Err(Fault::WireFull);
+    }
+    let signal = sub.wires.take_down(path);
+    let Taken { taken, sent } = unit.take(side, path, &signal, true);
+    send_any_up(&mut sub.wires, &sent);
+    Ok(Reply::Down {
+        signal,
+        taken,
+        sent,
+    })
+}
+
+/// The unit takes its device's answer, and sends it to the subchannel.
+pub fn report_sub(sub: &mut Subchannel, unit: &mut Unit, report: &Report) -> Result<Reply, Fault>
+    ensures { spec.GivesBoth sub.old «unit».old (spec.report_sub sub.old «unit».old report.now) result sub.new «unit».new }
+{
+    let Some(path) = unit.report_path(report) else {
+        return Err(Fault::NotNow);
+    };
+    if sub.wires.up_is_full(path) {
+        return Err(Fault::WireFull);
+    }
+    let Some(sent) = unit.report(report) else {
+        return Err(Fault::NotNow);
+    };
+    sub.wires.send_up(path, sent.signal);
+    Ok(Reply::Done)
 }

@@ -8,7 +8,7 @@ mod reports;
 mod signals;
 mod works;
 
-ghost use Rattle.std.specs.Prelude.{◌≡◌, ◌<◌, ◌^◌};
+ghost use Rattle.std.specs.Prelude.{◌≡◌, ◌<◌, ◌^◌, ℕ, Bool, is_some, IfSome};
 ghost use Rattle.chan_model.specs.UnitReports as reports;
 ghost use Rattle.chan_model.specs.UnitTable as table;
 ghost use Rattle.unit.specs.UnitWords as words;
@@ -82,7 +82,9 @@ impl Unit {
 
     /// Whether a signal of a side is answered, by which path it comes and whatever the control unit may do.
     pub fn answers(&self, side: Side, signal: &Down) -> bool
-        ensures { result ≡ words.is_answered self.now side signal.now }
+        ensures answers { (path : ℕ) (may : Bool) → result ≡ is_some (table.came_of (table.unit_takes self.now side path signal.now may)).sent }
+        // Its answer goes by the path that the signal came by.
+        ensures path { (path : ℕ) (may : Bool) → IfSome (table.came_of (table.unit_takes self.now side path signal.now may)).sent (λ s. s.path ≡ path) }
     {
         signals::answers(&self.state, side, signal)
     }

@@ -1,0 +1,210 @@
+//! A channel subsystem without its history: what each event does to the whole.
+
+ghost use Rattle.std.specs.Prelude.{◌≡◌, ◌<◌, All, IfOk, IfSome, length};
+ghost use Rattle.machine_model.specs.State as state_spec;
+ghost use Rattle.machine_model.specs.Steps as spec;
+ghost use Rattle.machine_model.specs.Bounds.{IsRoomy};
+ghost use Rattle.chan_model.specs.declared.event.Event.TheVariants as event_spec;
+ghost use Rattle.chan_model.specs.declared.event.Instruction.TheVariants as instruction_spec;
+
+use chan_model::chunk::Chunk;
+use chan_model::event::{Event, Instruction};
+use chan_model::fault::Fault;
+use chan_model::names::Cpu;
+use chan_model::reply::{Answer, Reply};
+use chan_model::report::{Report, Work};
+use channel_config::names::subchannel_named;
+use machine_model::state::Subchannel;
+use orb_block::Orb;
+use path_select::PathChoice;
+use scsw_irb::serials::Serials;
+use std::marker::Model;
+use storage_keys::Storage;
+use subchannel::choosing::{chosen, usable_paths};
+use subchannel::instructions::{condition_of, tsch_code};
+use unit::Unit;
+
+use crate::places::{place_in, reached_in};
+use crate::turns::{
+    choose_sub, down_sub, enable_sub, irb_of, report_sub, start_sub, stores_irb, test_with, up_sub,
+};
+
+/// Storage, subchannels and units.
+#[derive(Drop)]
+pub struct Machine {
+    pub storage: Storage,
+    pub sets: u8,
+    pub subs: Vec<Subchannel>,
+    pub units: Vec<Unit>,
+}
+
+impl Model for Machine {
+    ghost use Rattle.machine_model.specs.State.{State};
+
+    ghost Value = { State };
+
+    ghost view = { λ m. record { storage = m.storage; sets = m.sets; subs = m.subs.items; units = m.units.items } };
+}
+
+impl Machine {
+    /// The place of the subchannel that a subsystem-identification word names.
+    fn place_of(&self, word: u32) -> Option<usize>
+        ensures place { result ≡ state_spec.place_of self.now word }
+        ensures bound { IfSome result (λ place. place < length self.now.subs) }
+    {
+        match subchannel_named(self.sets, word) {
+            None => None,
+            Some(id) => place_in(id, self.subs.as_slice()),
+        }
+    }
+
+    fn put(&mut self, address: u32, bytes: &Chunk) -> Result<Reply, Fault>
+        ensures { spec.Gives self.old (spec.put_turn self.old address bytes.now) result self.new }
+    {
+        match self.storage.put(address, bytes.as_slice()) {
+            Ok(()) => Ok(Reply::Done),
+            Err(fault) => Err(Fault::Storage(fault)),
+        }
+    }
+
+    fn start(&mut self, cpu: Cpu, word: u32, address: u32) -> Result<Reply, Fault>
+        requires { All IsRoomy self.old.subs }
+        ensures { spec.Performs self.old (event_spec.Execute cpu (instruction_spec.Ssch word address)) result self.new }
+    {
+        let Some(id) = subchannel_named(self.sets, word) else {
+            return Err(Fault::Operand);
+        };
+        let image = match self.storage.operand::<12>(cpu.number(), address, 4) {
+            Ok(image) => image,
+            Err(fault) => return Err(Fault::Storage(fault)),
+        };
+        let Ok(orb) = Orb::read(&image) else {
+            return Err(Fault::Operand);
+        };
+        let Some(place) = place_in(id, self.subs.as_slice()) else {
+            return Ok(Reply::Code(Answer::Three));
+        };
+        let sub = &mut self.subs[place];
+        Ok(start_sub(sub, orb))
+    }
+
+    fn test(&mut self, cpu: Cpu, word: u32, address: u32) -> Result<Reply, Fault>
+        ensures { spec.Performs self.old (event_spec.Execute cpu (instruction_spec.Tsch word address)) result self.new }
+    {
+        let Some(id) = subchannel_named(self.sets, word) else {
+            return Err(Fault::Operand);
+        };
+        if let Err(fault) = self.storage.check_operand(cpu.number(), address, 64, 4) {
+            return Err(Fault::Storage(fault));
+        }
+        let Some(place) = place_in(id, self.subs.as_slice()) else {
+            return Ok(Reply::Code(Answer::Three));
+        };
+        let sub = &mut self.subs[place];
+        let code = tsch_code(condition_of(sub.state));
+        if stores_irb(code) {
+            let image = irb_of(&sub.state).write();
+            self.storage.store_operand(cpu.number(), address, &image);
+        }
+        Ok(test_with(sub, code))
+    }
+
+    fn enable(&mut self, cpu: Cpu, word: u32, subclass: u8, multipath: bool) -> Result<Reply, Fault>
+        ensures { spec.Performs self.old (event_spec.Execute cpu (instruction_spec.Enable word subclass multipath)) result self.new }
+    {
+        let _ = cpu;
+        let Some(id) = subchannel_named(self.sets, word) else {
+            return Err(Fault::Operand);
+        };
+        let Some(place) = place_in(id, self.subs.as_slice()) else {
+            return Ok(Reply::Code(Answer::Three));
+        };
+        let sub = &mut self.subs[place];
+        Ok(enable_sub(sub, subclass, multipath))
+    }
+
+    fn execute(&mut self, cpu: Cpu, instruction: Instruction) -> Result<Reply, Fault>
+        requires { All IsRoomy self.old.subs }
+        ensures { spec.Performs self.old (event_spec.Execute cpu instruction) result self.new }
+    {
+        match instruction {
+            Instruction::Ssch { subchannel, address } => self.start(cpu, subchannel, address),
+            Instruction::Tsch { subchannel, address } => self.test(cpu, subchannel, address),
+            Instruction::Enable {
+                subchannel,
+                subclass,
+                multipath,
+            } => self.enable(cpu, subchannel, subclass, multipath),
+        }
+    }
+
+    fn choose<P: PathChoice>(&mut self, choice: &P, word: u32) -> Result<Reply, Fault>
+        requires { All IsRoomy self.old.subs }
+        ensures { spec.Performs self.old (event_spec.Choose word) result self.new }
+    {
+        let Some(place) = self.place_of(word) else {
+            return Err(Fault::NoSuchSubchannel);
+        };
+        let usable = usable_paths(self.subs.as_slice(), &self.subs[place]);
+        let sub = &mut self.subs[place];
+        let path = choice.choose(&usable, sub.state.last_path);
+        let what = chosen(sub, path);
+        choose_sub(sub, what)
+    }
+
+    fn up(&mut self, word: u32, path: u32) -> Result<Reply, Fault>
+        requires { All IsRoomy self.old.subs }
+        ensures { spec.Performs self.old (event_spec.Up word path) result self.new }
+    {
+        let Some(place) = self.place_of(word) else {
+            return Err(Fault::NoSuchSubchannel);
+        };
+        let sub = &mut self.subs[place];
+        up_sub(&self.storage, sub, path)
+    }
+
+    fn down(&mut self, word: u32, path: u32) -> Result<Reply, Fault>
+        ensures { spec.Performs self.old (event_spec.Down word path) result self.new }
+    {
+        let Some(place) = self.place_of(word) else {
+            return Err(Fault::NoSuchSubchannel);
+        };
+        let sub = &mut self.subs[place];
+        let number = usize::from(sub.setup.unit);
+        if number >= self.units.len() {
+            return Err(Fault::NoSuchUnit);
+        }
+        let unit = &mut self.units[number];
+        down_sub(sub, unit, path)
+    }
+
+    fn report(&mut self, number: u32, report: &Report) -> Result<Reply, Fault>
+        ensures { spec.Performs self.old (event_spec.Report number report.now) result self.new }
+    {
+        let number = number as usize;
+        if number >= self.units.len() {
+            return Err(Fault::NoSuchUnit);
+        }
+        let Some(place) = reached_in(number, report.side, self.subs.as_slice()) else {
+            return Err(Fault::NotNow);
+        };
+        let sub = &mut self.subs[place];
+        let unit = &mut self.units[number];
+        report_sub(sub, unit, report)
+    }
+
+    /// Performs one event; a refusal changes nothing.
+    pub fn perform<P: PathChoice>(&mut self, choice: &P, event: &Event) -> Result<Reply, Fault>
+        requires { All IsRoomy self.old.subs }
+        ensures { spec.Performs self.old event.now result self.new }
+    {
+        match event {
+            Event::Put { address, bytes } => self.put(*address, bytes),
+            Event::Execute { cpu, instruction } => self.execute(*cpu, *instruction),
+            Event::Choose { subchannel } => self.choose(choice, *subchannel),
+            Event::Up { subchannel, path } => self.up(*subchannel, *path),
+            Event::Down { subchannel, path } => self.down(*subchannel, *path),
+            Event::Report { unit, report } => self.report(*unit, report),
+        }
+    }
+}
