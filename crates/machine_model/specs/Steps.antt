@@ -134,10 +134,13 @@ with_irb s cpu address sub stores =
 abbrev pub test_sub : State → ℕ → ℕ → ℕ → Subchannel → ConditionCode → Outcome
 test_sub s cpu address place sub code = at_place (with_irb s cpu address sub (stores_irb code)) place (test_with sub code)
 
+abbrev pub test_code_of : Subchannel → ConditionCode
+test_code_of sub = tsch_code (condition_of sub.state)
+
 abbrev pub test_at : State → ℕ → ℕ → Option ℕ → Option Subchannel → Outcome
 test_at s cpu address None sub = not_provided s
 test_at s cpu address (Some place) None = not_provided s
-test_at s cpu address (Some place) (Some sub) = test_sub s cpu address place sub (tsch_code (condition_of sub.state))
+test_at s cpu address (Some place) (Some sub) = test_sub s cpu address place sub (test_code_of sub)
 
 abbrev pub tests : State → ℕ → ℕ → Option ℕ → Option Subchannel → Result (Unit {0}) StorageFault → Outcome
 tests s cpu address place sub (Err f) = Err (fault.Storage f)

@@ -1,1 +1,2 @@
 mod FirstPlaces
+mod Lifting

@@ -1,6 +1,7 @@
 //! A channel subsystem without its history: what each event does to the whole.
 
-ghost use Rattle.std.specs.Prelude.{◌≡◌, ◌<◌, All, IfOk, IfSome, length};
+ghost use Rattle.std.specs.Prelude.{◌≡◌, ◌<◌, ◌≤◌, ◌+◌, All, IfOk, IfSome, length, slice_index_or};
+ghost use Rattle.machine_model.specs.declared.state.Subchannel.{Subchannel};
 ghost use Rattle.machine_model.specs.State as state_spec;
 ghost use Rattle.machine_model.specs.Steps as spec;
 ghost use Rattle.machine_model.specs.Bounds.{IsRoomy};
@@ -13,7 +14,7 @@ use chan_model::fault::Fault;
 use chan_model::names::Cpu;
 use chan_model::reply::{Answer, Reply};
 use chan_model::report::{Report, Work};
-use channel_config::names::subchannel_named;
+use channel_config::names::{SubchannelId, subchannel_named};
 use machine_model::state::Subchannel;
 use orb_block::Orb;
 use path_select::PathChoice;
@@ -67,6 +68,17 @@ impl Machine {
         }
     }
 
+    fn start_orb(&mut self, id: SubchannelId, orb: Orb) -> Reply
+        requires { All IsRoomy self.old.subs }
+        ensures { spec.start_at self.old (state_spec.place_in id self.old.subs) (state_spec.sub_at self.old.subs (state_spec.place_in id self.old.subs)) orb ≡ spec.does result self.new }
+    {
+        let Some(place) = place_in(id, self.subs.as_slice()) else {
+            return Reply::Code(Answer::Three);
+        };
+        let sub = &mut self.subs[place];
+        start_sub(sub, orb)
+    }
+
     fn start(&mut self, cpu: Cpu, word: u32, address: u32) -> Result<Reply, Fault>
         requires { All IsRoomy self.old.subs }
         ensures { spec.Performs self.old (event_spec.Execute cpu (instruction_spec.Ssch word address)) result self.new }
@@ -81,11 +93,21 @@ impl Machine {
         let Ok(orb) = Orb::read(&image) else {
             return Err(Fault::Operand);
         };
-        let Some(place) = place_in(id, self.subs.as_slice()) else {
-            return Ok(Reply::Code(Answer::Three));
-        };
+        Ok(self.start_orb(id, orb))
+    }
+
+    fn test_at(&mut self, cpu: Cpu, address: u32, place: usize) -> Reply
+        requires place { place < length self.old.subs }
+        requires inside { address + 64 ≤ length self.old.storage.bytes }
+        ensures { (sub : Subchannel) → sub ≡ slice_index_or self.old.subs place sub → spec.test_sub self.old cpu address place sub (spec.test_code_of sub) ≡ spec.does result self.new }
+    {
         let sub = &mut self.subs[place];
-        Ok(start_sub(sub, orb))
+        let code = tsch_code(condition_of(sub.state));
+        if stores_irb(code) {
+            let image = irb_of(&sub.state).write();
+            self.storage.store_operand(cpu.number(), address, &image);
+        }
+        test_with(sub, code)
     }
 
     fn test(&mut self, cpu: Cpu, word: u32, address: u32) -> Result<Reply, Fault>
@@ -100,13 +122,7 @@ impl Machine {
         let Some(place) = place_in(id, self.subs.as_slice()) else {
             return Ok(Reply::Code(Answer::Three));
         };
-        let sub = &mut self.subs[place];
-        let code = tsch_code(condition_of(sub.state));
-        if stores_irb(code) {
-            let image = irb_of(&sub.state).write();
-            self.storage.store_operand(cpu.number(), address, &image);
-        }
-        Ok(test_with(sub, code))
+        Ok(self.test_at(cpu, address, place))
     }
 
     fn enable(&mut self, cpu: Cpu, word: u32, subclass: u8, multipath: bool) -> Result<Reply, Fault>
@@ -169,11 +185,11 @@ impl Machine {
         let Some(place) = self.place_of(word) else {
             return Err(Fault::NoSuchSubchannel);
         };
-        let sub = &mut self.subs[place];
-        let number = usize::from(sub.setup.unit);
+        let number = self.subs[place].setup.unit as usize;
         if number >= self.units.len() {
             return Err(Fault::NoSuchUnit);
         }
+        let sub = &mut self.subs[place];
         let unit = &mut self.units[number];
         down_sub(sub, unit, path)
     }

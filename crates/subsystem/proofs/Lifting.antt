@@ -1,0 +1,101 @@
+-- What an event does at one subchannel, as what it does to the whole.
+use Rattle.std.proofs.Common.{◌≡◌, refl, sym, ◌∙◌, ap, subst, ℕ, ◌+◌, ◌<◌, zero, suc, Option, None, Some, Result, Ok, Err, List, [], ◌∷◌, length, slice_index_or, arith}
+use Rattle.std.specs.Prelude.{slice_get, slice_set}
+use Rattle.std.proofs.lemmas.List.{set-get_or}
+use Rattle.chan_model.specs.declared.fault.Fault.{Fault}
+use Rattle.chan_model.specs.declared.event.Event.{Event}
+use Rattle.chan_model.specs.declared.event.Event.TheVariants as event
+use Rattle.chan_model.specs.declared.reply.Reply.{Reply}
+use Rattle.chan_model.specs.declared.report.Report.{Report}
+use Rattle.chan_model.specs.declared.unit_state.UnitState.{UnitState}
+use Rattle.path_select.specs.Choice.{IsChoice}
+use Rattle.machine_model.specs.declared.state.Subchannel.{Subchannel}
+use Rattle.machine_model.specs.State.{State, place_of, sub_at, with_sub, with_unit}
+use Rattle.machine_model.specs.Choosing.{chosen, usable_paths}
+use Rattle.machine_model.specs.Steps.{Outcome, SubTurn, DownTurn, Steps, Performs, Gives, GivesSub, GivesBoth, Chooses, does, leaves, at_sub, at_unit, up_at, up_sub, down_at, down_unit, down_sub, choose_sub, report_at, report_to, report_sub, reached_in}
+
+-- an element that stands at a place
+pub at_place : {A : Type 0} (xs : List A) (i : ℕ) (x d : A) → i < length xs → x ≡ slice_index_or xs i d → slice_get xs i ≡ Some x
+at_place [] i x d within e = absurd (omega (arith, within))
+at_place (y ∷ ys) zero x d within e = ap (λ z. Some z) (sym e)
+at_place (y ∷ ys) (suc i) x d within e = at_place ys i x d (omega (arith, within)) e
+
+-- an element written back to its place
+pub set_back : {A : Type 0} (xs : List A) (i : ℕ) (x y d : A) → x ≡ slice_index_or xs i d → y ≡ x → slice_set xs i y ≡ xs
+set_back xs i x y d e f = ap (slice_set xs i) (f ∙ e) ∙ set-get_or xs i d
+
+-- a fact of the subchannel at a place is one of the subchannel that a word names
+pub named : (s : State) (word place : ℕ) (sub : Subchannel) (T : Option ℕ → Option Subchannel → Type 0) →
+    place_of s word ≡ Some place → slice_get s.subs place ≡ Some sub → T (Some place) (Some sub) → T (place_of s word) (sub_at s.subs (place_of s word))
+named s word place sub T at there t =
+    subst (λ (p : Option ℕ). T p (sub_at s.subs p)) (sym at) (subst (λ (q : Option Subchannel). T (Some place) q) (sym there) t)
+
+performed : (s : State) (e : Event) (outcome : Outcome) (r : Result Reply Fault) (new : State) →
+    ((o : Outcome) → o ≡ outcome → Steps s e o) → Gives s outcome r new → Performs s e r new
+performed s e outcome (Ok reply) new steps g = steps (does reply new) (sym g)
+performed s e outcome (Err f) new steps g = (steps (Err f) (sym g.0), g.1)
+
+lifted : (s : State) (place : ℕ) (sub new d : Subchannel) (outcome : Result SubTurn Fault) (r : Result Reply Fault) →
+    sub ≡ slice_index_or s.subs place d → GivesSub sub outcome r new → Gives s (at_sub s place outcome) r (with_sub s place new)
+lifted s place sub new d outcome (Ok reply) there g = ap (at_sub s place) g
+lifted s place sub new d outcome (Err f) there g =
+    (ap (at_sub s place) g.0, ap (λ (subs : List Subchannel). record s { subs = subs }) (set_back s.subs place sub new d there g.1))
+
+lifted_both : (s : State) (place k : ℕ) (sub new d : Subchannel) (u v w : UnitState) (outcome : Result DownTurn Fault) (r : Result Reply Fault) →
+    sub ≡ slice_index_or s.subs place d → u ≡ slice_index_or s.units k w → GivesBoth sub u outcome r new v →
+    Gives s (at_unit s place k outcome) r (with_unit (with_sub s place new) k v)
+lifted_both s place k sub new d u v w outcome (Ok reply) there here g = ap (at_unit s place k) g
+lifted_both s place k sub new d u v w outcome (Err f) there here g =
+    (ap (at_unit s place k) g.0,
+        ap (λ (subs : List Subchannel). record s { subs = subs; units = slice_set s.units k v }) (set_back s.subs place sub new d there g.1.0)
+        ∙ ap (λ (units : List UnitState). record s { units = units }) (set_back s.units k u v w here g.1.1))
+
+pub up-performs : (s : State) (word path place : ℕ) (sub new d : Subchannel) (r : Result Reply Fault) → place_of s word ≡ Some place →
+    place < length s.subs → sub ≡ slice_index_or s.subs place d → GivesSub sub (up_sub s.storage sub path) r new →
+    Performs s (event.Up word path) r (with_sub s place new)
+up-performs s word path place sub new d r at within there g =
+    let outcome = up_sub s.storage sub path in
+    let steps : (o : Outcome) → o ≡ at_sub s place outcome → Steps s (event.Up word path) o =
+        λ o e. named s word place sub (λ (p : Option ℕ) (q : Option Subchannel). o ≡ up_at s p q path) at (at_place s.subs place sub d within there) e in
+    performed s (event.Up word path) (at_sub s place outcome) r (with_sub s place new) steps (lifted s place sub new d outcome r there g)
+
+pub choose-performs : (s : State) (word place : ℕ) (sub new d : Subchannel) (choice : Option ℕ) (r : Result Reply Fault) → place_of s word ≡ Some place →
+    place < length s.subs → sub ≡ slice_index_or s.subs place d → IsChoice (usable_paths s.subs sub) choice →
+    GivesSub sub (choose_sub sub (chosen sub choice)) r new → Performs s (event.Choose word) r (with_sub s place new)
+choose-performs s word place sub new d choice r at within there chose g =
+    let outcome = choose_sub sub (chosen sub choice) in
+    let steps : (o : Outcome) → o ≡ at_sub s place outcome → Steps s (event.Choose word) o =
+        λ o e. named s word place sub (λ (p : Option ℕ) (q : Option Subchannel). Chooses s p q o) at (at_place s.subs place sub d within there) (choice, chose, e) in
+    performed s (event.Choose word) (at_sub s place outcome) r (with_sub s place new) steps (lifted s place sub new d outcome r there g)
+
+pub down-performs : (s : State) (word path place : ℕ) (sub new d : Subchannel) (u v w : UnitState) (r : Result Reply Fault) → place_of s word ≡ Some place →
+    place < length s.subs → sub ≡ slice_index_or s.subs place d → sub.setup.«unit» < length s.units → u ≡ slice_index_or s.units sub.setup.«unit» w →
+    GivesBoth sub u (down_sub sub path u) r new v → Performs s (event.Down word path) r (with_unit (with_sub s place new) sub.setup.«unit» v)
+down-performs s word path place sub new d u v w r at within there inside here g =
+    let k = sub.setup.«unit» in
+    let outcome = down_sub sub path u in
+    let steps : (o : Outcome) → o ≡ at_unit s place k outcome → Steps s (event.Down word path) o =
+        λ o e. named s word place sub (λ (p : Option ℕ) (q : Option Subchannel). o ≡ down_at s p q path) at (at_place s.subs place sub d within there)
+            (subst (λ (x : Option UnitState). o ≡ down_unit s place sub path x) (sym (at_place s.units k u w inside here)) e) in
+    performed s (event.Down word path) (at_unit s place k outcome) r (with_unit (with_sub s place new) k v) steps
+        (lifted_both s place k sub new d u v w outcome r there here g)
+
+pub report-performs : (s : State) (k place : ℕ) (report : Report) (sub new d : Subchannel) (u v w : UnitState) (r : Result Reply Fault) →
+    reached_in k report.side s.subs ≡ Some place → place < length s.subs → sub ≡ slice_index_or s.subs place d → k < length s.units →
+    u ≡ slice_index_or s.units k w → GivesBoth sub u (report_sub sub u report) r new v →
+    Performs s (event.Report k report) r (with_unit (with_sub s place new) k v)
+report-performs s k place report sub new d u v w r at within there inside here g =
+    let outcome = report_sub sub u report in
+    let steps : (o : Outcome) → o ≡ at_unit s place k outcome → Steps s (event.Report k report) o =
+        λ o e. subst (λ (x : Option UnitState). o ≡ report_at s k x report) (sym (at_place s.units k u w inside here))
+            (subst (λ (p : Option ℕ). o ≡ report_to s k u report p (sub_at s.subs p)) (sym at)
+                (subst (λ (q : Option Subchannel). o ≡ report_to s k u report (Some place) q) (sym (at_place s.subs place sub d within there)) e)) in
+    performed s (event.Report k report) (at_unit s place k outcome) r (with_unit (with_sub s place new) k v) steps
+        (lifted_both s place k sub new d u v w outcome r there here g)
+
+-- there is one element at a place
+some_inj : {A : Type 0} (x y : A) → Some x ≡ Some y → x ≡ y
+some_inj x y e = cc
+
+pub one_there : {A : Type 0} (xs : List A) (i : ℕ) (x y d e : A) → i < length xs → x ≡ slice_index_or xs i d → y ≡ slice_index_or xs i e → x ≡ y
+one_there xs i x y d e within f g = some_inj x y (sym (at_place xs i x d within f) ∙ at_place xs i y e within g)
