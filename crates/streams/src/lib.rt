@@ -1,4 +1,5 @@
 //! Reading all there is, and writing all there is, where a contract says what a failure leaves.
+//! When a reader or a writer fails, no clause can say; the tests do.
 #![tactic(auto)]
 
 ghost use Rattle.std.specs.Prelude.{◌≡◌, ◌≤◌, take, length, IfOk, OnOk, IfSome, IfNone};
