@@ -9,8 +9,8 @@ use Rattle.storage_keys.specs.Storage.{Contents, IsStorage, absolute_under, abso
 use Rattle.storage_keys.proofs.OperandLemmas.{map-slice_index-range}
 
 -- what is_inside tells of some bytes
-all_inside : (address count size : ℕ) → IsTrue (count == 0 || nat_le (address + count) size) → 0 < count → address + count ≤ size
-all_inside address count size h some = grind (arith, nat_tests)
+inside_le : (address count size : ℕ) → IsTrue (count == 0 || nat_le (address + count) size) → 0 < count → address + count ≤ size
+inside_le address count size h some = grind (arith, nat_tests)
 
 bytes_found : (bytes found : List ℕ) (address count : ℕ) (inside permitted : Bool) → (IsTrue inside → 0 < count → address + count ≤ length bytes)
     → where_permitted (access_check inside permitted) (slice_range bytes address (address + count)) ≡ Ok found → found ≡ map (slice_index bytes) (range_with_len address count)
@@ -22,18 +22,18 @@ bytes_found bytes found address count false permitted h e = absurd (cc)
 
 pub fetched_bytes : (s : Contents) (key address count : ℕ) (bytes : List ℕ) → fetched s key address count ≡ Ok bytes → bytes ≡ map (slice_index s.bytes) (range_with_len address count)
 fetched_bytes s key address count bytes e =
-    bytes_found s.bytes bytes address count (is_inside s address count) (permits_fetch s key address count) (all_inside address count (length s.bytes)) e
+    bytes_found s.bytes bytes address count (is_inside s address count) (permits_fetch s key address count) (inside_le address count (length s.bytes)) e
 
-past : (bytes new : List ℕ) (a place : ℕ) → a + length new ≤ length bytes → a + length new ≤ place → get_or (take a bytes ++ (new ++ drop (a + length new) bytes)) place 0 ≡ get_or bytes place 0
-past bytes new a place h above = grind (arith, common_steps)
+bytes_past : (bytes new : List ℕ) (a place : ℕ) → a + length new ≤ length bytes → a + length new ≤ place → get_or (take a bytes ++ (new ++ drop (a + length new) bytes)) place 0 ≡ get_or bytes place 0
+bytes_past bytes new a place h above = grind (arith, common_steps)
 
 -- the bytes past those that are put
 bytes_after : (bytes new : List ℕ) (a place : ℕ) → (0 < length new → a + length new ≤ length bytes) → a + length new ≤ place → get_or (take a bytes ++ (new ++ drop (a + length new) bytes)) place 0 ≡ get_or bytes place 0
 bytes_after bytes [] a place h above = ap (λ (xs : List ℕ). get_or xs place 0) (let e : a + 0 ≡ a = omega arith in rw e (take-append-drop a bytes))
-bytes_after bytes (v ∷ vs) a place h above = past bytes (v ∷ vs) a place (h (omega arith)) above
+bytes_after bytes (v ∷ vs) a place h above = bytes_past bytes (v ∷ vs) a place (h (omega arith)) above
 
 pub put_after : (s : Contents) (address : ℕ) (bytes : List ℕ) → IsTrue (is_inside s address (length bytes)) → (place : ℕ) → address + length bytes ≤ place → slice_index (put_at s address bytes).bytes place ≡ slice_index s.bytes place
-put_after s address bytes inside place above = bytes_after s.bytes bytes address place (all_inside address (length bytes) (length s.bytes) inside) above
+put_after s address bytes inside place above = bytes_after s.bytes bytes address place (inside_le address (length bytes) (length s.bytes) inside) above
 
 -- two real addresses have two absolute ones, which are in storage where they are
 absolute_under-inj : (prefix a b : ℕ) → prefix % 8192 ≡ 0 → absolute_under prefix a ≡ absolute_under prefix b → a ≡ b

@@ -104,7 +104,7 @@ with_values-sets (v ∷ vs) bytes a = with_values-sets vs (set bytes a v) (a + 1
 with_values-range : (vs bytes : List ℕ) (a : ℕ) → a + length vs ≤ length bytes → with_values bytes (range_with_len a (length vs)) vs ≡ take a bytes ++ (vs ++ drop (a + length vs) bytes)
 with_values-range vs bytes a h = with_values-sets vs bytes a ∙ sets-eq vs bytes a h ∙ append_assoc (take a bytes) vs (drop (a + length vs) bytes)
 
-pub length-with_values : (bytes ps vs : List ℕ) → length (with_values bytes ps vs) ≡ length bytes
+length-with_values : (bytes ps vs : List ℕ) → length (with_values bytes ps vs) ≡ length bytes
 length-with_values bytes [] vs = refl
 length-with_values bytes (p ∷ ps) [] = refl
 length-with_values bytes (p ∷ ps) (v ∷ vs) = length-with_values (set bytes p v) ps vs ∙ length-set bytes p v

@@ -1,4 +1,5 @@
--- What main storage holds, and what each access to it answers (SA22-7832, chapter 3).
+-- What main storage holds, and what each access to it answers (SA22-7832, chapter 3: storage, key-controlled
+-- protection, prefixing).
 use Rattle.std.specs.Prelude.{◌≡◌, ℕ, ◌+◌, ◌-◌, ◌*◌, ◌/◌, ◌%◌, ◌^◌, ◌≤◌, Bool, true, false, not, ◌&&◌, ◌||◌, ◌==◌, nat_lt, nat_le, if◌then◌else◌, List, [], ◌∷◌, ◌++◌, map, length, take, drop, replicate, slice_get, slice_index, slice_set, slice_range, Result, Ok, Err, ok_or}
 use Rattle.std.specs.List.{list_all, range_with_len}
 use Rattle.std.proofs.Common.{lit<}
@@ -32,7 +33,7 @@ zero_key = record { access = 0; fetch_protected = false; referenced = false; cha
 abbrev pub cleared : ℕ → Contents
 cleared blocks = record { bytes = replicate (4096 * blocks) 0; keys = replicate blocks zero_key; prefixes = replicate 16 0 }
 
--- Keys
+-- Key-controlled protection
 
 abbrev pub bit_number : Bool → ℕ
 bit_number true = 1
@@ -61,6 +62,7 @@ abbrev pub keys_of : Contents → ℕ → ℕ → List Key
 keys_of storage address count =
     if count == 0 then [] else slice_range storage.keys (address / 4096) ((address + (count - 1)) / 4096 + 1)
 
+-- whether the keys of all these blocks permit an access
 abbrev pub permits_fetch : Contents → ℕ → ℕ → ℕ → Bool
 permits_fetch storage key address count = list_all (key_permits_fetch key) (keys_of storage address count)
 
@@ -97,8 +99,9 @@ abbrev pub stored : Contents → ℕ → ℕ → List ℕ → Result Contents St
 stored storage key address bytes =
     where_permitted (store_check storage key address (length bytes)) (put_at storage address bytes)
 
--- Prefixing: real addresses 0 to 8,191 and those of the area that the prefix names change places
+-- Prefixing
 
+-- real addresses 0 to 8,191 and those of the area that the prefix names change places
 abbrev pub absolute_under : ℕ → ℕ → ℕ
 absolute_under prefix real =
     if nat_lt real 8192 then prefix + real
@@ -108,16 +111,17 @@ absolute_under prefix real =
 abbrev pub absolute : Contents → ℕ → ℕ → ℕ
 absolute storage cpu real = absolute_under (slice_index storage.prefixes cpu) real
 
--- Operands of instructions: real addresses, turned to absolute byte by byte, with key 0
+-- Operands of instructions (chapter 14): real addresses, turned to absolute byte by byte, with key 0
 
 -- the absolute addresses of so many bytes from a real address on
 unfoldable pub places : Contents → ℕ → ℕ → ℕ → List ℕ
 places storage cpu address count = map (absolute storage cpu) (range_with_len address count)
 
--- whether each byte is in storage
+-- whether each byte of an operand is in storage
 abbrev pub is_operand_inside : Contents → ℕ → ℕ → ℕ → Bool
 is_operand_inside storage cpu address count = list_all (λ place. nat_lt place (length storage.bytes)) (places storage cpu address count)
 
+-- an operand is on its boundary and in storage, or why not: the boundary comes first
 abbrev pub operand_check : Contents → ℕ → ℕ → ℕ → ℕ → Result (Unit {0}) StorageFault
 operand_check storage cpu address count boundary =
     if not (address % boundary == 0) then Err Specification

@@ -177,7 +177,8 @@ impl Storage {
         absolute_under(self.prefixes[cpu as usize], real)
     }
 
-    /// Whether the operand of an instruction is on its boundary and in storage, as `operand` asks.
+    /// Whether the operand of an instruction is on its boundary and in storage, or the fault that
+    /// `operand` answers. Where it is, `store_operand` may follow.
     pub fn check_operand(
         &self,
         cpu: u8,
@@ -218,7 +219,9 @@ impl Storage {
         Ok(bytes)
     }
 
-    /// Stores an instruction's operand at a CPU's real address, with key 0.
+    /// Stores an instruction's operand at a CPU's real address, with key 0: each byte at its own
+    /// absolute address. All are in storage where the real addresses are, since the areas that
+    /// change places are in storage both.
     pub fn store_operand(&mut self, cpu: u8, address: u32, bytes: &[u8])
         requires cpu { cpu < 16 }
         requires inside { 0 < length bytes.now → address + length bytes.now ≤ length self.old.bytes }

@@ -1,0 +1,94 @@
+//! The program's words: the command that they name, and the text for words that name none.
+#![tactic(auto)]
+
+ghost use Rattle.std.specs.Prelude.{◌≡◌, map, Ok, Some, IfOk};
+ghost use Rattle.command_words.specs.Plain as spec;
+ghost use Rattle.command_words.specs.declared.Wanted.{Wanted};
+
+#[cfg(test)]
+mod tests;
+
+use clap::Command;
+use clap::error::ErrorKind;
+use std::alloc::{AllocError, Global};
+
+/// What the words ask for.
+#[derive(Clone, Copy, Debug, PartialEq, Eq)]
+pub enum Wanted {
+    /// Perform a script's events.
+    Run,
+    /// Read a script alone.
+    Check,
+}
+
+/// Why no command was found.
+#[derive(Debug, Drop)]
+pub enum Refused {
+    /// The words name none: `clap`'s text, which is help where they ask for it and otherwise says
+    /// what is wrong with them.
+    Text(String),
+    /// There was no memory for that text.
+    NoMemory,
+}
+
+/// Which command the words name, the program's own name being the first of them. They name `run`
+/// or `check` where that is the second word and there is no third; all other words, `--help` among
+/// them, are refused with a text.
+pub fn command_of<'a>(alloc: Global, words: &'a [&'a str]) -> Result<Wanted, Refused>
+    ensures named { (wanted : Wanted) → spec.plain (map (λ word. word.now) words.now) ≡ Some wanted → result ≡ Ok wanted }
+    ensures alone { IfOk result (λ wanted. spec.plain (map (λ word. word.now) words.now) ≡ Some wanted) }
+{
+    if let Some(wanted) = plain(words) {
+        return Ok(wanted);
+    }
+    match text_for(alloc, words) {
+        Ok(text) => Err(Refused::Text(text)),
+        Err(_) => Err(Refused::NoMemory),
+    }
+}
+
+fn plain(words: &[&str]) -> Option<Wanted>
+    ensures { result ≡ spec.plain (map (λ word. word.now) words.now) }
+{
+    match words {
+        [] => None,
+        [_] => None,
+        [_, word] => named(word),
+        [_, _, _, ..] => None,
+    }
+}
+
+fn named(word: &str) -> Option<Wanted>
+    ensures { result ≡ spec.named word.now }
+{
+    if word == "run" {
+        return Some(Wanted::Run);
+    }
+    if word == "check" {
+        return Some(Wanted::Check);
+    }
+    None
+}
+
+/// What `clap` says of words that name no command; its help where it would take them, as `run --`.
+fn text_for<'a>(alloc: Global, words: &'a [&'a str]) -> Result<String, AllocError> {
+    let mut command = the_command(alloc)?;
+    match command.try_get_matches_from_mut(words) {
+        Ok(_) => command.render_help(),
+        Err(error) => {
+            if error.kind() == ErrorKind::OutOfMemory {
+                Err(AllocError)
+            } else {
+                error.to_string(alloc)
+            }
+        }
+    }
+}
+
+fn the_command<'a>(alloc: Global) -> Result<Command<'a>, AllocError> {
+    Command::new(alloc, "chsim")
+        .about("Simulates a channel subsystem by a script on standard input")
+        .subcommand_required(true)
+        .subcommand(Command::new(alloc, "run").about("Performs a script's events"))?
+        .subcommand(Command::new(alloc, "check").about("Reads a script alone"))
+}
