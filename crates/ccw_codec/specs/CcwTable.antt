@@ -48,3 +48,7 @@ ccw_tables One ccw = ccw_tables_1 ccw
 abbrev pub FitsFormat : Format → Ccw → Type 0
 FitsFormat Zero ccw = ccw.address < 2 ^ 24
 FitsFormat One ccw = ⊤
+
+-- the numbers are those of their types
+abbrev pub IsInRange : Ccw → Type 0
+IsInRange ccw = (ccw.command < 256) × (ccw.count < 2 ^ 16)

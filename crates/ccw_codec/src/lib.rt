@@ -6,6 +6,7 @@ ghost use Rattle.std.specs.Prelude.{◌≡◌, ◌<◌, ◌^◌};
 mod block;
 pub mod command;
 mod fault;
+pub mod law;
 mod one;
 #[cfg(test)]
 mod tests;
