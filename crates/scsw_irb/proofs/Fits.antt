@@ -1,5 +1,5 @@
 -- The numbers of each table fit its bits.
-use Rattle.std.proofs.Common.{◌<◌, ◌≡◌, ◌++◌, List, [], ◌∷◌, ap, true, map, lit<, refl}
+use Rattle.std.proofs.Common.{◌<◌, ◌≡◌, ◌++◌, List, [], ◌∷◌, ap, true, map, lit<}
 use Rattle.zbits.specs.declared.layout.Entry.{Entry}
 use Rattle.zbits.specs.Words.{bytes_of_words}
 use Rattle.zbits.specs.Layout.{AllFit, AllTablesFit, all_cover, at, layout_of, word_of}

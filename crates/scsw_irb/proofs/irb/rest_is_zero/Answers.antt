@@ -1,5 +1,5 @@
 -- The last twelve of sixteen words are all after the first four.
-use Rattle.std.proofs.Common.{◌≡◌, ◌-◌, ℕ, List, length, take, drop, ap, sym, ◌∙◌, subst}
+use Rattle.std.proofs.Common.{◌≡◌, ◌-◌, ℕ, List, take, drop, ap, sym, ◌∙◌, subst}
 use Rattle.std.specs.Prelude.{replicate}
 use Rattle.std.specs.Bool.{Decides}
 use Rattle.std.proofs.lemmas.Bool.Decides.{Decides-eqb}

@@ -1,5 +1,5 @@
 -- The table of channel-report words.
-use Rattle.std.proofs.Common.{◌≡◌, ℕ, List, [], ◌∷◌, IsSome, refl, sym, subst, ap}
+use Rattle.std.proofs.Common.{◌≡◌, ℕ, [], ◌∷◌, IsSome, refl, sym, subst, ap}
 use Rattle.zbits.specs.Bits.{field_of}
 use Rattle.zbits.specs.Layout.{word_of, bit_number}
 use Rattle.zbits.proofs.LayoutLemmas.{shows_word_of}

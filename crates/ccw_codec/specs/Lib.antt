@@ -1,0 +1,3 @@
+pub mod Command
+pub mod CcwTable
+pub mod Block
