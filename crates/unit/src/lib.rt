@@ -8,7 +8,7 @@ mod reports;
 mod signals;
 mod works;
 
-ghost use Rattle.std.specs.Prelude.{◌≡◌, ◌<◌, ◌^◌};
+ghost use Rattle.std.specs.Prelude.{◌≡◌, ◌<◌, ◌^◌, IfSome, is_some};
 ghost use Rattle.chan_model.specs.UnitReports as reports;
 ghost use Rattle.chan_model.specs.UnitTable as table;
 ghost use Rattle.unit.specs.UnitWords as words;
@@ -76,6 +76,11 @@ impl Unit {
     pub fn take(&mut self, side: Side, path: Path, signal: &Down, may: bool) -> Taken<Up>
         ensures state { self.new ≡ table.unit_after self.old (table.unit_takes self.old side path signal.now may) }
         ensures came { result ≡ table.came_of (table.unit_takes self.old side path signal.now may) }
+
+        // An answer goes by the path of the signal; the other side is left as it was.
+        ensures path { IfSome result.sent (λ sent. sent.path ≡ path) }
+        ensures answered { is_some result.sent ≡ words.is_answered self.old side signal.now }
+        ensures other { words.LeavesOther side self.old self.new }
     {
         signals::takes(&mut self.state, side, path, signal, may)
     }
@@ -91,6 +96,7 @@ impl Unit {
     pub fn report(&mut self, report: &Report) -> Option<OnPath<Up>>
         ensures state { self.new ≡ table.unit_after self.old (reports.unit_reports self.old report.now) }
         ensures sent { result ≡ (table.came_of (reports.unit_reports self.old report.now)).sent }
+        ensures path { table.path_of_sent result ≡ table.answer_path (reports.unit_reports self.old report.now) }
     {
         reports::reports(&mut self.state, report)
     }
