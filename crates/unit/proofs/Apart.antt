@@ -1,5 +1,5 @@
 -- A signal of one side leaves the other side as it was, and its program.
-use Rattle.std.proofs.Common.{◌≡◌, ◌==◌, ◌&&◌, ◌||◌, not, ℕ, ◌+◌, Bool, true, false, if◌then◌else◌, nat_lt, List, Option, None, Some, refl, sym, ◌∙◌, ap}
+use Rattle.std.proofs.Common.{◌≡◌, ◌==◌, ◌&&◌, not, ℕ, ◌+◌, Bool, true, false, if◌then◌else◌, nat_lt, List, Option, None, Some, refl, sym, ◌∙◌, ap}
 use Rattle.std.proofs.lemmas.Bool.{and_parts, both_ways}
 use Rattle.chan_model.specs.declared.names.Side.{Side}
 use Rattle.chan_model.specs.declared.names.Side.TheVariants.{First, Second}
@@ -15,7 +15,7 @@ use Rattle.chan_model.specs.declared.unit_state.AtHand.{AtHand}
 use Rattle.chan_model.specs.declared.unit_state.Attention.{Attention}
 use Rattle.chan_model.specs.declared.unit_state.UnitState.{UnitState}
 use Rattle.chan_model.specs.Sides.{same_side}
-use Rattle.chan_model.specs.UnitTable.{UnitStep, unit_after, changes, sends, side_of, with_side, is_owner, is_owner_on, is_place_on, owns, freed, raised, held, selected, new_command, commanded, with_given, given_next, given, with_answer, answered_load, answered_last, answered, granted_at, granted, refused_at, refused, halting, releasing, without_side, reset_side, resets, forgetting, telling, unit_works, unit_takes}
+use Rattle.chan_model.specs.UnitTable.{UnitStep, unit_after, side_of, with_side, is_owner, is_owner_on, is_place_on, owns, freed, raised, held, selected, commanded, given_next, given, answered_load, answered_last, answered, granted_at, granted, refused_at, refused, halting, releasing, without_side, reset_side, resets, forgetting, telling, unit_works, unit_takes}
 use Rattle.unit.specs.UnitWords.{other_of, IsSameProgram, LeavesOther}
 
 -- the step leaves the other side as it was, and its program
@@ -67,9 +67,9 @@ leaves-if side u false s t f g = g
 pub leaves-then : (side : Side) (u v w : UnitState) → LeavesOther side u v → LeavesOther side v w → LeavesOther side u w
 leaves-then side u v w f g =
     record { kept = g.kept ∙ f.kept; owner = g.owner ∙ f.owner; program = λ h. same (f.program h) (g.program (f.owner ∙ h)) }
-    where
-        same : IsSameProgram u v → IsSameProgram v w → IsSameProgram u w
-        same a b = record { own = b.own ∙ a.own; last_command = b.last_command ∙ a.last_command; at_hand = b.at_hand ∙ a.at_hand; halted = b.halted ∙ a.halted }
+  where
+    same : IsSameProgram u v → IsSameProgram v w → IsSameProgram u w
+    same a b = record { own = b.own ∙ a.own; last_command = b.last_command ∙ a.last_command; at_hand = b.at_hand ∙ a.at_hand; halted = b.halted ∙ a.halted }
 
 pub leaves-with_side : (side : Side) (u : UnitState) (s : SideState) → LeavesOther side u (with_side u side s)
 leaves-with_side First u s =
@@ -201,10 +201,10 @@ pub leaves-forgetting : (side : Side) (u : UnitState) (attention : Option Attent
 leaves-forgetting side u None a = leaves-same side u
 leaves-forgetting side u (Some x) a =
     leaves-if side u (same_side x.side side && (a == x.number)) _ _ (λ h. forgotten side) (leaves-same side u)
-    where
-        forgotten : (k : Side) → LeavesOther k u (record u { attention = None })
-        forgotten First = record { kept = refl; owner = refl; program = λ h. record { own = refl; last_command = refl; at_hand = refl; halted = refl } }
-        forgotten Second = record { kept = refl; owner = refl; program = λ h. record { own = refl; last_command = refl; at_hand = refl; halted = refl } }
+  where
+    forgotten : (k : Side) → LeavesOther k u (record u { attention = None })
+    forgotten First = record { kept = refl; owner = refl; program = λ h. record { own = refl; last_command = refl; at_hand = refl; halted = refl } }
+    forgotten Second = record { kept = refl; owner = refl; program = λ h. record { own = refl; last_command = refl; at_hand = refl; halted = refl } }
 
 pub leaves-unit_works : (side : Side) (u : UnitState) (p : ℕ) (d : Down) (may : Bool) → Leaves side u (unit_works u side p d may)
 leaves-unit_works side u p (Select t) may =

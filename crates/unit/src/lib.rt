@@ -6,6 +6,8 @@ mod commands;
 mod parts;
 mod reports;
 mod signals;
+#[cfg(test)]
+mod tests;
 mod works;
 
 ghost use Rattle.std.specs.Prelude.{◌≡◌, ◌<◌, ◌^◌, IfSome, is_some};

@@ -167,7 +167,13 @@ fn report_on(unit: &mut UnitState, number: u64, place: Place, report: &Report) -
 }
 
 /// The Data of a command, for so many bytes that the device absorbed.
-fn data_sent(command: &mut AtHand, number: u64, connection: u64, last_command: u64, count: u16) -> Up
+fn data_sent(
+    command: &mut AtHand,
+    number: u64,
+    connection: u64,
+    last_command: u64,
+    count: u16,
+) -> Up
     ensures state { command.new ≡ record command.old { progress = progress.Working; given = None; unanswered = Some (load.Absorbed count) } }
     ensures sent { result ≡ up.Data number connection last_command command.old.sequence (load.Absorbed count) }
 {
