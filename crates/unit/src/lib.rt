@@ -87,7 +87,7 @@ impl Unit {
         signals::takes(&mut self.state, side, path, signal, may)
     }
 
-    /// Whether a signal of a side is answered, by which path it comes and whatever the control unit may do.
+    /// Whether a signal of a side is answered. Its path, and what the control unit may do, make no difference.
     pub fn answers(&self, side: Side, signal: &Down) -> bool
         ensures { result ≡ words.is_answered self.now side signal.now }
     {

@@ -101,7 +101,8 @@ fn is_answer_allowed(unit: &UnitState, command: &AtHand, answer: DeviceAnswer) -
 
 /// Whether a report is of the program of this side and number, and of its last command.
 fn is_of(unit: &UnitState, side: Side, number: u64, report: &Report) -> bool
-    ensures { result ≡ (same_side side report.now.side && ((report.now.number == number) && (report.now.command == unit.now.last_command))) }
+    ensures { result ≡ (same_side side report.now.side
+        && ((report.now.number == number) && (report.now.command == unit.now.last_command))) }
 {
     side.same(report.side) && report.number == number && report.command == unit.last_command
 }

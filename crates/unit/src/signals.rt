@@ -197,7 +197,9 @@ fn granted_at(
 
 /// Grant of an older connection than the last.
 fn granted_late(number: u64, path: Path, connection: u64, last: u64) -> Taken<Up>
-    ensures { result ≡ (if nat_lt connection last then record { taken = true; sent = Some (record { path = path; signal = up.Leave number connection }) } else record { taken = false; sent = None }) }
+    ensures { result ≡ (if nat_lt connection last
+        then record { taken = true; sent = Some (record { path = path; signal = up.Leave number connection }) }
+        else record { taken = false; sent = None }) }
 {
     if connection < last {
         sending(path, Up::Leave { number, connection })
