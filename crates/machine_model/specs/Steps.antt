@@ -1,5 +1,5 @@
 -- The steps of a channel subsystem, and its runs.
-use Rattle.std.specs.Prelude.{◌≡◌, ◌<◌, ℕ, ◌+◌, Bool, true, false, not, ◌==◌, ◌&&◌, nat_lt, if◌then◌else◌, Option, None, Some, List, [], ◌∷◌, ◌++◌, length, drop, slice_get, slice_set, Result, Ok, Err, ◌⊎◌}
+use Rattle.std.specs.Prelude.{◌≡◌, ◌<◌, ◌≤◌, ℕ, ◌+◌, Bool, true, false, not, ◌==◌, ◌&&◌, nat_lt, if◌then◌else◌, Option, None, Some, List, [], ◌∷◌, ◌++◌, length, take, drop, slice_get, slice_set, Result, Ok, Err, ◌⊎◌}
 use Rattle.zbits.specs.Layout.{image_of}
 use Rattle.orb_block.specs.declared.Orb.{Orb}
 use Rattle.orb_block.specs.OrbTable.{tables, IsAllowed}
@@ -42,7 +42,7 @@ use Rattle.wires.specs.Queues.{Queues, queue, sent, taken}
 use Rattle.machine_model.specs.declared.state.SubchannelState.{SubchannelState}
 use Rattle.machine_model.specs.declared.state.Subchannel.{Subchannel}
 use Rattle.machine_model.specs.declared.state.Program.{Program}
-use Rattle.machine_model.specs.State.{State, opening_of, place_of, place_of_id, place_in, first_place, sub_at, with_sub, with_unit}
+use Rattle.machine_model.specs.State.{State, Past, opening_of, place_of, place_of_id, place_in, first_place, sub_at, with_sub, with_unit}
 use Rattle.machine_model.specs.Instructions.{condition_of, started, tested, enabled}
 use Rattle.machine_model.specs.declared.state.Chosen.{Chosen}
 use Rattle.machine_model.specs.declared.state.Chosen.TheVariants.{Idle, Over, Offers}
@@ -361,3 +361,19 @@ accepted [] answers = []
 accepted (e ∷ events) [] = []
 accepted (e ∷ events) (Ok r ∷ answers) = record { event = e; reply = r } ∷ accepted events answers
 accepted (e ∷ events) (Err f ∷ answers) = accepted events answers
+
+-- each event in order came to its answer: a step with its reply, or a refusal that changed nothing
+abbrev pub Answered : State → List Event → List (Result Reply Fault) → State → Type 0
+Answered old [] [] new = new ≡ old
+Answered old (e ∷ events) (a ∷ answers) new = (middle : State) × Performs old e a middle × Answered middle events answers new
+Answered old [] (a ∷ answers) new = ⊥
+Answered old (e ∷ events) [] new = ⊥
+
+-- so many events were answered, and the history grew by those that were accepted
+pub record HasAnswered (old : Past) (events : List Event) (answers : List (Result Reply Fault)) (new : Past) : Type 0 where
+  pub answered : Answered old.state events answers new.state
+  pub history : new.history ≡ old.history ++ accepted events answers
+
+-- the first of the events were
+abbrev pub HasBegun : Past → List Event → Past → Type 0
+HasBegun old events new = (n : ℕ) × (answers : List (Result Reply Fault)) × (n ≤ length events) × HasAnswered old (take n events) answers new

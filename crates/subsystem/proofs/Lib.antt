@@ -1,3 +1,4 @@
 mod FirstPlaces
 mod Lifting
 mod Pasts
+mod Answering

@@ -1,9 +1,10 @@
 //! The channel subsystem: its machine, and the history that led there.
 
-ghost use Rattle.std.specs.Prelude.{◌≡◌, ◌⊎◌, ◌+◌, ◌<◌, ◌++◌, ◌∷◌, [], ℕ, IfOk, IfErr, OnErr, OnOk, All, length, map, vec_len, vec_capacity, option_map};
+ghost use Rattle.std.specs.Prelude.{◌≡◌, ◌≢◌, ◌⊎◌, ◌+◌, ◌<◌, ◌≤◌, Err, ◌++◌, ◌∷◌, [], ℕ, IfOk, IfErr, OnErr, OnOk, All, length, map, vec_len, vec_capacity, option_map};
 ghost use Rattle.chan_model.specs.declared.fault.Fault.TheVariants as fault_spec;
 ghost use Rattle.machine_model.specs.State as state_spec;
-ghost use Rattle.machine_model.specs.Steps.{Step, IsRefused, HasRun, accepted};
+ghost use Rattle.machine_model.specs.Steps.{Step, IsRefused, HasRun, HasAnswered, HasBegun};
+ghost use Rattle.std.specs.Bool.{OnTrue, OnFalse};
 ghost use Rattle.machine_model.specs.Bounds.{IsRoomy};
 
 use chan_model::event::Event;
@@ -95,6 +96,38 @@ impl<P: PathChoice + Drop> Subsystem<P> {
         Ok(reply)
     }
 
+    /// The events in order, each with its reply or its refusal. Room for the answers is made first; the refusal
+    /// `NoMemory` alone ends a run, and what was accepted before it stays.
+    pub fn run(&mut self, alloc: Global, events: &[Event]) -> Result<Vec<Result<Reply, Fault>>, Fault>
+        ensures answered { IfOk result (λ answers. HasAnswered self.old events.now answers.items self.new) }
+        ensures ended { IfErr result (λ f. f ≡ fault_spec.NoMemory) }
+        ensures begun { OnErr result (HasBegun self.old events.now self.new) }
+        ensures replays { HasRun self.new.history self.new.state }
+    {
+        let mut answers = Vec::new(alloc);
+        if answers.reserve(events.len()).is_err() {
+            self.recalls();
+            return Err(Fault::NoMemory);
+        }
+        self.recalls();
+        for event in events {
+            let answer = self.step(event);
+            self.recalls();
+            if ends(&answer) {
+                return Err(Fault::NoMemory);
+            }
+            add(&mut answers, answer);
+        }
+        Ok(answers)
+    }
+
+    /// The history replays to the state.
+    fn recalls(&self)
+        ensures { HasRun self.now.history self.now.state }
+    {
+        let _ = &self.history;
+    }
+
     /// What was accepted, in order.
     pub fn history(&self) -> History<'_>
         ensures history { result ≡ self.now.history }
@@ -116,6 +149,26 @@ impl<P: PathChoice + Drop> Subsystem<P> {
     {
         self.machine.unit_turn(unit)
     }
+}
+
+/// Whether an answer ends a run.
+fn ends(answer: &Result<Reply, Fault>) -> bool
+    ensures no_memory { OnTrue result (answer.now ≡ Err fault_spec.NoMemory) }
+    ensures other { OnFalse result (answer.now ≢ Err fault_spec.NoMemory) }
+{
+    match answer {
+        Err(Fault::NoMemory) => true,
+        _ => false,
+    }
+}
+
+/// Adds an answer, for which there is room.
+fn add(answers: &mut Vec<Result<Reply, Fault>>, answer: Result<Reply, Fault>)
+    requires { vec_len answers.old < vec_capacity answers.old }
+    ensures items { answers.new.items ≡ answers.old.items ++ answer ∷ [] }
+    ensures capacity { vec_capacity answers.old ≤ vec_capacity answers.new }
+{
+    let _ = answers.push(answer);
 }
 
 /// Adds an entry, for which there is room.

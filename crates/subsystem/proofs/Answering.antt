@@ -1,0 +1,64 @@
+-- The events of a run and their answers, as they grow at their end.
+use Rattle.std.proofs.Common.{◌≡◌, refl, sym, ◌∙◌, ap, subst, ℕ, ◌+◌, ◌<◌, ◌≤◌, Result, Ok, Err, List, [], ◌∷◌, ◌++◌, length, take, slice_index_or, arith, append_assoc, inl, inr}
+use Rattle.std.proofs.lemmas.List.{take_more, length-take-le, append-nil}
+use Rattle.std.specs.Prelude.{IfOk, IfErr, OnErr, ◌⊎◌}
+use Rattle.chan_model.specs.declared.event.Event.{Event}
+use Rattle.chan_model.specs.declared.fault.Fault.{Fault}
+use Rattle.chan_model.specs.declared.fault.Fault.TheVariants.{NoMemory}
+use Rattle.chan_model.specs.declared.reply.Entry.{Entry}
+use Rattle.chan_model.specs.declared.reply.Reply.{Reply}
+use Rattle.machine_model.specs.State.{State, Past}
+use Rattle.machine_model.specs.Steps.{Step, IsRefused, Performs, Answered, HasAnswered, accepted}
+
+answered-more : (old middle new : State) (events : List Event) (answers : List (Result Reply Fault)) (e : Event) (a : Result Reply Fault) →
+    Answered old events answers middle → Performs middle e a new → Answered old (events ++ e ∷ []) (answers ++ a ∷ []) new
+answered-more old middle new [] [] e a done p = (new, subst (λ (s : State). Performs s e a new) done p, refl)
+answered-more old middle new [] (b ∷ answers) e a done p = absurd done
+answered-more old middle new (f ∷ events) [] e a done p = absurd done
+answered-more old middle new (f ∷ events) (b ∷ answers) e a done p = (done.0, done.1, answered-more done.0 middle new events answers e a done.2 p)
+
+accepted-more : (old middle : State) (events : List Event) (answers : List (Result Reply Fault)) (e : Event) (a : Result Reply Fault) →
+    Answered old events answers middle → accepted (events ++ e ∷ []) (answers ++ a ∷ []) ≡ accepted events answers ++ accepted (e ∷ []) (a ∷ [])
+accepted-more old middle [] [] e a done = refl
+accepted-more old middle [] (b ∷ answers) e a done = absurd done
+accepted-more old middle (f ∷ events) [] e a done = absurd done
+accepted-more old middle (f ∷ events) (Ok r ∷ answers) e a done = ap (λ (es : List Entry). record { event = f; reply = r } ∷ es) (accepted-more done.0 middle events answers e a done.2)
+accepted-more old middle (f ∷ events) (Err x ∷ answers) e a done = accepted-more done.0 middle events answers e a done.2
+
+-- one call that was no want of memory
+performs-one : (old new : Past) (e : Event) (a : Result Reply Fault) → IfOk a (λ r. Step old.state e r new.state) → OnErr a (new ≡ old) →
+    IfErr a (λ f. (f ≡ NoMemory) ⊎ IsRefused old.state e f) → ¬ (a ≡ Err NoMemory) → Performs old.state e a new.state
+performs-one old new e (Ok r) step same refusal other = step
+performs-one old new e (Err f) step same refusal other =
+    elim refusal [
+      | inl x ↦ absurd (other (ap (λ (g : Fault). Err g) x))
+      | inr x ↦ (x, ap (λ (p : Past). p.state) same)
+    ]
+
+history-one : (old new : Past) (e : Event) (a : Result Reply Fault) → IfOk a (λ r. new.history ≡ old.history ++ record { event = e; reply = r } ∷ []) →
+    OnErr a (new ≡ old) → new.history ≡ old.history ++ accepted (e ∷ []) (a ∷ [])
+history-one old new e (Ok r) more same = more
+history-one old new e (Err f) more same = ap (λ (p : Past). p.history) same ∙ sym (append-nil old.history)
+
+pub has-more : (first old new : Past) (events : List Event) (i : ℕ) (e d : Event) (answers more : List (Result Reply Fault)) (a : Result Reply Fault) → i < length events →
+    e ≡ slice_index_or events i d → HasAnswered first (take i events) answers old → IfOk a (λ r. Step old.state e r new.state) →
+    IfOk a (λ r. new.history ≡ old.history ++ record { event = e; reply = r } ∷ []) → OnErr a (new ≡ old) →
+    IfErr a (λ f. (f ≡ NoMemory) ⊎ IsRefused old.state e f) → ¬ (a ≡ Err NoMemory) → more ≡ answers ++ a ∷ [] →
+    HasAnswered first (take (i + 1) events) more new
+has-more first old new events i e d answers more a within there done step grew same refusal other pushed =
+    let longer : take i events ++ e ∷ [] ≡ take (i + 1) events =
+        ap (λ (x : Event). take i events ++ x ∷ []) there ∙ sym (take_more events i d within) in
+    let answered : Answered first.state (take (i + 1) events) more new.state =
+        subst (λ (xs : List (Result Reply Fault)). Answered first.state (take (i + 1) events) xs new.state) (sym pushed)
+            (subst (λ (es : List Event). Answered first.state es (answers ++ a ∷ []) new.state) longer
+                (answered-more first.state old.state new.state (take i events) answers e a done.answered (performs-one old new e a step same refusal other))) in
+    record {
+      answered = answered;
+      history =
+          history-one old new e a grew same
+          ∙ (ap (λ (h : List Entry). h ++ accepted (e ∷ []) (a ∷ [])) done.history
+          ∙ (append_assoc first.history (accepted (take i events) answers) (accepted (e ∷ []) (a ∷ []))
+          ∙ ap (λ (h : List Entry). first.history ++ h)
+              (sym (accepted-more first.state old.state (take i events) answers e a done.answered)
+              ∙ (ap (λ (es : List Event). accepted es (answers ++ a ∷ [])) longer ∙ ap (λ (xs : List (Result Reply Fault)). accepted (take (i + 1) events) xs) (sym pushed)))));
+    }

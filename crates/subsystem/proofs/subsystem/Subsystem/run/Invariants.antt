@@ -1,0 +1,10 @@
+use Rattle.std.proofs.Common.{◌+◌, ◌≤◌, length, take, vec_len, vec_capacity}
+use Rattle.machine_model.specs.Steps.{HasAnswered, HasRun}
+use Rattle.subsystem.proofs.subsystem.Subsystem.run.Given as goal
+
+abbrev pub invariant-loop-event : goal.invariant-loop-event
+invariant-loop-event g l = record {
+  answered : HasAnswered l.fn.self (take l.event-index l.events) l.answers.items l.self;
+  room : vec_len l.answers + length l.events ≤ vec_capacity l.answers + l.event-index;
+  replays : HasRun l.self.history l.self.state;
+}
