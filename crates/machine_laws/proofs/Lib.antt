@@ -1,2 +1,4 @@
 mod Sound
+mod Walk
 mod RunSound
+mod RunSerials

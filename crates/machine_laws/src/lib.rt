@@ -1,18 +1,36 @@
 //! What holds after every run of a channel subsystem: theorems over its definitions alone.
 #![tactic(auto)]
 
-ghost use Rattle.std.specs.Prelude.{◌≡◌, List, All, length};
+ghost use Rattle.std.specs.Prelude.{◌≡◌, ◌<◌, List, All, AllPairs, length};
+ghost use Rattle.std.specs.List.{AllZip};
+ghost use Rattle.chan_model.specs.declared.event.Event.{Event};
 ghost use Rattle.chan_model.specs.declared.reply.Entry.{Entry};
-ghost use Rattle.channel_config.specs.Setup.{Setup};
+ghost use Rattle.chan_model.specs.declared.reply.Reply.{Reply};
+ghost use Rattle.channel_config.specs.declared.names.SubchannelId.{SubchannelId};
+ghost use Rattle.channel_config.specs.Setup.{Setup, set_count};
 ghost use Rattle.machine_model.specs.State.{State, opening_of};
-ghost use Rattle.machine_model.specs.Steps.{Run};
+ghost use Rattle.machine_model.specs.Steps.{Step, Run};
 ghost use Rattle.machine_model.specs.Bounds.{IsWithin};
-ghost use Rattle.machine_laws.specs.Claims.{IsPendingUncleared};
+ghost use Rattle.machine_laws.specs.Claims.{IsPendingUncleared, IsLater, serials as serials_of};
 
 /// After each run the numbers of each subchannel are at most as many as there were events, and its status is pending
 /// exactly where some status that was made is not cleared.
 pub fn numbers()
     ensures within { (setup : Setup) (h : List Entry) (s : State) → Run (opening_of setup) h s → All (IsWithin (length h)) s.subs }
     ensures pending { (setup : Setup) (h : List Entry) (s : State) → Run (opening_of setup) h s → All IsPendingUncleared s.subs }
-{
-}
+{}
+
+/// No step changes how many sets there are. After each run no step changes which subchannels there are or how they are set
+/// up, or lowers how many statuses one of them made or how many of these are cleared.
+pub fn steps()
+    ensures sets { (s : State) (e : Event) (r : Reply) (new : State) → Step s e r new → new.sets ≡ s.sets }
+    ensures subs { (setup : Setup) (h : List Entry) (s : State) (e : Event) (r : Reply) (new : State) → Run (opening_of setup) h s →
+        Step s e r new → AllZip IsLater s.subs new.subs }
+{}
+
+/// Of two TEST SUBCHANNEL instructions of one subchannel that answered condition code 0 (SA22-7832, chapter 14), the later
+/// brought a greater count of statuses made: each status is cleared by at most one of them.
+pub fn serials()
+    ensures rises { (setup : Setup) (h : List Entry) (s : State) → Run (opening_of setup) h s → (id : SubchannelId) →
+        AllPairs (λ x y. x < y) (serials_of (set_count setup) id h) }
+{}
