@@ -1,5 +1,5 @@
 -- What is claimed of every run.
-use Rattle.std.specs.Prelude.{◌≡◌, ◌≤◌, ℕ, Bool, false, ◌==◌, ◌&&◌, if◌then◌else◌, Option, None, Some, List, [], ◌∷◌}
+use Rattle.std.specs.Prelude.{◌≡◌, ◌<◌, ◌≤◌, AllPairs, ℕ, Bool, false, ◌==◌, ◌&&◌, if◌then◌else◌, Option, None, Some, List, [], ◌∷◌}
 use Rattle.std.specs.List.{flat_map}
 use Rattle.chan_model.specs.declared.event.Event.{Event}
 use Rattle.chan_model.specs.declared.event.Event.TheVariants as event
@@ -60,3 +60,7 @@ serial_at sets id entry = serial_of sets id entry.event entry.reply
 -- the serials that were cleared of a subchannel, in their order
 abbrev pub serials : ℕ → SubchannelId → List Entry → List ℕ
 serials sets id h = flat_map (serial_at sets id) h
+
+-- each status is cleared by at most one TEST SUBCHANNEL: what they cleared of a subchannel rises
+abbrev pub IsClearedOnce : ℕ → List Entry → Type 0
+IsClearedOnce sets h = (id : SubchannelId) → AllPairs (λ x y. x < y) (serials sets id h)

@@ -1,17 +1,16 @@
 //! What holds after every run of a channel subsystem: theorems over its definitions alone.
 #![tactic(auto)]
 
-ghost use Rattle.std.specs.Prelude.{◌≡◌, ◌<◌, List, All, AllPairs, length};
+ghost use Rattle.std.specs.Prelude.{◌≡◌, List, All, length};
 ghost use Rattle.std.specs.List.{AllZip};
 ghost use Rattle.chan_model.specs.declared.event.Event.{Event};
 ghost use Rattle.chan_model.specs.declared.reply.Entry.{Entry};
 ghost use Rattle.chan_model.specs.declared.reply.Reply.{Reply};
-ghost use Rattle.channel_config.specs.declared.names.SubchannelId.{SubchannelId};
 ghost use Rattle.channel_config.specs.Setup.{Setup, set_count};
 ghost use Rattle.machine_model.specs.State.{State, opening_of};
 ghost use Rattle.machine_model.specs.Steps.{Step, Run};
 ghost use Rattle.machine_model.specs.Bounds.{IsWithin};
-ghost use Rattle.machine_laws.specs.Claims.{IsPendingUncleared, IsLater, serials as serials_of};
+ghost use Rattle.machine_laws.specs.Claims.{IsPendingUncleared, IsLater, IsClearedOnce};
 
 /// After each run the numbers of each subchannel are at most as many as there were events, and its status is pending
 /// exactly where some status that was made is not cleared.
@@ -31,6 +30,5 @@ pub fn steps()
 /// Of two TEST SUBCHANNEL instructions of one subchannel that answered condition code 0 (SA22-7832, chapter 14), the later
 /// brought a greater count of statuses made: each status is cleared by at most one of them.
 pub fn serials()
-    ensures rises { (setup : Setup) (h : List Entry) (s : State) → Run (opening_of setup) h s → (id : SubchannelId) →
-        AllPairs (λ x y. x < y) (serials_of (set_count setup) id h) }
+    ensures rises { (setup : Setup) (h : List Entry) (s : State) → Run (opening_of setup) h s → IsClearedOnce (set_count setup) h }
 {}

@@ -1,9 +1,10 @@
 -- A history that leads to a state, as it opens and grows.
-use Rattle.std.proofs.Common.{◌≡◌, ◌∙◌, ap, sym, subst, List, [], ◌∷◌, ◌++◌}
-use Rattle.channel_config.specs.Setup.{Setup}
+use Rattle.std.proofs.Common.{◌≡◌, refl, ℕ, ◌∙◌, ap, sym, subst, List, [], ◌∷◌, ◌++◌}
+use Rattle.channel_config.specs.Setup.{Setup, set_count}
 use Rattle.chan_model.specs.declared.event.Event.{Event}
 use Rattle.chan_model.specs.declared.reply.Entry.{Entry}
 use Rattle.chan_model.specs.declared.reply.Reply.{Reply}
+use Rattle.machine_laws.specs.Claims.{IsClearedOnce}
 use Rattle.machine_model.specs.State.{State, opening_of}
 use Rattle.machine_model.specs.Steps.{HasRun, Run, Opened, Stepped, Step}
 
@@ -15,3 +16,16 @@ pub past-more : (h later : List Entry) (old new : State) (e : Event) (r : Reply)
     later ≡ h ++ record { event = e; reply = r } ∷ [] → HasRun later new
 past-more h later old new e r run step more =
     (run.0, subst (λ (x : List Entry). Run (opening_of run.0) x new) (sym more) (Stepped h old e r new run.1 step))
+
+-- there are as many sets as at the opening
+abbrev KeepsSets : Type 0
+KeepsSets = (s : State) (e : Event) (r : Reply) (new : State) → Step s e r new → new.sets ≡ s.sets
+
+sets-kept : KeepsSets → (setup : Setup) (h : List Entry) (s : State) → Run (opening_of setup) h s → s.sets ≡ set_count setup
+sets-kept keeps setup _ _ Opened = refl
+sets-kept keeps setup _ _ (Stepped h old e r new run step) = keeps old e r new step ∙ sets-kept keeps setup h old run
+
+pub past-cleared : KeepsSets → ((setup : Setup) (h : List Entry) (s : State) → Run (opening_of setup) h s → IsClearedOnce (set_count setup) h) →
+    (h : List Entry) (s : State) → HasRun h s → IsClearedOnce s.sets h
+past-cleared keeps rises h s run =
+    subst (λ (n : ℕ). IsClearedOnce n h) (sym (sets-kept keeps run.0 h s run.1)) (rises run.0 h s run.1)

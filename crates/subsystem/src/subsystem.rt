@@ -6,6 +6,7 @@ ghost use Rattle.machine_model.specs.State as state_spec;
 ghost use Rattle.machine_model.specs.Steps.{Step, IsRefused, HasRun, HasAnswered, HasBegun};
 ghost use Rattle.std.specs.Bool.{OnTrue, OnFalse};
 ghost use Rattle.machine_model.specs.Bounds.{IsRoomy};
+ghost use Rattle.machine_laws.specs.Claims.{IsClearedOnce};
 
 use chan_model::event::Event;
 use chan_model::fault::Fault;
@@ -13,7 +14,7 @@ use chan_model::reply::{Entry, Reply};
 use channel_config::config::Config;
 use channel_config::parts::{SubchannelSetup, UnitKind};
 use hold::Hold;
-use machine_laws::numbers;
+use machine_laws::{numbers, serials, steps};
 use machine_model::state::{Pmcw, Subchannel, SubchannelState, UnitTurn};
 use path_select::PathChoice;
 use scsw_irb::scsw::Scsw;
@@ -103,6 +104,8 @@ impl<P: PathChoice + Drop> Subsystem<P> {
         ensures ended { IfErr result (λ f. f ≡ fault_spec.NoMemory) }
         ensures begun { OnErr result (HasBegun self.old events.now self.new) }
         ensures replays { HasRun self.new.history self.new.state }
+        // Of two TEST SUBCHANNEL of one subchannel that answered 0, the later carries a strictly greater count of statuses made.
+        ensures cleared_once { IsClearedOnce self.new.state.sets self.new.history }
     {
         let mut answers = Vec::new(alloc);
         if answers.reserve(events.len()).is_err() {
@@ -121,10 +124,13 @@ impl<P: PathChoice + Drop> Subsystem<P> {
         Ok(answers)
     }
 
-    /// The history replays to the state.
+    /// The history replays to the state, and each status is cleared once.
     fn recalls(&self)
-        ensures { HasRun self.now.history self.now.state }
+        ensures replays { HasRun self.now.history self.now.state }
+        ensures cleared_once { IsClearedOnce self.now.state.sets self.now.history }
     {
+        steps();
+        serials();
         let _ = &self.history;
     }
 
@@ -132,7 +138,9 @@ impl<P: PathChoice + Drop> Subsystem<P> {
     pub fn history(&self) -> History<'_>
         ensures history { result ≡ self.now.history }
         ensures replays { HasRun self.now.history self.now.state }
+        ensures cleared_once { IsClearedOnce self.now.state.sets self.now.history }
     {
+        self.recalls();
         History::of(self.history.as_slice())
     }
 

@@ -1,5 +1,6 @@
 use Rattle.std.proofs.Common.{◌+◌, ◌≤◌, length, take, vec_len, vec_capacity}
 use Rattle.machine_model.specs.Steps.{HasAnswered, HasRun}
+use Rattle.machine_laws.specs.Claims.{IsClearedOnce}
 use Rattle.subsystem.proofs.subsystem.Subsystem.run.Given as goal
 
 abbrev pub invariant-loop-event : goal.invariant-loop-event
@@ -7,4 +8,5 @@ invariant-loop-event g l = record {
   answered : HasAnswered l.fn.self (take l.event-index l.events) l.answers.items l.self;
   room : vec_len l.answers + length l.events ≤ vec_capacity l.answers + l.event-index;
   replays : HasRun l.self.history l.self.state;
+  cleared_once : IsClearedOnce l.self.state.sets l.self.history;
 }
