@@ -1,0 +1,112 @@
+-- One more line of a draft.
+use Rattle.std.proofs.Common.{◌≡◌, ℕ, ◌+◌, ◌<◌, Bool, true, false, ◌||◌, List, [], ◌∷◌, ◌++◌, length, take, get_or, map, ap, ◌∙◌, refl, sym, suc, zero, arith, append_assoc, append-nil, subst, inl, inr}
+use Rattle.std.specs.Prelude.{Option, None, Result, Ok, Err, IfErr, IsErrAnd}
+use Rattle.std.specs.List.{list_any, flat_map}
+use Rattle.std.proofs.lemmas.List.{take_all, take_more, length-take-le}
+use Rattle.std.proofs.lemmas.Bool.Decides.{eqb_tells}
+use Rattle.channel_config.specs.Setup.{Setup, no_setup}
+use Rattle.script.specs.declared.settings.Setting.{Setting}
+use Rattle.script.specs.Settings.{configured}
+use Rattle.script.specs.declared.Line.{Line}
+use Rattle.script.specs.declared.draft.Draft.{Draft}
+use Rattle.script.specs.Saying.{said, has_words}
+use Rattle.script.specs.Scripts.{kept, setting_of, action_of, is_action, set_up, actions_from, AreClean, fault_at, fault, IsScript}
+use Rattle.script.specs.Reading.{BadIn, BadAt}
+use Rattle.script.specs.declared.ScriptBad.{ScriptBad}
+use Rattle.script.specs.declared.ScriptBad.TheVariants.{NoMemory, Bad}
+use Rattle.script.specs.Drafts.{context, IsNext, IsDraftOf}
+
+pub or-assoc : (a b c : Bool) → (a || (b || c)) ≡ ((a || b) || c)
+or-assoc true b c = refl
+or-assoc false b c = refl
+
+pub or-false : (a : Bool) → (a || false) ≡ a
+or-false true = refl
+or-false false = refl
+
+pub any-more : {A : Type 0} (f : A → Bool) (xs : List A) (x : A) → list_any f (xs ++ x ∷ []) ≡ (list_any f xs || f x)
+any-more f [] x = or-false (f x)
+any-more f (y ∷ ys) x = ap (λ (b : Bool). f y || b) (any-more f ys x) ∙ or-assoc (f y) (list_any f ys) (f x)
+
+pub flat-more : {A B : Type 0} (f : A → List B) (xs : List A) (x : A) → flat_map f (xs ++ x ∷ []) ≡ flat_map f xs ++ f x
+flat-more f [] x = append-nil (f x)
+flat-more f (y ∷ ys) x = ap (λ (t : List _). f y ++ t) (flat-more f ys x) ∙ sym (append_assoc (f y) (flat_map f ys) (f x))
+
+pub set_up-append : (s : Setup) (xs ys : List Setting) → set_up s (xs ++ ys) ≡ set_up (set_up s xs) ys
+set_up-append s [] ys = refl
+set_up-append s (x ∷ xs) ys = set_up-append (kept s (configured s x)) xs ys
+
+pub actions-more : (n : ℕ) (xs : List (List ℕ)) (x : List ℕ) → actions_from n (xs ++ x ∷ []) ≡ actions_from n xs ++ action_of (n + length xs) (said x)
+actions-more n [] x =
+    let e : n ≡ n + 0 = omega arith in
+    append-nil (action_of n (said x)) ∙ ap (λ (m : ℕ). action_of m (said x)) e
+actions-more n (y ∷ ys) x =
+    let e : n + 1 + length ys ≡ n + suc (length ys) = omega arith in
+    ap (λ (t : List Line). action_of n (said y) ++ t) (actions-more (n + 1) ys x ∙ ap (λ (m : ℕ). actions_from (n + 1) ys ++ action_of m (said x)) e)
+    ∙ sym (append_assoc (action_of n (said y)) (actions_from (n + 1) ys) (action_of (n + suc (length ys)) (said x)))
+
+pub same_context : (b b' a a' : Bool) (s s' : Setup) → b ≡ b' → a ≡ a' → s ≡ s'
+    → fault (record { begun = b; acted = a; setup = s }) ≡ fault (record { begun = b'; acted = a'; setup = s' })
+same_context b b' a a' s s' e f g =
+    ap (λ (x : Bool). fault (record { begun = x; acted = a; setup = s })) e ∙ ap (λ (x : Bool). fault (record { begun = b'; acted = x; setup = s })) f
+    ∙ ap (λ (x : Setup). fault (record { begun = b'; acted = a'; setup = x })) g
+
+-- what the code's draft finds is what the lines before say
+pub same_fault : (lines : List (List ℕ)) (i : ℕ) (d : Draft) (line : List ℕ) → IsDraftOf lines i d → line ≡ get_or lines i [] → fault (context d) line ≡ fault_at lines i
+same_fault lines i d line h e =
+    ap (fault (context d)) e ∙ ap (λ (f : List ℕ → Option ℕ). f (get_or lines i [])) (same_context _ _ _ _ _ _ h.begun h.acted h.setup)
+
+pub clean-more : (lines : List (List ℕ)) (i : ℕ) → AreClean lines i → fault_at lines i ≡ None → AreClean lines (i + 1)
+clean-more lines i h e = λ k lt. elim (eqb_tells k i) [
+  | inl w ↦ ap (fault_at lines) w.1 ∙ e
+  | inr w ↦ let ne = w.1 in let lower : k < i = omega arith in h k lower
+]
+
+pub drafted : (lines : List (List ℕ)) (i n : ℕ) (old new : Draft) (line : List ℕ) → i < length lines → n ≡ i + 1 → line ≡ get_or lines i []
+    → IsDraftOf lines i old → fault (context old) line ≡ None → IsNext old n line new → IsDraftOf lines (i + 1) new
+drafted lines i n old new line lt num e h f t =
+    let grown : take (i + 1) lines ≡ take i lines ++ line ∷ [] = take_more lines i [] lt ∙ ap (λ (l : List ℕ). take i lines ++ l ∷ []) (sym e) in
+    let len : length (take i lines) ≡ i = length-take-le i lines (omega arith) in
+    let at : n ≡ 1 + length (take i lines) = omega arith in
+    record {
+      clean = clean-more lines i h.clean (sym (same_fault lines i old line h e) ∙ f);
+      begun = t.begun ∙ ap (λ (b : Bool). b || has_words line) h.begun ∙ sym (any-more has_words (take i lines) line) ∙ ap (list_any has_words) (sym grown);
+      acted = t.acted ∙ ap (λ (b : Bool). b || is_action (said line)) h.acted ∙ sym (any-more (λ l. is_action (said l)) (take i lines) line)
+          ∙ ap (list_any (λ l. is_action (said l))) (sym grown);
+      setup = t.setup ∙ ap (λ (s : Setup). set_up s (setting_of (said line))) h.setup
+          ∙ sym (set_up-append no_setup (flat_map (λ l. setting_of (said l)) (take i lines)) (setting_of (said line)))
+          ∙ ap (set_up no_setup) (sym (flat-more (λ l. setting_of (said l)) (take i lines) line))
+          ∙ ap (λ (ls : List (List ℕ)). set_up no_setup (flat_map (λ l. setting_of (said l)) ls)) (sym grown);
+      lines = t.lines ∙ ap (λ (ls : List Line). ls ++ action_of n (said line)) h.lines ∙ ap (λ (m : ℕ). actions_from 1 (take i lines) ++ action_of m (said line)) at
+          ∙ sym (actions-more 1 (take i lines) line) ∙ ap (actions_from 1) (sym grown);
+    }
+
+pub get-map_at : {A : Type 0} (f : A → List ℕ) (xs : List A) (i : ℕ) (d : A) → i < length xs → f (get_or xs i d) ≡ get_or (map f xs) i []
+get-map_at f [] i d lt = absurd (omega arith)
+get-map_at f (y ∷ ys) zero d lt = refl
+get-map_at f (y ∷ ys) (suc i) d lt = get-map_at f ys i d (omega arith)
+
+pub list_any-map : {A B : Type 0} (p : B → Bool) (f : A → B) (xs : List A) → list_any p (map f xs) ≡ list_any (λ x. p (f x)) xs
+list_any-map p f [] = refl
+list_any-map p f (x ∷ xs) = ap (λ (b : Bool). p (f x) || b) (list_any-map p f xs)
+
+-- the draft of all lines is the script
+pub script_of-draft : (text : List (List ℕ)) (i : ℕ) (d : Draft) → i ≡ length text → list_any has_words text ≡ true → IsDraftOf text i d
+    → IsScript text (record { setup = d.config; lines = d.lines.items })
+script_of-draft text i d e begun h =
+    let whole : take i text ≡ text = take_all i text (omega arith) in
+    record {
+      clean = subst (AreClean text) e h.clean;
+      begun = begun;
+      setup = h.setup ∙ ap (λ (ls : List (List ℕ)). set_up no_setup (flat_map (λ line. setting_of (said line)) ls)) whole;
+      lines = h.lines ∙ ap (actions_from 1) whole;
+    }
+
+-- what is bad in lines some of which have words
+pub bad_at : (bad : ScriptBad) (text : List (List ℕ)) → list_any has_words text ≡ true → BadIn bad text → BadAt bad text
+bad_at NoMemory text words h = tt
+bad_at (Bad line rule) text words h = inl (words, h)
+
+pub err_of : {A B : Type 0} (r : Result A B) (x : B) (P : B → Type 0) → IsErrAnd r (λ e. e ≡ x) → P x → IfErr r P
+err_of (Ok a) x P h p = tt
+err_of (Err e) x P h p = subst P (sym h) p

@@ -1,0 +1,4 @@
+pub mod Parting
+pub mod Digits
+pub mod Drafting
+pub mod Rows

@@ -1,0 +1,65 @@
+-- The first piece of a text, by the place of the first separator.
+use Rattle.std.proofs.Common.{◌≡◌, ℕ, ◌<◌, Bool, List, [], ◌∷◌, ◌++◌, length, take, drop, get_or, map, ap, ◌∙◌, refl, sym, suc, zero, arith, inl, inr, append-nil, ◌≤◌, ◌-◌}
+use Rattle.std.proofs.lemmas.List.{take_all}
+use Rattle.std.specs.Prelude.{if◌then◌else◌}
+use Rattle.std.proofs.lemmas.Bool.{eq-eqb}
+use Rattle.std.proofs.lemmas.Bool.Decides.{eqb_tells}
+use Rattle.script.specs.Pieces.{pieces, onto_first}
+
+pub pieces_at : (sep x : ℕ) (xs : List ℕ) → x ≡ sep → pieces sep (x ∷ xs) ≡ [] ∷ pieces sep xs
+pieces_at sep x xs e = ap (λ (b : Bool). if b then ([] ∷ pieces sep xs) else onto_first x (pieces sep xs)) (eq-eqb x sep e)
+
+pub pieces_past : (sep x : ℕ) (xs : List ℕ) → (x ≡ sep → ⊥) → pieces sep (x ∷ xs) ≡ onto_first x (pieces sep xs)
+pieces_past sep x xs ne = elim (eqb_tells x sep) [
+  | inl h ↦ absurd (ne h.1)
+  | inr h ↦ ap (λ (b : Bool). if b then ([] ∷ pieces sep xs) else onto_first x (pieces sep xs)) h.0
+]
+
+pub cut : (sep : ℕ) (xs : List ℕ) (k s : ℕ) (after : List ℕ) → ((j : ℕ) → j < k → get_or xs j 0 ≡ sep → ⊥)
+    → (k < length xs → get_or xs k 0 ≡ sep) → drop k xs ≡ s ∷ after → pieces sep xs ≡ take k xs ∷ pieces sep after
+cut sep [] zero s after b f e = absurd (cc)
+cut sep [] (suc k) s after b f e = absurd (cc)
+cut sep (x ∷ xs) zero s after b f e =
+    let tail : xs ≡ after = cc in
+    let within : 0 < length (x ∷ xs) = omega arith in
+    pieces_at sep x xs (f within) ∙ ap (λ (ys : List ℕ). [] ∷ pieces sep ys) tail
+cut sep (x ∷ xs) (suc k) s after b f e =
+    let first : 0 < suc k = omega arith in
+    let rest = cut sep xs k s after (λ j lt. let more : suc j < suc k = omega arith in b (suc j) more) (λ lt. let more : suc k < suc (length xs) = omega arith in f more) e in
+    pieces_past sep x xs (b 0 first) ∙ ap (onto_first x) rest
+
+pub whole : (sep : ℕ) (xs : List ℕ) (k : ℕ) → ((j : ℕ) → j < k → get_or xs j 0 ≡ sep → ⊥) → drop k xs ≡ [] → pieces sep xs ≡ take k xs ∷ []
+whole sep [] zero b e = refl
+whole sep [] (suc k) b e = refl
+whole sep (x ∷ xs) zero b e = absurd (cc)
+whole sep (x ∷ xs) (suc k) b e =
+    let first : 0 < suc k = omega arith in
+    let rest = whole sep xs k (λ j lt. let more : suc j < suc k = omega arith in b (suc j) more) e in
+    pieces_past sep x xs (b 0 first) ∙ ap (onto_first x) rest
+
+pub pushed : {A : Type 0} (f : A → List ℕ) (xs : List A) (x : A) (qs : List (List ℕ)) → map f (xs ++ x ∷ []) ++ qs ≡ map f xs ++ (f x ∷ qs)
+pushed f [] x qs = refl
+pushed f (y ∷ ys) x qs = ap (λ (t : List (List ℕ)). f y ∷ t) (pushed f ys x qs)
+
+pub ended : {A : Type 0} (f : A → List ℕ) (items new : List A) (x : A) (sep k : ℕ) (rest bytes : List ℕ) → new ≡ items ++ x ∷ [] → f x ≡ take k rest
+    → map f items ++ pieces sep rest ≡ pieces sep bytes → pieces sep rest ≡ take k rest ∷ [] → map f new ≡ pieces sep bytes
+ended f items new x sep k rest bytes e g inv w =
+    ap (map f) e ∙ sym (append-nil (map f (items ++ x ∷ []))) ∙ pushed f items x [] ∙ ap (λ (t : List ℕ). map f items ++ (t ∷ [])) g
+    ∙ ap (λ (t : List (List ℕ)). map f items ++ t) (sym w) ∙ inv
+
+pub parted : {A : Type 0} (f : A → List ℕ) (items new : List A) (x : A) (sep k : ℕ) (rest after bytes : List ℕ) → new ≡ items ++ x ∷ [] → f x ≡ take k rest
+    → map f items ++ pieces sep rest ≡ pieces sep bytes → pieces sep rest ≡ take k rest ∷ pieces sep after → map f new ++ pieces sep after ≡ pieces sep bytes
+parted f items new x sep k rest after bytes e g inv w =
+    ap (λ (t : List _). map f t ++ pieces sep after) e ∙ pushed f items x (pieces sep after) ∙ ap (λ (t : List ℕ). map f items ++ (t ∷ pieces sep after)) g
+    ∙ ap (λ (t : List (List ℕ)). map f items ++ t) (sym w) ∙ inv
+
+-- what stands behind the separator
+pub behind : (others : List ℕ) → 1 ≤ length others → others ≡ get_or others 0 0 ∷ take (length others - 1) (drop 1 others)
+behind [] h = absurd (omega arith)
+behind (x ∷ xs) h =
+    let n : suc (length xs) - 1 ≡ length xs = omega arith in
+    ap (λ (ys : List ℕ). x ∷ ys) (sym (take_all (length xs) xs (omega arith)) ∙ ap (λ (m : ℕ). take m xs) (sym n))
+
+pub nothing : (others : List ℕ) → length others < 1 → others ≡ []
+nothing [] h = refl
+nothing (x ∷ xs) h = absurd (omega arith)

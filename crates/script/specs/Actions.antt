@@ -1,0 +1,83 @@
+-- The rows of the lines that drive a machine (own).
+use Rattle.std.specs.Prelude.{ℕ, ◌==◌, List, [], ◌∷◌, Option, Some, None, Result, Ok, Err, codes, if◌then◌else◌}
+use Rattle.std.specs.Str.{bytes_eq}
+use Rattle.chan_model.specs.declared.event.Instruction.{Instruction}
+use Rattle.chan_model.specs.declared.event.Instruction.TheVariants.{Ssch, Tsch, Enable}
+use Rattle.chan_model.specs.declared.event.Event.TheVariants as event
+use Rattle.script.specs.declared.Action.{Action}
+use Rattle.script.specs.declared.Action.TheVariants as action
+use Rattle.script.specs.Words.{and_then, number, number_up_to, hex_bytes, subchannel, with_one, with_two, with_three}
+
+-- `enable SUBCHANNEL SUBCLASS MULTIPATH`
+abbrev pub enable_row : List (List ℕ) → Result Instruction ℕ
+enable_row = with_three (λ s c d. and_then (subchannel s) (λ s. and_then (number_up_to 7 c) (λ c. and_then (number_up_to 1 d) (λ d. Some (Enable s c (d == 1))))))
+
+-- `ssch SUBCHANNEL ADDRESS`
+abbrev pub ssch_row : List (List ℕ) → Result Instruction ℕ
+ssch_row = with_two (λ s a. and_then (subchannel s) (λ s. and_then (number a) (λ a. Some (Ssch s a))))
+
+-- `tsch SUBCHANNEL ADDRESS`
+abbrev pub tsch_row : List (List ℕ) → Result Instruction ℕ
+tsch_row = with_two (λ s a. and_then (subchannel s) (λ s. and_then (number a) (λ a. Some (Tsch s a))))
+
+-- the table of the instructions
+abbrev pub instruction_row : List ℕ → List (List ℕ) → Option (Result Instruction ℕ)
+instruction_row w ws = if bytes_eq w (codes "enable") then Some (enable_row ws)
+    else (if bytes_eq w (codes "ssch") then Some (ssch_row ws)
+    else (if bytes_eq w (codes "tsch") then Some (tsch_row ws)
+    else None))
+
+-- a CPU executes what the words say; rule 3 where there is no such CPU
+abbrev pub on_cpu : Option ℕ → Result Instruction ℕ → Result Action ℕ
+on_cpu cpu (Err rule) = Err rule
+on_cpu None (Ok instruction) = Err 3
+on_cpu (Some cpu) (Ok instruction) = Ok (action.Event (event.Execute cpu instruction))
+
+-- rule 1: no instruction is named
+abbrev pub on_cpu_or_rule_1 : Option ℕ → Option (Result Instruction ℕ) → Result Action ℕ
+on_cpu_or_rule_1 cpu None = Err 1
+on_cpu_or_rule_1 cpu (Some said) = on_cpu cpu said
+
+-- `cpu NUMBER INSTRUCTION ..`
+abbrev pub cpu_row : List (List ℕ) → Result Action ℕ
+cpu_row [] = Err 1
+cpu_row (n ∷ []) = Err 1
+cpu_row (n ∷ w ∷ ws) = on_cpu_or_rule_1 (number_up_to 0xF n) (instruction_row w ws)
+
+-- `put ADDRESS BYTES`
+abbrev pub put_row : List (List ℕ) → Result Action ℕ
+put_row = with_two (λ a h. and_then (number a) (λ a. and_then (hex_bytes h) (λ bs. Some (action.Event (event.Put a bs)))))
+
+-- `choose SUBCHANNEL`
+abbrev pub choose_row : List (List ℕ) → Result Action ℕ
+choose_row = with_one (λ s. and_then (subchannel s) (λ s. Some (action.Event (event.Choose s))))
+
+-- `up SUBCHANNEL PATH`
+abbrev pub up_row : List (List ℕ) → Result Action ℕ
+up_row = with_two (λ s p. and_then (subchannel s) (λ s. and_then (number p) (λ p. Some (action.Event (event.Up s p)))))
+
+-- `down SUBCHANNEL PATH`
+abbrev pub down_row : List (List ℕ) → Result Action ℕ
+down_row = with_two (λ s p. and_then (subchannel s) (λ s. and_then (number p) (λ p. Some (action.Event (event.Down s p)))))
+
+-- `dev UNIT`
+abbrev pub dev_row : List (List ℕ) → Result Action ℕ
+dev_row = with_one (λ u. and_then (number u) (λ u. Some (action.Dev u)))
+
+-- the table of the other lines
+abbrev pub event_row : List ℕ → List (List ℕ) → Option (Result Action ℕ)
+event_row w ws = if bytes_eq w (codes "cpu") then Some (cpu_row ws)
+    else (if bytes_eq w (codes "put") then Some (put_row ws)
+    else (if bytes_eq w (codes "choose") then Some (choose_row ws)
+    else (if bytes_eq w (codes "up") then Some (up_row ws)
+    else (if bytes_eq w (codes "down") then Some (down_row ws)
+    else (if bytes_eq w (codes "dev") then Some (dev_row ws)
+    else None)))))
+
+abbrev pub on_first_cpu : Option (Result Instruction ℕ) → Option (Result Action ℕ) → Option (Result Action ℕ)
+on_first_cpu (Some said) other = Some (on_cpu (Some 0) said)
+on_first_cpu None other = other
+
+-- an instruction without `cpu` is of CPU 0
+abbrev pub action_row : List ℕ → List (List ℕ) → Option (Result Action ℕ)
+action_row w ws = on_first_cpu (instruction_row w ws) (event_row w ws)

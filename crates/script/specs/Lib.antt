@@ -1,0 +1,9 @@
+pub mod Pieces
+pub mod Words
+pub mod Settings
+pub mod Actions
+pub mod Saying
+pub mod Scripts
+pub mod Reading
+pub mod Drafts
+pub mod Text

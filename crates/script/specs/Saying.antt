@@ -1,0 +1,41 @@
+-- What one line says, by itself (own).
+use Rattle.std.specs.Prelude.{ℕ, ◌==◌, Bool, false, not, ◌||◌, nat_lt, List, [], ◌∷◌, length, Option, Some, None, Result, Ok, Err, codes, if◌then◌else◌}
+use Rattle.std.specs.Str.{is_utf8, bytes_eq}
+use Rattle.script.specs.declared.settings.Setting.{Setting}
+use Rattle.script.specs.declared.Action.{Action}
+use Rattle.script.specs.declared.said.Said.{Said}
+use Rattle.script.specs.declared.said.Said.TheVariants.{Nothing, Sets, Does}
+use Rattle.script.specs.Pieces.{words_of}
+use Rattle.script.specs.Settings.{setting_row}
+use Rattle.script.specs.Actions.{action_row}
+
+-- rule 1: the first word is unknown
+abbrev pub action_said : Option (Result Action ℕ) → Result Said ℕ
+action_said None = Err 1
+action_said (Some (Ok action)) = Ok (Does action)
+action_said (Some (Err rule)) = Err rule
+
+abbrev pub setting_said : Option (Result Setting ℕ) → Result Said ℕ → Result Said ℕ
+setting_said None other = other
+setting_said (Some (Ok setting)) other = Ok (Sets setting)
+setting_said (Some (Err rule)) other = Err rule
+
+abbrev pub words_say : List (List ℕ) → Result Said ℕ
+words_say [] = Err 1
+words_say (w ∷ ws) = setting_said (setting_row w ws) (action_said (action_row w ws))
+
+-- a line that is neither empty nor a comment
+abbrev pub has_words : List ℕ → Bool
+has_words [] = false
+has_words (b ∷ bs) = not (b == 35)
+
+-- what a line says, or the first of the rules 1 to 3 that it breaks; rule 3 is broken by a line of more than 1,024
+-- bytes, or not of UTF-8, too
+abbrev pub said : List ℕ → Result Said ℕ
+said line = if nat_lt 1024 (length line) || not (is_utf8 line) then Err 3
+    else (if has_words line then words_say (words_of line) else Ok Nothing)
+
+-- the first word is `storage`
+abbrev pub first_is_storage : List (List ℕ) → Bool
+first_is_storage [] = false
+first_is_storage (w ∷ ws) = bytes_eq w (codes "storage")

@@ -1,0 +1,110 @@
+-- What a script is, and where it is bad (own).
+use Rattle.std.specs.Prelude.{◌≡◌, ℕ, ◌+◌, ◌<◌, Bool, true, false, not, ◌&&◌, List, [], ◌∷◌, ◌++◌, length, take, slice_index_or, Option, Some, None, Result, Ok, Err, ◌⊎◌, if◌then◌else◌}
+use Rattle.std.specs.List.{list_any, flat_map}
+use Rattle.channel_config.specs.Setup.{Setup, no_setup}
+use Rattle.script.specs.declared.settings.Setting.{Setting}
+use Rattle.script.specs.declared.said.Said.{Said}
+use Rattle.script.specs.declared.said.Said.TheVariants.{Nothing, Sets, Does}
+use Rattle.script.specs.declared.Line.{Line}
+use Rattle.script.specs.Pieces.{words_of}
+use Rattle.script.specs.Settings.{configured}
+use Rattle.script.specs.Saying.{has_words, said, first_is_storage}
+
+-- the settings of a line, none or one
+abbrev pub setting_of : Result Said ℕ → List Setting
+setting_of (Ok Nothing) = []
+setting_of (Ok (Sets setting)) = setting ∷ []
+setting_of (Ok (Does action)) = []
+setting_of (Err rule) = []
+
+-- the actions of a line, none or one, under its number
+abbrev pub action_of : ℕ → Result Said ℕ → List Line
+action_of n (Ok Nothing) = []
+action_of n (Ok (Sets setting)) = []
+action_of n (Ok (Does action)) = record { number = n; action = action } ∷ []
+action_of n (Err rule) = []
+
+abbrev pub is_action : Result Said ℕ → Bool
+is_action (Ok Nothing) = false
+is_action (Ok (Sets setting)) = false
+is_action (Ok (Does action)) = true
+is_action (Err rule) = false
+
+-- the set-up as these settings make it one by one
+abbrev pub kept : Setup → Result Setup ℕ → Setup
+kept old (Ok new) = new
+kept old (Err rule) = old
+
+abbrev pub set_up : Setup → List Setting → Setup
+set_up s [] = s
+set_up s (x ∷ xs) = set_up (kept s (configured s x)) xs
+
+-- the actions of the lines, the first of which has the number n
+abbrev pub actions_from : ℕ → List (List ℕ) → List Line
+actions_from n [] = []
+actions_from n (line ∷ lines) = action_of n (said line) ++ actions_from (n + 1) lines
+
+-- what the lines before a line decide about it: whether some had words, whether some drove the machine, and the set-up
+pub record Context : Type 0 where
+  pub begun : Bool
+  pub acted : Bool
+  pub setup : Setup
+
+abbrev pub context_of : List (List ℕ) → Context
+context_of before = record {
+  begun = list_any has_words before;
+  acted = list_any (λ line. is_action (said line)) before;
+  setup = set_up no_setup (flat_map (λ line. setting_of (said line)) before);
+}
+
+-- 4: a configuration line after an action; 5: a rule of configurations is broken
+abbrev pub refused_setting : Result Setup ℕ → Option ℕ
+refused_setting (Ok s) = None
+refused_setting (Err rule) = Some 5
+
+abbrev pub broken_by : Context → Result Said ℕ → Option ℕ
+broken_by c (Err rule) = Some rule
+broken_by c (Ok Nothing) = None
+broken_by c (Ok (Sets setting)) = if c.acted then Some 4 else refused_setting (configured c.setup setting)
+broken_by c (Ok (Does action)) = None
+
+-- the first rule, in the order 6, 1 to 5, that a line breaks after these lines; 6: the first line with words is no `storage` line
+abbrev pub fault : Context → List ℕ → Option ℕ
+fault c line = if has_words line && (not c.begun && not (first_is_storage (words_of line))) then Some 6 else broken_by c (said line)
+
+-- the same of the line with n lines before it
+abbrev pub fault_at : List (List ℕ) → ℕ → Option ℕ
+fault_at lines n = fault (context_of (take n lines)) (slice_index_or lines n [])
+
+-- the first n lines break no rule
+abbrev pub AreClean : List (List ℕ) → ℕ → Type 0
+AreClean lines n = (k : ℕ) → k < n → fault_at lines k ≡ None
+
+-- a script as it is read
+pub record Contents : Type 0 where
+  pub setup : Setup
+  pub lines : List Line
+
+-- the script that lines are
+pub record IsScript (text : List (List ℕ)) (s : Contents) : Type 0 where
+  -- no line breaks a rule
+  pub clean : AreClean text (length text)
+  -- some line has words, so `storage` comes first
+  pub begun : list_any has_words text ≡ true
+  -- the settings in order make the set-up, and the actions stand in order under the numbers of their lines
+  pub setup : s.setup ≡ set_up no_setup (flat_map (λ line. setting_of (said line)) text)
+  pub lines : s.lines ≡ actions_from 1 text
+
+-- the line (from 1) is the first that breaks a rule, and the rule the first that it breaks
+pub record IsFirstBad (text : List (List ℕ)) (line rule : ℕ) : Type 0 where
+  pub before : ℕ
+  pub number : line ≡ before + 1
+  pub within : before < length text
+  pub clean : AreClean text before
+  pub broken : fault_at text before ≡ Some rule
+
+-- where no line has words, line 1 breaks rule 6
+abbrev pub IsBad : List (List ℕ) → ℕ → ℕ → Type 0
+IsBad text line rule =
+    ((list_any has_words text ≡ true) × IsFirstBad text line rule)
+    ⊎ ((list_any has_words text ≡ false) × (line ≡ 1) × (rule ≡ 6))

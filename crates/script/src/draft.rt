@@ -1,0 +1,101 @@
+//! Reading a script line by line.
+
+ghost use Rattle.std.specs.Prelude.{◌≡◌, OnOk, IfErr, IfOk, None, Ok, length, map};
+ghost use Rattle.script.specs.Pieces.{words_of};
+ghost use Rattle.script.specs.Saying.{first_is_storage};
+ghost use Rattle.script.specs.Scripts as spec;
+ghost use Rattle.script.specs.Drafts.{context, Hears, IsNext, IsDraftOf};
+ghost use Rattle.script.specs.Reading.{BreaksRule, BadIn};
+
+use crate::pieces::pieces;
+use crate::said::{Said, has_words, say};
+use crate::settings::configure;
+use crate::words::LineFault;
+use crate::{Line, ScriptBad};
+use channel_config::config::{Config, ConfigFault};
+use std::alloc::Global;
+
+/// What the lines so far have made.
+#[derive(Drop)]
+pub struct Draft {
+    pub config: Config,
+    pub begun: bool,
+    pub acted: bool,
+    pub lines: Vec<Line>,
+}
+
+/// Whether the line's first word is `storage`.
+fn begins(alloc: Global, line: &[u8]) -> Result<bool, LineFault>
+    ensures ok { IfOk result (λ b. b ≡ first_is_storage (words_of line.now)) }
+    ensures err { IfErr result (λ f. f ≡ LineFault.NoMemory) }
+{
+    let Ok(words) = pieces(alloc, line, b' ') else {
+        return Err(LineFault::NoMemory);
+    };
+    match words.as_slice() {
+        [] => Ok(false),
+        [first, ..] => Ok(*first == b"storage".as_slice()),
+    }
+}
+
+/// Takes what a line says.
+fn hear(draft: &mut Draft, number: u64, said: Said) -> Result<(), LineFault>
+    ensures ok { OnOk result ((spec.broken_by (context draft.old) (Ok said) ≡ None) × Hears draft.old number (Ok said) draft.new) }
+    ensures err { IfErr result (λ f. BreaksRule f (spec.broken_by (context draft.old) (Ok said))) }
+{
+    match said {
+        Said::Nothing => Ok(()),
+        Said::Sets(setting) => {
+            if draft.acted {
+                return Err(LineFault::Rule(4));
+            }
+            match configure(&mut draft.config, &setting) {
+                Ok(()) => Ok(()),
+                Err(ConfigFault::NoMemory) => Err(LineFault::NoMemory),
+                Err(ConfigFault::Rule(_)) => Err(LineFault::Rule(5)),
+            }
+        }
+        Said::Does(action) => {
+            draft.lines.push(Line { number, action })?;
+            draft.acted = true;
+            Ok(())
+        }
+    }
+}
+
+/// Takes one line.
+fn take_line(alloc: Global, draft: &mut Draft, number: u64, line: &[u8]) -> Result<(), LineFault>
+    ensures ok { OnOk result ((spec.fault (context draft.old) line.now ≡ None) × IsNext draft.old number line.now draft.new) }
+    ensures err { IfErr result (λ f. BreaksRule f (spec.fault (context draft.old) line.now)) }
+{
+    let worded = has_words(line);
+    if worded && !draft.begun && !begins(alloc, line)? {
+        return Err(LineFault::Rule(6));
+    }
+    let said = say(alloc, line)?;
+    hear(draft, number, said)?;
+    draft.begun = draft.begun | worded;
+    Ok(())
+}
+
+/// Takes all lines, or answers the first bad one.
+pub fn draft_of(alloc: Global, lines: &[&[u8]]) -> Result<Draft, ScriptBad>
+    ensures good { IfOk result (λ d. IsDraftOf (map (λ l. l.now) lines.now) (length lines.now) d) }
+    ensures bad { IfErr result (λ b. BadIn b (map (λ l. l.now) lines.now)) }
+{
+    let mut draft = Draft {
+        config: Config::new(alloc),
+        begun: false,
+        acted: false,
+        lines: Vec::new(alloc),
+    };
+    for (i, line) in lines.iter().enumerate() {
+        let number = i as u64 + 1;
+        match take_line(alloc, &mut draft, number, line) {
+            Ok(()) => {}
+            Err(LineFault::NoMemory) => return Err(ScriptBad::NoMemory),
+            Err(LineFault::Rule(rule)) => return Err(ScriptBad::Bad { line: number, rule }),
+        }
+    }
+    Ok(draft)
+}

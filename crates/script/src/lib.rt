@@ -1,0 +1,128 @@
+//! Scripts: lines that configure a machine and drive it, and the texts that are printed.
+#![tactic(auto)]
+
+ghost use Rattle.std.specs.Prelude.{◌≡◌, IfOk, IfErr, map};
+ghost use Rattle.std.specs.List.{list_any};
+ghost use Rattle.script.specs.Saying.{has_words as words_stand};
+ghost use Rattle.script.specs.Pieces.{lines_of};
+ghost use Rattle.script.specs.Scripts.{IsScript};
+ghost use Rattle.script.specs.Reading.{BadAt};
+
+mod actions;
+mod draft;
+mod pieces;
+mod said;
+mod settings;
+#[cfg(test)]
+mod tests;
+pub mod text;
+mod words;
+
+use crate::draft::draft_of;
+use crate::pieces::pieces;
+use crate::said::has_words;
+use chan_model::event::Event;
+use channel_config::config::Config;
+use std::alloc::Global;
+use std::marker::Model;
+
+/// What a line asks the machine for.
+#[derive(Drop)]
+pub enum Action {
+    /// An event.
+    Event(Event),
+    /// The next turn of the device of the unit of this number.
+    Dev(u32),
+}
+
+/// One action, and the number of its line, from 1.
+#[derive(Drop)]
+pub struct Line {
+    pub number: u64,
+    pub action: Action,
+}
+
+/// Why there is no script.
+#[derive(Clone, Copy, Debug, PartialEq, Eq)]
+pub enum ScriptBad {
+    /// A growth was refused.
+    NoMemory,
+    /// This line, from 1, breaks this rule.
+    Bad { line: u64, rule: u8 },
+}
+
+/// A script: the configuration of a machine, and what is asked of it line by line.
+#[derive(Drop)]
+pub struct Script {
+    config: Config,
+    lines: Vec<Line>,
+}
+
+impl Model for Script {
+    ghost use Rattle.script.specs.Scripts.{Contents};
+
+    ghost Value = { Contents };
+
+    ghost view = { λ s. record { setup = s.config; lines = s.lines.items } };
+}
+
+impl Script {
+    /// The script that a text is, else the first line that breaks a rule and the first rule that it breaks.
+    ///
+    /// Rule 1: the first word is unknown. 2: a wrong number of words. 3: a bad number or other word, or a line of more than
+    /// 1,024 bytes or not of UTF-8. 4: a configuration line after an action. 5: a rule of configurations is broken. 6, before
+    /// all others of its line: the first line with words is no `storage` line; line 1 where no line has words.
+    pub fn read(alloc: Global, text: &[u8]) -> Result<Script, ScriptBad>
+        ensures good { IfOk result (λ s. IsScript (lines_of text.now) s) }
+        ensures bad { IfErr result (λ b. BadAt b (lines_of text.now)) }
+    {
+        let Ok(lines) = pieces(alloc, text, b'\n') else {
+            return Err(ScriptBad::NoMemory);
+        };
+        script_of(alloc, lines.as_slice())
+    }
+
+    /// The configuration.
+    pub fn config(&self) -> &Config
+        ensures { result.now ≡ self.now.setup }
+    {
+        &self.config
+    }
+
+    /// The actions in order, under the numbers of their lines.
+    pub fn lines(&self) -> &[Line]
+        ensures { result.now ≡ self.now.lines }
+    {
+        self.lines.as_slice()
+    }
+
+    /// The configuration and the actions apart.
+    pub fn into_parts(self) -> (Config, Vec<Line>)
+        ensures config { result.0 ≡ self.setup }
+        ensures lines { result.1.items ≡ self.lines }
+    {
+        (self.config, self.lines)
+    }
+}
+
+/// The script that these lines are.
+fn script_of(alloc: Global, lines: &[&[u8]]) -> Result<Script, ScriptBad>
+    ensures good { IfOk result (λ s. IsScript (map (λ l. l.now) lines.now) s) }
+    ensures bad { IfErr result (λ b. BadAt b (map (λ l. l.now) lines.now)) }
+{
+    if !some_have_words(lines) {
+        return Err(ScriptBad::Bad { line: 1, rule: 6 });
+    }
+    let draft = draft_of(alloc, lines)?;
+    Ok(Script {
+        config: draft.config,
+        lines: draft.lines,
+    })
+}
+
+/// Whether some line has words.
+fn some_have_words(lines: &[&[u8]]) -> bool
+    ensures { result ≡ list_any (λ l. words_stand l.now) lines.now }
+{
+    lines.iter().any(|line| has_words(line))
+}

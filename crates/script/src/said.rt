@@ -1,0 +1,78 @@
+//! What one line says.
+
+ghost use Rattle.std.specs.Prelude.{◌≡◌, map, MatchResult, Ok};
+ghost use Rattle.std.specs.Str.{is_utf8};
+ghost use Rattle.script.specs.Saying as spec;
+ghost use Rattle.script.specs.Reading.{FaultOf};
+
+use crate::Action;
+use crate::actions::action_row;
+use crate::pieces::pieces;
+use crate::settings::{Setting, setting_row};
+use crate::words::LineFault;
+use std::alloc::Global;
+use std::str::from_utf8;
+
+/// The most bytes that a line has, without its line feed.
+const LINE_BYTES: usize = 1024;
+
+/// What one line says.
+#[derive(Drop)]
+pub enum Said {
+    Nothing,
+    Sets(Setting),
+    Does(Action),
+}
+
+/// What the words of a line say: by the first of them.
+fn words_say(alloc: Global, words: &[&[u8]]) -> Result<Said, LineFault>
+    ensures { MatchResult result (λ s. spec.words_say (map (λ w. w.now) words.now) ≡ Ok s) (λ f. FaultOf f (spec.words_say (map (λ w. w.now) words.now))) }
+{
+    let [first, others @ ..] = words else {
+        return Err(LineFault::Rule(1));
+    };
+    match setting_row(alloc, first, others) {
+        Some(Ok(setting)) => Ok(Said::Sets(setting)),
+        Some(Err(fault)) => Err(fault),
+        None => match action_row(first, others) {
+            Some(Ok(action)) => Ok(Said::Does(action)),
+            Some(Err(rule)) => Err(LineFault::Rule(rule)),
+            None => Err(LineFault::Rule(1)),
+        },
+    }
+}
+
+/// Neither empty nor a comment.
+pub fn has_words(line: &[u8]) -> bool
+    ensures { result ≡ spec.has_words line.now }
+{
+    match line {
+        [] => false,
+        [first, ..] => *first != b'#',
+    }
+}
+
+fn is_text(line: &[u8]) -> bool
+    ensures { result ≡ is_utf8 line.now }
+{
+    match from_utf8(line) {
+        Ok(_) => true,
+        Err(_) => false,
+    }
+}
+
+/// What a line says, or the first of the rules 1 to 3 that it breaks.
+pub fn say(alloc: Global, line: &[u8]) -> Result<Said, LineFault>
+    ensures { MatchResult result (λ s. spec.said line.now ≡ Ok s) (λ f. FaultOf f (spec.said line.now)) }
+{
+    if line.len() > LINE_BYTES || !is_text(line) {
+        return Err(LineFault::Rule(3));
+    }
+    if !has_words(line) {
+        return Ok(Said::Nothing);
+    }
+    let Ok(words) = pieces(alloc, line, b' ') else {
+        return Err(LineFault::NoMemory);
+    };
+    words_say(alloc, words.as_slice())
+}

@@ -1,0 +1,154 @@
+//! The lines that configure a machine.
+
+ghost use Rattle.std.specs.Prelude.{◌≡◌, map, MatchOption, MatchResult, Some, None, Ok, Err};
+ghost use Rattle.script.specs.Settings as spec;
+ghost use Rattle.script.specs.Reading.{FaultOf, Says};
+ghost use Rattle.channel_config.specs.Refusing.{Configures};
+
+use crate::words::{LineFault, Numbers, number, numbers_of, one, subchannel, two};
+use channel_config::config::{Config, ConfigFault};
+use channel_config::parts::UnitKind;
+use std::alloc::Global;
+
+/// What a line says of the configuration.
+#[derive(Drop)]
+pub enum Setting {
+    Storage {
+        blocks: u32,
+    },
+    Sets {
+        count: u32,
+    },
+    Path {
+        chpid: u32,
+    },
+    Unit {
+        number: u32,
+        kind: UnitKind,
+    },
+    Subchannel {
+        word: u32,
+        device: u32,
+        unit: u32,
+        paths: Numbers,
+    },
+}
+
+fn kind_named(word: &[u8]) -> Option<UnitKind>
+    ensures { result ≡ spec.kind_named word.now }
+{
+    if word == b"block".as_slice() {
+        Some(UnitKind::Block)
+    } else {
+        None
+    }
+}
+
+fn storage_row(words: &[&[u8]]) -> Result<Setting, u8>
+    ensures { result ≡ spec.storage_row (map (λ w. w.now) words.now) }
+{
+    let blocks = one(words).ok_or(2)?;
+    let blocks = number(blocks).ok_or(3)?;
+    Ok(Setting::Storage { blocks })
+}
+
+fn sets_row(words: &[&[u8]]) -> Result<Setting, u8>
+    ensures { result ≡ spec.sets_row (map (λ w. w.now) words.now) }
+{
+    let count = one(words).ok_or(2)?;
+    let count = number(count).ok_or(3)?;
+    Ok(Setting::Sets { count })
+}
+
+fn path_row(words: &[&[u8]]) -> Result<Setting, u8>
+    ensures { result ≡ spec.path_row (map (λ w. w.now) words.now) }
+{
+    let chpid = one(words).ok_or(2)?;
+    let chpid = number(chpid).ok_or(3)?;
+    Ok(Setting::Path { chpid })
+}
+
+fn unit_row(words: &[&[u8]]) -> Result<Setting, u8>
+    ensures { result ≡ spec.unit_row (map (λ w. w.now) words.now) }
+{
+    let (unit, kind) = two(words).ok_or(2)?;
+    let unit = number(unit).ok_or(3)?;
+    let kind = kind_named(kind).ok_or(3)?;
+    Ok(Setting::Unit { number: unit, kind })
+}
+
+fn sub_row(alloc: Global, words: &[&[u8]]) -> Result<Setting, LineFault>
+    ensures { MatchResult result (λ s. spec.sub_row (map (λ w. w.now) words.now) ≡ Ok s) (λ f. FaultOf f (spec.sub_row (map (λ w. w.now) words.now))) }
+{
+    match words {
+        [] => Err(LineFault::Rule(2)),
+        [_] => Err(LineFault::Rule(2)),
+        [_, _] => Err(LineFault::Rule(2)),
+        [word, device, unit, paths @ ..] => {
+            let word = subchannel(word).ok_or(LineFault::Rule(3))?;
+            let device = number(device).ok_or(LineFault::Rule(3))?;
+            let unit = number(unit).ok_or(LineFault::Rule(3))?;
+            let paths = numbers_of(alloc, paths)?;
+            Ok(Setting::Subchannel {
+                word,
+                device,
+                unit,
+                paths,
+            })
+        }
+    }
+}
+
+/// The rule of a line that is not taken.
+fn ruled(said: Result<Setting, u8>) -> Result<Setting, LineFault>
+    ensures { Says result (Some said) }
+{
+    match said {
+        Ok(setting) => Ok(setting),
+        Err(rule) => Err(LineFault::Rule(rule)),
+    }
+}
+
+/// What a line's words say of the configuration, where its first word is one of a configuration line.
+pub fn setting_row(
+    alloc: Global,
+    word: &[u8],
+    words: &[&[u8]],
+) -> Option<Result<Setting, LineFault>>
+    ensures { MatchOption result (spec.setting_row word.now (map (λ w. w.now) words.now) ≡ None) (λ s. Says s (spec.setting_row word.now (map (λ w. w.now) words.now))) }
+{
+    if word == b"storage".as_slice() {
+        return Some(ruled(storage_row(words)));
+    }
+    if word == b"sets".as_slice() {
+        return Some(ruled(sets_row(words)));
+    }
+    if word == b"path".as_slice() {
+        return Some(ruled(path_row(words)));
+    }
+    if word == b"unit".as_slice() {
+        return Some(ruled(unit_row(words)));
+    }
+    if word == b"sub".as_slice() {
+        return Some(sub_row(alloc, words));
+    }
+    None
+}
+
+/// Takes a setting. A setting that is refused changes nothing.
+pub fn configure(config: &mut Config, setting: &Setting) -> Result<(), ConfigFault>
+    ensures { Configures config.old config.new result (spec.configured config.old setting.now) }
+{
+    match setting {
+        Setting::Storage { blocks } => config.storage(*blocks),
+        Setting::Sets { count } => config.sets(*count),
+        Setting::Path { chpid } => config.path(*chpid),
+        Setting::Unit { number, kind } => config.unit(*number, *kind),
+        Setting::Subchannel {
+            word,
+            device,
+            unit,
+            paths,
+        } => config.subchannel(*word, *device, *unit, paths.as_slice()),
+    }
+}

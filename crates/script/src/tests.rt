@@ -1,0 +1,434 @@
+//! Scripts that are right and wrong line by line, and the text of each reply and refusal.
+
+use crate::text::{bad_line, event_line, refusal_text, reply_text};
+use crate::{Action, Script, ScriptBad};
+use bitflags::Flags;
+use chan_model::chunk::Chunk;
+use chan_model::event::{Event, Instruction};
+use chan_model::fault::Fault;
+use chan_model::names::Path;
+use chan_model::reply::{Answer, Reply};
+use chan_model::signal::{Down, Load, Up};
+use scsw_irb::scsw::{ActivityControl, DeferredCode, FunctionControl, Scsw, StatusControl};
+use scsw_irb::serials::Serials;
+use scsw_irb::status::{DeviceStatus, SubchannelStatus};
+use std::alloc::AllocError;
+use storage_keys::StorageFault;
+
+const WRONG: [(&[u8], u64, u8); 44] = [
+    (b"", 1, 6),
+    (b"\n\n# nothing\n", 1, 6),
+    (b"\n#\xFF\n", 1, 6),
+    (b"path 10\nstorage 10\n", 1, 6),
+    (b"\n# first\n \nstorage 10", 3, 6),
+    (b"race 1 1 tsch 0\n", 1, 6),
+    (b"# first \xFF\npath 10\n", 1, 3),
+    (b"storage 10\nglance 0\n", 2, 1),
+    (b"storage 10\n\nStorage 10\n", 3, 1),
+    (b"storage 10\n path 10\n", 2, 1),
+    (b"storage 10\ncpu\n", 2, 1),
+    (b"storage 10\ncpu 1\n", 2, 1),
+    (b"storage 10\ncpu 1 up 0 0\n", 2, 1),
+    (b"storage 10\nssch 0\n", 2, 2),
+    (b"storage 10\ncpu G ssch 0\n", 2, 2),
+    (b"storage\n", 1, 2),
+    (b"storage 10\nunit 0 block \n", 2, 2),
+    (b"storage 10\nsub 0 0\n", 2, 2),
+    (b"storage 10\nenable 0 0 0 0\n", 2, 2),
+    (b"storage 10\nchoose\n", 2, 2),
+    (b"storage 10\nup 0 0 0\n", 2, 2),
+    (b"storage 123456789\n", 1, 3),
+    (b"storage 10\nput 500 C\n", 2, 3),
+    (b"storage 10\nput 500 \n", 2, 3),
+    (b"storage 10\nput 5G0 C1\n", 2, 3),
+    (b"storage 10\nenable 0 8 0\n", 2, 3),
+    (b"storage 10\nenable 0 7 2\n", 2, 3),
+    (b"storage 10\ncpu 10 tsch 0 500\n", 2, 3),
+    (b"storage 10\ncpu G tsch 0 500\n", 2, 3),
+    (b"storage 10\nunit 0 printer\n", 2, 3),
+    (b"storage 10\nunit 0 block\nsub 0 0 0 10 1x\n", 3, 3),
+    (b"storage 10\ndev 0\r\n", 2, 3),
+    (b"storage 10\nput 500 C1\npath 10\n", 3, 4),
+    (b"storage 10\nput 500 C1\nstorage 10\n", 3, 4),
+    (b"storage 10\nstorage 10\n", 2, 5),
+    (b"storage F\n", 1, 5),
+    (b"storage 10\nsets 5\n", 2, 5),
+    (b"storage 10\npath 100\n", 2, 5),
+    (b"storage 10\nunit 1 block\n", 2, 5),
+    (b"storage 10\nunit 0 block\nsub 20000 0 0 10\n", 3, 5),
+    (b"storage 10\nunit 0 block\nsub 0 0 0\n", 3, 5),
+    (b"storage 10\nunit 0 block\npath 10\nsub 0 0 1 10\n", 4, 5),
+    (b"storage 10\npath 10\npath 10\nglance 0\n", 3, 5),
+    (b"storage 10\nput 500 C1\nput 500 x", 3, 3),
+];
+
+const RIGHT: &[u8] =
+    b"# a machine\n\nstorage 10\nsets 2\npath 10\npath fF\nunit 0 block\nsub 0 0100 0 10 FF\nsub 00030000 0101 0 10\nput 500 c1C2\nenable 0 7 1\ncpu f enable 30000 0 0\nssch 0001 500\ncpu 1 ssch 00001 500\ntsch 0 600\nchoose 0\n#\nup 0 1\ndown 0 12345678\ndev 3FF";
+
+#[test]
+fn wrong_lines_are_named(rt: HostRuntime) {
+    for (text, line, rule) in WRONG {
+        match Script::read(rt.alloc(), text) {
+            Ok(_) => assert!(rt; false, "line {line} rule {rule}"),
+            Err(bad) => assert_eq!(rt; bad, ScriptBad::Bad { line, rule }),
+        }
+    }
+}
+
+#[test]
+fn a_line_is_at_most_1024_bytes(rt: HostRuntime) -> Result<(), AllocError> {
+    for (length, is_right) in [(1024, true), (1025, false)] {
+        let mut text = Vec::new(rt.alloc());
+        text.extend_from_slice(b"storage 10\n")?;
+        for _ in 0..length {
+            text.push(b'#')?;
+        }
+        text.extend_from_slice(b"\ndev 0\n")?;
+        match Script::read(rt.alloc(), text.as_slice()) {
+            Ok(script) => {
+                assert!(rt; is_right);
+                assert_eq!(rt; script.lines().len(), 1);
+            }
+            Err(bad) => {
+                assert!(rt; !is_right);
+                assert_eq!(rt; bad, ScriptBad::Bad { line: 2, rule: 3 });
+            }
+        }
+    }
+    Ok(())
+}
+
+/// What an action is: its kind, and its numbers in order.
+fn shown(action: &Action) -> (&[u8], [u32; 4]) {
+    match action {
+        Action::Dev(unit) => (b"dev", [*unit, 0, 0, 0]),
+        Action::Event(Event::Put { address, bytes }) => {
+            let count = bytes.len() as u32;
+            match bytes.as_slice() {
+                [first, second] => (
+                    b"put",
+                    [*address, count, u32::from(*first), u32::from(*second)],
+                ),
+                _ => (b"put", [*address, count, 0, 0]),
+            }
+        }
+        Action::Event(Event::Execute { cpu, instruction }) => {
+            let cpu = u32::from(cpu.number());
+            match instruction {
+                Instruction::Ssch {
+                    subchannel,
+                    address,
+                } => (b"ssch", [cpu, *subchannel, *address, 0]),
+                Instruction::Tsch {
+                    subchannel,
+                    address,
+                } => (b"tsch", [cpu, *subchannel, *address, 0]),
+                Instruction::Enable {
+                    subchannel,
+                    subclass,
+                    multipath,
+                } => {
+                    (
+                        b"enable",
+                        [
+                            cpu,
+                            *subchannel,
+                            u32::from(*subclass),
+                            u32::from(*multipath),
+                        ],
+                    )
+                }
+            }
+        }
+        Action::Event(Event::Choose { subchannel }) => (b"choose", [*subchannel, 0, 0, 0]),
+        Action::Event(Event::Up { subchannel, path }) => (b"up", [*subchannel, *path, 0, 0]),
+        Action::Event(Event::Down { subchannel, path }) => (b"down", [*subchannel, *path, 0, 0]),
+        Action::Event(Event::Report { .. }) => (b"report", [0, 0, 0, 0]),
+    }
+}
+
+#[test]
+fn a_right_script_is_read(rt: HostRuntime) {
+    let script = match Script::read(rt.alloc(), RIGHT) {
+        Ok(script) => script,
+        Err(bad) => {
+            assert_eq!(rt; bad, ScriptBad::NoMemory);
+            return;
+        }
+    };
+    let wanted: [(u64, &[u8], [u32; 4]); 10] = [
+        (10, b"put", [0x500, 2, 0xC1, 0xC2]),
+        (11, b"enable", [0, 0x1_0000, 7, 1]),
+        (12, b"enable", [0xF, 0x3_0000, 0, 0]),
+        (13, b"ssch", [0, 0x1_0001, 0x500, 0]),
+        (14, b"ssch", [1, 1, 0x500, 0]),
+        (15, b"tsch", [0, 0x1_0000, 0x600, 0]),
+        (16, b"choose", [0x1_0000, 0, 0, 0]),
+        (18, b"up", [0x1_0000, 1, 0, 0]),
+        (19, b"down", [0x1_0000, 0x1234_5678, 0, 0]),
+        (20, b"dev", [0x3FF, 0, 0, 0]),
+    ];
+    assert_eq!(rt; script.config().set_count(), 2);
+    assert_eq!(rt; script.lines().len(), wanted.len());
+    for (line, (number, name, numbers)) in script.lines().iter().zip(wanted) {
+        let (kind, said) = shown(&line.action);
+        assert_eq!(rt; line.number, number);
+        assert_eq!(rt; kind, name);
+        assert_eq!(rt; said, numbers);
+    }
+    let (config, lines) = script.into_parts();
+    assert_eq!(rt; config.blocks(), Some(0x10));
+    assert_eq!(rt; config.paths(), [0x10, 0xFF].as_slice());
+    assert_eq!(rt; config.subchannels().len(), 2);
+    assert_eq!(rt; lines.len(), 10);
+}
+
+fn ended() -> Scsw {
+    Scsw {
+        key: 0,
+        suspend: false,
+        deferred: DeferredCode::Zero,
+        format_one: true,
+        prefetch: false,
+        initial_status: false,
+        address_limit: false,
+        suppress_suspended: false,
+        path_not_operational: false,
+        functions: FunctionControl {
+            start: true,
+            halt: false,
+            clear: false,
+        },
+        activity: ActivityControl {
+            resume_pending: false,
+            start_pending: false,
+            halt_pending: false,
+            clear_pending: false,
+            subchannel_active: false,
+            device_active: false,
+            suspended: false,
+        },
+        status: StatusControl {
+            alert: false,
+            intermediate: false,
+            primary: true,
+            secondary: true,
+            pending: true,
+        },
+        command_address: 0x1008,
+        device_status: DeviceStatus::CHANNEL_END.union(DeviceStatus::DEVICE_END),
+        subchannel_status: SubchannelStatus::PROGRAM_CHECK,
+        count: 0x00AF,
+    }
+}
+
+fn up(signal: Up) -> Reply {
+    Reply::Up {
+        signal,
+        taken: true,
+        sent: None,
+    }
+}
+
+fn down(signal: Down) -> Reply {
+    Reply::Down {
+        signal,
+        taken: false,
+        sent: None,
+    }
+}
+
+#[test]
+fn replies_are_shown(rt: HostRuntime) -> Result<(), AllocError> {
+    let serials = Serials {
+        made: 1,
+        cleared: 0,
+    };
+    let status = DeviceStatus::ATTENTION;
+    let rows: [(Reply, &[u8]); 29] = [
+        (Reply::Done, b"done"),
+        (Reply::Code(Answer::Zero(serials)), b"cc 0"),
+        (Reply::Code(Answer::One(serials)), b"cc 1"),
+        (Reply::Code(Answer::Two), b"cc 2"),
+        (Reply::Code(Answer::Three), b"cc 3"),
+        (
+            Reply::Status {
+                answer: Answer::Zero(serials),
+                scsw: ended(),
+            },
+            b"cc 0 00804007 00001008 0C2000AF",
+        ),
+        (
+            Reply::Status {
+                answer: Answer::One(serials),
+                scsw: ended(),
+            },
+            b"cc 1 00804007 00001008 0C2000AF",
+        ),
+        (Reply::Pending, b"status"),
+        (Reply::Idle, b"idle"),
+        (down(Down::Select { number: 1 }), b"ignored select"),
+        (
+            down(Down::Command {
+                number: 1,
+                command: 1,
+                code: 1,
+                room: 0,
+            }),
+            b"ignored command",
+        ),
+        (
+            down(Down::Grant {
+                number: 1,
+                connection: 0,
+            }),
+            b"ignored grant",
+        ),
+        (
+            down(Down::Refuse {
+                number: 1,
+                connection: 0,
+            }),
+            b"ignored refuse",
+        ),
+        (
+            down(Down::Took {
+                number: 1,
+                command: 1,
+                sequence: 1,
+                room: 0,
+            }),
+            b"ignored took",
+        ),
+        (
+            down(Down::Give {
+                number: 1,
+                connection: 0,
+                command: 1,
+                sequence: 1,
+                bytes: Chunk::new(),
+            }),
+            b"ignored give",
+        ),
+        (down(Down::Halt { number: 1 }), b"ignored halt"),
+        (down(Down::Release { number: 1 }), b"ignored release"),
+        (
+            down(Down::Reset {
+                number: 1,
+                restarts: 0,
+            }),
+            b"ignored reset",
+        ),
+        (down(Down::Got { attention: 1 }), b"ignored got"),
+        (up(Up::Accept { number: 1 }), b"took accept"),
+        (up(Up::Busy { number: 1 }), b"took busy"),
+        (
+            up(Up::Leave {
+                number: 1,
+                connection: 0,
+            }),
+            b"took leave",
+        ),
+        (
+            up(Up::Back {
+                number: 1,
+                connection: 0,
+            }),
+            b"took back",
+        ),
+        (
+            up(Up::Data {
+                number: 1,
+                connection: 0,
+                command: 1,
+                sequence: 0,
+                load: Load::Absorbed(0),
+            }),
+            b"took data",
+        ),
+        (
+            up(Up::End {
+                number: 1,
+                command: 1,
+                status,
+                more: false,
+            }),
+            b"took end",
+        ),
+        (up(Up::Released { number: 1 }), b"took released"),
+        (up(Up::Cleared { number: 1 }), b"took cleared"),
+        (up(Up::Notice { restarts: 1 }), b"took notice"),
+        (
+            up(Up::Attn {
+                attention: 1,
+                status,
+            }),
+            b"took attn",
+        ),
+    ];
+    for (reply, text) in &rows {
+        let mut out = Vec::new(rt.alloc());
+        reply_text(&mut out, reply)?;
+        assert_eq!(rt; out.as_slice(), *text);
+    }
+    if let Some(path) = Path::new(7) {
+        let mut out = Vec::new(rt.alloc());
+        reply_text(
+            &mut out,
+            &Reply::Offered {
+                number: 3,
+                path,
+                resumed: false,
+            },
+        )?;
+        assert_eq!(rt; out.as_slice(), b"offer 7".as_slice());
+    }
+    Ok(())
+}
+
+#[test]
+fn refusals_are_shown(rt: HostRuntime) -> Result<(), AllocError> {
+    let rows: [(Fault, &[u8]); 13] = [
+        (Fault::NoMemory, b"refused 1"),
+        (Fault::WireFull, b"refused 2"),
+        (Fault::NotSent, b"refused 3"),
+        (Fault::NoSuchSubchannel, b"refused 4"),
+        (Fault::NoSuchPath, b"refused 5"),
+        (Fault::NoSuchUnit, b"refused 6"),
+        (Fault::NotNow, b"refused 7"),
+        (Fault::ConfigBad(1), b"refused 8"),
+        (Fault::ScriptBad(1, 1), b"refused 9"),
+        (
+            Fault::Storage(StorageFault::Addressing),
+            b"refused 10 addressing",
+        ),
+        (
+            Fault::Storage(StorageFault::Protection),
+            b"refused 10 protection",
+        ),
+        (
+            Fault::Storage(StorageFault::Specification),
+            b"refused 10 specification",
+        ),
+        (Fault::Operand, b"refused 11"),
+    ];
+    for (refusal, text) in rows {
+        let mut out = Vec::new(rt.alloc());
+        refusal_text(&mut out, &refusal)?;
+        assert_eq!(rt; out.as_slice(), text);
+    }
+    Ok(())
+}
+
+#[test]
+fn lines_are_shown(rt: HostRuntime) -> Result<(), AllocError> {
+    let mut out = Vec::new(rt.alloc());
+    event_line(&mut out, 5, &Ok(Reply::Done))?;
+    event_line(&mut out, 1_000, &Err(Fault::Operand))?;
+    bad_line(&mut out, 9, 2)?;
+    assert_eq!(rt;
+        out.as_slice(),
+        b"5 done\n1000 refused 11\nbad line 9 rule 2\n".as_slice()
+    );
+    Ok(())
+}
