@@ -46,6 +46,15 @@ impl ChpidList {
         self.chpids.push(chpid);
     }
 
+    /// The same paths; it takes no memory.
+    pub fn copy(&self) -> Self
+        ensures { result ≡ self.now }
+    {
+        let mut chpids = ArrayVec::new();
+        let _ = chpids.try_extend_from_slice(self.chpids.as_slice());
+        ChpidList { chpids }
+    }
+
     /// The identifiers in the order of the path indices.
     pub fn as_slice(&self) -> &[u8]
         ensures value { result.now ≡ self.now }
@@ -66,4 +75,19 @@ pub struct SubchannelSetup {
     /// Which side of the unit it reaches: the first subchannel of a unit reaches its first side (own).
     pub side: Side,
     pub paths: ChpidList,
+}
+
+impl SubchannelSetup {
+    /// The same subchannel; it takes no memory.
+    pub fn copy(&self) -> Self
+        ensures { result ≡ self.now }
+    {
+        SubchannelSetup {
+            id: self.id,
+            device: self.device,
+            unit: self.unit,
+            side: self.side,
+            paths: self.paths.copy(),
+        }
+    }
 }

@@ -1,5 +1,5 @@
 -- What there is of a channel subsystem, as small values.
-use Rattle.std.specs.Prelude.{◌≡◌, ℕ, ◌+◌, ◌==◌, ◌&&◌, Bool, true, false, List, [], ◌∷◌, map, length, replicate, slice_get, slice_set, unwrap_or, Option, None, Some, if◌then◌else◌}
+use Rattle.std.specs.Prelude.{◌≡◌, ℕ, ◌+◌, ◌==◌, ◌&&◌, ◌||◌, not, Bool, true, false, List, [], ◌∷◌, map, length, replicate, slice_get, slice_set, unwrap_or, Option, None, Some, if◌then◌else◌}
 use Rattle.scsw_irb.specs.Empty.{zero_scsw}
 use Rattle.storage_keys.specs.Storage.{Contents, cleared}
 use Rattle.chan_model.specs.declared.unit_state.UnitState.{UnitState}
@@ -7,10 +7,18 @@ use Rattle.chan_model.specs.declared.reply.Entry.{Entry}
 use Rattle.chan_model.specs.HoldTable.{free_hold}
 use Rattle.chan_model.specs.UnitTable.{idle_unit}
 use Rattle.channel_config.specs.declared.names.SubchannelId.{SubchannelId}
+use Rattle.channel_config.specs.declared.parts.UnitKind.{UnitKind}
 use Rattle.channel_config.specs.declared.parts.SubchannelSetup.{SubchannelSetup}
 use Rattle.channel_config.specs.Setup.{Setup, set_count}
 use Rattle.channel_config.specs.SubchannelWords.{subchannel_named}
-use Rattle.wires.specs.Queues.{Queues, no_queues}
+use Rattle.std.specs.List.{list_any}
+use Rattle.scsw_irb.specs.declared.serials.Serials.{Serials}
+use Rattle.chan_model.specs.declared.signal.Down.{Down}
+use Rattle.chan_model.specs.declared.report.Work.{Work}
+use Rattle.chan_model.specs.UnitReports.{unit_work}
+use Rattle.machine_model.specs.declared.state.UnitTurn.{UnitTurn}
+use Rattle.machine_model.specs.declared.state.UnitTurn.TheVariants.{Takes, Works, Rests}
+use Rattle.wires.specs.Queues.{Queues, no_queues, queue}
 use Rattle.machine_model.specs.declared.state.Pmcw.{Pmcw}
 use Rattle.machine_model.specs.declared.state.SubchannelState.{SubchannelState}
 use Rattle.machine_model.specs.declared.state.Subchannel.{Subchannel}
@@ -46,13 +54,17 @@ opening_subchannel = record {
 abbrev pub opened : SubchannelSetup → Subchannel
 opened setup = record { setup = setup; state = opening_subchannel; wires = no_queues }
 
--- the opening of a machine that is set up so
+-- a unit at the opening, of whatever kind
+abbrev pub idle_of : UnitKind → UnitState
+idle_of kind = idle_unit
+
+-- the opening of a machine that is set up so; where no storage is said there is the least, 16 blocks of 4,096 bytes (own)
 abbrev pub opening_of : Setup → State
 opening_of setup = record {
-  storage = cleared (unwrap_or setup.blocks 0);
+  storage = cleared (unwrap_or setup.blocks 16);
   sets = set_count setup;
   subs = map opened setup.subchannels;
-  units = map (λ kind. idle_unit) setup.units
+  units = map idle_of setup.units
 }
 
 -- the place of the subchannel that a subsystem-identification word names, where it is provided
@@ -92,3 +104,32 @@ with_sub s place sub = record s { subs = slice_set s.subs place sub }
 
 abbrev pub with_unit : State → ℕ → UnitState → State
 with_unit s place u = record s { units = slice_set s.units place u }
+
+-- the serials of the subchannel that a word names
+abbrev pub serials_in : Option Subchannel → Option Serials
+serials_in None = None
+serials_in (Some sub) = Some sub.state.serials
+
+-- a signal waits on some wire down to a unit
+abbrev pub has_signal : List (List Down) → ℕ → Bool
+has_signal queues path = not (length (queue queues path) == 0)
+
+abbrev pub any_down : List (List Down) → Bool
+any_down queues =
+    has_signal queues 0 || (has_signal queues 1 || (has_signal queues 2 || (has_signal queues 3
+    || (has_signal queues 4 || (has_signal queues 5 || (has_signal queues 6 || has_signal queues 7))))))
+
+abbrev pub awaits : ℕ → Subchannel → Bool
+awaits place sub = (sub.setup.«unit» == place) && any_down sub.wires.down
+
+-- what a unit is to do: take a signal, else what its program asks for, else nothing
+abbrev pub turn_from : Option Work → UnitTurn
+turn_from None = Rests
+turn_from (Some w) = Works w
+
+abbrev pub turn_of_unit : State → ℕ → Option UnitState → Option UnitTurn
+turn_of_unit s place None = None
+turn_of_unit s place (Some u) = Some (if list_any (awaits place) s.subs then Takes else turn_from (unit_work u))
+
+abbrev pub unit_turn_of : State → ℕ → Option UnitTurn
+unit_turn_of s place = turn_of_unit s place (slice_get s.units place)

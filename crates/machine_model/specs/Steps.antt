@@ -35,13 +35,14 @@ use Rattle.chan_model.specs.UnitTable as unit_table
 use Rattle.chan_model.specs.UnitTable.{UnitStep, unit_takes, unit_after}
 use Rattle.chan_model.specs.UnitReports.{unit_reports}
 use Rattle.channel_config.specs.declared.names.SubchannelId.{SubchannelId}
+use Rattle.channel_config.specs.Setup.{Setup}
 use Rattle.channel_config.specs.SubchannelWords.{subchannel_named}
 use Rattle.path_select.specs.Choice.{IsChoice}
 use Rattle.wires.specs.Queues.{Queues, queue, sent, taken}
 use Rattle.machine_model.specs.declared.state.SubchannelState.{SubchannelState}
 use Rattle.machine_model.specs.declared.state.Subchannel.{Subchannel}
 use Rattle.machine_model.specs.declared.state.Program.{Program}
-use Rattle.machine_model.specs.State.{State, place_of, place_of_id, place_in, first_place, sub_at, with_sub, with_unit}
+use Rattle.machine_model.specs.State.{State, opening_of, place_of, place_of_id, place_in, first_place, sub_at, with_sub, with_unit}
 use Rattle.machine_model.specs.Instructions.{condition_of, started, tested, enabled}
 use Rattle.machine_model.specs.declared.state.Chosen.{Chosen}
 use Rattle.machine_model.specs.declared.state.Chosen.TheVariants.{Idle, Over, Offers}
@@ -349,3 +350,14 @@ GivesSub old outcome (Err f) new = (outcome ≡ Err f) × (new ≡ old)
 pub data Run (opening : State) : List Entry → State → Type 0 where
   Opened : Run opening [] opening
   Stepped : (h : List Entry) (old : State) (e : Event) (r : Reply) (new : State) → Run opening h old → Step old e r new → Run opening (h ++ record { event = e; reply = r } ∷ []) new
+
+-- these entries lead to the state from the opening of some machine
+abbrev pub HasRun : List Entry → State → Type 0
+HasRun h s = (setup : Setup) × Run (opening_of setup) h s
+
+-- the events that were accepted, with their replies
+abbrev pub accepted : List Event → List (Result Reply Fault) → List Entry
+accepted [] answers = []
+accepted (e ∷ events) [] = []
+accepted (e ∷ events) (Ok r ∷ answers) = record { event = e; reply = r } ∷ accepted events answers
+accepted (e ∷ events) (Err f ∷ answers) = accepted events answers

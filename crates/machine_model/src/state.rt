@@ -6,6 +6,7 @@ use chan_model::chunk::Chunk;
 use chan_model::hold_state::HoldState;
 use chan_model::names::Path;
 use chan_model::paths::PathSet;
+use chan_model::report::Work;
 use chan_model::signal::{Down, Taken};
 use channel_config::parts::SubchannelSetup;
 use orb_block::Orb;
@@ -183,4 +184,15 @@ pub enum Chosen {
 pub struct UpStep {
     pub state: SubchannelState,
     pub came: Taken<Down>,
+}
+
+/// What a unit is to do next.
+#[derive(Drop)]
+pub enum UnitTurn {
+    /// A signal waits on a wire down to it.
+    Takes,
+    /// Its program asks for this.
+    Works(Work),
+    /// Nothing.
+    Rests,
 }

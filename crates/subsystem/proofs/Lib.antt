@@ -1,2 +1,3 @@
 mod FirstPlaces
 mod Lifting
+mod Pasts

@@ -1,7 +1,15 @@
 -- What an event does at one subchannel, as what it does to the whole.
-use Rattle.std.proofs.Common.{◌≡◌, refl, sym, ◌∙◌, ap, subst, ℕ, ◌+◌, ◌<◌, zero, suc, Option, None, Some, Result, Ok, Err, List, [], ◌∷◌, length, slice_index_or, arith}
+use Rattle.std.proofs.Common.{◌≡◌, refl, sym, ◌∙◌, ap, subst, ℕ, ◌+◌, ◌<◌, zero, suc, Option, None, Some, Result, Ok, Err, List, [], ◌∷◌, length, slice_index_or, arith, inr}
 use Rattle.std.specs.Prelude.{slice_get, slice_set}
 use Rattle.std.proofs.lemmas.List.{set-get_or}
+use Rattle.zbits.specs.Layout.{image_of}
+use Rattle.orb_block.specs.declared.Orb.{Orb}
+use Rattle.orb_block.specs.OrbTable.{tables}
+use Rattle.storage_keys.specs.declared.StorageFault.{StorageFault}
+use Rattle.storage_keys.specs.Storage.{operand_at}
+use Rattle.channel_config.specs.declared.names.SubchannelId.{SubchannelId}
+use Rattle.channel_config.specs.SubchannelWords.{subchannel_named}
+use Rattle.chan_model.specs.declared.event.Instruction.TheVariants as instruction
 use Rattle.chan_model.specs.declared.fault.Fault.{Fault}
 use Rattle.chan_model.specs.declared.event.Event.{Event}
 use Rattle.chan_model.specs.declared.event.Event.TheVariants as event
@@ -10,9 +18,9 @@ use Rattle.chan_model.specs.declared.report.Report.{Report}
 use Rattle.chan_model.specs.declared.unit_state.UnitState.{UnitState}
 use Rattle.path_select.specs.Choice.{IsChoice}
 use Rattle.machine_model.specs.declared.state.Subchannel.{Subchannel}
-use Rattle.machine_model.specs.State.{State, place_of, sub_at, with_sub, with_unit}
+use Rattle.machine_model.specs.State.{State, place_of, place_in, sub_at, with_sub, with_unit}
 use Rattle.machine_model.specs.Choosing.{chosen, usable_paths}
-use Rattle.machine_model.specs.Steps.{Outcome, SubTurn, DownTurn, Steps, Performs, Gives, GivesSub, GivesBoth, Chooses, does, leaves, at_sub, at_unit, up_at, up_sub, down_at, down_unit, down_sub, choose_sub, report_at, report_to, report_sub, reached_in}
+use Rattle.machine_model.specs.Steps.{Outcome, SubTurn, DownTurn, Steps, Performs, Gives, GivesSub, GivesBoth, Chooses, does, leaves, at_sub, at_unit, up_at, up_sub, down_at, down_unit, down_sub, choose_sub, report_at, report_to, report_sub, reached_in, Executes_on, Starts, start_at}
 
 -- an element that stands at a place
 pub at_place : {A : Type 0} (xs : List A) (i : ℕ) (x d : A) → i < length xs → x ≡ slice_index_or xs i d → slice_get xs i ≡ Some x
@@ -68,7 +76,7 @@ choose-performs s word place sub new d choice r at within there chose g =
         λ o e. named s word place sub (λ (p : Option ℕ) (q : Option Subchannel). Chooses s p q o) at (at_place s.subs place sub d within there) (choice, chose, e) in
     performed s (event.Choose word) (at_sub s place outcome) r (with_sub s place new) steps (lifted s place sub new d outcome r there g)
 
-pub down-performs : (s : State) (word path place : ℕ) (sub new d : Subchannel) (u v w : UnitState) (r : Result Reply Fault) → place_of s word ≡ Some place →
+down-performs : (s : State) (word path place : ℕ) (sub new d : Subchannel) (u v w : UnitState) (r : Result Reply Fault) → place_of s word ≡ Some place →
     place < length s.subs → sub ≡ slice_index_or s.subs place d → sub.setup.«unit» < length s.units → u ≡ slice_index_or s.units sub.setup.«unit» w →
     GivesBoth sub u (down_sub sub path u) r new v → Performs s (event.Down word path) r (with_unit (with_sub s place new) sub.setup.«unit» v)
 down-performs s word path place sub new d u v w r at within there inside here g =
@@ -99,3 +107,18 @@ some_inj x y e = cc
 
 pub one_there : {A : Type 0} (xs : List A) (i : ℕ) (x y d e : A) → i < length xs → x ≡ slice_index_or xs i d → y ≡ slice_index_or xs i e → x ≡ y
 one_there xs i x y d e within f g = some_inj x y (sym (at_place xs i x d within f) ∙ at_place xs i y e within g)
+
+-- the unit's place under another name
+pub down-performs-at : (s : State) (word path place k : ℕ) (sub new d : Subchannel) (u v w : UnitState) (r : Result Reply Fault) → sub.setup.«unit» ≡ k →
+    place_of s word ≡ Some place → place < length s.subs → sub ≡ slice_index_or s.subs place d → k < length s.units → u ≡ slice_index_or s.units k w →
+    GivesBoth sub u (down_sub sub path u) r new v → Performs s (event.Down word path) r (with_unit (with_sub s place new) k v)
+down-performs-at s word path place k sub new d u v w r same at within there inside here g =
+    subst (λ (j : ℕ). j < length s.units → u ≡ slice_index_or s.units j w → Performs s (event.Down word path) r (with_unit (with_sub s place new) j v)) same
+        (λ inside' here'. down-performs s word path place sub new d u v w r at within there inside' here' g) inside here
+
+pub start-executes : (s : State) (cpu word address : ℕ) (id : SubchannelId) (image : List ℕ) (orb : Orb) (r : Outcome) →
+    subchannel_named s.sets word ≡ Some id → operand_at s.storage cpu address 12 4 ≡ Ok image → image ≡ image_of (tables orb) →
+    r ≡ start_at s (place_in id s.subs) (sub_at s.subs (place_in id s.subs)) orb → Steps s (event.Execute cpu (instruction.Ssch word address)) r
+start-executes s cpu word address id image orb r at fetched found e =
+    subst (λ (x : Option SubchannelId). Executes_on s cpu (instruction.Ssch word address) x r) (sym at)
+        (subst (λ (x : Result (List ℕ) StorageFault). Starts s (place_in id s.subs) (sub_at s.subs (place_in id s.subs)) x r) (sym fetched) (inr (orb, found, e)))

@@ -1,7 +1,8 @@
 //! A channel subsystem of many subchannels: one event at a time, with the history of all that was accepted.
 #![tactic(auto)]
 
+pub mod history;
 mod machine;
 mod places;
+pub mod subsystem;
 mod turns;
-

@@ -15,7 +15,7 @@ use chan_model::names::Cpu;
 use chan_model::reply::{Answer, Reply};
 use chan_model::report::{Report, Work};
 use channel_config::names::{SubchannelId, subchannel_named};
-use machine_model::state::Subchannel;
+use machine_model::state::{Subchannel, UnitTurn};
 use orb_block::Orb;
 use path_select::PathChoice;
 use scsw_irb::serials::Serials;
@@ -25,7 +25,7 @@ use subchannel::choosing::{chosen, usable_paths};
 use subchannel::instructions::{condition_of, tsch_code};
 use unit::Unit;
 
-use crate::places::{place_in, reached_in};
+use crate::places::{is_awaited, place_in, reached_in};
 use crate::turns::{
     choose_sub, down_sub, enable_sub, irb_of, report_sub, start_sub, stores_irb, test_with, up_sub,
 };
@@ -57,6 +57,30 @@ impl Machine {
             None => None,
             Some(id) => place_in(id, self.subs.as_slice()),
         }
+    }
+
+    /// The serials of the subchannel that a word names.
+    pub fn serials(&self, word: u32) -> Option<Serials>
+        ensures { result ≡ state_spec.serials_in (state_spec.sub_of self.now word) }
+    {
+        match self.place_of(word) {
+            None => None,
+            Some(place) => Some(self.subs[place].state.serials),
+        }
+    }
+
+    /// What a unit is to do next.
+    pub fn unit_turn(&self, number: u32) -> Option<UnitTurn>
+        ensures { result ≡ state_spec.unit_turn_of self.now number }
+    {
+        let number = number as usize;
+        if number >= self.units.len() {
+            return None;
+        }
+        if is_awaited(number, self.subs.as_slice()) {
+            return Some(UnitTurn::Takes);
+        }
+        Some(turn_from(self.units[number].work()))
     }
 
     fn put(&mut self, address: u32, bytes: &Chunk) -> Result<Reply, Fault>
@@ -222,5 +246,14 @@ impl Machine {
             Event::Down { subchannel, path } => self.down(*subchannel, *path),
             Event::Report { unit, report } => self.report(*unit, report),
         }
+    }
+}
+
+fn turn_from(work: Option<Work>) -> UnitTurn
+    ensures { result ≡ state_spec.turn_from work }
+{
+    match work {
+        None => UnitTurn::Rests,
+        Some(work) => UnitTurn::Works(work),
     }
 }

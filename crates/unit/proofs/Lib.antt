@@ -1,1 +1,3 @@
-mod Answering
+pub mod Answered
+pub mod Apart
+pub mod AnswerPaths

@@ -1,13 +1,14 @@
 -- What the calls of a unit say of it beside its tables (own).
-use Rattle.std.specs.Prelude.{ℕ, Bool, false, is_some}
+use Rattle.std.specs.Prelude.{◌≡◌, ℕ, Bool, false, is_some, IsTrue}
 use Rattle.chan_model.specs.declared.names.Side.{Side}
+use Rattle.chan_model.specs.declared.names.Side.TheVariants.{First, Second}
 use Rattle.chan_model.specs.declared.signal.Down.{Down}
 use Rattle.chan_model.specs.declared.unit_state.Place.{Place}
 use Rattle.chan_model.specs.declared.unit_state.Place.TheVariants.{On, Ask, Away}
 use Rattle.chan_model.specs.declared.unit_state.Own.{Own}
 use Rattle.chan_model.specs.declared.unit_state.Own.TheVariants.{Idle, Owned}
 use Rattle.chan_model.specs.declared.unit_state.UnitState.{UnitState}
-use Rattle.chan_model.specs.UnitTable.{unit_takes, came_of}
+use Rattle.chan_model.specs.UnitTable.{unit_takes, came_of, side_of, owns}
 
 -- the signal is answered; neither its path nor what the control unit may do decides that
 abbrev pub is_answered : UnitState → Side → Down → Bool
@@ -22,3 +23,21 @@ connection_of (Away c) = c
 abbrev pub last_connection : Own → ℕ
 last_connection Idle = 0
 last_connection (Owned side t place) = connection_of place
+
+-- A unit's other side.
+abbrev pub other_of : Side → Side
+other_of First = Second
+other_of Second = First
+
+-- the program that holds the device is the same, as far with its command
+pub record IsSameProgram (old new : UnitState) : Type 0 where
+  pub own : new.own ≡ old.own
+  pub last_command : new.last_command ≡ old.last_command
+  pub at_hand : new.at_hand ≡ old.at_hand
+  pub halted : new.halted ≡ old.halted
+
+-- a signal of a side leaves the other side as it was, and its program, and gives it none
+pub record LeavesOther (side : Side) (old new : UnitState) : Type 0 where
+  pub kept : side_of new (other_of side) ≡ side_of old (other_of side)
+  pub owner : owns new.own (other_of side) ≡ owns old.own (other_of side)
+  pub program : IsTrue (owns old.own (other_of side)) → IsSameProgram old new

@@ -10,7 +10,14 @@ use chan_model::signal::{Taken, Up};
 use chan_model::unit_state::{AtHand, Progress, UnitState};
 
 /// Command: the next of the program that holds the device.
-pub fn commanded(unit: &mut UnitState, side: Side, number: u64, command: u64, code: u8, room: u16) -> Taken<Up>
+pub fn commanded(
+    unit: &mut UnitState,
+    side: Side,
+    number: u64,
+    command: u64,
+    code: u8,
+    room: u16,
+) -> Taken<Up>
     ensures state { unit.new ≡ table.unit_after unit.old (table.commanded unit.old side number command code room) }
     ensures came { result ≡ table.came_of (table.commanded unit.old side number command code room) }
 {
@@ -41,7 +48,15 @@ fn new_command(code: u8, room: u16) -> AtHand
 }
 
 /// Give: the next chunk of the command at hand.
-pub fn given(unit: &mut UnitState, side: Side, number: u64, connection: u64, command: u64, sequence: u64, bytes: &Chunk) -> Taken<Up>
+pub fn given(
+    unit: &mut UnitState,
+    side: Side,
+    number: u64,
+    connection: u64,
+    command: u64,
+    sequence: u64,
+    bytes: &Chunk,
+) -> Taken<Up>
     ensures state { unit.new ≡ table.unit_after unit.old (table.given unit.old side number connection command sequence bytes.now) }
     ensures came { result ≡ table.came_of (table.given unit.old side number connection command sequence bytes.now) }
 {
@@ -88,7 +103,14 @@ fn kept(bytes: &Chunk) -> Option<Chunk>
 }
 
 /// Took: the last Data of the command is answered.
-pub fn answered(unit: &mut UnitState, side: Side, number: u64, command: u64, sequence: u64, room: u16) -> Taken<Up>
+pub fn answered(
+    unit: &mut UnitState,
+    side: Side,
+    number: u64,
+    command: u64,
+    sequence: u64,
+    room: u16,
+) -> Taken<Up>
     ensures state { unit.new ≡ table.unit_after unit.old (table.answered unit.old side number command sequence room) }
     ensures came { result ≡ table.came_of (table.answered unit.old side number command sequence room) }
 {

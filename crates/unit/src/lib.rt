@@ -6,9 +6,11 @@ mod commands;
 mod parts;
 mod reports;
 mod signals;
+#[cfg(test)]
+mod tests;
 mod works;
 
-ghost use Rattle.std.specs.Prelude.{◌≡◌, ◌<◌, ◌^◌, ℕ, Bool, is_some, IfSome};
+ghost use Rattle.std.specs.Prelude.{◌≡◌, ◌<◌, ◌^◌, ℕ, Bool, IfSome, is_some};
 ghost use Rattle.chan_model.specs.UnitReports as reports;
 ghost use Rattle.chan_model.specs.UnitTable as table;
 ghost use Rattle.unit.specs.UnitWords as words;
@@ -76,13 +78,19 @@ impl Unit {
     pub fn take(&mut self, side: Side, path: Path, signal: &Down, may: bool) -> Taken<Up>
         ensures state { self.new ≡ table.unit_after self.old (table.unit_takes self.old side path signal.now may) }
         ensures came { result ≡ table.came_of (table.unit_takes self.old side path signal.now may) }
+
+        // An answer goes by the path of the signal; the other side is left as it was.
+        ensures path { IfSome result.sent (λ sent. sent.path ≡ path) }
+        ensures answered { is_some result.sent ≡ words.is_answered self.old side signal.now }
+        ensures other { words.LeavesOther side self.old self.new }
     {
         signals::takes(&mut self.state, side, path, signal, may)
     }
 
-    /// Whether a signal of a side is answered, by which path it comes and whatever the control unit may do.
+    /// Whether a signal of a side is answered. Its path, and what the control unit may do, make no difference.
     pub fn answers(&self, side: Side, signal: &Down) -> bool
         ensures answers { (path : ℕ) (may : Bool) → result ≡ is_some (table.came_of (table.unit_takes self.now side path signal.now may)).sent }
+
         // Its answer goes by the path that the signal came by.
         ensures path { (path : ℕ) (may : Bool) → IfSome (table.came_of (table.unit_takes self.now side path signal.now may)).sent (λ s. s.path ≡ path) }
     {
@@ -93,6 +101,7 @@ impl Unit {
     pub fn report(&mut self, report: &Report) -> Option<OnPath<Up>>
         ensures state { self.new ≡ table.unit_after self.old (reports.unit_reports self.old report.now) }
         ensures sent { result ≡ (table.came_of (reports.unit_reports self.old report.now)).sent }
+        ensures path { table.path_of_sent result ≡ table.answer_path (reports.unit_reports self.old report.now) }
     {
         reports::reports(&mut self.state, report)
     }

@@ -91,7 +91,8 @@ fn is_place_on(place: Place, connection: u64) -> bool
 {
     match place {
         Place::On {
-            connection: last, ..
+            connection: last,
+            ..
         } => connection == last,
         _ => false,
     }

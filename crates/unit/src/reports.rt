@@ -101,7 +101,8 @@ fn is_answer_allowed(unit: &UnitState, command: &AtHand, answer: DeviceAnswer) -
 
 /// Whether a report is of the program of this side and number, and of its last command.
 fn is_of(unit: &UnitState, side: Side, number: u64, report: &Report) -> bool
-    ensures { result ≡ (same_side side report.now.side && ((report.now.number == number) && (report.now.command == unit.now.last_command))) }
+    ensures { result ≡ (same_side side report.now.side
+        && ((report.now.number == number) && (report.now.command == unit.now.last_command))) }
 {
     side.same(report.side) && report.number == number && report.command == unit.last_command
 }
@@ -167,7 +168,13 @@ fn report_on(unit: &mut UnitState, number: u64, place: Place, report: &Report) -
 }
 
 /// The Data of a command, for so many bytes that the device absorbed.
-fn data_sent(command: &mut AtHand, number: u64, connection: u64, last_command: u64, count: u16) -> Up
+fn data_sent(
+    command: &mut AtHand,
+    number: u64,
+    connection: u64,
+    last_command: u64,
+    count: u16,
+) -> Up
     ensures state { command.new ≡ record command.old { progress = progress.Working; given = None; unanswered = Some (load.Absorbed count) } }
     ensures sent { result ≡ up.Data number connection last_command command.old.sequence (load.Absorbed count) }
 {

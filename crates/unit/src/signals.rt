@@ -103,7 +103,14 @@ fn raise(unit: &mut UnitState, side: Side, number: u64)
 }
 
 /// Select above the floor: accepted where nothing holds the device and the control unit may serve it.
-fn selected(unit: &mut UnitState, own: Own, side: Side, path: Path, number: u64, may: bool) -> Taken<Up>
+fn selected(
+    unit: &mut UnitState,
+    own: Own,
+    side: Side,
+    path: Path,
+    number: u64,
+    may: bool,
+) -> Taken<Up>
     ensures state { unit.new ≡ table.unit_after unit.old (table.selected unit.old own side path number may) }
     ensures came { result ≡ table.came_of (table.selected unit.old own side path number may) }
 {
@@ -150,7 +157,14 @@ fn granted(unit: &mut UnitState, side: Side, path: Path, number: u64, connection
 }
 
 /// Grant of the program that holds the device, at its place.
-fn granted_at(unit: &mut UnitState, side: Side, number: u64, place: Place, path: Path, connection: u64) -> Taken<Up>
+fn granted_at(
+    unit: &mut UnitState,
+    side: Side,
+    number: u64,
+    place: Place,
+    path: Path,
+    connection: u64,
+) -> Taken<Up>
     ensures state { unit.new ≡ table.unit_after unit.old (table.granted_at unit.old side number place path connection) }
     ensures came { result ≡ table.came_of (table.granted_at unit.old side number place path connection) }
 {
@@ -174,7 +188,8 @@ fn granted_at(unit: &mut UnitState, side: Side, number: u64, place: Place, path:
             }
         }
         Place::On {
-            connection: last, ..
+            connection: last,
+            ..
         }
         | Place::Away { connection: last } => granted_late(number, path, connection, last),
     }
@@ -182,7 +197,9 @@ fn granted_at(unit: &mut UnitState, side: Side, number: u64, place: Place, path:
 
 /// Grant of an older connection than the last.
 fn granted_late(number: u64, path: Path, connection: u64, last: u64) -> Taken<Up>
-    ensures { result ≡ (if nat_lt connection last then record { taken = true; sent = Some (record { path = path; signal = up.Leave number connection }) } else record { taken = false; sent = None }) }
+    ensures { result ≡ (if nat_lt connection last
+        then record { taken = true; sent = Some (record { path = path; signal = up.Leave number connection }) }
+        else record { taken = false; sent = None }) }
 {
     if connection < last {
         sending(path, Up::Leave { number, connection })
@@ -201,7 +218,8 @@ fn refused(unit: &mut UnitState, side: Side, number: u64, connection: u64) -> Ta
             side: owner,
             number: held,
             place: Place::Ask {
-                connection: last, ..
+                connection: last,
+                ..
             },
         } if owner.same(side) && number == held && connection == last => {
             unit.own = Own::Owned {
@@ -327,14 +345,15 @@ fn is_granted_late(unit: &UnitState, side: Side, number: u64, connection: u64) -
         Own::Owned {
             side: owner,
             number: held,
-            place:
-                Place::On {
-                    connection: last, ..
-                }
-                | Place::Ask {
-                    connection: last, ..
-                }
-                | Place::Away { connection: last },
+            place: Place::On {
+                connection: last,
+                ..
+            }
+            | Place::Ask {
+                connection: last,
+                ..
+            }
+            | Place::Away { connection: last },
         } => owner.same(side) && number == held && connection < last,
     }
 }

@@ -32,9 +32,23 @@ fn work_at(unit: &UnitState, side: Side, number: u64, command: &AtHand) -> Optio
 {
     match command.progress {
         Progress::New if unit.halted => Some(halted_report(unit, side, number, command)),
-        Progress::New => Some(calling(unit, side, number, command, Call::Initial { code: command.code })),
-        Progress::Working if unit.halted => Some(calling(unit, side, number, command, Call::Finish)),
-        Progress::Working if command.unanswered.is_none() => work_on_bytes(unit, side, number, command),
+        Progress::New => Some(calling(
+            unit,
+            side,
+            number,
+            command,
+            Call::Initial { code: command.code },
+        )),
+        Progress::Working if unit.halted => Some(calling(
+            unit,
+            side,
+            number,
+            command,
+            Call::Finish,
+        )),
+        Progress::Working if command.unanswered.is_none() => work_on_bytes(
+            unit, side, number, command,
+        ),
         Progress::Working => None,
         Progress::ChannelEnded => Some(calling(unit, side, number, command, Call::Finish)),
         Progress::Ended => None,
@@ -46,7 +60,15 @@ fn work_on_bytes(unit: &UnitState, side: Side, number: u64, command: &AtHand) ->
     ensures { result ≡ reports.work_on_bytes unit.now side number command.now command.now.given }
 {
     match &command.given {
-        Some(bytes) => Some(calling(unit, side, number, command, Call::Absorb { bytes: bytes.copy() })),
+        Some(bytes) => Some(calling(
+            unit,
+            side,
+            number,
+            command,
+            Call::Absorb {
+                bytes: bytes.copy(),
+            },
+        )),
         None if command.stopped => Some(calling(unit, side, number, command, Call::Finish)),
         None => None,
     }

@@ -22,7 +22,8 @@ returns g c =
         one_there old.subs c.in-Some.place c.index.result.now sub c.index.result.now sub within c.index.ensures c.index_mut-sub.ensures.value in
     let usable : IsChoice (usable_paths old.subs sub) c.choose-path.result =
         subst (λ (x : Subchannel). IsChoice (usable_paths old.subs x) c.choose-path.result) same
-            (subst (λ (set : List Bool). IsChoice set c.choose-path.result) c.usable_paths-usable.ensures c.choose-path.ensures) in
+            (subst (λ (subs : List Subchannel). IsChoice (usable_paths subs c.index.result.now) c.choose-path.result) c.as_slice.ensures.value
+                (subst (λ (set : List Bool). IsChoice set c.choose-path.result) c.usable_paths-usable.ensures c.choose-path.ensures)) in
     let given : GivesSub sub (choose_sub sub (chosen sub c.choose-path.result)) c.choose_sub.result c.choose_sub.new.sub =
         subst (λ (w : Chosen). GivesSub sub (choose_sub sub w) c.choose_sub.result c.choose_sub.new.sub) c.chosen-what.ensures.chosen c.choose_sub.ensures in
     subst (λ (s : State). Performs s (event.Choose c.args.word) c.choose_sub.result (with_sub old c.in-Some.place c.choose_sub.new.sub)) c.self.view_is

@@ -1,5 +1,4 @@
--- Whether a signal is answered depends neither on its path nor on what the control unit may do, and the answer goes by
--- its path.
+-- What is sent for a signal goes by the path that the signal came by.
 use Rattle.std.proofs.Common.{◌≡◌, refl, ℕ, ◌+◌, List, IfSome, Bool, true, false, Option, None, Some, is_some, ◌&&◌, ◌==◌, nat_lt, if◌then◌else◌, not}
 use Rattle.chan_model.specs.declared.names.Side.{Side}
 use Rattle.chan_model.specs.declared.signal.Down.{Down}
@@ -15,67 +14,6 @@ use Rattle.chan_model.specs.declared.unit_state.Attention.{Attention}
 use Rattle.chan_model.specs.declared.unit_state.UnitState.{UnitState}
 use Rattle.chan_model.specs.Sides.{same_side}
 use Rattle.chan_model.specs.UnitTable.{UnitStep, unit_takes, unit_works, came_of, side_of, raised, selected, granted, granted_at, refused, refused_at, given_next, answered_load, answered_last, forgetting, is_owner, is_owner_on, freed, sends, telling, resets, reset_side}
-
-abbrev pub sends_some : Option UnitStep → Bool
-sends_some step = is_some (came_of step).sent
-
--- two choices by one test send alike where their parts do
-pub alike : (b : Bool) (x y z w : Option UnitStep) → sends_some x ≡ sends_some z → sends_some y ≡ sends_some w →
-    sends_some (if b then x else y) ≡ sends_some (if b then z else w)
-alike true x y z w e f = e
-alike false x y z w e f = f
-
-selected-alike : (u : UnitState) (own : Own) (side : Side) (p q t : ℕ) (a b : Bool) → sends_some (selected u own side p t a) ≡ sends_some (selected u own side q t b)
-selected-alike u Idle side p q t true true = refl
-selected-alike u Idle side p q t true false = refl
-selected-alike u Idle side p q t false true = refl
-selected-alike u Idle side p q t false false = refl
-selected-alike u (Owned k v place) side p q t a b = refl
-
-granted_at-alike : (u : UnitState) (side : Side) (t : ℕ) (place : Place) (p q c : ℕ) → sends_some (granted_at u side t place p c) ≡ sends_some (granted_at u side t place q c)
-granted_at-alike u side t (Ask r d) p q c = alike (c == d) _ _ _ _ refl (alike (nat_lt c d) (sends u p (up.Leave t c)) None (sends u q (up.Leave t c)) None refl refl)
-granted_at-alike u side t (On r d) p q c = alike (nat_lt c d) (sends u p (up.Leave t c)) None (sends u q (up.Leave t c)) None refl refl
-granted_at-alike u side t (Away d) p q c = alike (nat_lt c d) (sends u p (up.Leave t c)) None (sends u q (up.Leave t c)) None refl refl
-
-granted-alike : (u : UnitState) (own : Own) (side : Side) (p q t c : ℕ) → sends_some (granted u own side p t c) ≡ sends_some (granted u own side q t c)
-granted-alike u Idle side p q t c = refl
-granted-alike u (Owned k v place) side p q t c =
-    alike (same_side k side && (t == v)) (granted_at u k v place p c) None (granted_at u k v place q c) None (granted_at-alike u k v place p q c) refl
-
-works-alike : (u : UnitState) (side : Side) (d : Down) (p q : ℕ) (a b : Bool) → sends_some (unit_works u side p d a) ≡ sends_some (unit_works u side q d b)
-works-alike u side (Select t) p q a b =
-    alike (nat_lt (side_of u side).floor t) (selected (raised u side t) u.own side p t a) None (selected (raised u side t) u.own side q t b) None
-        (selected-alike (raised u side t) u.own side p q t a b) refl
-works-alike u side (Command t n code room) p q a b = refl
-works-alike u side (Grant t c) p q a b = granted-alike u u.own side p q t c
-works-alike u side (Refuse t c) p q a b = refl
-works-alike u side (Took t n s room) p q a b = refl
-works-alike u side (Give t c n s bytes) p q a b = refl
-works-alike u side (Halt t) p q a b = refl
-works-alike u side (Release t) p q a b = alike (is_owner u.own side t) (sends (freed u) p (up.Released t)) None (sends (freed u) q (up.Released t)) None refl refl
-works-alike u side (Reset r n) p q a b = refl
-works-alike u side (Got x) p q a b = refl
-
-fresh-alike : (u : UnitState) (side : Side) (d : Down) (p q : ℕ) (a b : Bool) →
-    sends_some (if (side_of u side).fresh then telling u p else unit_works u side p d a)
-        ≡ sends_some (if (side_of u side).fresh then telling u q else unit_works u side q d b)
-fresh-alike u side d p q a b =
-    alike (side_of u side).fresh (telling u p) (unit_works u side p d a) (telling u q) (unit_works u side q d b) refl (works-alike u side d p q a b)
-
-pub takes-alike : (u : UnitState) (side : Side) (d : Down) (p q : ℕ) (a b : Bool) → sends_some (unit_takes u side p d a) ≡ sends_some (unit_takes u side q d b)
-takes-alike u side (Reset r n) p q a b =
-    alike (resets u side r n) (sends (reset_side u side r) p (up.Cleared r)) (if (side_of u side).fresh then telling u p else None)
-        (sends (reset_side u side r) q (up.Cleared r)) (if (side_of u side).fresh then telling u q else None) refl
-        (alike (side_of u side).fresh (telling u p) None (telling u q) None refl refl)
-takes-alike u side (Select t) p q a b = fresh-alike u side (Select t) p q a b
-takes-alike u side (Command t n code room) p q a b = fresh-alike u side (Command t n code room) p q a b
-takes-alike u side (Grant t c) p q a b = fresh-alike u side (Grant t c) p q a b
-takes-alike u side (Refuse t c) p q a b = fresh-alike u side (Refuse t c) p q a b
-takes-alike u side (Took t n s room) p q a b = fresh-alike u side (Took t n s room) p q a b
-takes-alike u side (Give t c n s bytes) p q a b = fresh-alike u side (Give t c n s bytes) p q a b
-takes-alike u side (Halt t) p q a b = fresh-alike u side (Halt t) p q a b
-takes-alike u side (Release t) p q a b = fresh-alike u side (Release t) p q a b
-takes-alike u side (Got x) p q a b = fresh-alike u side (Got x) p q a b
 
 -- what is sent goes by the path that the signal came by
 abbrev pub OnPathOf : ℕ → Option UnitStep → Type 0

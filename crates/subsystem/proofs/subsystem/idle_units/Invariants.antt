@@ -1,0 +1,7 @@
+use Rattle.std.proofs.Common.{◌≡◌, take, map}
+use Rattle.machine_model.specs.State.{idle_of}
+use Rattle.subsystem.proofs.subsystem.idle_units.Given as goal
+
+-- the units so far are idle
+abbrev pub invariant-loop-kind : goal.invariant-loop-kind
+invariant-loop-kind l = l.units.items ≡ map idle_of (take l.kind-index l.kinds)

@@ -1,0 +1,7 @@
+use Rattle.std.proofs.Common.{◌≡◌, take, map}
+use Rattle.machine_model.specs.State.{opened}
+use Rattle.subsystem.proofs.subsystem.opened_all.Given as goal
+
+-- the subchannels so far are opened
+abbrev pub invariant-loop-setup : goal.invariant-loop-setup
+invariant-loop-setup l = l.subs.items ≡ map opened (take l.setup-index l.setups)

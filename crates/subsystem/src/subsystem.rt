@@ -1,0 +1,212 @@
+//! The channel subsystem: its machine, and the history that led there.
+
+ghost use Rattle.std.specs.Prelude.{◌≡◌, ◌⊎◌, ◌+◌, ◌<◌, ◌++◌, ◌∷◌, [], ℕ, IfOk, IfErr, OnErr, OnOk, All, length, map, vec_len, vec_capacity, option_map};
+ghost use Rattle.chan_model.specs.declared.fault.Fault.TheVariants as fault_spec;
+ghost use Rattle.machine_model.specs.State as state_spec;
+ghost use Rattle.machine_model.specs.Steps.{Step, IsRefused, HasRun, accepted};
+ghost use Rattle.machine_model.specs.Bounds.{IsRoomy};
+
+use chan_model::event::Event;
+use chan_model::fault::Fault;
+use chan_model::reply::{Entry, Reply};
+use channel_config::config::Config;
+use channel_config::parts::{SubchannelSetup, UnitKind};
+use hold::Hold;
+use machine_laws::numbers;
+use machine_model::state::{Pmcw, Subchannel, SubchannelState, UnitTurn};
+use path_select::PathChoice;
+use scsw_irb::scsw::Scsw;
+use scsw_irb::serials::Serials;
+use std::alloc::{AllocError, Global};
+use std::marker::Model;
+use storage_keys::Storage;
+use unit::Unit;
+use wires::Wires;
+
+use crate::history::History;
+use crate::machine::Machine;
+
+/// A channel subsystem with its subchannels, units and storage (SA22-7832, chapters 13 to 17).
+#[derive(Drop)]
+pub struct Subsystem<P: Drop> {
+    choice: P,
+    machine: Machine,
+    history: Vec<Entry>,
+}
+
+impl<P: Drop> Model for Subsystem<P> {
+    ghost use Rattle.machine_model.specs.State.{Past};
+    ghost use Rattle.machine_model.specs.Steps.{HasRun};
+
+    ghost Value = { Past };
+
+    ghost view = { λ s. record { state = s.machine; history = s.history.items } };
+
+    ghost invariant = { λ s. HasRun s.history.items s.machine };
+}
+
+/// There was no memory for a subsystem: what it was to be made of.
+#[derive(Drop)]
+pub struct NotMade<P: Drop> {
+    pub config: Config,
+    pub choice: P,
+}
+
+impl<P: PathChoice + Drop> Subsystem<P> {
+    /// The subsystem that is set up so. Where no memory is left, what was given is handed back.
+    pub fn new(alloc: Global, config: Config, choice: P) -> Result<Self, NotMade<P>>
+        ensures { IfOk result (λ s. s ≡ record { state = state_spec.opening_of config; history = [] }) }
+    {
+        match opened_machine(alloc, &config) {
+            Ok(machine) => Ok(Subsystem {
+                choice,
+                machine,
+                history: Vec::new(alloc),
+            }),
+            Err(_) => Err(NotMade { config, choice }),
+        }
+    }
+
+    /// One event. It is refused `NoMemory` where the history can't grow; a refusal changes nothing.
+    pub fn step(&mut self, event: &Event) -> Result<Reply, Fault>
+        ensures step { IfOk result (λ reply. Step self.old.state event.now reply self.new.state) }
+        ensures history { IfOk result (λ reply. self.new.history ≡ self.old.history ++ record { event = event.now; reply = reply } ∷ []) }
+        ensures refused { OnErr result (self.new ≡ self.old) }
+        ensures refusal { IfErr result (λ f. (f ≡ fault_spec.NoMemory) ⊎ IsRefused self.old.state event.now f) }
+    {
+        numbers();
+        if self.history.len() >= (1 << 62) - 1 {
+            return Err(Fault::NoMemory);
+        }
+        if self.history.reserve(1).is_err() {
+            return Err(Fault::NoMemory);
+        }
+        let reply = match self.machine.perform(&self.choice, event) {
+            Ok(reply) => reply,
+            Err(fault) => return Err(fault),
+        };
+        append(
+            &mut self.history,
+            Entry {
+                event: event.copy(),
+                reply: reply.copy(),
+            },
+        );
+        Ok(reply)
+    }
+
+    /// What was accepted, in order.
+    pub fn history(&self) -> History<'_>
+        ensures history { result ≡ self.now.history }
+        ensures replays { HasRun self.now.history self.now.state }
+    {
+        History::of(self.history.as_slice())
+    }
+
+    /// The serials of the subchannel that a subsystem-identification word names; None where it is not configured.
+    pub fn serials(&self, subchannel: u32) -> Option<Serials>
+        ensures { result ≡ state_spec.serials_in (state_spec.sub_of self.now.state subchannel) }
+    {
+        self.machine.serials(subchannel)
+    }
+
+    /// What a unit is to do next; None where it is not configured.
+    pub fn unit_turn(&self, unit: u32) -> Option<UnitTurn>
+        ensures { result ≡ state_spec.unit_turn_of self.now.state «unit» }
+    {
+        self.machine.unit_turn(unit)
+    }
+}
+
+/// Adds an entry, for which there is room.
+fn append(history: &mut Vec<Entry>, entry: Entry)
+    requires { vec_len history.old < vec_capacity history.old }
+    ensures { history.new.items ≡ history.old.items ++ entry ∷ [] }
+{
+    history.push(entry).unwrap();
+}
+
+/// A subchannel at the opening.
+fn opened(setup: &SubchannelSetup) -> Subchannel
+    ensures { result ≡ state_spec.opened setup.now }
+{
+    Subchannel {
+        setup: setup.copy(),
+        state: opening_subchannel(),
+        wires: Wires::new(),
+    }
+}
+
+fn opening_subchannel() -> SubchannelState
+    ensures { result ≡ state_spec.opening_subchannel }
+{
+    SubchannelState {
+        pmcw: Pmcw {
+            parameter: 0,
+            subclass: 0,
+            enabled: false,
+            multipath: false,
+            logical: [true; 8],
+            not_operational: [false; 8],
+            last_used: None,
+            operational: [true; 8],
+        },
+        scsw: Scsw::zero(),
+        serials: Serials {
+            made: 0,
+            cleared: 0,
+        },
+        drawn: 0,
+        starts: 0,
+        waiting: None,
+        begun: None,
+        hold: Hold::new().state(),
+        offered: 0,
+        last_path: None,
+        dedicated: None,
+    }
+}
+
+fn opened_all(alloc: Global, setups: &[SubchannelSetup]) -> Result<Vec<Subchannel>, AllocError>
+    ensures { IfOk result (λ subs. subs.items ≡ map state_spec.opened setups.now) }
+{
+    let mut subs = Vec::new(alloc);
+    for setup in setups {
+        subs.push(opened(setup))?;
+    }
+    Ok(subs)
+}
+
+/// A unit at the opening.
+fn idle(kind: UnitKind) -> Unit
+    ensures { result ≡ state_spec.idle_of kind }
+{
+    match kind {
+        UnitKind::Block => Unit::new(),
+    }
+}
+
+fn idle_units(alloc: Global, kinds: &[UnitKind]) -> Result<Vec<Unit>, AllocError>
+    ensures { IfOk result (λ units. units.items ≡ map state_spec.idle_of kinds.now) }
+{
+    let mut units = Vec::new(alloc);
+    for kind in kinds {
+        units.push(idle(*kind))?;
+    }
+    Ok(units)
+}
+
+fn opened_machine(alloc: Global, config: &Config) -> Result<Machine, AllocError>
+    ensures { IfOk result (λ machine. machine ≡ state_spec.opening_of config.now) }
+{
+    let blocks = match config.blocks() {
+        Some(blocks) => blocks,
+        None => 16,
+    };
+    Ok(Machine {
+        storage: Storage::new(alloc, blocks)?,
+        sets: config.set_count(),
+        subs: opened_all(alloc, config.subchannels())?,
+        units: idle_units(alloc, config.units())?,
+    })
+}
