@@ -1,0 +1,38 @@
+//! Devices: what each keeps to, a store of blocks, and the answer to what a unit asks of one.
+#![tactic(auto)]
+
+pub mod answering;
+pub mod block_store;
+#[cfg(test)]
+mod tests;
+
+ghost use Rattle.std.specs.Prelude.{◌≤◌, length};
+ghost use Rattle.device_models.specs.Laws.{IsInitial, IsFinal};
+
+use scsw_irb::status::DeviceStatus;
+
+/// How a command ended.
+#[derive(Clone, Copy, Debug)]
+pub struct Finish {
+    pub status: DeviceStatus,
+    /// A read ended before the device had given all its bytes.
+    pub more: bool,
+}
+
+/// A device, as its unit calls it.
+pub trait Device {
+    /// The initial status of the command of this code, which the device begins.
+    fn initial(&mut self, code: u8) -> DeviceStatus
+        ensures { IsInitial result };
+
+    /// Takes bytes of a write: how many of them, counted from the first.
+    fn absorb(&mut self, bytes: &[u8]) -> usize
+        ensures { result ≤ length bytes.now };
+
+    /// Ends the command.
+    fn finish(&mut self) -> Finish
+        ensures { IsFinal result.status };
+
+    /// Puts the device back to its opening.
+    fn restart(&mut self);
+}

@@ -1,0 +1,114 @@
+-- One more line performed and written.
+use Rattle.std.proofs.Common.{◌≡◌, ℕ, ◌+◌, Bool, IsTrue, true, false, ◌||◌, List, [], ◌∷◌, ◌++◌, length, take, drop, map, None, Some, refl, subst, sym, ap, ◌∙◌, append-nil, append_assoc, suc, arith, zero-add, ◌<◌, ◌≤◌, get_or}
+use Rattle.std.specs.Prelude.{Option, is_err}
+use Rattle.std.specs.List.{list_any}
+use Rattle.std.proofs.Math.Seq.{take-append-add}
+use Rattle.std.proofs.lemmas.List.{take_all, take_more}
+use Rattle.std.proofs.KnownBytes.{Appends-trans}
+use Rattle.std.specs.Io.KnownBytes.{Appends}
+use Rattle.script.specs.declared.Action.{Action}
+use Rattle.script.specs.Text.{event_line}
+use Rattle.script.specs.declared.Line.{Line}
+use Rattle.serving.specs.declared.performing.Written.{Written}
+use Rattle.serving.specs.Acting.{Installed, Outcome, Acts, Runs}
+use Rattle.serving.specs.Performing.{output_of, IsDone, HasPerformed, HasBegun, Performs}
+
+pub runs-more : (old : Installed) (es : List Action) (os : List Outcome) (middle : Installed) (e : Action) (o : Outcome) (new : Installed)
+    → Runs old es os middle → Acts middle e o new → Runs old (es ++ e ∷ []) (os ++ o ∷ []) new
+runs-more old [] [] middle e o new h s = (new, subst (λ (m : Installed). Acts m e o new) h s, refl)
+runs-more old [] (p ∷ os) middle e o new h s = absurd h
+runs-more old (f ∷ es) [] middle e o new h s = absurd h
+runs-more old (f ∷ es) (p ∷ os) middle e o new h s = (h.0, h.1, runs-more h.0 es os middle e o new h.2 s)
+
+pub runs-length : (old : Installed) (ls : List Line) (os : List Outcome) (new : Installed) → Runs old (map (λ l. l.action) ls) os new → length ls ≡ length os
+runs-length old [] [] new h = refl
+runs-length old [] (p ∷ os) new h = absurd h
+runs-length old (l ∷ ls) [] new h = absurd h
+runs-length old (l ∷ ls) (p ∷ os) new h = ap suc (runs-length h.0 ls os new h.2)
+
+pub output-more : (ls : List Line) (os : List Outcome) (l : Line) (o : Outcome) → length ls ≡ length os
+    → output_of (ls ++ l ∷ []) (os ++ o ∷ []) ≡ output_of ls os ++ event_line l.number o
+output-more [] [] l o e = append-nil (event_line l.number o)
+output-more [] (p ∷ os) l o e = absurd (omega arith)
+output-more (m ∷ ls) [] l o e = absurd (omega arith)
+output-more (m ∷ ls) (p ∷ os) l o e =
+    let shorter : length ls ≡ length os = omega arith in
+    ap (λ (t : List ℕ). event_line m.number p ++ t) (output-more ls os l o shorter) ∙ sym (append_assoc (event_line m.number p) (output_of ls os) (event_line l.number o))
+
+pub or-assoc : (a b c : Bool) → (a || (b || c)) ≡ ((a || b) || c)
+or-assoc true b c = refl
+or-assoc false b c = refl
+
+pub or-false : (a : Bool) → (a || false) ≡ a
+or-false true = refl
+or-false false = refl
+
+pub any-more : (os : List Outcome) (o : Outcome) → list_any is_err (os ++ o ∷ []) ≡ (list_any is_err os || is_err o)
+any-more [] o = or-false (is_err o)
+any-more (p ∷ os) o = ap (λ (b : Bool). is_err p || b) (any-more os o) ∙ or-assoc (is_err p) (list_any is_err os) (is_err o)
+
+pub refused-more : (os : List Outcome) (o : Outcome) (a b : Bool) → a ≡ list_any is_err os → b ≡ is_err o → (a || b) ≡ list_any is_err (os ++ o ∷ [])
+refused-more os o a b e f = ap (λ (x : Bool). x || b) e ∙ ap (λ (x : Bool). list_any is_err os || x) f ∙ sym (any-more os o)
+
+pub actions-more : (ls : List Line) (l : Line) → map (λ (k : Line). k.action) (ls ++ l ∷ []) ≡ map (λ (k : Line). k.action) ls ++ l.action ∷ []
+actions-more [] l = refl
+actions-more (m ∷ ls) l = ap (λ (t : List Action). m.action ∷ t) (actions-more ls l)
+
+pub performed_more : (old middle new : Installed) (ls : List Line) (l : Line) (held then now : Option (List ℕ)) (a : Bool) (r : Written)
+    → HasPerformed old ls held then a middle → IsDone middle l then now r new → IsTrue r.whole → HasPerformed old (ls ++ l ∷ []) held now (a || r.refused) new
+performed_more old middle new ls l held then now a r h t w = record {
+  outcomes = h.outcomes ++ t.outcome ∷ [];
+  runs = subst (λ (es : List Action). Runs old es (h.outcomes ++ t.outcome ∷ []) new) (sym (actions-more ls l))
+      (runs-more old (map (λ k. k.action) ls) h.outcomes middle l.action t.outcome new h.runs t.acts);
+  refused = refused-more h.outcomes t.outcome a r.refused h.refused t.refused;
+  written = subst (Appends held now) (sym (output-more ls h.outcomes l t.outcome (runs-length old ls h.outcomes middle h.runs)))
+      (Appends-trans held then now _ _ h.written (t.whole w))
+}
+
+pub begun_more : (old middle new : Installed) (ls : List Line) (l : Line) (held then now : Option (List ℕ)) (a : Bool) (r : Written)
+    → HasPerformed old ls held then a middle → IsDone middle l then now r new → HasBegun old (ls ++ l ∷ []) held now (a || r.refused) new
+begun_more old middle new ls l held then now a r h t = record {
+  outcomes = h.outcomes ++ t.outcome ∷ [];
+  runs = subst (λ (es : List Action). Runs old es (h.outcomes ++ t.outcome ∷ []) new) (sym (actions-more ls l))
+      (runs-more old (map (λ k. k.action) ls) h.outcomes middle l.action t.outcome new h.runs t.acts);
+  refused = refused-more h.outcomes t.outcome a r.refused h.refused t.refused;
+  written = (length (output_of ls h.outcomes) + t.part.0,
+      subst (λ (text : List ℕ). Appends held now (take (length (output_of ls h.outcomes) + t.part.0) text))
+          (sym (output-more ls h.outcomes l t.outcome (runs-length old ls h.outcomes middle h.runs)))
+      (subst (Appends held now) (sym (take-append-add (output_of ls h.outcomes) (event_line l.number t.outcome) t.part.0))
+      (Appends-trans held then now _ _ h.written t.part.1)))
+}
+
+pub begun_of : (old new : Installed) (ls : List Line) (held now : Option (List ℕ)) (a : Bool) → HasPerformed old ls held now a new → HasBegun old ls held now a new
+begun_of old new ls held now a h = record {
+  outcomes = h.outcomes;
+  runs = h.runs;
+  refused = h.refused;
+  written = (length (output_of ls h.outcomes), subst (Appends held now) (sym (take_all (length (output_of ls h.outcomes)) (output_of ls h.outcomes) (omega arith))) h.written)
+}
+
+pub grown : (ls : List Line) (i : ℕ) (l : Line) → i < length ls → l ≡ get_or ls i l → take (i + 1) ls ≡ take i ls ++ l ∷ []
+grown ls i l lt is = take_more ls i l lt ∙ ap (λ (k : Line). take i ls ++ k ∷ []) (sym is)
+
+pub performed_to : (old middle new : Installed) (ls : List Line) (i : ℕ) (l : Line) (held then now : Option (List ℕ)) (a : Bool) (r : Written)
+    → i < length ls → l ≡ get_or ls i l → HasPerformed old (take i ls) held then a middle → IsDone middle l then now r new → IsTrue r.whole
+    → HasPerformed old (take (i + 1) ls) held now (a || r.refused) new
+performed_to old middle new ls i l held then now a r lt is h t w =
+    subst (λ (ks : List Line). HasPerformed old ks held now (a || r.refused) new) (sym (grown ls i l lt is))
+        (performed_more old middle new (take i ls) l held then now a r h t w)
+
+pub begun_to : (old middle new : Installed) (ls : List Line) (i : ℕ) (l : Line) (held then now : Option (List ℕ)) (a : Bool) (r : Written)
+    → i < length ls → l ≡ get_or ls i l → HasPerformed old (take i ls) held then a middle → IsDone middle l then now r new
+    → HasBegun old (take (i + 1) ls) held now (a || r.refused) new
+begun_to old middle new ls i l held then now a r lt is h t =
+    subst (λ (ks : List Line). HasBegun old ks held now (a || r.refused) new) (sym (grown ls i l lt is))
+        (begun_more old middle new (take i ls) l held then now a r h t)
+
+pub performs_all : (old new : Installed) (ls : List Line) (i : ℕ) (held now : Option (List ℕ)) (a : Bool) → length ls ≤ i
+    → HasPerformed old (take i ls) held now a new → Performs old ls held now (record { done = length ls; whole = true; refused = a }) new
+performs_all old new ls i held now a le h =
+    let all : HasPerformed old ls held now a new = subst (λ (ks : List Line). HasPerformed old ks held now a new) (take_all i ls le) h in
+    let same : take (length ls) ls ≡ ls = take_all (length ls) ls (omega arith) in
+    let begun : HasBegun old (take (length ls) ls) held now a new = subst (λ (ks : List Line). HasBegun old ks held now a new) (sym same) (begun_of old new ls held now a all) in
+    let within : length ls ≤ length ls = omega arith in
+    ((λ w. all), (within, begun))

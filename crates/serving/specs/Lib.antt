@@ -1,0 +1,3 @@
+pub mod Acting
+pub mod Performing
+pub mod Serving

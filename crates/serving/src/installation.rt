@@ -1,0 +1,154 @@
+//! A channel subsystem with a device for each of its units.
+
+ghost use Rattle.std.specs.Prelude.{◌≡◌, IfOk, length, slice_get};
+ghost use Rattle.serving.specs.Acting.{Acts, TakesTurn, HandsIn, IsReportOf, IsNext, kept_after, opening};
+ghost use Rattle.machine_model.specs.State.{unit_turn_of};
+
+use chan_model::event::Event;
+use chan_model::fault::Fault;
+use chan_model::reply::Reply;
+use chan_model::report::{Report, Work};
+use channel_config::config::Config;
+use device_models::answering::answer;
+use device_models::block_store::BlockStore;
+use machine_model::state::UnitTurn;
+use path_select::Rotating;
+use script::Action;
+use std::alloc::{AllocError, Global};
+use std::marker::Model;
+use subsystem::subsystem::Subsystem;
+
+/// A channel subsystem, with a store of blocks for each unit, and by unit the report that is still to be handed in: one for
+/// which there was no memory or no room on a wire.
+#[derive(Drop)]
+pub struct Installation {
+    subsystem: Subsystem<Rotating>,
+    stores: Vec<BlockStore>,
+    kept: Vec<Option<Report>>,
+}
+
+impl Model for Installation {
+    ghost use Rattle.std.specs.Prelude.{◌≡◌, length};
+    ghost use Rattle.serving.specs.Acting.{Installed};
+
+    ghost Value = { Installed };
+
+    ghost view = { λ i. record { past = i.subsystem; kept = i.kept.items } };
+
+    ghost invariant = { λ i. length i.stores.items ≡ length i.kept.items };
+}
+
+impl Installation {
+    /// An installation at its opening.
+    pub fn new(alloc: Global, config: Config) -> Result<Installation, AllocError>
+        ensures { IfOk result (λ i. i ≡ opening config) }
+    {
+        let units = config.units().len();
+        let stores = opening_stores(alloc, units)?;
+        let kept = vec![in alloc; None; units]?;
+        match Subsystem::new(alloc, config, Rotating) {
+            Ok(subsystem) => Ok(Installation {
+                subsystem,
+                stores,
+                kept,
+            }),
+            Err(_) => Err(AllocError),
+        }
+    }
+
+    /// Performs an action. A turn of a device hands in the report that is kept for its unit, else the one of the unit's next
+    /// work. It is refused NoSuchUnit where the unit is not configured, and NotNow where no report is kept and a signal waits
+    /// for the unit or it has nothing to do.
+    pub fn act(&mut self, action: &Action) -> Result<Reply, Fault>
+        ensures { Acts self.old action.now result self.new }
+    {
+        match action {
+            Action::Event(event) => self.subsystem.step(event),
+            Action::Dev(unit) => self.take_turn(*unit),
+        }
+    }
+
+    fn take_turn(&mut self, unit: u32) -> Result<Reply, Fault>
+        ensures { TakesTurn self.old «unit» result self.new }
+    {
+        let report = self.next_report(unit)?;
+        self.hand_in(unit, report)
+    }
+
+    /// The report that is kept for a unit, else the one of its next work.
+    fn next_report(&mut self, unit: u32) -> Result<Report, Fault>
+        ensures next { IsNext (slice_get self.old.kept «unit») (unit_turn_of self.old.past.state «unit») result }
+        ensures same { self.new ≡ self.old }
+    {
+        let Some(kept) = self.kept.get(unit as usize) else {
+            return Err(Fault::NoSuchUnit);
+        };
+        let Some(store) = self.stores.get_mut(unit as usize) else {
+            return Err(Fault::NoSuchUnit);
+        };
+        let Some(turn) = self.subsystem.unit_turn(unit) else {
+            return Err(Fault::NoSuchUnit);
+        };
+        if let Some(report) = kept {
+            return Ok(*report);
+        }
+        match turn {
+            UnitTurn::Works(work) => Ok(worked(store, &work)),
+            UnitTurn::Takes | UnitTurn::Rests => Err(Fault::NotNow),
+        }
+    }
+
+    /// Hands in a report. It is kept where it is refused for want of memory or of room on a wire, and only there.
+    fn hand_in(&mut self, unit: u32, report: Report) -> Result<Reply, Fault>
+        ensures { HandsIn self.old «unit» report result self.new }
+    {
+        let outcome = self.subsystem.step(&Event::Report { unit, report });
+        if let Some(kept) = self.kept.get_mut(unit as usize) {
+            *kept = kept_of(report, &outcome);
+        }
+        outcome
+    }
+}
+
+/// What is kept of a report that was handed in.
+fn kept_of(report: Report, outcome: &Result<Reply, Fault>) -> Option<Report>
+    ensures { result ≡ kept_after report outcome.now }
+{
+    match outcome {
+        Err(Fault::NoMemory | Fault::WireFull) => Some(report),
+        _ => None,
+    }
+}
+
+/// So many stores at their opening.
+fn opening_stores(alloc: Global, count: usize) -> Result<Vec<BlockStore>, AllocError>
+    ensures { IfOk result (λ stores. length stores.items ≡ count) }
+{
+    let mut stores = Vec::new(alloc);
+    for _ in 0..count {
+        stores.push(BlockStore::new())?;
+    }
+    Ok(stores)
+}
+
+/// The report of a work. Where there is a call of the device, it is made.
+fn worked(store: &mut BlockStore, work: &Work) -> Report
+    ensures { IsReportOf work.now result }
+{
+    match work {
+        Work::Report(report) => *report,
+        Work::Call {
+            side,
+            number,
+            command,
+            sequence,
+            call,
+        } => Report {
+            side: *side,
+            number: *number,
+            command: *command,
+            sequence: *sequence,
+            answer: answer(store, call),
+        },
+    }
+}
