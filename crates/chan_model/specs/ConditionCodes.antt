@@ -32,7 +32,7 @@ ssch_code c = in_order (is_operational c) c.status.pending (any_function c.funct
 abbrev pub rsch_code : Condition → ConditionCode
 rsch_code c =
     in_order (is_operational c) c.status.pending
-        (not (start_alone c.functions) || (c.activity.resume_pending || not c.may_suspend))
+    (not (start_alone c.functions) || (c.activity.resume_pending || not c.may_suspend))
 
 -- HALT: 1 status pending alone, or with alert, primary or secondary status; 2 halt or clear in progress
 abbrev pub shows_end : StatusControl → Bool
@@ -52,7 +52,7 @@ waits a = a.start_pending || (a.resume_pending || a.suspended)
 abbrev pub xsch_code : Condition → ConditionCode
 xsch_code c =
     in_order (is_operational c) c.status.pending
-        (not (start_alone c.functions) || (not (waits c.activity) || c.activity.subchannel_active))
+    (not (start_alone c.functions) || (not (waits c.activity) || c.activity.subchannel_active))
 
 -- MODIFY: 1 status pending; 2 a function in progress; a subchannel that is provided need not be enabled
 abbrev pub msch_code : Condition → ConditionCode

@@ -25,7 +25,7 @@ joined_conditions old new = record {
   intermediate = old.intermediate || new.intermediate;
   primary = old.primary || new.primary;
   secondary = old.secondary || new.secondary;
-  pending = true
+  pending = true;
 }
 
 abbrev pub with_joined : Scsw → StatusControl → DeviceStatus → SubchannelStatus → Shown → Scsw
@@ -36,7 +36,7 @@ with_joined scsw conditions device subchannel shown = record scsw {
   subchannel_status = record { 0 = bit_or subchannel.0 shown.subchannel.0 };
   deferred = unwrap_or shown.deferred scsw.deferred;
   command_address = shown.command_address;
-  count = shown.count
+  count = shown.count;
 }
 
 abbrev pub with_status : Scsw → Shown → Scsw
@@ -82,7 +82,7 @@ ended_scsw scsw = record scsw {
   activity = active_alone scsw.activity;
   status = no_status;
   path_not_operational = false;
-  deferred = deferred.Zero
+  deferred = deferred.Zero;
 }
 
 -- intermediate status alone: of a suspended program resume pending, N and the deferred code go too
@@ -91,7 +91,7 @@ suspended_scsw scsw = record scsw {
   activity = record scsw.activity { resume_pending = false };
   status = no_status;
   path_not_operational = false;
-  deferred = deferred.Zero
+  deferred = deferred.Zero;
 }
 
 abbrev pub without_status : Scsw → Scsw

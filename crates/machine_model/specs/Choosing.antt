@@ -95,7 +95,10 @@ IsFreeToOffer (Offers program path) phase = IsFree phase
 -- the program is offered under a fresh number
 abbrev pub offered : SubchannelState → Program → ℕ → SubchannelState
 offered s program path = record s {
-  drawn = s.drawn + 1; hold = (offering s.hold (s.drawn + 1) path program.single_path).state; offered = program.start; last_path = Some path
+  drawn = s.drawn + 1;
+  hold = (offering s.hold (s.drawn + 1) path program.single_path).state;
+  offered = program.start;
+  last_path = Some path;
 }
 
 -- the program found no path, and is over

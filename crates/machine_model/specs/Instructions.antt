@@ -15,20 +15,34 @@ use Rattle.machine_model.specs.State.{no_paths}
 -- what an instruction finds of a provided subchannel
 abbrev pub condition_of : SubchannelState → Condition
 condition_of s = record {
-  provided = true; enabled = s.pmcw.enabled; functions = s.scsw.functions; activity = s.scsw.activity; status = s.scsw.status;
-  may_suspend = s.scsw.suspend
+  provided = true;
+  enabled = s.pmcw.enabled;
+  functions = s.scsw.functions;
+  activity = s.scsw.activity;
+  status = s.scsw.status;
+  may_suspend = s.scsw.suspend;
 }
 
 -- START: the status word shows the ORB's fields, the start function and start pending; an earlier program's device active
 -- stays
 abbrev pub started_scsw : Scsw → Orb → Scsw
 started_scsw scsw orb = record scsw {
-  key = orb.key; key_fits = orb.key_fits; suspend = orb.suspend; deferred = deferred.Zero; format_one = orb.format_one;
-  prefetch = orb.prefetch; initial_status = orb.initial_status; address_limit = orb.address_limit;
-  suppress_suspended = orb.suppress_suspended; path_not_operational = false;
+  key = orb.key;
+  key_fits = orb.key_fits;
+  suspend = orb.suspend;
+  deferred = deferred.Zero;
+  format_one = orb.format_one;
+  prefetch = orb.prefetch;
+  initial_status = orb.initial_status;
+  address_limit = orb.address_limit;
+  suppress_suspended = orb.suppress_suspended;
+  path_not_operational = false;
   functions = record no_functions { start = true };
   activity = record no_activity { start_pending = true; device_active = scsw.activity.device_active };
-  command_address = orb.program; device_status = no_device_status; subchannel_status = no_subchannel_status; count = 0
+  command_address = orb.program;
+  device_status = no_device_status;
+  subchannel_status = no_subchannel_status;
+  count = 0;
 }
 
 abbrev pub started_pmcw : Pmcw → Orb → Pmcw
@@ -39,7 +53,7 @@ started s orb = record s {
   pmcw = started_pmcw s.pmcw orb;
   scsw = started_scsw s.scsw orb;
   starts = s.starts + 1;
-  waiting = Some (record { start = s.starts + 1; orb = orb; single_path = not s.pmcw.multipath })
+  waiting = Some (record { start = s.starts + 1; orb = orb; single_path = not s.pmcw.multipath });
 }
 
 -- TEST: all status that was made is cleared

@@ -31,8 +31,17 @@ is_served orb control address =
 
 abbrev pub transfer_of : ℕ → ℕ → Transfer
 transfer_of control address = record {
-  command = 1; code = field_of control 0 7; address = address; count = field_of control 16 31; residual = field_of control 16 31;
-  suppress_length = field_of control 8 15 == 0x20; sequence = 0; offered = 0; stopped = false; fault = None; ended = false
+  command = 1;
+  code = field_of control 0 7;
+  address = address;
+  count = field_of control 16 31;
+  residual = field_of control 16 31;
+  suppress_length = field_of control 8 15 == 0x20;
+  sequence = 0;
+  offered = 0;
+  stopped = false;
+  fault = None;
+  ended = false;
 }
 
 abbrev pub read_command : Orb → ℕ → ℕ → Result Transfer Check

@@ -47,8 +47,17 @@ opening_pmcw = record { parameter = 0; subclass = 0; enabled = false; multipath 
 
 abbrev pub opening_subchannel : SubchannelState
 opening_subchannel = record {
-  pmcw = opening_pmcw; scsw = zero_scsw; serials = record { made = 0; cleared = 0 };
-  drawn = 0; starts = 0; waiting = None; begun = None; hold = free_hold; offered = 0; last_path = None; dedicated = None
+  pmcw = opening_pmcw;
+  scsw = zero_scsw;
+  serials = record { made = 0; cleared = 0 };
+  drawn = 0;
+  starts = 0;
+  waiting = None;
+  begun = None;
+  hold = free_hold;
+  offered = 0;
+  last_path = None;
+  dedicated = None;
 }
 
 abbrev pub opened : SubchannelSetup → Subchannel
@@ -64,7 +73,7 @@ opening_of setup = record {
   storage = cleared (unwrap_or setup.blocks 16);
   sets = set_count setup;
   subs = map opened setup.subchannels;
-  units = map idle_of setup.units
+  units = map idle_of setup.units;
 }
 
 -- the place of the subchannel that a subsystem-identification word names, where it is provided

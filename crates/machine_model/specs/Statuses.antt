@@ -32,15 +32,25 @@ length_bits false = 0
 -- a start found no path: deferred condition code 3
 abbrev pub no_path_shown : Scsw → Shown
 no_path_shown scsw = record {
-  conditions = conditions true true true; activity = no_activity; device = no_device_status; subchannel = no_subchannel_status;
-  deferred = Some deferred.Three; command_address = scsw.command_address; count = scsw.count
+  conditions = conditions true true true;
+  activity = no_activity;
+  device = no_device_status;
+  subchannel = no_subchannel_status;
+  deferred = Some deferred.Three;
+  command_address = scsw.command_address;
+  count = scsw.count;
 }
 
 -- a command could not be fetched, or may not take control
 abbrev pub fetch_fault_shown : ℕ → Check → Shown
 fetch_fault_shown tried check = record {
-  conditions = conditions true true true; activity = no_activity; device = no_device_status;
-  subchannel = record { 0 = check_bits (Some check) }; deferred = None; command_address = tried; count = 0
+  conditions = conditions true true true;
+  activity = no_activity;
+  device = no_device_status;
+  subchannel = record { 0 = check_bits (Some check) };
+  deferred = None;
+  command_address = tried;
+  count = 0;
 }
 
 -- an incorrect length is shown at the first End of a command, where bytes are left on one side; not with unit check alone
@@ -74,21 +84,34 @@ is_alert b status = has_unit_check status || is_some b.transfer.fault
 abbrev pub channel_end_shown : Scsw → Begun → DeviceStatus → Bool → Shown
 channel_end_shown scsw b status more = record {
   conditions = conditions (is_alert b status) (shows_primary scsw.functions b.primary_shown) false;
-  activity = record no_activity { device_active = true }; device = status; subchannel = end_bits b status more;
-  deferred = None; command_address = b.tried; count = b.transfer.residual
+  activity = record no_activity { device_active = true };
+  device = status;
+  subchannel = end_bits b status more;
+  deferred = None;
+  command_address = b.tried;
+  count = b.transfer.residual;
 }
 
 -- the last End of a program
 abbrev pub last_end_shown : Scsw → Begun → DeviceStatus → Bool → Shown
 last_end_shown scsw b status more = record {
   conditions = conditions (is_alert b status) (shows_primary scsw.functions b.primary_shown) true;
-  activity = no_activity; device = status; subchannel = end_bits b status more;
-  deferred = None; command_address = b.tried; count = b.transfer.residual
+  activity = no_activity;
+  device = status;
+  subchannel = end_bits b status more;
+  deferred = None;
+  command_address = b.tried;
+  count = b.transfer.residual;
 }
 
 -- the last End of an earlier program while a start waits: deferred condition code 1, and the start is over (own)
 abbrev pub earlier_end_shown : Scsw → Begun → DeviceStatus → Bool → Shown
 earlier_end_shown scsw b status more = record {
-  conditions = conditions true false false; activity = no_activity; device = status; subchannel = end_bits b status more;
-  deferred = Some deferred.One; command_address = scsw.command_address; count = scsw.count
+  conditions = conditions true false false;
+  activity = no_activity;
+  device = status;
+  subchannel = end_bits b status more;
+  deferred = Some deferred.One;
+  command_address = scsw.command_address;
+  count = scsw.count;
 }

@@ -203,7 +203,7 @@ abbrev pub offer_sub : Subchannel → Program → ℕ → Result SubTurn Fault
 offer_sub sub program path =
     if is_full sub.wires.down path then Err fault.WireFull
     else Ok (leaves (reply.Offered (sub.state.drawn + 1) path false)
-        (record sub { state = offered sub.state program path; wires = record sub.wires { down = sent sub.wires.down path (down.Select (sub.state.drawn + 1)) } }))
+    (record sub { state = offered sub.state program path; wires = record sub.wires { down = sent sub.wires.down path (down.Select (sub.state.drawn + 1)) } }))
 
 abbrev pub choose_sub : Subchannel → Chosen → Result SubTurn Fault
 choose_sub sub Idle = Ok (leaves reply.Idle sub)
@@ -230,7 +230,7 @@ abbrev pub up_with : Subchannel → ℕ → Up → UpStep → Result SubTurn Fau
 up_with sub path signal step =
     if finds_full sub.wires.down step.came.sent then Err fault.WireFull
     else Ok (leaves (reply.Up signal step.came.taken step.came.sent)
-        (record sub { state = step.state; wires = record { down = with_any_sent sub.wires.down step.came.sent; up = taken sub.wires.up path } }))
+    (record sub { state = step.state; wires = record { down = with_any_sent sub.wires.down step.came.sent; up = taken sub.wires.up path } }))
 
 abbrev pub up_front : Contents → Subchannel → ℕ → Option Up → Result SubTurn Fault
 up_front storage sub path None = Err fault.NotSent
@@ -256,9 +256,10 @@ abbrev pub down_with : Subchannel → ℕ → Down → UnitState → Option Unit
 down_with sub path signal u step =
     if finds_full sub.wires.up (unit_table.came_of step).sent then Err fault.WireFull
     else Ok (record {
-        reply = reply.Down signal (unit_table.came_of step).taken (unit_table.came_of step).sent;
-        sub = record sub { wires = record { down = taken sub.wires.down path; up = with_any_sent sub.wires.up (unit_table.came_of step).sent } };
-        «unit» = unit_after u step })
+      reply = reply.Down signal (unit_table.came_of step).taken (unit_table.came_of step).sent;
+      sub = record sub { wires = record { down = taken sub.wires.down path; up = with_any_sent sub.wires.up (unit_table.came_of step).sent } };
+      «unit» = unit_after u step;
+    })
 
 abbrev pub down_front : Subchannel → ℕ → UnitState → Option Down → Result DownTurn Fault
 down_front sub path u None = Err fault.NotSent

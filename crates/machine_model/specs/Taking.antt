@@ -65,7 +65,7 @@ abbrev pub taking_over : SubchannelState → Program → Transfer → Subchannel
 taking_over s program transfer = record s {
   scsw = working_scsw s.scsw;
   waiting = None;
-  begun = Some (record { program = program; tried = program.orb.program + 8; primary_shown = false; transfer = transfer })
+  begun = Some (record { program = program; tried = program.orb.program + 8; primary_shown = false; transfer = transfer });
 }
 
 -- its first command is sent; where it can't be, the program is over with status, and lets the device go

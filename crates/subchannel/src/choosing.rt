@@ -4,13 +4,12 @@ ghost use Rattle.std.specs.Prelude.{◌≡◌, ◌<◌, ◌^◌};
 ghost use Rattle.machine_model.specs.Choosing as spec;
 ghost use Rattle.chan_model.specs.declared.hold_state.HoldPhase.TheVariants as phase;
 
+use crate::statuses::{no_path_shown, with_status};
 use chan_model::hold_state::HoldPhase;
 use chan_model::names::Path;
 use chan_model::paths::PathSet;
 use hold::Hold;
 use machine_model::state::{Chosen, Program, Subchannel, SubchannelState};
-
-use crate::statuses::{no_path_shown, with_status};
 
 fn keeps_dedicated(dedicated: Option<Path>, path: usize) -> bool
     ensures { result ≡ spec.keeps_dedicated dedicated path }
@@ -135,7 +134,12 @@ pub fn chosen(sub: &Subchannel, choice: Option<Path>) -> Chosen
 {
     match sub.state.waiting {
         None => Chosen::Idle,
-        Some(program) => chosen_at(sub.state.hold.phase, program, is_any(&allowed_paths(sub)), choice),
+        Some(program) => chosen_at(
+            sub.state.hold.phase,
+            program,
+            is_any(&allowed_paths(sub)),
+            choice,
+        ),
     }
 }
 

@@ -64,14 +64,22 @@ pub fn ssch_code(condition: Condition) -> ConditionCode
 pub fn msch_code(condition: Condition) -> ConditionCode
     ensures { result ≡ code_spec.msch_code condition }
 {
-    in_order(condition.provided, condition.status.pending, any_function(condition.functions))
+    in_order(
+        condition.provided,
+        condition.status.pending,
+        any_function(condition.functions),
+    )
 }
 
 /// The condition code of TEST SUBCHANNEL.
 pub fn tsch_code(condition: Condition) -> ConditionCode
     ensures { result ≡ code_spec.tsch_code condition }
 {
-    in_order(condition.provided && condition.enabled, !condition.status.pending, false)
+    in_order(
+        condition.provided && condition.enabled,
+        !condition.status.pending,
+        false,
+    )
 }
 
 fn started_scsw(scsw: Scsw, orb: Orb) -> Scsw

@@ -45,9 +45,21 @@ fn scsw_made(enabled: bool, scsw: Scsw, shown: Shown) -> Scsw
         return scsw;
     }
     if scsw.status.pending {
-        with_joined(scsw, scsw.status, scsw.device_status, scsw.subchannel_status, shown)
+        with_joined(
+            scsw,
+            scsw.status,
+            scsw.device_status,
+            scsw.subchannel_status,
+            shown,
+        )
     } else {
-        with_joined(scsw, StatusControl::none(), DeviceStatus::empty(), SubchannelStatus::empty(), shown)
+        with_joined(
+            scsw,
+            StatusControl::none(),
+            DeviceStatus::empty(),
+            SubchannelStatus::empty(),
+            shown,
+        )
     }
 }
 
@@ -203,7 +215,11 @@ pub fn channel_end_shown(scsw: Scsw, begun: &Begun, status: DeviceStatus, more: 
     ensures { result ≡ spec.channel_end_shown scsw begun.now status more }
 {
     Shown {
-        conditions: conditions(is_alert(begun, status), shows_primary(scsw.functions, begun.primary_shown), false),
+        conditions: conditions(
+            is_alert(begun, status),
+            shows_primary(scsw.functions, begun.primary_shown),
+            false,
+        ),
         activity: ActivityControl {
             device_active: true,
             ..ActivityControl::none()
@@ -221,7 +237,11 @@ pub fn last_end_shown(scsw: Scsw, begun: &Begun, status: DeviceStatus, more: boo
     ensures { result ≡ spec.last_end_shown scsw begun.now status more }
 {
     Shown {
-        conditions: conditions(is_alert(begun, status), shows_primary(scsw.functions, begun.primary_shown), true),
+        conditions: conditions(
+            is_alert(begun, status),
+            shows_primary(scsw.functions, begun.primary_shown),
+            true,
+        ),
         activity: ActivityControl::none(),
         device: status,
         subchannel: end_status(begun, status, more),

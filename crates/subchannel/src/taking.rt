@@ -5,6 +5,10 @@ ghost use Rattle.chan_model.specs.HoldTable.{hold_takes};
 ghost use Rattle.chan_model.specs.UnitReports as report_spec;
 ghost use Rattle.machine_model.specs.Taking as spec;
 
+use crate::programs::{first_command, is_current, next_given, with_moved};
+use crate::statuses::{
+    channel_end_shown, earlier_end_shown, fetch_fault_shown, last_end_shown, with_status,
+};
 use chan_model::hold_state::{HoldPhase, HoldState};
 use chan_model::names::Path;
 use chan_model::signal::{Down, Load, OnPath, Taken, Up};
@@ -14,9 +18,6 @@ use machine_model::state::{Begun, Check, Given, Pmcw, Program, SubchannelState, 
 use scsw_irb::scsw::{ActivityControl, Scsw};
 use scsw_irb::status::DeviceStatus;
 use storage_keys::Storage;
-
-use crate::programs::{first_command, is_current, next_given, with_moved};
-use crate::statuses::{channel_end_shown, earlier_end_shown, fetch_fault_shown, last_end_shown, with_status};
 
 fn ignoring(state: &SubchannelState) -> UpStep
     ensures { result ≡ spec.ignoring state.now }
@@ -141,7 +142,13 @@ fn fetch_fault(state: &SubchannelState, program: Program, check: Check) -> UpSte
     let_go(with_status(next, fetch_fault_shown(program.orb.program + 8, check)))
 }
 
-fn beginning(state: &SubchannelState, path: Path, number: u64, program: Program, fetched: Result<Transfer, Check>) -> UpStep
+fn beginning(
+    state: &SubchannelState,
+    path: Path,
+    number: u64,
+    program: Program,
+    fetched: Result<Transfer, Check>,
+) -> UpStep
     requires { state.now.serials.made < 2 ^ 63 }
     ensures { result ≡ spec.beginning state.now path number program fetched }
 {
@@ -169,7 +176,13 @@ fn begin_waiting(storage: &Storage, state: &SubchannelState, path: Path, number:
 {
     match state.waiting {
         None => quietly(*state),
-        Some(program) => beginning(state, path, number, program, first_command(storage, program.orb)),
+        Some(program) => beginning(
+            state,
+            path,
+            number,
+            program,
+            first_command(storage, program.orb),
+        ),
     }
 }
 
@@ -195,7 +208,12 @@ fn accepted_by(storage: &Storage, state: &SubchannelState, came: Taken<Down>) ->
     }
 }
 
-fn accept_by(storage: &Storage, state: &SubchannelState, hold: HoldState, came: Taken<Down>) -> UpStep
+fn accept_by(
+    storage: &Storage,
+    state: &SubchannelState,
+    hold: HoldState,
+    came: Taken<Down>,
+) -> UpStep
     requires { state.now.serials.made < 2 ^ 63 }
     ensures { result ≡ spec.accept_by storage.now state.now hold came }
 {
@@ -216,7 +234,16 @@ fn accept(storage: &Storage, state: &SubchannelState, path: Path, signal: &Up) -
     accept_by(storage, state, hold.state(), came)
 }
 
-fn giving(state: &SubchannelState, begun: &Begun, path: Path, number: u64, connection: u64, command: u64, sequence: u64, given: Given) -> UpStep
+fn giving(
+    state: &SubchannelState,
+    begun: &Begun,
+    path: Path,
+    number: u64,
+    connection: u64,
+    command: u64,
+    sequence: u64,
+    given: Given,
+) -> UpStep
     requires { sequence < 2 ^ 63 }
     ensures { result ≡ spec.giving state.now begun.now path number connection command sequence given }
 {
@@ -242,7 +269,16 @@ fn giving(state: &SubchannelState, begun: &Begun, path: Path, number: u64, conne
     )
 }
 
-fn move_data(storage: &Storage, state: &SubchannelState, path: Path, number: u64, connection: u64, command: u64, sequence: u64, load: &Load) -> UpStep
+fn move_data(
+    storage: &Storage,
+    state: &SubchannelState,
+    path: Path,
+    number: u64,
+    connection: u64,
+    command: u64,
+    sequence: u64,
+    load: &Load,
+) -> UpStep
     requires { spec.IsBelow state.now.begun }
     ensures { result ≡ spec.move_data storage.now state.now state.now.begun path number connection command sequence load.now }
 {
@@ -254,15 +290,28 @@ fn move_data(storage: &Storage, state: &SubchannelState, path: Path, number: u64
     }
     let moved = with_moved(&begun.transfer, sequence, load.len());
     let given = next_given(storage, begun.program.orb.key, &moved);
-    giving(state, &begun, path, number, connection, command, sequence, given)
+    giving(
+        state, &begun, path, number, connection, command, sequence, given,
+    )
 }
 
-fn take_data(storage: &Storage, state: &SubchannelState, path: Path, number: u64, connection: u64, command: u64, sequence: u64, load: &Load) -> UpStep
+fn take_data(
+    storage: &Storage,
+    state: &SubchannelState,
+    path: Path,
+    number: u64,
+    connection: u64,
+    command: u64,
+    sequence: u64,
+    load: &Load,
+) -> UpStep
     requires { spec.IsBelow state.now.begun }
     ensures { result ≡ spec.take_data storage.now state.now path number connection command sequence load.now }
 {
     if Hold::of(state.hold).is_connected(path, number, connection) {
-        move_data(storage, state, path, number, connection, command, sequence, load)
+        move_data(
+            storage, state, path, number, connection, command, sequence, load,
+        )
     } else {
         ignoring(state)
     }
@@ -289,7 +338,13 @@ fn has_ended(begun: &Begun) -> Begun
     next
 }
 
-fn channel_ended(state: &SubchannelState, begun: &Begun, path: Path, status: DeviceStatus, more: bool) -> UpStep
+fn channel_ended(
+    state: &SubchannelState,
+    begun: &Begun,
+    path: Path,
+    status: DeviceStatus,
+    more: bool,
+) -> UpStep
     requires { state.now.serials.made < 2 ^ 63 }
     ensures { result ≡ spec.channel_ended state.now begun.now path status more }
 {
@@ -299,7 +354,13 @@ fn channel_ended(state: &SubchannelState, begun: &Begun, path: Path, status: Dev
     quietly(with_status(next, channel_end_shown(state.scsw, begun, status, more)))
 }
 
-fn last_shown(scsw: Scsw, begun: &Begun, waiting: Option<Program>, status: DeviceStatus, more: bool) -> Shown
+fn last_shown(
+    scsw: Scsw,
+    begun: &Begun,
+    waiting: Option<Program>,
+    status: DeviceStatus,
+    more: bool,
+) -> Shown
     ensures { result ≡ spec.last_shown scsw begun.now waiting status more }
 {
     match waiting {
@@ -308,7 +369,13 @@ fn last_shown(scsw: Scsw, begun: &Begun, waiting: Option<Program>, status: Devic
     }
 }
 
-fn ended(state: &SubchannelState, begun: &Begun, path: Path, status: DeviceStatus, more: bool) -> UpStep
+fn ended(
+    state: &SubchannelState,
+    begun: &Begun,
+    path: Path,
+    status: DeviceStatus,
+    more: bool,
+) -> UpStep
     requires { state.now.serials.made < 2 ^ 63 }
     ensures { result ≡ spec.ended state.now begun.now path status more }
 {
@@ -320,7 +387,13 @@ fn ended(state: &SubchannelState, begun: &Begun, path: Path, status: DeviceStatu
     let_go(with_status(next, shown))
 }
 
-fn end_of(state: &SubchannelState, path: Path, command: u64, status: DeviceStatus, more: bool) -> UpStep
+fn end_of(
+    state: &SubchannelState,
+    path: Path,
+    command: u64,
+    status: DeviceStatus,
+    more: bool,
+) -> UpStep
     requires { state.now.serials.made < 2 ^ 63 }
     ensures { result ≡ spec.end_of state.now state.now.begun path command status more }
 {
@@ -337,7 +410,14 @@ fn end_of(state: &SubchannelState, path: Path, command: u64, status: DeviceStatu
     }
 }
 
-fn end_command(state: &SubchannelState, path: Path, number: u64, command: u64, status: DeviceStatus, more: bool) -> UpStep
+fn end_command(
+    state: &SubchannelState,
+    path: Path,
+    number: u64,
+    command: u64,
+    status: DeviceStatus,
+    more: bool,
+) -> UpStep
     requires { state.now.serials.made < 2 ^ 63 }
     ensures { result ≡ spec.end_command state.now path number command status more }
 {
@@ -356,10 +436,30 @@ pub fn takes_up(storage: &Storage, state: &SubchannelState, path: Path, signal: 
 {
     match signal {
         Up::Accept { .. } => accept(storage, state, path, signal),
-        Up::Data { number, connection, command, sequence, load } => {
-            take_data(storage, state, path, *number, *connection, *command, *sequence, load)
+        Up::Data {
+            number,
+            connection,
+            command,
+            sequence,
+            load,
+        } => {
+            take_data(
+                storage,
+                state,
+                path,
+                *number,
+                *connection,
+                *command,
+                *sequence,
+                load,
+            )
         }
-        Up::End { number, command, status, more } => end_command(state, path, *number, *command, *status, *more),
+        Up::End {
+            number,
+            command,
+            status,
+            more,
+        } => end_command(state, path, *number, *command, *status, *more),
         _ => by_hold(state, path, signal),
     }
 }

@@ -47,11 +47,11 @@ pub has-more : (first old new : Past) (events : List Event) (i : ℕ) (e d : Eve
     HasAnswered first (take (i + 1) events) more new
 has-more first old new events i e d answers more a within there done step grew same refusal other pushed =
     let longer : take i events ++ e ∷ [] ≡ take (i + 1) events =
-        ap (λ (x : Event). take i events ++ x ∷ []) there ∙ sym (take_more events i d within) in
+    ap (λ (x : Event). take i events ++ x ∷ []) there ∙ sym (take_more events i d within) in
     let answered : Answered first.state (take (i + 1) events) more new.state =
-        subst (λ (xs : List (Result Reply Fault)). Answered first.state (take (i + 1) events) xs new.state) (sym pushed)
-            (subst (λ (es : List Event). Answered first.state es (answers ++ a ∷ []) new.state) longer
-                (answered-more first.state old.state new.state (take i events) answers e a done.answered (performs-one old new e a step same refusal other))) in
+    subst (λ (xs : List (Result Reply Fault)). Answered first.state (take (i + 1) events) xs new.state) (sym pushed)
+    (subst (λ (es : List Event). Answered first.state es (answers ++ a ∷ []) new.state) longer
+    (answered-more first.state old.state new.state (take i events) answers e a done.answered (performs-one old new e a step same refusal other))) in
     record {
       answered = answered;
       history =
@@ -59,6 +59,6 @@ has-more first old new events i e d answers more a within there done step grew s
           ∙ (ap (λ (h : List Entry). h ++ accepted (e ∷ []) (a ∷ [])) done.history
           ∙ (append_assoc first.history (accepted (take i events) answers) (accepted (e ∷ []) (a ∷ []))
           ∙ ap (λ (h : List Entry). first.history ++ h)
-              (sym (accepted-more first.state old.state (take i events) answers e a done.answered)
-              ∙ (ap (λ (es : List Event). accepted es (answers ++ a ∷ [])) longer ∙ ap (λ (xs : List (Result Reply Fault)). accepted (take (i + 1) events) xs) (sym pushed)))));
+          (sym (accepted-more first.state old.state (take i events) answers e a done.answered)
+          ∙ (ap (λ (es : List Event). accepted es (answers ++ a ∷ [])) longer ∙ ap (λ (xs : List (Result Reply Fault)). accepted (take (i + 1) events) xs) (sym pushed)))));
     }

@@ -25,7 +25,7 @@ first_place-at test (x ∷ xs) zero sub other within there none passes =
 first_place-at test (x ∷ xs) (suc i) sub other within there none passes =
     let fails : test x ≡ false = head-fails (test x) (one_later (first_place test (take i xs))) none in
     let before : first_place test (take i xs) ≡ None =
-        later-none (first_place test (take i xs)) (rest-none (test x) (one_later (first_place test (take i xs))) none) in
+    later-none (first_place test (take i xs)) (rest-none (test x) (one_later (first_place test (take i xs))) none) in
     let inside : i < length xs = omega (arith, within) in
     let place : first_place test xs ≡ Some i = first_place-at test xs i sub other inside there before passes in
     let one : i + 1 ≡ suc i = omega arith in
@@ -43,4 +43,4 @@ first_place-more test (x ∷ xs) zero sub other within there none fails = none-c
 first_place-more test (x ∷ xs) (suc i) sub other within there none fails =
     let inside : i < length xs = omega (arith, within) in
     none-cons (test x) (first_place test (take (suc i) xs)) (head-fails (test x) (one_later (first_place test (take i xs))) none)
-        (first_place-more test xs i sub other inside there (later-none (first_place test (take i xs)) (rest-none (test x) (one_later (first_place test (take i xs))) none)) fails)
+    (first_place-more test xs i sub other inside there (later-none (first_place test (take i xs)) (rest-none (test x) (one_later (first_place test (take i xs))) none)) fails)

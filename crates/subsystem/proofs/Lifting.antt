@@ -53,10 +53,11 @@ lifted_both : (s : State) (place k : ℕ) (sub new d : Subchannel) (u v w : Unit
     sub ≡ slice_index_or s.subs place d → u ≡ slice_index_or s.units k w → GivesBoth sub u outcome r new v →
     Gives s (at_unit s place k outcome) r (with_unit (with_sub s place new) k v)
 lifted_both s place k sub new d u v w outcome (Ok reply) there here g = ap (at_unit s place k) g
-lifted_both s place k sub new d u v w outcome (Err f) there here g =
-    (ap (at_unit s place k) g.0,
-        ap (λ (subs : List Subchannel). record s { subs = subs; units = slice_set s.units k v }) (set_back s.subs place sub new d there g.1.0)
-        ∙ ap (λ (units : List UnitState). record s { units = units }) (set_back s.units k u v w here g.1.1))
+lifted_both s place k sub new d u v w outcome (Err f) there here g = (
+  ap (at_unit s place k) g.0,
+  ap (λ (subs : List Subchannel). record s { subs = subs; units = slice_set s.units k v }) (set_back s.subs place sub new d there g.1.0)
+      ∙ ap (λ (units : List UnitState). record s { units = units }) (set_back s.units k u v w here g.1.1),
+)
 
 pub up-performs : (s : State) (word path place : ℕ) (sub new d : Subchannel) (r : Result Reply Fault) → place_of s word ≡ Some place →
     place < length s.subs → sub ≡ slice_index_or s.subs place d → GivesSub sub (up_sub s.storage sub path) r new →
@@ -64,7 +65,7 @@ pub up-performs : (s : State) (word path place : ℕ) (sub new d : Subchannel) (
 up-performs s word path place sub new d r at within there g =
     let outcome = up_sub s.storage sub path in
     let steps : (o : Outcome) → o ≡ at_sub s place outcome → Steps s (event.Up word path) o =
-        λ o e. named s word place sub (λ (p : Option ℕ) (q : Option Subchannel). o ≡ up_at s p q path) at (at_place s.subs place sub d within there) e in
+    λ o e. named s word place sub (λ (p : Option ℕ) (q : Option Subchannel). o ≡ up_at s p q path) at (at_place s.subs place sub d within there) e in
     performed s (event.Up word path) (at_sub s place outcome) r (with_sub s place new) steps (lifted s place sub new d outcome r there g)
 
 pub choose-performs : (s : State) (word place : ℕ) (sub new d : Subchannel) (choice : Option ℕ) (r : Result Reply Fault) → place_of s word ≡ Some place →
@@ -73,7 +74,7 @@ pub choose-performs : (s : State) (word place : ℕ) (sub new d : Subchannel) (c
 choose-performs s word place sub new d choice r at within there chose g =
     let outcome = choose_sub sub (chosen sub choice) in
     let steps : (o : Outcome) → o ≡ at_sub s place outcome → Steps s (event.Choose word) o =
-        λ o e. named s word place sub (λ (p : Option ℕ) (q : Option Subchannel). Chooses s p q o) at (at_place s.subs place sub d within there) (choice, chose, e) in
+    λ o e. named s word place sub (λ (p : Option ℕ) (q : Option Subchannel). Chooses s p q o) at (at_place s.subs place sub d within there) (choice, chose, e) in
     performed s (event.Choose word) (at_sub s place outcome) r (with_sub s place new) steps (lifted s place sub new d outcome r there g)
 
 down-performs : (s : State) (word path place : ℕ) (sub new d : Subchannel) (u v w : UnitState) (r : Result Reply Fault) → place_of s word ≡ Some place →
@@ -83,10 +84,10 @@ down-performs s word path place sub new d u v w r at within there inside here g 
     let k = sub.setup.«unit» in
     let outcome = down_sub sub path u in
     let steps : (o : Outcome) → o ≡ at_unit s place k outcome → Steps s (event.Down word path) o =
-        λ o e. named s word place sub (λ (p : Option ℕ) (q : Option Subchannel). o ≡ down_at s p q path) at (at_place s.subs place sub d within there)
-            (subst (λ (x : Option UnitState). o ≡ down_unit s place sub path x) (sym (at_place s.units k u w inside here)) e) in
+    λ o e. named s word place sub (λ (p : Option ℕ) (q : Option Subchannel). o ≡ down_at s p q path) at (at_place s.subs place sub d within there)
+    (subst (λ (x : Option UnitState). o ≡ down_unit s place sub path x) (sym (at_place s.units k u w inside here)) e) in
     performed s (event.Down word path) (at_unit s place k outcome) r (with_unit (with_sub s place new) k v) steps
-        (lifted_both s place k sub new d u v w outcome r there here g)
+    (lifted_both s place k sub new d u v w outcome r there here g)
 
 pub report-performs : (s : State) (k place : ℕ) (report : Report) (sub new d : Subchannel) (u v w : UnitState) (r : Result Reply Fault) →
     reached_in k report.side s.subs ≡ Some place → place < length s.subs → sub ≡ slice_index_or s.subs place d → k < length s.units →
@@ -95,11 +96,11 @@ pub report-performs : (s : State) (k place : ℕ) (report : Report) (sub new d :
 report-performs s k place report sub new d u v w r at within there inside here g =
     let outcome = report_sub sub u report in
     let steps : (o : Outcome) → o ≡ at_unit s place k outcome → Steps s (event.Report k report) o =
-        λ o e. subst (λ (x : Option UnitState). o ≡ report_at s k x report) (sym (at_place s.units k u w inside here))
-            (subst (λ (p : Option ℕ). o ≡ report_to s k u report p (sub_at s.subs p)) (sym at)
-                (subst (λ (q : Option Subchannel). o ≡ report_to s k u report (Some place) q) (sym (at_place s.subs place sub d within there)) e)) in
+    λ o e. subst (λ (x : Option UnitState). o ≡ report_at s k x report) (sym (at_place s.units k u w inside here))
+    (subst (λ (p : Option ℕ). o ≡ report_to s k u report p (sub_at s.subs p)) (sym at)
+    (subst (λ (q : Option Subchannel). o ≡ report_to s k u report (Some place) q) (sym (at_place s.subs place sub d within there)) e)) in
     performed s (event.Report k report) (at_unit s place k outcome) r (with_unit (with_sub s place new) k v) steps
-        (lifted_both s place k sub new d u v w outcome r there here g)
+    (lifted_both s place k sub new d u v w outcome r there here g)
 
 -- there is one element at a place
 some_inj : {A : Type 0} (x y : A) → Some x ≡ Some y → x ≡ y
@@ -114,11 +115,11 @@ pub down-performs-at : (s : State) (word path place k : ℕ) (sub new d : Subcha
     GivesBoth sub u (down_sub sub path u) r new v → Performs s (event.Down word path) r (with_unit (with_sub s place new) k v)
 down-performs-at s word path place k sub new d u v w r same at within there inside here g =
     subst (λ (j : ℕ). j < length s.units → u ≡ slice_index_or s.units j w → Performs s (event.Down word path) r (with_unit (with_sub s place new) j v)) same
-        (λ inside' here'. down-performs s word path place sub new d u v w r at within there inside' here' g) inside here
+    (λ inside' here'. down-performs s word path place sub new d u v w r at within there inside' here' g) inside here
 
 pub start-executes : (s : State) (cpu word address : ℕ) (id : SubchannelId) (image : List ℕ) (orb : Orb) (r : Outcome) →
     subchannel_named s.sets word ≡ Some id → operand_at s.storage cpu address 12 4 ≡ Ok image → image ≡ image_of (tables orb) →
     r ≡ start_at s (place_in id s.subs) (sub_at s.subs (place_in id s.subs)) orb → Steps s (event.Execute cpu (instruction.Ssch word address)) r
 start-executes s cpu word address id image orb r at fetched found e =
     subst (λ (x : Option SubchannelId). Executes_on s cpu (instruction.Ssch word address) x r) (sym at)
-        (subst (λ (x : Result (List ℕ) StorageFault). Starts s (place_in id s.subs) (sub_at s.subs (place_in id s.subs)) x r) (sym fetched) (inr (orb, found, e)))
+    (subst (λ (x : Result (List ℕ) StorageFault). Starts s (place_in id s.subs) (sub_at s.subs (place_in id s.subs)) x r) (sym fetched) (inr (orb, found, e)))

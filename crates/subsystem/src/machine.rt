@@ -8,6 +8,10 @@ ghost use Rattle.machine_model.specs.Bounds.{IsRoomy};
 ghost use Rattle.chan_model.specs.declared.event.Event.TheVariants as event_spec;
 ghost use Rattle.chan_model.specs.declared.event.Instruction.TheVariants as instruction_spec;
 
+use crate::places::{is_awaited, place_in, reached_in};
+use crate::turns::{
+    choose_sub, down_sub, enable_sub, irb_of, report_sub, start_sub, stores_irb, test_with, up_sub,
+};
 use chan_model::chunk::Chunk;
 use chan_model::event::{Event, Instruction};
 use chan_model::fault::Fault;
@@ -24,11 +28,6 @@ use storage_keys::Storage;
 use subchannel::choosing::{chosen, usable_paths};
 use subchannel::instructions::{condition_of, tsch_code};
 use unit::Unit;
-
-use crate::places::{is_awaited, place_in, reached_in};
-use crate::turns::{
-    choose_sub, down_sub, enable_sub, irb_of, report_sub, start_sub, stores_irb, test_with, up_sub,
-};
 
 /// Storage, subchannels and units.
 #[derive(Drop)]
@@ -168,8 +167,14 @@ impl Machine {
         ensures { spec.Performs self.old (event_spec.Execute cpu instruction) result self.new }
     {
         match instruction {
-            Instruction::Ssch { subchannel, address } => self.start(cpu, subchannel, address),
-            Instruction::Tsch { subchannel, address } => self.test(cpu, subchannel, address),
+            Instruction::Ssch {
+                subchannel,
+                address,
+            } => self.start(cpu, subchannel, address),
+            Instruction::Tsch {
+                subchannel,
+                address,
+            } => self.test(cpu, subchannel, address),
             Instruction::Enable {
                 subchannel,
                 subclass,

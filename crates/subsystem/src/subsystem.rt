@@ -8,6 +8,8 @@ ghost use Rattle.std.specs.Bool.{OnTrue, OnFalse};
 ghost use Rattle.machine_model.specs.Bounds.{IsRoomy};
 ghost use Rattle.machine_laws.specs.Claims.{IsClearedOnce};
 
+use crate::history::History;
+use crate::machine::Machine;
 use chan_model::event::Event;
 use chan_model::fault::Fault;
 use chan_model::reply::{Entry, Reply};
@@ -24,9 +26,6 @@ use std::marker::Model;
 use storage_keys::Storage;
 use unit::Unit;
 use wires::Wires;
-
-use crate::history::History;
-use crate::machine::Machine;
 
 /// A channel subsystem with its subchannels, units and storage (SA22-7832, chapters 13 to 17).
 #[derive(Drop)]
@@ -99,7 +98,11 @@ impl<P: PathChoice + Drop> Subsystem<P> {
 
     /// The events in order, each with its reply or its refusal. Room for the answers is made first; the refusal
     /// `NoMemory` alone ends a run, and what was accepted before it stays.
-    pub fn run(&mut self, alloc: Global, events: &[Event]) -> Result<Vec<Result<Reply, Fault>>, Fault>
+    pub fn run(
+        &mut self,
+        alloc: Global,
+        events: &[Event],
+    ) -> Result<Vec<Result<Reply, Fault>>, Fault>
         ensures answered { IfOk result (λ answers. HasAnswered self.old events.now answers.items self.new) }
         ensures ended { IfErr result (λ f. f ≡ fault_spec.NoMemory) }
         ensures begun { OnErr result (HasBegun self.old events.now self.new) }

@@ -17,7 +17,9 @@ use orb_block::Orb;
 use scsw_irb::irb::Irb;
 use storage_keys::Storage;
 use subchannel::choosing::{offered, without_path};
-use subchannel::instructions::{condition_of, enabled, msch_code, ssch_code, started, tested, tsch_code};
+use subchannel::instructions::{
+    condition_of, enabled, msch_code, ssch_code, started, tested, tsch_code,
+};
 use subchannel::taking::takes_up;
 use unit::Unit;
 use wires::Wires;

@@ -80,7 +80,7 @@ fresh-path u side d p a = either p (side_of u side).fresh (telling u p) (unit_wo
 pub takes-path : (u : UnitState) (side : Side) (d : Down) (p : ℕ) (a : Bool) → OnPathOf p (unit_takes u side p d a)
 takes-path u side (Reset r n) p a =
     either p (resets u side r n) (sends (reset_side u side r) p (up.Cleared r)) (if (side_of u side).fresh then telling u p else None) refl
-        (either p (side_of u side).fresh (telling u p) None refl tt)
+    (either p (side_of u side).fresh (telling u p) None refl tt)
 takes-path u side (Select t) p a = fresh-path u side (Select t) p a
 takes-path u side (Command t n code room) p a = fresh-path u side (Command t n code room) p a
 takes-path u side (Grant t c) p a = fresh-path u side (Grant t c) p a

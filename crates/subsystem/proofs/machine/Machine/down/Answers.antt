@@ -11,16 +11,16 @@ pub returns : goal.returns
 returns c =
     let old = the_view c.self.inside in
     let at : place_of old c.args.word ≡ Some c.in-Some.place =
-        ap (λ (s : State). place_of s c.args.word) c.self.view_is ∙ (sym c.place_of.ensures.place ∙ c.in-Some.is) in
+    ap (λ (s : State). place_of s c.args.word) c.self.view_is ∙ (sym c.place_of.ensures.place ∙ c.in-Some.is) in
     let within : c.in-Some.place < length old.subs =
-        subst (λ (s : State). c.in-Some.place < length s.subs) (sym c.self.view_is) c.in-Some.ensures.bound in
+    subst (λ (s : State). c.in-Some.place < length s.subs) (sym c.self.view_is) c.in-Some.ensures.bound in
     let sub = c.index_mut-sub.result.now in
     let same : c.index.result.now ≡ sub =
-        one_there old.subs c.in-Some.place c.index.result.now sub c.index.result.now sub within c.index.ensures c.index_mut-sub.ensures.value in
+    one_there old.subs c.in-Some.place c.index.result.now sub c.index.result.now sub within c.index.ensures c.index_mut-sub.ensures.value in
     let k = c.index.result.now.setup.«unit» in
     let inside : k < length old.units = omega (arith, c.if-number-len.false, c.len.ensures) in
     subst (λ (s : State). Performs s (event.Down c.args.word c.args.path) c.down_sub.result
-            (with_unit (with_sub old c.in-Some.place c.down_sub.new.sub) k c.down_sub.new.«unit»)) c.self.view_is
-        (down-performs-at old c.args.word c.args.path c.in-Some.place k sub c.down_sub.new.sub sub
-            c.index_mut-unit.result.now c.down_sub.new.«unit» c.index_mut-unit.result.now c.down_sub.result
-            (ap (λ (x : Subchannel). x.setup.«unit») (sym same)) at within c.index_mut-sub.ensures.value inside c.index_mut-unit.ensures.value c.down_sub.ensures)
+    (with_unit (with_sub old c.in-Some.place c.down_sub.new.sub) k c.down_sub.new.«unit»)) c.self.view_is
+    (down-performs-at old c.args.word c.args.path c.in-Some.place k sub c.down_sub.new.sub sub
+    c.index_mut-unit.result.now c.down_sub.new.«unit» c.index_mut-unit.result.now c.down_sub.result
+    (ap (λ (x : Subchannel). x.setup.«unit») (sym same)) at within c.index_mut-sub.ensures.value inside c.index_mut-unit.ensures.value c.down_sub.ensures)

@@ -12,11 +12,11 @@ returns c =
     let old = the_view c.self.inside in
     let subs : c.as_slice.result.now ≡ old.subs = c.as_slice.ensures.value in
     let at : reached_in c.args.number c.args.report.now.side old.subs ≡ Some c.in-Some.place =
-        ap (reached_in c.args.number c.args.report.now.side) (sym subs) ∙ (sym c.reached_in.ensures.place ∙ c.in-Some.is) in
+    ap (reached_in c.args.number c.args.report.now.side) (sym subs) ∙ (sym c.reached_in.ensures.place ∙ c.in-Some.is) in
     let within : c.in-Some.place < length old.subs = subst (λ (xs : List Subchannel). c.in-Some.place < length xs) subs c.in-Some.ensures.bound in
     let inside : c.args.number < length old.units = omega (arith, c.if-number-len.false, c.len.ensures) in
     subst (λ (s : State). Performs s (event.Report c.args.number c.args.report.now) c.report_sub.result
-            (with_unit (with_sub old c.in-Some.place c.report_sub.new.sub) c.args.number c.report_sub.new.«unit»)) c.self.view_is
-        (report-performs old c.args.number c.in-Some.place c.args.report.now c.index_mut-sub.result.now c.report_sub.new.sub c.index_mut-sub.result.now
-            c.index_mut-unit.result.now c.report_sub.new.«unit» c.index_mut-unit.result.now c.report_sub.result
-            at within c.index_mut-sub.ensures.value inside c.index_mut-unit.ensures.value c.report_sub.ensures)
+    (with_unit (with_sub old c.in-Some.place c.report_sub.new.sub) c.args.number c.report_sub.new.«unit»)) c.self.view_is
+    (report-performs old c.args.number c.in-Some.place c.args.report.now c.index_mut-sub.result.now c.report_sub.new.sub c.index_mut-sub.result.now
+    c.index_mut-unit.result.now c.report_sub.new.«unit» c.index_mut-unit.result.now c.report_sub.result
+    at within c.index_mut-sub.ensures.value inside c.index_mut-unit.ensures.value c.report_sub.ensures)

@@ -7,4 +7,4 @@ use Rattle.subsystem.proofs.subsystem.Subsystem.recalls.Goals as goal
 pub returns-clause-cleared_once : goal.returns-clause-cleared_once
 returns-clause-cleared_once g c =
     subst (λ (x : Past). IsClearedOnce x.state.sets x.history) c.self.view_is
-        (past-cleared c.steps.ensures.sets c.serials.ensures.rises c.self.inside.history.items c.self.inside.machine c.self.invariant)
+    (past-cleared c.steps.ensures.sets c.serials.ensures.rises c.self.inside.history.items c.self.inside.machine c.self.invariant)
