@@ -1,5 +1,5 @@
 -- Digits and bytes, one more each.
-use Rattle.std.proofs.Common.{◌≡◌, ℕ, ◌+◌, ◌*◌, ◌^◌, ◌<◌, ◌≤◌, List, [], ◌∷◌, ◌++◌, ap, ◌∙◌, refl, sym, suc, zero, arith, append_assoc, Bool, true, false, length, take, drop, get_or, ◌-◌}
+use Rattle.std.proofs.Common.{◌≡◌, ℕ, ◌+◌, ◌*◌, ◌^◌, ◌<◌, ◌≤◌, List, [], ◌∷◌, ◌++◌, ap, ◌∙◌, refl, sym, suc, zero, arith, append_assoc, length, take, drop, get_or, ◌-◌}
 use Rattle.std.proofs.lemmas.List.{take_all, length-append, length-take, length-drop}
 use Rattle.std.specs.Prelude.{Option, Some, None}
 use Rattle.std.proofs.Math.Nat.{pow-suc}
@@ -19,14 +19,10 @@ digit_fits (suc (suc (suc (suc (suc (suc (suc (suc i)))))))) v d l h k = absurd 
 pub digit_more : (i v d : ℕ) → v < 16 ^ i → d < 16 → v * 16 + d < 16 ^ (suc i)
 digit_more i v d h k = omega (arith, pow-suc 16 i)
 
-pub glued : (r : Option (List ℕ)) (front : List ℕ) (x : ℕ)
+glued : (r : Option (List ℕ)) (front : List ℕ) (x : ℕ)
     → and_then (and_then r (λ bs. Some (x ∷ bs))) (λ bs. Some (front ++ bs)) ≡ and_then r (λ bs. Some ((front ++ x ∷ []) ++ bs))
 glued None front x = refl
 glued (Some bs) front x = ap (λ (t : List ℕ). Some t) (sym (append_assoc front (x ∷ []) bs))
-
-pub false_of : (b : Bool) → (b ≡ true → ⊥) → false ≡ b
-false_of true h = absurd (h refl)
-false_of false h = refl
 
 pub short_fits : (i v : ℕ) → i ≤ 4 → v < 16 ^ i → v < 65536
 short_fits zero v l h = omega arith

@@ -3,6 +3,8 @@ use Rattle.std.proofs.Common.{◌≡◌, ℕ, ◌+◌, ◌<◌, Bool, true, fals
 use Rattle.std.specs.Prelude.{Option, None, Result, Ok, Err, IfErr, IsErrAnd}
 use Rattle.std.specs.List.{list_any, flat_map}
 use Rattle.std.proofs.lemmas.List.{take_all, take_more, length-take-le}
+use Rattle.std.proofs.lemmas.List.Folds.{list_any-append}
+use Rattle.std.proofs.lemmas.Grind.{flat_map-append}
 use Rattle.std.proofs.lemmas.Bool.Decides.{eqb_tells}
 use Rattle.channel_config.specs.Setup.{Setup, no_setup}
 use Rattle.script.specs.declared.settings.Setting.{Setting}
@@ -16,27 +18,21 @@ use Rattle.script.specs.declared.ScriptBad.{ScriptBad}
 use Rattle.script.specs.declared.ScriptBad.TheVariants.{NoMemory, Bad}
 use Rattle.script.specs.Drafts.{context, IsNext, IsDraftOf}
 
-pub or-assoc : (a b c : Bool) → (a || (b || c)) ≡ ((a || b) || c)
-or-assoc true b c = refl
-or-assoc false b c = refl
-
-pub or-false : (a : Bool) → (a || false) ≡ a
+or-false : (a : Bool) → (a || false) ≡ a
 or-false true = refl
 or-false false = refl
 
-pub any-more : {A : Type 0} (f : A → Bool) (xs : List A) (x : A) → list_any f (xs ++ x ∷ []) ≡ (list_any f xs || f x)
-any-more f [] x = or-false (f x)
-any-more f (y ∷ ys) x = ap (λ (b : Bool). f y || b) (any-more f ys x) ∙ or-assoc (f y) (list_any f ys) (f x)
+any-more : {A : Type 0} (f : A → Bool) (xs : List A) (x : A) → list_any f (xs ++ x ∷ []) ≡ (list_any f xs || f x)
+any-more f xs x = list_any-append f xs (x ∷ []) ∙ ap (λ (b : Bool). list_any f xs || b) (or-false (f x))
 
-pub flat-more : {A B : Type 0} (f : A → List B) (xs : List A) (x : A) → flat_map f (xs ++ x ∷ []) ≡ flat_map f xs ++ f x
-flat-more f [] x = append-nil (f x)
-flat-more f (y ∷ ys) x = ap (λ (t : List _). f y ++ t) (flat-more f ys x) ∙ sym (append_assoc (f y) (flat_map f ys) (f x))
+flat-more : {A B : Type 0} (f : A → List B) (xs : List A) (x : A) → flat_map f (xs ++ x ∷ []) ≡ flat_map f xs ++ f x
+flat-more {A} {B} f xs x = flat_map-append f xs (x ∷ []) ∙ ap (λ (t : List B). flat_map f xs ++ t) (append-nil (f x))
 
-pub set_up-append : (s : Setup) (xs ys : List Setting) → set_up s (xs ++ ys) ≡ set_up (set_up s xs) ys
+set_up-append : (s : Setup) (xs ys : List Setting) → set_up s (xs ++ ys) ≡ set_up (set_up s xs) ys
 set_up-append s [] ys = refl
 set_up-append s (x ∷ xs) ys = set_up-append (kept s (configured s x)) xs ys
 
-pub actions-more : (n : ℕ) (xs : List (List ℕ)) (x : List ℕ) → actions_from n (xs ++ x ∷ []) ≡ actions_from n xs ++ action_of (n + length xs) (said x)
+actions-more : (n : ℕ) (xs : List (List ℕ)) (x : List ℕ) → actions_from n (xs ++ x ∷ []) ≡ actions_from n xs ++ action_of (n + length xs) (said x)
 actions-more n [] x =
     let e : n ≡ n + 0 = omega arith in
     append-nil (action_of n (said x)) ∙ ap (λ (m : ℕ). action_of m (said x)) e
@@ -45,18 +41,18 @@ actions-more n (y ∷ ys) x =
     ap (λ (t : List Line). action_of n (said y) ++ t) (actions-more (n + 1) ys x ∙ ap (λ (m : ℕ). actions_from (n + 1) ys ++ action_of m (said x)) e)
     ∙ sym (append_assoc (action_of n (said y)) (actions_from (n + 1) ys) (action_of (n + suc (length ys)) (said x)))
 
-pub same_context : (b b' a a' : Bool) (s s' : Setup) → b ≡ b' → a ≡ a' → s ≡ s'
+same_context : (b b' a a' : Bool) (s s' : Setup) → b ≡ b' → a ≡ a' → s ≡ s'
     → fault (record { begun = b; acted = a; setup = s }) ≡ fault (record { begun = b'; acted = a'; setup = s' })
 same_context b b' a a' s s' e f g =
     ap (λ (x : Bool). fault (record { begun = x; acted = a; setup = s })) e ∙ ap (λ (x : Bool). fault (record { begun = b'; acted = x; setup = s })) f
     ∙ ap (λ (x : Setup). fault (record { begun = b'; acted = a'; setup = x })) g
 
 -- what the code's draft finds is what the lines before say
-pub same_fault : (lines : List (List ℕ)) (i : ℕ) (d : Draft) (line : List ℕ) → IsDraftOf lines i d → line ≡ get_or lines i [] → fault (context d) line ≡ fault_at lines i
+same_fault : (lines : List (List ℕ)) (i : ℕ) (d : Draft) (line : List ℕ) → IsDraftOf lines i d → line ≡ get_or lines i [] → fault (context d) line ≡ fault_at lines i
 same_fault lines i d line h e =
     ap (fault (context d)) e ∙ ap (λ (f : List ℕ → Option ℕ). f (get_or lines i [])) (same_context _ _ _ _ _ _ h.begun h.acted h.setup)
 
-pub clean-more : (lines : List (List ℕ)) (i : ℕ) → AreClean lines i → fault_at lines i ≡ None → AreClean lines (i + 1)
+clean-more : (lines : List (List ℕ)) (i : ℕ) → AreClean lines i → fault_at lines i ≡ None → AreClean lines (i + 1)
 clean-more lines i h e = λ k lt. elim (eqb_tells k i) [
   | inl w ↦ ap (fault_at lines) w.1 ∙ e
   | inr w ↦ let ne = w.1 in let lower : k < i = omega arith in h k lower

@@ -6,10 +6,10 @@ use Rattle.std.proofs.lemmas.Bool.{eq-eqb}
 use Rattle.std.proofs.lemmas.Bool.Decides.{eqb_tells}
 use Rattle.script.specs.Pieces.{pieces, onto_first}
 
-pub pieces_at : (sep x : ℕ) (xs : List ℕ) → x ≡ sep → pieces sep (x ∷ xs) ≡ [] ∷ pieces sep xs
+pieces_at : (sep x : ℕ) (xs : List ℕ) → x ≡ sep → pieces sep (x ∷ xs) ≡ [] ∷ pieces sep xs
 pieces_at sep x xs e = ap (λ (b : Bool). if b then ([] ∷ pieces sep xs) else onto_first x (pieces sep xs)) (eq-eqb x sep e)
 
-pub pieces_past : (sep x : ℕ) (xs : List ℕ) → (x ≡ sep → ⊥) → pieces sep (x ∷ xs) ≡ onto_first x (pieces sep xs)
+pieces_past : (sep x : ℕ) (xs : List ℕ) → (x ≡ sep → ⊥) → pieces sep (x ∷ xs) ≡ onto_first x (pieces sep xs)
 pieces_past sep x xs ne = elim (eqb_tells x sep) [
   | inl h ↦ absurd (ne h.1)
   | inr h ↦ ap (λ (b : Bool). if b then ([] ∷ pieces sep xs) else onto_first x (pieces sep xs)) h.0
@@ -37,7 +37,7 @@ whole sep (x ∷ xs) (suc k) b e =
     let rest = whole sep xs k (λ j lt. let more : suc j < suc k = omega arith in b (suc j) more) e in
     pieces_past sep x xs (b 0 first) ∙ ap (onto_first x) rest
 
-pub pushed : {A : Type 0} (f : A → List ℕ) (xs : List A) (x : A) (qs : List (List ℕ)) → map f (xs ++ x ∷ []) ++ qs ≡ map f xs ++ (f x ∷ qs)
+pushed : {A : Type 0} (f : A → List ℕ) (xs : List A) (x : A) (qs : List (List ℕ)) → map f (xs ++ x ∷ []) ++ qs ≡ map f xs ++ (f x ∷ qs)
 pushed f [] x qs = refl
 pushed f (y ∷ ys) x qs = ap (λ (t : List (List ℕ)). f y ∷ t) (pushed f ys x qs)
 
