@@ -51,7 +51,7 @@ impl ChpidList {
         ensures { result ≡ self.now }
     {
         let mut chpids = ArrayVec::new();
-        let _ = chpids.try_extend_from_slice(self.chpids.as_slice());
+        let _ = chpids.try_extend_from_slice(self.as_slice());
         ChpidList { chpids }
     }
 
