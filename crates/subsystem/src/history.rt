@@ -6,6 +6,7 @@ use chan_model::reply::Entry;
 use std::marker::Model;
 
 /// The accepted events with their replies, the oldest first.
+#[derive(Drop)]
 pub struct History<'a> {
     entries: &'a [Entry],
 }

@@ -5,4 +5,6 @@ pub mod history;
 mod machine;
 mod places;
 pub mod subsystem;
+#[cfg(test)]
+mod tests;
 mod turns;
