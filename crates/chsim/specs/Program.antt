@@ -1,0 +1,21 @@
+-- What the program does where its words name a command.
+use Rattle.std.specs.Prelude.{◌≡◌, ℕ, List, Option, Some, None}
+use Rattle.std.specs.Io.KnownBytes.{Keeps}
+use Rattle.command_words.specs.declared.Wanted.{Wanted}
+use Rattle.command_words.specs.declared.Wanted.TheVariants.{Run, Check}
+use Rattle.command_words.specs.Plain.{plain}
+use Rattle.serving.specs.Serving.{Serves, Checks, status_of}
+use Rattle.serving.specs.declared.Ending.{Ending}
+
+-- a command ends in one way, which makes its exit status
+abbrev pub Does : Wanted → Option (List ℕ) → Option (List ℕ) → Option (List ℕ) → Ending → Type 0
+Does Run input held now ending = Serves input held now ending
+Does Check input held now ending = Checks input held now ending
+
+abbrev pub Commands : Option Wanted → Option (List ℕ) → Option (List ℕ) → Option (List ℕ) → ℕ → Type 0
+Commands None input held now status = Unit {0}
+Commands (Some wanted) input held now status = (ending : Ending) × Does wanted input held now ending × (status ≡ status_of ending)
+
+-- two words, the program's own name and a command's
+abbrev pub IsServed : List (List ℕ) → Option (List ℕ) → Option (List ℕ) → Option (List ℕ) → ℕ → Type 0
+IsServed words input held now status = Commands (plain words) input held now status

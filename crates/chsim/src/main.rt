@@ -1,0 +1,65 @@
+//! `chsim`: simulates a channel subsystem by a script on standard input.
+#![tactic(auto)]
+
+ghost use Rattle.std.specs.Prelude.{◌≡◌, map, is_none, IsTrue};
+ghost use Rattle.command_words.specs.Plain.{plain};
+ghost use Rattle.chsim.specs.Program.{IsServed};
+
+#[cfg(test)]
+mod memory;
+#[cfg(test)]
+mod tests;
+
+use command_words::{Refused, Wanted, command_of};
+use serving::{check_script, serve_script};
+use std::alloc::Global;
+use std::io::{Read, Write};
+use std::process::ExitCode;
+use std::{env, io};
+use streams::put_all;
+
+/// Serves the program's words, its own name being the first of them, and answers the exit status. Words that name no command
+/// write a text, which is help where they ask for it, and end with 2 before anything is read.
+///
+/// 0: all was done. 1: an event was refused, or memory or the writer failed. 2: a bad line, bad words, or the reader failed.
+pub fn serve<'a, R: Read, W: Write>(
+    alloc: Global,
+    words: &'a [&'a str],
+    reader: &mut R,
+    writer: &mut W,
+) -> u8
+    ensures served { IsServed (map (λ w. w.now) words.now) (R.remaining reader.old) (W.contents writer.old) (W.contents writer.new) result }
+    ensures unread { IsTrue (is_none (plain (map (λ w. w.now) words.now))) → R.remaining reader.new ≡ R.remaining reader.old }
+{
+    match command_of(alloc, words) {
+        Ok(Wanted::Run) => serve_script(alloc, reader, writer).status(),
+        Ok(Wanted::Check) => check_script(alloc, reader, writer).status(),
+        Err(refused) => show(refused, writer),
+    }
+}
+
+/// Shows the text for words that name no command.
+fn show<W: Write>(refused: Refused, writer: &mut W) -> u8 {
+    match refused {
+        Refused::NoMemory => 1,
+        Refused::Text(text) => {
+            let _ = put_all(writer, text.as_str().as_bytes());
+            2
+        }
+    }
+}
+
+fn main(rt: HostRuntime) -> io::Result<ExitCode> {
+    let mut owned = Vec::new(rt.alloc());
+    for word in env::args(&rt)? {
+        owned.push(word)?;
+    }
+    let mut words = Vec::new(rt.alloc());
+    for word in owned.iter() {
+        words.push(word.as_str())?;
+    }
+    let mut reader = rt.reader();
+    let mut writer = io::writer(&rt);
+    let status = serve(rt.alloc(), words.as_slice(), &mut reader, &mut writer);
+    Ok(ExitCode::from(status))
+}
