@@ -62,7 +62,7 @@ performed_more old middle new ls l held then now a r h t w = record {
       (runs-more old (map (λ k. k.action) ls) h.outcomes middle l.action t.outcome new h.runs t.acts);
   refused = refused-more h.outcomes t.outcome a r.refused h.refused t.refused;
   written = subst (Appends held now) (sym (output-more ls h.outcomes l t.outcome (runs-length old ls h.outcomes middle h.runs)))
-      (Appends-trans held then now _ _ h.written (t.whole w))
+      (Appends-trans held then now _ _ h.written (t.whole w));
 }
 
 pub begun_more : (old middle new : Installed) (ls : List Line) (l : Line) (held then now : Option (List ℕ)) (a : Bool) (r : Written)
@@ -72,11 +72,13 @@ begun_more old middle new ls l held then now a r h t = record {
   runs = subst (λ (es : List Action). Runs old es (h.outcomes ++ t.outcome ∷ []) new) (sym (actions-more ls l))
       (runs-more old (map (λ k. k.action) ls) h.outcomes middle l.action t.outcome new h.runs t.acts);
   refused = refused-more h.outcomes t.outcome a r.refused h.refused t.refused;
-  written = (length (output_of ls h.outcomes) + t.part.0,
-      subst (λ (text : List ℕ). Appends held now (take (length (output_of ls h.outcomes) + t.part.0) text))
-          (sym (output-more ls h.outcomes l t.outcome (runs-length old ls h.outcomes middle h.runs)))
-      (subst (Appends held now) (sym (take-append-add (output_of ls h.outcomes) (event_line l.number t.outcome) t.part.0))
-      (Appends-trans held then now _ _ h.written t.part.1)))
+  written = (
+    length (output_of ls h.outcomes) + t.part.0,
+    subst (λ (text : List ℕ). Appends held now (take (length (output_of ls h.outcomes) + t.part.0) text))
+        (sym (output-more ls h.outcomes l t.outcome (runs-length old ls h.outcomes middle h.runs)))
+        (subst (Appends held now) (sym (take-append-add (output_of ls h.outcomes) (event_line l.number t.outcome) t.part.0))
+        (Appends-trans held then now _ _ h.written t.part.1)),
+  );
 }
 
 pub begun_of : (old new : Installed) (ls : List Line) (held now : Option (List ℕ)) (a : Bool) → HasPerformed old ls held now a new → HasBegun old ls held now a new
@@ -84,7 +86,7 @@ begun_of old new ls held now a h = record {
   outcomes = h.outcomes;
   runs = h.runs;
   refused = h.refused;
-  written = (length (output_of ls h.outcomes), subst (Appends held now) (sym (take_all (length (output_of ls h.outcomes)) (output_of ls h.outcomes) (omega arith))) h.written)
+  written = (length (output_of ls h.outcomes), subst (Appends held now) (sym (take_all (length (output_of ls h.outcomes)) (output_of ls h.outcomes) (omega arith))) h.written);
 }
 
 pub grown : (ls : List Line) (i : ℕ) (l : Line) → i < length ls → l ≡ get_or ls i l → take (i + 1) ls ≡ take i ls ++ l ∷ []
@@ -95,14 +97,14 @@ pub performed_to : (old middle new : Installed) (ls : List Line) (i : ℕ) (l : 
     → HasPerformed old (take (i + 1) ls) held now (a || r.refused) new
 performed_to old middle new ls i l held then now a r lt is h t w =
     subst (λ (ks : List Line). HasPerformed old ks held now (a || r.refused) new) (sym (grown ls i l lt is))
-        (performed_more old middle new (take i ls) l held then now a r h t w)
+    (performed_more old middle new (take i ls) l held then now a r h t w)
 
 pub begun_to : (old middle new : Installed) (ls : List Line) (i : ℕ) (l : Line) (held then now : Option (List ℕ)) (a : Bool) (r : Written)
     → i < length ls → l ≡ get_or ls i l → HasPerformed old (take i ls) held then a middle → IsDone middle l then now r new
     → HasBegun old (take (i + 1) ls) held now (a || r.refused) new
 begun_to old middle new ls i l held then now a r lt is h t =
     subst (λ (ks : List Line). HasBegun old ks held now (a || r.refused) new) (sym (grown ls i l lt is))
-        (begun_more old middle new (take i ls) l held then now a r h t)
+    (begun_more old middle new (take i ls) l held then now a r h t)
 
 pub performs_all : (old new : Installed) (ls : List Line) (i : ℕ) (held now : Option (List ℕ)) (a : Bool) → length ls ≤ i
     → HasPerformed old (take i ls) held now a new → Performs old ls held now (record { done = length ls; whole = true; refused = a }) new

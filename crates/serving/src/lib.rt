@@ -91,8 +91,12 @@ fn run_script<W: Write>(alloc: Global, script: Script, writer: &mut W) -> Ending
     let Ok(mut installation) = Installation::new(alloc, config) else {
         return no_memory(writer);
     };
-    let Performed { whole, refused, .. } =
-        perform(&mut installation, lines.as_slice(), &mut out, writer);
+    let Performed { whole, refused, .. } = perform(
+        &mut installation,
+        lines.as_slice(),
+        &mut out,
+        writer,
+    );
     if whole {
         Ending::Done { refused }
     } else {
