@@ -12,4 +12,6 @@ pub mod reply;
 pub mod report;
 pub mod signal;
 pub mod status;
+#[cfg(test)]
+mod tests;
 pub mod unit_state;

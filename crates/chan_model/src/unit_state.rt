@@ -1,5 +1,7 @@
 //! The device's side (own): a unit that one or two subchannels reach.
 
+ghost use Rattle.std.specs.Prelude.{◌≡◌};
+
 use crate::chunk::Chunk;
 use crate::names::{Path, Side};
 use crate::signal::Load;
@@ -95,4 +97,73 @@ pub struct UnitState {
     pub attention: Option<Attention>,
     /// Its next attention says control unit end.
     pub end_owed: bool,
+}
+
+impl AtHand {
+    /// The same command as far; it takes no memory.
+    pub fn copy(&self) -> Self
+        ensures { result ≡ self.now }
+    {
+        AtHand {
+            code: self.code,
+            room: self.room,
+            progress: self.progress,
+            sequence: self.sequence,
+            unanswered: copy_load(&self.unanswered),
+            asked: self.asked,
+            again: self.again,
+            given: copy_chunk(&self.given),
+            stopped: self.stopped,
+        }
+    }
+}
+
+impl UnitState {
+    /// The same unit; it takes no memory.
+    pub fn copy(&self) -> Self
+        ensures { result ≡ self.now }
+    {
+        UnitState {
+            restarts: self.restarts,
+            first: self.first,
+            second: self.second,
+            own: self.own,
+            last_command: self.last_command,
+            at_hand: copy_at_hand(&self.at_hand),
+            halted: self.halted,
+            attentions: self.attentions,
+            attention: self.attention,
+            end_owed: self.end_owed,
+        }
+    }
+}
+
+/// The same load, where there is one.
+fn copy_load(load: &Option<Load>) -> Option<Load>
+    ensures { result ≡ load.now }
+{
+    match load {
+        Some(load) => Some(load.copy()),
+        None => None,
+    }
+}
+
+/// The same bytes, where there are any.
+fn copy_chunk(chunk: &Option<Chunk>) -> Option<Chunk>
+    ensures { result ≡ chunk.now }
+{
+    match chunk {
+        Some(chunk) => Some(chunk.copy()),
+        None => None,
+    }
+}
+
+/// The same command, where there is one.
+fn copy_at_hand(at_hand: &Option<AtHand>) -> Option<AtHand>
+    ensures { result ≡ at_hand.now }
+{
+    match at_hand {
+        Some(at_hand) => Some(at_hand.copy()),
+        None => None,
+    }
 }
