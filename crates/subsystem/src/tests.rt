@@ -172,11 +172,11 @@ fn a_unit_asks_for_its_turns(rt: HostRuntime) {
     let events = script(alloc);
     assert!(rt; subsystem.unit_turn(1).is_none());
     assert!(rt; matches!(subsystem.unit_turn(0), Some(UnitTurn::Rests)));
-    for event in &events.as_slice()[..6] {
+    for event in events.iter().take(6) {
         assert!(rt; subsystem.step(event).is_ok());
     }
     assert!(rt; matches!(subsystem.unit_turn(0), Some(UnitTurn::Takes)));
-    for event in &events.as_slice()[6..9] {
+    for event in events.iter().skip(6).take(3) {
         assert!(rt; subsystem.step(event).is_ok());
     }
     match subsystem.unit_turn(0) {
