@@ -1,0 +1,4 @@
+pub mod Links
+pub mod Moving
+pub mod Invariant
+pub mod Claims
