@@ -26,7 +26,7 @@ pub record IsSound (w : Links) (side : Side) : Type 0 where
   -- where the subsystem moves data on p and the device on q, p is q
   pub one_path : (p q : ℕ) → moving_path (link_of w side).hold.phase ≡ Some p → device_path w.«unit».own side ≡ Some q → p ≡ q
   -- each number was accepted at most once
-  pub once : AllPairs (λ later earlier. earlier < later) (link_of w side).accepted
+  pub once : AllPairs (λ earlier later. earlier < later) (link_of w side).accepted
 
 -- the unit takes the Reset of the hold
 abbrev pub IsReset : UnitState → HoldPhase → Side → Down → Type 0

@@ -185,7 +185,7 @@ IsUpGood e ts p (up.Attn a status) = Unit {0}
 
 -- the numbers that were accepted: none above the floor, and each once
 abbrev pub AreRising : List ℕ → Type 0
-AreRising ts = AllPairs (λ later earlier. earlier < later) ts
+AreRising ts = AllPairs (λ earlier later. earlier < later) ts
 
 pub record IsLinkGood (e : Ends) (l : Link) : Type 0 where
   pub ends : AreEndsGood e

@@ -1,5 +1,5 @@
 -- A unit, the one or two subchannels that reach it, and the signals between them (own).
-use Rattle.std.specs.Prelude.{◌≡◌, ◌⊎◌, ℕ, Option, None, Some, List, [], ◌∷◌, All, Contains}
+use Rattle.std.specs.Prelude.{◌≡◌, ◌⊎◌, ℕ, Option, None, Some, List, [], ◌∷◌, ◌++◌, All, Contains}
 use Rattle.chan_model.specs.declared.names.Side.{Side}
 use Rattle.chan_model.specs.declared.names.Side.TheVariants.{First, Second}
 use Rattle.chan_model.specs.declared.hold_state.HoldState.{HoldState}
@@ -12,7 +12,7 @@ use Rattle.chan_model.specs.HoldTable.{free_hold}
 use Rattle.chan_model.specs.UnitTable.{idle_unit}
 
 -- One subchannel: how many numbers it drew, its hold, the signals of both directions that may still arrive, and the
--- numbers of its programs that the unit accepted, latest first.
+-- numbers of its programs that the unit accepted, in their order.
 pub record Link : Type 0 where
   pub drawn : ℕ
   pub hold : HoldState
@@ -41,7 +41,7 @@ Carries old sent new = All (λ s. Contains old s ⊎ (sent ≡ Some s)) new
 
 -- the numbers accepted, with that of an Accept that is sent
 abbrev pub with_signal : List ℕ → Up → List ℕ
-with_signal ts (up.Accept t) = t ∷ ts
+with_signal ts (up.Accept t) = ts ++ t ∷ []
 with_signal ts signal = ts
 
 abbrev pub with_accepted : List ℕ → Option (OnPath Up) → List ℕ
