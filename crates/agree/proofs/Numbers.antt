@@ -1,0 +1,177 @@
+-- No number rises above the count of steps.
+use Rattle.std.proofs.Common.{◌≡◌, ℕ, ◌+◌, ◌≤◌, Bool, true, false, Option, None, Some, List, refl, arith}
+use Rattle.std.specs.Prelude.{Result, Ok, Err, if◌then◌else◌, nat_lt, length, remove, slice_get, slice_set}
+use Rattle.chan_model.specs.declared.fault.Fault.{Fault}
+use Rattle.chan_model.specs.declared.fault.Fault.TheVariants.{NotSent, NotNow}
+use Rattle.chan_model.specs.declared.hold_state.HoldPhase.{HoldPhase}
+use Rattle.chan_model.specs.declared.hold_state.HoldPhase.TheVariants as hold
+use Rattle.chan_model.specs.declared.hold_state.HoldState.{HoldState}
+use Rattle.chan_model.specs.declared.names.Side.{Side}
+use Rattle.chan_model.specs.declared.names.Side.TheVariants.{First, Second}
+use Rattle.chan_model.specs.declared.signal.OnPath.{OnPath}
+use Rattle.chan_model.specs.declared.signal.Down.{Down}
+use Rattle.chan_model.specs.declared.signal.Up.{Up}
+use Rattle.chan_model.specs.declared.signal.Up.TheVariants as up
+use Rattle.chan_model.specs.declared.unit_state.UnitState.{UnitState}
+use Rattle.chan_model.specs.HoldTable.{HoldStep, hold_takes, sending_reset, letting_go}
+use Rattle.chan_model.specs.ResetCauses.{rests_on}
+use Rattle.chan_model.specs.UnitTable.{unit_after}
+use Rattle.agreement_laws.specs.Moving.{HoldAct, Nothing, Offers, Sends_reset, Lets_go, Is_reset, Loses, Takes, Sends, HoldActed, hold_acts, stepped, offered, reset_again, still, taken, UnitAct, Takes_down, Leaves, Asks, Attends, Restarts, Notices, Reports, unit_steps}
+use Rattle.agree.specs.declared.event.WorldEvent.{WorldEvent}
+use Rattle.agree.specs.declared.event.WorldEvent.TheVariants as event
+use Rattle.agree.specs.State.{LineState, WorldState, line_of, with_line, is_up}
+use Rattle.agree.specs.Lines as line
+use Rattle.agree.specs.Lines.{LineTurn, UnitLine, acts_for, chosen, let_go, heard, hears, met, meets, loses_down, loses_up, cut, goes_down, comes_up, is_cut, with_downs, with_ups, with_path}
+use Rattle.agree.specs.Turns.{Turn, at_side, at_unit, at_owner, both_of, on_path, path_named, turn_of}
+use Rattle.agree.specs.Bounds.{IsUnitWithin, IsWithin}
+use Rattle.agree.proofs.Making.{OnDone, done-at_side, done-at_unit, done-at_owner, done-on_path, done-if, done-unless, done-stepping}
+use Rattle.agree.proofs.Raising.{act-within}
+
+-- an act of a hold draws at most one number
+stepped-drawn : (n : ℕ) (h : HoldState) (s : Option HoldStep) → (stepped n h s).drawn ≤ n + 1
+stepped-drawn n h None = omega arith
+stepped-drawn n h (Some step) = omega arith
+
+offered-drawn : (n : ℕ) (h : HoldState) (phase : HoldPhase) (p : ℕ) (single : Bool) → (offered n h phase p single).drawn ≤ n + 1
+offered-drawn n h hold.Free p single = omega arith
+offered-drawn n h (hold.Offer t q) p single = omega arith
+offered-drawn n h (hold.On t q c) p single = omega arith
+offered-drawn n h (hold.Away t) p single = omega arith
+offered-drawn n h (hold.Letting t q) p single = omega arith
+offered-drawn n h (hold.Reset r) p single = omega arith
+
+if-drawn : (n : ℕ) (b : Bool) (g h : HoldState) → (if b then reset_again n g else still n h).drawn ≤ n + 1
+if-drawn n true g h = omega arith
+if-drawn n false g h = omega arith
+
+taken-drawn : (n : ℕ) (h : HoldState) (p : ℕ) (signal : Up) (may : Bool) → (taken n h p signal may).drawn ≤ n + 1
+taken-drawn n h p (up.Accept t) may = stepped-drawn n h (hold_takes h p (up.Accept t) may)
+taken-drawn n h p (up.Busy t) may = stepped-drawn n h (hold_takes h p (up.Busy t) may)
+taken-drawn n h p (up.Leave t c) may = stepped-drawn n h (hold_takes h p (up.Leave t c) may)
+taken-drawn n h p (up.Back t c) may = stepped-drawn n h (hold_takes h p (up.Back t c) may)
+taken-drawn n h p (up.Data t c m s load) may = stepped-drawn n h (hold_takes h p (up.Data t c m s load) may)
+taken-drawn n h p (up.End t m status more) may = stepped-drawn n h (hold_takes h p (up.End t m status more) may)
+taken-drawn n h p (up.Released t) may = stepped-drawn n h (hold_takes h p (up.Released t) may)
+taken-drawn n h p (up.Cleared r) may = stepped-drawn n h (hold_takes h p (up.Cleared r) may)
+taken-drawn n h p (up.Notice b) may = if-drawn n (nat_lt h.known b) (record h { known = b }) h
+taken-drawn n h p (up.Attn a status) may = stepped-drawn n h (hold_takes h p (up.Attn a status) may)
+
+acts-drawn : (n : ℕ) (h : HoldState) (act : HoldAct) → (hold_acts n h act).drawn ≤ n + 1
+acts-drawn n h Nothing = omega arith
+acts-drawn n h (Offers p single) = offered-drawn n h h.phase p single
+acts-drawn n h (Sends_reset p) = stepped-drawn n h (sending_reset h h.phase p)
+acts-drawn n h Lets_go = stepped-drawn n h (letting_go h h.phase)
+acts-drawn n h Is_reset = omega arith
+acts-drawn n h (Loses p) = if-drawn n (rests_on h p) h h
+acts-drawn n h (Takes x may) = taken-drawn n h x.path x.signal may
+acts-drawn n h (Sends x) = omega arith
+
+within-more : (n : ℕ) (u : UnitState) → IsUnitWithin n u → IsUnitWithin (n + 1) u
+within-more n u h = record { restarts = omega (arith, h.restarts); attentions = omega (arith, h.attentions); connection = omega (arith, h.connection) }
+
+-- a side that drew at most one number more
+side-within : (n : ℕ) (w : WorldState) (side : Side) (l : LineState) → IsWithin n w → l.link.drawn ≤ (line_of w side).link.drawn + 1 → IsWithin (n + 1) (with_line w side l)
+side-within n w First l h le = record { «unit» = within-more n w.«unit» h.«unit»; first = omega (arith, h.first); second = omega (arith, h.second) }
+side-within n w Second l h le = record { «unit» = within-more n w.«unit» h.«unit»; first = omega (arith, h.first); second = omega (arith, h.second) }
+
+unit-within : (n : ℕ) (w : WorldState) (side : Side) (l : LineState) (act : UnitAct) → IsWithin n w → l.link.drawn ≡ (line_of w side).link.drawn →
+    IsWithin (n + 1) (record (with_line w side l) { «unit» = unit_after w.«unit» (unit_steps w.«unit» act) })
+unit-within n w First l act h e = record { «unit» = act-within n w.«unit» act h.«unit»; first = omega (arith, h.first); second = omega (arith, h.second) }
+unit-within n w Second l act h e = record { «unit» = act-within n w.«unit» act h.«unit»; first = omega (arith, h.first); second = omega (arith, h.second) }
+
+acts-within : (n : ℕ) (w : WorldState) (side : Side) (act : UnitAct) → IsWithin n w → OnDone (IsWithin (n + 1)) (at_unit w side (acts_for (both_of w side) act))
+acts-within n w side act h =
+    done-at_unit (IsWithin (n + 1)) w side (acts_for (both_of w side) act)
+    (done-stepping (λ b. IsWithin (n + 1) (record (with_line w side b.line) { «unit» = b.«unit» })) (both_of w side) (unit_steps w.«unit» act)
+    (unit-within n w side _ act h refl))
+
+owner-within : (n : ℕ) (w : WorldState) (act : UnitAct) → IsWithin n w →
+    OnDone (IsWithin (n + 1)) (at_owner w w.«unit».own (λ side. at_unit w side (acts_for (both_of w side) act)))
+owner-within n w act h =
+    done-at_owner (IsWithin (n + 1)) w w.«unit».own (λ side. at_unit w side (acts_for (both_of w side) act)) (λ side is. acts-within n w side act h)
+
+-- what an event at one side draws
+abbrev Draws : LineState → LineState → Type 0
+Draws l m = m.link.drawn ≤ l.link.drawn + 1
+
+turn-within : (n : ℕ) (w : WorldState) (side : Side) (turn : LineTurn) → IsWithin n w → OnDone (Draws (line_of w side)) turn → OnDone (IsWithin (n + 1)) (at_side w side turn)
+turn-within n w side (Ok l) h le = side-within n w side l h le
+turn-within n w side (Err f) h le = tt
+
+chosen-draws : (l : LineState) (phase : HoldPhase) (p : ℕ) (single : Bool) → OnDone (Draws l) (chosen l phase p single)
+chosen-draws l hold.Free p single = acts-drawn l.link.drawn l.link.hold (Offers p single)
+chosen-draws l (hold.Reset r) p single = acts-drawn l.link.drawn l.link.hold (Sends_reset p)
+chosen-draws l (hold.Offer t q) p single = tt
+chosen-draws l (hold.On t q c) p single = tt
+chosen-draws l (hold.Away t) p single = tt
+chosen-draws l (hold.Letting t q) p single = tt
+
+let_go-draws : (l : LineState) (phase : HoldPhase) → OnDone (Draws l) (let_go l phase)
+let_go-draws l hold.Free = tt
+let_go-draws l (hold.Reset r) = tt
+let_go-draws l (hold.Offer t q) = tt
+let_go-draws l (hold.On t q c) = acts-drawn l.link.drawn l.link.hold Lets_go
+let_go-draws l (hold.Away t) = tt
+let_go-draws l (hold.Letting t q) = tt
+
+heard-draws : (l : LineState) (x : Option (OnPath Up)) (place : ℕ) (keep may : Bool) → OnDone (Draws l) (heard l x place keep may)
+heard-draws l None place keep may = tt
+heard-draws l (Some x) place keep may = acts-drawn l.link.drawn l.link.hold (Takes x may)
+
+met-within : (n : ℕ) (w : WorldState) (side : Side) (x : Option (OnPath Down)) (place : ℕ) (keep may : Bool) → IsWithin n w →
+    OnDone (λ b. IsWithin (n + 1) (record (with_line w side b.line) { «unit» = b.«unit» })) (met (both_of w side) side x place keep may)
+met-within n w side None place keep may h = tt
+met-within n w side (Some x) place keep may h = unit-within n w side _ (Takes_down side x may) h refl
+
+path-within : (n : ℕ) (named : Result ℕ Fault) (turn : ℕ → Turn) → ((p : ℕ) → OnDone (IsWithin (n + 1)) (turn p)) → OnDone (IsWithin (n + 1)) (on_path named turn)
+path-within n named turn h = done-on_path (IsWithin (n + 1)) named turn h
+
+pub event-within : (n : ℕ) (w : WorldState) (e : WorldEvent) → IsWithin n w → OnDone (IsWithin (n + 1)) (turn_of w e)
+event-within n w (event.Choose side p single) h =
+    let l : LineState = line_of w side in
+    path-within n (path_named p) (λ q. at_side w side (chosen l l.link.hold.phase q single))
+    (λ q. turn-within n w side (chosen l l.link.hold.phase q single) h (chosen-draws l l.link.hold.phase q single))
+event-within n w (event.Down side place keep may) h =
+    done-at_unit (IsWithin (n + 1)) w side (meets (both_of w side) side place keep may)
+    (met-within n w side (slice_get (line_of w side).link.downs place) place keep may h)
+event-within n w (event.Up side place keep may) h =
+    let l : LineState = line_of w side in
+    turn-within n w side (hears l place keep may) h (heard-draws l (slice_get l.link.ups place) place keep may)
+event-within n w (event.LoseDown side place) h =
+    let l : LineState = line_of w side in
+    turn-within n w side (loses_down l place) h
+    (done-if (Draws l) (nat_lt place (length l.link.downs)) NotSent (with_downs l (remove l.link.downs place)) (acts-drawn l.link.drawn l.link.hold Nothing))
+event-within n w (event.LoseUp side place) h =
+    let l : LineState = line_of w side in
+    turn-within n w side (loses_up l place) h
+    (done-if (Draws l) (nat_lt place (length l.link.ups)) NotSent (with_ups l (remove l.link.ups place)) (acts-drawn l.link.drawn l.link.hold Nothing))
+event-within n w (event.PathDown side p) h =
+    let l : LineState = line_of w side in
+    path-within n (path_named p) (λ q. at_side w side (goes_down l q))
+    (λ q. turn-within n w side (goes_down l q) h
+    (done-if (Draws l) (is_up l.up q) NotNow (cut (with_path l q false) q) (acts-drawn l.link.drawn l.link.hold (Loses q))))
+event-within n w (event.PathUp side p) h =
+    let l : LineState = line_of w side in
+    path-within n (path_named p) (λ q. at_side w side (comes_up l q))
+    (λ q. turn-within n w side (comes_up l q) h (done-unless (Draws l) (is_up l.up q) NotNow (with_path l q true) (acts-drawn l.link.drawn l.link.hold Nothing)))
+event-within n w (event.PathReset side p) h =
+    let l : LineState = line_of w side in
+    path-within n (path_named p) (λ q. at_side w side (is_cut l q))
+    (λ q. turn-within n w side (is_cut l q) h (done-if (Draws l) (is_up l.up q) NotNow (cut l q) (acts-drawn l.link.drawn l.link.hold (Loses q))))
+event-within n w (event.LetGo side) h =
+    let l : LineState = line_of w side in
+    turn-within n w side (let_go l l.link.hold.phase) h (let_go-draws l l.link.hold.phase)
+event-within n w (event.Clear side) h =
+    let l : LineState = line_of w side in
+    turn-within n w side (Ok (line.acts l Is_reset)) h (acts-drawn l.link.drawn l.link.hold Is_reset)
+event-within n w event.SubsystemReset h = record { «unit» = within-more n w.«unit» h.«unit»; first = omega (arith, h.first); second = omega (arith, h.second) }
+event-within n w event.Leave h = owner-within n w Leaves h
+event-within n w (event.Ask p) h =
+    path-within n (path_named p) (λ q. at_owner w w.«unit».own (λ side. at_unit w side (acts_for (both_of w side) (Asks q)))) (λ q. owner-within n w (Asks q) h)
+event-within n w (event.Attention side p) h =
+    path-within n (path_named p) (λ q. at_unit w side (acts_for (both_of w side) (Attends side q))) (λ q. acts-within n w side (Attends side q) h)
+event-within n w (event.Notice side p) h =
+    path-within n (path_named p) (λ q. at_unit w side (acts_for (both_of w side) (Notices side q))) (λ q. acts-within n w side (Notices side q) h)
+event-within n w event.Restart h =
+    record { «unit» = act-within n w.«unit» Restarts h.«unit»; first = omega (arith, h.first); second = omega (arith, h.second) }
+event-within n w (event.Report report) h = owner-within n w (Reports report) h

@@ -1,0 +1,220 @@
+-- How far an act of a unit raises its numbers.
+use Rattle.std.proofs.Common.{◌≡◌, ℕ, ◌+◌, ◌≤◌, Bool, true, false, Option, None, Some, List, length, refl, sym, ap, arith}
+use Rattle.std.specs.Prelude.{if◌then◌else◌, nat_lt, nat_le, not, ◌==◌, ◌&&◌}
+use Rattle.chan_model.specs.declared.names.Side.{Side}
+use Rattle.chan_model.specs.declared.names.Side.TheVariants.{First, Second}
+use Rattle.chan_model.specs.declared.report.DeviceAnswer.{DeviceAnswer}
+use Rattle.chan_model.specs.declared.report.DeviceAnswer.TheVariants.{Asks, Absorbed, Ended}
+use Rattle.chan_model.specs.declared.report.Report.{Report}
+use Rattle.chan_model.specs.declared.signal.Down.{Down}
+use Rattle.chan_model.specs.declared.signal.Down.TheVariants as down
+use Rattle.chan_model.specs.declared.signal.Load.{Load}
+use Rattle.chan_model.specs.declared.signal.OnPath.{OnPath}
+use Rattle.chan_model.specs.declared.unit_state.AtHand.{AtHand}
+use Rattle.chan_model.specs.declared.unit_state.Attention.{Attention}
+use Rattle.chan_model.specs.declared.unit_state.Own.{Own}
+use Rattle.chan_model.specs.declared.unit_state.Own.TheVariants.{Idle, Owned}
+use Rattle.chan_model.specs.declared.unit_state.Place.{Place}
+use Rattle.chan_model.specs.declared.unit_state.Place.TheVariants.{On, Ask, Away}
+use Rattle.chan_model.specs.declared.unit_state.Progress.{Progress}
+use Rattle.chan_model.specs.declared.unit_state.Progress.TheVariants as progress
+use Rattle.chan_model.specs.declared.unit_state.UnitState.{UnitState}
+use Rattle.chan_model.specs.Sides.{same_side}
+use Rattle.chan_model.specs.UnitTable.{UnitStep, unit_after, side_of, owns, is_owner, is_owner_on, is_idle, resets, without_side, reset_side, raised, selected, commanded, given, given_next, answered, answered_last, answered_load, granted, granted_at, refused, refused_at, halting, releasing, forgetting, unit_works, unit_takes, telling, leaving, leaving_from, asking, asking_from, attending, noticing, sends, changes, new_command, with_given, freed}
+use Rattle.chan_model.specs.UnitReports.{unit_reports, report_of, report_on, answer_taken, absorbed, data_sent, end_sent, may_end, is_outward}
+use Rattle.unit.specs.UnitWords.{connection_of, last_connection}
+use Rattle.agreement_laws.specs.Moving.{UnitAct, Takes_down, Leaves, Asks, Attends, Restarts, Notices, Reports, unit_steps}
+use Rattle.agree.specs.Bounds.{IsUnitWithin}
+
+-- a unit whose numbers are at most one above those of another
+pub record Raises (u v : UnitState) : Type 0 where
+  pub restarts : v.restarts ≤ u.restarts + 1
+  pub attentions : v.attentions ≤ u.attentions + 1
+  pub connection : last_connection v.own ≤ last_connection u.own + 1
+
+abbrev pub RaisesBy : UnitState → Option UnitStep → Type 0
+RaisesBy u s = Raises u (unit_after u s)
+
+raises-same : (u : UnitState) → Raises u u
+raises-same u = record { restarts = omega arith; attentions = omega arith; connection = omega arith }
+
+-- the same program at most, or none
+raises-own : (u : UnitState) (v : UnitState) → v.restarts ≡ u.restarts → v.attentions ≡ u.attentions → last_connection v.own ≤ last_connection u.own + 1 → Raises u v
+raises-own u v r a c = record { restarts = omega arith; attentions = omega arith; connection = c }
+
+raises-alike : (u : UnitState) (v : UnitState) → v.restarts ≡ u.restarts → v.attentions ≡ u.attentions → v.own ≡ u.own → Raises u v
+raises-alike u v r a o = raises-own u v r a (let e : last_connection v.own ≡ last_connection u.own = ap (λ (x : Own). last_connection x) o in omega arith)
+
+raises-if : (u : UnitState) (b : Bool) (s t : Option UnitStep) → RaisesBy u s → RaisesBy u t → RaisesBy u (if b then s else t)
+raises-if u true s t h k = h
+raises-if u false s t h k = k
+
+none : (u : UnitState) → RaisesBy u None
+none u = raises-same u
+
+-- Reset: no program, or the same
+without-raises : (u : UnitState) (b : Bool) → Raises u (if b then freed u else u)
+without-raises u true = raises-own u _ refl refl (omega arith)
+without-raises u false = raises-same u
+
+reset-raises : (u : UnitState) (side : Side) (r : ℕ) → Raises u (reset_side u side r)
+reset-raises u First r = let w : Raises u (without_side u First) = without-raises u (owns u.own First) in record { restarts = w.restarts; attentions = w.attentions; connection = w.connection }
+reset-raises u Second r = let w : Raises u (without_side u Second) = without-raises u (owns u.own Second) in record { restarts = w.restarts; attentions = w.attentions; connection = w.connection }
+
+-- Select: the new program has no connection yet
+selected-raises : (u v : UnitState) (o : Own) (side : Side) (p t : ℕ) (may : Bool) → v.restarts ≡ u.restarts → v.attentions ≡ u.attentions → v.own ≡ u.own →
+    Raises u (unit_after u (selected v o side p t may))
+selected-raises u v Idle side p t true r a o = raises-own u _ r a (omega arith)
+selected-raises u v Idle side p t false r a o = raises-alike u v r a o
+selected-raises u v (Owned k n place) side p t may r a o = raises-alike u v r a o
+
+raised-raises : (u : UnitState) (side : Side) (p t : ℕ) (may : Bool) → RaisesBy u (selected (raised u side t) u.own side p t may)
+raised-raises u First p t may = selected-raises u (raised u First t) u.own First p t may refl refl refl
+raised-raises u Second p t may = selected-raises u (raised u Second t) u.own Second p t may refl refl refl
+
+given_next-raises : (u : UnitState) (x : Option AtHand) (s : ℕ) (bytes : List ℕ) → RaisesBy u (given_next u x s bytes)
+given_next-raises u None s bytes = none u
+given_next-raises u (Some x) s bytes =
+    raises-if u (s == x.sequence + 1) (changes (record u { at_hand = Some (with_given x s bytes) })) None (raises-alike u _ refl refl refl) (none u)
+
+load-raises : (u : UnitState) (x : AtHand) (load : Option Load) (room : ℕ) → RaisesBy u (answered_load u x load room)
+load-raises u x None room = none u
+load-raises u x (Some load) room = raises-alike u _ refl refl refl
+
+last-raises : (u : UnitState) (x : Option AtHand) (s room : ℕ) → RaisesBy u (answered_last u x s room)
+last-raises u None s room = none u
+last-raises u (Some x) s room = raises-if u (s == x.sequence) (answered_load u x x.unanswered room) None (load-raises u x x.unanswered room) (none u)
+
+-- Grant: the connection asked for
+granted_at-raises : (u : UnitState) (side : Side) (t : ℕ) (place : Place) (p c : ℕ) → connection_of place ≤ last_connection u.own → RaisesBy u (granted_at u side t place p c)
+granted_at-raises u side t (Ask q d) p c le =
+    raises-if u (c == d) _ _ (raises-own u _ refl refl (omega arith)) (raises-if u (nat_lt c d) _ None (raises-same u) (none u))
+granted_at-raises u side t (On q d) p c le = raises-if u (nat_lt c d) _ None (raises-same u) (none u)
+granted_at-raises u side t (Away d) p c le = raises-if u (nat_lt c d) _ None (raises-same u) (none u)
+
+granted-raises : (u : UnitState) (o : Own) (side : Side) (p t c : ℕ) → last_connection o ≤ last_connection u.own → RaisesBy u (granted u o side p t c)
+granted-raises u Idle side p t c le = none u
+granted-raises u (Owned k v place) side p t c le = raises-if u (same_side k side && (t == v)) (granted_at u k v place p c) None (granted_at-raises u k v place p c le) (none u)
+
+refused_at-raises : (u : UnitState) (side : Side) (t : ℕ) (place : Place) (c : ℕ) → connection_of place ≤ last_connection u.own → RaisesBy u (refused_at u side t place c)
+refused_at-raises u side t (Ask q d) c le = raises-if u (c == d) _ None (raises-own u _ refl refl (omega arith)) (none u)
+refused_at-raises u side t (On q d) c le = none u
+refused_at-raises u side t (Away d) c le = none u
+
+refused-raises : (u : UnitState) (o : Own) (side : Side) (t c : ℕ) → last_connection o ≤ last_connection u.own → RaisesBy u (refused u o side t c)
+refused-raises u Idle side t c le = none u
+refused-raises u (Owned k v place) side t c le = raises-if u (same_side k side && (t == v)) (refused_at u k v place c) None (refused_at-raises u k v place c le) (none u)
+
+forgetting-raises : (u : UnitState) (x : Option Attention) (side : Side) (a : ℕ) → RaisesBy u (forgetting u x side a)
+forgetting-raises u None side a = none u
+forgetting-raises u (Some x) side a = raises-if u (same_side x.side side && (a == x.number)) _ None (raises-alike u _ refl refl refl) (none u)
+
+-- each signal of a side that is not fresh
+works-raises : (u : UnitState) (side : Side) (p : ℕ) (signal : Down) (may : Bool) → RaisesBy u (unit_works u side p signal may)
+works-raises u side p (down.Select t) may =
+    raises-if u (nat_lt (side_of u side).floor t) (selected (raised u side t) u.own side p t may) None (raised-raises u side p t may) (none u)
+works-raises u side p (down.Command t n code room) may =
+    raises-if u (is_owner u.own side t && (n == u.last_command + 1)) _ None (raises-alike u _ refl refl refl) (none u)
+works-raises u side p (down.Grant t c) may = granted-raises u u.own side p t c (omega arith)
+works-raises u side p (down.Refuse t c) may = refused-raises u u.own side t c (omega arith)
+works-raises u side p (down.Took t n s room) may =
+    raises-if u (is_owner u.own side t && (n == u.last_command)) (answered_last u u.at_hand s room) None (last-raises u u.at_hand s room) (none u)
+works-raises u side p (down.Give t c n s bytes) may =
+    raises-if u (is_owner_on u.own side t c && (n == u.last_command)) (given_next u u.at_hand s bytes) None (given_next-raises u u.at_hand s bytes) (none u)
+works-raises u side p (down.Halt t) may = raises-if u (is_owner u.own side t && not u.halted) _ None (raises-alike u _ refl refl refl) (none u)
+works-raises u side p (down.Release t) may = raises-if u (is_owner u.own side t) _ None (raises-own u _ refl refl (omega arith)) (none u)
+works-raises u side p (down.Reset r b) may = none u
+works-raises u side p (down.Got a) may = forgetting-raises u u.attention side a
+
+-- each signal
+fresh-raises : (u : UnitState) (side : Side) (p : ℕ) (signal : Down) (may : Bool) →
+    RaisesBy u (if (side_of u side).fresh then telling u p else unit_works u side p signal may)
+fresh-raises u side p signal may = raises-if u (side_of u side).fresh (telling u p) (unit_works u side p signal may) (raises-same u) (works-raises u side p signal may)
+
+takes-raises : (u : UnitState) (side : Side) (p : ℕ) (signal : Down) (may : Bool) → RaisesBy u (unit_takes u side p signal may)
+takes-raises u side p (down.Reset r b) may =
+    raises-if u (resets u side r b) _ _ (reset-raises u side r)
+    (raises-if u (side_of u side).fresh (telling u p) None (raises-same u) (none u))
+takes-raises u side p (down.Select t) may = fresh-raises u side p (down.Select t) may
+takes-raises u side p (down.Command t n code room) may = fresh-raises u side p (down.Command t n code room) may
+takes-raises u side p (down.Grant t c) may = fresh-raises u side p (down.Grant t c) may
+takes-raises u side p (down.Refuse t c) may = fresh-raises u side p (down.Refuse t c) may
+takes-raises u side p (down.Took t n s room) may = fresh-raises u side p (down.Took t n s room) may
+takes-raises u side p (down.Give t c n s bytes) may = fresh-raises u side p (down.Give t c n s bytes) may
+takes-raises u side p (down.Halt t) may = fresh-raises u side p (down.Halt t) may
+takes-raises u side p (down.Release t) may = fresh-raises u side p (down.Release t) may
+takes-raises u side p (down.Got a) may = fresh-raises u side p (down.Got a) may
+
+-- what the unit does of itself
+leaving_from-raises : (u : UnitState) (side : Side) (t : ℕ) (place : Place) → connection_of place ≤ last_connection u.own → RaisesBy u (leaving_from u side t place)
+leaving_from-raises u side t (On p c) le = raises-own u _ refl refl (omega arith)
+leaving_from-raises u side t (Ask p c) le = none u
+leaving_from-raises u side t (Away c) le = none u
+
+leaving-raises : (u : UnitState) (o : Own) → last_connection o ≤ last_connection u.own → RaisesBy u (leaving u o)
+leaving-raises u Idle le = none u
+leaving-raises u (Owned side t place) le = leaving_from-raises u side t place le
+
+asking_from-raises : (u : UnitState) (side : Side) (t : ℕ) (place : Place) (p : ℕ) → connection_of place ≤ last_connection u.own → RaisesBy u (asking_from u side t place p)
+asking_from-raises u side t (On q c) p le = none u
+asking_from-raises u side t (Ask q c) p le = raises-own u _ refl refl (omega arith)
+asking_from-raises u side t (Away c) p le = raises-own u _ refl refl (omega arith)
+
+asking-raises : (u : UnitState) (o : Own) (p : ℕ) → last_connection o ≤ last_connection u.own → RaisesBy u (asking u o p)
+asking-raises u Idle p le = none u
+asking-raises u (Owned side t place) p le = asking_from-raises u side t place p le
+
+attending-raises : (u : UnitState) (side : Side) (p : ℕ) → RaisesBy u (attending u side p)
+attending-raises u side p =
+    raises-if u (is_idle u.own && not (side_of u side).fresh) _ None (record { restarts = omega arith; attentions = omega arith; connection = omega arith }) (none u)
+
+-- a report
+absorbed-raises : (u : UnitState) (p t c : ℕ) (x : AtHand) (given : Option (List ℕ)) (count : ℕ) → RaisesBy u (absorbed u p t c x given count)
+absorbed-raises u p t c x None count = none u
+absorbed-raises u p t c x (Some bytes) count = raises-if u (nat_le count (length bytes)) (data_sent u p t c x count) None (raises-alike u _ refl refl refl) (none u)
+
+answer-raises : (u : UnitState) (p t c : ℕ) (x : AtHand) (at : Progress) (answer : DeviceAnswer) → RaisesBy u (answer_taken u p t c x at answer)
+answer-raises u p t c x progress.New (Ended status more) = raises-if u (may_end u.halted x progress.New status more) (end_sent u p t x status more) None (raises-alike u _ refl refl refl) (none u)
+answer-raises u p t c x progress.Working (Ended status more) = raises-if u (may_end u.halted x progress.Working status more) (end_sent u p t x status more) None (raises-alike u _ refl refl refl) (none u)
+answer-raises u p t c x progress.ChannelEnded (Ended status more) = raises-if u (may_end u.halted x progress.ChannelEnded status more) (end_sent u p t x status more) None (raises-alike u _ refl refl refl) (none u)
+answer-raises u p t c x progress.Ended (Ended status more) = none u
+answer-raises u p t c x progress.New Asks = raises-if u (is_outward x.code) (data_sent u p t c x 0) None (raises-alike u _ refl refl refl) (none u)
+answer-raises u p t c x progress.Working Asks = none u
+answer-raises u p t c x progress.ChannelEnded Asks = none u
+answer-raises u p t c x progress.Ended Asks = none u
+answer-raises u p t c x progress.New (Absorbed count) = none u
+answer-raises u p t c x progress.Working (Absorbed count) = absorbed-raises u p t c x x.given count
+answer-raises u p t c x progress.ChannelEnded (Absorbed count) = none u
+answer-raises u p t c x progress.Ended (Absorbed count) = none u
+
+on-raises : (u : UnitState) (t : ℕ) (place : Place) (at_hand : Option AtHand) (r : Report) → RaisesBy u (report_on u t place at_hand r)
+on-raises u t (On p c) (Some x) r = raises-if u (r.sequence == x.sequence) (answer_taken u p t c x x.progress r.answer) None (answer-raises u p t c x x.progress r.answer) (none u)
+on-raises u t (On p c) None r = none u
+on-raises u t (Ask p c) (Some x) r = none u
+on-raises u t (Ask p c) None r = none u
+on-raises u t (Away c) (Some x) r = none u
+on-raises u t (Away c) None r = none u
+
+report-raises : (u : UnitState) (o : Own) (r : Report) → RaisesBy u (report_of u o r)
+report-raises u Idle r = none u
+report-raises u (Owned k t place) r =
+    raises-if u (same_side k r.side && ((r.number == t) && (r.command == u.last_command))) (report_on u t place u.at_hand r) None (on-raises u t place u.at_hand r) (none u)
+
+-- each act
+act-raises : (u : UnitState) (act : UnitAct) → RaisesBy u (unit_steps u act)
+act-raises u (Takes_down side x may) = takes-raises u side x.path x.signal may
+act-raises u Leaves = leaving-raises u u.own (omega arith)
+act-raises u (Asks p) = asking-raises u u.own p (omega arith)
+act-raises u (Attends side p) = attending-raises u side p
+act-raises u Restarts = record { restarts = omega arith; attentions = omega arith; connection = omega arith }
+act-raises u (Notices side p) = raises-if u (side_of u side).fresh (telling u p) None (raises-same u) (none u)
+act-raises u (Reports report) = report-raises u u.own report
+
+pub act-within : (n : ℕ) (u : UnitState) (act : UnitAct) → IsUnitWithin n u → IsUnitWithin (n + 1) (unit_after u (unit_steps u act))
+act-within n u act h =
+    let r : Raises u (unit_after u (unit_steps u act)) = act-raises u act in
+    record {
+      restarts = omega (arith, r.restarts, h.restarts);
+      attentions = omega (arith, r.attentions, h.attentions);
+      connection = omega (arith, r.connection, h.connection);
+    }

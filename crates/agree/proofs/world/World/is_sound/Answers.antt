@@ -1,0 +1,16 @@
+use Rattle.std.proofs.Common.{subst}
+use Rattle.agree.specs.State.{WorldState}
+use Rattle.agree.specs.Promises.{AreSound, EachEnds}
+use Rattle.agree.specs.Turns.{worlds_after}
+use Rattle.agree.proofs.Lasting.{list-well, list-ends, well-sound}
+use Rattle.agree.proofs.world.World.is_sound.Goals as goal
+
+pub returns-clause-later : goal.returns-clause-later
+returns-clause-later c events =
+    subst (λ (w : WorldState). AreSound (worlds_after w events)) c.self.view_is
+    (well-sound c.agreement.ensures.means (worlds_after c.self.inside.parts events)
+    (list-well c.agreement.ensures.keeps c.resets.ensures c.self.inside.parts events c.self.invariant))
+
+pub returns-clause-ends : goal.returns-clause-ends
+returns-clause-ends c events =
+    subst (λ (w : WorldState). EachEnds w events) c.self.view_is (list-ends c.agreement.ensures.keeps c.resets.ensures c.self.inside.parts events c.self.invariant)

@@ -1,0 +1,5 @@
+pub mod State
+pub mod Lines
+pub mod Turns
+pub mod Bounds
+pub mod Promises

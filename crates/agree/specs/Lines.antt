@@ -1,0 +1,131 @@
+-- What an event does at one side (own).
+use Rattle.std.specs.Prelude.{◌≡◌, ◌⊎◌, ℕ, Bool, true, false, not, ◌==◌, if◌then◌else◌, nat_lt, Option, None, Some, List, [], ◌∷◌, ◌++◌, length, filter, remove, slice_get, slice_set, Result, Ok, Err}
+use Rattle.chan_model.specs.declared.fault.Fault.{Fault}
+use Rattle.chan_model.specs.declared.fault.Fault.TheVariants.{NoMemory, NotSent, NotNow}
+use Rattle.chan_model.specs.declared.hold_state.HoldPhase.{HoldPhase}
+use Rattle.chan_model.specs.declared.hold_state.HoldPhase.TheVariants.{Free, Offer, On, Away, Letting, Reset}
+use Rattle.chan_model.specs.declared.signal.OnPath.{OnPath}
+use Rattle.chan_model.specs.declared.signal.Down.{Down}
+use Rattle.chan_model.specs.declared.signal.Up.{Up}
+use Rattle.chan_model.specs.declared.names.Side.{Side}
+use Rattle.chan_model.specs.declared.unit_state.UnitState.{UnitState}
+use Rattle.chan_model.specs.UnitTable.{UnitStep, unit_after, came_of}
+use Rattle.agreement_laws.specs.Links.{Link, with_accepted}
+use Rattle.agreement_laws.specs.Moving.{HoldAct, HoldActed, hold_acts, Offers, Sends_reset, Lets_go, Loses, Takes, UnitAct, Takes_down, unit_steps}
+use Rattle.agree.specs.State.{LineState, is_up}
+
+-- the signals with one sent behind them; on a path that is down it vanishes
+abbrev pub with_sent : {S : Type 0} → List Bool → List (OnPath S) → Option (OnPath S) → List (OnPath S)
+with_sent up xs None = xs
+with_sent up xs (Some x) = if is_up up x.path then xs ++ x ∷ [] else xs
+
+-- the signals that are left where one is delivered, and kept or not
+abbrev pub left_after : {S : Type 0} → List (OnPath S) → ℕ → Bool → List (OnPath S)
+left_after xs place keep = if keep then xs else remove xs place
+
+-- the signals of all other paths
+abbrev pub without_path : {S : Type 0} → List (OnPath S) → ℕ → List (OnPath S)
+without_path xs p = filter (λ x. not (x.path == p)) xs
+
+abbrev pub with_downs : LineState → List (OnPath Down) → LineState
+with_downs l xs = record l { link = record l.link { downs = xs } }
+
+abbrev pub with_ups : LineState → List (OnPath Up) → LineState
+with_ups l xs = record l { link = record l.link { ups = xs } }
+
+-- the side after an act of its hold
+abbrev pub acted : LineState → HoldActed → LineState
+acted l a = record l { link = record l.link { drawn = a.drawn; hold = a.hold; downs = with_sent l.up l.link.downs a.sent } }
+
+abbrev pub acts : LineState → HoldAct → LineState
+acts l act = acted l (hold_acts l.link.drawn l.link.hold act)
+
+-- the side after the unit sent it something or nothing
+abbrev pub told : LineState → Option (OnPath Up) → LineState
+told l sent = record l { link = record l.link { ups = with_sent l.up l.link.ups sent; accepted = with_accepted l.link.accepted sent } }
+
+abbrev pub LineTurn : Type 0
+LineTurn = Result LineState Fault
+
+-- Choose: an offer where nothing holds the device; the Reset where there is one to send
+abbrev pub chosen : LineState → HoldPhase → ℕ → Bool → LineTurn
+chosen l Free p single = Ok (acts l (Offers p single))
+chosen l (Reset r) p single = Ok (acts l (Sends_reset p))
+chosen l (Offer t q) p single = Err NotNow
+chosen l (On t q c) p single = Err NotNow
+chosen l (Away t) p single = Err NotNow
+chosen l (Letting t q) p single = Err NotNow
+
+-- the device is let go where a program is connected
+abbrev pub let_go : LineState → HoldPhase → LineTurn
+let_go l (On t q c) = Ok (acts l Lets_go)
+let_go l Free = Err NotNow
+let_go l (Offer t q) = Err NotNow
+let_go l (Away t) = Err NotNow
+let_go l (Letting t q) = Err NotNow
+let_go l (Reset r) = Err NotNow
+
+-- the hold takes the signal at a place
+abbrev pub heard : LineState → Option (OnPath Up) → ℕ → Bool → Bool → LineTurn
+heard l None place keep may = Err NotSent
+heard l (Some x) place keep may = Ok (acts (with_ups l (left_after l.link.ups place keep)) (Takes x may))
+
+abbrev pub hears : LineState → ℕ → Bool → Bool → LineTurn
+hears l place keep may = heard l (slice_get l.link.ups place) place keep may
+
+-- a signal vanishes
+abbrev pub loses_down : LineState → ℕ → LineTurn
+loses_down l place = if nat_lt place (length l.link.downs) then Ok (with_downs l (remove l.link.downs place)) else Err NotSent
+
+abbrev pub loses_up : LineState → ℕ → LineTurn
+loses_up l place = if nat_lt place (length l.link.ups) then Ok (with_ups l (remove l.link.ups place)) else Err NotSent
+
+-- all signals on a path vanish, and the hold loses it
+abbrev pub cut : LineState → ℕ → LineState
+cut l p = acts (with_ups (with_downs l (without_path l.link.downs p)) (without_path l.link.ups p)) (Loses p)
+
+abbrev pub with_path : LineState → ℕ → Bool → LineState
+with_path l p is_up = record l { up = slice_set l.up p is_up }
+
+abbrev pub goes_down : LineState → ℕ → LineTurn
+goes_down l p = if is_up l.up p then Ok (cut (with_path l p false) p) else Err NotNow
+
+abbrev pub comes_up : LineState → ℕ → LineTurn
+comes_up l p = if is_up l.up p then Err NotNow else Ok (with_path l p true)
+
+abbrev pub is_cut : LineState → ℕ → LineTurn
+is_cut l p = if is_up l.up p then Ok (cut l p) else Err NotNow
+
+-- a unit and one side of it
+pub record UnitLine : Type 0 where
+  pub «unit» : UnitState
+  pub line : LineState
+
+abbrev pub both : UnitState → LineState → UnitLine
+both u l = record { «unit» = u; line = l }
+
+-- the unit stepped, and what it sent goes to the side
+abbrev pub stepped : UnitLine → Option UnitStep → UnitLine
+stepped b step = record { «unit» = unit_after b.«unit» step; line = told b.line (came_of step).sent }
+
+-- an act of the unit, where its state allows it
+abbrev pub stepping : UnitLine → Option UnitStep → Result UnitLine Fault
+stepping b None = Err NotNow
+stepping b (Some step) = Ok (stepped b (Some step))
+
+abbrev pub acts_for : UnitLine → UnitAct → Result UnitLine Fault
+acts_for b act = stepping b (unit_steps b.«unit» act)
+
+-- the unit takes the signal at a place
+abbrev pub met : UnitLine → Side → Option (OnPath Down) → ℕ → Bool → Bool → Result UnitLine Fault
+met b side None place keep may = Err NotSent
+met b side (Some x) place keep may =
+    Ok (stepped (record b { line = with_downs b.line (left_after b.line.link.downs place keep) }) (unit_steps b.«unit» (Takes_down side x may)))
+
+abbrev pub meets : UnitLine → Side → ℕ → Bool → Bool → Result UnitLine Fault
+meets b side place keep may = met b side (slice_get b.line.link.downs place) place keep may
+
+-- A call does as a turn says. Where it is refused, for that or for want of memory, all is as before.
+abbrev pub Gives : {A S : Type 0} → S → Result S Fault → Result A Fault → S → Type 0
+Gives old turn (Ok done) new = turn ≡ Ok new
+Gives old turn (Err f) new = (new ≡ old) × ((f ≡ NoMemory) ⊎ (turn ≡ Err f))

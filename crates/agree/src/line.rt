@@ -1,0 +1,245 @@
+//! One side of a unit: its hold, the signals between both, and its paths.
+
+mod signals;
+mod told;
+
+ghost use Rattle.std.specs.Prelude.{◌≡◌, ◌≤◌, ◌^◌, Ok, length};
+ghost use Rattle.agree.specs.Lines as spec;
+ghost use Rattle.agree.specs.State as state_spec;
+ghost use Rattle.agreement_laws.specs.Moving as moving;
+
+use chan_model::fault::Fault;
+use chan_model::hold_state::{HoldPhase, HoldState};
+use chan_model::names::Path;
+use chan_model::signal::{Down, OnPath, Up};
+use hold::Hold;
+use signals::{cut_downs, cut_ups, is_up, post, with_path};
+use std::alloc::Global;
+use std::marker::Model;
+
+/// One side: how many numbers were drawn, the hold, the signals that may still arrive, the numbers that the unit accepted,
+/// and which paths are up.
+#[derive(Drop)]
+pub struct Line {
+    drawn: u64,
+    hold: Hold,
+    downs: Vec<OnPath<Down>>,
+    ups: Vec<OnPath<Up>>,
+    accepted: Vec<u64>,
+    up: [bool; 8],
+}
+
+impl Model for Line {
+    ghost use Rattle.agree.specs.State.{LineState};
+
+    ghost Value = { LineState };
+
+    ghost view = { λ l. record { link = record { drawn = l.drawn; hold = l.hold; downs = l.downs.items; ups = l.ups.items; accepted = l.accepted.items }; up = l.up } };
+}
+
+impl Line {
+    /// Nothing has happened, and every path is up.
+    pub fn new(alloc: Global) -> Self
+        ensures { result ≡ state_spec.opening_line }
+    {
+        Line {
+            drawn: 0,
+            hold: Hold::new(),
+            downs: Vec::new(alloc),
+            ups: Vec::new(alloc),
+            accepted: Vec::new(alloc),
+            up: [true; 8],
+        }
+    }
+
+    /// What the hold is in.
+    pub fn hold(&self) -> HoldState
+        ensures { result ≡ self.now.link.hold }
+    {
+        self.hold.state()
+    }
+
+    /// How many signals may still arrive at the unit.
+    pub fn downs_len(&self) -> usize
+        ensures { result ≡ length self.now.link.downs }
+    {
+        self.downs.len()
+    }
+
+    /// How many signals may still arrive at the hold.
+    pub fn ups_len(&self) -> usize
+        ensures { result ≡ length self.now.link.ups }
+    {
+        self.ups.len()
+    }
+
+    /// The numbers that the unit accepted, in their order.
+    pub fn accepted(&self) -> &[u64]
+        ensures { result.now ≡ self.now.link.accepted }
+    {
+        self.accepted.as_slice()
+    }
+
+    /// Keeps what the hold did, and sends what it sent.
+    fn keep(&mut self, drawn: u64, hold: Hold, sent: Option<OnPath<Down>>) -> Result<(), Fault>
+        ensures { spec.Gives self.old (Ok (spec.acted self.old (record { drawn = drawn; hold = hold; sent = sent }))) result self.new }
+    {
+        if let Some(signal) = sent {
+            post(&mut self.downs, &self.up, signal)?;
+        }
+        self.drawn = drawn;
+        self.hold = hold;
+        Ok(())
+    }
+
+    /// Offers a program on a path, or sends the Reset on it.
+    pub fn choose(&mut self, path: Path, single_path: bool) -> Result<(), Fault>
+        requires { self.old.link.drawn ≤ 2 ^ 62 }
+        ensures { spec.Gives self.old (spec.chosen self.old self.old.link.hold.phase path single_path) result self.new }
+    {
+        let mut hold = self.hold;
+        match hold.state().phase {
+            HoldPhase::Free => {
+                let number = self.drawn + 1;
+                let select = hold.offer(number, path, single_path);
+                self.keep(number, hold, Some(select))
+            }
+            HoldPhase::Reset { .. } => {
+                let reset = hold.send_reset(path);
+                self.keep(self.drawn, hold, reset)
+            }
+            _ => Err(Fault::NotNow),
+        }
+    }
+
+    /// Lets the device go.
+    pub fn let_go(&mut self) -> Result<(), Fault>
+        ensures { spec.Gives self.old (spec.let_go self.old self.old.link.hold.phase) result self.new }
+    {
+        let mut hold = self.hold;
+        match hold.state().phase {
+            HoldPhase::On { .. } => {
+                let release = hold.let_go();
+                self.keep(self.drawn, hold, release)
+            }
+            _ => Err(Fault::NotNow),
+        }
+    }
+
+    /// The hold is reset.
+    pub fn clear(&mut self)
+        requires { self.old.link.drawn ≤ 2 ^ 62 }
+        ensures { self.new ≡ spec.acts self.old moving.Is_reset }
+    {
+        self.drawn += 1;
+        self.hold.reset(self.drawn);
+    }
+
+    /// The hold takes the signal at a place.
+    pub fn hear(&mut self, place: usize, keep: bool, may: bool) -> Result<(), Fault>
+        requires { self.old.link.drawn ≤ 2 ^ 62 }
+        ensures { spec.Gives self.old (spec.hears self.old place keep may) result self.new }
+    {
+        if place >= self.ups.len() {
+            return Err(Fault::NotSent);
+        }
+        let mut hold = self.hold;
+        let signal = &self.ups[place];
+        let (drawn, sent) = taken(self.drawn, &mut hold, signal, may);
+        self.keep(drawn, hold, sent)?;
+        if !keep {
+            self.ups.remove(place);
+        }
+        Ok(())
+    }
+
+    /// The signal to the unit at a place vanishes.
+    pub fn lose_down(&mut self, place: usize) -> Result<(), Fault>
+        ensures { spec.Gives self.old (spec.loses_down self.old place) result self.new }
+    {
+        if place >= self.downs.len() {
+            return Err(Fault::NotSent);
+        }
+        self.downs.remove(place);
+        Ok(())
+    }
+
+    /// The signal from the unit at a place vanishes.
+    pub fn lose_up(&mut self, place: usize) -> Result<(), Fault>
+        ensures { spec.Gives self.old (spec.loses_up self.old place) result self.new }
+    {
+        if place >= self.ups.len() {
+            return Err(Fault::NotSent);
+        }
+        self.ups.remove(place);
+        Ok(())
+    }
+
+    /// All signals on a path vanish, and the hold loses it.
+    fn cut(&mut self, path: Path)
+        requires { self.old.link.drawn ≤ 2 ^ 62 }
+        ensures { self.new ≡ spec.cut self.old path }
+    {
+        cut_downs(&mut self.downs, path);
+        cut_ups(&mut self.ups, path);
+        let number = self.drawn + 1;
+        if self.hold.path_down(path, number) {
+            self.drawn = number;
+        }
+    }
+
+    /// A path goes down.
+    pub fn path_down(&mut self, path: Path) -> Result<(), Fault>
+        requires { self.old.link.drawn ≤ 2 ^ 62 }
+        ensures { spec.Gives self.old (spec.goes_down self.old path) result self.new }
+    {
+        if !is_up(&self.up, path) {
+            return Err(Fault::NotNow);
+        }
+        self.up = with_path(&self.up, path, false);
+        self.cut(path);
+        Ok(())
+    }
+
+    /// A path comes up.
+    pub fn path_up(&mut self, path: Path) -> Result<(), Fault>
+        ensures { spec.Gives self.old (spec.comes_up self.old path) result self.new }
+    {
+        if is_up(&self.up, path) {
+            return Err(Fault::NotNow);
+        }
+        self.up = with_path(&self.up, path, true);
+        Ok(())
+    }
+
+    /// A path is reset.
+    pub fn path_reset(&mut self, path: Path) -> Result<(), Fault>
+        requires { self.old.link.drawn ≤ 2 ^ 62 }
+        ensures { spec.Gives self.old (spec.is_cut self.old path) result self.new }
+    {
+        if !is_up(&self.up, path) {
+            return Err(Fault::NotNow);
+        }
+        self.cut(path);
+        Ok(())
+    }
+}
+
+/// The hold takes a signal: how many numbers are drawn then, and what is sent. A Notice of more restarts than are known is a
+/// cause of a reset.
+fn taken(
+    drawn: u64,
+    hold: &mut Hold,
+    signal: &OnPath<Up>,
+    may: bool,
+) -> (u64, Option<OnPath<Down>>)
+    requires { drawn ≤ 2 ^ 62 }
+    ensures { record { drawn = result.0; hold = hold.new; sent = result.1 } ≡ moving.taken drawn hold.old signal.now.path signal.now.signal may }
+{
+    let came = hold.take(signal.path, &signal.signal, may);
+    if came.taken && matches!(signal.signal, Up::Notice { .. }) {
+        hold.reset(drawn + 1);
+        return (drawn + 1, None);
+    }
+    (drawn, came.sent)
+}

@@ -1,0 +1,106 @@
+//! What the unit does, and how one side is told of it.
+
+ghost use Rattle.std.specs.Prelude.{◌≡◌, ◌<◌, ◌^◌};
+ghost use Rattle.agree.specs.Lines as spec;
+ghost use Rattle.agreement_laws.specs.Moving as moving;
+ghost use Rattle.unit.specs.UnitWords as words;
+
+use super::Line;
+use super::signals::{make_room, tell};
+use chan_model::fault::Fault;
+use chan_model::names::{Path, Side};
+use chan_model::report::Report;
+use unit::Unit;
+
+impl Line {
+    /// The unit takes the signal at a place.
+    pub fn meet(
+        &mut self,
+        unit: &mut Unit,
+        side: Side,
+        place: usize,
+        keep: bool,
+        may: bool,
+    ) -> Result<(), Fault>
+        ensures { spec.Gives (spec.both unit.old self.old) (spec.meets (spec.both unit.old self.old) side place keep may) result (spec.both unit.new self.new) }
+    {
+        if place >= self.downs.len() {
+            return Err(Fault::NotSent);
+        }
+        make_room(&mut self.ups, &mut self.accepted)?;
+        let signal = &self.downs[place];
+        let came = unit.take(side, signal.path, &signal.signal, may);
+        if !keep {
+            self.downs.remove(place);
+        }
+        tell(&mut self.ups, &mut self.accepted, &self.up, came.sent);
+        Ok(())
+    }
+
+    /// The unit leaves the path of its program.
+    pub fn leave(&mut self, unit: &mut Unit) -> Result<(), Fault>
+        ensures { spec.Gives (spec.both unit.old self.old) (spec.acts_for (spec.both unit.old self.old) moving.Leaves) result (spec.both unit.new self.new) }
+    {
+        make_room(&mut self.ups, &mut self.accepted)?;
+        let sent = unit.leave();
+        if sent.is_none() {
+            return Err(Fault::NotNow);
+        }
+        tell(&mut self.ups, &mut self.accepted, &self.up, sent);
+        Ok(())
+    }
+
+    /// The unit asks for a path.
+    pub fn ask(&mut self, unit: &mut Unit, path: Path) -> Result<(), Fault>
+        requires { words.last_connection unit.old.own < 2 ^ 63 }
+        ensures { spec.Gives (spec.both unit.old self.old) (spec.acts_for (spec.both unit.old self.old) (moving.Asks path)) result (spec.both unit.new self.new) }
+    {
+        make_room(&mut self.ups, &mut self.accepted)?;
+        let sent = unit.ask(path);
+        if sent.is_none() {
+            return Err(Fault::NotNow);
+        }
+        tell(&mut self.ups, &mut self.accepted, &self.up, sent);
+        Ok(())
+    }
+
+    /// The unit asks this side for attention.
+    pub fn attention(&mut self, unit: &mut Unit, side: Side, path: Path) -> Result<(), Fault>
+        requires { unit.old.attentions < 2 ^ 63 }
+        ensures { spec.Gives (spec.both unit.old self.old) (spec.acts_for (spec.both unit.old self.old) (moving.Attends side path)) result (spec.both unit.new self.new) }
+    {
+        make_room(&mut self.ups, &mut self.accepted)?;
+        let sent = unit.attention(side, path);
+        if sent.is_none() {
+            return Err(Fault::NotNow);
+        }
+        tell(&mut self.ups, &mut self.accepted, &self.up, sent);
+        Ok(())
+    }
+
+    /// The unit tells this side how often it was restarted.
+    pub fn notice(&mut self, unit: &Unit, side: Side, path: Path) -> Result<(), Fault>
+        ensures { spec.Gives (spec.both unit.now self.old) (spec.acts_for (spec.both unit.now self.old) (moving.Notices side path)) result (spec.both unit.now self.new) }
+    {
+        make_room(&mut self.ups, &mut self.accepted)?;
+        let sent = unit.notice(side, path);
+        if sent.is_none() {
+            return Err(Fault::NotNow);
+        }
+        tell(&mut self.ups, &mut self.accepted, &self.up, sent);
+        Ok(())
+    }
+
+    /// The unit takes its device's answer.
+    pub fn report(&mut self, unit: &mut Unit, report: &Report) -> Result<(), Fault>
+        ensures { spec.Gives (spec.both unit.old self.old) (spec.acts_for (spec.both unit.old self.old) (moving.Reports report.now)) result (spec.both unit.new self.new) }
+    {
+        make_room(&mut self.ups, &mut self.accepted)?;
+        let sent = unit.report(report);
+        if sent.is_none() {
+            return Err(Fault::NotNow);
+        }
+        tell(&mut self.ups, &mut self.accepted, &self.up, sent);
+        Ok(())
+    }
+}

@@ -1,0 +1,325 @@
+//! A unit and both of its sides, with nothing said of how they go together.
+
+ghost use Rattle.std.specs.Prelude.{◌≡◌, ◌<◌, ◌^◌, Ok, length};
+ghost use Rattle.agree.specs.Bounds.{IsWithin};
+ghost use Rattle.agree.specs.Lines.{Gives};
+ghost use Rattle.agree.specs.State as state_spec;
+ghost use Rattle.agree.specs.Turns as spec;
+ghost use Rattle.agree.specs.declared.event.WorldEvent.TheVariants as event_spec;
+
+use crate::event::WorldEvent;
+use crate::line::Line;
+use chan_model::fault::Fault;
+use chan_model::hold_state::HoldState;
+use chan_model::names::{Path, Side};
+use chan_model::report::Report;
+use chan_model::unit_state::Own;
+use std::alloc::Global;
+use std::marker::Model;
+use unit::Unit;
+
+/// A unit, both of its sides, and how many steps were made.
+#[derive(Drop)]
+pub struct Parts {
+    unit: Unit,
+    first: Line,
+    second: Line,
+    steps: u64,
+}
+
+impl Model for Parts {
+    ghost use Rattle.agree.specs.State.{WorldState};
+
+    ghost Value = { WorldState };
+
+    ghost view = { λ p. record { «unit» = p.unit; first = p.first; second = p.second; steps = p.steps } };
+}
+
+impl Parts {
+    /// Nothing has happened, and every path is up.
+    pub fn new(alloc: Global) -> Self
+        ensures { result ≡ state_spec.opening_world }
+    {
+        Parts {
+            unit: Unit::new(),
+            first: Line::new(alloc),
+            second: Line::new(alloc),
+            steps: 0,
+        }
+    }
+
+    /// How many steps were made.
+    pub fn steps(&self) -> u64
+        ensures { result ≡ self.now.steps }
+    {
+        self.steps
+    }
+
+    /// Sets how many steps were made.
+    pub fn count(&mut self, steps: u64)
+        ensures { self.new ≡ record self.old { steps = steps } }
+    {
+        self.steps = steps;
+    }
+
+    /// Whom the device is held by.
+    pub fn own(&self) -> Own
+        ensures { result ≡ self.now.unit.own }
+    {
+        self.unit.own()
+    }
+
+    /// One side.
+    pub fn line(&self, side: Side) -> &Line
+        ensures { result.now ≡ state_spec.line_of self.now side }
+    {
+        match side {
+            Side::First => &self.first,
+            Side::Second => &self.second,
+        }
+    }
+
+    fn choose(&mut self, side: Side, path: u8, single_path: bool) -> Result<(), Fault>
+        requires { IsWithin (2 ^ 62) self.old }
+        ensures { Gives self.old (spec.turn_of self.old (event_spec.Choose side path single_path)) result self.new }
+    {
+        let path = path_named(path)?;
+        match side {
+            Side::First => self.first.choose(path, single_path),
+            Side::Second => self.second.choose(path, single_path),
+        }
+    }
+
+    fn down(&mut self, side: Side, place: usize, keep: bool, may: bool) -> Result<(), Fault>
+        ensures { Gives self.old (spec.turn_of self.old (event_spec.Down side place keep may)) result self.new }
+    {
+        match side {
+            Side::First => self.first.meet(&mut self.unit, side, place, keep, may),
+            Side::Second => self.second.meet(&mut self.unit, side, place, keep, may),
+        }
+    }
+
+    fn up(&mut self, side: Side, place: usize, keep: bool, may: bool) -> Result<(), Fault>
+        requires { IsWithin (2 ^ 62) self.old }
+        ensures { Gives self.old (spec.turn_of self.old (event_spec.Up side place keep may)) result self.new }
+    {
+        match side {
+            Side::First => self.first.hear(place, keep, may),
+            Side::Second => self.second.hear(place, keep, may),
+        }
+    }
+
+    fn lose_down(&mut self, side: Side, place: usize) -> Result<(), Fault>
+        ensures { Gives self.old (spec.turn_of self.old (event_spec.LoseDown side place)) result self.new }
+    {
+        match side {
+            Side::First => self.first.lose_down(place),
+            Side::Second => self.second.lose_down(place),
+        }
+    }
+
+    fn lose_up(&mut self, side: Side, place: usize) -> Result<(), Fault>
+        ensures { Gives self.old (spec.turn_of self.old (event_spec.LoseUp side place)) result self.new }
+    {
+        match side {
+            Side::First => self.first.lose_up(place),
+            Side::Second => self.second.lose_up(place),
+        }
+    }
+
+    fn path_down(&mut self, side: Side, path: u8) -> Result<(), Fault>
+        requires { IsWithin (2 ^ 62) self.old }
+        ensures { Gives self.old (spec.turn_of self.old (event_spec.PathDown side path)) result self.new }
+    {
+        let path = path_named(path)?;
+        match side {
+            Side::First => self.first.path_down(path),
+            Side::Second => self.second.path_down(path),
+        }
+    }
+
+    fn path_up(&mut self, side: Side, path: u8) -> Result<(), Fault>
+        ensures { Gives self.old (spec.turn_of self.old (event_spec.PathUp side path)) result self.new }
+    {
+        let path = path_named(path)?;
+        match side {
+            Side::First => self.first.path_up(path),
+            Side::Second => self.second.path_up(path),
+        }
+    }
+
+    fn path_reset(&mut self, side: Side, path: u8) -> Result<(), Fault>
+        requires { IsWithin (2 ^ 62) self.old }
+        ensures { Gives self.old (spec.turn_of self.old (event_spec.PathReset side path)) result self.new }
+    {
+        let path = path_named(path)?;
+        match side {
+            Side::First => self.first.path_reset(path),
+            Side::Second => self.second.path_reset(path),
+        }
+    }
+
+    fn let_go(&mut self, side: Side) -> Result<(), Fault>
+        ensures { Gives self.old (spec.turn_of self.old (event_spec.LetGo side)) result self.new }
+    {
+        match side {
+            Side::First => self.first.let_go(),
+            Side::Second => self.second.let_go(),
+        }
+    }
+
+    fn clear(&mut self, side: Side)
+        requires { IsWithin (2 ^ 62) self.old }
+        ensures { spec.turn_of self.old (event_spec.Clear side) ≡ Ok self.new }
+    {
+        match side {
+            Side::First => self.first.clear(),
+            Side::Second => self.second.clear(),
+        }
+    }
+
+    fn subsystem_reset(&mut self)
+        requires { IsWithin (2 ^ 62) self.old }
+        ensures { spec.turn_of self.old event_spec.SubsystemReset ≡ Ok self.new }
+    {
+        self.first.clear();
+        self.second.clear();
+    }
+
+    fn leave(&mut self) -> Result<(), Fault>
+        ensures { Gives self.old (spec.turn_of self.old event_spec.Leave) result self.new }
+    {
+        match self.unit.own() {
+            Own::Idle => Err(Fault::NotNow),
+            Own::Owned {
+                side: Side::First,
+                ..
+            } => self.first.leave(&mut self.unit),
+            Own::Owned {
+                side: Side::Second,
+                ..
+            } => self.second.leave(&mut self.unit),
+        }
+    }
+
+    fn ask(&mut self, path: u8) -> Result<(), Fault>
+        requires { IsWithin (2 ^ 62) self.old }
+        ensures { Gives self.old (spec.turn_of self.old (event_spec.Ask path)) result self.new }
+    {
+        let path = path_named(path)?;
+        match self.unit.own() {
+            Own::Idle => Err(Fault::NotNow),
+            Own::Owned {
+                side: Side::First,
+                ..
+            } => self.first.ask(&mut self.unit, path),
+            Own::Owned {
+                side: Side::Second,
+                ..
+            } => self.second.ask(&mut self.unit, path),
+        }
+    }
+
+    fn attention(&mut self, side: Side, path: u8) -> Result<(), Fault>
+        requires { IsWithin (2 ^ 62) self.old }
+        ensures { Gives self.old (spec.turn_of self.old (event_spec.Attention side path)) result self.new }
+    {
+        let path = path_named(path)?;
+        match side {
+            Side::First => self.first.attention(&mut self.unit, side, path),
+            Side::Second => self.second.attention(&mut self.unit, side, path),
+        }
+    }
+
+    fn notice(&mut self, side: Side, path: u8) -> Result<(), Fault>
+        ensures { Gives self.old (spec.turn_of self.old (event_spec.Notice side path)) result self.new }
+    {
+        let path = path_named(path)?;
+        match side {
+            Side::First => self.first.notice(&self.unit, side, path),
+            Side::Second => self.second.notice(&self.unit, side, path),
+        }
+    }
+
+    fn restart(&mut self)
+        requires { IsWithin (2 ^ 62) self.old }
+        ensures { spec.turn_of self.old event_spec.Restart ≡ Ok self.new }
+    {
+        self.unit.restart();
+    }
+
+    fn report(&mut self, report: &Report) -> Result<(), Fault>
+        ensures { Gives self.old (spec.turn_of self.old (event_spec.Report report.now)) result self.new }
+    {
+        match self.unit.own() {
+            Own::Idle => Err(Fault::NotNow),
+            Own::Owned {
+                side: Side::First,
+                ..
+            } => self.first.report(&mut self.unit, report),
+            Own::Owned {
+                side: Side::Second,
+                ..
+            } => self.second.report(&mut self.unit, report),
+        }
+    }
+
+    /// One event, which is not counted.
+    pub fn perform(&mut self, event: &WorldEvent) -> Result<(), Fault>
+        requires { IsWithin (2 ^ 62) self.old }
+        ensures { Gives self.old (spec.turn_of self.old event.now) result self.new }
+    {
+        match event {
+            WorldEvent::Choose {
+                side,
+                path,
+                single_path,
+            } => self.choose(*side, *path, *single_path),
+            WorldEvent::Down {
+                side,
+                place,
+                keep,
+                may,
+            } => self.down(*side, *place, *keep, *may),
+            WorldEvent::Up {
+                side,
+                place,
+                keep,
+                may,
+            } => self.up(*side, *place, *keep, *may),
+            WorldEvent::LoseDown { side, place } => self.lose_down(*side, *place),
+            WorldEvent::LoseUp { side, place } => self.lose_up(*side, *place),
+            WorldEvent::PathDown { side, path } => self.path_down(*side, *path),
+            WorldEvent::PathUp { side, path } => self.path_up(*side, *path),
+            WorldEvent::PathReset { side, path } => self.path_reset(*side, *path),
+            WorldEvent::LetGo { side } => self.let_go(*side),
+            WorldEvent::Clear { side } => {
+                self.clear(*side);
+                Ok(())
+            }
+            WorldEvent::SubsystemReset => {
+                self.subsystem_reset();
+                Ok(())
+            }
+            WorldEvent::Leave => self.leave(),
+            WorldEvent::Ask { path } => self.ask(*path),
+            WorldEvent::Attention { side, path } => self.attention(*side, *path),
+            WorldEvent::Notice { side, path } => self.notice(*side, *path),
+            WorldEvent::Restart => {
+                self.restart();
+                Ok(())
+            }
+            WorldEvent::Report(report) => self.report(report),
+        }
+    }
+}
+
+/// The path of an event.
+fn path_named(index: u8) -> Result<Path, Fault>
+    ensures { result ≡ spec.path_named index }
+{
+    match Path::new(u32::from(index)) {
+        Some(path) => Ok(path),
+        None => Err(Fault::NoSuchPath),
+    }
+}
