@@ -1,3 +1,5 @@
 mod Frames
 mod HoldKeeps
 mod UnitKeeps
+mod HoldActs
+mod UnitActs

@@ -1,5 +1,5 @@
 -- What a unit does keeps what holds of each of its links.
-use Rattle.std.proofs.Common.{◌≡◌, ◌≢◌, ℕ, ◌+◌, ◌<◌, ◌≤◌, ◌⊎◌, inl, inr, Option, None, Some, List, refl, sym, arith}
+use Rattle.std.proofs.Common.{◌≡◌, ◌≢◌, ℕ, ◌+◌, ◌<◌, ◌≤◌, ◌⊎◌, inl, inr, Option, None, Some, List, refl, sym, subst, arith}
 use Rattle.std.specs.Prelude.{All, IfSome}
 use Rattle.std.proofs.lemmas.Bool.{cases_lt}
 use Rattle.std.proofs.lemmas.List.Elements.{All-weaker}
@@ -35,7 +35,7 @@ IsOff (Away d) c = d ≡ c
 
 -- both ends, and both after an act of the unit with what it sends
 pub data UnitMoves : Ends → Ends → Option (OnPath Up) → Type 0 where
-  Stays : (e : Ends) (sent : Option (OnPath Up)) → IsPlainSent sent → UnitMoves e e sent
+  Stays : (e x : Ends) (sent : Option (OnPath Up)) → x ≡ e → IsPlainSent sent → UnitMoves e x sent
   Accepts : (n : ℕ) (h : HoldPhase) (s k b f p t : ℕ) → f < t → t ≤ n → IsSelectGood h f p t → UnitMoves (ends n h s k b f Idle) (ends n h s k b t (Owns t (On p 0))) (by_path p (up.Accept t))
   Is_busy : (n : ℕ) (h : HoldPhase) (s k b f p t : ℕ) (o : Seen) → IsNotFresh o → f < t → t ≤ n → IsSelectGood h f p t → UnitMoves (ends n h s k b f o) (ends n h s k b t o) (by_path p (up.Busy t))
   Is_granted : (n : ℕ) (h : HoldPhase) (s k b f t q c : ℕ) → IsGrantGood h s (Owns t (Ask q c)) t c → UnitMoves (ends n h s k b f (Owns t (Ask q c))) (ends n h s k b f (Owns t (On q c))) None
@@ -405,7 +405,8 @@ stays-kept e sent new y g =
     }
 
 pub unit-kept : (e x : Ends) (sent : Option (OnPath Up)) → AreEndsGood e → UnitMoves e x sent → IsUnitKept e x sent
-unit-kept _ _ _ g (Stays e sent plain) = stays-kept e sent (plain-kept-new e.floor sent plain) (λ ts. plain-kept-sent e sent ts plain) g
+unit-kept _ _ _ g (Stays e x sent same plain) =
+    subst (λ (y : Ends). IsUnitKept e y sent) (sym same) (stays-kept e sent (plain-kept-new e.floor sent plain) (λ ts. plain-kept-sent e sent ts plain) g)
 unit-kept _ _ _ g (Accepts n h s k b f p t lt tn y) = accepts-kept n h s k b f p t lt tn y g
 unit-kept _ _ _ g (Is_busy n h s k b f p t o i lt tn y) = is_busy-kept n h s k b f p t o i lt tn y g
 unit-kept _ _ _ g (Is_granted n h s k b f t q c y) = is_granted-kept n h s k b f t q c y g
