@@ -3,3 +3,4 @@ mod HoldKeeps
 mod UnitKeeps
 mod HoldActs
 mod UnitActs
+mod UnitSteps

@@ -61,22 +61,22 @@ unseen side u v x P restarts first second o plain =
     free_as : (k : Side) → IsFreshFree u k → IsFreshFree v k
     free_as k f = λ e. ap (λ w. owns w k) o ∙ f (sym (ap (λ (s : SideState). s.fresh) (same_side_of k)) ∙ e)
 
-unseen-if : (side : Side) (u v : UnitState) (b : Bool) (P : Ends → Type 0) → v.restarts ≡ u.restarts → v.first ≡ u.first → v.second ≡ u.second → v.own ≡ u.own → IsStep side u (if b then changes v else None) P
+pub unseen-if : (side : Side) (u v : UnitState) (b : Bool) (P : Ends → Type 0) → v.restarts ≡ u.restarts → v.first ≡ u.first → v.second ≡ u.second → v.own ≡ u.own → IsStep side u (if b then changes v else None) P
 unseen-if side u v true P restarts first second o = unseen side u v None P restarts first second o tt
 unseen-if side u v false P restarts first second o = nothing side u P
 
 -- the unit, held so, with this side and the other
-abbrev at : Side → UnitState → Own → SideState → SideState → UnitState
+abbrev pub at : Side → UnitState → Own → SideState → SideState → UnitState
 at First u o mine theirs = record u { own = o; first = mine; second = theirs }
 at Second u o mine theirs = record u { own = o; first = theirs; second = mine }
 
-abbrev working : ℕ → SideState
+abbrev pub working : ℕ → SideState
 working f = record { floor = f; fresh = false }
 
-abbrev marked : ℕ → SideState
+abbrev pub marked : ℕ → SideState
 marked f = record { floor = f; fresh = true }
 
-abbrev IsGiven : ℕ → Down → Ends → Type 0
+abbrev pub IsGiven : ℕ → Down → Ends → Type 0
 IsGiven p d e = IsDownGood e p d
 
 -- Select, above the floor
@@ -151,17 +151,17 @@ selected-steps side u own.Idle f y p t true lt = selected-idle side u f y p t tr
 selected-steps side u own.Idle f y p t false lt = selected-idle side u f y p t false lt
 selected-steps side u (own.Owned k v place) f y p t may lt = selected-owned side u k v place f y p t may lt
 
-select-steps : (side : Side) (u : UnitState) (o : Own) (f : ℕ) (y : SideState) (p t : ℕ) (may above : Bool) → nat_lt f t ≡ above →
+pub select-steps : (side : Side) (u : UnitState) (o : Own) (f : ℕ) (y : SideState) (p t : ℕ) (may above : Bool) → nat_lt f t ≡ above →
     IsStep side (at side u o (working f) y) (if above then selected (raised (at side u o (working f) y) side t) o side p t may else None) (IsGiven p (down.Select t))
 select-steps side u o f y p t may true e = selected-steps side u o f y p t may (ltb-true f t e)
 select-steps side u o f y p t may false e = nothing side (at side u o (working f) y) (IsGiven p (down.Select t))
 
-step-if : (side : Side) (u : UnitState) (b : Bool) (step : Option UnitStep) (P : Ends → Type 0) → IsStep side u step P → IsStep side u (if b then step else None) P
+pub step-if : (side : Side) (u : UnitState) (b : Bool) (step : Option UnitStep) (P : Ends → Type 0) → IsStep side u step P → IsStep side u (if b then step else None) P
 step-if side u true step P s = s
 step-if side u false step P s = nothing side u P
 
 -- Give and Took: what no link sees
-given-steps : (side : Side) (u : UnitState) (x : Option AtHand) (s : ℕ) (bytes : List ℕ) (P : Ends → Type 0) → IsStep side u (given_next u x s bytes) P
+pub given-steps : (side : Side) (u : UnitState) (x : Option AtHand) (s : ℕ) (bytes : List ℕ) (P : Ends → Type 0) → IsStep side u (given_next u x s bytes) P
 given-steps side u None s bytes P = nothing side u P
 given-steps side u (Some x) s bytes P = unseen-if side u _ (s == x.sequence + 1) P refl refl refl refl
 
@@ -169,11 +169,11 @@ answered_load-steps : (side : Side) (u : UnitState) (x : AtHand) (load : Option 
 answered_load-steps side u x None room P = nothing side u P
 answered_load-steps side u x (Some load) room P = unseen side u _ None P refl refl refl refl tt
 
-answered-steps : (side : Side) (u : UnitState) (x : Option AtHand) (s room : ℕ) (P : Ends → Type 0) → IsStep side u (answered_last u x s room) P
+pub answered-steps : (side : Side) (u : UnitState) (x : Option AtHand) (s room : ℕ) (P : Ends → Type 0) → IsStep side u (answered_last u x s room) P
 answered-steps side u None s room P = nothing side u P
 answered-steps side u (Some x) s room P = step-if side u (s == x.sequence) _ P (answered_load-steps side u x x.unanswered room P)
 
-forgetting-steps : (side : Side) (u : UnitState) (x : Option Attention) (a : ℕ) (P : Ends → Type 0) → IsStep side u (forgetting u x side a) P
+pub forgetting-steps : (side : Side) (u : UnitState) (x : Option Attention) (a : ℕ) (P : Ends → Type 0) → IsStep side u (forgetting u x side a) P
 forgetting-steps side u None a P = nothing side u P
 forgetting-steps side u (Some x) a P = unseen-if side u _ (same_side x.side side && (a == x.number)) P refl refl refl refl
 
@@ -232,7 +232,7 @@ owner-steps side u k v place x y t true step P e s =
     (subst (λ (j : Side). IsStep side (at side u (own.Owned j v place) x y) (step (at side u (own.Owned j v place) x y) j v) (P v)) sides s)
 owner-steps side u k v place x y t false step P e s = nothing side (at side u (own.Owned k v place) x y) (P t)
 
-granted-steps : (side : Side) (u : UnitState) (o : Own) (f : ℕ) (y : SideState) (p t c : ℕ) →
+pub granted-steps : (side : Side) (u : UnitState) (o : Own) (f : ℕ) (y : SideState) (p t c : ℕ) →
     IsStep side (at side u o (working f) y) (granted (at side u o (working f) y) o side p t c) (IsGiven p (down.Grant t c))
 granted-steps side u own.Idle f y p t c = nothing side (at side u own.Idle (working f) y) (IsGiven p (down.Grant t c))
 granted-steps side u (own.Owned k v place) f y p t c =
@@ -255,7 +255,7 @@ refused_at-steps First u v (Ask q d) f y c P = refused_ask-steps First u v q d f
 refused_at-steps Second u v (Ask q d) f y c P = refused_ask-steps Second u v q d f y (c == d) P
 refused_at-steps side u v (Away d) f y c P = nothing side (at side u (own.Owned side v (Away d)) (working f) y) P
 
-refused-steps : (side : Side) (u : UnitState) (o : Own) (f : ℕ) (y : SideState) (p t c : ℕ) →
+pub refused-steps : (side : Side) (u : UnitState) (o : Own) (f : ℕ) (y : SideState) (p t c : ℕ) →
     IsStep side (at side u o (working f) y) (refused (at side u o (working f) y) o side t c) (IsGiven p (down.Refuse t c))
 refused-steps side u own.Idle f y p t c = nothing side (at side u own.Idle (working f) y) (IsGiven p (down.Refuse t c))
 refused-steps side u (own.Owned k v place) f y p t c =
@@ -281,13 +281,13 @@ owned-releases side u k v place f y p t true e =
     (released-steps side u v place f y p))
 owned-releases side u k v place f y p t false e = nothing side (at side u (own.Owned k v place) (working f) y) (IsGiven p (down.Release t))
 
-releasing-steps : (side : Side) (u : UnitState) (o : Own) (f : ℕ) (y : SideState) (p t : ℕ) →
+pub releasing-steps : (side : Side) (u : UnitState) (o : Own) (f : ℕ) (y : SideState) (p t : ℕ) →
     IsStep side (at side u o (working f) y) (if is_owner o side t then sends (freed (at side u o (working f) y)) p (up.Released t) else None) (IsGiven p (down.Release t))
 releasing-steps side u own.Idle f y p t = nothing side (at side u own.Idle (working f) y) (IsGiven p (down.Release t))
 releasing-steps side u (own.Owned k v place) f y p t = owned-releases side u k v place f y p t (same_side k side && (t == v)) refl
 
 -- in a side that is fresh
-telling-steps : (side : Side) (u : UnitState) (p : ℕ) (P : Ends → Type 0) → IsStep side u (telling u p) P
+pub telling-steps : (side : Side) (u : UnitState) (p : ℕ) (P : Ends → Type 0) → IsStep side u (telling u p) P
 telling-steps side u p P =
     record {
       here = λ n h g. Tells n h.phase h.seen h.known u.restarts (side_of u side).floor p (seen_by (side_of u side).fresh u.own side);
