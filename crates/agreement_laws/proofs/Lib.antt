@@ -4,3 +4,4 @@ mod UnitKeeps
 mod HoldActs
 mod UnitActs
 mod UnitSteps
+mod StepKeeps
