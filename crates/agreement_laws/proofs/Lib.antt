@@ -4,4 +4,5 @@ mod UnitKeeps
 mod HoldActs
 mod UnitActs
 mod UnitSteps
+mod Meaning
 mod StepKeeps

@@ -14,6 +14,8 @@ use Rattle.chan_model.specs.declared.signal.Up.TheVariants as up
 use Rattle.chan_model.specs.declared.unit_state.UnitState.{UnitState}
 use Rattle.chan_model.specs.Sides.{same_side}
 use Rattle.chan_model.specs.UnitTable.{side_of, unit_after}
+use Rattle.chan_model.specs.Agreement.{Agrees, IsAboveFloor, IsOutstanding, owner_of}
+use Rattle.agreement_laws.specs.Claims.{DoAgree, IsResetDue, IsCleared, EndsByReset, IsPassed}
 use Rattle.agreement_laws.specs.Links.{Link, Links, link_of, Carries, with_signal, with_accepted}
 use Rattle.agreement_laws.specs.Moving.{HoldAct, Nothing, Offers, Sends_reset, Lets_go, Is_reset, Loses, Takes, Sends, HoldActed, still, hold_acts, UnitAct, Takes_down, Leaves, Asks, Attends, Restarts, Notices, Reports, unit_steps, up_sent, LinkStep, Cause, Hold_acts, Unit_acts, IsHoldGiven, IsUnitGiven, unit_moved, sent_at, act_at, Step}
 use Rattle.agreement_laws.specs.Invariant.{Ends, ends_of, seen_by, AreEndsGood, IsDownGood, IsUpGood, AreRising, IsLinkGood, IsFreshFree, IsSideGood, IsGood}
@@ -24,6 +26,7 @@ use Rattle.agreement_laws.proofs.HoldActs as holds
 use Rattle.agreement_laws.proofs.UnitKeeps.{UnitMoves, IsUnitKept, unit-kept}
 use Rattle.agreement_laws.proofs.UnitSteps.{unit-moves, unit-free}
 use Rattle.agreement_laws.proofs.UnitSteps as units
+use Rattle.agreement_laws.proofs.Meaning.{IsDue, due-hold, due-unit, fresh-seen, seen-fresh, idle-owner, cleared-agrees}
 
 -- what may arrive now might have arrived before, or is sent now
 carried : {A : Type 0} (P Q : A → Type 0) (old : List A) (sent : Option A) (new : List A) → All P old → ((x : A) → P x → Q x) → IfSome sent Q → Carries old sent new → All Q new
@@ -225,4 +228,59 @@ step-kept old cause new g s =
       second = good-at old cause new Second g s;
       first_free = free-at old cause new First g s;
       second_free = free-at old cause new Second g s;
+    }
+
+-- a reset that isn't yet taken
+due-ends : (w : Links) (side : Side) → IsResetDue w side → IsDue (ends_of (link_of w side).drawn (link_of w side).hold w.«unit» side)
+due-ends w side d = elim d [ inl y ↦ inl (fresh-seen (side_of w.«unit» side).fresh w.«unit».own side y) | inr y ↦ inr y ]
+
+due-hold-at : (w : Links) (k side : Side) (act : HoldAct) → IsGood w → IsHoldGiven (link_of w k) act → IsResetDue w side →
+    ((side_of w.«unit» side).fresh ≡ true) ⊎ IsAboveFloor (acted_at w (Hold_acts k act) side).hold.phase (side_of w.«unit» side).floor
+due-hold-at w k side act g s d = elim d [
+  | inl y ↦ inl y
+  | inr y ↦ inr (due-hold _ _ _ (side-good w side g).ends
+      (hold-moved side w.«unit» (link_of w side) (act_at (Hold_acts k act) side) (side-good w side g) (given-at w k side act s)) y)
+]
+
+due-unit-at : (w : Links) (act : UnitAct) (side : Side) → IsGood w → IsUnitGiven w act → IsResetDue w side →
+    (((side_of (unit_after w.«unit» (unit_steps w.«unit» act)) side).fresh ≡ true) ⊎ IsAboveFloor (link_of w side).hold.phase (side_of (unit_after w.«unit» (unit_steps w.«unit» act)) side).floor)
+    ⊎ (IsCleared (link_of w side).hold.phase (up_sent w.«unit» act side) × (owner_of (unit_after w.«unit» (unit_steps w.«unit» act)).own side ≡ None))
+due-unit-at w act side g s d =
+    let v : UnitState = unit_after w.«unit» (unit_steps w.«unit» act) in
+    elim (due-unit _ _ _ (side-good w side g).ends (unit-moved w act side g (side-good w side g) s) (due-ends w side d)) [
+      | inl y ↦ inl (elim y [ inl z ↦ inl (seen-fresh (side_of v side).fresh v.own side z) | inr z ↦ inr z ])
+      | inr y ↦ inr (y.0, idle-owner (side_of v side).fresh v.own side y.1)
+    ]
+
+-- the same of what is reached by equal holds and units
+due-placed : (old new : Links) (cause : Cause) (side : Side) → (link_of new side).hold ≡ (acted_at old cause side).hold → new.«unit» ≡ unit_moved old.«unit» cause →
+    IsOutstanding (acted_at old cause side).hold.phase (side_of (unit_moved old.«unit» cause) side) → IsResetDue new side
+due-placed old new cause side h e d =
+    subst (λ (k : HoldState). IsOutstanding k.phase (side_of new.«unit» side)) (sym h)
+    (subst (λ (u : UnitState). IsOutstanding (acted_at old cause side).hold.phase (side_of u side)) (sym e) d)
+
+agree-placed : (old new : Links) (act : UnitAct) (side : Side) → (link_of new side).hold ≡ (link_of old side).hold → new.«unit» ≡ unit_after old.«unit» (unit_steps old.«unit» act) →
+    Agrees (link_of old side).hold.phase (owner_of (unit_after old.«unit» (unit_steps old.«unit» act)).own side) → DoAgree new side
+agree-placed old new act side h e a =
+    subst (λ (k : HoldState). Agrees k.phase (owner_of new.«unit».own side)) (sym h)
+    (subst (λ (u : UnitState). Agrees (link_of old side).hold.phase (owner_of u.own side)) (sym e) a)
+
+pub reset-ends : (old : Links) (cause : Cause) (new : Links) (side : Side) → IsGood old → Step old cause new → EndsByReset old cause new side
+reset-ends old (Hold_acts k act) new side g s d =
+    inl (due-placed old new (Hold_acts k act) side (link-of old (Hold_acts k act) new side s).hold s.«unit» (due-hold-at old k side act g s.given d))
+reset-ends old (Unit_acts act) new side g s d =
+    let l : LinkStep (link_of old side) (acted_at old (Unit_acts act) side) (sent_at old.«unit» (Unit_acts act) side) (link_of new side) = link-of old (Unit_acts act) new side s in
+    elim (due-unit-at old act side g s.given d) [
+      | inl y ↦ inl (due-placed old new (Unit_acts act) side l.hold s.«unit» y)
+      | inr y ↦ inr (y.0, agree-placed old new act side l.hold s.«unit» (cleared-agrees (link_of old side).hold.phase _ _ y.0 y.1))
+    ]
+
+-- a number that was passed stays so
+pub passed-on : (old : Links) (cause : Cause) (new : Links) (side : Side) (t : ℕ) → IsGood old → Step old cause new → IsPassed old side t → IsPassed new side t
+passed-on old cause new side t g s p =
+    let l : LinkStep (link_of old side) (acted_at old cause side) (sent_at old.«unit» cause side) (link_of new side) = link-of old cause new side s in
+    let k : IsKeptAt old cause side = kept-at old cause new side g s in
+    record {
+      never = subst (λ (ts : List ℕ). All (λ a. a ≢ t) ts) (sym l.accepted) (passed _ _ t (link_of old side).accepted (sent_at old.«unit» cause side) k.new p.floor p.never);
+      floor = subst (λ (u : UnitState). t ≤ (side_of u side).floor) (sym s.«unit») (omega (arith, p.floor, k.floor));
     }
