@@ -1,19 +1,14 @@
 -- What may arrive stays good, where what it says of the ends stays so.
-use Rattle.std.proofs.Common.{◌≡◌, ◌≢◌, ℕ, ◌+◌, ◌<◌, ◌≤◌, ◌⊎◌, inl, inr, Option, None, Some, List, [], ◌∷◌, ◌++◌, refl, sym, arith}
-use Rattle.std.specs.Prelude.{All, IfSome}
-use Rattle.std.proofs.lemmas.Bool.{cases_lt}
-use Rattle.std.proofs.lemmas.List.Elements.{All-push, All-weaker}
-use Rattle.chan_model.specs.declared.hold_state.HoldPhase.{HoldPhase}
-use Rattle.chan_model.specs.declared.hold_state.HoldPhase.TheVariants as hold
+use Rattle.std.proofs.Common.{◌≢◌, ℕ, ◌<◌, ◌≤◌, Option, None, Some, List, arith}
+use Rattle.std.specs.Prelude.{All}
+use Rattle.std.proofs.lemmas.List.Elements.{All-push}
 use Rattle.chan_model.specs.declared.signal.OnPath.{OnPath}
 use Rattle.chan_model.specs.declared.signal.Down.{Down}
 use Rattle.chan_model.specs.declared.signal.Down.TheVariants as down
 use Rattle.chan_model.specs.declared.signal.Up.{Up}
 use Rattle.chan_model.specs.declared.signal.Up.TheVariants as up
-use Rattle.chan_model.specs.declared.unit_state.Place.{Place}
-use Rattle.chan_model.specs.declared.unit_state.Place.TheVariants.{On, Ask, Away}
 use Rattle.agreement_laws.specs.Links.{with_signal, with_accepted}
-use Rattle.agreement_laws.specs.Invariant.{Seen, Idle, Fresh, Owns, Ends, ends, IsSelectGood, IsReleaseGood, IsNotDue, IsResetTo, IsResetGood, IsAskedOn, IsGrantGood, IsDownGood, IsAcceptGood, IsNotOwned, IsBackGood, IsUpGood}
+use Rattle.agreement_laws.specs.Invariant.{Ends, IsSelectGood, IsReleaseGood, IsResetGood, IsGrantGood, IsDownGood, IsAcceptGood, IsNotOwned, IsBackGood, IsUpGood}
 
 pub downs-by : (e x : Ends) → e.drawn ≤ x.drawn → e.restarts ≤ x.restarts
     → ((q t : ℕ) → t ≤ e.drawn → IsSelectGood e.phase e.floor q t → IsSelectGood x.phase x.floor q t)

@@ -1,19 +1,18 @@
 -- What a hold does by its table is a move.
-use Rattle.std.proofs.Common.{◌≡◌, ◌≢◌, ℕ, ◌+◌, ◌<◌, ◌≤◌, ◌==◌, ◌&&◌, Bool, true, false, nat_lt, Option, None, Some, List, refl, sym, subst, arith}
+use Rattle.std.proofs.Common.{◌≡◌, ℕ, ◌<◌, ◌≤◌, ◌==◌, ◌&&◌, Bool, true, false, nat_lt, None, Some, List, refl, subst, arith}
 use Rattle.std.specs.Prelude.{if◌then◌else◌}
 use Rattle.std.proofs.lemmas.Bool.{eqb-true, ltb-true, and_parts}
 use Rattle.chan_model.specs.declared.hold_state.HoldPhase.{HoldPhase}
 use Rattle.chan_model.specs.declared.hold_state.HoldPhase.TheVariants as hold
 use Rattle.chan_model.specs.declared.hold_state.HoldState.{HoldState}
-use Rattle.chan_model.specs.declared.signal.OnPath.{OnPath}
 use Rattle.chan_model.specs.declared.signal.Down.{Down}
 use Rattle.chan_model.specs.declared.signal.Down.TheVariants as down
 use Rattle.chan_model.specs.declared.signal.Up.{Up}
 use Rattle.chan_model.specs.declared.signal.Up.TheVariants as up
-use Rattle.chan_model.specs.HoldTable.{HoldStep, begun, quietly, sending, refusing, granting, letting_go, sending_reset, hold_takes}
+use Rattle.chan_model.specs.HoldTable.{begun, quietly, refusing, granting, letting_go, sending_reset, hold_takes}
 use Rattle.chan_model.specs.ResetCauses.{rests_on}
 use Rattle.agreement_laws.specs.Moving.{HoldAct, Nothing, Offers, Sends_reset, Lets_go, Is_reset, Loses, Takes, Sends, HoldActed, still, stepped, offered, reset_again, taken, hold_acts, IsOfProgram}
-use Rattle.agreement_laws.specs.Invariant.{Seen, Ends, ends, AreEndsGood, IsAcceptGood, IsNotOwned, IsBackGood, IsUpGood}
+use Rattle.agreement_laws.specs.Invariant.{Seen, Ends, ends, IsAcceptGood, IsNotOwned, IsBackGood, IsUpGood}
 use Rattle.agreement_laws.proofs.Frames.{IsPlainDown}
 use Rattle.agreement_laws.proofs.HoldKeeps.{HoldMoves, Stays, Offered, Resets, Goes_on, Is_over, Is_busy, Is_left, Grants, Refuses_on, Refuses_away, Is_released, Is_cleared}
 use Rattle.agreement_laws.proofs.HoldKeeps as keeps

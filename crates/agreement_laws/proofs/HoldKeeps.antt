@@ -1,5 +1,5 @@
 -- What a hold does keeps what holds of a link.
-use Rattle.std.proofs.Common.{◌≡◌, ◌≢◌, ℕ, ◌+◌, ◌<◌, ◌≤◌, ◌⊎◌, inl, inr, Option, None, Some, List, refl, sym, arith}
+use Rattle.std.proofs.Common.{◌≡◌, ℕ, ◌+◌, ◌<◌, ◌≤◌, inl, inr, Option, None, Some, List, refl, sym, arith}
 use Rattle.std.specs.Prelude.{IfSome}
 use Rattle.std.proofs.lemmas.Bool.{cases_lt}
 use Rattle.chan_model.specs.declared.hold_state.HoldPhase.{HoldPhase}
@@ -10,7 +10,7 @@ use Rattle.chan_model.specs.declared.signal.Down.TheVariants as down
 use Rattle.chan_model.specs.declared.signal.Up.{Up}
 use Rattle.chan_model.specs.declared.unit_state.Place.{Place}
 use Rattle.chan_model.specs.declared.unit_state.Place.TheVariants.{On, Ask, Away}
-use Rattle.agreement_laws.specs.Invariant.{Seen, Idle, Fresh, Owns, Ends, ends, IsJoined, IsParted, IsPaired, IsMatched, AreEndsGood, IsSelectGood, IsReleaseGood, IsNotDue, IsResetTo, IsResetGood, IsAskedOn, IsGrantGood, IsDownGood, IsAcceptGood, IsNotOwned, IsBackAt, IsBackGood, IsUpGood}
+use Rattle.agreement_laws.specs.Invariant.{Seen, Idle, Fresh, Owns, Ends, ends, IsJoined, IsParted, IsMatched, AreEndsGood, IsNotDue, IsResetGood, IsAskedOn, IsDownGood, IsAcceptGood, IsNotOwned, IsBackAt, IsBackGood, IsUpGood}
 use Rattle.agreement_laws.proofs.Frames.{downs-by, ups-by, IsPlainDown, plain-down}
 
 abbrev pub IsPlainSent : Option (OnPath Down) → Type 0

@@ -1,5 +1,5 @@
 -- What holds of a link means that both sides agree, and a reset that isn't yet taken ends only where the unit takes it.
-use Rattle.std.proofs.Common.{◌≡◌, ◌≢◌, ℕ, ◌+◌, ◌<◌, ◌≤◌, ◌⊎◌, inl, inr, Bool, true, false, Option, None, Some, List, refl, sym, ◌∙◌, ap, subst, arith}
+use Rattle.std.proofs.Common.{◌≡◌, ℕ, ◌<◌, ◌⊎◌, inl, inr, Bool, true, false, Option, None, Some, refl, sym, ap, subst, arith}
 use Rattle.std.specs.Prelude.{if◌then◌else◌}
 use Rattle.std.proofs.lemmas.Bool.{cases_lt}
 use Rattle.chan_model.specs.declared.names.Side.{Side}
@@ -12,11 +12,11 @@ use Rattle.chan_model.specs.declared.signal.Up.TheVariants as up
 use Rattle.chan_model.specs.declared.unit_state.Own.{Own}
 use Rattle.chan_model.specs.declared.unit_state.Own.TheVariants as own
 use Rattle.chan_model.specs.declared.unit_state.Place.{Place}
-use Rattle.chan_model.specs.declared.unit_state.Place.TheVariants.{On, Ask, Away}
+use Rattle.chan_model.specs.declared.unit_state.Place.TheVariants.{On, Ask}
 use Rattle.chan_model.specs.Sides.{same_side}
 use Rattle.chan_model.specs.Agreement.{Agrees, IsAboveFloor, owner_of}
 use Rattle.agreement_laws.specs.Claims.{IsCleared}
-use Rattle.agreement_laws.specs.Invariant.{Seen, Idle, Fresh, Owns, Ends, ends, seen_own, seen_by, IsSelectGood, IsResetTo, IsMatched, IsNotHeld, AreEndsGood}
+use Rattle.agreement_laws.specs.Invariant.{Idle, Fresh, Owns, Ends, ends, seen_by, IsSelectGood, IsResetTo, AreEndsGood}
 use Rattle.agreement_laws.proofs.HoldKeeps.{HoldMoves}
 use Rattle.agreement_laws.proofs.HoldKeeps as holds
 use Rattle.agreement_laws.proofs.UnitKeeps.{UnitMoves}

@@ -1,6 +1,6 @@
 -- Each step keeps what holds of a unit and its links.
-use Rattle.std.proofs.Common.{◌≡◌, ◌≢◌, ℕ, ◌+◌, ◌<◌, ◌≤◌, ◌⊎◌, inl, inr, Bool, true, false, Option, None, Some, List, [], ◌∷◌, ◌++◌, refl, sym, subst, arith}
-use Rattle.std.specs.Prelude.{All, AllPairs, Contains, IfSome}
+use Rattle.std.proofs.Common.{◌≡◌, ◌≢◌, ℕ, ◌<◌, ◌≤◌, ◌⊎◌, inl, inr, true, Option, None, Some, List, [], ◌∷◌, ◌++◌, sym, subst, arith}
+use Rattle.std.specs.Prelude.{All, Contains, IfSome}
 use Rattle.std.proofs.lemmas.List.Elements.{All-weaker, All-push, All-contains, All-get_or}
 use Rattle.std.proofs.lemmas.List.Quantifiers.{all_pairs_push}
 use Rattle.std.proofs.Math.ListN.{get_or}
@@ -12,12 +12,11 @@ use Rattle.chan_model.specs.declared.signal.Down.{Down}
 use Rattle.chan_model.specs.declared.signal.Up.{Up}
 use Rattle.chan_model.specs.declared.signal.Up.TheVariants as up
 use Rattle.chan_model.specs.declared.unit_state.UnitState.{UnitState}
-use Rattle.chan_model.specs.Sides.{same_side}
 use Rattle.chan_model.specs.UnitTable.{side_of, unit_after}
 use Rattle.chan_model.specs.Agreement.{Agrees, IsAboveFloor, IsOutstanding, owner_of}
 use Rattle.agreement_laws.specs.Claims.{DoAgree, IsResetDue, IsCleared, EndsByReset, IsPassed}
 use Rattle.agreement_laws.specs.Links.{Link, Links, link_of, Carries, with_signal, with_accepted}
-use Rattle.agreement_laws.specs.Moving.{HoldAct, Nothing, Offers, Sends_reset, Lets_go, Is_reset, Loses, Takes, Sends, HoldActed, still, hold_acts, UnitAct, Takes_down, Leaves, Asks, Attends, Restarts, Notices, Reports, unit_steps, up_sent, LinkStep, Cause, Hold_acts, Unit_acts, IsHoldGiven, IsUnitGiven, unit_moved, sent_at, act_at, Step}
+use Rattle.agreement_laws.specs.Moving.{HoldAct, Nothing, Offers, Sends_reset, Lets_go, Is_reset, Loses, Takes, Sends, HoldActed, hold_acts, UnitAct, Takes_down, Leaves, Asks, Attends, Restarts, Notices, Reports, unit_steps, up_sent, LinkStep, Cause, Hold_acts, Unit_acts, IsHoldGiven, IsUnitGiven, unit_moved, sent_at, act_at, Step}
 use Rattle.agreement_laws.specs.Invariant.{Ends, ends_of, seen_by, AreEndsGood, IsDownGood, IsUpGood, AreRising, IsLinkGood, IsFreshFree, IsSideGood, IsGood}
 use Rattle.agreement_laws.proofs.Frames.{IsNewSignal, IsNew, passed}
 use Rattle.agreement_laws.proofs.HoldKeeps.{HoldMoves, IsHoldKept, hold-kept}

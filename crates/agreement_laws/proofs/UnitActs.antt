@@ -1,6 +1,6 @@
 -- What a unit does by its table is a move at the side that it concerns, and nothing at the other.
-use Rattle.std.proofs.Common.{◌≡◌, ◌≢◌, ℕ, ◌+◌, ◌<◌, ◌≤◌, ◌==◌, ◌&&◌, ◌||◌, not, Bool, true, false, nat_lt, Option, None, Some, List, refl, sym, ◌∙◌, ap, subst, arith}
-use Rattle.std.specs.Prelude.{if◌then◌else◌, ◌⊎◌}
+use Rattle.std.proofs.Common.{◌≡◌, ℕ, ◌+◌, ◌<◌, ◌==◌, ◌&&◌, Bool, true, false, nat_lt, Option, None, Some, List, refl, sym, ◌∙◌, ap, subst}
+use Rattle.std.specs.Prelude.{if◌then◌else◌}
 use Rattle.std.proofs.lemmas.Bool.{eqb-true, ltb-true, and_parts}
 use Rattle.chan_model.specs.declared.names.Side.{Side}
 use Rattle.chan_model.specs.declared.names.Side.TheVariants.{First, Second}
@@ -20,11 +20,10 @@ use Rattle.chan_model.specs.declared.unit_state.Place.TheVariants.{On, Ask, Away
 use Rattle.chan_model.specs.declared.unit_state.SideState.{SideState}
 use Rattle.chan_model.specs.declared.unit_state.UnitState.{UnitState}
 use Rattle.chan_model.specs.Sides.{same_side}
-use Rattle.chan_model.specs.UnitTable.{UnitStep, changes, sends, side_of, with_side, is_owner, is_owner_on, owns, freed, raised, held, selected, commanded, given_next, given, answered_load, answered_last, answered, granted_at, granted, refused_at, refused, halting, releasing, without_side, reset_side, resets, forgetting, telling, unit_works, unit_takes, unit_after}
+use Rattle.chan_model.specs.UnitTable.{UnitStep, changes, sends, side_of, is_owner, owns, freed, raised, selected, given_next, answered_load, answered_last, granted_at, granted, refused_at, refused, forgetting, telling, unit_after}
 use Rattle.agreement_laws.specs.Moving.{sent_by}
-use Rattle.agreement_laws.specs.Invariant.{Seen, Idle, Fresh, Owns, Ends, ends, ends_of, seen_own, seen_by, IsResetTo, IsResetGood, IsGrantGood, IsDownGood, IsFreshFree}
-use Rattle.agreement_laws.proofs.Frames.{IsPlainUp}
-use Rattle.agreement_laws.proofs.UnitKeeps.{UnitMoves, Stays, Accepts, Is_busy, Is_granted, Is_refused, Releases, Clears, Tells, IsPlainSent}
+use Rattle.agreement_laws.specs.Invariant.{Idle, Owns, Ends, ends, ends_of, seen_by, IsGrantGood, IsDownGood, IsFreshFree}
+use Rattle.agreement_laws.proofs.UnitKeeps.{UnitMoves, Stays, Accepts, Is_busy, Is_granted, Is_refused, Releases, Tells, IsPlainSent}
 
 abbrev pub other_of : Side → Side
 other_of First = Second
@@ -53,11 +52,13 @@ unseen side u v x P restarts first second o plain =
     same_side_of : (k : Side) → side_of v k ≡ side_of u k
     same_side_of First = first
     same_side_of Second = second
+
     same_ends : (n : ℕ) (h : HoldState) (k : Side) → ends_of n h v k ≡ ends_of n h u k
     same_ends n h k =
         ap (λ b. ends n h.phase h.seen h.known b (side_of v k).floor (seen_by (side_of v k).fresh v.own k)) restarts
         ∙ (ap (λ (s : SideState). ends n h.phase h.seen h.known u.restarts s.floor (seen_by s.fresh v.own k)) (same_side_of k)
         ∙ ap (λ w. ends n h.phase h.seen h.known u.restarts (side_of u k).floor (seen_by (side_of u k).fresh w k)) o)
+
     free_as : (k : Side) → IsFreshFree u k → IsFreshFree v k
     free_as k f = λ e. ap (λ w. owns w k) o ∙ f (sym (ap (λ (s : SideState). s.fresh) (same_side_of k)) ∙ e)
 

@@ -1,5 +1,5 @@
 -- What a unit does keeps what holds of each of its links.
-use Rattle.std.proofs.Common.{◌≡◌, ◌≢◌, ℕ, ◌+◌, ◌<◌, ◌≤◌, ◌⊎◌, inl, inr, Option, None, Some, List, refl, sym, subst, arith}
+use Rattle.std.proofs.Common.{◌≡◌, ◌≢◌, ℕ, ◌+◌, ◌<◌, ◌≤◌, inl, inr, Option, None, Some, List, refl, sym, subst, arith}
 use Rattle.std.specs.Prelude.{All, IfSome}
 use Rattle.std.proofs.lemmas.Bool.{cases_lt}
 use Rattle.std.proofs.lemmas.List.Elements.{All-weaker}
@@ -7,13 +7,12 @@ use Rattle.chan_model.specs.declared.hold_state.HoldPhase.{HoldPhase}
 use Rattle.chan_model.specs.declared.hold_state.HoldPhase.TheVariants as hold
 use Rattle.chan_model.specs.declared.signal.OnPath.{OnPath}
 use Rattle.chan_model.specs.declared.signal.Down.{Down}
-use Rattle.chan_model.specs.declared.signal.Down.TheVariants as down
 use Rattle.chan_model.specs.declared.signal.Up.{Up}
 use Rattle.chan_model.specs.declared.signal.Up.TheVariants as up
 use Rattle.chan_model.specs.declared.unit_state.Place.{Place}
 use Rattle.chan_model.specs.declared.unit_state.Place.TheVariants.{On, Ask, Away}
 use Rattle.agreement_laws.specs.Links.{with_accepted}
-use Rattle.agreement_laws.specs.Invariant.{Seen, Idle, Fresh, Owns, Ends, ends, IsJoined, IsParted, IsPaired, IsNotHeld, IsResetAbove, IsMatched, AreEndsGood, IsSelectGood, IsReleaseGood, IsNotDue, IsResetTo, IsResetGood, IsAskedOn, IsGrantGood, IsDownGood, IsAcceptGood, IsNotOwned, IsBackAt, IsBackGood, IsUpGood}
+use Rattle.agreement_laws.specs.Invariant.{Seen, Idle, Fresh, Owns, Ends, ends, IsJoined, IsParted, IsPaired, IsNotHeld, AreEndsGood, IsSelectGood, IsReleaseGood, IsNotDue, IsResetTo, IsResetGood, IsAskedOn, IsGrantGood, IsDownGood, IsAcceptGood, IsNotOwned, IsBackGood, IsUpGood}
 use Rattle.agreement_laws.proofs.Frames.{downs-by, ups-by, IsNew, IsPlainUp, plain-up, plain-new}
 
 abbrev pub IsPlainSent : Option (OnPath Up) → Type 0

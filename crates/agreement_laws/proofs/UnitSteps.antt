@@ -1,5 +1,5 @@
 -- Every signal that a unit takes, and every act of its own, is a move at each of its sides.
-use Rattle.std.proofs.Common.{◌≡◌, ◌≢◌, ℕ, ◌+◌, ◌<◌, ◌≤◌, ◌==◌, ◌&&◌, ◌||◌, ◌⊎◌, inl, inr, not, Bool, true, false, nat_lt, nat_le, length, Option, None, Some, List, refl, sym, ◌∙◌, ap, subst, arith}
+use Rattle.std.proofs.Common.{◌≡◌, ℕ, ◌+◌, ◌<◌, ◌==◌, ◌&&◌, ◌||◌, inl, inr, not, Bool, true, false, nat_lt, nat_le, length, Option, None, Some, List, refl, sym, subst, arith}
 use Rattle.std.specs.Prelude.{if◌then◌else◌}
 use Rattle.std.proofs.lemmas.Bool.{eqb-true, ltb-true, and_parts}
 use Rattle.chan_model.specs.declared.names.Side.{Side}
@@ -8,12 +8,9 @@ use Rattle.chan_model.specs.declared.hold_state.HoldState.{HoldState}
 use Rattle.chan_model.specs.declared.report.Report.{Report}
 use Rattle.chan_model.specs.declared.report.DeviceAnswer.{DeviceAnswer}
 use Rattle.chan_model.specs.declared.report.DeviceAnswer.TheVariants as answer
-use Rattle.chan_model.specs.declared.signal.OnPath.{OnPath}
 use Rattle.chan_model.specs.declared.signal.Down.{Down}
 use Rattle.chan_model.specs.declared.signal.Down.TheVariants as down
-use Rattle.chan_model.specs.declared.signal.Up.{Up}
 use Rattle.chan_model.specs.declared.signal.Up.TheVariants as up
-use Rattle.chan_model.specs.declared.status.Shown.{Shown}
 use Rattle.chan_model.specs.declared.unit_state.AtHand.{AtHand}
 use Rattle.chan_model.specs.declared.unit_state.Own.{Own}
 use Rattle.chan_model.specs.declared.unit_state.Own.TheVariants as own
@@ -24,13 +21,13 @@ use Rattle.chan_model.specs.declared.unit_state.Progress.TheVariants as progress
 use Rattle.chan_model.specs.declared.unit_state.SideState.{SideState}
 use Rattle.chan_model.specs.declared.unit_state.UnitState.{UnitState}
 use Rattle.chan_model.specs.Sides.{same_side}
-use Rattle.chan_model.specs.UnitTable.{UnitStep, sends, side_of, is_owner, is_owner_on, is_idle, owns, reset_side, telling, unit_works, unit_takes, unit_after, leaving, leaving_from, asking, asking_from, attending, restarted, noticing}
-use Rattle.chan_model.specs.UnitReports.{data_sent, absorbed, end_sent, may_end, is_outward, answer_taken, report_on, report_of, unit_reports}
-use Rattle.agreement_laws.specs.Moving.{UnitAct, Takes_down, Leaves, Asks, Attends, Restarts, Notices, Reports, unit_steps, is_owner_side, is_to, sent_by, up_sent}
-use Rattle.agreement_laws.specs.Invariant.{Seen, Idle, Fresh, Owns, Ends, ends_of, seen_by, seen_own, IsResetTo, IsResetGood, IsDownGood, IsFreshFree}
+use Rattle.chan_model.specs.UnitTable.{UnitStep, sends, side_of, is_owner, is_owner_on, is_idle, reset_side, telling, unit_works, unit_takes, unit_after, leaving, leaving_from, asking, asking_from, attending, restarted, noticing}
+use Rattle.chan_model.specs.UnitReports.{absorbed, may_end, is_outward, answer_taken, report_on, report_of}
+use Rattle.agreement_laws.specs.Moving.{UnitAct, Takes_down, Leaves, Asks, Attends, Restarts, Notices, Reports, unit_steps, is_owner_side, sent_by, up_sent}
+use Rattle.agreement_laws.specs.Invariant.{Seen, Idle, Fresh, Owns, Ends, ends_of, seen_by, IsResetTo, IsResetGood, IsDownGood, IsFreshFree}
 use Rattle.agreement_laws.proofs.UnitKeeps.{UnitMoves, Stays, Clears}
 use Rattle.agreement_laws.proofs.UnitKeeps as keeps
-use Rattle.agreement_laws.proofs.UnitActs.{IsMove, IsStep, IsGiven, at, working, marked, other_of, nothing, unseen, unseen-if, step-if, select-steps, given-steps, answered-steps, forgetting-steps, granted-steps, refused-steps, releasing-steps, telling-steps}
+use Rattle.agreement_laws.proofs.UnitActs.{IsStep, IsGiven, at, working, marked, nothing, unseen, unseen-if, step-if, select-steps, given-steps, answered-steps, forgetting-steps, granted-steps, refused-steps, releasing-steps, telling-steps}
 
 -- a side in this state
 abbrev side_at : ℕ → Bool → SideState
