@@ -3,7 +3,7 @@ use Rattle.std.specs.Prelude.{◌≡◌, ℕ, ◌+◌, Bool, false, if◌then◌
 use Rattle.chan_model.specs.declared.names.Side.{Side}
 use Rattle.chan_model.specs.declared.names.Side.TheVariants.{First, Second}
 use Rattle.chan_model.specs.declared.hold_state.HoldPhase.{HoldPhase}
-use Rattle.chan_model.specs.declared.hold_state.HoldPhase.TheVariants.{Free, Offer, On, Away, Letting, Reset}
+use Rattle.chan_model.specs.declared.hold_state.HoldPhase.TheVariants.{Free}
 use Rattle.chan_model.specs.declared.hold_state.HoldState.{HoldState}
 use Rattle.chan_model.specs.declared.report.Report.{Report}
 use Rattle.chan_model.specs.declared.signal.OnPath.{OnPath}
@@ -15,7 +15,7 @@ use Rattle.chan_model.specs.declared.unit_state.Own.{Own}
 use Rattle.chan_model.specs.declared.unit_state.Own.TheVariants as own
 use Rattle.chan_model.specs.declared.unit_state.UnitState.{UnitState}
 use Rattle.chan_model.specs.Sides.{same_side}
-use Rattle.chan_model.specs.HoldTable.{HoldStep, offering, letting_go, resetting, sending_reset, hold_takes, hold_after}
+use Rattle.chan_model.specs.HoldTable.{HoldStep, offering, letting_go, resetting, sending_reset, hold_takes}
 use Rattle.chan_model.specs.ResetCauses.{rests_on}
 use Rattle.chan_model.specs.UnitTable.{UnitStep, unit_takes, unit_after, leaving, asking, attending, restarted, noticing}
 use Rattle.chan_model.specs.UnitReports.{unit_reports}

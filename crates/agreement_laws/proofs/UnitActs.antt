@@ -1,0 +1,298 @@
+-- What a unit does by its table is a move at the side that it concerns, and nothing at the other.
+use Rattle.std.proofs.Common.{◌≡◌, ℕ, ◌+◌, ◌<◌, ◌==◌, ◌&&◌, Bool, true, false, nat_lt, Option, None, Some, List, refl, sym, ◌∙◌, ap, subst}
+use Rattle.std.specs.Prelude.{if◌then◌else◌}
+use Rattle.std.proofs.lemmas.Bool.{eqb-true, ltb-true, and_parts}
+use Rattle.chan_model.specs.declared.names.Side.{Side}
+use Rattle.chan_model.specs.declared.names.Side.TheVariants.{First, Second}
+use Rattle.chan_model.specs.declared.hold_state.HoldState.{HoldState}
+use Rattle.chan_model.specs.declared.signal.OnPath.{OnPath}
+use Rattle.chan_model.specs.declared.signal.Load.{Load}
+use Rattle.chan_model.specs.declared.signal.Down.{Down}
+use Rattle.chan_model.specs.declared.signal.Down.TheVariants as down
+use Rattle.chan_model.specs.declared.signal.Up.{Up}
+use Rattle.chan_model.specs.declared.signal.Up.TheVariants as up
+use Rattle.chan_model.specs.declared.unit_state.AtHand.{AtHand}
+use Rattle.chan_model.specs.declared.unit_state.Attention.{Attention}
+use Rattle.chan_model.specs.declared.unit_state.Own.{Own}
+use Rattle.chan_model.specs.declared.unit_state.Own.TheVariants as own
+use Rattle.chan_model.specs.declared.unit_state.Place.{Place}
+use Rattle.chan_model.specs.declared.unit_state.Place.TheVariants.{On, Ask, Away}
+use Rattle.chan_model.specs.declared.unit_state.SideState.{SideState}
+use Rattle.chan_model.specs.declared.unit_state.UnitState.{UnitState}
+use Rattle.chan_model.specs.Sides.{same_side}
+use Rattle.chan_model.specs.UnitTable.{UnitStep, changes, sends, side_of, is_owner, owns, freed, raised, selected, given_next, answered_load, answered_last, granted_at, granted, refused_at, refused, forgetting, telling, unit_after}
+use Rattle.agreement_laws.specs.Moving.{sent_by}
+use Rattle.agreement_laws.specs.Invariant.{Idle, Owns, Ends, ends, ends_of, seen_by, IsGrantGood, IsDownGood, IsFreshFree}
+use Rattle.agreement_laws.proofs.UnitKeeps.{UnitMoves, Stays, Accepts, Is_busy, Is_granted, Is_refused, Releases, Tells, IsPlainSent}
+
+abbrev pub other_of : Side → Side
+other_of First = Second
+other_of Second = First
+
+-- from a unit to another, with what is sent to a side: at this side a move, where what was taken is good there; at the
+-- other nothing; and a side that is fresh still holds no device
+pub record IsMove (side : Side) (u v : UnitState) (x : Option (OnPath Up)) (P : Ends → Type 0) : Type 0 where
+  pub here : (n : ℕ) (h : HoldState) → P (ends_of n h u side) → UnitMoves (ends_of n h u side) (ends_of n h v side) x
+  pub there : (n : ℕ) (h : HoldState) → ends_of n h v (other_of side) ≡ ends_of n h u (other_of side)
+  pub free_here : IsFreshFree u side → IsFreshFree v side
+  pub free_there : IsFreshFree u (other_of side) → IsFreshFree v (other_of side)
+
+abbrev pub IsStep : Side → UnitState → Option UnitStep → (Ends → Type 0) → Type 0
+IsStep side u step P = IsMove side u (unit_after u step) (sent_by step) P
+
+-- what no link sees
+pub nothing : (side : Side) (u : UnitState) (P : Ends → Type 0) → IsStep side u None P
+nothing side u P = record { here = λ n h g. Stays _ _ None refl tt; there = λ n h. refl; free_here = λ f. f; free_there = λ f. f }
+
+pub unseen : (side : Side) (u v : UnitState) (x : Option (OnPath Up)) (P : Ends → Type 0) → v.restarts ≡ u.restarts → v.first ≡ u.first → v.second ≡ u.second → v.own ≡ u.own → IsPlainSent x → IsMove side u v x P
+unseen side u v x P restarts first second o plain =
+    let same : (n : ℕ) (h : HoldState) (k : Side) → ends_of n h v k ≡ ends_of n h u k = same_ends in
+    record { here = λ n h g. Stays _ _ x (same n h side) plain; there = λ n h. same n h (other_of side); free_here = free_as side; free_there = free_as (other_of side) }
+  where
+    same_side_of : (k : Side) → side_of v k ≡ side_of u k
+    same_side_of First = first
+    same_side_of Second = second
+
+    same_ends : (n : ℕ) (h : HoldState) (k : Side) → ends_of n h v k ≡ ends_of n h u k
+    same_ends n h k =
+        ap (λ b. ends n h.phase h.seen h.known b (side_of v k).floor (seen_by (side_of v k).fresh v.own k)) restarts
+        ∙ (ap (λ (s : SideState). ends n h.phase h.seen h.known u.restarts s.floor (seen_by s.fresh v.own k)) (same_side_of k)
+        ∙ ap (λ w. ends n h.phase h.seen h.known u.restarts (side_of u k).floor (seen_by (side_of u k).fresh w k)) o)
+
+    free_as : (k : Side) → IsFreshFree u k → IsFreshFree v k
+    free_as k f = λ e. ap (λ w. owns w k) o ∙ f (sym (ap (λ (s : SideState). s.fresh) (same_side_of k)) ∙ e)
+
+pub unseen-if : (side : Side) (u v : UnitState) (b : Bool) (P : Ends → Type 0) → v.restarts ≡ u.restarts → v.first ≡ u.first → v.second ≡ u.second → v.own ≡ u.own → IsStep side u (if b then changes v else None) P
+unseen-if side u v true P restarts first second o = unseen side u v None P restarts first second o tt
+unseen-if side u v false P restarts first second o = nothing side u P
+
+-- the unit, held so, with this side and the other
+abbrev pub at : Side → UnitState → Own → SideState → SideState → UnitState
+at First u o mine theirs = record u { own = o; first = mine; second = theirs }
+at Second u o mine theirs = record u { own = o; first = theirs; second = mine }
+
+abbrev pub working : ℕ → SideState
+working f = record { floor = f; fresh = false }
+
+abbrev pub marked : ℕ → SideState
+marked f = record { floor = f; fresh = true }
+
+abbrev pub IsGiven : ℕ → Down → Ends → Type 0
+IsGiven p d e = IsDownGood e p d
+
+-- Select, above the floor
+selected-idle : (side : Side) (u : UnitState) (f : ℕ) (y : SideState) (p t : ℕ) (may : Bool) → f < t →
+    IsMove side (at side u own.Idle (working f) y) (unit_after (raised (at side u own.Idle (working f) y) side t) (selected (raised (at side u own.Idle (working f) y) side t) own.Idle side p t may))
+    (sent_by (selected (raised (at side u own.Idle (working f) y) side t) own.Idle side p t may)) (IsGiven p (down.Select t))
+selected-idle First u f y p t true lt =
+    record {
+      here = λ n h g. Accepts n h.phase h.seen h.known u.restarts f p t lt g.0 g.1;
+      there = λ n h. refl;
+      free_here = λ m e. cc;
+      free_there = λ m e. refl;
+    }
+selected-idle Second u f y p t true lt =
+    record {
+      here = λ n h g. Accepts n h.phase h.seen h.known u.restarts f p t lt g.0 g.1;
+      there = λ n h. refl;
+      free_here = λ m e. cc;
+      free_there = λ m e. refl;
+    }
+selected-idle First u f y p t false lt =
+    record {
+      here = λ n h g. Is_busy n h.phase h.seen h.known u.restarts f p t Idle tt lt g.0 g.1;
+      there = λ n h. refl;
+      free_here = λ m e. refl;
+      free_there = λ m e. refl;
+    }
+selected-idle Second u f y p t false lt =
+    record {
+      here = λ n h g. Is_busy n h.phase h.seen h.known u.restarts f p t Idle tt lt g.0 g.1;
+      there = λ n h. refl;
+      free_here = λ m e. refl;
+      free_there = λ m e. refl;
+    }
+
+-- Select of a unit that is held
+selected-owned : (side : Side) (u : UnitState) (k : Side) (v : ℕ) (place : Place) (f : ℕ) (y : SideState) (p t : ℕ) (may : Bool) → f < t →
+    IsMove side (at side u (own.Owned k v place) (working f) y) (raised (at side u (own.Owned k v place) (working f) y) side t) (Some (record { path = p; signal = up.Busy t })) (IsGiven p (down.Select t))
+selected-owned First u First v place f y p t may lt =
+    record {
+      here = λ n h g. Is_busy n h.phase h.seen h.known u.restarts f p t (Owns v place) tt lt g.0 g.1;
+      there = λ n h. refl;
+      free_here = λ m e. cc;
+      free_there = λ m. m;
+    }
+selected-owned First u Second v place f y p t may lt =
+    record {
+      here = λ n h g. Is_busy n h.phase h.seen h.known u.restarts f p t Idle tt lt g.0 g.1;
+      there = λ n h. refl;
+      free_here = λ m e. cc;
+      free_there = λ m. m;
+    }
+selected-owned Second u First v place f y p t may lt =
+    record {
+      here = λ n h g. Is_busy n h.phase h.seen h.known u.restarts f p t Idle tt lt g.0 g.1;
+      there = λ n h. refl;
+      free_here = λ m e. cc;
+      free_there = λ m. m;
+    }
+selected-owned Second u Second v place f y p t may lt =
+    record {
+      here = λ n h g. Is_busy n h.phase h.seen h.known u.restarts f p t (Owns v place) tt lt g.0 g.1;
+      there = λ n h. refl;
+      free_here = λ m e. cc;
+      free_there = λ m. m;
+    }
+
+selected-steps : (side : Side) (u : UnitState) (o : Own) (f : ℕ) (y : SideState) (p t : ℕ) (may : Bool) → f < t →
+    IsMove side (at side u o (working f) y) (unit_after (at side u o (working f) y) (selected (raised (at side u o (working f) y) side t) o side p t may))
+    (sent_by (selected (raised (at side u o (working f) y) side t) o side p t may)) (IsGiven p (down.Select t))
+selected-steps side u own.Idle f y p t true lt = selected-idle side u f y p t true lt
+selected-steps side u own.Idle f y p t false lt = selected-idle side u f y p t false lt
+selected-steps side u (own.Owned k v place) f y p t may lt = selected-owned side u k v place f y p t may lt
+
+pub select-steps : (side : Side) (u : UnitState) (o : Own) (f : ℕ) (y : SideState) (p t : ℕ) (may above : Bool) → nat_lt f t ≡ above →
+    IsStep side (at side u o (working f) y) (if above then selected (raised (at side u o (working f) y) side t) o side p t may else None) (IsGiven p (down.Select t))
+select-steps side u o f y p t may true e = selected-steps side u o f y p t may (ltb-true f t e)
+select-steps side u o f y p t may false e = nothing side (at side u o (working f) y) (IsGiven p (down.Select t))
+
+pub step-if : (side : Side) (u : UnitState) (b : Bool) (step : Option UnitStep) (P : Ends → Type 0) → IsStep side u step P → IsStep side u (if b then step else None) P
+step-if side u true step P s = s
+step-if side u false step P s = nothing side u P
+
+-- Give and Took: what no link sees
+pub given-steps : (side : Side) (u : UnitState) (x : Option AtHand) (s : ℕ) (bytes : List ℕ) (P : Ends → Type 0) → IsStep side u (given_next u x s bytes) P
+given-steps side u None s bytes P = nothing side u P
+given-steps side u (Some x) s bytes P = unseen-if side u _ (s == x.sequence + 1) P refl refl refl refl
+
+answered_load-steps : (side : Side) (u : UnitState) (x : AtHand) (load : Option Load) (room : ℕ) (P : Ends → Type 0) → IsStep side u (answered_load u x load room) P
+answered_load-steps side u x None room P = nothing side u P
+answered_load-steps side u x (Some load) room P = unseen side u _ None P refl refl refl refl tt
+
+pub answered-steps : (side : Side) (u : UnitState) (x : Option AtHand) (s room : ℕ) (P : Ends → Type 0) → IsStep side u (answered_last u x s room) P
+answered-steps side u None s room P = nothing side u P
+answered-steps side u (Some x) s room P = step-if side u (s == x.sequence) _ P (answered_load-steps side u x x.unanswered room P)
+
+pub forgetting-steps : (side : Side) (u : UnitState) (x : Option Attention) (a : ℕ) (P : Ends → Type 0) → IsStep side u (forgetting u x side a) P
+forgetting-steps side u None a P = nothing side u P
+forgetting-steps side u (Some x) a P = unseen-if side u _ (same_side x.side side && (a == x.number)) P refl refl refl refl
+
+same-sides : (k side : Side) → same_side k side ≡ true → k ≡ side
+same-sides First First e = refl
+same-sides First Second e = cc
+same-sides Second First e = cc
+same-sides Second Second e = refl
+
+late-steps : (side : Side) (u : UnitState) (v p c : ℕ) (late : Bool) (P : Ends → Type 0) → IsStep side u (if late then sends u p (up.Leave v c) else None) P
+late-steps side u v p c late P = step-if side u late _ P (unseen side u u _ P refl refl refl refl tt)
+
+-- Grant, of the program that holds the device
+granted-ask : (side : Side) (u : UnitState) (v q d f : ℕ) (y : SideState) (p c : ℕ) (same : Bool) → (c == d) ≡ same →
+    IsStep side (at side u (own.Owned side v (Ask q d)) (working f) y)
+    (if same then changes (at side u (own.Owned side v (On q d)) (working f) y)
+    else (if nat_lt c d then sends (at side u (own.Owned side v (Ask q d)) (working f) y) p (up.Leave v c) else None))
+    (IsGiven p (down.Grant v c))
+granted-ask First u v q d f y p c true e =
+    let same : c ≡ d = eqb-true c d e in
+    record {
+      here = λ n h g. Is_granted n h.phase h.seen h.known u.restarts f v q d (subst (λ (x : ℕ). IsGrantGood h.phase h.seen (Owns v (Ask q d)) v x) same g.1);
+      there = λ n h. refl;
+      free_here = λ m w. cc;
+      free_there = λ m. m;
+    }
+granted-ask Second u v q d f y p c true e =
+    let same : c ≡ d = eqb-true c d e in
+    record {
+      here = λ n h g. Is_granted n h.phase h.seen h.known u.restarts f v q d (subst (λ (x : ℕ). IsGrantGood h.phase h.seen (Owns v (Ask q d)) v x) same g.1);
+      there = λ n h. refl;
+      free_here = λ m w. cc;
+      free_there = λ m. m;
+    }
+granted-ask side u v q d f y p c false e = late-steps side (at side u (own.Owned side v (Ask q d)) (working f) y) v p c (nat_lt c d) (IsGiven p (down.Grant v c))
+
+granted_at-steps : (side : Side) (u : UnitState) (v : ℕ) (place : Place) (f : ℕ) (y : SideState) (p c : ℕ) →
+    IsStep side (at side u (own.Owned side v place) (working f) y) (granted_at (at side u (own.Owned side v place) (working f) y) side v place p c) (IsGiven p (down.Grant v c))
+granted_at-steps First u v (On q d) f y p c = late-steps First _ v p c (nat_lt c d) (IsGiven p (down.Grant v c))
+granted_at-steps First u v (Ask q d) f y p c = granted-ask First u v q d f y p c (c == d) refl
+granted_at-steps First u v (Away d) f y p c = late-steps First _ v p c (nat_lt c d) (IsGiven p (down.Grant v c))
+granted_at-steps Second u v (On q d) f y p c = late-steps Second _ v p c (nat_lt c d) (IsGiven p (down.Grant v c))
+granted_at-steps Second u v (Ask q d) f y p c = granted-ask Second u v q d f y p c (c == d) refl
+granted_at-steps Second u v (Away d) f y p c = late-steps Second _ v p c (nat_lt c d) (IsGiven p (down.Grant v c))
+
+-- a step that is taken where this side and number hold the device
+owner-steps : (side : Side) (u : UnitState) (k : Side) (v : ℕ) (place : Place) (x y : SideState) (t : ℕ) (is : Bool) (step : UnitState → Side → ℕ → Option UnitStep) (P : ℕ → Ends → Type 0) →
+    (same_side k side && (t == v)) ≡ is →
+    IsStep side (at side u (own.Owned side v place) x y) (step (at side u (own.Owned side v place) x y) side v) (P v) →
+    IsStep side (at side u (own.Owned k v place) x y) (if is then step (at side u (own.Owned k v place) x y) k v else None) (P t)
+owner-steps side u k v place x y t true step P e s =
+    let both : (same_side k side ≡ true) × ((t == v) ≡ true) = and_parts (same_side k side) (t == v) e in
+    let sides : side ≡ k = sym (same-sides k side both.0) in
+    let numbers : v ≡ t = sym (eqb-true t v both.1) in
+    subst (λ (w : ℕ). IsStep side (at side u (own.Owned k v place) x y) (step (at side u (own.Owned k v place) x y) k v) (P w)) numbers
+    (subst (λ (j : Side). IsStep side (at side u (own.Owned j v place) x y) (step (at side u (own.Owned j v place) x y) j v) (P v)) sides s)
+owner-steps side u k v place x y t false step P e s = nothing side (at side u (own.Owned k v place) x y) (P t)
+
+pub granted-steps : (side : Side) (u : UnitState) (o : Own) (f : ℕ) (y : SideState) (p t c : ℕ) →
+    IsStep side (at side u o (working f) y) (granted (at side u o (working f) y) o side p t c) (IsGiven p (down.Grant t c))
+granted-steps side u own.Idle f y p t c = nothing side (at side u own.Idle (working f) y) (IsGiven p (down.Grant t c))
+granted-steps side u (own.Owned k v place) f y p t c =
+    owner-steps side u k v place (working f) y t (same_side k side && (t == v)) (λ w j x. granted_at w j x place p c) (λ x. IsGiven p (down.Grant x c)) refl
+    (granted_at-steps side u v place f y p c)
+
+-- Refuse, of the connection asked for
+refused_ask-steps : (side : Side) (u : UnitState) (v q d f : ℕ) (y : SideState) (same : Bool) (P : Ends → Type 0) →
+    IsStep side (at side u (own.Owned side v (Ask q d)) (working f) y) (if same then changes (at side u (own.Owned side v (Away d)) (working f) y) else None) P
+refused_ask-steps First u v q d f y true P =
+    record { here = λ n h g. Is_refused n h.phase h.seen h.known u.restarts f v q d; there = λ n h. refl; free_here = λ m w. cc; free_there = λ m. m }
+refused_ask-steps Second u v q d f y true P =
+    record { here = λ n h g. Is_refused n h.phase h.seen h.known u.restarts f v q d; there = λ n h. refl; free_here = λ m w. cc; free_there = λ m. m }
+refused_ask-steps side u v q d f y false P = nothing side (at side u (own.Owned side v (Ask q d)) (working f) y) P
+
+refused_at-steps : (side : Side) (u : UnitState) (v : ℕ) (place : Place) (f : ℕ) (y : SideState) (c : ℕ) (P : Ends → Type 0) →
+    IsStep side (at side u (own.Owned side v place) (working f) y) (refused_at (at side u (own.Owned side v place) (working f) y) side v place c) P
+refused_at-steps side u v (On q d) f y c P = nothing side (at side u (own.Owned side v (On q d)) (working f) y) P
+refused_at-steps First u v (Ask q d) f y c P = refused_ask-steps First u v q d f y (c == d) P
+refused_at-steps Second u v (Ask q d) f y c P = refused_ask-steps Second u v q d f y (c == d) P
+refused_at-steps side u v (Away d) f y c P = nothing side (at side u (own.Owned side v (Away d)) (working f) y) P
+
+pub refused-steps : (side : Side) (u : UnitState) (o : Own) (f : ℕ) (y : SideState) (p t c : ℕ) →
+    IsStep side (at side u o (working f) y) (refused (at side u o (working f) y) o side t c) (IsGiven p (down.Refuse t c))
+refused-steps side u own.Idle f y p t c = nothing side (at side u own.Idle (working f) y) (IsGiven p (down.Refuse t c))
+refused-steps side u (own.Owned k v place) f y p t c =
+    owner-steps side u k v place (working f) y t (same_side k side && (t == v)) (λ w j x. refused_at w j x place c) (λ x. IsGiven p (down.Refuse x c)) refl
+    (refused_at-steps side u v place f y c (IsGiven p (down.Refuse v c)))
+
+-- Release, by the program that holds the device
+released-steps : (side : Side) (u : UnitState) (v : ℕ) (place : Place) (f : ℕ) (y : SideState) (p : ℕ) →
+    IsStep side (at side u (own.Owned side v place) (working f) y) (sends (freed (at side u (own.Owned side v place) (working f) y)) p (up.Released v)) (IsGiven p (down.Release v))
+released-steps First u v place f y p =
+    record { here = λ n h g. Releases n h.phase h.seen h.known u.restarts f p v place g.1; there = λ n h. refl; free_here = λ m w. refl; free_there = λ m w. refl }
+released-steps Second u v place f y p =
+    record { here = λ n h g. Releases n h.phase h.seen h.known u.restarts f p v place g.1; there = λ n h. refl; free_here = λ m w. refl; free_there = λ m w. refl }
+
+owned-releases : (side : Side) (u : UnitState) (k : Side) (v : ℕ) (place : Place) (f : ℕ) (y : SideState) (p t : ℕ) (is : Bool) → (same_side k side && (t == v)) ≡ is →
+    IsStep side (at side u (own.Owned k v place) (working f) y) (if is then sends (freed (at side u (own.Owned k v place) (working f) y)) p (up.Released t) else None) (IsGiven p (down.Release t))
+owned-releases side u k v place f y p t true e =
+    let both : (same_side k side ≡ true) × ((t == v) ≡ true) = and_parts (same_side k side) (t == v) e in
+    let sides : side ≡ k = sym (same-sides k side both.0) in
+    let numbers : v ≡ t = sym (eqb-true t v both.1) in
+    subst (λ (w : ℕ). IsStep side (at side u (own.Owned k v place) (working f) y) (sends (freed (at side u (own.Owned k v place) (working f) y)) p (up.Released w)) (IsGiven p (down.Release w))) numbers
+    (subst (λ (j : Side). IsStep side (at side u (own.Owned j v place) (working f) y) (sends (freed (at side u (own.Owned j v place) (working f) y)) p (up.Released v)) (IsGiven p (down.Release v))) sides
+    (released-steps side u v place f y p))
+owned-releases side u k v place f y p t false e = nothing side (at side u (own.Owned k v place) (working f) y) (IsGiven p (down.Release t))
+
+pub releasing-steps : (side : Side) (u : UnitState) (o : Own) (f : ℕ) (y : SideState) (p t : ℕ) →
+    IsStep side (at side u o (working f) y) (if is_owner o side t then sends (freed (at side u o (working f) y)) p (up.Released t) else None) (IsGiven p (down.Release t))
+releasing-steps side u own.Idle f y p t = nothing side (at side u own.Idle (working f) y) (IsGiven p (down.Release t))
+releasing-steps side u (own.Owned k v place) f y p t = owned-releases side u k v place f y p t (same_side k side && (t == v)) refl
+
+-- in a side that is fresh
+pub telling-steps : (side : Side) (u : UnitState) (p : ℕ) (P : Ends → Type 0) → IsStep side u (telling u p) P
+telling-steps side u p P =
+    record {
+      here = λ n h g. Tells n h.phase h.seen h.known u.restarts (side_of u side).floor p (seen_by (side_of u side).fresh u.own side);
+      there = λ n h. refl;
+      free_here = λ m. m;
+      free_there = λ m. m;
+    }
