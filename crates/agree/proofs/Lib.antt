@@ -1,4 +1,5 @@
 pub mod Reports
+pub mod Clearing
 pub mod Carrying
 pub mod Making
 pub mod Raising

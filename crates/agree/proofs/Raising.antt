@@ -21,10 +21,11 @@ use Rattle.chan_model.specs.declared.unit_state.Progress.TheVariants as progress
 use Rattle.chan_model.specs.declared.unit_state.UnitState.{UnitState}
 use Rattle.chan_model.specs.Sides.{same_side}
 use Rattle.chan_model.specs.UnitTable.{UnitStep, unit_after, side_of, owns, is_owner, is_owner_on, is_idle, resets, without_side, reset_side, raised, selected, commanded, given, given_next, answered, answered_last, answered_load, granted, granted_at, refused, refused_at, halting, releasing, forgetting, unit_works, unit_takes, telling, leaving, leaving_from, asking, asking_from, attending, noticing, sends, changes, new_command, with_given, freed}
-use Rattle.chan_model.specs.UnitReports.{unit_reports, report_of, report_on, answer_taken, absorbed, data_sent, end_sent, may_end, is_outward}
+use Rattle.chan_model.specs.UnitReports.{unit_reports}
 use Rattle.unit.specs.UnitWords.{connection_of, last_connection}
 use Rattle.agreement_laws.specs.Moving.{UnitAct, Takes_down, Leaves, Asks, Attends, Restarts, Notices, Reports, unit_steps}
 use Rattle.agree.specs.Bounds.{IsUnitWithin}
+use Rattle.agree.proofs.Reports.{at_report}
 
 -- a unit whose numbers are at most one above those of another
 pub record Raises (u v : UnitState) : Type 0 where
@@ -169,36 +170,8 @@ attending-raises u side p =
     raises-if u (is_idle u.own && not (side_of u side).fresh) _ None (record { restarts = omega arith; attentions = omega arith; connection = omega arith }) (none u)
 
 -- a report
-absorbed-raises : (u : UnitState) (p t c : ℕ) (x : AtHand) (given : Option (List ℕ)) (count : ℕ) → RaisesBy u (absorbed u p t c x given count)
-absorbed-raises u p t c x None count = none u
-absorbed-raises u p t c x (Some bytes) count = raises-if u (nat_le count (length bytes)) (data_sent u p t c x count) None (raises-alike u _ refl refl refl) (none u)
-
-answer-raises : (u : UnitState) (p t c : ℕ) (x : AtHand) (at : Progress) (answer : DeviceAnswer) → RaisesBy u (answer_taken u p t c x at answer)
-answer-raises u p t c x progress.New (Ended status more) = raises-if u (may_end u.halted x progress.New status more) (end_sent u p t x status more) None (raises-alike u _ refl refl refl) (none u)
-answer-raises u p t c x progress.Working (Ended status more) = raises-if u (may_end u.halted x progress.Working status more) (end_sent u p t x status more) None (raises-alike u _ refl refl refl) (none u)
-answer-raises u p t c x progress.ChannelEnded (Ended status more) = raises-if u (may_end u.halted x progress.ChannelEnded status more) (end_sent u p t x status more) None (raises-alike u _ refl refl refl) (none u)
-answer-raises u p t c x progress.Ended (Ended status more) = none u
-answer-raises u p t c x progress.New Asks = raises-if u (is_outward x.code) (data_sent u p t c x 0) None (raises-alike u _ refl refl refl) (none u)
-answer-raises u p t c x progress.Working Asks = none u
-answer-raises u p t c x progress.ChannelEnded Asks = none u
-answer-raises u p t c x progress.Ended Asks = none u
-answer-raises u p t c x progress.New (Absorbed count) = none u
-answer-raises u p t c x progress.Working (Absorbed count) = absorbed-raises u p t c x x.given count
-answer-raises u p t c x progress.ChannelEnded (Absorbed count) = none u
-answer-raises u p t c x progress.Ended (Absorbed count) = none u
-
-on-raises : (u : UnitState) (t : ℕ) (place : Place) (at_hand : Option AtHand) (r : Report) → RaisesBy u (report_on u t place at_hand r)
-on-raises u t (On p c) (Some x) r = raises-if u (r.sequence == x.sequence) (answer_taken u p t c x x.progress r.answer) None (answer-raises u p t c x x.progress r.answer) (none u)
-on-raises u t (On p c) None r = none u
-on-raises u t (Ask p c) (Some x) r = none u
-on-raises u t (Ask p c) None r = none u
-on-raises u t (Away c) (Some x) r = none u
-on-raises u t (Away c) None r = none u
-
-report-raises : (u : UnitState) (o : Own) (r : Report) → RaisesBy u (report_of u o r)
-report-raises u Idle r = none u
-report-raises u (Owned k t place) r =
-    raises-if u (same_side k r.side && ((r.number == t) && (r.command == u.last_command))) (report_on u t place u.at_hand r) None (on-raises u t place u.at_hand r) (none u)
+report-raises : (u : UnitState) (r : Report) → RaisesBy u (unit_reports u r)
+report-raises u r = at_report (RaisesBy u) u (none u) (λ p t c x count. raises-alike u _ refl refl refl) (λ p t x status more. raises-alike u _ refl refl refl) r
 
 -- each act
 act-raises : (u : UnitState) (act : UnitAct) → RaisesBy u (unit_steps u act)
@@ -208,7 +181,7 @@ act-raises u (Asks p) = asking-raises u u.own p (omega arith)
 act-raises u (Attends side p) = attending-raises u side p
 act-raises u Restarts = record { restarts = omega arith; attentions = omega arith; connection = omega arith }
 act-raises u (Notices side p) = raises-if u (side_of u side).fresh (telling u p) None (raises-same u) (none u)
-act-raises u (Reports report) = report-raises u u.own report
+act-raises u (Reports report) = report-raises u report
 
 pub act-within : (n : ℕ) (u : UnitState) (act : UnitAct) → IsUnitWithin n u → IsUnitWithin (n + 1) (unit_after u (unit_steps u act))
 act-within n u act h =

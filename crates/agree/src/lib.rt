@@ -5,4 +5,6 @@
 pub mod event;
 mod line;
 pub mod parts;
+#[cfg(test)]
+mod tests;
 pub mod world;
