@@ -245,7 +245,7 @@ met-tells : (w : WorldState) (side : Side) (place : ℕ) (keep may : Bool) (x : 
 met-tells w side place keep may x is s h =
     let phase : HoldPhase = (link_of (links_of w) s).hold.phase in
     let to : (same_side side s ≡ true) × IsCleared phase (sent_by (unit_steps w.«unit» (Takes_down side x may))) =
-        cleared-to (same_side side s) (unit_steps w.«unit» (Takes_down side x may)) phase h in
+    cleared-to (same_side side s) (unit_steps w.«unit» (Takes_down side x may)) phase h in
     (to.0, subst (λ (o : Option (OnPath Down)). IsCleared phase (answer_to w.«unit» side o may)) (sym is) to.1)
 
 contains-link : (w : WorldState) (side : Side) (x : OnPath Down) → Contains (line_of w side).link.downs x → Contains (link_of (links_of w) side).downs x
@@ -280,13 +280,14 @@ abbrev pub Kept : WorldState → WorldEvent → WorldState → Type 0
 Kept w e new = IsGood (links_of new) × EndsByEvent w e new
 
 made-kept : Keeps → Ends → (w : WorldState) (e : WorldEvent) → IsGood (links_of w) → (new : WorldState) → Made w e new → Kept w e new
-made-kept keeps ends w e g new made =
-    (keeps (links_of w) made.cause (links_of new) g made.step,
-    λ side due.
-    elim (ends (links_of w) made.cause (links_of new) side g made.step due) [
-      | inl still ↦ inl still
-      | inr over ↦ inr (made.tells side over.0, over.1)
-    ])
+made-kept keeps ends w e g new made = (
+  keeps (links_of w) made.cause (links_of new) g made.step,
+  λ side due.
+      elim (ends (links_of w) made.cause (links_of new) side g made.step due) [
+        | inl still ↦ inl still
+        | inr over ↦ inr (made.tells side over.0, over.1)
+      ],
+)
 
 -- both holds are reset, one after the other
 all_reset-kept : Keeps → Ends → (w : WorldState) → IsGood (links_of w) → Kept w event.SubsystemReset (all_reset w)
@@ -294,13 +295,14 @@ all_reset-kept keeps ends w g =
     let e : WorldEvent = event.SubsystemReset in
     let mid : WorldState = with_line w First (acts w.first Is_reset) in
     let once : Kept w e mid = made-kept keeps ends w e g mid (act-made w e First Is_reset tt) in
-    let twice : Kept mid e (all_reset w) = made-kept keeps ends mid e once.0 (all_reset w) (act-made mid e Second Is_reset tt) in
-    (twice.0,
-    λ side due.
-    elim (once.1 side due) [
-      | inl still ↦ elim (twice.1 side still) [ inl last ↦ inl last | inr over ↦ absurd over.0 ]
-      | inr over ↦ absurd over.0
-    ])
+    let twice : Kept mid e (all_reset w) = made-kept keeps ends mid e once.0 (all_reset w) (act-made mid e Second Is_reset tt) in (
+      twice.0,
+      λ side due.
+          elim (once.1 side due) [
+            | inl still ↦ elim (twice.1 side still) [ inl last ↦ inl last | inr over ↦ absurd over.0 ]
+            | inr over ↦ absurd over.0
+          ],
+    )
 
 at-kept : Keeps → Ends → (w : WorldState) (e : WorldEvent) → IsGood (links_of w) → (turn : Turn) → OnDone (Made w e) turn → OnDone (Kept w e) turn
 at-kept keeps ends w e g turn made = done-weaker (Made w e) (Kept w e) (made-kept keeps ends w e g) turn made

@@ -31,29 +31,56 @@ pub enum WorldEvent {
         may: bool,
     },
     /// A signal to the unit vanishes.
-    LoseDown { side: Side, place: usize },
+    LoseDown {
+        side: Side,
+        place: usize,
+    },
     /// A signal from the unit vanishes.
-    LoseUp { side: Side, place: usize },
+    LoseUp {
+        side: Side,
+        place: usize,
+    },
     /// A path goes down, and the signals on it vanish.
-    PathDown { side: Side, path: u8 },
+    PathDown {
+        side: Side,
+        path: u8,
+    },
     /// A path comes up.
-    PathUp { side: Side, path: u8 },
+    PathUp {
+        side: Side,
+        path: u8,
+    },
     /// A path is reset: it stays up, and the signals on it vanish.
-    PathReset { side: Side, path: u8 },
+    PathReset {
+        side: Side,
+        path: u8,
+    },
     /// The subsystem lets the device go.
-    LetGo { side: Side },
+    LetGo {
+        side: Side,
+    },
     /// The program clears the subchannel.
-    Clear { side: Side },
+    Clear {
+        side: Side,
+    },
     /// The subsystem is reset.
     SubsystemReset,
     /// The unit leaves the path of its program.
     Leave,
     /// The unit asks for a path.
-    Ask { path: u8 },
+    Ask {
+        path: u8,
+    },
     /// The unit asks a side for attention.
-    Attention { side: Side, path: u8 },
+    Attention {
+        side: Side,
+        path: u8,
+    },
     /// The unit tells a side how often it was restarted.
-    Notice { side: Side, path: u8 },
+    Notice {
+        side: Side,
+        path: u8,
+    },
     /// The device is restarted.
     Restart,
     /// The device answered.

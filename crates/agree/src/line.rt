@@ -227,12 +227,7 @@ impl Line {
 
 /// The hold takes a signal: how many numbers are drawn then, and what is sent. A Notice of more restarts than are known is a
 /// cause of a reset.
-fn taken(
-    drawn: u64,
-    hold: &mut Hold,
-    signal: &OnPath<Up>,
-    may: bool,
-) -> (u64, Option<OnPath<Down>>)
+fn taken(drawn: u64, hold: &mut Hold, signal: &OnPath<Up>, may: bool) -> (u64, Option<OnPath<Down>>)
     requires { drawn ≤ 2 ^ 62 }
     ensures { record { drawn = result.0; hold = hold.new; sent = result.1 } ≡ moving.taken drawn hold.old signal.now.path signal.now.signal may }
 {

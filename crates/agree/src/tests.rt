@@ -43,24 +43,23 @@ fn accepts(world: &mut World, events: &[WorldEvent]) -> bool {
     all
 }
 
-/// The number and the path of the program that a hold takes to be connected.
-fn held(world: &World, side: Side) -> Option<(u64, usize)> {
-    match world.hold(side).phase {
-        HoldPhase::On { number, path, .. } => Some((number, path.index())),
-        _ => None,
-    }
+/// The path that a hold takes its program to be connected by.
+fn held_by(world: &World, side: Side) -> Option<usize> {
+    let HoldPhase::On { path, .. } = world.hold(side).phase else {
+        return None;
+    };
+    Some(path.index())
 }
 
-/// The number and the path of the program that is connected to the device.
-fn owned(world: &World) -> Option<(u64, usize)> {
-    match world.own() {
-        Own::Owned {
-            number,
-            place: Place::On { path, .. },
-            ..
-        } => Some((number, path.index())),
-        _ => None,
-    }
+/// The path that the program that holds the device is connected by.
+fn owned_by(world: &World) -> Option<usize> {
+    let Own::Owned { place, .. } = world.own() else {
+        return None;
+    };
+    let Place::On { path, .. } = place else {
+        return None;
+    };
+    Some(path.index())
 }
 
 fn is_free(world: &World, side: Side) -> bool {
@@ -72,11 +71,16 @@ fn a_program_is_accepted_and_let_go(rt: HostRuntime) {
     let mut world = World::new(rt.alloc());
     let side = Side::First;
     assert!(rt; accepts(&mut world, &[choose(side, 2), down(side), up(side)]));
-    assert_eq!(rt; held(&world, side), Some((1, 2)));
-    assert_eq!(rt; owned(&world), Some((1, 2)));
-    assert!(rt; accepts(&mut world, &[WorldEvent::LetGo { side }, down(side), up(side)]));
+    assert_eq!(rt; held_by(&world, side), Some(2));
+    assert_eq!(rt; owned_by(&world), Some(2));
+    assert!(rt;
+        accepts(
+            &mut world,
+            &[WorldEvent::LetGo { side }, down(side), up(side)]
+        )
+    );
     assert!(rt; is_free(&world, side) && matches!(world.own(), Own::Idle));
-    assert_eq!(rt; world.accepted(side), &[1]);
+    assert_eq!(rt; world.accepted(side), [1].as_slice());
     assert_eq!(rt; world.downs_len(side), 0);
     assert_eq!(rt; world.ups_len(side), 0);
 }
@@ -92,7 +96,7 @@ fn a_repeated_select_is_accepted_once(rt: HostRuntime) {
         may: true,
     };
     assert!(rt; accepts(&mut world, &[choose(side, 0), again, again]));
-    assert_eq!(rt; world.accepted(side), &[1]);
+    assert_eq!(rt; world.accepted(side), [1].as_slice());
     assert_eq!(rt; world.downs_len(side), 1);
     assert_eq!(rt; world.ups_len(side), 1);
     let lost = [
@@ -113,10 +117,10 @@ fn a_program_comes_back_on_another_path(rt: HostRuntime) {
     assert!(rt; accepts(&mut world, &[WorldEvent::Leave, up(side)]));
     assert!(rt; matches!(world.hold(side).phase, HoldPhase::Away { number: 1 }));
     assert!(rt; accepts(&mut world, &[WorldEvent::Ask { path: 6 }, up(side)]));
-    assert_eq!(rt; held(&world, side), Some((1, 6)));
-    assert_eq!(rt; owned(&world), None);
+    assert_eq!(rt; held_by(&world, side), Some(6));
+    assert_eq!(rt; owned_by(&world), None);
     assert!(rt; accepts(&mut world, &[down(side)]));
-    assert_eq!(rt; owned(&world), Some((1, 6)));
+    assert_eq!(rt; owned_by(&world), Some(6));
 }
 
 #[test]
@@ -148,10 +152,10 @@ fn one_side_at_a_time_holds_the_device(rt: HostRuntime) {
     let clear = WorldEvent::Clear { side: second };
     assert!(rt; accepts(&mut world, &[clear, choose(second, 7), down(second)]));
     assert!(rt; matches!(world.hold(second).phase, HoldPhase::Reset { number: 2 }));
-    assert_eq!(rt; owned(&world), Some((1, 0)));
+    assert_eq!(rt; owned_by(&world), Some(0));
     assert!(rt; accepts(&mut world, &[up(second)]));
     assert!(rt; is_free(&world, second));
-    assert_eq!(rt; held(&world, first), Some((1, 0)));
+    assert_eq!(rt; held_by(&world, first), Some(0));
 }
 
 #[test]
@@ -164,13 +168,23 @@ fn a_path_that_goes_down_takes_its_signals(rt: HostRuntime) {
     assert!(rt; matches!(world.hold(side).phase, HoldPhase::Reset { number: 2 }));
     assert!(rt; accepts(&mut world, &[choose(side, 4)]));
     assert_eq!(rt; world.downs_len(side), 0);
-    assert!(rt; accepts(&mut world, &[WorldEvent::PathUp { side, path: 4 }, choose(side, 4)]));
+    assert!(rt;
+        accepts(
+            &mut world,
+            &[WorldEvent::PathUp { side, path: 4 }, choose(side, 4)]
+        )
+    );
     assert_eq!(rt; world.downs_len(side), 1);
     assert!(rt; accepts(&mut world, &[WorldEvent::PathReset { side, path: 4 }]));
     assert_eq!(rt; world.downs_len(side), 0);
     assert!(rt; matches!(world.hold(side).phase, HoldPhase::Reset { number: 3 }));
     assert!(rt; accepts(&mut world, &[WorldEvent::SubsystemReset]));
-    assert!(rt; matches!(world.hold(Side::First).phase, HoldPhase::Reset { number: 1 }));
+    assert!(rt;
+        matches!(
+            world.hold(Side::First).phase,
+            HoldPhase::Reset { number: 1 }
+        )
+    );
     assert!(rt; matches!(world.hold(side).phase, HoldPhase::Reset { number: 4 }));
 }
 
@@ -178,7 +192,12 @@ fn a_path_that_goes_down_takes_its_signals(rt: HostRuntime) {
 fn an_idle_unit_asks_for_attention(rt: HostRuntime) {
     let mut world = World::new(rt.alloc());
     let side = Side::First;
-    assert!(rt; accepts(&mut world, &[WorldEvent::Attention { side, path: 5 }, up(side)]));
+    assert!(rt;
+        accepts(
+            &mut world,
+            &[WorldEvent::Attention { side, path: 5 }, up(side)]
+        )
+    );
     assert_eq!(rt; world.downs_len(side), 1);
     assert!(rt; accepts(&mut world, &[down(side)]));
     assert_eq!(rt; world.downs_len(side), 0);
@@ -255,6 +274,6 @@ fn a_run_passes_over_what_is_refused(rt: HostRuntime) {
         up(side),
     ];
     assert!(rt; world.run(&events).is_ok());
-    assert_eq!(rt; held(&world, side), Some((1, 5)));
-    assert_eq!(rt; world.accepted(side), &[1]);
+    assert_eq!(rt; held_by(&world, side), Some(5));
+    assert_eq!(rt; world.accepted(side), [1].as_slice());
 }
