@@ -4,7 +4,7 @@
 
 pub mod event;
 mod line;
-pub mod parts;
+mod parts;
 #[cfg(test)]
 mod tests;
 pub mod world;

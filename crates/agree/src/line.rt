@@ -52,7 +52,7 @@ impl Line {
         }
     }
 
-    /// What the hold is in.
+    /// The state of the hold.
     pub fn hold(&self) -> HoldState
         ensures { result ≡ self.now.link.hold }
     {

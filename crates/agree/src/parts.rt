@@ -293,22 +293,13 @@ impl Parts {
             WorldEvent::PathUp { side, path } => self.path_up(*side, *path),
             WorldEvent::PathReset { side, path } => self.path_reset(*side, *path),
             WorldEvent::LetGo { side } => self.let_go(*side),
-            WorldEvent::Clear { side } => {
-                self.clear(*side);
-                Ok(())
-            }
-            WorldEvent::SubsystemReset => {
-                self.subsystem_reset();
-                Ok(())
-            }
+            WorldEvent::Clear { side } => Ok(self.clear(*side)),
+            WorldEvent::SubsystemReset => Ok(self.subsystem_reset()),
             WorldEvent::Leave => self.leave(),
             WorldEvent::Ask { path } => self.ask(*path),
             WorldEvent::Attention { side, path } => self.attention(*side, *path),
             WorldEvent::Notice { side, path } => self.notice(*side, *path),
-            WorldEvent::Restart => {
-                self.restart();
-                Ok(())
-            }
+            WorldEvent::Restart => Ok(self.restart()),
             WorldEvent::Report(report) => self.report(report),
         }
     }

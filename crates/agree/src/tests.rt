@@ -4,9 +4,10 @@ use crate::event::WorldEvent;
 use crate::world::World;
 use chan_model::fault::Fault;
 use chan_model::hold_state::HoldPhase;
-use chan_model::names::Side;
+use chan_model::names::{Path, Side};
 use chan_model::report::{DeviceAnswer, Report};
 use chan_model::unit_state::{Own, Place};
+use hold::Hold;
 
 fn choose(side: Side, path: u8) -> WorldEvent {
     WorldEvent::Choose {
@@ -43,12 +44,12 @@ fn accepts(world: &mut World, events: &[WorldEvent]) -> bool {
     all
 }
 
-/// The path that a hold takes its program to be connected by.
-fn held_by(world: &World, side: Side) -> Option<usize> {
-    let HoldPhase::On { path, .. } = world.hold(side).phase else {
-        return None;
-    };
-    Some(path.index())
+/// Whether a hold takes its program, number 1, to be connected on this path by this connection.
+fn is_held_by(world: &World, side: Side, path: u32, connection: u64) -> bool {
+    match Path::new(path) {
+        Some(path) => Hold::of(world.hold(side)).is_connected(path, 1, connection),
+        None => false,
+    }
 }
 
 /// The path that the program that holds the device is connected by.
@@ -71,7 +72,7 @@ fn a_program_is_accepted_and_let_go(rt: HostRuntime) {
     let mut world = World::new(rt.alloc());
     let side = Side::First;
     assert!(rt; accepts(&mut world, &[choose(side, 2), down(side), up(side)]));
-    assert_eq!(rt; held_by(&world, side), Some(2));
+    assert!(rt; is_held_by(&world, side, 2, 0));
     assert_eq!(rt; owned_by(&world), Some(2));
     assert!(rt;
         accepts(
@@ -117,7 +118,7 @@ fn a_program_comes_back_on_another_path(rt: HostRuntime) {
     assert!(rt; accepts(&mut world, &[WorldEvent::Leave, up(side)]));
     assert!(rt; matches!(world.hold(side).phase, HoldPhase::Away { number: 1 }));
     assert!(rt; accepts(&mut world, &[WorldEvent::Ask { path: 6 }, up(side)]));
-    assert_eq!(rt; held_by(&world, side), Some(6));
+    assert!(rt; is_held_by(&world, side, 6, 1));
     assert_eq!(rt; owned_by(&world), None);
     assert!(rt; accepts(&mut world, &[down(side)]));
     assert_eq!(rt; owned_by(&world), Some(6));
@@ -155,7 +156,7 @@ fn one_side_at_a_time_holds_the_device(rt: HostRuntime) {
     assert_eq!(rt; owned_by(&world), Some(0));
     assert!(rt; accepts(&mut world, &[up(second)]));
     assert!(rt; is_free(&world, second));
-    assert_eq!(rt; held_by(&world, first), Some(0));
+    assert!(rt; is_held_by(&world, first, 0, 0));
 }
 
 #[test]
@@ -274,6 +275,6 @@ fn a_run_passes_over_what_is_refused(rt: HostRuntime) {
         up(side),
     ];
     assert!(rt; world.run(&events).is_ok());
-    assert_eq!(rt; held_by(&world, side), Some(5));
+    assert!(rt; is_held_by(&world, side, 5, 0));
     assert_eq!(rt; world.accepted(side), [1].as_slice());
 }

@@ -47,7 +47,7 @@ impl World {
         }
     }
 
-    /// What the hold of a side is in.
+    /// The state of the hold of a side.
     pub fn hold(&self, side: Side) -> HoldState
         ensures { result ≡ (state_spec.line_of self.now side).link.hold }
     {
