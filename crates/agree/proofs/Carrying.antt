@@ -1,6 +1,6 @@
 -- The signals that may arrive after a step might have arrived before it, or are sent by it.
-use Rattle.std.proofs.Common.{◌≡◌, ℕ, ◌<◌, ◌⊎◌, inl, inr, Bool, true, false, not, Option, None, Some, List, [], ◌∷◌, ◌++◌, refl, take, drop, suc, arith}
-use Rattle.std.specs.Prelude.{All, Contains, filter, remove, slice_get, if◌then◌else◌, ◌==◌}
+use Rattle.std.proofs.Common.{◌≡◌, ℕ, ◌⊎◌, inl, inr, Bool, true, false, not, Option, None, Some, List, [], ◌∷◌, ◌++◌, refl, take, drop, suc}
+use Rattle.std.specs.Prelude.{All, Contains, remove, slice_get, if◌then◌else◌, ◌==◌}
 use Rattle.std.proofs.lemmas.List.Elements.{All-weaker, All-filter, All-contains_itself, All-append, All-take, All-drop, All-cons, All-nil}
 use Rattle.std.proofs.lemmas.Option.{slice_get_within, get_or_from_slice_get}
 use Rattle.chan_model.specs.declared.signal.OnPath.{OnPath}

@@ -1,5 +1,5 @@
 -- What holds after every list of events.
-use Rattle.std.proofs.Common.{◌≡◌, ℕ, ◌+◌, ◌<◌, ◌++◌, ◌∙◌, length, take, get_or, ◌⊎◌, inl, inr, Bool, true, false, List, [], ◌∷◌, refl, sym, ap, subst}
+use Rattle.std.proofs.Common.{◌≡◌, ℕ, ◌+◌, ◌<◌, ◌++◌, ◌∙◌, length, take, get_or, inl, Bool, true, false, List, [], ◌∷◌, refl, sym, ap, subst}
 use Rattle.std.specs.Prelude.{Result, Ok, Err, OnOk, nat_lt, if◌then◌else◌}
 use Rattle.std.proofs.lemmas.Grind.{take_at_read}
 use Rattle.chan_model.specs.declared.fault.Fault.{Fault}

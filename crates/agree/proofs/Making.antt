@@ -1,10 +1,9 @@
 -- Each event is a step, or two.
-use Rattle.std.proofs.Common.{◌≡◌, ℕ, ◌⊎◌, inl, inr, Bool, true, false, Option, None, Some, List, refl, sym, ap, subst, ◌∙◌}
+use Rattle.std.proofs.Common.{◌≡◌, ℕ, inl, inr, Bool, true, false, Option, None, Some, List, refl, sym, subst, ◌∙◌}
 use Rattle.std.specs.Prelude.{Result, Ok, Err, slice_get, nat_lt, length, remove, slice_set, if◌then◌else◌, Contains}
 use Rattle.chan_model.specs.declared.fault.Fault.{Fault}
 use Rattle.chan_model.specs.declared.hold_state.HoldPhase.{HoldPhase}
 use Rattle.chan_model.specs.declared.hold_state.HoldPhase.TheVariants as hold
-use Rattle.chan_model.specs.declared.hold_state.HoldState.{HoldState}
 use Rattle.chan_model.specs.declared.names.Side.{Side}
 use Rattle.chan_model.specs.declared.names.Side.TheVariants.{First, Second}
 use Rattle.chan_model.specs.declared.signal.OnPath.{OnPath}
@@ -12,18 +11,17 @@ use Rattle.chan_model.specs.declared.signal.Down.{Down}
 use Rattle.chan_model.specs.declared.signal.Up.{Up}
 use Rattle.chan_model.specs.declared.unit_state.Own.{Own}
 use Rattle.chan_model.specs.declared.unit_state.Own.TheVariants as own
-use Rattle.chan_model.specs.declared.unit_state.UnitState.{UnitState}
 use Rattle.chan_model.specs.Sides.{same_side}
 use Rattle.chan_model.specs.UnitTable.{UnitStep, unit_after, came_of, restarted}
-use Rattle.agreement_laws.specs.Links.{Link, Links, link_of, Carries, with_accepted}
-use Rattle.agreement_laws.specs.Moving.{HoldAct, Nothing, Offers, Sends_reset, Lets_go, Is_reset, Loses, Takes, HoldActed, still, hold_acts, UnitAct, Takes_down, Leaves, Asks, Attends, Restarts, Notices, Reports, unit_steps, is_to, is_owner_side, sent_by, sent_to, up_sent, LinkStep, Cause, Hold_acts, Unit_acts, IsHoldGiven, IsUnitGiven, act_at, sent_at, Step}
+use Rattle.agreement_laws.specs.Links.{Link, Links, link_of}
+use Rattle.agreement_laws.specs.Moving.{HoldAct, Nothing, Offers, Sends_reset, Lets_go, Is_reset, Loses, Takes, still, hold_acts, UnitAct, Takes_down, Leaves, Asks, Attends, Restarts, Notices, Reports, unit_steps, is_to, is_owner_side, sent_by, sent_to, LinkStep, Cause, Hold_acts, Unit_acts, IsHoldGiven, IsUnitGiven, Step}
 use Rattle.agreement_laws.specs.Invariant.{IsGood}
-use Rattle.agreement_laws.specs.Claims.{IsResetDue, IsResetTaken, IsCleared, EndsByReset, DoAgree}
+use Rattle.agreement_laws.specs.Claims.{IsResetTaken, IsCleared, EndsByReset}
 use Rattle.agree.specs.declared.event.WorldEvent.{WorldEvent}
 use Rattle.agree.specs.declared.event.WorldEvent.TheVariants as event
 use Rattle.agree.specs.State.{LineState, WorldState, links_of, line_of, with_line, is_up}
 use Rattle.chan_model.specs.declared.fault.Fault.TheVariants.{NotSent, NotNow}
-use Rattle.agree.specs.Lines.{LineTurn, UnitLine, both, acts, told, stepped, stepping, acts_for, with_downs, with_ups, with_path, left_after, without_path, chosen, let_go, heard, hears, met, meets, loses_down, loses_up, cut, goes_down, comes_up, is_cut}
+use Rattle.agree.specs.Lines.{LineTurn, UnitLine, acts, told, stepped, stepping, acts_for, with_downs, with_ups, with_path, left_after, without_path, chosen, let_go, heard, hears, met, meets, loses_down, loses_up, cut, goes_down, comes_up, is_cut}
 use Rattle.agree.specs.Turns.{Turn, at_side, at_unit, at_owner, both_of, on_path, path_named, all_reset, turn_of}
 use Rattle.agree.specs.Promises.{EndsByEvent, IsResetTakenBy, answer_to}
 use Rattle.agree.proofs.Clearing.{none-clears, ClearsNone, leaving-clears, asking-clears, attending-clears, noticing-clears, report-clears, to-clears, cleared-to}

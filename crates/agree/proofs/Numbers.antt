@@ -1,6 +1,6 @@
 -- No number rises above the count of steps.
-use Rattle.std.proofs.Common.{◌≡◌, ℕ, ◌+◌, ◌≤◌, Bool, true, false, Option, None, Some, List, refl, arith}
-use Rattle.std.specs.Prelude.{Result, Ok, Err, if◌then◌else◌, nat_lt, length, remove, slice_get, slice_set}
+use Rattle.std.proofs.Common.{◌≡◌, ℕ, ◌+◌, ◌≤◌, Bool, true, false, Option, None, Some, refl, arith}
+use Rattle.std.specs.Prelude.{Result, Ok, Err, if◌then◌else◌, nat_lt, length, remove, slice_get}
 use Rattle.chan_model.specs.declared.fault.Fault.{Fault}
 use Rattle.chan_model.specs.declared.fault.Fault.TheVariants.{NotSent, NotNow}
 use Rattle.chan_model.specs.declared.hold_state.HoldPhase.{HoldPhase}
@@ -16,7 +16,7 @@ use Rattle.chan_model.specs.declared.unit_state.UnitState.{UnitState}
 use Rattle.chan_model.specs.HoldTable.{HoldStep, hold_takes, sending_reset, letting_go}
 use Rattle.chan_model.specs.ResetCauses.{rests_on}
 use Rattle.chan_model.specs.UnitTable.{unit_after}
-use Rattle.agreement_laws.specs.Moving.{HoldAct, Nothing, Offers, Sends_reset, Lets_go, Is_reset, Loses, Takes, Sends, HoldActed, hold_acts, stepped, offered, reset_again, still, taken, UnitAct, Takes_down, Leaves, Asks, Attends, Restarts, Notices, Reports, unit_steps}
+use Rattle.agreement_laws.specs.Moving.{HoldAct, Nothing, Offers, Sends_reset, Lets_go, Is_reset, Loses, Takes, Sends, hold_acts, stepped, offered, reset_again, still, taken, UnitAct, Takes_down, Leaves, Asks, Attends, Restarts, Notices, Reports, unit_steps}
 use Rattle.agree.specs.declared.event.WorldEvent.{WorldEvent}
 use Rattle.agree.specs.declared.event.WorldEvent.TheVariants as event
 use Rattle.agree.specs.State.{LineState, WorldState, line_of, with_line, is_up}
@@ -24,7 +24,7 @@ use Rattle.agree.specs.Lines as line
 use Rattle.agree.specs.Lines.{LineTurn, UnitLine, acts_for, chosen, let_go, heard, hears, met, meets, loses_down, loses_up, cut, goes_down, comes_up, is_cut, with_downs, with_ups, with_path}
 use Rattle.agree.specs.Turns.{Turn, at_side, at_unit, at_owner, both_of, on_path, path_named, turn_of}
 use Rattle.agree.specs.Bounds.{IsUnitWithin, IsWithin}
-use Rattle.agree.proofs.Making.{OnDone, done-at_side, done-at_unit, done-at_owner, done-on_path, done-if, done-unless, done-stepping}
+use Rattle.agree.proofs.Making.{OnDone, done-at_unit, done-at_owner, done-on_path, done-if, done-unless, done-stepping}
 use Rattle.agree.proofs.Raising.{act-within}
 
 -- an act of a hold draws at most one number

@@ -1,26 +1,22 @@
 -- How far an act of a unit raises its numbers.
-use Rattle.std.proofs.Common.{◌≡◌, ℕ, ◌+◌, ◌≤◌, Bool, true, false, Option, None, Some, List, length, refl, sym, ap, arith}
-use Rattle.std.specs.Prelude.{if◌then◌else◌, nat_lt, nat_le, not, ◌==◌, ◌&&◌}
+use Rattle.std.proofs.Common.{◌≡◌, ℕ, ◌+◌, ◌≤◌, Bool, true, false, Option, None, Some, List, refl, ap, arith}
+use Rattle.std.specs.Prelude.{if◌then◌else◌, nat_lt, not, ◌==◌, ◌&&◌}
 use Rattle.chan_model.specs.declared.names.Side.{Side}
 use Rattle.chan_model.specs.declared.names.Side.TheVariants.{First, Second}
-use Rattle.chan_model.specs.declared.report.DeviceAnswer.{DeviceAnswer}
-use Rattle.chan_model.specs.declared.report.DeviceAnswer.TheVariants.{Asks, Absorbed, Ended}
+use Rattle.chan_model.specs.declared.report.DeviceAnswer.TheVariants.{Asks}
 use Rattle.chan_model.specs.declared.report.Report.{Report}
 use Rattle.chan_model.specs.declared.signal.Down.{Down}
 use Rattle.chan_model.specs.declared.signal.Down.TheVariants as down
 use Rattle.chan_model.specs.declared.signal.Load.{Load}
-use Rattle.chan_model.specs.declared.signal.OnPath.{OnPath}
 use Rattle.chan_model.specs.declared.unit_state.AtHand.{AtHand}
 use Rattle.chan_model.specs.declared.unit_state.Attention.{Attention}
 use Rattle.chan_model.specs.declared.unit_state.Own.{Own}
 use Rattle.chan_model.specs.declared.unit_state.Own.TheVariants.{Idle, Owned}
 use Rattle.chan_model.specs.declared.unit_state.Place.{Place}
 use Rattle.chan_model.specs.declared.unit_state.Place.TheVariants.{On, Ask, Away}
-use Rattle.chan_model.specs.declared.unit_state.Progress.{Progress}
-use Rattle.chan_model.specs.declared.unit_state.Progress.TheVariants as progress
 use Rattle.chan_model.specs.declared.unit_state.UnitState.{UnitState}
 use Rattle.chan_model.specs.Sides.{same_side}
-use Rattle.chan_model.specs.UnitTable.{UnitStep, unit_after, side_of, owns, is_owner, is_owner_on, is_idle, resets, without_side, reset_side, raised, selected, commanded, given, given_next, answered, answered_last, answered_load, granted, granted_at, refused, refused_at, halting, releasing, forgetting, unit_works, unit_takes, telling, leaving, leaving_from, asking, asking_from, attending, noticing, sends, changes, new_command, with_given, freed}
+use Rattle.chan_model.specs.UnitTable.{UnitStep, unit_after, side_of, owns, is_owner, is_owner_on, is_idle, resets, without_side, reset_side, raised, selected, given_next, answered_last, answered_load, granted, granted_at, refused, refused_at, forgetting, unit_works, unit_takes, telling, leaving, leaving_from, asking, asking_from, attending, changes, with_given, freed}
 use Rattle.chan_model.specs.UnitReports.{unit_reports}
 use Rattle.unit.specs.UnitWords.{connection_of, last_connection}
 use Rattle.agreement_laws.specs.Moving.{UnitAct, Takes_down, Leaves, Asks, Attends, Restarts, Notices, Reports, unit_steps}

@@ -1,5 +1,5 @@
 -- A report that sends nothing is refused.
-use Rattle.std.proofs.Common.{◌≡◌, ℕ, refl, sym, ap, ◌∙◌, Bool, true, false, Option, None, Some, List, [], ◌∷◌, ◌⊎◌, inl, inr, subst}
+use Rattle.std.proofs.Common.{◌≡◌, ℕ, refl, sym, ap, ◌∙◌, Bool, true, false, Option, None, Some, List, ◌⊎◌, inr}
 use Rattle.std.specs.Prelude.{if◌then◌else◌, nat_le, ◌==◌, ◌&&◌, Err, length}
 use Rattle.scsw_irb.specs.declared.status.DeviceStatus.{DeviceStatus}
 use Rattle.chan_model.specs.declared.fault.Fault.TheVariants.{NotNow, NoMemory}
@@ -21,7 +21,7 @@ use Rattle.chan_model.specs.UnitTable.{UnitStep, unit_after, came_of}
 use Rattle.chan_model.specs.UnitReports.{unit_reports, report_of, report_on, answer_taken, absorbed, data_sent, end_sent, may_end, is_outward}
 use Rattle.agreement_laws.specs.Moving.{Reports}
 use Rattle.agree.specs.State.{LineState}
-use Rattle.agree.specs.Lines.{UnitLine, both, acts_for, stepping}
+use Rattle.agree.specs.Lines.{both, acts_for, stepping}
 
 -- what holds of none, of Data and of End holds of what a unit does with a report
 module _ (P : Option UnitStep → Type 0) (u : UnitState) (none : P None)

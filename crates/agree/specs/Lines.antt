@@ -10,7 +10,7 @@ use Rattle.chan_model.specs.declared.signal.Up.{Up}
 use Rattle.chan_model.specs.declared.names.Side.{Side}
 use Rattle.chan_model.specs.declared.unit_state.UnitState.{UnitState}
 use Rattle.chan_model.specs.UnitTable.{UnitStep, unit_after, came_of}
-use Rattle.agreement_laws.specs.Links.{Link, with_accepted}
+use Rattle.agreement_laws.specs.Links.{with_accepted}
 use Rattle.agreement_laws.specs.Moving.{HoldAct, HoldActed, hold_acts, Offers, Sends_reset, Lets_go, Loses, Takes, UnitAct, Takes_down, unit_steps}
 use Rattle.agree.specs.State.{LineState, is_up}
 
