@@ -1,8 +1,7 @@
 -- A unit answers Cleared only where it takes a Reset, with its number.
-use Rattle.std.proofs.Common.{◌≡◌, ℕ, ◌+◌, ◌==◌, ◌&&◌, ◌||◌, not, Bool, true, false, nat_lt, nat_le, length, Option, None, Some, List, refl, sym, ◌∙◌, ap, subst}
+use Rattle.std.proofs.Common.{◌≡◌, ℕ, ◌+◌, ◌==◌, ◌&&◌, not, Bool, true, false, nat_lt, nat_le, length, Option, None, Some, List, refl, subst}
 use Rattle.std.specs.Prelude.{if◌then◌else◌}
 use Rattle.chan_model.specs.declared.names.Side.{Side}
-use Rattle.chan_model.specs.declared.names.Side.TheVariants.{First, Second}
 use Rattle.chan_model.specs.declared.hold_state.HoldPhase.{HoldPhase}
 use Rattle.chan_model.specs.declared.hold_state.HoldPhase.TheVariants as hold
 use Rattle.chan_model.specs.declared.report.Report.{Report}
@@ -24,10 +23,11 @@ use Rattle.chan_model.specs.declared.unit_state.Progress.{Progress}
 use Rattle.chan_model.specs.declared.unit_state.Progress.TheVariants as progress
 use Rattle.chan_model.specs.declared.unit_state.UnitState.{UnitState}
 use Rattle.chan_model.specs.Sides.{same_side}
-use Rattle.chan_model.specs.UnitTable.{UnitStep, side_of, is_owner, is_owner_on, is_idle, selected, raised, commanded, given_next, given, answered_load, answered_last, answered, granted_at, granted, refused_at, refused, halting, releasing, forgetting, telling, resets, reset_side, sends, unit_works, unit_takes, leaving, leaving_from, asking, asking_from, attending, noticing}
+use Rattle.chan_model.specs.UnitTable.{UnitStep, side_of, is_owner, is_owner_on, is_idle, selected, raised, given_next, answered_load, answered_last, granted_at, granted, refused_at, refused, forgetting, telling, resets, reset_side, sends, unit_works, unit_takes, leaving, asking, attending, noticing}
 use Rattle.chan_model.specs.UnitReports.{absorbed, answer_taken, report_on, report_of, is_outward, may_end}
-use Rattle.agreement_laws.specs.Moving.{UnitAct, Takes_down, Leaves, Asks, Attends, Restarts, Notices, Reports, unit_steps, is_owner_side, sent_by, sent_to, up_sent}
+use Rattle.agreement_laws.specs.Moving.{UnitAct, Takes_down, Leaves, Asks, Attends, Restarts, Notices, Reports, is_owner_side, sent_by, sent_to, up_sent}
 use Rattle.agreement_laws.specs.Claims.{IsReset, IsTakenBy}
+use Rattle.agreement_laws.proofs.UnitActs.{same-sides}
 
 -- what is sent is no Cleared
 abbrev IsOther : Up → Type 0
@@ -186,19 +186,13 @@ signal-taken u h side p (down.Halt t) may a = absurd (no-answer h _ (fresh-other
 signal-taken u h side p (down.Release t) may a = absurd (no-answer h _ (fresh-other u side p (down.Release t) may) a)
 signal-taken u h side p (down.Got x) may a = absurd (no-answer h _ (fresh-other u side p (down.Got x) may) a)
 
-same-side : (k side : Side) → same_side k side ≡ true → k ≡ side
-same-side First First e = refl
-same-side First Second e = cc
-same-side Second First e = cc
-same-side Second Second e = refl
-
 not-answered : (b : Bool) (h : HoldPhase) (step : Option UnitStep) → IsOtherStep step → IsAnswered h (sent_to b (sent_by step)) → ⊥
 not-answered b h step o a = no-answer h (sent_by step) o (answered-to b h (sent_by step) a).1
 
 pub answer-taken : (u : UnitState) (h : HoldPhase) (act : UnitAct) (side : Side) → IsAnswered h (up_sent u act side) → IsTakenBy u h act side
 answer-taken u h (Takes_down k x may) side a =
     let both : (same_side k side ≡ true) × IsAnswered h (sent_by (unit_takes u k x.path x.signal may)) = answered-to (same_side k side) h (sent_by (unit_takes u k x.path x.signal may)) a in
-    (both.0, subst (λ (j : Side). IsReset u h j x.signal) (same-side k side both.0) (signal-taken u h k x.path x.signal may both.1))
+    (both.0, subst (λ (j : Side). IsReset u h j x.signal) (same-sides k side both.0) (signal-taken u h k x.path x.signal may both.1))
 answer-taken u h Leaves side a = not-answered (is_owner_side u.own side) h (leaving u u.own) (leaving-other u u.own) a
 answer-taken u h (Asks p) side a = not-answered (is_owner_side u.own side) h (asking u u.own p) (asking-other u u.own p) a
 answer-taken u h (Attends k p) side a =
