@@ -4,5 +4,6 @@ mod UnitKeeps
 mod HoldActs
 mod UnitActs
 mod UnitSteps
+mod Clearing
 mod Meaning
 mod StepKeeps

@@ -15,7 +15,7 @@ use Rattle.chan_model.specs.declared.unit_state.Place.{Place}
 use Rattle.chan_model.specs.declared.unit_state.Place.TheVariants.{On, Ask}
 use Rattle.chan_model.specs.Sides.{same_side}
 use Rattle.chan_model.specs.Agreement.{Agrees, IsAboveFloor, owner_of}
-use Rattle.agreement_laws.specs.Claims.{IsCleared}
+use Rattle.agreement_laws.proofs.Clearing.{IsAnswered}
 use Rattle.agreement_laws.specs.Invariant.{Idle, Fresh, Owns, Ends, ends, seen_by, IsSelectGood, IsResetTo, AreEndsGood}
 use Rattle.agreement_laws.proofs.HoldKeeps.{HoldMoves}
 use Rattle.agreement_laws.proofs.HoldKeeps as holds
@@ -59,7 +59,7 @@ owns-fresh t place e = cc
 
 -- the unit takes a Reset: it is the hold's, or an older one
 cleared-due : (h : HoldPhase) (n s k b p r : ℕ) → IsResetTo h r →
-    IsDue (ends n h s k b r Idle) ⊎ (IsCleared h (units.by_path p (up.Cleared r)) × (Idle ≡ Idle))
+    IsDue (ends n h s k b r Idle) ⊎ (IsAnswered h (units.by_path p (up.Cleared r)) × (Idle ≡ Idle))
 cleared-due hold.Free n s k b p r to = absurd to
 cleared-due (hold.Offer u q) n s k b p r to = absurd to
 cleared-due (hold.On u q c) n s k b p r to = absurd to
@@ -70,7 +70,7 @@ cleared-due (hold.Reset v) n s k b p r to = elim (cases_lt r v) [
   | inr y ↦ let same : r ≡ v = omega arith in inr (ap (λ (w : ℕ). up.Cleared w) same, refl)
 ]
 
-pub due-unit : (e x : Ends) (sent : Option (OnPath Up)) → AreEndsGood e → UnitMoves e x sent → IsDue e → IsDue x ⊎ (IsCleared e.phase sent × (x.seen ≡ Idle))
+pub due-unit : (e x : Ends) (sent : Option (OnPath Up)) → AreEndsGood e → UnitMoves e x sent → IsDue e → IsDue x ⊎ (IsAnswered e.phase sent × (x.seen ≡ Idle))
 due-unit _ _ _ g (units.Stays e x sent same plain) d = inl (subst IsDue (sym same) d)
 due-unit _ _ _ g (units.Accepts n h s k b f p t lt tn y) d = elim d [ inl z ↦ absurd (idle-fresh z) | inr z ↦ inl (inr (raised-below h f p t lt y z)) ]
 due-unit _ _ _ g (units.Is_busy n h s k b f p t o i lt tn y) d = elim d [ inl z ↦ inl (inl z) | inr z ↦ inl (inr (raised-below h f p t lt y z)) ]
@@ -107,7 +107,7 @@ idle-owner false own.Idle side e = refl
 idle-owner false (own.Owned k t place) side e = no-owner k side t place (same_side k side) e
 
 -- where a Reset was taken, they agree
-pub cleared-agrees : (h : HoldPhase) (sent : Option (OnPath Up)) (owner : Option ℕ) → IsCleared h sent → owner ≡ None → Agrees h owner
+pub cleared-agrees : (h : HoldPhase) (sent : Option (OnPath Up)) (owner : Option ℕ) → IsAnswered h sent → owner ≡ None → Agrees h owner
 cleared-agrees hold.Free sent owner c e = absurd c
 cleared-agrees (hold.Offer u q) sent owner c e = absurd c
 cleared-agrees (hold.On u q d) sent owner c e = absurd c

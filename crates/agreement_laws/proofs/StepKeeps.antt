@@ -14,7 +14,7 @@ use Rattle.chan_model.specs.declared.signal.Up.TheVariants as up
 use Rattle.chan_model.specs.declared.unit_state.UnitState.{UnitState}
 use Rattle.chan_model.specs.UnitTable.{side_of, unit_after}
 use Rattle.chan_model.specs.Agreement.{Agrees, IsAboveFloor, IsOutstanding, owner_of}
-use Rattle.agreement_laws.specs.Claims.{DoAgree, IsResetDue, IsCleared, EndsByReset, IsPassed}
+use Rattle.agreement_laws.specs.Claims.{DoAgree, IsResetDue, EndsByReset, IsPassed}
 use Rattle.agreement_laws.specs.Links.{Link, Links, link_of, Carries, with_signal, with_accepted}
 use Rattle.agreement_laws.specs.Moving.{HoldAct, Nothing, Offers, Sends_reset, Lets_go, Is_reset, Loses, Takes, Sends, HoldActed, hold_acts, UnitAct, Takes_down, Leaves, Asks, Attends, Restarts, Notices, Reports, unit_steps, up_sent, LinkStep, Cause, Hold_acts, Unit_acts, IsHoldGiven, IsUnitGiven, unit_moved, sent_at, act_at, Step}
 use Rattle.agreement_laws.specs.Invariant.{Ends, ends_of, seen_by, AreEndsGood, IsDownGood, IsUpGood, AreRising, IsLinkGood, IsFreshFree, IsSideGood, IsGood}
@@ -25,6 +25,7 @@ use Rattle.agreement_laws.proofs.HoldActs as holds
 use Rattle.agreement_laws.proofs.UnitKeeps.{UnitMoves, IsUnitKept, unit-kept}
 use Rattle.agreement_laws.proofs.UnitSteps.{unit-moves, unit-free}
 use Rattle.agreement_laws.proofs.UnitSteps as units
+use Rattle.agreement_laws.proofs.Clearing.{IsAnswered, answer-taken}
 use Rattle.agreement_laws.proofs.Meaning.{IsDue, due-hold, due-unit, fresh-seen, seen-fresh, idle-owner, cleared-agrees}
 
 -- what may arrive now might have arrived before, or is sent now
@@ -243,7 +244,7 @@ due-hold-at w k side act g s d = elim d [
 
 due-unit-at : (w : Links) (act : UnitAct) (side : Side) → IsGood w → IsUnitGiven w act → IsResetDue w side →
     (((side_of (unit_after w.«unit» (unit_steps w.«unit» act)) side).fresh ≡ true) ⊎ IsAboveFloor (link_of w side).hold.phase (side_of (unit_after w.«unit» (unit_steps w.«unit» act)) side).floor)
-    ⊎ (IsCleared (link_of w side).hold.phase (up_sent w.«unit» act side) × (owner_of (unit_after w.«unit» (unit_steps w.«unit» act)).own side ≡ None))
+    ⊎ (IsAnswered (link_of w side).hold.phase (up_sent w.«unit» act side) × (owner_of (unit_after w.«unit» (unit_steps w.«unit» act)).own side ≡ None))
 due-unit-at w act side g s d =
     let v : UnitState = unit_after w.«unit» (unit_steps w.«unit» act) in
     elim (due-unit _ _ _ (side-good w side g).ends (unit-moved w act side g (side-good w side g) s) (due-ends w side d)) [
@@ -271,7 +272,7 @@ reset-ends old (Unit_acts act) new side g s d =
     let l : LinkStep (link_of old side) (acted_at old (Unit_acts act) side) (sent_at old.«unit» (Unit_acts act) side) (link_of new side) = link-of old (Unit_acts act) new side s in
     elim (due-unit-at old act side g s.given d) [
       | inl y ↦ inl (due-placed old new (Unit_acts act) side l.hold s.«unit» y)
-      | inr y ↦ inr (y.0, agree-placed old new act side l.hold s.«unit» (cleared-agrees (link_of old side).hold.phase _ _ y.0 y.1))
+      | inr y ↦ inr (answer-taken old.«unit» (link_of old side).hold.phase act side y.0, agree-placed old new act side l.hold s.«unit» (cleared-agrees (link_of old side).hold.phase _ _ y.0 y.1))
     ]
 
 -- a number that was passed stays so

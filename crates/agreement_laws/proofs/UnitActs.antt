@@ -178,7 +178,7 @@ pub forgetting-steps : (side : Side) (u : UnitState) (x : Option Attention) (a :
 forgetting-steps side u None a P = nothing side u P
 forgetting-steps side u (Some x) a P = unseen-if side u _ (same_side x.side side && (a == x.number)) P refl refl refl refl
 
-same-sides : (k side : Side) → same_side k side ≡ true → k ≡ side
+pub same-sides : (k side : Side) → same_side k side ≡ true → k ≡ side
 same-sides First First e = refl
 same-sides First Second e = cc
 same-sides Second First e = cc

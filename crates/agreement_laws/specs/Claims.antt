@@ -1,15 +1,16 @@
 -- What is claimed of each side of a unit and its subchannel, after every list of steps (own).
-use Rattle.std.specs.Prelude.{◌≡◌, ◌≢◌, ◌⊎◌, ◌<◌, ◌≤◌, ℕ, Option, Some, All, AllPairs}
+use Rattle.std.specs.Prelude.{◌≡◌, ◌≢◌, ◌⊎◌, ◌<◌, ◌≤◌, ℕ, true, Some, All, AllPairs}
 use Rattle.chan_model.specs.declared.names.Side.{Side}
 use Rattle.chan_model.specs.declared.hold_state.HoldPhase.{HoldPhase}
 use Rattle.chan_model.specs.declared.hold_state.HoldPhase.TheVariants as hold
-use Rattle.chan_model.specs.declared.signal.OnPath.{OnPath}
-use Rattle.chan_model.specs.declared.signal.Up.{Up}
-use Rattle.chan_model.specs.declared.signal.Up.TheVariants as up
-use Rattle.chan_model.specs.UnitTable.{side_of}
+use Rattle.chan_model.specs.declared.signal.Down.{Down}
+use Rattle.chan_model.specs.declared.signal.Down.TheVariants as down
+use Rattle.chan_model.specs.declared.unit_state.UnitState.{UnitState}
+use Rattle.chan_model.specs.Sides.{same_side}
+use Rattle.chan_model.specs.UnitTable.{side_of, resets}
 use Rattle.chan_model.specs.Agreement.{Agrees, IsOutstanding, owner_of, moving_path, device_path}
 use Rattle.agreement_laws.specs.Links.{Links, link_of}
-use Rattle.agreement_laws.specs.Moving.{Cause, sent_at}
+use Rattle.agreement_laws.specs.Moving.{Cause, Hold_acts, Unit_acts, UnitAct, Takes_down}
 
 -- subsystem and device agree on the program that holds the device
 abbrev pub DoAgree : Links → Side → Type 0
@@ -27,13 +28,18 @@ pub record IsSound (w : Links) (side : Side) : Type 0 where
   -- each number was accepted at most once
   pub once : AllPairs (λ earlier later. earlier < later) (link_of w side).accepted
 
--- the unit takes the Reset of the hold: it answers Cleared, with the hold's number
-abbrev pub IsCleared : HoldPhase → Option (OnPath Up) → Type 0
-IsCleared (hold.Reset r) (Some x) = x.signal ≡ up.Cleared r
-IsCleared phase sent = ⊥
+-- the signal is the Reset of the hold, and the unit takes it
+abbrev pub IsReset : UnitState → HoldPhase → Side → Down → Type 0
+IsReset u phase side (down.Reset r b) = (phase ≡ hold.Reset r) × (resets u side r b ≡ true)
+IsReset u phase side signal = ⊥
+
+abbrev pub IsTakenBy : UnitState → HoldPhase → UnitAct → Side → Type 0
+IsTakenBy u phase (Takes_down k x may) side = (same_side k side ≡ true) × IsReset u phase side x.signal
+IsTakenBy u phase act side = ⊥
 
 abbrev pub IsResetTaken : Links → Cause → Side → Type 0
-IsResetTaken w cause side = IsCleared (link_of w side).hold.phase (sent_at w.«unit» cause side)
+IsResetTaken w (Hold_acts k act) side = ⊥
+IsResetTaken w (Unit_acts act) side = IsTakenBy w.«unit» (link_of w side).hold.phase act side
 
 -- a reset that isn't yet taken stays so, but where the unit takes it, and they agree after that very step
 abbrev pub EndsByReset : Links → Cause → Links → Side → Type 0
