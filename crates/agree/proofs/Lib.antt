@@ -1,5 +1,4 @@
 pub mod Reports
-pub mod Clearing
 pub mod Carrying
 pub mod Making
 pub mod Raising

@@ -16,15 +16,14 @@ use Rattle.chan_model.specs.UnitTable.{UnitStep, unit_after, came_of, restarted}
 use Rattle.agreement_laws.specs.Links.{Link, Links, link_of}
 use Rattle.agreement_laws.specs.Moving.{HoldAct, Nothing, Offers, Sends_reset, Lets_go, Is_reset, Loses, Takes, still, hold_acts, UnitAct, Takes_down, Leaves, Asks, Attends, Restarts, Notices, Reports, unit_steps, is_to, is_owner_side, sent_by, sent_to, LinkStep, Cause, Hold_acts, Unit_acts, IsHoldGiven, IsUnitGiven, Step}
 use Rattle.agreement_laws.specs.Invariant.{IsGood}
-use Rattle.agreement_laws.specs.Claims.{IsResetTaken, IsCleared, EndsByReset}
+use Rattle.agreement_laws.specs.Claims.{IsResetTaken, EndsByReset}
 use Rattle.agree.specs.declared.event.WorldEvent.{WorldEvent}
 use Rattle.agree.specs.declared.event.WorldEvent.TheVariants as event
 use Rattle.agree.specs.State.{LineState, WorldState, links_of, line_of, with_line, is_up}
 use Rattle.chan_model.specs.declared.fault.Fault.TheVariants.{NotSent, NotNow}
 use Rattle.agree.specs.Lines.{LineTurn, UnitLine, acts, told, stepped, stepping, acts_for, with_downs, with_ups, with_path, left_after, without_path, chosen, let_go, heard, hears, met, meets, loses_down, loses_up, cut, goes_down, comes_up, is_cut}
 use Rattle.agree.specs.Turns.{Turn, at_side, at_unit, at_owner, both_of, on_path, path_named, all_reset, turn_of}
-use Rattle.agree.specs.Promises.{EndsByEvent, IsResetTakenBy, answer_to}
-use Rattle.agree.proofs.Clearing.{none-clears, ClearsNone, leaving-clears, asking-clears, attending-clears, noticing-clears, report-clears, to-clears, cleared-to}
+use Rattle.agree.specs.Promises.{EndsByEvent, IsResetTakenBy, IsResetMet}
 use Rattle.agree.proofs.Carrying.{AreAmong, among-same, among-without, among-removed, among-left, contains-got, carried, sent-carried}
 
 -- what an accepted event leaves has a property
@@ -127,13 +126,13 @@ hold-made w e First act downs ups paths g d u =
     record {
       cause = Hold_acts First act;
       step = record { given = g; «unit» = refl; first = acts-linked w.first downs ups paths act d u; second = still-linked w.second.link };
-      tells = λ s h. absurd (none-clears _ h);
+      tells = λ s h. absurd h;
     }
 hold-made w e Second act downs ups paths g d u =
     record {
       cause = Hold_acts Second act;
       step = record { given = g; «unit» = refl; first = still-linked w.first.link; second = acts-linked w.second downs ups paths act d u };
-      tells = λ s h. absurd (none-clears _ h);
+      tells = λ s h. absurd h;
     }
 
 -- the hold acts, and no signal is lost
@@ -172,12 +171,12 @@ unit-made w e Second act downs to g d tells =
 
 -- an act of the unit, where it is one
 acts-made : (w : WorldState) (e : WorldEvent) (side : Side) (act : UnitAct) → ((s : Side) → is_to w.«unit» act s ≡ same_side side s) →
-    IsUnitGiven (links_of w) act → ClearsNone (unit_steps w.«unit» act) → OnDone (Made w e) (at_unit w side (acts_for (both_of w side) act))
-acts-made w e side act to g clears =
+    IsUnitGiven (links_of w) act → ((s : Side) → IsResetTaken (links_of w) (Unit_acts act) s → IsResetTakenBy w e s) →
+    OnDone (Made w e) (at_unit w side (acts_for (both_of w side) act))
+acts-made w e side act to g tells =
     done-at_unit (Made w e) w side (acts_for (both_of w side) act)
     (done-stepping (λ b. Made w e (record (with_line w side b.line) { «unit» = b.«unit» })) (both_of w side) (unit_steps w.«unit» act)
-    (unit-made w e side act (line_of w side).link.downs to g (among-same (line_of w side).link.downs)
-    (λ s h. absurd (to-clears (is_to w.«unit» act s) (unit_steps w.«unit» act) clears _ h))))
+    (unit-made w e side act (line_of w side).link.downs to g (among-same (line_of w side).link.downs) tells))
 
 chosen-made : (w : WorldState) (e : WorldEvent) (side : Side) (phase : HoldPhase) (p : ℕ) (single : Bool) →
     OnDone (λ l. Made w e (with_line w side l)) (chosen (line_of w side) phase p single)
@@ -241,10 +240,7 @@ up-made w e side p =
 met-tells : (w : WorldState) (side : Side) (place : ℕ) (keep may : Bool) (x : OnPath Down) → slice_get (line_of w side).link.downs place ≡ Some x →
     (s : Side) → IsResetTaken (links_of w) (Unit_acts (Takes_down side x may)) s → IsResetTakenBy w (event.Down side place keep may) s
 met-tells w side place keep may x is s h =
-    let phase : HoldPhase = (link_of (links_of w) s).hold.phase in
-    let to : (same_side side s ≡ true) × IsCleared phase (sent_by (unit_steps w.«unit» (Takes_down side x may))) =
-    cleared-to (same_side side s) (unit_steps w.«unit» (Takes_down side x may)) phase h in
-    (to.0, subst (λ (o : Option (OnPath Down)). IsCleared phase (answer_to w.«unit» side o may)) (sym is) to.1)
+    (h.0, subst (λ (o : Option (OnPath Down)). IsResetMet w.«unit» (link_of (links_of w) s).hold.phase s o) (sym is) h.1)
 
 contains-link : (w : WorldState) (side : Side) (x : OnPath Down) → Contains (line_of w side).link.downs x → Contains (link_of (links_of w) side).downs x
 contains-link w First x h = h
@@ -264,7 +260,7 @@ restart-made w =
     record {
       cause = Unit_acts Restarts;
       step = record { given = tt; «unit» = refl; first = still-linked w.first.link; second = still-linked w.second.link };
-      tells = λ s h. absurd (none-clears _ h);
+      tells = λ s h. absurd h;
     }
 
 -- what the laws say of a step
@@ -313,11 +309,11 @@ path-made w e named turn h = done-on_path (Made w e) named turn h
 
 -- what the unit does for its program
 owner-made : (w : WorldState) (e : WorldEvent) (act : UnitAct) → ((s : Side) → is_to w.«unit» act s ≡ is_owner_side w.«unit».own s) →
-    IsUnitGiven (links_of w) act → ClearsNone (unit_steps w.«unit» act) →
+    IsUnitGiven (links_of w) act → ((s : Side) → IsResetTaken (links_of w) (Unit_acts act) s → IsResetTakenBy w e s) →
     OnDone (Made w e) (at_owner w w.«unit».own (λ side. at_unit w side (acts_for (both_of w side) act)))
-owner-made w e act to g clears =
+owner-made w e act to g tells =
     done-at_owner (Made w e) w w.«unit».own (λ side. at_unit w side (acts_for (both_of w side) act))
-    (λ side is. acts-made w e side act (λ s. to s ∙ is s) g clears)
+    (λ side is. acts-made w e side act (λ s. to s ∙ is s) g tells)
 
 -- what is kept after each event
 pub turn-kept : Keeps → Ends → (w : WorldState) (e : WorldEvent) → IsGood (links_of w) → OnDone (Kept w e) (turn_of w e)
@@ -362,23 +358,23 @@ turn-kept keeps ends w (event.Clear side) g =
     at-kept keeps ends w e g (turn_of w e) (act-made w e side Is_reset tt)
 turn-kept keeps ends w event.SubsystemReset g = all_reset-kept keeps ends w g
 turn-kept keeps ends w event.Leave g =
-    at-kept keeps ends w event.Leave g (turn_of w event.Leave) (owner-made w event.Leave Leaves (λ s. refl) tt (leaving-clears w.«unit» w.«unit».own))
+    at-kept keeps ends w event.Leave g (turn_of w event.Leave) (owner-made w event.Leave Leaves (λ s. refl) tt (λ s h. absurd h))
 turn-kept keeps ends w (event.Ask p) g =
     let e : WorldEvent = event.Ask p in
     at-kept keeps ends w e g (turn_of w e)
     (path-made w e (path_named p) (λ q. at_owner w w.«unit».own (λ side. at_unit w side (acts_for (both_of w side) (Asks q))))
-    (λ q. owner-made w e (Asks q) (λ s. refl) tt (asking-clears w.«unit» w.«unit».own q)))
+    (λ q. owner-made w e (Asks q) (λ s. refl) tt (λ s h. absurd h)))
 turn-kept keeps ends w (event.Attention side p) g =
     let e : WorldEvent = event.Attention side p in
     at-kept keeps ends w e g (turn_of w e)
     (path-made w e (path_named p) (λ q. at_unit w side (acts_for (both_of w side) (Attends side q)))
-    (λ q. acts-made w e side (Attends side q) (λ s. refl) tt (attending-clears w.«unit» side q)))
+    (λ q. acts-made w e side (Attends side q) (λ s. refl) tt (λ s h. absurd h)))
 turn-kept keeps ends w (event.Notice side p) g =
     let e : WorldEvent = event.Notice side p in
     at-kept keeps ends w e g (turn_of w e)
     (path-made w e (path_named p) (λ q. at_unit w side (acts_for (both_of w side) (Notices side q)))
-    (λ q. acts-made w e side (Notices side q) (λ s. refl) tt (noticing-clears w.«unit» side q)))
+    (λ q. acts-made w e side (Notices side q) (λ s. refl) tt (λ s h. absurd h)))
 turn-kept keeps ends w event.Restart g = at-kept keeps ends w event.Restart g (turn_of w event.Restart) (restart-made w)
 turn-kept keeps ends w (event.Report report) g =
     let e : WorldEvent = event.Report report in
-    at-kept keeps ends w e g (turn_of w e) (owner-made w e (Reports report) (λ s. refl) tt (report-clears w.«unit» report))
+    at-kept keeps ends w e g (turn_of w e) (owner-made w e (Reports report) (λ s. refl) tt (λ s h. absurd h))

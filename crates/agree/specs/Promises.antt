@@ -1,15 +1,13 @@
 -- What is promised of both sides after each event (own).
-use Rattle.std.specs.Prelude.{◌≡◌, ◌⊎◌, Bool, true, Option, None, Some, List, [], ◌∷◌, slice_get}
+use Rattle.std.specs.Prelude.{◌≡◌, ◌⊎◌, true, Option, None, Some, List, [], ◌∷◌, slice_get}
 use Rattle.chan_model.specs.declared.names.Side.{Side}
+use Rattle.chan_model.specs.declared.hold_state.HoldPhase.{HoldPhase}
 use Rattle.chan_model.specs.declared.signal.OnPath.{OnPath}
 use Rattle.chan_model.specs.declared.signal.Down.{Down}
-use Rattle.chan_model.specs.declared.signal.Up.{Up}
 use Rattle.chan_model.specs.declared.unit_state.UnitState.{UnitState}
 use Rattle.chan_model.specs.Sides.{same_side}
-use Rattle.chan_model.specs.UnitTable.{unit_takes}
 use Rattle.agreement_laws.specs.Links.{link_of}
-use Rattle.agreement_laws.specs.Moving.{sent_by}
-use Rattle.agreement_laws.specs.Claims.{IsSound, IsCleared, IsResetDue, DoAgree}
+use Rattle.agreement_laws.specs.Claims.{IsSound, IsReset, IsResetDue, DoAgree}
 use Rattle.agree.specs.declared.event.WorldEvent.{WorldEvent}
 use Rattle.agree.specs.declared.event.WorldEvent.TheVariants as event
 use Rattle.agree.specs.State.{WorldState, links_of, line_of}
@@ -19,15 +17,14 @@ use Rattle.agree.specs.Turns.{world_after}
 abbrev pub AreSound : WorldState → Type 0
 AreSound w = (side : Side) → IsSound (links_of w) side
 
--- what the unit answers to a signal that is delivered
-abbrev pub answer_to : UnitState → Side → Option (OnPath Down) → Bool → Option (OnPath Up)
-answer_to u side None may = None
-answer_to u side (Some x) may = sent_by (unit_takes u side x.path x.signal may)
+-- the event delivers the Reset of the hold, and the unit takes it
+abbrev pub IsResetMet : UnitState → HoldPhase → Side → Option (OnPath Down) → Type 0
+IsResetMet u phase side None = ⊥
+IsResetMet u phase side (Some x) = IsReset u phase side x.signal
 
--- the unit takes the Reset of the hold: it answers Cleared, with the hold's number
 abbrev pub IsResetTakenBy : WorldState → WorldEvent → Side → Type 0
 IsResetTakenBy w (event.Down k place keep may) side =
-    (same_side k side ≡ true) × IsCleared (link_of (links_of w) side).hold.phase (answer_to w.«unit» k (slice_get (line_of w k).link.downs place) may)
+    (same_side k side ≡ true) × IsResetMet w.«unit» (link_of (links_of w) side).hold.phase side (slice_get (line_of w k).link.downs place)
 IsResetTakenBy w e side = ⊥
 
 -- A reset that isn't yet taken stays so, but where the unit takes it; right after that both sides agree.
