@@ -1,0 +1,60 @@
+-- The channel reports that wait, and the resets of channel paths that are asked for (SA22-7832, chapter 17).
+use Rattle.std.specs.Prelude.{ℕ, ◌==◌, Bool, true, false, List, [], ◌∷◌, ◌++◌, length, replicate, slice_get, slice_index_or, slice_set, take, drop, Option, None, Some, if◌then◌else◌}
+use Rattle.scsw_irb.specs.declared.crw.Crw.{Crw}
+use Rattle.scsw_irb.specs.declared.crw.Report.{Report}
+use Rattle.scsw_irb.specs.declared.crw.Report.TheVariants.{Lost, Back, ResetDone}
+
+-- the reports that wait, the oldest first, and for each channel-path identifier whether its reset is asked for
+pub record Waiting : Type 0 where
+  pub reports : List Crw
+  pub asked : List Bool
+
+abbrev pub nothing_waits : Waiting
+nothing_waits = record { reports = []; asked = replicate 256 false }
+
+abbrev pub report_of : Report → ℕ → Crw
+report_of report path = record { report = report; overflow = false; path = path }
+
+-- R: a later report was lost
+abbrev pub with_overflow : Crw → Crw
+with_overflow crw = record crw { overflow = true }
+
+abbrev pub sixteenth_marked : List Crw → Option Crw → List Crw
+sixteenth_marked reports None = reports
+sixteenth_marked reports (Some last) = take 15 reports ++ with_overflow last ∷ []
+
+-- a report comes behind the others; where sixteen wait it is lost, and the last of them says so
+abbrev pub added : List Crw → Crw → List Crw
+added reports crw = if length reports == 16 then sixteenth_marked reports (slice_get reports 15) else reports ++ crw ∷ []
+
+abbrev pub with_report : Waiting → Report → ℕ → Waiting
+with_report w report path = record w { reports = added w.reports (report_of report path) }
+
+-- the oldest report, where one waits
+abbrev pub oldest : Waiting → Option Crw
+oldest w = slice_get w.reports 0
+
+abbrev pub without_oldest : Waiting → Waiting
+without_oldest w = record w { reports = drop 1 w.reports }
+
+-- the reset of a path
+abbrev pub is_asked : Waiting → ℕ → Bool
+is_asked w path = slice_index_or w.asked path false
+
+abbrev pub with_asked : Waiting → ℕ → Bool → Waiting
+with_asked w path asked = record w { asked = slice_set w.asked path asked }
+
+-- RESET CHANNEL PATH asks for the reset of a path that is up
+abbrev pub with_rchp : Waiting → ℕ → Bool → Waiting
+with_rchp w path up = if up then with_asked w path true else w
+
+-- a path that goes down is lost: that is reported, and its reset is no longer asked for
+abbrev pub path_lost : Waiting → ℕ → Waiting
+path_lost w path = with_report (with_asked w path false) Lost path
+
+abbrev pub path_back : Waiting → ℕ → Waiting
+path_back w path = with_report w Back path
+
+-- a reset that was asked for is done
+abbrev pub reset_done : Waiting → ℕ → Waiting
+reset_done w path = with_report (with_asked w path false) ResetDone path

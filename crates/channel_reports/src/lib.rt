@@ -1,0 +1,217 @@
+//! The channel reports that wait for a program, and the resets of channel paths that it asked for (SA22-7832,
+//! chapters 14 and 17).
+#![tactic(auto)]
+
+ghost use Rattle.std.specs.Prelude.{◌≡◌, slice_get, length};
+ghost use Rattle.std.specs.Bool.{OnTrue, OnFalse};
+ghost use Rattle.chan_model.specs.ConditionCodes as codes;
+ghost use Rattle.channel_reports.specs.Queue as spec;
+
+use arrayvec::ArrayVec;
+use chan_model::reply::ConditionCode;
+use scsw_irb::crw::{Crw, Report};
+use std::marker::Model;
+
+/// How many reports wait at most (own).
+pub const ROOM: usize = 16;
+
+/// A report in the queue.
+#[derive(Clone, Copy, Debug)]
+struct Queued {
+    crw: Crw,
+}
+
+impl Default for Queued {
+    fn default() -> Self {
+        Queued {
+            crw: Crw {
+                report: Report::Lost,
+                overflow: false,
+                path: 0,
+            },
+        }
+    }
+}
+
+/// The reports that wait, at most 16 (own), and the paths whose reset is asked for.
+#[derive(Drop)]
+pub struct Reports {
+    queue: ArrayVec<Queued, 16>,
+    asked: [bool; 256],
+}
+
+impl Model for Reports {
+    ghost use Rattle.std.specs.Prelude.{map};
+    ghost use Rattle.channel_reports.specs.Queue.{Waiting};
+
+    ghost Value = { Waiting };
+
+    ghost view = { λ r. record { reports = map (λ q. q.crw) r.queue.items; asked = r.asked } };
+}
+
+impl Reports {
+    /// No report waits, and no reset is asked for.
+    pub fn new() -> Self
+        ensures { result ≡ spec.nothing_waits }
+    {
+        Reports {
+            queue: ArrayVec::new(),
+            asked: [false; 256],
+        }
+    }
+
+    /// Adds a report of a channel path behind those that wait. Where 16 wait it is lost, and the last of them says so by
+    /// its bit R.
+    pub fn add(&mut self, report: Report, path: u8)
+        ensures { self.new ≡ spec.with_report self.old report path }
+    {
+        if self.queue.is_full() {
+            self.mark_last();
+        } else {
+            self.queue.push(Queued {
+                crw: Crw {
+                    report,
+                    overflow: false,
+                    path,
+                },
+            });
+        }
+    }
+
+    /// The sixteenth report says that a later one was lost.
+    fn mark_last(&mut self)
+        requires { length self.old.reports ≡ 16 }
+        ensures { self.new ≡ record self.old { reports = spec.sixteenth_marked self.old.reports (slice_get self.old.reports 15) } }
+    {
+        if let Some(last) = self.queue.pop() {
+            self.queue.push(Queued {
+                crw: Crw {
+                    report: last.crw.report,
+                    overflow: true,
+                    path: last.crw.path,
+                },
+            });
+        }
+    }
+
+    /// STORE CHANNEL REPORT WORD: takes the oldest report. None, condition code 1, where none waits.
+    pub fn stcrw(&mut self) -> Option<Crw>
+        ensures oldest { result ≡ spec.oldest self.old }
+        ensures rest { self.new ≡ spec.without_oldest self.old }
+    {
+        if self.queue.is_empty() {
+            None
+        } else {
+            Some(self.queue.remove(0).crw)
+        }
+    }
+
+    /// RESET CHANNEL PATH: with condition code 0 the reset is asked for. `up` says that the path is configured and not
+    /// down, without which the code is 3; it is 2 where its reset is asked for already.
+    pub fn rchp(&mut self, path: u8, up: bool) -> ConditionCode
+        ensures code { result ≡ codes.rchp_code up (spec.is_asked self.old path) }
+        ensures state { self.new ≡ spec.with_rchp self.old path up }
+    {
+        if !up {
+            return ConditionCode::Three;
+        }
+        if self.is_asked(path) {
+            return ConditionCode::Two;
+        }
+        self.keep(path, true);
+        ConditionCode::Zero
+    }
+
+    /// Whether the reset of a path is asked for and not done.
+    pub fn is_asked(&self, path: u8) -> bool
+        ensures { result ≡ spec.is_asked self.now path }
+    {
+        self.asked[usize::from(path)]
+    }
+
+    /// The reset of a path is done, which is reported. False where none is asked for, and then nothing changes.
+    pub fn reset_done(&mut self, path: u8) -> bool
+        ensures asked { result ≡ spec.is_asked self.old path }
+        ensures done { OnTrue result (self.new ≡ spec.reset_done self.old path) }
+        ensures refused { OnFalse result (self.new ≡ self.old) }
+    {
+        let asked = self.is_asked(path);
+        if asked {
+            self.keep(path, false);
+            self.add(Report::ResetDone, path);
+        }
+        asked
+    }
+
+    /// The path went down: that is reported, and its reset is no longer asked for.
+    pub fn path_lost(&mut self, path: u8)
+        ensures { self.new ≡ spec.path_lost self.old path }
+    {
+        self.keep(path, false);
+        self.add(Report::Lost, path);
+    }
+
+    /// The path came back, which is reported.
+    pub fn path_back(&mut self, path: u8)
+        ensures { self.new ≡ spec.path_back self.old path }
+    {
+        self.add(Report::Back, path);
+    }
+
+    fn keep(&mut self, path: u8, asked: bool)
+        ensures { self.new ≡ spec.with_asked self.old path asked }
+    {
+        let place = usize::from(path);
+        self.asked[place] = asked;
+    }
+}
+
+#[cfg(test)]
+mod tests {
+    use super::*;
+
+    #[test]
+    fn the_last_of_sixteen_says_that_one_was_lost(rt: HostRuntime) {
+        let mut reports = Reports::new();
+        for _ in 0..8 {
+            reports.path_lost(0x10);
+            reports.path_back(0x10);
+        }
+        reports.path_lost(0x10);
+        let mut words = [0u32; 17];
+        for word in &mut words {
+            *word = match reports.stcrw() {
+                Some(crw) => crw.word(),
+                None => 0,
+            };
+        }
+        assert!(rt; words[0] == 0x0406_0010 && words[1] == 0x0401_0010);
+        assert!(rt; words[13] == 0x0401_0010 && words[14] == 0x0406_0010);
+        assert!(rt; words[15] == 0x2401_0010);
+        assert!(rt; words[16] == 0);
+    }
+
+    #[test]
+    fn a_reset_is_asked_for_once_until_it_is_done(rt: HostRuntime) {
+        let mut reports = Reports::new();
+        assert!(rt; reports.rchp(0x10, true) == ConditionCode::Zero);
+        assert!(rt; reports.rchp(0x10, true) == ConditionCode::Two);
+        assert!(rt; reports.rchp(0x11, false) == ConditionCode::Three);
+        assert!(rt; reports.is_asked(0x10) && !reports.is_asked(0x11));
+        assert!(rt; reports.reset_done(0x10));
+        assert!(rt; reports.stcrw().map(Crw::word) == Some(0x4402_0010));
+        assert!(rt; !reports.reset_done(0x10) && reports.stcrw().is_none());
+        assert!(rt; reports.rchp(0x10, true) == ConditionCode::Zero);
+    }
+
+    #[test]
+    fn a_path_that_goes_down_is_not_asked_for(rt: HostRuntime) {
+        let mut reports = Reports::new();
+        assert!(rt; reports.rchp(0xFF, true) == ConditionCode::Zero);
+        reports.path_lost(0xFF);
+        assert!(rt; !reports.is_asked(0xFF));
+        assert!(rt; reports.stcrw().map(Crw::word) == Some(0x0406_00FF));
+        reports.add(Report::Back, 1);
+        assert!(rt; reports.stcrw().map(Crw::word) == Some(0x0401_0001));
+    }
+}
