@@ -1,5 +1,5 @@
 -- What the program does with a text, how it ends, and with which exit status.
-use Rattle.std.specs.Prelude.{◌≡◌, ℕ, ◌≤◌, Bool, true, false, List, length, take, codes, Option, IfSome}
+use Rattle.std.specs.Prelude.{◌≡◌, ℕ, ◌≤◌, true, false, List, length, take, codes, Option, IfSome}
 use Rattle.std.specs.Io.KnownBytes.{Appends, Keeps}
 use Rattle.script.specs.Pieces.{lines_of}
 use Rattle.script.specs.Scripts.{Contents, IsScript, IsBad}
