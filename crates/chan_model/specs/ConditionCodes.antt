@@ -1,6 +1,6 @@
 -- The condition codes of the I/O instructions (SA22-7832, chapter 14). The tests are made in the order 3, 1, 2; where none
 -- applies the code is 0.
-use Rattle.std.specs.Prelude.{ℕ, Bool, true, false, not, ◌&&◌, ◌||◌, if◌then◌else◌, Option, is_none, List}
+use Rattle.std.specs.Prelude.{Bool, false, not, ◌&&◌, ◌||◌, if◌then◌else◌, Option, is_none}
 use Rattle.scsw_irb.specs.declared.scsw.FunctionControl.{FunctionControl}
 use Rattle.scsw_irb.specs.declared.scsw.ActivityControl.{ActivityControl}
 use Rattle.scsw_irb.specs.declared.scsw.StatusControl.{StatusControl}

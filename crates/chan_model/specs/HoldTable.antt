@@ -1,6 +1,6 @@
 -- The subsystem's side of one subchannel (own): for each signal from the unit, and for each thing that it does of
 -- itself, the new state and the signal that is sent. None stands where a signal is ignored.
-use Rattle.std.specs.Prelude.{ℕ, Bool, true, false, ◌==◌, ◌&&◌, ◌||◌, nat_lt, if◌then◌else◌, Option, None, Some}
+use Rattle.std.specs.Prelude.{ℕ, Bool, true, false, ◌==◌, ◌&&◌, nat_lt, if◌then◌else◌, Option, None, Some}
 use Rattle.chan_model.specs.declared.hold_state.HoldPhase.{HoldPhase}
 use Rattle.chan_model.specs.declared.hold_state.HoldPhase.TheVariants.{Free, Offer, On, Away, Letting, Reset}
 use Rattle.chan_model.specs.declared.hold_state.HoldState.{HoldState}

@@ -1,5 +1,5 @@
 -- Sets of paths, and the masks that control blocks have for them: path 0 is the leftmost bit (SA22-7832, chapter 15).
-use Rattle.std.specs.Prelude.{ℕ, ◌+◌, ◌/◌, ◌^◌, ◌==◌, Bool, true, List, [], ◌∷◌, Option, None, Some}
+use Rattle.std.specs.Prelude.{ℕ, ◌+◌, ◌/◌, ◌^◌, ◌==◌, Bool, List, [], ◌∷◌, Option, None, Some}
 use Rattle.zbits.specs.Bits.{bit_of}
 
 -- the path is in the mask

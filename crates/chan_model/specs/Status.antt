@@ -1,6 +1,6 @@
 -- Status: what makes it pending, and what TEST SUBCHANNEL leaves of it (SA22-7832, chapter 16; the bits that each cause
 -- shows are this project's own choice).
-use Rattle.std.specs.Prelude.{◌≡◌, ◌<◌, ℕ, ◌+◌, Bool, true, false, not, ◌&&◌, ◌||◌, nat_lt, if◌then◌else◌, Option, None, Some, unwrap_or, bit_or}
+use Rattle.std.specs.Prelude.{◌+◌, Bool, true, false, not, ◌&&◌, ◌||◌, nat_lt, if◌then◌else◌, unwrap_or, bit_or}
 use Rattle.scsw_irb.specs.Empty.{no_functions, no_activity, no_status}
 use Rattle.scsw_irb.specs.declared.scsw.DeferredCode.TheVariants as deferred
 use Rattle.scsw_irb.specs.declared.scsw.FunctionControl.{FunctionControl}

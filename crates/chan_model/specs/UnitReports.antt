@@ -1,5 +1,5 @@
 -- What a unit asks of its device, and what it does with the device's answer (own).
-use Rattle.std.specs.Prelude.{ℕ, ◌%◌, Bool, true, false, not, ◌==◌, ◌&&◌, ◌||◌, nat_le, if◌then◌else◌, Option, None, Some, is_none, List, length}
+use Rattle.std.specs.Prelude.{ℕ, ◌%◌, Bool, false, not, ◌==◌, ◌&&◌, ◌||◌, nat_le, if◌then◌else◌, Option, None, Some, is_none, List, length}
 use Rattle.scsw_irb.specs.Status.{has}
 use Rattle.scsw_irb.specs.declared.status.DeviceStatus.{DeviceStatus}
 use Rattle.chan_model.specs.declared.names.Side.{Side}
@@ -13,7 +13,7 @@ use Rattle.chan_model.specs.declared.report.Report.{Report}
 use Rattle.chan_model.specs.declared.report.Work.{Work}
 use Rattle.chan_model.specs.declared.report.Work.TheVariants as work
 use Rattle.chan_model.specs.declared.unit_state.Place.{Place}
-use Rattle.chan_model.specs.declared.unit_state.Place.TheVariants.{On, Ask, Away}
+use Rattle.chan_model.specs.declared.unit_state.Place.TheVariants.{On}
 use Rattle.chan_model.specs.declared.unit_state.Own.{Own}
 use Rattle.chan_model.specs.declared.unit_state.Own.TheVariants.{Idle, Owned}
 use Rattle.chan_model.specs.declared.unit_state.Progress.{Progress}

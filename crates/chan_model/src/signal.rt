@@ -301,7 +301,7 @@ impl OnPath<Down> {
     {
         OnPath {
             path: self.path,
-            signal: self.signal.copy(),
+            signal: Down::copy(&self.signal),
         }
     }
 }
@@ -313,7 +313,7 @@ impl OnPath<Up> {
     {
         OnPath {
             path: self.path,
-            signal: self.signal.copy(),
+            signal: Up::copy(&self.signal),
         }
     }
 }

@@ -1,6 +1,6 @@
 -- What the program does where its words name a command.
-use Rattle.std.specs.Prelude.{◌≡◌, ℕ, List, Option, Some, None}
-use Rattle.std.specs.Io.KnownBytes.{Keeps}
+use Rattle.std.specs.Prelude.{◌≡◌, ◌⊎◌, ℕ, List, Option, Some, None}
+use Rattle.std.specs.Io.KnownBytes.{Appends, Keeps}
 use Rattle.command_words.specs.declared.Wanted.{Wanted}
 use Rattle.command_words.specs.declared.Wanted.TheVariants.{Run, Check}
 use Rattle.command_words.specs.Plain.{plain}
@@ -12,8 +12,15 @@ abbrev pub Does : Wanted → Option (List ℕ) → Option (List ℕ) → Option 
 Does Run input held now ending = Serves input held now ending
 Does Check input held now ending = Checks input held now ending
 
+-- words that name no command: a text is written and the status is 2; or there was no memory for the text, nothing is
+-- written and the status is 1
+abbrev pub Refuses : Option (List ℕ) → Option (List ℕ) → ℕ → Type 0
+Refuses held now status =
+    ((status ≡ 2) × ((text : List ℕ) × Appends held now text))
+    ⊎ ((status ≡ 1) × Keeps held now)
+
 abbrev pub Commands : Option Wanted → Option (List ℕ) → Option (List ℕ) → Option (List ℕ) → ℕ → Type 0
-Commands None input held now status = Unit {0}
+Commands None input held now status = Refuses held now status
 Commands (Some wanted) input held now status = (ending : Ending) × Does wanted input held now ending × (status ≡ status_of ending)
 
 -- two words, the program's own name and a command's

@@ -3,7 +3,7 @@
 
 ghost use Rattle.std.specs.Prelude.{◌≡◌, map, is_none, IsTrue};
 ghost use Rattle.command_words.specs.Plain.{plain};
-ghost use Rattle.chsim.specs.Program.{IsServed};
+ghost use Rattle.chsim.specs.Program.{IsServed, Refuses};
 
 #[cfg(test)]
 mod memory;
@@ -19,7 +19,8 @@ use std::{env, io};
 use streams::put_all;
 
 /// Serves the program's words, its own name being the first of them, and answers the exit status. Words that name no command
-/// write a text, which is help where they ask for it, and end with 2 before anything is read.
+/// write a text, which is help where they ask for it, and end with 2 before anything is read; with 1, and no text, where there
+/// is no memory for it.
 ///
 /// 0: all was done. 1: an event was refused, or memory or the writer failed. 2: a bad line, bad words, or the reader failed.
 pub fn serve<'a, R: Read, W: Write>(
@@ -39,7 +40,9 @@ pub fn serve<'a, R: Read, W: Write>(
 }
 
 /// Shows the text for words that name no command.
-fn show<W: Write>(refused: Refused, writer: &mut W) -> u8 {
+fn show<W: Write>(refused: Refused, writer: &mut W) -> u8
+    ensures { Refuses (W.contents writer.old) (W.contents writer.new) result }
+{
     match refused {
         Refused::NoMemory => 1,
         Refused::Text(text) => {

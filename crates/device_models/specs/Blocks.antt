@@ -1,5 +1,5 @@
 -- A store of blocks, and what each call of it answers and leaves (own).
-use Rattle.std.specs.Prelude.{◌≡◌, ◌<◌, ◌≤◌, ℕ, ◌+◌, ◌-◌, ◌==◌, if◌then◌else◌, List, ◌++◌, length, take, drop, min, replicate, [], Bool, slice_index_or, slice_set}
+use Rattle.std.specs.Prelude.{◌<◌, ◌≤◌, ℕ, ◌+◌, ◌-◌, ◌==◌, if◌then◌else◌, List, ◌++◌, length, take, drop, min, replicate, [], Bool, slice_index_or, slice_set}
 
 -- 32 blocks of 64 bytes, the number of the current one, the sense byte, and how many more bytes a write may bring
 pub record Blocks : Type 0 where

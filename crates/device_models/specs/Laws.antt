@@ -1,5 +1,5 @@
 -- What every device keeps to, and what its unit may so report (own).
-use Rattle.std.specs.Prelude.{◌≡◌, ◌≤◌, ◌⊎◌, ℕ, Bool, false, IsTrue, List, length}
+use Rattle.std.specs.Prelude.{◌≡◌, ◌≤◌, ◌⊎◌, false, IsTrue, length}
 use Rattle.scsw_irb.specs.declared.status.DeviceStatus.{DeviceStatus}
 use Rattle.chan_model.specs.UnitReports.{is_initial, has_device_end}
 use Rattle.chan_model.specs.declared.report.Call.{Call}

@@ -1,5 +1,5 @@
 -- Numbers that can still be raised: a channel subsystem makes fewer than 2 ^ 62 steps.
-use Rattle.std.specs.Prelude.{◌≤◌, ◌<◌, ◌^◌, ℕ, List, All, Option, None, Some}
+use Rattle.std.specs.Prelude.{◌≤◌, ◌^◌, ℕ, Option, None, Some}
 use Rattle.machine_model.specs.declared.state.Begun.{Begun}
 use Rattle.machine_model.specs.declared.state.Subchannel.{Subchannel}
 

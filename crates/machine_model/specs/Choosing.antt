@@ -4,7 +4,7 @@ use Rattle.std.specs.List.{list_any}
 use Rattle.chan_model.specs.declared.hold_state.HoldPhase.{HoldPhase}
 use Rattle.chan_model.specs.declared.hold_state.HoldPhase.TheVariants as hold
 use Rattle.chan_model.specs.HoldTable.{offering}
-use Rattle.chan_model.specs.ResetCauses.{engaged_path, is_path}
+use Rattle.chan_model.specs.ResetCauses.{engaged_path}
 use Rattle.machine_model.specs.declared.state.Chosen.{Chosen}
 use Rattle.machine_model.specs.declared.state.Chosen.TheVariants.{Idle, Over, Offers}
 use Rattle.machine_model.specs.declared.state.Program.{Program}

@@ -1,5 +1,5 @@
 -- What the instructions leave of a subchannel (SA22-7832, chapter 14; the effects are this project's own choice).
-use Rattle.std.specs.Prelude.{ℕ, ◌+◌, Bool, true, false, not, if◌then◌else◌, Option, None, Some}
+use Rattle.std.specs.Prelude.{ℕ, ◌+◌, Bool, true, false, not, Some}
 use Rattle.orb_block.specs.declared.Orb.{Orb}
 use Rattle.scsw_irb.specs.declared.scsw.DeferredCode.TheVariants as deferred
 use Rattle.scsw_irb.specs.declared.scsw.Scsw.{Scsw}
@@ -8,7 +8,6 @@ use Rattle.chan_model.specs.declared.status.Condition.{Condition}
 use Rattle.chan_model.specs.PathSets.{paths_of_mask}
 use Rattle.chan_model.specs.Status.{no_device_status, no_subchannel_status, serials_cleared, tested_scsw}
 use Rattle.machine_model.specs.declared.state.Pmcw.{Pmcw}
-use Rattle.machine_model.specs.declared.state.Program.{Program}
 use Rattle.machine_model.specs.declared.state.SubchannelState.{SubchannelState}
 use Rattle.machine_model.specs.State.{no_paths}
 

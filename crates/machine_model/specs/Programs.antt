@@ -1,6 +1,6 @@
 -- A channel program of one write command (SA22-7832, chapter 15). The command is of format 1 and class write, with no flag
 -- but SLI; any other is a program check when it is fetched (own, until whole channel programs are served).
-use Rattle.std.specs.Prelude.{ℕ, ◌+◌, ◌-◌, ◌≤◌, ◌%◌, ◌^◌, Bool, true, false, not, ◌==◌, ◌&&◌, ◌||◌, nat_lt, min, if◌then◌else◌, Option, None, Some, is_some, List, [], length, Result, Ok, Err}
+use Rattle.std.specs.Prelude.{ℕ, ◌+◌, ◌-◌, ◌≤◌, ◌%◌, ◌^◌, Bool, false, not, ◌==◌, ◌&&◌, ◌||◌, nat_lt, min, if◌then◌else◌, None, Some, is_some, List, [], length, Result, Ok, Err}
 use Rattle.zbits.specs.Bits.{field_of}
 use Rattle.zbits.specs.Words.{word_at}
 use Rattle.orb_block.specs.declared.Orb.{Orb}

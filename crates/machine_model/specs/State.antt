@@ -1,5 +1,5 @@
 -- What there is of a channel subsystem, as small values.
-use Rattle.std.specs.Prelude.{◌≡◌, ℕ, ◌+◌, ◌==◌, ◌&&◌, ◌||◌, not, Bool, true, false, List, [], ◌∷◌, map, length, replicate, slice_get, slice_set, unwrap_or, Option, None, Some, if◌then◌else◌}
+use Rattle.std.specs.Prelude.{ℕ, ◌+◌, ◌==◌, ◌&&◌, ◌||◌, not, Bool, true, false, List, [], ◌∷◌, map, length, replicate, slice_get, slice_set, unwrap_or, Option, None, Some, if◌then◌else◌}
 use Rattle.scsw_irb.specs.Empty.{zero_scsw}
 use Rattle.storage_keys.specs.Storage.{Contents, cleared}
 use Rattle.chan_model.specs.declared.unit_state.UnitState.{UnitState}
@@ -18,7 +18,7 @@ use Rattle.chan_model.specs.declared.report.Work.{Work}
 use Rattle.chan_model.specs.UnitReports.{unit_work}
 use Rattle.machine_model.specs.declared.state.UnitTurn.{UnitTurn}
 use Rattle.machine_model.specs.declared.state.UnitTurn.TheVariants.{Takes, Works, Rests}
-use Rattle.wires.specs.Queues.{Queues, no_queues, queue}
+use Rattle.wires.specs.Queues.{no_queues, queue}
 use Rattle.machine_model.specs.declared.state.Pmcw.{Pmcw}
 use Rattle.machine_model.specs.declared.state.SubchannelState.{SubchannelState}
 use Rattle.machine_model.specs.declared.state.Subchannel.{Subchannel}

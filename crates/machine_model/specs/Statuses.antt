@@ -1,7 +1,6 @@
 -- The statuses of a subchannel, by their causes (SA22-7832, chapter 16; the bits are this project's own choice).
-use Rattle.std.specs.Prelude.{ℕ, Bool, true, false, not, ◌==◌, ◌&&◌, ◌||◌, if◌then◌else◌, Option, None, Some, is_some, bit_or}
+use Rattle.std.specs.Prelude.{ℕ, Bool, true, false, not, ◌==◌, ◌&&◌, ◌||◌, Option, None, Some, is_some, bit_or}
 use Rattle.scsw_irb.specs.declared.scsw.DeferredCode.TheVariants as deferred
-use Rattle.scsw_irb.specs.declared.scsw.ActivityControl.{ActivityControl}
 use Rattle.scsw_irb.specs.declared.scsw.Scsw.{Scsw}
 use Rattle.scsw_irb.specs.declared.status.DeviceStatus.{DeviceStatus}
 use Rattle.scsw_irb.specs.declared.status.SubchannelStatus.{SubchannelStatus}
@@ -11,7 +10,6 @@ use Rattle.chan_model.specs.Status.{scsw_made, serials_made, conditions, shows_p
 use Rattle.chan_model.specs.UnitReports.{has_channel_end, has_device_end, has_unit_check}
 use Rattle.machine_model.specs.declared.state.Check.{Check}
 use Rattle.machine_model.specs.declared.state.Check.TheVariants.{Program, Protection}
-use Rattle.machine_model.specs.declared.state.Transfer.{Transfer}
 use Rattle.machine_model.specs.declared.state.Begun.{Begun}
 use Rattle.machine_model.specs.declared.state.SubchannelState.{SubchannelState}
 

@@ -1,5 +1,5 @@
 -- One more line performed and written.
-use Rattle.std.proofs.Common.{◌≡◌, ℕ, ◌+◌, Bool, IsTrue, true, false, ◌||◌, List, [], ◌∷◌, ◌++◌, length, take, drop, map, None, Some, refl, subst, sym, ap, ◌∙◌, append-nil, append_assoc, suc, arith, zero-add, ◌<◌, ◌≤◌, get_or}
+use Rattle.std.proofs.Common.{◌≡◌, ℕ, ◌+◌, Bool, IsTrue, true, false, ◌||◌, List, [], ◌∷◌, ◌++◌, length, take, map, refl, subst, sym, ap, ◌∙◌, append-nil, append_assoc, suc, arith, ◌<◌, ◌≤◌, get_or}
 use Rattle.std.specs.Prelude.{Option, is_err}
 use Rattle.std.specs.List.{list_any}
 use Rattle.std.proofs.Math.Seq.{take-append-add}

@@ -2,7 +2,7 @@
 #![tactic(auto)]
 
 ghost use Rattle.std.specs.Prelude.{◌≡◌, ◌⊎◌};
-ghost use Rattle.serving.specs.Serving.{Serves, Checks, IsRun, IsApproved, IsTold, status_of};
+ghost use Rattle.serving.specs.Serving.{Serves, Checks, IsRun, IsApproved, IsTold, TellsNoMemory, status_of};
 
 pub mod installation;
 pub mod performing;
@@ -130,7 +130,8 @@ fn tell_bad<W: Write>(alloc: Global, line: u64, rule: u8, writer: &mut W) -> End
 
 /// Writes that there is no memory.
 fn no_memory<W: Write>(writer: &mut W) -> Ending
-    ensures { result ≡ Ending.NoMemory }
+    ensures ending { result ≡ Ending.NoMemory }
+    ensures told { TellsNoMemory (W.contents writer.old) (W.contents writer.new) }
 {
     let _ = put_all(writer, b"refused 1\n");
     Ending::NoMemory

@@ -1,6 +1,6 @@
 -- The events of a run and their answers, as they grow at their end.
-use Rattle.std.proofs.Common.{◌≡◌, refl, sym, ◌∙◌, ap, subst, ℕ, ◌+◌, ◌<◌, ◌≤◌, Result, Ok, Err, List, [], ◌∷◌, ◌++◌, length, take, slice_index_or, arith, append_assoc, inl, inr}
-use Rattle.std.proofs.lemmas.List.{take_more, length-take-le, append-nil}
+use Rattle.std.proofs.Common.{◌≡◌, refl, sym, ◌∙◌, ap, subst, ℕ, ◌+◌, ◌<◌, Result, Ok, Err, List, [], ◌∷◌, ◌++◌, length, take, slice_index_or, append_assoc, inl, inr}
+use Rattle.std.proofs.lemmas.List.{take_more, append-nil}
 use Rattle.std.specs.Prelude.{IfOk, IfErr, OnErr, ◌⊎◌}
 use Rattle.chan_model.specs.declared.event.Event.{Event}
 use Rattle.chan_model.specs.declared.fault.Fault.{Fault}

@@ -1,5 +1,5 @@
 -- The first place of a list at which a test passes.
-use Rattle.std.proofs.Common.{◌≡◌, refl, sym, ◌∙◌, ap, subst, ℕ, ◌+◌, ◌<◌, zero, suc, Bool, true, false, Option, None, Some, List, [], ◌∷◌, length, take, slice_index_or, if◌then◌else◌, arith}
+use Rattle.std.proofs.Common.{◌≡◌, refl, sym, ◌∙◌, ap, ℕ, ◌+◌, ◌<◌, zero, suc, Bool, true, false, Option, None, Some, List, [], ◌∷◌, length, take, slice_index_or, if◌then◌else◌, arith}
 use Rattle.machine_model.specs.declared.state.Subchannel.{Subchannel}
 use Rattle.machine_model.specs.State.{first_place, one_later}
 

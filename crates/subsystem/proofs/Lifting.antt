@@ -1,5 +1,5 @@
 -- What an event does at one subchannel, as what it does to the whole.
-use Rattle.std.proofs.Common.{◌≡◌, refl, sym, ◌∙◌, ap, subst, ℕ, ◌+◌, ◌<◌, zero, suc, Option, None, Some, Result, Ok, Err, List, [], ◌∷◌, length, slice_index_or, arith, inr}
+use Rattle.std.proofs.Common.{◌≡◌, sym, ◌∙◌, ap, subst, ℕ, ◌<◌, zero, suc, Option, Some, Result, Ok, Err, List, [], ◌∷◌, length, slice_index_or, arith, inr}
 use Rattle.std.specs.Prelude.{slice_get, slice_set}
 use Rattle.std.proofs.lemmas.List.{set-get_or}
 use Rattle.zbits.specs.Layout.{image_of}
@@ -20,7 +20,7 @@ use Rattle.path_select.specs.Choice.{IsChoice}
 use Rattle.machine_model.specs.declared.state.Subchannel.{Subchannel}
 use Rattle.machine_model.specs.State.{State, place_of, place_in, sub_at, with_sub, with_unit}
 use Rattle.machine_model.specs.Choosing.{chosen, usable_paths}
-use Rattle.machine_model.specs.Steps.{Outcome, SubTurn, DownTurn, Steps, Performs, Gives, GivesSub, GivesBoth, Chooses, does, leaves, at_sub, at_unit, up_at, up_sub, down_at, down_unit, down_sub, choose_sub, report_at, report_to, report_sub, reached_in, Executes_on, Starts, start_at}
+use Rattle.machine_model.specs.Steps.{Outcome, SubTurn, DownTurn, Steps, Performs, Gives, GivesSub, GivesBoth, Chooses, does, at_sub, at_unit, up_at, up_sub, down_at, down_unit, down_sub, choose_sub, report_at, report_to, report_sub, reached_in, Executes_on, Starts, start_at}
 
 -- an element that stands at a place
 pub at_place : {A : Type 0} (xs : List A) (i : ℕ) (x d : A) → i < length xs → x ≡ slice_index_or xs i d → slice_get xs i ≡ Some x

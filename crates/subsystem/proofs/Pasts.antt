@@ -1,5 +1,5 @@
 -- A history that leads to a state, as it opens and grows.
-use Rattle.std.proofs.Common.{◌≡◌, refl, ℕ, ◌∙◌, ap, sym, subst, List, [], ◌∷◌, ◌++◌}
+use Rattle.std.proofs.Common.{◌≡◌, refl, ℕ, ◌∙◌, sym, subst, List, [], ◌∷◌, ◌++◌}
 use Rattle.channel_config.specs.Setup.{Setup, set_count}
 use Rattle.chan_model.specs.declared.event.Event.{Event}
 use Rattle.chan_model.specs.declared.reply.Entry.{Entry}

@@ -1,4 +1,4 @@
-use Rattle.std.proofs.Common.{rules, ◌<◌, ◌≤◌, ◌+◌, length, arith, IsTrue, true, ◌≡◌, false}
+use Rattle.std.proofs.Common.{rules, ◌≤◌, ◌+◌, length, arith}
 use Rattle.serving.proofs.Growing.{performed_to, begun_to, performs_all}
 use Rattle.serving.proofs.performing.perform.Goals as goal
 

@@ -1,5 +1,5 @@
 use Rattle.std.proofs.Common.{◌≡◌, None, take}
-use Rattle.machine_model.specs.State.{is_named, first_place}
+use Rattle.machine_model.specs.State.{first_place}
 use Rattle.machine_model.specs.Steps.{reaches}
 use Rattle.subsystem.proofs.places.reached_in.Given as goal
 

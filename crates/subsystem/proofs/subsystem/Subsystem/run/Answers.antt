@@ -1,4 +1,4 @@
-use Rattle.std.proofs.Common.{◌≤◌, ◌+◌, length, arith, length-append, ap, ◌∷◌, []}
+use Rattle.std.proofs.Common.{length, arith, length-append, ap, ◌∷◌, []}
 use Rattle.subsystem.proofs.Answering.{has-more}
 use Rattle.subsystem.proofs.subsystem.Subsystem.run.Goals as goal
 
