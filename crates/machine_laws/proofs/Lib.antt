@@ -9,3 +9,4 @@ mod HoldEvents
 mod UnitRestarts
 mod UnitEvents
 mod RunAgrees
+mod Prefixes

@@ -238,7 +238,7 @@ module _ (keeps : Keeps) where
         (subst (λ (r : Result DownTurn Fault). IfOk r (λ t. IsKept sub t.sub u t.«unit»)) h (report-kept keeps sub u report both.1)) l;
   }
 
-  pub run-linked : (setup : Setup) (h : List Entry) (s : State) → IsLawful setup → IsGood opening → Run (opening_of setup) h s → IsStateLinked s
+  run-linked : (setup : Setup) (h : List Entry) (s : State) → IsLawful setup → IsGood opening → Run (opening_of setup) h s → IsStateLinked s
   run-linked setup _ _ lawful good Opened = opens-linked setup lawful good
   run-linked setup _ _ lawful good (Stepped h old e r new run step) =
       step-walks old IsStateLinked (links-walk old (run-linked setup h old lawful good run)) e r new step
@@ -249,7 +249,11 @@ sound-agreed phase u w side e f k =
     subst (λ (v : UnitState). IsAgreed phase v side) f
     (subst (λ (x : HoldPhase). IsAgreed x w.«unit» side) e (record { agree = k.agree; one_path = k.one_path }))
 
-pub linked-agree : ((w : Links) (side : Side) → IsGood w → IsSound w side) → (s : State) → IsStateLinked s → AllAgree s
+linked-agree : ((w : Links) (side : Side) → IsGood w → IsSound w side) → (s : State) → IsStateLinked s → AllAgree s
 linked-agree means s l = λ place sub u e f.
     let k : IsLinked s.subs sub.setup.«unit» u = l.linked sub.setup.«unit» u f in
     sound-agreed sub.state.hold.phase u k.links sub.setup.side (ap (λ (h : HoldState). h.phase) (k.stand place sub e refl).hold) k.«unit» (means k.links sub.setup.side k.good)
+
+pub run-agrees : IsGood opening → Keeps → ((w : Links) (side : Side) → IsGood w → IsSound w side) → (setup : Setup) (h : List Entry) (s : State) → IsLawful setup →
+    Run (opening_of setup) h s → AllAgree s
+run-agrees good keeps means setup h s lawful run = linked-agree means s (run-linked keeps setup h s lawful good run)

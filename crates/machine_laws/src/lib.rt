@@ -1,7 +1,7 @@
 //! What holds after every run of a channel subsystem: theorems over its definitions alone.
 #![tactic(auto)]
 
-ghost use Rattle.std.specs.Prelude.{◌≡◌, List, All, length};
+ghost use Rattle.std.specs.Prelude.{◌≡◌, List, ◌++◌, All, length};
 ghost use Rattle.std.specs.List.{AllZip};
 ghost use Rattle.chan_model.specs.declared.event.Event.{Event};
 ghost use Rattle.chan_model.specs.declared.reply.Entry.{Entry};
@@ -11,7 +11,7 @@ ghost use Rattle.channel_config.specs.Setup.{Setup, set_count};
 ghost use Rattle.machine_model.specs.State.{State, opening_of};
 ghost use Rattle.machine_model.specs.Steps.{Step, Run};
 ghost use Rattle.machine_model.specs.Bounds.{IsWithin};
-ghost use Rattle.machine_laws.specs.Agreeing.{AllAgree};
+ghost use Rattle.machine_laws.specs.Agreeing.{AllAgree, LeadsToAgreed};
 ghost use Rattle.machine_laws.specs.Claims.{IsPendingUncleared, IsLater, IsClearedOnce};
 
 use agreement_laws::agreement;
@@ -38,9 +38,11 @@ pub fn serials()
 {}
 
 /// After each run from the opening of a lawful set-up, each subchannel and its unit agree on the program that holds the
-/// device, or a reset is due; and where both move data, it is by one path.
+/// device, or a reset is due; and where both move data, it is by one path. The same holds of each state that a run passed.
 pub fn agreements()
     ensures agree { (setup : Setup) (h : List Entry) (s : State) → IsLawful setup → Run (opening_of setup) h s → AllAgree s }
+    ensures each { (setup : Setup) (h : List Entry) (later : List Entry) (s : State) → IsLawful setup → Run (opening_of setup) (h ++ later) s →
+        LeadsToAgreed (opening_of setup) h }
 {
     agreement();
 }
