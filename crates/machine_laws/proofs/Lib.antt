@@ -1,4 +1,12 @@
 mod Sound
 mod Walk
+mod Moves
 mod RunSound
 mod RunSerials
+mod Growth
+mod Places
+mod HoldEvents
+mod UnitRestarts
+mod UnitEvents
+mod RunAgrees
+mod Prefixes

@@ -16,7 +16,7 @@ use Rattle.machine_model.specs.State.{State, opening_of, opened}
 use Rattle.machine_model.specs.Steps.{Step, Run, Opened, Stepped}
 use Rattle.machine_laws.specs.Claims.{IsLater}
 use Rattle.machine_laws.proofs.Sound.{Sound, later, started-sound, tested-sound, enabled-sound, offered-sound, over-sound, up-sound}
-use Rattle.machine_laws.proofs.Walk.{IsKept, Changed, step-moves}
+use Rattle.machine_laws.proofs.Moves.{IsKept, Changed, step-moves}
 
 -- one more event, above any floor
 abbrev pub Turns : ℕ → SubchannelState → SubchannelState → Type 0

@@ -1,16 +1,20 @@
 //! What holds after every run of a channel subsystem: theorems over its definitions alone.
 #![tactic(auto)]
 
-ghost use Rattle.std.specs.Prelude.{◌≡◌, List, All, length};
+ghost use Rattle.std.specs.Prelude.{◌≡◌, List, ◌++◌, All, length};
 ghost use Rattle.std.specs.List.{AllZip};
 ghost use Rattle.chan_model.specs.declared.event.Event.{Event};
 ghost use Rattle.chan_model.specs.declared.reply.Entry.{Entry};
 ghost use Rattle.chan_model.specs.declared.reply.Reply.{Reply};
+ghost use Rattle.channel_config.specs.Lawful.{IsLawful};
 ghost use Rattle.channel_config.specs.Setup.{Setup, set_count};
 ghost use Rattle.machine_model.specs.State.{State, opening_of};
 ghost use Rattle.machine_model.specs.Steps.{Step, Run};
 ghost use Rattle.machine_model.specs.Bounds.{IsWithin};
+ghost use Rattle.machine_laws.specs.Agreeing.{AllAgree, LeadsToAgreed};
 ghost use Rattle.machine_laws.specs.Claims.{IsPendingUncleared, IsLater, IsClearedOnce};
+
+use agreement_laws::agreement;
 
 /// After each run the numbers of each subchannel are at most as many as there were events, and its status is pending
 /// exactly where some status that was made is not cleared.
@@ -32,3 +36,13 @@ pub fn steps()
 pub fn serials()
     ensures rises { (setup : Setup) (h : List Entry) (s : State) → Run (opening_of setup) h s → IsClearedOnce (set_count setup) h }
 {}
+
+/// After each run from the opening of a lawful set-up, each subchannel and its unit agree on the program that holds the
+/// device, or a reset is due; and where both move data, it is by one path. The same holds of each state that a run passed.
+pub fn agreements()
+    ensures agree { (setup : Setup) (h : List Entry) (s : State) → IsLawful setup → Run (opening_of setup) h s → AllAgree s }
+    ensures each { (setup : Setup) (h : List Entry) (later : List Entry) (s : State) → IsLawful setup → Run (opening_of setup) (h ++ later) s →
+        LeadsToAgreed (opening_of setup) h }
+{
+    agreement();
+}

@@ -1,0 +1,207 @@
+-- What a subchannel does, of itself or with a signal that came up, is acts of its hold.
+use Rattle.std.proofs.Common.{◌≡◌, refl, ◌∙◌, ap, ℕ, ◌+◌, Bool, true, false, ◌==◌, nat_lt, length, Option, None, Some, Result, Ok, Err, List, arith}
+use Rattle.std.specs.Prelude.{if◌then◌else◌, slice_get, IfOk, Contains}
+use Rattle.std.proofs.lemmas.Bool.{ltb-true}
+use Rattle.storage_keys.specs.Storage.{Contents}
+use Rattle.chan_model.specs.declared.hold_state.HoldPhase.{HoldPhase}
+use Rattle.chan_model.specs.declared.hold_state.HoldPhase.TheVariants as hold
+use Rattle.chan_model.specs.declared.hold_state.HoldState.{HoldState}
+use Rattle.chan_model.specs.declared.fault.Fault.{Fault}
+use Rattle.chan_model.specs.declared.signal.Down.TheVariants as down
+use Rattle.chan_model.specs.declared.signal.Load.{Load}
+use Rattle.chan_model.specs.declared.signal.OnPath.{OnPath}
+use Rattle.chan_model.specs.declared.signal.Up.{Up}
+use Rattle.chan_model.specs.declared.signal.Up.TheVariants as up
+use Rattle.chan_model.specs.HoldTable.{HoldStep, begun, hold_after, hold_takes, is_connected, is_on, letting_go, came_of}
+use Rattle.chan_model.specs.UnitReports.{is_last_end}
+use Rattle.wires.specs.Queues.{queue}
+use Rattle.scsw_irb.specs.declared.status.DeviceStatus.{DeviceStatus}
+use Rattle.agreement_laws.specs.Links.{Link}
+use Rattle.agreement_laws.specs.Moving.{Offers, Lets_go, Takes, Sends, HoldActed, still, stepped, offered, hold_acts}
+use Rattle.machine_model.specs.declared.state.Begun.{Begun}
+use Rattle.machine_model.specs.declared.state.Check.{Check}
+use Rattle.machine_model.specs.declared.state.Chosen.{Chosen}
+use Rattle.machine_model.specs.declared.state.Chosen.TheVariants as chosen
+use Rattle.machine_model.specs.declared.state.Program.{Program}
+use Rattle.machine_model.specs.declared.state.Subchannel.{Subchannel}
+use Rattle.machine_model.specs.declared.state.SubchannelState.{SubchannelState}
+use Rattle.machine_model.specs.declared.state.Transfer.{Transfer}
+use Rattle.machine_model.specs.declared.state.UpStep.{UpStep}
+use Rattle.machine_model.specs.Choosing.{IsFreeToOffer, idle_or_over, chosen_for, without_path}
+use Rattle.machine_model.specs.Programs.{first_command, is_current}
+use Rattle.machine_model.specs.Steps.{SubTurn, choose_sub, is_full, finds_full, up_front, up_sub}
+use Rattle.machine_model.specs.Taking.{ignoring, by_hold, waits_as, with_path, beginning, begin_waiting, accept, move_data, end_of, takes_up}
+use Rattle.machine_laws.proofs.Growth.{covers-taken, covers-first, IsLink, Keeps, IsAt, Reaches, stays, acts, chain, IsReached, reached}
+
+-- no unit restarted: no Notice tells of a restart
+abbrev pub IsTame : List (OnPath Up) → Type 0
+IsTame ups = (p b : ℕ) → Contains ups (record { path = p; signal = up.Notice b }) → b ≡ 0
+
+-- what a subchannel does is acts of its hold, and left it so set up
+pub record IsOfHold (sub new : Subchannel) : Type 0 where
+  pub setup : new.setup ≡ sub.setup
+  pub reaches : (l : Link) → IsTame l.ups → IsLink sub l → IsReached l new
+
+abbrev acted_of : UpStep → HoldActed
+acted_of step = record { drawn = step.state.drawn; hold = step.state.hold; sent = step.came.sent }
+
+abbrev IsOf : Link → SubchannelState → Type 0
+IsOf l s = IsAt l s.drawn s.hold
+
+abbrev Leaves : Link → UpStep → Type 0
+Leaves l step = Reaches l (acted_of step)
+
+if-leaves : (l : Link) (b : Bool) (x y : UpStep) → Leaves l x → Leaves l y → Leaves l (if b then x else y)
+if-leaves l true x y e f = e
+if-leaves l false x y e f = f
+
+ignored : (l : Link) (s : SubchannelState) → IsOf l s → Leaves l (ignoring s)
+ignored l s at = stays l s.drawn s.hold at
+
+stepped-is : (n : ℕ) (h : HoldState) (step : Option HoldStep) → stepped n h step ≡ record { drawn = n; hold = hold_after h step; sent = (came_of step).sent }
+stepped-is n h None = refl
+stepped-is n h (Some step) = refl
+
+abbrev IsSubTurn : Subchannel → Result SubTurn Fault → Type 0
+IsSubTurn sub r = IfOk r (λ t. IsOfHold sub t.sub)
+
+if-turns : (sub : Subchannel) (b : Bool) (x y : Result SubTurn Fault) → IsSubTurn sub x → IsSubTurn sub y → IsSubTurn sub (if b then x else y)
+if-turns sub true x y e f = e
+if-turns sub false x y e f = f
+
+-- nothing but the state was changed, and the hold was not
+pub kept-turns : (sub : Subchannel) (s : SubchannelState) → sub.state.drawn ≡ s.drawn → sub.state.hold ≡ s.hold → IsOfHold sub (record sub { state = s })
+kept-turns sub s n h =
+    record {
+      setup = refl;
+      reaches = λ l tame k. reached sub l s None sub.wires.up k (stays l s.drawn s.hold (record { drawn = k.drawn ∙ n; hold = k.hold ∙ h })) (λ m c. c);
+    }
+
+-- Choose: an offer is of a hold that is free
+idle_or_over-free : (any : Bool) (phase : HoldPhase) → IsFreeToOffer (idle_or_over any) phase
+idle_or_over-free true phase = tt
+idle_or_over-free false phase = tt
+
+pub chosen-free : (phase : HoldPhase) (waiting : Option Program) (any : Bool) (choice : Option ℕ) → IsFreeToOffer (chosen_for phase waiting any choice) phase
+chosen-free phase None any choice = tt
+chosen-free hold.Free (Some program) any (Some path) = refl
+chosen-free hold.Free (Some program) any None = idle_or_over-free any hold.Free
+chosen-free (hold.Offer t q) (Some program) any choice = tt
+chosen-free (hold.On t q c) (Some program) any choice = tt
+chosen-free (hold.Away t) (Some program) any choice = tt
+chosen-free (hold.Letting t q) (Some program) any choice = tt
+chosen-free (hold.Reset r) (Some program) any choice = idle_or_over-free any (hold.Reset r)
+
+-- Notice: a count that is not above the known one
+notice-leaves : (l : Link) (s : SubchannelState) (p b : ℕ) (more : Bool) → IsOf l s → nat_lt s.hold.known b ≡ more → b ≡ 0 →
+    Leaves l (by_hold s (if more then Some (record { state = record s.hold { known = b }; sent = None }) else None))
+notice-leaves l s p b true at e z = absurd (omega (arith, ltb-true s.hold.known b e, z))
+notice-leaves l s p b false at e z = ignored l s at
+
+module _ (keeps : Keeps) where
+  let_go-leaves : (l : Link) (n : ℕ) (h : HoldState) → IsAt l n h →
+      Reaches l (record { drawn = n; hold = hold_after h (letting_go h h.phase); sent = (came_of (letting_go h h.phase)).sent })
+  let_go-leaves l n h at = acts keeps l n h Lets_go _ tt at (stepped-is n h (letting_go h h.phase))
+
+  by_hold-leaves : (l : Link) (s : SubchannelState) (p : ℕ) (x : Up) → Contains l.ups (record { path = p; signal = x }) → IsOf l s →
+      hold_acts s.drawn s.hold (Takes (record { path = p; signal = x }) false) ≡ stepped s.drawn s.hold (hold_takes s.hold p x false) →
+      Leaves l (by_hold s (hold_takes s.hold p x false))
+  by_hold-leaves l s p x c at e =
+      acts keeps l s.drawn s.hold (Takes (record { path = p; signal = x }) false) _ c at (e ∙ stepped-is s.drawn s.hold (hold_takes s.hold p x false))
+
+  -- Accept: the waiting program begins, or lets the device go
+  beginning-leaves : (l : Link) (s : SubchannelState) (p t : ℕ) (program : Program) (r : Result Transfer Check) → IsOf l s → Leaves l (beginning s p t program r)
+  beginning-leaves l s p t program (Ok transfer) at =
+      acts keeps l s.drawn s.hold (Sends (record { path = p; signal = down.Command t 1 transfer.code 0 })) _ tt at refl
+  beginning-leaves l s p t program (Err check) at = let_go-leaves l s.drawn s.hold at
+
+  begin-leaves : (storage : Contents) (l : Link) (s : SubchannelState) (p t : ℕ) (waiting : Option Program) → IsOf l s → Leaves l (begin_waiting storage s p t waiting)
+  begin-leaves storage l s p t None at = ignored l s at
+  begin-leaves storage l s p t (Some program) at = beginning-leaves l s p t program (first_command storage program.orb) at
+
+  -- the hold offers the number u, or another
+  begun-leaves : (storage : Contents) (l : Link) (s : SubchannelState) (h : HoldState) (p t q u : ℕ) (may same : Bool) →
+      Contains l.ups (record { path = p; signal = up.Accept u }) → IsAt l s.drawn (record h { phase = hold.Offer t q }) → (u == t) ≡ same →
+      Leaves l (accept storage (record s { hold = record h { phase = hold.Offer t q } }) (if same then Some (begun (record h { phase = hold.Offer t q }) t q may) else None))
+  begun-leaves storage l s h p t q u true true c at e =
+      chain l (still s.drawn (record h { phase = hold.On t q 0; seen = 0; first_path = Some q })) _
+      (acts keeps l s.drawn (record h { phase = hold.Offer t q }) (Takes (record { path = p; signal = up.Accept u }) true) _ c at
+      (ap (λ (b : Bool). stepped s.drawn (record h { phase = hold.Offer t q }) (if b then Some (begun (record h { phase = hold.Offer t q }) t q true) else None)) e))
+      (λ m on. begin-leaves storage m (record s { hold = record h { phase = hold.On t q 0; seen = 0; first_path = Some q }; pmcw = with_path s.pmcw q }) q t s.waiting on)
+  begun-leaves storage l s h p t q u false true c at e =
+      acts keeps l s.drawn (record h { phase = hold.Offer t q }) (Takes (record { path = p; signal = up.Accept u }) false) _ c at
+      (ap (λ (b : Bool). stepped s.drawn (record h { phase = hold.Offer t q }) (if b then Some (begun (record h { phase = hold.Offer t q }) t q false) else None)) e)
+  begun-leaves storage l s h p t q u may false c at e = stays l s.drawn (record h { phase = hold.Offer t q }) at
+
+  accept-leaves : (storage : Contents) (l : Link) (s : SubchannelState) (h : HoldState) (phase : HoldPhase) (p u : ℕ) (may : Bool) →
+      Contains l.ups (record { path = p; signal = up.Accept u }) → IsAt l s.drawn (record h { phase = phase }) →
+      Leaves l (accept storage (record s { hold = record h { phase = phase } }) (hold_takes (record h { phase = phase }) p (up.Accept u) may))
+  accept-leaves storage l s h hold.Free p u may c at = stays l s.drawn (record h { phase = hold.Free }) at
+  accept-leaves storage l s h (hold.Offer t q) p u may c at = begun-leaves storage l s h p t q u may (u == t) c at refl
+  accept-leaves storage l s h (hold.On t q d) p u may c at = stays l s.drawn (record h { phase = hold.On t q d }) at
+  accept-leaves storage l s h (hold.Away t) p u may c at = stays l s.drawn (record h { phase = hold.Away t }) at
+  accept-leaves storage l s h (hold.Letting t q) p u may c at = stays l s.drawn (record h { phase = hold.Letting t q }) at
+  accept-leaves storage l s h (hold.Reset r) p u may c at = stays l s.drawn (record h { phase = hold.Reset r }) at
+
+  -- Data
+  move-leaves : (storage : Contents) (l : Link) (s : SubchannelState) (b : Option Begun) (p t c n seq : ℕ) (load : Load) → IsOf l s →
+      Leaves l (move_data storage s b p t c n seq load)
+  move-leaves storage l s None p t c n seq load at = ignored l s at
+  move-leaves storage l s (Some b) p t c n seq load at =
+      if-leaves l (is_current b.transfer n seq) _ (ignoring s) (acts keeps l s.drawn s.hold (Sends _) _ tt at refl) (ignored l s at)
+
+  -- End
+  end_of-leaves : (l : Link) (s : SubchannelState) (b : Option Begun) (p n : ℕ) (status : DeviceStatus) (more : Bool) → IsOf l s →
+      Leaves l (end_of s b p n status more)
+  end_of-leaves l s None p n status more at = ignored l s at
+  end_of-leaves l s (Some b) p n status more at =
+      if-leaves l (n == b.transfer.command) _ (ignoring s)
+      (if-leaves l (is_last_end status) _ _ (let_go-leaves l s.drawn s.hold at) (stays l s.drawn s.hold at)) (ignored l s at)
+
+  takes-leaves : (storage : Contents) (l : Link) (s : SubchannelState) (p : ℕ) (x : Up) → IsTame l.ups → Contains l.ups (record { path = p; signal = x }) → IsOf l s →
+      Leaves l (takes_up storage s p x)
+  takes-leaves storage l s p (up.Accept t) tame c at = accept-leaves storage l s s.hold s.hold.phase p t (waits_as s.waiting s.offered) c at
+  takes-leaves storage l s p (up.Busy t) tame c at = by_hold-leaves l s p (up.Busy t) c at refl
+  takes-leaves storage l s p (up.Leave t d) tame c at = by_hold-leaves l s p (up.Leave t d) c at refl
+  takes-leaves storage l s p (up.Back t d) tame c at = by_hold-leaves l s p (up.Back t d) c at refl
+  takes-leaves storage l s p (up.Data t d n seq load) tame c at =
+      if-leaves l (is_connected s.hold.phase p t d) _ (ignoring s) (move-leaves storage l s s.begun p t d n seq load at) (ignored l s at)
+  takes-leaves storage l s p (up.End t n status more) tame c at =
+      if-leaves l (is_on s.hold.phase t) _ (ignoring s) (end_of-leaves l s s.begun p n status more at) (ignored l s at)
+  takes-leaves storage l s p (up.Released t) tame c at = by_hold-leaves l s p (up.Released t) c at refl
+  takes-leaves storage l s p (up.Cleared r) tame c at = by_hold-leaves l s p (up.Cleared r) c at refl
+  takes-leaves storage l s p (up.Notice b) tame c at = notice-leaves l s p b (nat_lt s.hold.known b) at refl (tame p b c)
+  takes-leaves storage l s p (up.Attn a status) tame c at = by_hold-leaves l s p (up.Attn a status) c at refl
+
+  up_front-turns : (storage : Contents) (sub : Subchannel) (path : ℕ) (front : Option Up) → slice_get (queue sub.wires.up path) 0 ≡ front →
+      IsSubTurn sub (up_front storage sub path front)
+  up_front-turns storage sub path None e = tt
+  up_front-turns storage sub path (Some x) e =
+      if-turns sub (finds_full sub.wires.down (takes_up storage sub.state path x).came.sent) _ _ tt
+      (record {
+        setup = refl;
+        reaches = λ l tame k.
+            reached sub l (takes_up storage sub.state path x).state (takes_up storage sub.state path x).came.sent _ k
+            (takes-leaves storage l sub.state path x tame (covers-first l.ups sub.wires.up path x k.ups e) (record { drawn = k.drawn; hold = k.hold }))
+            (λ m c. covers-taken m sub.wires.up path c);
+      })
+
+  pub up-turns : (storage : Contents) (sub : Subchannel) (path : ℕ) → IsSubTurn sub (up_sub storage sub path)
+  up-turns storage sub path =
+      if-turns sub (nat_lt path (length sub.setup.paths)) (up_front storage sub path (slice_get (queue sub.wires.up path) 0)) _
+      (up_front-turns storage sub path (slice_get (queue sub.wires.up path) 0) refl) tt
+
+  -- Choose
+  pub choose-turns : (sub : Subchannel) (c : Chosen) → IsFreeToOffer c sub.state.hold.phase → IsSubTurn sub (choose_sub sub c)
+  choose-turns sub chosen.Idle free = kept-turns sub sub.state refl refl
+  choose-turns sub chosen.Over free = kept-turns sub (without_path sub.state) refl refl
+  choose-turns sub (chosen.Offers program path) free =
+      if-turns sub (is_full sub.wires.down path) _ _ tt
+      (record {
+        setup = refl;
+        reaches = λ l tame k.
+            reached sub l _ (Some (record { path = path; signal = down.Select (sub.state.drawn + 1) })) sub.wires.up k
+            (acts keeps l sub.state.drawn sub.state.hold (Offers path program.single_path) _ tt (record { drawn = k.drawn; hold = k.hold })
+            (ap (λ (phase : HoldPhase). offered sub.state.drawn sub.state.hold phase path program.single_path) free))
+            (λ m c. c);
+      })

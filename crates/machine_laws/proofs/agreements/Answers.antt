@@ -1,0 +1,12 @@
+use Rattle.machine_model.specs.State.{opening_of}
+use Rattle.machine_laws.proofs.Prefixes.{run-first}
+use Rattle.machine_laws.proofs.RunAgrees.{run-agrees}
+use Rattle.machine_laws.proofs.agreements.Goals as goal
+
+pub returns-clause-agree : goal.returns-clause-agree
+returns-clause-agree c = run-agrees c.agreement.ensures.opens c.agreement.ensures.keeps c.agreement.ensures.means
+
+pub returns-clause-each : goal.returns-clause-each
+returns-clause-each c = λ setup h later s lawful run.
+    let first = run-first (opening_of setup) h later s run in
+    (first.0, first.1, run-agrees c.agreement.ensures.opens c.agreement.ensures.keeps c.agreement.ensures.means setup h first.0 lawful first.1)
