@@ -33,6 +33,7 @@ use Rattle.chan_model.specs.UnitTable as unit_table
 use Rattle.chan_model.specs.UnitTable.{UnitStep, unit_takes, unit_after}
 use Rattle.chan_model.specs.UnitReports.{unit_reports}
 use Rattle.channel_config.specs.declared.names.SubchannelId.{SubchannelId}
+use Rattle.channel_config.specs.Lawful.{IsLawful}
 use Rattle.channel_config.specs.Setup.{Setup}
 use Rattle.channel_config.specs.SubchannelWords.{subchannel_named}
 use Rattle.path_select.specs.Choice.{IsChoice}
@@ -350,9 +351,9 @@ pub data Run (opening : State) : List Entry → State → Type 0 where
   Opened : Run opening [] opening
   Stepped : (h : List Entry) (old : State) (e : Event) (r : Reply) (new : State) → Run opening h old → Step old e r new → Run opening (h ++ record { event = e; reply = r } ∷ []) new
 
--- these entries lead to the state from the opening of some machine
+-- these entries lead to the state from the opening of some machine that is lawfully set up
 abbrev pub HasRun : List Entry → State → Type 0
-HasRun h s = (setup : Setup) × Run (opening_of setup) h s
+HasRun h s = (setup : Setup) × IsLawful setup × Run (opening_of setup) h s
 
 -- the events that were accepted, with their replies
 abbrev pub accepted : List Event → List (Result Reply Fault) → List Entry

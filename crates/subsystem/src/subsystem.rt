@@ -6,6 +6,8 @@ ghost use Rattle.machine_model.specs.State as state_spec;
 ghost use Rattle.machine_model.specs.Steps.{Step, IsRefused, HasRun, HasAnswered, HasBegun};
 ghost use Rattle.std.specs.Bool.{OnTrue, OnFalse};
 ghost use Rattle.machine_model.specs.Bounds.{IsRoomy};
+ghost use Rattle.channel_config.specs.Lawful.{IsLawful};
+ghost use Rattle.machine_laws.specs.Agreeing.{AllAgree};
 ghost use Rattle.machine_laws.specs.Claims.{IsClearedOnce};
 
 use crate::history::History;
@@ -16,7 +18,7 @@ use chan_model::reply::{Entry, Reply};
 use channel_config::config::Config;
 use channel_config::parts::{SubchannelSetup, UnitKind};
 use hold::Hold;
-use machine_laws::{numbers, serials, steps};
+use machine_laws::{agreements, numbers, serials, steps};
 use machine_model::state::{Pmcw, Subchannel, SubchannelState, UnitTurn};
 use path_select::PathChoice;
 use scsw_irb::scsw::Scsw;
@@ -109,6 +111,8 @@ impl<P: PathChoice + Drop> Subsystem<P> {
         ensures replays { HasRun self.new.history self.new.state }
         // Of two TEST SUBCHANNEL of one subchannel that answered 0, the later carries a strictly greater count of statuses made.
         ensures cleared_once { IsClearedOnce self.new.state.sets self.new.history }
+        // Each subchannel and its unit agree on the program that holds the device, or a reset is due; by one path.
+        ensures agree { AllAgree self.new.state }
     {
         let mut answers = Vec::new(alloc);
         if answers.reserve(events.len()).is_err() {
@@ -127,13 +131,15 @@ impl<P: PathChoice + Drop> Subsystem<P> {
         Ok(answers)
     }
 
-    /// The history replays to the state, and each status is cleared once.
+    /// The history replays to the state, each status is cleared once, and subchannels and units agree.
     fn recalls(&self)
         ensures replays { HasRun self.now.history self.now.state }
         ensures cleared_once { IsClearedOnce self.now.state.sets self.now.history }
+        ensures agree { AllAgree self.now.state }
     {
         steps();
         serials();
+        agreements();
         let _ = &self.history;
     }
 
@@ -142,6 +148,7 @@ impl<P: PathChoice + Drop> Subsystem<P> {
         ensures history { result ≡ self.now.history }
         ensures replays { HasRun self.now.history self.now.state }
         ensures cleared_once { IsClearedOnce self.now.state.sets self.now.history }
+        ensures agree { AllAgree self.now.state }
     {
         self.recalls();
         History::of(self.history.as_slice())
@@ -261,7 +268,8 @@ fn idle_units(alloc: Global, kinds: &[UnitKind]) -> Result<Vec<Unit>, AllocError
 }
 
 fn opened_machine(alloc: Global, config: &Config) -> Result<Machine, AllocError>
-    ensures { IfOk result (λ machine. machine ≡ state_spec.opening_of config.now) }
+    ensures opened { IfOk result (λ machine. machine ≡ state_spec.opening_of config.now) }
+    ensures lawful { OnOk result (IsLawful config.now) }
 {
     let blocks = match config.blocks() {
         Some(blocks) => blocks,

@@ -1,10 +1,15 @@
 use Rattle.std.proofs.Common.{subst}
+use Rattle.machine_laws.specs.Agreeing.{AllAgree}
 use Rattle.machine_laws.specs.Claims.{IsClearedOnce}
 use Rattle.machine_model.specs.State.{Past}
-use Rattle.subsystem.proofs.Pasts.{past-cleared}
+use Rattle.subsystem.proofs.Pasts.{past-cleared, past-agrees}
 use Rattle.subsystem.proofs.subsystem.Subsystem.recalls.Goals as goal
 
 pub returns-clause-cleared_once : goal.returns-clause-cleared_once
 returns-clause-cleared_once g c =
     subst (λ (x : Past). IsClearedOnce x.state.sets x.history) c.self.view_is
     (past-cleared c.steps.ensures.sets c.serials.ensures.rises c.self.inside.history.items c.self.inside.machine c.self.invariant)
+
+pub returns-clause-agree : goal.returns-clause-agree
+returns-clause-agree g c =
+    subst (λ (x : Past). AllAgree x.state) c.self.view_is (past-agrees c.agreements.ensures.agree c.self.inside.history.items c.self.inside.machine c.self.invariant)
