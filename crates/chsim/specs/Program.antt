@@ -1,6 +1,9 @@
 -- What the program does where its words name a command.
-use Rattle.std.specs.Prelude.{◌≡◌, ◌⊎◌, ℕ, List, Option, Some, None}
+use Rattle.std.specs.Prelude.{◌≡◌, ℕ, List, take, Option, Some, None}
 use Rattle.std.specs.Io.KnownBytes.{Appends, Keeps}
+use Rattle.std.specs.String.{string_bytes}
+use Rattle.command_words.specs.declared.Refused.{Refused}
+use Rattle.command_words.specs.declared.Refused.TheVariants.{Text, NoMemory}
 use Rattle.command_words.specs.declared.Wanted.{Wanted}
 use Rattle.command_words.specs.declared.Wanted.TheVariants.{Run, Check}
 use Rattle.command_words.specs.Plain.{plain}
@@ -12,15 +15,14 @@ abbrev pub Does : Wanted → Option (List ℕ) → Option (List ℕ) → Option 
 Does Run input held now ending = Serves input held now ending
 Does Check input held now ending = Checks input held now ending
 
--- words that name no command: a text is written and the status is 2; or there was no memory for the text, nothing is
--- written and the status is 1
-abbrev pub Refuses : Option (List ℕ) → Option (List ℕ) → ℕ → Type 0
-Refuses held now status =
-    ((status ≡ 2) × ((text : List ℕ) × Appends held now text))
-    ⊎ ((status ≡ 1) × Keeps held now)
+-- words that name no command: their text is written, or a beginning of it, and the status is 2; or there was no memory for
+-- the text, nothing is written and the status is 1
+abbrev pub Shows : Refused → Option (List ℕ) → Option (List ℕ) → ℕ → Type 0
+Shows (Text text) held now status = (status ≡ 2) × ((n : ℕ) × Appends held now (take n (string_bytes text)))
+Shows NoMemory held now status = (status ≡ 1) × Keeps held now
 
 abbrev pub Commands : Option Wanted → Option (List ℕ) → Option (List ℕ) → Option (List ℕ) → ℕ → Type 0
-Commands None input held now status = Refuses held now status
+Commands None input held now status = (refused : Refused) × Shows refused held now status
 Commands (Some wanted) input held now status = (ending : Ending) × Does wanted input held now ending × (status ≡ status_of ending)
 
 -- two words, the program's own name and a command's

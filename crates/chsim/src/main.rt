@@ -3,7 +3,7 @@
 
 ghost use Rattle.std.specs.Prelude.{◌≡◌, map, is_none, IsTrue};
 ghost use Rattle.command_words.specs.Plain.{plain};
-ghost use Rattle.chsim.specs.Program.{IsServed, Refuses};
+ghost use Rattle.chsim.specs.Program.{IsServed, Shows};
 
 #[cfg(test)]
 mod memory;
@@ -41,7 +41,7 @@ pub fn serve<'a, R: Read, W: Write>(
 
 /// Shows the text for words that name no command.
 fn show<W: Write>(refused: Refused, writer: &mut W) -> u8
-    ensures { Refuses (W.contents writer.old) (W.contents writer.new) result }
+    ensures { Shows refused (W.contents writer.old) (W.contents writer.new) result }
 {
     match refused {
         Refused::NoMemory => 1,
