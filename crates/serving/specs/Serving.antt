@@ -1,5 +1,5 @@
 -- What the program does with a text, how it ends, and with which exit status.
-use Rattle.std.specs.Prelude.{◌≡◌, ℕ, ◌≤◌, true, false, List, length, take, codes, Option, IfSome}
+use Rattle.std.specs.Prelude.{◌≡◌, ◌<◌, ℕ, ◌≤◌, true, false, List, length, take, codes, Option, IfSome}
 use Rattle.std.specs.Io.KnownBytes.{Appends, Keeps}
 use Rattle.script.specs.Pieces.{lines_of}
 use Rattle.script.specs.Scripts.{Contents, IsScript, IsBad}
@@ -25,13 +25,13 @@ no_memory_text = codes "refused 1\n"
 abbrev pub TellsNoMemory : Option (List ℕ) → Option (List ℕ) → Type 0
 TellsNoMemory held now = (n : ℕ) × Appends held now (take n no_memory_text)
 
--- a script is run: all its lines are performed and written; or the first n, and a beginning of what they print
+-- a script is run: all its lines are performed and written; or the first n, one at least, and a beginning of what they print
 abbrev pub IsRun : Contents → Option (List ℕ) → Option (List ℕ) → Ending → Type 0
 IsRun s held now NotRead = ⊥
 IsRun s held now Bad = ⊥
 IsRun s held now NoMemory = TellsNoMemory held now
 IsRun s held now (Done refused) = (last : Installed) × HasPerformed (opening s.setup) s.lines held now refused last
-IsRun s held now (Stopped refused) = (n : ℕ) × (n ≤ length s.lines) × (last : Installed) × HasBegun (opening s.setup) (take n s.lines) held now refused last
+IsRun s held now (Stopped refused) = (n : ℕ) × (0 < n) × (n ≤ length s.lines) × (last : Installed) × HasBegun (opening s.setup) (take n s.lines) held now refused last
 
 -- a script is good: the text that says so is written, or a beginning of it
 abbrev pub ok_text : List ℕ

@@ -1,6 +1,6 @@
 //! Performing the actions of a script, line by line.
 
-ghost use Rattle.std.specs.Prelude.{◌≡◌};
+ghost use Rattle.std.specs.Prelude.{◌≡◌, ◌<◌, false};
 ghost use Rattle.serving.specs.Performing.{IsDone, Performs};
 
 use crate::installation::Installation;
@@ -56,7 +56,8 @@ pub fn perform<W: Write>(
     out: &mut Vec<u8>,
     writer: &mut W,
 ) -> Performed
-    ensures { Performs installation.old lines.now (W.contents writer.old) (W.contents writer.new) result installation.new }
+    ensures performs { Performs installation.old lines.now (W.contents writer.old) (W.contents writer.new) result installation.new }
+    ensures tried { result.whole ≡ false → 0 < result.done }
 {
     let mut refused = false;
     for (i, line) in lines.iter().enumerate() {
