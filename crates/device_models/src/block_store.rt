@@ -162,6 +162,7 @@ impl Device for BlockStore {
         }
     }
 
+    /// Gives what is left of the current block (02), or the sense byte (04).
     fn supply(&mut self, most: usize) -> Chunk
         ensures law { length result ≤ most }
         ensures bytes { result ≡ spec.given_of self.old most }
@@ -175,6 +176,7 @@ impl Device for BlockStore {
         bytes
     }
 
+    /// Takes bytes of the current block (01), or of a block number (07 and 31).
     fn absorb(&mut self, bytes: &[u8]) -> usize
         ensures law { result ≤ length bytes.now }
         ensures count { result ≡ spec.taken_of self.old bytes.now }
@@ -192,6 +194,8 @@ impl Device for BlockStore {
         count
     }
 
+    /// Ends with channel end and device end; with device end alone after channel end (03 and 0B), with unit
+    /// check for a number that is no block's (07), and with status modifier for the current one's (31).
     fn finish(&mut self) -> Finish
         ensures law { IsFinal result.status }
         ensures status { result.status.0 ≡ (spec.ended self.old).status }
@@ -212,6 +216,7 @@ impl Device for BlockStore {
         }
     }
 
+    /// Puts the store back to its opening, its blocks too.
     fn restart(&mut self)
         ensures { self.new ≡ spec.opening }
     {

@@ -1,12 +1,13 @@
 //! The path-management-control word (SA22-7832, chapter 15).
 
 ghost use Rattle.std.specs.Prelude.{◌≡◌, ◌<◌, ◌↔◌, [], ◌∷◌, map, IsOk, OnOk, OnErr};
+ghost use Rattle.zbits.specs.Bits.{field_of};
 ghost use Rattle.zbits.specs.Layout as layout_spec;
 ghost use Rattle.zbits.specs.Layout.{AllShow};
 
 use crate::Operand;
 use zbits::layout::{at, flag_at, word_of, zeros};
-use zbits::{be_words, field, flag};
+use zbits::{be_words, field};
 
 /// A path-management-control word, of seven words. In each mask of paths, path 0 is leftmost.
 #[derive(Clone, Copy, Debug, PartialEq, Eq)]
@@ -54,12 +55,14 @@ pub struct Pmcw {
 
 impl Pmcw {
     ghost use Rattle.schib_block.specs.Modify.{IsAllowed, modified};
+    ghost use Rattle.schib_block.specs.Reading.{flag_of, pmcw_of, pmcw_of_words};
     ghost use Rattle.schib_block.specs.SchibTable.{ShowsPmcw, four_bytes, pmcw_tables, word_1, word_3};
 
     /// The word that a subchannel-information block has, whatever its other bits: this is all that
     /// MODIFY SUBCHANNEL looks at, so no block is refused here.
     pub fn of_schib(image: &[u8; 52]) -> Pmcw
-        ensures { ShowsPmcw image.now result }
+        ensures shown { ShowsPmcw image.now result }
+        ensures value { result ≡ pmcw_of image.now }
     {
         let [parameter, controls, masks, block, front, back, last, ..] = be_words::<13>(image);
         Pmcw::of_words(parameter, controls, masks, block, front, back, last)
@@ -116,17 +119,18 @@ impl Pmcw {
         back: u32,
         last: u32,
     ) -> Pmcw
-        ensures { AllShow (parameter ∷ controls ∷ masks ∷ block ∷ front ∷ back ∷ last ∷ []) (pmcw_tables result) }
+        ensures shown { AllShow (parameter ∷ controls ∷ masks ∷ block ∷ front ∷ back ∷ last ∷ []) (pmcw_tables result) }
+        ensures value { result ≡ pmcw_of_words (parameter ∷ controls ∷ masks ∷ block ∷ front ∷ back ∷ last ∷ []) }
     {
         Pmcw {
             parameter,
             subclass: field(controls, 2, 4) as u8,
-            enabled: flag(controls, 8),
+            enabled: Pmcw::bit(controls, 8),
             limit_mode: field(controls, 9, 10) as u8,
             measurement_mode: field(controls, 11, 12) as u8,
-            multipath: flag(controls, 13),
-            timing: flag(controls, 14),
-            valid: flag(controls, 15),
+            multipath: Pmcw::bit(controls, 13),
+            timing: Pmcw::bit(controls, 14),
+            valid: Pmcw::bit(controls, 15),
             device_number: field(controls, 16, 31) as u16,
             logical: field(masks, 0, 7) as u8,
             not_operational: field(masks, 8, 15) as u8,
@@ -145,8 +149,17 @@ impl Pmcw {
                 field(back, 16, 23) as u8,
                 field(back, 24, 31) as u8,
             ],
-            concurrent_sense: flag(last, 31),
+            concurrent_sense: Pmcw::bit(last, 31),
         }
+    }
+
+    /// The flag at a bit of a word.
+    fn bit(word: u32, place: u32) -> bool
+        requires { place < 32 }
+        ensures number { layout_spec.bit_number result ≡ field_of word place place }
+        ensures test { result ≡ flag_of word place }
+    {
+        field(word, place, place) == 1
     }
 
     fn controls(&self) -> u32

@@ -21,4 +21,4 @@ returns-clause-allowed c =
 pub returns-clause-found : goal.returns-clause-found
 returns-clause-found c =
     let three = status_three c.args.image.now c.be_words-words.result c.be_words-words.ensures.words in
-    record { pmcw = c.of_schib.ensures; scsw = sym three ∙ c.in_ok-scsw.ensures.found }
+    record { pmcw = c.of_schib.ensures.shown; scsw = sym three ∙ c.in_ok-scsw.ensures.found }
