@@ -9,7 +9,7 @@ use Rattle.channel_program.specs.declared.Ended.{Ended}
 use Rattle.channel_program.specs.declared.Reading.{Reading}
 use Rattle.channel_program.specs.declared.Reading.TheVariants.{Transfers, Takes, Suspends, Shows}
 use Rattle.channel_program.specs.Blocks.{reads}
-use Rattle.channel_program.specs.Acts.{Act, Block, Unfetched, Used_up, End, Connected, Took, Word, Moved}
+use Rattle.channel_program.specs.Acts.{Act, Block, Unfetched, Used_up, End}
 
 -- the role of the next block: the blocks before tell it, suspended ones apart
 abbrev pub role_after : Role → Reading → Role
@@ -72,8 +72,8 @@ tried orb (Block address bytes ∷ before) = address + 8
 tried orb (Unfetched address check ∷ before) = address + 8
 tried orb (act ∷ before) = tried orb before
 
--- each block is where the acts before it say, and no count is used up and no command ends but of a
--- block that took control
+-- each block is where the acts before it say, and a count is used up, or a command ends, only where no
+-- block is to be fetched
 abbrev pub IsProgram : Orb → List Act → Type 0
 IsProgram orb [] = ⊤
 IsProgram orb (Block address bytes ∷ before) = (next orb before ≡ Some address) × IsProgram orb before

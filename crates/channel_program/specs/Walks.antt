@@ -1,9 +1,8 @@
 -- Where a program stands, and how it goes on (SA22-7832, chapter 15).
-use Rattle.std.specs.Prelude.{ℕ, ◌+◌, ◌%◌, ◌^◌, ◌==◌, ◌&&◌, ◌||◌, not, nat_le, Bool, true, false, if◌then◌else◌, List, [], ◌∷◌, Option, None, Some, Result, Ok, Err}
+use Rattle.std.specs.Prelude.{ℕ, ◌+◌, ◌%◌, ◌^◌, ◌==◌, ◌&&◌, ◌||◌, not, nat_le, Bool, if◌then◌else◌, List, [], ◌∷◌, Option, None, Some, Result, Ok, Err}
 use Rattle.orb_block.specs.declared.Orb.{Orb}
 use Rattle.storage_keys.specs.declared.StorageFault.{StorageFault}
 use Rattle.storage_keys.specs.Storage.{Contents, fetched}
-use Rattle.channel_program.specs.declared.check.Check.{Check}
 use Rattle.channel_program.specs.declared.check.Check.TheVariants.{Program}
 use Rattle.channel_program.specs.declared.Role.{Role}
 use Rattle.channel_program.specs.declared.Latest.{Latest}
@@ -14,7 +13,7 @@ use Rattle.channel_program.specs.declared.Advance.{Advance}
 use Rattle.channel_program.specs.declared.Advance.TheVariants.{Takes, Suspends, Stops}
 use Rattle.channel_program.specs.Checks.{check_of}
 use Rattle.channel_program.specs.Blocks.{reads}
-use Rattle.channel_program.specs.Acts.{Act, Block, Unfetched, Used_up, End, Connected, Took, Word, Moved}
+use Rattle.channel_program.specs.Acts.{Act, Block, Unfetched, Used_up, End}
 use Rattle.channel_program.specs.Programs.{role_of, role_after, latest as latest_of, latest_after, next as next_of, next_after, next_used_up, next_ended, tried as tried_of}
 
 -- where a program stands: what is to be known of the acts so far

@@ -2,6 +2,9 @@
 #![tactic(auto)]
 
 pub mod check;
+pub mod law;
+#[cfg(test)]
+mod tests;
 
 use ccw_codec::Ccw;
 use check::Check;
