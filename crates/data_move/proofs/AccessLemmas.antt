@@ -1,6 +1,6 @@
 -- What is copied and stored stands at the places of the formula.
 use Rattle.std.proofs.Common.{◌≡◌, ◌≢◌, ℕ, ◌+◌, ◌-◌, ◌<◌, ◌≤◌, ◌⊎◌, inl, inr, Bool, true, false, List, [], length, map, refl, sym, ap, ◌∙◌, arith}
-use Rattle.std.specs.Prelude.{Option, Some, None, Ok, IsTrue, min, nat_lt, if◌then◌else◌, slice_index}
+use Rattle.std.specs.Prelude.{Some, None, Ok, IsTrue, nat_lt, if◌then◌else◌, slice_index}
 use Rattle.std.proofs.lemmas.Bool.{ltb-true, ltb-false}
 use Rattle.std.specs.List.{range_with_len}
 use Rattle.storage_keys.specs.Storage.{Contents, is_inside, permits_store, access_check, where_permitted, put_at, stored}

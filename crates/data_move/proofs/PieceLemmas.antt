@@ -1,14 +1,14 @@
 -- What is kept of a command word's data is where the formula says, after each word and each chunk.
-use Rattle.std.proofs.Common.{◌≡◌, ℕ, ◌+◌, ◌-◌, ◌*◌, ◌%◌, ◌<◌, ◌≤◌, ◌⊎◌, ◌==◌, ◌&&◌, not, inl, inr, min, Bool, true, false, List, [], ◌∷◌, ◌++◌, length, refl, sym, ap, subst, ◌∙◌, arith, length-append}
+use Rattle.std.proofs.Common.{◌≡◌, ℕ, ◌+◌, ◌-◌, ◌%◌, ◌<◌, ◌≤◌, ◌⊎◌, ◌==◌, ◌&&◌, not, min, Bool, true, false, [], ◌∷◌, ◌++◌, length, refl, sym, ap, subst, ◌∙◌, arith, length-append}
 use Rattle.std.specs.Prelude.{nat_lt, if◌then◌else◌, Option, Some, None}
 use Rattle.std.proofs.lemmas.Bool.Decides.{nat_tests}
 use Rattle.ccw_codec.specs.declared.Ccw.{Ccw}
 use Rattle.idaw.specs.declared.ListKind.{ListKind}
 use Rattle.idaw.specs.declared.ListKind.TheVariants.{Short, LongByFourK, LongByTwoK}
-use Rattle.idaw.specs.Lists.{block, word_fault}
-use Rattle.idaw.specs.Places.{Reach, place_of, place_of_word, address_of, each_below, covered, with_word}
+use Rattle.idaw.specs.Lists.{block}
+use Rattle.idaw.specs.Places.{Reach, place_of, place_of_word, each_below, covered, with_word}
 use Rattle.idaw.proofs.WordLemmas.{word_stays, word_next, word_reaches}
-use Rattle.data_move.specs.Moving.{Moving, names_list, uses_list, begun, with_piece, moved, needs_word, next_place, IsAt, MayFetch}
+use Rattle.data_move.specs.Moving.{Moving, names_list, uses_list, begun, with_piece, moved, next_place, IsAt, MayFetch}
 use Rattle.data_move.proofs.ListLemmas.{each_below_add, each_below_same}
 
 block_positive : (kind : ListKind) → 0 < block kind

@@ -1,5 +1,5 @@
 -- How far the data of a command word is moved, and what of the formula of places is kept for it.
-use Rattle.std.specs.Prelude.{◌≡◌, ℕ, ◌+◌, ◌-◌, ◌%◌, ◌==◌, ◌<◌, ◌⊎◌, ◌&&◌, ◌||◌, not, nat_lt, min, Bool, true, false, if◌then◌else◌, List, length, Option, Some, None}
+use Rattle.std.specs.Prelude.{◌≡◌, ℕ, ◌+◌, ◌-◌, ◌%◌, ◌==◌, ◌<◌, ◌⊎◌, ◌&&◌, ◌||◌, not, nat_lt, min, Bool, true, false, if◌then◌else◌, length, Option, Some, None}
 use Rattle.ccw_codec.specs.declared.Ccw.{Ccw}
 use Rattle.idaw.specs.declared.ListKind.{ListKind}
 use Rattle.idaw.specs.Lists.{block}

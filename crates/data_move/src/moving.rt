@@ -1,6 +1,6 @@
 //! How far the data of a command word is moved.
 
-ghost use Rattle.std.specs.Prelude.{◌≡◌, ◌≢◌, ℕ, ◌+◌, ◌==◌, ◌<◌, ◌≤◌, ◌⊎◌, ◌↔◌, ◌^◌, None, Some, Ok, Err, IfOk, IfErr, OnOk, OnErr, IsOk, IsTrue, [], length, slice_index};
+ghost use Rattle.std.specs.Prelude.{◌≡◌, ◌≢◌, ℕ, ◌+◌, ◌==◌, ◌<◌, ◌≤◌, ◌⊎◌, ◌↔◌, ◌^◌, None, Some, Ok, Err, IfOk, IfErr, OnOk, OnErr, IsOk, IsTrue, false, [], length, slice_index};
 ghost use Rattle.idaw.specs.Lists.{block, word_fault};
 ghost use Rattle.idaw.specs.Places.{Reach, place_of, places_from, with_word};
 ghost use Rattle.data_move.specs.Moving as spec;
@@ -171,6 +171,7 @@ impl Move {
     pub fn copied(&self, storage: &Storage, key: u8) -> Result<Chunk, Check>
         ensures copied { IfOk result (λ chunk. access.copied storage.now key self.now ≡ Ok chunk) }
         ensures refused { IfErr result (λ check. access.copied storage.now key self.now ≡ Err check) }
+        ensures whole { IfOk result (λ chunk. self.now.skipped ≡ false → length chunk ≡ spec.room self.now) }
         // They are the bytes at the next places of the formula.
         ensures places { IfOk result (λ chunk. (r : Reach) → IsAt r self.now → chunk ≡ access.bytes_at storage.now.bytes (places_from (block self.now.kind) r self.now.done (spec.room self.now))) }
     {

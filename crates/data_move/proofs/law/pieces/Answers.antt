@@ -1,4 +1,3 @@
-use Rattle.std.proofs.Common.{ap}
 use Rattle.idaw.specs.Lists.{block}
 use Rattle.idaw.specs.Places.{place_of, with_word}
 use Rattle.data_move.proofs.ListLemmas.{each_below_same}

@@ -1,4 +1,4 @@
-use Rattle.std.proofs.Common.{◌≡◌, ℕ, map, ap, sym, ◌∙◌, false, true, refl}
+use Rattle.std.proofs.Common.{◌≡◌, map, ap, sym, ◌∙◌, false, true}
 use Rattle.std.specs.Prelude.{slice_index}
 use Rattle.std.specs.List.{range_with_len}
 use Rattle.data_move.specs.Moving.{Moving, room}

@@ -1,4 +1,4 @@
-use Rattle.std.proofs.Common.{◌≡◌, ap, sym, ◌∙◌, false, true, refl}
+use Rattle.std.proofs.Common.{◌≡◌, ap, sym, ◌∙◌, false}
 use Rattle.data_move.specs.Moving.{Moving}
 use Rattle.data_move.proofs.AccessLemmas.{others_at}
 use Rattle.data_move.proofs.moving.Move.stored.Goals as goal
