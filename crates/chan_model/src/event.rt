@@ -72,7 +72,7 @@ impl Event {
             },
             Event::Report { unit, report } => Event::Report {
                 unit: *unit,
-                report: *report,
+                report: report.copy(),
             },
         }
     }

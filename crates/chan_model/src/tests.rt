@@ -6,6 +6,7 @@ use crate::fault::Fault;
 use crate::names::{Cpu, Path, Side};
 use crate::paths::{mask_of_path, paths_of_mask};
 use crate::reply::{Answer, ConditionCode, Reply};
+use crate::report::{DeviceAnswer, Report};
 use crate::signal::{Down, Load, Up};
 use scsw_irb::serials::Serials;
 use storage_keys::StorageFault;
@@ -47,6 +48,31 @@ fn chunks_and_signals_are_copied(rt: HostRuntime) {
     assert!(rt; matches!(Down::Halt { number: 3 }.copy(), Down::Halt { number: 3 }));
     assert!(rt; matches!(Up::Busy { number: 3 }.copy(), Up::Busy { number: 3 }));
     assert!(rt; matches!(Reply::Pending.copy(), Reply::Pending));
+}
+
+#[test]
+fn reports_are_copied(rt: HostRuntime) {
+    let report = Report {
+        side: Side::Second,
+        number: 1,
+        command: 2,
+        sequence: 3,
+        answer: DeviceAnswer::Supplied(Chunk::of(&[0xD1, 0xD2])),
+    };
+    let copied = Event::Report {
+        unit: 5,
+        report: report.copy(),
+    }
+    .copy();
+    let Event::Report { unit: 5, report } = copied else {
+        return assert!(rt; false, "the same unit reports");
+    };
+    assert!(rt; report.side.same(Side::Second));
+    assert_eq!(rt; (report.number, report.command, report.sequence), (1, 2, 3));
+    let DeviceAnswer::Supplied(bytes) = report.answer.copy() else {
+        return assert!(rt; false, "bytes were supplied");
+    };
+    assert_eq!(rt; bytes.as_slice(), [0xD1, 0xD2].as_slice());
 }
 
 #[test]
