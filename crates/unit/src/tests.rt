@@ -51,6 +51,33 @@ fn ended() -> DeviceAnswer {
     }
 }
 
+/// The unit takes a report, while its chunks have small numbers.
+fn reported(unit: &mut Unit, report: &Report) -> Taken<Up> {
+    let last = match &unit.state().at_hand {
+        Some(command) => command.sequence,
+        None => 0,
+    };
+    if last < 8 {
+        unit.report(report)
+    } else {
+        Taken {
+            taken: false,
+            sent: None,
+        }
+    }
+}
+
+/// The unit asks for a path, while its connections have small numbers.
+fn is_asked_for(unit: &mut Unit, path: Path) -> bool {
+    let Own::Owned { place, .. } = unit.own() else {
+        return false;
+    };
+    let Place::Away { connection } = place else {
+        return false;
+    };
+    connection < 8 && unit.ask(path).is_some()
+}
+
 /// How many bytes of a read the device is asked for.
 fn most_asked(unit: &Unit) -> Option<u16> {
     let Some(Work::Call { call, .. }) = unit.work() else {
@@ -124,7 +151,7 @@ fn a_write_is_carried_out(rt: HostRuntime) {
     );
     let begins = answer(0, DeviceAnswer::Begins);
     assert!(rt; matches!(unit.report_path(&begins), ReportPath::SentOn(path) if path.index() == 6));
-    let asked = unit.report(&begins).sent.map(|sent| sent.signal);
+    let asked = reported(&mut unit, &begins).sent.map(|sent| sent.signal);
     assert!(rt;
         matches!(
             asked,
@@ -146,8 +173,7 @@ fn a_write_is_carried_out(rt: HostRuntime) {
     assert!(rt;
         matches!(unit.work(), Some(Work::Call { call: Call::Absorb { bytes }, .. }) if bytes.len() == 1)
     );
-    let moved = unit
-        .report(&answer(1, DeviceAnswer::Absorbed(1)))
+    let moved = reported(&mut unit, &answer(1, DeviceAnswer::Absorbed(1)))
         .sent
         .map(|sent| sent.signal);
     assert!(rt;
@@ -183,7 +209,7 @@ fn a_write_is_carried_out(rt: HostRuntime) {
             more: false,
         },
     );
-    let end = unit.report(&ended).sent.map(|sent| sent.signal);
+    let end = reported(&mut unit, &ended).sent.map(|sent| sent.signal);
     assert!(rt;
         matches!(
             end,
@@ -229,11 +255,11 @@ fn a_read_is_carried_out(rt: HostRuntime) {
     );
     let begins = answer(0, DeviceAnswer::Begins);
     assert!(rt; matches!(unit.report_path(&begins), ReportPath::NothingSent));
-    let begun = unit.report(&begins);
+    let begun = reported(&mut unit, &begins);
     assert!(rt; begun.taken && begun.sent.is_none());
     assert_eq!(rt; most_asked(&unit), Some(64));
     let first = answer(0, DeviceAnswer::Supplied(Chunk::of(&[0xD1; 64])));
-    assert_eq!(rt; data_of(unit.report(&first)), Some((0, 1, 64)));
+    assert_eq!(rt; data_of(reported(&mut unit, &first)), Some((0, 1, 64)));
     assert!(rt; unit.work().is_none());
     assert!(rt; matches!(unit.report_path(&first), ReportPath::Refused));
     assert!(rt; unit.take(side, path, &took(1, 2), true).taken);
@@ -242,11 +268,11 @@ fn a_read_is_carried_out(rt: HostRuntime) {
     let longer = answer(1, DeviceAnswer::Supplied(Chunk::of(&[0xD2; 3])));
     assert!(rt; matches!(unit.report_path(&longer), ReportPath::Refused));
     let second = answer(1, DeviceAnswer::Supplied(Chunk::of(&[0xD2; 2])));
-    assert_eq!(rt; data_of(unit.report(&second)), Some((0, 2, 2)));
-    assert!(rt; !unit.report(&answer(2, ended())).taken);
+    assert_eq!(rt; data_of(reported(&mut unit, &second)), Some((0, 2, 2)));
+    assert!(rt; !reported(&mut unit, &answer(2, ended())).taken);
     assert!(rt; unit.take(side, path, &took(2, 0), true).taken);
     assert!(rt; is_to_finish(&unit));
-    let end = unit.report(&answer(2, ended())).sent;
+    let end = reported(&mut unit, &answer(2, ended())).sent;
     assert!(rt;
         matches!(
             end.map(|sent| sent.signal),
@@ -271,11 +297,11 @@ fn a_read_ends_where_there_is_no_room(rt: HostRuntime) {
             .taken
     );
     assert!(rt; unit.take(side, path, &read(0), true).taken);
-    assert!(rt; unit.report(&answer(0, DeviceAnswer::Begins)).taken);
+    assert!(rt; reported(&mut unit, &answer(0, DeviceAnswer::Begins)).taken);
     assert!(rt; is_to_finish(&unit));
     let none = answer(0, DeviceAnswer::Supplied(Chunk::new()));
     assert!(rt; matches!(unit.report_path(&none), ReportPath::Refused));
-    assert!(rt; unit.report(&answer(0, ended())).taken);
+    assert!(rt; reported(&mut unit, &answer(0, ended())).taken);
 }
 
 #[test]
@@ -288,10 +314,10 @@ fn a_read_ends_where_the_device_has_no_more(rt: HostRuntime) {
             .taken
     );
     assert!(rt; unit.take(side, path, &read(300), true).taken);
-    assert!(rt; unit.report(&answer(0, DeviceAnswer::Begins)).taken);
+    assert!(rt; reported(&mut unit, &answer(0, DeviceAnswer::Begins)).taken);
     assert_eq!(rt; most_asked(&unit), Some(256));
     let none = answer(0, DeviceAnswer::Supplied(Chunk::new()));
-    assert_eq!(rt; data_of(unit.report(&none)), Some((0, 1, 0)));
+    assert_eq!(rt; data_of(reported(&mut unit, &none)), Some((0, 1, 0)));
     assert!(rt; unit.take(side, path, &took(1, 256), true).taken);
     assert!(rt; is_to_finish(&unit));
 }
@@ -307,13 +333,13 @@ fn what_was_not_answered_is_sent_again(rt: HostRuntime) {
             .taken
     );
     assert!(rt; unit.take(side, first, &read(8), true).taken);
-    assert!(rt; unit.report(&answer(0, DeviceAnswer::Begins)).taken);
+    assert!(rt; reported(&mut unit, &answer(0, DeviceAnswer::Begins)).taken);
     let bytes = answer(0, DeviceAnswer::Supplied(Chunk::of(&[0xC1, 0xC2])));
-    assert_eq!(rt; data_of(unit.report(&bytes)), Some((0, 1, 2)));
+    assert_eq!(rt; data_of(reported(&mut unit, &bytes)), Some((0, 1, 2)));
     let again = answer(1, DeviceAnswer::Again);
     assert!(rt; matches!(unit.report_path(&again), ReportPath::Refused));
     assert!(rt; unit.leave().is_some());
-    assert!(rt; unit.ask(second).is_some());
+    assert!(rt; is_asked_for(&mut unit, second));
     assert!(rt; unit.work().is_none());
     let grant = Down::Grant {
         number: 1,
@@ -331,9 +357,9 @@ fn what_was_not_answered_is_sent_again(rt: HostRuntime) {
         )
     );
     assert!(rt; matches!(unit.report_path(&again), ReportPath::SentOn(path) if path.index() == 1));
-    assert_eq!(rt; data_of(unit.report(&again)), Some((1, 1, 2)));
+    assert_eq!(rt; data_of(reported(&mut unit, &again)), Some((1, 1, 2)));
     assert!(rt; unit.work().is_none());
-    assert!(rt; !unit.report(&again).taken);
+    assert!(rt; !reported(&mut unit, &again).taken);
 }
 
 #[test]
