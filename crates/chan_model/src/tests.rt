@@ -1,6 +1,6 @@
 //! What each call answers at plain values, and the texts of refusals.
 
-use crate::chunk::Chunk;
+use crate::chunk::{Chunk, ChunkLength};
 use crate::event::Event;
 use crate::fault::Fault;
 use crate::names::{Cpu, Path, Side};
@@ -9,6 +9,7 @@ use crate::reply::{Answer, ConditionCode, Reply};
 use crate::signal::{Down, Load, Up};
 use scsw_irb::serials::Serials;
 use storage_keys::StorageFault;
+use storage_keys::key::Key;
 
 #[test]
 fn names_keep_their_range(rt: HostRuntime) {
@@ -47,6 +48,31 @@ fn chunks_and_signals_are_copied(rt: HostRuntime) {
     assert!(rt; matches!(Down::Halt { number: 3 }.copy(), Down::Halt { number: 3 }));
     assert!(rt; matches!(Up::Busy { number: 3 }.copy(), Up::Busy { number: 3 }));
     assert!(rt; matches!(Reply::Pending.copy(), Reply::Pending));
+}
+
+#[test]
+fn lengths_keep_their_range(rt: HostRuntime) {
+    assert!(rt; ChunkLength::new(257).is_none());
+    match ChunkLength::new(256) {
+        Some(length) => {
+            assert_eq!(rt; length.get(), 256);
+            let show = Event::Show {
+                address: 0x2000,
+                length,
+            };
+            assert!(rt; matches!(show.copy(), Event::Show { address: 0x2000, .. }));
+        }
+        None => assert!(rt; false, "the length is in range"),
+    }
+    let key = Event::SetKey {
+        address: 0x2000,
+        key: Key::of_byte(0x10),
+    };
+    assert!(rt; matches!(key.copy(), Event::SetKey { key: Key { access: 1, .. }, .. }));
+    let shown = Reply::Shown {
+        bytes: Chunk::of(&[0xC1]),
+    };
+    assert!(rt; matches!(shown.copy(), Reply::Shown { .. }));
 }
 
 #[test]
