@@ -1,0 +1,3 @@
+pub mod SchibTable
+pub mod Modify
+pub mod Ranges
