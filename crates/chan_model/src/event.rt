@@ -32,7 +32,7 @@ pub enum Instruction {
     },
     /// STORE SUBCHANNEL to real F00 (hexadecimal); then the interruption subclass, the multipath mode and the enabled bit,
     /// which is one, are placed in the bytes there; then MODIFY SUBCHANNEL from F00. They are executed as one instruction
-    /// (own), with MODIFY SUBCHANNEL's condition code.
+    /// (own), with MODIFY SUBCHANNEL's condition code. Of `subclass` the three rightmost bits are placed.
     Enable {
         subchannel: u32,
         subclass: u8,

@@ -4,7 +4,7 @@ use crate::chunk::{Chunk, ChunkLength};
 use crate::event::Event;
 use crate::fault::Fault;
 use crate::names::{Cpu, Path, Side};
-use crate::paths::{mask_of_path, paths_of_mask};
+use crate::paths::{mask_of_path, mask_of_paths, paths_of_mask};
 use crate::reply::{Answer, ConditionCode, Reply};
 use crate::signal::{Down, Load, Up};
 use scsw_irb::serials::Serials;
@@ -25,6 +25,7 @@ fn names_keep_their_range(rt: HostRuntime) {
         _ => assert!(rt; false, "the names are in range"),
     }
     assert_eq!(rt; mask_of_path(None), 0);
+    assert_eq!(rt; mask_of_paths(paths_of_mask(0xA1)), 0xA1);
     assert_eq!(rt;
         paths_of_mask(0xA1),
         [true, false, true, false, false, false, false, true]

@@ -4,6 +4,7 @@ use Rattle.std.proofs.Common.{◌≡◌, refl, subst, ℕ, zero, suc, Bool, true
 use Rattle.std.specs.Prelude.{slice_get, slice_set, if◌then◌else◌, IfOk}
 use Rattle.std.specs.List.{AllZip}
 use Rattle.orb_block.specs.declared.Orb.{Orb}
+use Rattle.schib_block.specs.declared.pmcw.Pmcw as block
 use Rattle.storage_keys.specs.Storage.{Contents}
 use Rattle.chan_model.specs.declared.fault.Fault.{Fault}
 use Rattle.chan_model.specs.declared.event.Event.{Event}
@@ -20,14 +21,15 @@ use Rattle.chan_model.specs.UnitReports.{unit_reports}
 use Rattle.wires.specs.Queues.{queue}
 use Rattle.machine_model.specs.declared.state.Chosen.{Chosen}
 use Rattle.machine_model.specs.declared.state.Chosen.TheVariants.{Idle, Over, Offers}
+use Rattle.machine_model.specs.declared.state.Pmcw.{Pmcw}
 use Rattle.machine_model.specs.declared.state.Program.{Program}
 use Rattle.machine_model.specs.declared.state.Subchannel.{Subchannel}
 use Rattle.machine_model.specs.declared.state.SubchannelState.{SubchannelState}
 use Rattle.machine_model.specs.State.{State}
-use Rattle.machine_model.specs.Instructions.{started, tested, enabled}
+use Rattle.machine_model.specs.Instructions.{started, tested}
 use Rattle.machine_model.specs.Choosing.{chosen, offered, without_path}
 use Rattle.machine_model.specs.Taking.{takes_up}
-use Rattle.machine_model.specs.Steps.{SubTurn, DownTurn, start_with, test_with, enable_with, choose_sub, is_full, finds_full, up_front, up_sub, down_front, down_sub, report_sends, Step}
+use Rattle.machine_model.specs.Steps.{SubTurn, DownTurn, start_with, test_with, modify_with, choose_sub, is_full, finds_full, up_front, up_sub, down_front, down_sub, report_sends, Step}
 use Rattle.machine_laws.proofs.Walk.{IsWalk, step-walks}
 
 -- what each event leaves of the state of a subchannel
@@ -35,7 +37,7 @@ pub record IsKept (R : SubchannelState → SubchannelState → Type 0) : Type 0 
   pub same : (s : SubchannelState) → R s s
   pub starts : (s : SubchannelState) (orb : Orb) → R s (started s orb)
   pub tests : (s : SubchannelState) → R s (tested s)
-  pub enables : (s : SubchannelState) (subclass : ℕ) (multipath : Bool) → R s (enabled s subclass multipath)
+  pub modifies : (s : SubchannelState) (pmcw : Pmcw) → R s (record s { pmcw = pmcw })
   pub offers : (s : SubchannelState) (program : Program) (path : ℕ) → R s (offered s program path)
   pub ends : (s : SubchannelState) → R s (without_path s)
   pub takes : (storage : Contents) (s : SubchannelState) (path : ℕ) (signal : Up) → R s (takes_up storage s path signal).state
@@ -87,11 +89,11 @@ module _ (R : SubchannelState → SubchannelState → Type 0) (k : IsKept R) whe
   test-kept sub code.Two = unchanged sub
   test-kept sub code.Three = unchanged sub
 
-  enable-kept : (sub : Subchannel) (subclass : ℕ) (multipath : Bool) (c : ConditionCode) → Changed R sub (enable_with sub subclass multipath c).sub
-  enable-kept sub subclass multipath code.Zero = record { setup = refl; state = k.enables sub.state subclass multipath }
-  enable-kept sub subclass multipath code.One = unchanged sub
-  enable-kept sub subclass multipath code.Two = unchanged sub
-  enable-kept sub subclass multipath code.Three = unchanged sub
+  modify-kept : (sub : Subchannel) (given : block.Pmcw) (c : ConditionCode) → Changed R sub (modify_with sub given c).sub
+  modify-kept sub given code.Zero = record { setup = refl; state = k.modifies sub.state _ }
+  modify-kept sub given code.One = unchanged sub
+  modify-kept sub given code.Two = unchanged sub
+  modify-kept sub given code.Three = unchanged sub
 
   choose-kept : (sub : Subchannel) (c : Chosen) → OkSub sub (choose_sub sub c)
   choose-kept sub Idle = unchanged sub
@@ -137,7 +139,7 @@ module _ (R : SubchannelState → SubchannelState → Type 0) (k : IsKept R) whe
     stays = λ storage. record { sets = refl; subs = unmoved s };
     starts = λ place sub orb c e. record { sets = refl; subs = set-moved s place sub _ e (start-kept sub orb c) };
     tests = λ storage place sub c e. record { sets = refl; subs = set-moved s place sub _ e (test-kept sub c) };
-    enables = λ place sub subclass multipath c e. record { sets = refl; subs = set-moved s place sub _ e (enable-kept sub subclass multipath c) };
+    modifies = λ storage place sub given c e. record { sets = refl; subs = set-moved s place sub _ e (modify-kept sub given c) };
     chooses = λ place sub choice t e h. record { sets = refl; subs = set-moved s place sub t.sub e (subst (OkSub sub) h (choose-kept sub (chosen sub choice))) };
     ups = λ place sub path t e h. record { sets = refl; subs = set-moved s place sub t.sub e (subst (OkSub sub) h (up-kept s.storage sub path)) };
     downs = λ place sub u path t e f h. record { sets = refl; subs = set-moved s place sub t.sub e (subst (OkBoth sub) h (down-kept sub path u)) };

@@ -217,11 +217,16 @@ executes-shows : (n : ℕ) (id : SubchannelId) (s : State) (cpu : ℕ) (i : Inst
 executes-shows n id s cpu (instruction.Ssch word address) r new a stays w = inl refl
 executes-shows n id s cpu (instruction.Tsch word address) r new a stays w =
     word-shows n id s cpu word address (subchannel_named s.sets word) r new a stays w
+executes-shows n id s cpu (instruction.Stsch word address) r new a stays w = inl refl
+executes-shows n id s cpu (instruction.Msch word address) r new a stays w = inl refl
 executes-shows n id s cpu (instruction.Enable word subclass multipath) r new a stays w = inl refl
 
 step-shows : (n : ℕ) (id : SubchannelId) (s : State) (e : Event) (r : Reply) (new : State) →
     All (SoundSub n) s.subs → place_in id new.subs ≡ place_in id s.subs → Step s e r new → Shows id s new (serial_of s.sets id e r)
 step-shows n id s (event.Put address bytes) r new a stays w = inl refl
+step-shows n id s (event.SetKey address key) r new a stays w = inl refl
+step-shows n id s (event.SetPrefix cpu address) r new a stays w = inl refl
+step-shows n id s (event.Show address count) r new a stays w = inl refl
 step-shows n id s (event.Execute cpu i) r new a stays w = executes-shows n id s cpu i r new a stays w
 step-shows n id s (event.Choose word) r new a stays w = inl refl
 step-shows n id s (event.Up word path) r new a stays w = inl refl

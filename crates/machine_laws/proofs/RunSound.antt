@@ -15,7 +15,7 @@ use Rattle.machine_model.specs.declared.state.SubchannelState.{SubchannelState}
 use Rattle.machine_model.specs.State.{State, opening_of, opened}
 use Rattle.machine_model.specs.Steps.{Step, Run, Opened, Stepped}
 use Rattle.machine_laws.specs.Claims.{IsLater}
-use Rattle.machine_laws.proofs.Sound.{Sound, later, started-sound, tested-sound, enabled-sound, offered-sound, over-sound, up-sound}
+use Rattle.machine_laws.proofs.Sound.{Sound, later, started-sound, tested-sound, modified-sound, offered-sound, over-sound, up-sound}
 use Rattle.machine_laws.proofs.Moves.{IsKept, Changed, step-moves}
 
 -- one more event, above any floor
@@ -27,7 +27,7 @@ turns n = record {
   same = λ s floor k. later floor n s k;
   starts = λ s orb floor k. started-sound floor n s orb k;
   tests = λ s floor k. tested-sound floor n s k;
-  enables = λ s subclass multipath floor k. enabled-sound floor n s subclass multipath k;
+  modifies = λ s pmcw floor k. modified-sound floor n s pmcw k;
   offers = λ s program path floor k. offered-sound floor n s program path k;
   ends = λ s floor k. over-sound floor n s k;
   takes = λ storage s path signal floor k. up-sound floor n storage s path signal k;

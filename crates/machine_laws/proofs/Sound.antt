@@ -25,12 +25,13 @@ use Rattle.chan_model.specs.Status.{scsw_made, serials_made, is_uncleared, inter
 use Rattle.chan_model.specs.UnitReports.{is_last_end}
 use Rattle.machine_model.specs.declared.state.Begun.{Begun}
 use Rattle.machine_model.specs.declared.state.Check.{Check}
+use Rattle.machine_model.specs.declared.state.Pmcw.{Pmcw}
 use Rattle.machine_model.specs.declared.state.Program.{Program}
 use Rattle.machine_model.specs.declared.state.SubchannelState.{SubchannelState}
 use Rattle.machine_model.specs.declared.state.Transfer.{Transfer}
 use Rattle.machine_model.specs.declared.state.UpStep.{UpStep}
 use Rattle.machine_model.specs.Bounds.{IsMovedWithin}
-use Rattle.machine_model.specs.Instructions.{started, tested, enabled}
+use Rattle.machine_model.specs.Instructions.{started, tested}
 use Rattle.machine_model.specs.Choosing.{offered, without_path}
 use Rattle.machine_model.specs.Programs.{first_command, read_block, is_served, with_moved, next_given, next_bytes, given_of, is_current}
 use Rattle.machine_model.specs.Statuses.{with_status, no_path_shown, fetch_fault_shown, channel_end_shown}
@@ -89,8 +90,8 @@ status-sound floor n s shown k =
 pub started-sound : (floor : Serials) (n : ℕ) (s : SubchannelState) (orb : Orb) → Sound floor n s → Sound floor (n + 1) (started s orb)
 started-sound floor n s orb k = (omega (arith, k.0), omega (arith, k.1), omega (arith, k.2), moved-later n s.begun k.3, k.4, k.5, k.6, k.7)
 
-pub enabled-sound : (floor : Serials) (n : ℕ) (s : SubchannelState) (subclass : ℕ) (multipath : Bool) → Sound floor n s → Sound floor (n + 1) (enabled s subclass multipath)
-enabled-sound floor n s subclass multipath k = later floor n s k
+pub modified-sound : (floor : Serials) (n : ℕ) (s : SubchannelState) (pmcw : Pmcw) → Sound floor n s → Sound floor (n + 1) (record s { pmcw = pmcw })
+modified-sound floor n s pmcw k = later floor n s k
 
 cleared-scsw : (b c d : Bool) (x y z w : Scsw) → x.status.pending ≡ false → y.status.pending ≡ false → z.status.pending ≡ false → w.status.pending ≡ false →
     (if b then (if not c then x else (if d then y else z)) else w).status.pending ≡ false

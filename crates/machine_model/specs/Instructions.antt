@@ -58,10 +58,3 @@ started s orb = record s {
 -- TEST: all status that was made is cleared
 abbrev pub tested : SubchannelState → SubchannelState
 tested s = record s { scsw = tested_scsw s.scsw; serials = serials_cleared s.serials }
-
--- the interruption subclass and the mode are set, and the subchannel is enabled
-abbrev pub enabled_pmcw : Pmcw → ℕ → Bool → Pmcw
-enabled_pmcw pmcw subclass multipath = record pmcw { subclass = subclass; multipath = multipath; enabled = true }
-
-abbrev pub enabled : SubchannelState → ℕ → Bool → SubchannelState
-enabled s subclass multipath = record s { pmcw = enabled_pmcw s.pmcw subclass multipath }

@@ -3,6 +3,7 @@ pub mod Statuses
 pub mod Programs
 pub mod Instructions
 pub mod Choosing
+pub mod SubchannelBlocks
 pub mod Taking
 pub mod Steps
 pub mod Bounds

@@ -74,6 +74,7 @@ pub struct Pmcw {
     pub last_used: Option<Path>,
     /// POM: the paths that are operational.
     pub operational: PathSet,
+    ghost subclass_fits: { subclass < 8 },
 }
 
 /// A channel program that was started.

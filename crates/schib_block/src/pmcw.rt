@@ -1,6 +1,6 @@
 //! The path-management-control word (SA22-7832, chapter 15).
 
-ghost use Rattle.std.specs.Prelude.{◌≡◌, ◌<◌, ◌↔◌, [], ◌∷◌, map, IsOk, OnOk, OnErr};
+ghost use Rattle.std.specs.Prelude.{◌≡◌, ◌<◌, ◌↔◌, [], ◌∷◌, map, IsTrue, IsOk, OnOk, OnErr};
 ghost use Rattle.zbits.specs.Layout as layout_spec;
 ghost use Rattle.zbits.specs.Layout.{AllShow};
 
@@ -65,6 +65,13 @@ impl Pmcw {
         Pmcw::of_words(parameter, controls, masks, block, front, back, last)
     }
 
+    /// Whether MODIFY SUBCHANNEL takes the word: LM and MM are zero (own).
+    pub fn is_allowed(&self) -> bool
+        ensures { IsTrue result ↔ IsAllowed self.now }
+    {
+        self.limit_mode == 0 && self.measurement_mode == 0
+    }
+
     /// What MODIFY SUBCHANNEL does: takes from the given word the parameter, the subclass, E, D, LPM and
     /// POM, and nothing else (own).
     ///
@@ -74,7 +81,7 @@ impl Pmcw {
         ensures taken { OnOk result (self.new ≡ modified self.old given.now) }
         ensures refused { OnErr result (self.new ≡ self.old) }
     {
-        if given.limit_mode != 0 || given.measurement_mode != 0 {
+        if !given.is_allowed() {
             return Err(Operand);
         }
         self.parameter = given.parameter;

@@ -1,4 +1,5 @@
 mod FirstPlaces
 mod Lifting
+mod Modifying
 mod Pasts
 mod Answering

@@ -208,20 +208,26 @@ fn opened(setup: &SubchannelSetup) -> Subchannel
     }
 }
 
+fn opening_pmcw() -> Pmcw
+    ensures { result ≡ state_spec.opening_pmcw }
+{
+    Pmcw {
+        parameter: 0,
+        subclass: 0,
+        enabled: false,
+        multipath: false,
+        logical: [true; 8],
+        not_operational: [false; 8],
+        last_used: None,
+        operational: [true; 8],
+    }
+}
+
 fn opening_subchannel() -> SubchannelState
     ensures { result ≡ state_spec.opening_subchannel }
 {
     SubchannelState {
-        pmcw: Pmcw {
-            parameter: 0,
-            subclass: 0,
-            enabled: false,
-            multipath: false,
-            logical: [true; 8],
-            not_operational: [false; 8],
-            last_used: None,
-            operational: [true; 8],
-        },
+        pmcw: opening_pmcw(),
         scsw: Scsw::zero(),
         serials: Serials {
             made: 0,

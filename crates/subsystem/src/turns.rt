@@ -5,6 +5,7 @@ ghost use Rattle.machine_model.specs.Steps as spec;
 ghost use Rattle.machine_model.specs.Choosing as choosing_spec;
 ghost use Rattle.machine_model.specs.Bounds.{IsRoomy};
 ghost use Rattle.chan_model.specs.UnitTable as unit_spec;
+ghost use Rattle.schib_block.specs.Modify.{IsAllowed};
 
 use chan_model::fault::Fault;
 use chan_model::names::{Path, Side};
@@ -14,13 +15,13 @@ use chan_model::report::Report;
 use chan_model::signal::{Down, OnPath, Taken, Up};
 use machine_model::state::{Chosen, Program, Subchannel, SubchannelState, UpStep};
 use orb_block::Orb;
+use schib_block::pmcw::Pmcw;
 use scsw_irb::irb::Irb;
 use storage_keys::Storage;
 use subchannel::choosing::{offered, without_path};
-use subchannel::instructions::{
-    condition_of, enabled, msch_code, ssch_code, started, tested, tsch_code,
-};
+use subchannel::instructions::{condition_of, msch_code, ssch_code, started, tested, tsch_code};
 use subchannel::taking::takes_up;
+use subchannel_blocks::modified_state;
 use unit::Unit;
 use wires::Wires;
 
@@ -84,14 +85,15 @@ pub fn stores_irb(code: ConditionCode) -> bool
     }
 }
 
-/// The subclass and mode are set, and the subchannel is enabled.
-pub fn enable_sub(sub: &mut Subchannel, subclass: u8, multipath: bool) -> Reply
-    ensures { spec.enable_sub sub.old subclass multipath ≡ spec.leaves result sub.new }
+/// MODIFY SUBCHANNEL with a word that it allows.
+pub fn modify_sub(sub: &mut Subchannel, given: &Pmcw) -> Reply
+    requires { IsAllowed given.now }
+    ensures { spec.modify_sub sub.old given.now ≡ spec.leaves result sub.new }
 {
     let serials = sub.state.serials;
     match msch_code(condition_of(sub.state)) {
         ConditionCode::Zero => {
-            sub.state = enabled(sub.state, subclass, multipath);
+            sub.state = modified_state(sub, given);
             Reply::Code(Answer::Zero(serials))
         }
         ConditionCode::One => Reply::Code(Answer::One(serials)),
