@@ -33,7 +33,9 @@ pub enum Answer {
 pub enum Reply {
     Done,
     /// The bytes of storage that were asked for.
-    Shown { bytes: Chunk },
+    Shown {
+        bytes: Chunk,
+    },
     /// The condition code of an instruction that shows no status; of TSCH and STSCH where it is 3.
     Code(Answer),
     /// The condition code 0 or 1 of TSCH, or 0 of STSCH, with the subchannel-status word that was stored.

@@ -61,7 +61,15 @@ fn lengths_keep_their_range(rt: HostRuntime) {
                 address: 0x2000,
                 length,
             };
-            assert!(rt; matches!(show.copy(), Event::Show { address: 0x2000, .. }));
+            assert!(rt;
+                matches!(
+                    show.copy(),
+                    Event::Show {
+                        address: 0x2000,
+                        ..
+                    }
+                )
+            );
         }
         None => assert!(rt; false, "the length is in range"),
     }
@@ -69,7 +77,15 @@ fn lengths_keep_their_range(rt: HostRuntime) {
         address: 0x2000,
         key: Key::of_byte(0x10),
     };
-    assert!(rt; matches!(key.copy(), Event::SetKey { key: Key { access: 1, .. }, .. }));
+    assert!(rt;
+        matches!(
+            key.copy(),
+            Event::SetKey {
+                key: Key { access: 1, .. },
+                ..
+            }
+        )
+    );
     let shown = Reply::Shown {
         bytes: Chunk::of(&[0xC1]),
     };

@@ -23,7 +23,7 @@ use Rattle.machine_model.specs.State.{State, place_of, place_in, first_place, on
 use Rattle.machine_model.specs.Instructions.{condition_of}
 use Rattle.machine_model.specs.Choosing.{chosen}
 use Rattle.machine_model.specs.SubchannelBlocks.{pmcw_of, enabling}
-use Rattle.machine_model.specs.Steps.{Outcome, SubTurn, DownTurn, at_sub, at_unit, start_with, start_at, Starts, Starts_with, test_with, test_sub, test_code_of, tests, store_at, stores, modify_with, modify_at, Modifies_by, Modifies, enable_sub, Enables_with, Enables, Executes_at, Executes_on, choose_sub, Chooses, up_sub, up_at, down_sub, down_unit, down_at, report_sub, report_to, report_at, reaches, reached_in, storage_turn, show_turn_of, does, Steps, Step}
+use Rattle.machine_model.specs.Steps.{Outcome, SubTurn, DownTurn, at_sub, at_unit, start_with, start_at, Starts, Starts_with, test_with, test_sub, test_code_of, tests, store_at, stores, modify_with, modify_at, Modifies_by, Modifies, Enables_with, Enables, Executes_at, Executes_on, choose_sub, Chooses, up_sub, up_at, down_sub, down_unit, down_at, report_sub, report_to, report_at, reaches, reached_in, storage_turn, show_turn_of, does, Steps, Step}
 
 -- what follows each turn from the state s
 pub record IsWalk (s : State) (P : State → Type 0) : Type 0 where

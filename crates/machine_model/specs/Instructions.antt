@@ -1,5 +1,5 @@
 -- What the instructions leave of a subchannel (SA22-7832, chapter 14; the effects are this project's own choice).
-use Rattle.std.specs.Prelude.{ℕ, ◌+◌, Bool, true, false, not, Some}
+use Rattle.std.specs.Prelude.{◌+◌, true, false, not, Some}
 use Rattle.orb_block.specs.declared.Orb.{Orb}
 use Rattle.scsw_irb.specs.declared.scsw.DeferredCode.TheVariants as deferred
 use Rattle.scsw_irb.specs.declared.scsw.Scsw.{Scsw}

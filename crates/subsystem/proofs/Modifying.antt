@@ -1,14 +1,12 @@
 -- MODIFY SUBCHANNEL and enabling at a subchannel that a word names, as what they do to the whole.
-use Rattle.std.proofs.Common.{◌≡◌, sym, ap, ◌∙◌, subst, ℕ, Bool, true, false, Option, None, Some, Result, Ok, Err, List, [], ◌∷◌, refl, inl, inr, map}
-use Rattle.std.specs.Prelude.{slice_index}
+use Rattle.std.proofs.Common.{◌≡◌, sym, ap, ◌∙◌, subst, ℕ, Bool, true, false, Option, Some, Result, Ok, List, [], ◌∷◌}
 use Rattle.zbits.specs.Layout.{image_of}
 use Rattle.zbits.specs.Words.{bytes_of_words, word_at}
 use Rattle.schib_block.specs.declared.pmcw.Pmcw as block
 use Rattle.schib_block.specs.declared.schib.Schib.{Schib}
-use Rattle.schib_block.specs.Modify.{IsAllowed}
 use Rattle.schib_block.specs.SchibTable.{ShowsPmcw, schib_tables}
 use Rattle.storage_keys.specs.declared.StorageFault.{StorageFault}
-use Rattle.storage_keys.specs.Storage.{Contents, operand_at, operand_check, operand_stored, places, where_permitted}
+use Rattle.storage_keys.specs.Storage.{Contents, operand_at, operand_stored}
 use Rattle.channel_config.specs.declared.names.SubchannelId.{SubchannelId}
 use Rattle.channel_config.specs.SubchannelWords.{subchannel_named}
 use Rattle.chan_model.specs.declared.event.Event.TheVariants as event
@@ -17,7 +15,7 @@ use Rattle.chan_model.specs.declared.reply.Reply.{Reply}
 use Rattle.machine_model.specs.declared.state.Subchannel.{Subchannel}
 use Rattle.machine_model.specs.State.{State, place_in, sub_at, with_sub}
 use Rattle.machine_model.specs.SubchannelBlocks.{pmcw_of, schib_of, enabling, enabling_schib, enabling_word}
-use Rattle.machine_model.specs.Steps.{Outcome, SubTurn, Steps, Executes_on, Modifies, Modifies_with, Enables, Enables_with, leaves, does, at_place, with_schib, with_enabling, modify_sub, enable_sub}
+use Rattle.machine_model.specs.Steps.{Outcome, SubTurn, Steps, Executes_on, Modifies, Modifies_with, leaves, does, at_place, with_schib, with_enabling, modify_sub, enable_sub}
 
 pub false-not-true : (b : Bool) → b ≡ false → b ≡ true → ⊥
 false-not-true true e f = absurd (cc e)
@@ -29,26 +27,6 @@ pub modify-executes : (s : State) (cpu word address : ℕ) (id : SubchannelId) (
 modify-executes s cpu word address id image given r at fetched shows w =
     subst (λ (x : Option SubchannelId). Executes_on s cpu (instruction.Msch word address) x r) (sym at)
     (subst (λ (x : Result (List ℕ) StorageFault). Modifies s (place_in id s.subs) (sub_at s.subs (place_in id s.subs)) x r) (sym fetched) (given, shows, w))
-
--- the instruction, where the word names an id that is at no place
-pub enable-none : (s : State) (cpu word subclass : ℕ) (multipath : Bool) (id : SubchannelId) (r : Outcome) →
-    subchannel_named s.sets word ≡ Some id → place_in id s.subs ≡ None →
-    Enables s cpu None None subclass multipath (operand_at s.storage cpu 0xF00 52 4) r →
-    Steps s (event.Execute cpu (instruction.Enable word subclass multipath)) r
-enable-none s cpu word subclass multipath id r at nowhere w =
-    subst (λ (x : Option SubchannelId). Executes_on s cpu (instruction.Enable word subclass multipath) x r) (sym at)
-    (subst (λ (p : Option ℕ). Enables s cpu p (sub_at s.subs p) subclass multipath (operand_at s.storage cpu 0xF00 52 4) r) (sym nowhere) w)
-
--- and where it is at a place
-pub enable-some : (s : State) (cpu word subclass place : ℕ) (multipath : Bool) (id : SubchannelId) (sub : Subchannel) (r : Outcome) →
-    subchannel_named s.sets word ≡ Some id → operand_check s.storage cpu 0xF00 52 4 ≡ Ok tt → place_in id s.subs ≡ Some place →
-    sub_at s.subs (Some place) ≡ Some sub → r ≡ enable_sub s cpu place sub subclass multipath →
-    Steps s (event.Execute cpu (instruction.Enable word subclass multipath)) r
-enable-some s cpu word subclass place multipath id sub r at fits here there w =
-    subst (λ (x : Option SubchannelId). Executes_on s cpu (instruction.Enable word subclass multipath) x r) (sym at)
-    (subst (λ (p : Option ℕ). Enables s cpu p (sub_at s.subs p) subclass multipath (operand_at s.storage cpu 0xF00 52 4) r) (sym here)
-    (subst (λ (q : Option Subchannel). Enables s cpu (Some place) q subclass multipath (operand_at s.storage cpu 0xF00 52 4) r) (sym there)
-    (subst (λ (x : Result (Unit {0}) StorageFault). Enables s cpu (Some place) (Some sub) subclass multipath (where_permitted x (map (slice_index s.storage.bytes) (places s.storage cpu 0xF00 52))) r) (sym fits) w)))
 
 -- what enabling stores, and what it leaves of the subchannel
 pub enables-sub : (s : State) (cpu number subclass place : ℕ) (multipath : Bool) (sub new : Subchannel) (schib : Schib) (image : List ℕ) (storage : Contents) (r : Reply) →
