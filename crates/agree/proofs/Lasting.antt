@@ -78,7 +78,7 @@ worlds-more : (w : WorldState) (es : List WorldEvent) (i : ℕ) (d : WorldEvent)
 worlds-more w es i d lt =
     ap (λ (xs : List WorldEvent). worlds_after w xs) (take_at_read es i d lt).1 ∙ worlds-push w (take i es) (get_or es i d)
 
-pub worlds-step : (w now new : WorldState) (es : List WorldEvent) (i : ℕ) (d : WorldEvent) → i < length es → now ≡ worlds_after w (take i es) →
-    new ≡ world_after now (get_or es i d) → new ≡ worlds_after w (take (i + 1) es)
-worlds-step w now new es i d lt before step =
-    step ∙ (ap (λ (x : WorldState). world_after x (get_or es i d)) before ∙ sym (worlds-more w es i d lt))
+pub worlds-step : (w now new : WorldState) (es : List WorldEvent) (i : ℕ) (e d : WorldEvent) → i < length es → e ≡ get_or es i d → now ≡ worlds_after w (take i es) →
+    new ≡ world_after now e → new ≡ worlds_after w (take (i + 1) es)
+worlds-step w now new es i e d lt there before step =
+    step ∙ (ap (λ (x : WorldEvent). world_after now x) there ∙ (ap (λ (x : WorldState). world_after x (get_or es i d)) before ∙ sym (worlds-more w es i d lt)))

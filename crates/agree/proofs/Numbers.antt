@@ -67,7 +67,7 @@ acts-drawn n h (Takes x may) = taken-drawn n h x.path x.signal may
 acts-drawn n h (Sends x) = omega arith
 
 within-more : (n : ℕ) (u : UnitState) → IsUnitWithin n u → IsUnitWithin (n + 1) u
-within-more n u h = record { restarts = omega (arith, h.restarts); attentions = omega (arith, h.attentions); connection = omega (arith, h.connection) }
+within-more n u h = record { restarts = omega (arith, h.restarts); attentions = omega (arith, h.attentions); connection = omega (arith, h.connection); sequence = omega (arith, h.sequence) }
 
 -- a side that drew at most one number more
 side-within : (n : ℕ) (w : WorldState) (side : Side) (l : LineState) → IsWithin n w → l.link.drawn ≤ (line_of w side).link.drawn + 1 → IsWithin (n + 1) (with_line w side l)

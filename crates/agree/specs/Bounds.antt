@@ -1,7 +1,7 @@
 -- Numbers that can still be raised: none is above the count of steps.
 use Rattle.std.specs.Prelude.{◌≤◌, ℕ}
 use Rattle.chan_model.specs.declared.unit_state.UnitState.{UnitState}
-use Rattle.unit.specs.UnitWords.{last_connection}
+use Rattle.unit.specs.UnitWords.{last_connection, last_sequence}
 use Rattle.agreement_laws.specs.Invariant.{IsGood}
 use Rattle.agree.specs.State.{WorldState, links_of}
 
@@ -9,6 +9,7 @@ pub record IsUnitWithin (n : ℕ) (u : UnitState) : Type 0 where
   pub restarts : u.restarts ≤ n
   pub attentions : u.attentions ≤ n
   pub connection : last_connection u.own ≤ n
+  pub sequence : last_sequence u.at_hand ≤ n
 
 pub record IsWithin (n : ℕ) (w : WorldState) : Type 0 where
   pub «unit» : IsUnitWithin n w.«unit»

@@ -1,11 +1,13 @@
 //! What may happen to a unit and its sides.
 
+ghost use Rattle.std.specs.Prelude.{◌≡◌};
+
 use chan_model::names::Side;
 use chan_model::report::Report;
 
 /// One thing that may happen. A path is its index, and a place counts the signals that were sent one way at one side and
 /// have not vanished, from 0.
-#[derive(Clone, Copy, Debug)]
+#[derive(Drop)]
 pub enum WorldEvent {
     /// The subsystem does what it must for a side: it offers a program on the path, or sends the Reset on it.
     Choose {
@@ -85,4 +87,80 @@ pub enum WorldEvent {
     Restart,
     /// The device answered.
     Report(Report),
+}
+
+impl WorldEvent {
+    /// The same event; it takes no memory.
+    pub fn copy(&self) -> Self
+        ensures { result ≡ self.now }
+    {
+        match self {
+            WorldEvent::Choose {
+                side,
+                path,
+                single_path,
+            } => WorldEvent::Choose {
+                side: *side,
+                path: *path,
+                single_path: *single_path,
+            },
+            WorldEvent::Down {
+                side,
+                place,
+                keep,
+                may,
+            } => WorldEvent::Down {
+                side: *side,
+                place: *place,
+                keep: *keep,
+                may: *may,
+            },
+            WorldEvent::Up {
+                side,
+                place,
+                keep,
+                may,
+            } => WorldEvent::Up {
+                side: *side,
+                place: *place,
+                keep: *keep,
+                may: *may,
+            },
+            WorldEvent::LoseDown { side, place } => WorldEvent::LoseDown {
+                side: *side,
+                place: *place,
+            },
+            WorldEvent::LoseUp { side, place } => WorldEvent::LoseUp {
+                side: *side,
+                place: *place,
+            },
+            WorldEvent::PathDown { side, path } => WorldEvent::PathDown {
+                side: *side,
+                path: *path,
+            },
+            WorldEvent::PathUp { side, path } => WorldEvent::PathUp {
+                side: *side,
+                path: *path,
+            },
+            WorldEvent::PathReset { side, path } => WorldEvent::PathReset {
+                side: *side,
+                path: *path,
+            },
+            WorldEvent::LetGo { side } => WorldEvent::LetGo { side: *side },
+            WorldEvent::Clear { side } => WorldEvent::Clear { side: *side },
+            WorldEvent::SubsystemReset => WorldEvent::SubsystemReset,
+            WorldEvent::Leave => WorldEvent::Leave,
+            WorldEvent::Ask { path } => WorldEvent::Ask { path: *path },
+            WorldEvent::Attention { side, path } => WorldEvent::Attention {
+                side: *side,
+                path: *path,
+            },
+            WorldEvent::Notice { side, path } => WorldEvent::Notice {
+                side: *side,
+                path: *path,
+            },
+            WorldEvent::Restart => WorldEvent::Restart,
+            WorldEvent::Report(report) => WorldEvent::Report(report.copy()),
+        }
+    }
 }

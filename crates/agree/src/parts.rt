@@ -249,6 +249,7 @@ impl Parts {
     }
 
     fn report(&mut self, report: &Report) -> Result<(), Fault>
+        requires { IsWithin (2 ^ 62) self.old }
         ensures { Gives self.old (spec.turn_of self.old (event_spec.Report report.now)) result self.new }
     {
         match self.unit.own() {

@@ -96,7 +96,7 @@ fn a_repeated_select_is_accepted_once(rt: HostRuntime) {
         keep: true,
         may: true,
     };
-    assert!(rt; accepts(&mut world, &[choose(side, 0), again, again]));
+    assert!(rt; accepts(&mut world, &[choose(side, 0), again.copy(), again]));
     assert_eq!(rt; world.accepted(side), [1].as_slice());
     assert_eq!(rt; world.downs_len(side), 1);
     assert_eq!(rt; world.ups_len(side), 1);
@@ -250,7 +250,7 @@ fn what_cannot_be_is_refused(rt: HostRuntime) {
             number: 1,
             command: 1,
             sequence: 0,
-            answer: DeviceAnswer::Asks,
+            answer: DeviceAnswer::Begins,
         }),
     ] {
         assert!(rt; is_not_now(&mut world, &event));

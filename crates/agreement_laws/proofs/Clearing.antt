@@ -24,7 +24,7 @@ use Rattle.chan_model.specs.declared.unit_state.Progress.TheVariants as progress
 use Rattle.chan_model.specs.declared.unit_state.UnitState.{UnitState}
 use Rattle.chan_model.specs.Sides.{same_side}
 use Rattle.chan_model.specs.UnitTable.{UnitStep, side_of, is_owner, is_owner_on, is_idle, selected, raised, given_next, answered_load, answered_last, granted_at, granted, refused_at, refused, forgetting, telling, resets, reset_side, sends, unit_works, unit_takes, leaving, asking, attending, noticing}
-use Rattle.chan_model.specs.UnitReports.{absorbed, answer_taken, report_on, report_of, is_outward, may_end}
+use Rattle.chan_model.specs.UnitReports.{absorbed, supplied, is_to_supply, most_of, sent_again, answer_taken, report_on, report_of, is_outward, may_end}
 use Rattle.agreement_laws.specs.Moving.{UnitAct, Takes_down, Leaves, Asks, Attends, Restarts, Notices, Reports, is_owner_side, sent_by, sent_to, up_sent}
 use Rattle.agreement_laws.specs.Claims.{IsReset, IsTakenBy}
 use Rattle.agreement_laws.proofs.UnitActs.{same-sides}
@@ -116,18 +116,30 @@ absorbed-other : (u : UnitState) (p t c : ℕ) (x : AtHand) (given : Option (Lis
 absorbed-other u p t c x None count = tt
 absorbed-other u p t c x (Some bytes) count = other-if (nat_le count (length bytes)) (Some _) None tt tt
 
+again-other : (u : UnitState) (p t c : ℕ) (x : AtHand) (load : Option Load) → IsOtherStep (sent_again u p t c x load)
+again-other u p t c x None = tt
+again-other u p t c x (Some load) = other-if x.again (Some _) None tt tt
+
 taken-other : (u : UnitState) (p t c : ℕ) (x : AtHand) (at : Progress) (a : DeviceAnswer) → IsOtherStep (answer_taken u p t c x at a)
-taken-other u p t c x progress.New answer.Asks = other-if (is_outward x.code) (Some _) None tt tt
+taken-other u p t c x progress.New answer.Begins = other-if (is_outward x.code) (Some _) (Some _) tt tt
 taken-other u p t c x progress.New (answer.Absorbed count) = tt
+taken-other u p t c x progress.New (answer.Supplied bytes) = tt
+taken-other u p t c x progress.New answer.Again = tt
 taken-other u p t c x progress.New (answer.Ended status more) = other-if (may_end u.halted x progress.New status more) (Some _) None tt tt
-taken-other u p t c x progress.Working answer.Asks = tt
+taken-other u p t c x progress.Working answer.Begins = tt
 taken-other u p t c x progress.Working (answer.Absorbed count) = absorbed-other u p t c x x.given count
+taken-other u p t c x progress.Working (answer.Supplied bytes) = other-if (is_to_supply x && nat_le (length bytes) (most_of x)) (Some _) None tt tt
+taken-other u p t c x progress.Working answer.Again = again-other u p t c x x.unanswered
 taken-other u p t c x progress.Working (answer.Ended status more) = other-if (may_end u.halted x progress.Working status more) (Some _) None tt tt
-taken-other u p t c x progress.ChannelEnded answer.Asks = tt
+taken-other u p t c x progress.ChannelEnded answer.Begins = tt
 taken-other u p t c x progress.ChannelEnded (answer.Absorbed count) = tt
+taken-other u p t c x progress.ChannelEnded (answer.Supplied bytes) = tt
+taken-other u p t c x progress.ChannelEnded answer.Again = tt
 taken-other u p t c x progress.ChannelEnded (answer.Ended status more) = other-if (may_end u.halted x progress.ChannelEnded status more) (Some _) None tt tt
-taken-other u p t c x progress.Ended answer.Asks = tt
+taken-other u p t c x progress.Ended answer.Begins = tt
 taken-other u p t c x progress.Ended (answer.Absorbed count) = tt
+taken-other u p t c x progress.Ended (answer.Supplied bytes) = tt
+taken-other u p t c x progress.Ended answer.Again = tt
 taken-other u p t c x progress.Ended (answer.Ended status more) = tt
 
 reported-other : (u : UnitState) (t : ℕ) (place : Place) (x : Option AtHand) (r : Report) → IsOtherStep (report_on u t place x r)

@@ -8,6 +8,7 @@ use Rattle.chan_model.specs.declared.hold_state.HoldState.{HoldState}
 use Rattle.chan_model.specs.declared.report.Report.{Report}
 use Rattle.chan_model.specs.declared.report.DeviceAnswer.{DeviceAnswer}
 use Rattle.chan_model.specs.declared.report.DeviceAnswer.TheVariants as answer
+use Rattle.chan_model.specs.declared.signal.Load.{Load}
 use Rattle.chan_model.specs.declared.signal.Down.{Down}
 use Rattle.chan_model.specs.declared.signal.Down.TheVariants as down
 use Rattle.chan_model.specs.declared.signal.Up.TheVariants as up
@@ -22,7 +23,7 @@ use Rattle.chan_model.specs.declared.unit_state.SideState.{SideState}
 use Rattle.chan_model.specs.declared.unit_state.UnitState.{UnitState}
 use Rattle.chan_model.specs.Sides.{same_side}
 use Rattle.chan_model.specs.UnitTable.{UnitStep, sends, side_of, is_owner, is_owner_on, is_idle, reset_side, telling, unit_works, unit_takes, unit_after, leaving, leaving_from, asking, asking_from, attending, restarted, noticing}
-use Rattle.chan_model.specs.UnitReports.{absorbed, may_end, is_outward, answer_taken, report_on, report_of}
+use Rattle.chan_model.specs.UnitReports.{absorbed, is_to_supply, most_of, sent_again, may_end, is_outward, answer_taken, report_on, report_of}
 use Rattle.agreement_laws.specs.Moving.{UnitAct, Takes_down, Leaves, Asks, Attends, Restarts, Notices, Reports, unit_steps, is_owner_side, sent_by, up_sent}
 use Rattle.agreement_laws.specs.Invariant.{Seen, Idle, Fresh, Owns, Ends, ends_of, seen_by, IsResetTo, IsResetGood, IsDownGood, IsFreshFree}
 use Rattle.agreement_laws.proofs.UnitKeeps.{UnitMoves, Stays, Clears}
@@ -210,18 +211,34 @@ absorbed-steps : (k : Side) (u : UnitState) (p t c : ℕ) (x : AtHand) (given : 
 absorbed-steps k u p t c x None count = nothing k u Always
 absorbed-steps k u p t c x (Some bytes) count = step-if k u (nat_le count (length bytes)) _ Always (unseen k u _ _ Always refl refl refl refl tt)
 
+begun-steps : (k : Side) (u : UnitState) (b : Bool) (step other : Option UnitStep) → IsStep k u step Always → IsStep k u other Always → IsStep k u (if b then step else other) Always
+begun-steps k u true step other s o = s
+begun-steps k u false step other s o = o
+
+again-steps : (k : Side) (u : UnitState) (p t c : ℕ) (x : AtHand) (load : Option Load) → IsStep k u (sent_again u p t c x load) Always
+again-steps k u p t c x None = nothing k u Always
+again-steps k u p t c x (Some load) = step-if k u x.again _ Always (unseen k u _ _ Always refl refl refl refl tt)
+
 end-steps : (k : Side) (u : UnitState) (p t c : ℕ) (x : AtHand) (progress : Progress) (a : DeviceAnswer) → IsStep k u (answer_taken u p t c x progress a) Always
-end-steps k u p t c x progress.New answer.Asks = step-if k u (is_outward x.code) _ Always (unseen k u _ _ Always refl refl refl refl tt)
+end-steps k u p t c x progress.New answer.Begins = begun-steps k u (is_outward x.code) _ _ (unseen k u _ _ Always refl refl refl refl tt) (unseen k u _ None Always refl refl refl refl tt)
 end-steps k u p t c x progress.New (answer.Absorbed count) = nothing k u Always
+end-steps k u p t c x progress.New (answer.Supplied bytes) = nothing k u Always
+end-steps k u p t c x progress.New answer.Again = nothing k u Always
 end-steps k u p t c x progress.New (answer.Ended status more) = step-if k u (may_end u.halted x progress.New status more) _ Always (unseen k u _ _ Always refl refl refl refl tt)
-end-steps k u p t c x progress.Working answer.Asks = nothing k u Always
+end-steps k u p t c x progress.Working answer.Begins = nothing k u Always
 end-steps k u p t c x progress.Working (answer.Absorbed count) = absorbed-steps k u p t c x x.given count
+end-steps k u p t c x progress.Working (answer.Supplied bytes) = step-if k u (is_to_supply x && nat_le (length bytes) (most_of x)) _ Always (unseen k u _ _ Always refl refl refl refl tt)
+end-steps k u p t c x progress.Working answer.Again = again-steps k u p t c x x.unanswered
 end-steps k u p t c x progress.Working (answer.Ended status more) = step-if k u (may_end u.halted x progress.Working status more) _ Always (unseen k u _ _ Always refl refl refl refl tt)
-end-steps k u p t c x progress.ChannelEnded answer.Asks = nothing k u Always
+end-steps k u p t c x progress.ChannelEnded answer.Begins = nothing k u Always
 end-steps k u p t c x progress.ChannelEnded (answer.Absorbed count) = nothing k u Always
+end-steps k u p t c x progress.ChannelEnded (answer.Supplied bytes) = nothing k u Always
+end-steps k u p t c x progress.ChannelEnded answer.Again = nothing k u Always
 end-steps k u p t c x progress.ChannelEnded (answer.Ended status more) = step-if k u (may_end u.halted x progress.ChannelEnded status more) _ Always (unseen k u _ _ Always refl refl refl refl tt)
-end-steps k u p t c x progress.Ended answer.Asks = nothing k u Always
+end-steps k u p t c x progress.Ended answer.Begins = nothing k u Always
 end-steps k u p t c x progress.Ended (answer.Absorbed count) = nothing k u Always
+end-steps k u p t c x progress.Ended (answer.Supplied bytes) = nothing k u Always
+end-steps k u p t c x progress.Ended answer.Again = nothing k u Always
 end-steps k u p t c x progress.Ended (answer.Ended status more) = nothing k u Always
 
 report-steps : (k : Side) (u : UnitState) (t : ℕ) (place : Place) (x : Option AtHand) (r : Report) → IsStep k u (report_on u t place x r) Always

@@ -58,7 +58,7 @@ xsch_code c =
 abbrev pub msch_code : Condition → ConditionCode
 msch_code c = in_order c.provided c.status.pending (any_function c.functions)
 
--- STORE
+-- STORE: a subchannel that is provided need not be enabled
 abbrev pub stsch_code : Condition → ConditionCode
 stsch_code c = in_order c.provided false false
 

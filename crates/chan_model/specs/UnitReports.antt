@@ -1,15 +1,20 @@
 -- What a unit asks of its device, and what it does with the device's answer (own).
-use Rattle.std.specs.Prelude.{ℕ, ◌%◌, Bool, false, not, ◌==◌, ◌&&◌, ◌||◌, nat_le, if◌then◌else◌, Option, None, Some, is_none, List, length}
+use Rattle.std.specs.Prelude.{ℕ, ◌+◌, ◌%◌, Bool, false, not, ◌==◌, ◌&&◌, ◌||◌, nat_lt, nat_le, if◌then◌else◌, Option, None, Some, is_none, List, length}
 use Rattle.scsw_irb.specs.Status.{has}
 use Rattle.scsw_irb.specs.declared.status.DeviceStatus.{DeviceStatus}
 use Rattle.chan_model.specs.declared.names.Side.{Side}
+use Rattle.chan_model.specs.declared.signal.OnPath.{OnPath}
+use Rattle.chan_model.specs.declared.signal.Load.{Load}
 use Rattle.chan_model.specs.declared.signal.Load.TheVariants as load
+use Rattle.chan_model.specs.declared.signal.Up.{Up}
 use Rattle.chan_model.specs.declared.signal.Up.TheVariants as up
 use Rattle.chan_model.specs.declared.report.Call.TheVariants as call
 use Rattle.chan_model.specs.declared.report.Call.{Call}
 use Rattle.chan_model.specs.declared.report.DeviceAnswer.{DeviceAnswer}
-use Rattle.chan_model.specs.declared.report.DeviceAnswer.TheVariants.{Asks, Absorbed, Ended}
+use Rattle.chan_model.specs.declared.report.DeviceAnswer.TheVariants.{Begins, Absorbed, Supplied, Again, Ended}
 use Rattle.chan_model.specs.declared.report.Report.{Report}
+use Rattle.chan_model.specs.declared.report.ReportPath.{ReportPath}
+use Rattle.chan_model.specs.declared.report.ReportPath.TheVariants.{Refused, NothingSent, SentOn}
 use Rattle.chan_model.specs.declared.report.Work.{Work}
 use Rattle.chan_model.specs.declared.report.Work.TheVariants as work
 use Rattle.chan_model.specs.declared.unit_state.Place.{Place}
@@ -21,7 +26,7 @@ use Rattle.chan_model.specs.declared.unit_state.Progress.TheVariants as progress
 use Rattle.chan_model.specs.declared.unit_state.AtHand.{AtHand}
 use Rattle.chan_model.specs.declared.unit_state.UnitState.{UnitState}
 use Rattle.chan_model.specs.Sides.{same_side}
-use Rattle.chan_model.specs.UnitTable.{UnitStep, sends}
+use Rattle.chan_model.specs.UnitTable.{UnitStep, changes, sends}
 
 -- the bits of a device status (SA22-7832, chapter 16)
 abbrev pub has_channel_end : DeviceStatus → Bool
@@ -45,9 +50,24 @@ is_last_end status = not (has_channel_end status) || (has_device_end status || h
 abbrev pub is_initial : DeviceStatus → Bool
 is_initial status = (status.0 == 0x08) || (status.0 == 0x02)
 
--- no bytes wait at the device, none will be moved, and no Data is unanswered
+-- how many bytes of a read are asked for: the room at hand, at most 256
+abbrev pub most_of : AtHand → ℕ
+most_of x = if nat_lt 256 x.room then 256 else x.room
+
+-- no more bytes will be moved: the transfer was stopped, or a read has no room
+abbrev pub is_over : AtHand → Bool
+is_over x = x.stopped || (not (is_outward x.code) && (x.room == 0))
+
+-- no bytes wait at the device, and no Data is unanswered
+abbrev pub is_settled : AtHand → Bool
+is_settled x = is_none x.given && is_none x.unanswered
+
 abbrev pub has_moved_all : AtHand → Bool
-has_moved_all x = x.stopped && (is_none x.given && is_none x.unanswered)
+has_moved_all x = is_over x && is_settled x
+
+-- the device is to supply bytes of a read
+abbrev pub is_to_supply : AtHand → Bool
+is_to_supply x = not (is_outward x.code || is_over x) && is_settled x
 
 -- when a command may end with this status: at once, or where it is halted before it began; after its bytes or a halt,
 -- with device end; after its channel end, with device end alone
@@ -57,15 +77,37 @@ may_end halted x progress.Working status more = (halted || has_moved_all x) && h
 may_end halted x progress.ChannelEnded status more = has_device_end status && not (has_channel_end status)
 may_end halted x progress.Ended status more = false
 
--- the Data of this command
-abbrev pub data_sent : UnitState → ℕ → ℕ → ℕ → AtHand → ℕ → Option UnitStep
-data_sent u p t c x count =
-    sends (record u { at_hand = Some (record x { progress = progress.Working; given = None; unanswered = Some (load.Absorbed count) }) }) p
-    (up.Data t c u.last_command x.sequence (load.Absorbed count))
+-- the Data of the last chunk of a command
+abbrev pub data_sent : UnitState → ℕ → ℕ → ℕ → AtHand → Load → Option UnitStep
+data_sent u p t c x load = sends (record u { at_hand = Some x }) p (up.Data t c u.last_command x.sequence load)
 
+-- a command is begun: the bytes of a write are asked for
+abbrev pub with_absorbed : AtHand → ℕ → AtHand
+with_absorbed x count = record x { progress = progress.Working; given = None; unanswered = Some (load.Absorbed count) }
+
+abbrev pub begun : UnitState → ℕ → ℕ → ℕ → AtHand → Option UnitStep
+begun u p t c x =
+    if is_outward x.code then data_sent u p t c (with_absorbed x 0) (load.Absorbed 0)
+    else changes (record u { at_hand = Some (record x { progress = progress.Working }) })
+
+-- at most the bytes that were given are absorbed
 abbrev pub absorbed : UnitState → ℕ → ℕ → ℕ → AtHand → Option (List ℕ) → ℕ → Option UnitStep
 absorbed u p t c x None count = None
-absorbed u p t c x (Some bytes) count = if nat_le count (length bytes) then data_sent u p t c x count else None
+absorbed u p t c x (Some bytes) count =
+    if nat_le count (length bytes) then data_sent u p t c (with_absorbed x count) (load.Absorbed count) else None
+
+-- the next chunk of a read: no more bytes than are asked for
+abbrev pub with_supplied : AtHand → List ℕ → AtHand
+with_supplied x bytes = record x { sequence = x.sequence + 1; unanswered = Some (load.Bytes bytes); asked = most_of x }
+
+abbrev pub supplied : UnitState → ℕ → ℕ → ℕ → AtHand → List ℕ → Option UnitStep
+supplied u p t c x bytes =
+    if is_to_supply x && nat_le (length bytes) (most_of x) then data_sent u p t c (with_supplied x bytes) (load.Bytes bytes) else None
+
+-- a Data that was not answered before a leave, on the connection at hand
+abbrev pub sent_again : UnitState → ℕ → ℕ → ℕ → AtHand → Option Load → Option UnitStep
+sent_again u p t c x None = None
+sent_again u p t c x (Some load) = if x.again then data_sent u p t c (record x { again = false }) load else None
 
 abbrev pub after_end : DeviceStatus → Progress
 after_end status = if is_last_end status then progress.Ended else progress.ChannelEnded
@@ -77,8 +119,10 @@ end_sent u p t x status more =
 -- an answer of the device, at each progress of the command at hand
 abbrev pub answer_taken : UnitState → ℕ → ℕ → ℕ → AtHand → Progress → DeviceAnswer → Option UnitStep
 answer_taken u p t c x at (Ended status more) = if may_end u.halted x at status more then end_sent u p t x status more else None
-answer_taken u p t c x progress.New Asks = if is_outward x.code then data_sent u p t c x 0 else None
+answer_taken u p t c x progress.New Begins = begun u p t c x
 answer_taken u p t c x progress.Working (Absorbed count) = absorbed u p t c x x.given count
+answer_taken u p t c x progress.Working (Supplied bytes) = supplied u p t c x bytes
+answer_taken u p t c x progress.Working Again = sent_again u p t c x x.unanswered
 answer_taken u p t c x at answer = None
 
 abbrev pub report_on : UnitState → ℕ → Place → Option AtHand → Report → Option UnitStep
@@ -94,23 +138,44 @@ report_of u (Owned k t place) r =
 abbrev pub unit_reports : UnitState → Report → Option UnitStep
 unit_reports u r = report_of u u.own r
 
--- a call for the command at hand
+-- the path that the signal of a report is sent on
+abbrev pub path_of_sent : Option (OnPath Up) → ReportPath
+path_of_sent None = NothingSent
+path_of_sent (Some s) = SentOn s.path
+
+abbrev pub report_path : Option UnitStep → ReportPath
+report_path None = Refused
+report_path (Some step) = path_of_sent step.sent
+
+-- a call for the command at hand, and a report without a call
 abbrev pub calling : UnitState → Side → ℕ → AtHand → Call → Option Work
 calling u side t x c = Some (work.Call side t u.last_command x.sequence c)
 
+abbrev pub reporting : UnitState → Side → ℕ → AtHand → DeviceAnswer → Option Work
+reporting u side t x answer =
+    Some (work.Report (record { side = side; number = t; command = u.last_command; sequence = x.sequence; answer = answer }))
+
 abbrev pub halted_report : UnitState → Side → ℕ → AtHand → Option Work
-halted_report u side t x =
-    Some (work.Report (record { side = side; number = t; command = u.last_command; sequence = x.sequence; answer = Ended (record { 0 = 0x0C }) false }))
+halted_report u side t x = reporting u side t x (Ended (record { 0 = 0x0C }) false)
+
+-- the work on a command that is begun: first what is not answered, then bytes of a write; then the end of its bytes, or
+-- more bytes of a read
+abbrev pub work_on_transfer : UnitState → Side → ℕ → AtHand → Option Work
+work_on_transfer u side t x =
+    if is_over x then calling u side t x call.Finish
+    else (if is_outward x.code then None else calling u side t x (call.Supply (most_of x)))
 
 abbrev pub work_on_bytes : UnitState → Side → ℕ → AtHand → Option (List ℕ) → Option Work
 work_on_bytes u side t x (Some bytes) = calling u side t x (call.Absorb bytes)
-work_on_bytes u side t x None = if x.stopped then calling u side t x call.Finish else None
+work_on_bytes u side t x None = work_on_transfer u side t x
+
+abbrev pub work_on_data : UnitState → Side → ℕ → AtHand → Option Load → Option Work
+work_on_data u side t x (Some load) = if x.again then reporting u side t x Again else None
+work_on_data u side t x None = work_on_bytes u side t x x.given
 
 abbrev pub work_at : UnitState → Side → ℕ → AtHand → Progress → Option Work
 work_at u side t x progress.New = if u.halted then halted_report u side t x else calling u side t x (call.Initial x.code)
-work_at u side t x progress.Working =
-    if u.halted then calling u side t x call.Finish
-    else (if is_none x.unanswered then work_on_bytes u side t x x.given else None)
+work_at u side t x progress.Working = if u.halted then calling u side t x call.Finish else work_on_data u side t x x.unanswered
 work_at u side t x progress.ChannelEnded = calling u side t x call.Finish
 work_at u side t x progress.Ended = None
 

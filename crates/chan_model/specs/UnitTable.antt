@@ -203,15 +203,6 @@ abbrev pub came_of : Option UnitStep → Taken Up
 came_of None = record { taken = false; sent = None }
 came_of (Some step) = record { taken = true; sent = step.sent }
 
--- the path that something is sent on, where something is
-abbrev pub path_of_sent : Option (OnPath Up) → Option ℕ
-path_of_sent None = None
-path_of_sent (Some s) = Some s.path
-
-abbrev pub answer_path : Option UnitStep → Option ℕ
-answer_path None = None
-answer_path (Some step) = path_of_sent step.sent
-
 -- Acts of the unit. Leave: the program that is connected works on without the path; a Data that is not answered will be
 -- sent again.
 abbrev pub marked_again : Option AtHand → Option AtHand

@@ -1,6 +1,6 @@
 //! The bytes that one signal moves.
 
-ghost use Rattle.std.specs.Prelude.{◌≡◌, ◌≤◌, [], ◌∷◌, ◌++◌, ◌<◌, length};
+ghost use Rattle.std.specs.Prelude.{◌≡◌, ◌≤◌, [], ◌∷◌, ◌++◌, ◌<◌, ◌↔◌, IsSome, IfSome, length};
 
 use arrayvec::ArrayVec;
 use std::marker::Model;
@@ -71,5 +71,47 @@ impl Chunk {
         ensures { result ≡ self.now }
     {
         Chunk::of(self.bytes.as_slice())
+    }
+}
+
+/// How many bytes a chunk is to have: at most 256.
+#[derive(Clone, Copy, Debug)]
+pub struct ChunkLength {
+    bytes: u16,
+}
+
+impl Model for ChunkLength {
+    ghost use Rattle.std.specs.Prelude.{ℕ, ◌≤◌};
+
+    ghost Value = { ℕ };
+
+    ghost view = { λ l. l.bytes };
+
+    ghost invariant = { λ l. l.bytes ≤ 256 };
+
+    ghost inverse = { λ n. record { bytes = n } };
+}
+
+impl ChunkLength {
+    /// So many bytes; None where they are above 256.
+    pub fn new(bytes: u32) -> Option<ChunkLength>
+        ensures found { IsSome result ↔ (bytes ≤ 256) }
+        ensures same { IfSome result (λ l. l ≡ bytes) }
+    {
+        if bytes <= 256 {
+            Some(ChunkLength {
+                bytes: bytes as u16,
+            })
+        } else {
+            None
+        }
+    }
+
+    /// How many bytes.
+    pub fn get(self) -> usize
+        ensures value { result ≡ self }
+        ensures bound { result ≤ 256 }
+    {
+        usize::from(self.bytes)
     }
 }

@@ -2,9 +2,10 @@
 
 ghost use Rattle.std.specs.Prelude.{◌≡◌};
 
-use crate::chunk::Chunk;
+use crate::chunk::{Chunk, ChunkLength};
 use crate::names::Cpu;
 use crate::report::Report;
+use storage_keys::key::Key;
 
 /// An I/O instruction (SA22-7832, chapter 14). `subchannel` is general register 1: the subsystem-identification word.
 #[derive(Clone, Copy, Debug)]
@@ -19,8 +20,19 @@ pub enum Instruction {
         subchannel: u32,
         address: u32,
     },
-    /// The interruption subclass and the multipath mode are set, and the subchannel is enabled, under the conditions of
-    /// MODIFY SUBCHANNEL.
+    /// STORE SUBCHANNEL, which stores a SCHIB at this real address.
+    Stsch {
+        subchannel: u32,
+        address: u32,
+    },
+    /// MODIFY SUBCHANNEL with the SCHIB at this real address.
+    Msch {
+        subchannel: u32,
+        address: u32,
+    },
+    /// STORE SUBCHANNEL to real F00 (hexadecimal); then the interruption subclass, the multipath mode and the enabled bit,
+    /// which is one, are placed in the bytes there; then MODIFY SUBCHANNEL from F00. They are executed as one instruction
+    /// (own), with MODIFY SUBCHANNEL's condition code. Of `subclass` the three rightmost bits are placed.
     Enable {
         subchannel: u32,
         subclass: u8,
@@ -33,6 +45,12 @@ pub enum Instruction {
 pub enum Event {
     /// Bytes are put into storage at an absolute address.
     Put { address: u32, bytes: Chunk },
+    /// The key of the block in which an absolute address lies is set.
+    SetKey { address: u32, key: Key },
+    /// The prefix of a CPU is set.
+    SetPrefix { cpu: Cpu, address: u32 },
+    /// Bytes of storage are shown from an absolute address on.
+    Show { address: u32, length: ChunkLength },
     /// A CPU executes an instruction.
     Execute { cpu: Cpu, instruction: Instruction },
     /// The subsystem does what it must for a subchannel.
@@ -55,6 +73,18 @@ impl Event {
                 address: *address,
                 bytes: bytes.copy(),
             },
+            Event::SetKey { address, key } => Event::SetKey {
+                address: *address,
+                key: *key,
+            },
+            Event::SetPrefix { cpu, address } => Event::SetPrefix {
+                cpu: *cpu,
+                address: *address,
+            },
+            Event::Show { address, length } => Event::Show {
+                address: *address,
+                length: *length,
+            },
             Event::Execute { cpu, instruction } => Event::Execute {
                 cpu: *cpu,
                 instruction: *instruction,
@@ -72,7 +102,7 @@ impl Event {
             },
             Event::Report { unit, report } => Event::Report {
                 unit: *unit,
-                report: *report,
+                report: report.copy(),
             },
         }
     }

@@ -1,6 +1,6 @@
 //! Sets of the paths of a subchannel.
 
-ghost use Rattle.std.specs.Prelude.{◌≡◌, ◌<◌, ◌^◌};
+ghost use Rattle.std.specs.Prelude.{◌≡◌, ◌<◌, ◌≤◌, ◌^◌};
 ghost use Rattle.chan_model.specs.PathSets as spec;
 
 use crate::names::Path;
@@ -34,4 +34,27 @@ pub fn mask_of_path(path: Option<Path>) -> u8
         None => 0,
         Some(path) => 0x80 >> path.index(),
     }
+}
+
+/// 1 where the path of this index is in the set, otherwise 0.
+fn path_bit(set: PathSet, index: usize) -> u8
+    requires { index < 8 }
+    ensures value { result ≡ spec.path_bit set index }
+    ensures bound { result ≤ 1 }
+{
+    u8::from(set[index])
+}
+
+/// The mask of a set of paths, path 0 leftmost.
+pub fn mask_of_paths(set: PathSet) -> u8
+    ensures { result ≡ spec.mask_of_paths set }
+{
+    128 * path_bit(set, 0)
+        + 64 * path_bit(set, 1)
+        + 32 * path_bit(set, 2)
+        + 16 * path_bit(set, 3)
+        + 8 * path_bit(set, 4)
+        + 4 * path_bit(set, 5)
+        + 2 * path_bit(set, 6)
+        + path_bit(set, 7)
 }

@@ -2,6 +2,7 @@
 
 ghost use Rattle.std.specs.Prelude.{◌≡◌};
 
+use crate::chunk::Chunk;
 use crate::event::Event;
 use crate::names::Path;
 use crate::signal::{Down, OnPath, Up};
@@ -31,9 +32,13 @@ pub enum Answer {
 #[derive(Drop)]
 pub enum Reply {
     Done,
-    /// The condition code of an instruction that shows no status.
+    /// The bytes of storage that were asked for.
+    Shown {
+        bytes: Chunk,
+    },
+    /// The condition code of an instruction that shows no status; of TSCH and STSCH where it is 3.
     Code(Answer),
-    /// The condition code 0 or 1 of TSCH, with the subchannel-status word that was stored.
+    /// The condition code 0 or 1 of TSCH, or 0 of STSCH, with the subchannel-status word that was stored.
     Status {
         answer: Answer,
         scsw: Scsw,
@@ -104,6 +109,9 @@ impl Reply {
     {
         match self {
             Reply::Done => Reply::Done,
+            Reply::Shown { bytes } => Reply::Shown {
+                bytes: bytes.copy(),
+            },
             Reply::Code(answer) => Reply::Code(*answer),
             Reply::Status { answer, scsw } => Reply::Status {
                 answer: *answer,

@@ -1,14 +1,16 @@
 //! What each call answers at plain values, and the texts of refusals.
 
-use crate::chunk::Chunk;
+use crate::chunk::{Chunk, ChunkLength};
 use crate::event::Event;
 use crate::fault::Fault;
 use crate::names::{Cpu, Path, Side};
-use crate::paths::{mask_of_path, paths_of_mask};
+use crate::paths::{mask_of_path, mask_of_paths, paths_of_mask};
 use crate::reply::{Answer, ConditionCode, Reply};
+use crate::report::{DeviceAnswer, Report};
 use crate::signal::{Down, Load, Up};
 use scsw_irb::serials::Serials;
 use storage_keys::StorageFault;
+use storage_keys::key::Key;
 
 #[test]
 fn names_keep_their_range(rt: HostRuntime) {
@@ -24,6 +26,7 @@ fn names_keep_their_range(rt: HostRuntime) {
         _ => assert!(rt; false, "the names are in range"),
     }
     assert_eq!(rt; mask_of_path(None), 0);
+    assert_eq!(rt; mask_of_paths(paths_of_mask(0xA1)), 0xA1);
     assert_eq!(rt;
         paths_of_mask(0xA1),
         [true, false, true, false, false, false, false, true]
@@ -47,6 +50,72 @@ fn chunks_and_signals_are_copied(rt: HostRuntime) {
     assert!(rt; matches!(Down::Halt { number: 3 }.copy(), Down::Halt { number: 3 }));
     assert!(rt; matches!(Up::Busy { number: 3 }.copy(), Up::Busy { number: 3 }));
     assert!(rt; matches!(Reply::Pending.copy(), Reply::Pending));
+}
+
+#[test]
+fn reports_are_copied(rt: HostRuntime) {
+    let report = Report {
+        side: Side::Second,
+        number: 1,
+        command: 2,
+        sequence: 3,
+        answer: DeviceAnswer::Supplied(Chunk::of(&[0xD1, 0xD2])),
+    };
+    let copied = Event::Report {
+        unit: 5,
+        report: report.copy(),
+    }
+    .copy();
+    let Event::Report { unit: 5, report } = copied else {
+        return assert!(rt; false, "the same unit reports");
+    };
+    assert!(rt; report.side.same(Side::Second));
+    assert_eq!(rt; (report.number, report.command, report.sequence), (1, 2, 3));
+    let DeviceAnswer::Supplied(bytes) = report.answer.copy() else {
+        return assert!(rt; false, "bytes were supplied");
+    };
+    assert_eq!(rt; bytes.as_slice(), [0xD1, 0xD2].as_slice());
+}
+
+#[test]
+fn lengths_keep_their_range(rt: HostRuntime) {
+    assert!(rt; ChunkLength::new(257).is_none());
+    match ChunkLength::new(256) {
+        Some(length) => {
+            assert_eq!(rt; length.get(), 256);
+            let show = Event::Show {
+                address: 0x2000,
+                length,
+            };
+            assert!(rt;
+                matches!(
+                    show.copy(),
+                    Event::Show {
+                        address: 0x2000,
+                        ..
+                    }
+                )
+            );
+        }
+        None => assert!(rt; false, "the length is in range"),
+    }
+    let key = Event::SetKey {
+        address: 0x2000,
+        key: Key::of_byte(0x10),
+    };
+    assert!(rt;
+        matches!(
+            key.copy(),
+            Event::SetKey {
+                key: Key { access: 1, .. },
+                ..
+            }
+        )
+    );
+    let shown = Reply::Shown {
+        bytes: Chunk::of(&[0xC1]),
+    };
+    assert!(rt; matches!(shown.copy(), Reply::Shown { .. }));
 }
 
 #[test]

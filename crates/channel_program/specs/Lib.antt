@@ -1,1 +1,5 @@
 pub mod Checks
+pub mod Blocks
+pub mod Acts
+pub mod Programs
+pub mod Walks

@@ -8,6 +8,8 @@ ghost use Rattle.chsim.specs.Program.{IsServed, Shows};
 #[cfg(test)]
 mod memory;
 #[cfg(test)]
+mod programs;
+#[cfg(test)]
 mod tests;
 
 use command_words::{Refused, Wanted, command_of};

@@ -13,6 +13,54 @@ const WRITTEN: &[u8] =
 /// The set-up of a machine, up to its subchannel.
 const SET_UP: &[u8] = b"storage 10\npath 10\nunit 0 block\nsub 0 0100 0 10\n";
 
+/// One path and a subchannel that is enabled, with an ORB, a CCW and its bytes in storage.
+const ENABLED: &[u8] =
+    b"storage 10\npath 10\nunit 0 block\nsub 0 0100 0 10\nput 500 000000000080FF0000001000\nput 1000 0120000400002000\nput 2000 C1C2C3C4\nenable 0 0 0\n";
+
+const ENABLING: &[u8] = b"5 done\n6 done\n7 done\n8 cc 0\n";
+
+/// What follows `ENABLED`, what it prints, and the exit status: a second start; operands that are not allowed; operands
+/// under a prefix; a subchannel that is modified.
+const INSTRUCTIONS: [(&[u8], &[u8], u8); 4] = [
+    (
+        b"ssch 0 500\nssch 0 500\nstsch 0 700\n",
+        b"9 cc 0\n10 cc 2\n11 cc 0 00804400 00001000 00000000\n",
+        0,
+    ),
+    (
+        b"ssch 0 502\nssch 00020001 500\nput 520 000000000084FF0000001000\nssch 0 520\nssch 5 500\nssch 0 500\n",
+        b"9 refused 10 specification\n10 refused 11\n11 done\n12 refused 11\n13 cc 3\n14 cc 0\n",
+        1,
+    ),
+    (
+        b"prefix 0 4000\nput 4500 000000070080FF0000001000\nssch 0 500\nstsch 0 700\nshow 4700 11\n",
+        b"9 done\n10 done\n11 cc 0\n12 cc 0 00804400 00001000 00000000\n13 0000000700810100FF0000800000FF8010\n",
+        0,
+    ),
+    (
+        b"stsch 0 700\nput 704 00A10100\nmsch 0 700\nput 704 38810100\nmsch 0 700\nstsch 0 740\nshow 744 4\nssch 0 500\nmsch 0 700\n",
+        b"9 cc 0 00000000 00000000 00000000\n10 done\n11 refused 11\n12 done\n13 cc 0\n14 cc 0 00000000 00000000 00000000\n15 38810100\n16 cc 0\n17 cc 2\n",
+        1,
+    ),
+];
+
+/// What follows `SET_UP`, and what it prints: acts outside storage or off a boundary; a key that refuses the chunk of a
+/// fetched command; enabling of a subchannel that is not there.
+const REFUSED: [(&[u8], &[u8]); 3] = [
+    (
+        b"key 10000 10\nshow FFFF 2\nprefix 0 11000\nprefix 0 10000\nstsch 0 702\nmsch 0 10000\n",
+        b"5 refused 10 addressing\n6 refused 10 addressing\n7 refused 10 specification\n8 refused 10 addressing\n9 refused 10 specification\n10 refused 10 addressing\n",
+    ),
+    (
+        b"key 2FFF 18\nput 500 000000002080FF0000002000\nenable 0 0 0\nssch 0 500\nchoose 0\ndown 0 0\nup 0 0\ntsch 0 600\nstsch 5 700\nmsch 5 700\n",
+        b"5 done\n6 done\n7 cc 0\n8 cc 0\n9 offer 0\n10 took select\n11 took accept\n12 cc 0 20804017 00002008 00100000\n13 cc 3\n14 cc 3\n",
+    ),
+    (
+        b"put F04 47180102\nenable 5 3 1\nshow F04 4\nput F05 03\nenable 5 3 1\nshow F04 4\n",
+        b"5 done\n6 refused 11\n7 47180102\n8 done\n9 cc 3\n10 5F870102\n",
+    ),
+];
+
 fn joined(rt: &HostRuntime, first: &[u8], more: &[u8]) -> Vec<u8> {
     let mut text = Vec::new(rt.alloc());
     let _ = text.extend_from_slice(first);
@@ -21,7 +69,7 @@ fn joined(rt: &HostRuntime, first: &[u8], more: &[u8]) -> Vec<u8> {
 }
 
 /// The output and the exit status of a command over a text.
-fn served(rt: &HostRuntime, word: &str, text: &[u8]) -> (Vec<u8>, u8) {
+pub fn served(rt: &HostRuntime, word: &str, text: &[u8]) -> (Vec<u8>, u8) {
     let mut reader = text;
     let mut out = Vec::new(rt.alloc());
     let status = serve(rt.alloc(), &["chsim", word], &mut reader, &mut out);
@@ -38,6 +86,26 @@ fn a_write_runs_from_start_to_test(rt: HostRuntime) {
     let (out, status) = served(&rt, "run", text.as_slice());
     assert_eq!(rt; out.as_slice(), printed.as_slice());
     assert_eq!(rt; status, 0);
+}
+
+#[test]
+fn instructions_answer_their_codes(rt: HostRuntime) {
+    for (lines, printed, ends) in INSTRUCTIONS {
+        let text = joined(&rt, ENABLED, lines);
+        let wanted = joined(&rt, ENABLING, printed);
+        let (out, status) = served(&rt, "run", text.as_slice());
+        assert_eq!(rt; out.as_slice(), wanted.as_slice());
+        assert_eq!(rt; status, ends);
+    }
+}
+
+#[test]
+fn storage_refuses_what_it_must(rt: HostRuntime) {
+    for (lines, printed) in REFUSED {
+        let text = joined(&rt, SET_UP, lines);
+        let (out, _) = served(&rt, "run", text.as_slice());
+        assert_eq!(rt; out.as_slice(), printed);
+    }
 }
 
 #[test]

@@ -1,49 +1,135 @@
 -- A store of blocks, and what each call of it answers and leaves (own).
-use Rattle.std.specs.Prelude.{◌<◌, ◌≤◌, ℕ, ◌+◌, ◌-◌, ◌==◌, if◌then◌else◌, List, ◌++◌, length, take, drop, min, replicate, [], Bool, slice_index_or, slice_set}
+use Rattle.std.specs.Prelude.{◌<◌, ◌≤◌, ℕ, ◌+◌, ◌-◌, ◌*◌, ◌==◌, ◌&&◌, nat_lt, Bool, false, if◌then◌else◌, Option, None, Some, List, [], ◌∷◌, ◌++◌, length, take, drop, min, replicate, slice_index, slice_index_or, slice_set}
+use Rattle.device_models.specs.declared.command.Command.{Command}
+use Rattle.device_models.specs.declared.command.Command.TheVariants.{Write, Read, NoOperation, Sense, Seek, Recalibrate, SearchEqual}
+use Rattle.device_models.specs.Commands.{size_of}
 
--- 32 blocks of 64 bytes, the number of the current one, the sense byte, and how many more bytes a write may bring
+-- 32 blocks of 64 bytes, the number of the current one, the sense byte, the command at hand, how many of its bytes are
+-- moved, and the two bytes of the block number that a command brings
 pub record Blocks : Type 0 where
   pub blocks : List (List ℕ)
   pub current : ℕ
   pub sense : ℕ
-  pub room : ℕ
+  pub at_hand : Option Command
+  pub moved : ℕ
+  pub number : List ℕ
 
 -- what holds of every store
 pub record IsStore (store : Blocks) : Type 0 where
   pub current : store.current < 32
-  pub room : store.room ≤ 64
+  pub moved : store.moved ≤ size_of store.at_hand
 
 -- at first all bytes are zero
 abbrev pub opening : Blocks
-opening = record { blocks = replicate 32 (replicate 64 0); current = 0; sense = 0; room = 0 }
+opening =
+    record {
+      blocks = replicate 32 (replicate 64 0);
+      current = 0;
+      sense = 0;
+      at_hand = None;
+      moved = 0;
+      number = replicate 2 0;
+    }
 
--- a write is begun with empty status; any other command is refused with unit check, and the sense byte says command reject
-abbrev pub is_write : ℕ → Bool
-is_write code = code == 0x01
+abbrev pub current_block : Blocks → List ℕ
+current_block store = slice_index_or store.blocks store.current []
 
-abbrev pub initial_status : ℕ → ℕ
-initial_status code = if is_write code then 0 else 0x02
+-- The initial status of a command, and the store with it at hand.
+pub record Begun : Type 0 where
+  pub status : ℕ
+  pub state : Blocks
 
-abbrev pub begun : Blocks → ℕ → Blocks
-begun store code = if is_write code then record store { room = 64 } else record store { sense = 0x80; room = 0 }
+abbrev pub begins : Blocks → Command → ℕ → Begun
+begins store command status = record { status = status; state = record store { at_hand = Some command; moved = 0 } }
 
--- bytes laid over a block from a place on; its other bytes are kept
-abbrev pub laid : List ℕ → ℕ → List ℕ → List ℕ
-laid block place bytes = take place block ++ bytes ++ drop (place + length bytes) block
+-- a code without a command: unit check, and the sense byte says command reject
+abbrev pub rejected : Blocks → Begun
+rejected store = record { status = 0x02; state = record store { sense = 0x80; at_hand = None; moved = 0 } }
 
--- the bytes that a write brings go into the current block from its start, as far as there is room
+abbrev pub begun : Blocks → Option Command → Begun
+begun store (Some Write) = begins store Write 0
+begun store (Some Read) = begins store Read 0
+begun store (Some NoOperation) = begins store NoOperation 0x08
+begun store (Some Sense) = begins store Sense 0
+begun store (Some Seek) = begins store Seek 0
+begun store (Some Recalibrate) = begins (record store { current = 0 }) Recalibrate 0x08
+begun store (Some SearchEqual) = begins store SearchEqual 0
+begun store None = rejected store
+
+-- The bytes that a command gives, at most so many of them: the current block from its start, or the sense byte.
+abbrev pub given_by : Option Command → Blocks → ℕ → List ℕ
+given_by (Some Read) store most = take most (drop store.moved (current_block store))
+given_by (Some Sense) store most = take most (drop store.moved (store.sense ∷ []))
+given_by command store most = []
+
+abbrev pub given_of : Blocks → ℕ → List ℕ
+given_of store most = given_by store.at_hand store most
+
+-- the sense byte is zero once it is given
+abbrev pub sense_after : Option Command → ℕ → List ℕ → ℕ
+sense_after (Some Sense) sense (byte ∷ bytes) = 0
+sense_after command sense bytes = sense
+
+abbrev pub supplied : Blocks → List ℕ → Blocks
+supplied store bytes = record store { sense = sense_after store.at_hand store.sense bytes; moved = store.moved + length bytes }
+
+-- How many bytes a command takes yet: of the current block, or of a block number.
+abbrev pub room_of : Option Command → ℕ → ℕ
+room_of (Some Write) moved = 64 - moved
+room_of (Some Seek) moved = 2 - moved
+room_of (Some SearchEqual) moved = 2 - moved
+room_of command moved = 0
+
 abbrev pub taken_of : Blocks → List ℕ → ℕ
-taken_of store bytes = min store.room (length bytes)
+taken_of store bytes = min (room_of store.at_hand store.moved) (length bytes)
 
-abbrev pub written : Blocks → List ℕ → Blocks
-written store bytes = record store {
-  blocks = slice_set store.blocks store.current (laid (slice_index_or store.blocks store.current []) (64 - store.room) bytes);
-  room = store.room - length bytes;
-}
+-- bytes laid over others from a place on; the rest is kept
+abbrev pub laid : List ℕ → ℕ → List ℕ → List ℕ
+laid old place bytes = take place old ++ bytes ++ drop (place + length bytes) old
+
+abbrev pub laid_by : Option Command → Blocks → List ℕ → Blocks
+laid_by (Some Write) store bytes = record store { blocks = slice_set store.blocks store.current (laid (current_block store) store.moved bytes) }
+laid_by (Some Seek) store bytes = record store { number = laid store.number store.moved bytes }
+laid_by (Some SearchEqual) store bytes = record store { number = laid store.number store.moved bytes }
+laid_by command store bytes = store
 
 abbrev pub absorbed : Blocks → List ℕ → Blocks
-absorbed store bytes = written store (take (taken_of store bytes) bytes)
+absorbed store bytes =
+    record (laid_by store.at_hand store (take (taken_of store bytes) bytes)) { moved = store.moved + taken_of store bytes }
 
--- a command ends with channel end and device end
-abbrev pub finished : Blocks → Blocks
-finished store = record store { room = 0 }
+-- The status that ends a command, whether it had more bytes to give, and the store with no command at hand.
+pub record Ended : Type 0 where
+  pub status : ℕ
+  pub more : Bool
+  pub state : Blocks
+
+abbrev pub ends : Blocks → ℕ → Bool → Ended
+ends store status more = record { status = status; more = more; state = record store { at_hand = None; moved = 0 } }
+
+-- the block number that a command brought, whole
+abbrev pub number_of : Blocks → ℕ
+number_of store = 256 * slice_index store.number 0 + slice_index store.number 1
+
+-- the number is that of a block: it is current now; otherwise unit check, and the sense byte says so
+abbrev pub sought : Blocks → Ended
+sought store =
+    if (store.moved == 2) && nat_lt (number_of store) 32
+    then ends (record store { current = number_of store }) 0x0C false
+    else ends (record store { sense = 0x20 }) 0x0E false
+
+-- the number is that of the current block: status modifier
+abbrev pub searched : Blocks → Ended
+searched store = ends store (if (store.moved == 2) && (number_of store == store.current) then 0x4C else 0x0C) false
+
+abbrev pub ended_by : Option Command → Blocks → Ended
+ended_by (Some Write) store = ends store 0x0C false
+ended_by (Some Read) store = ends store 0x0C (nat_lt store.moved 64)
+ended_by (Some NoOperation) store = ends store 0x04 false
+ended_by (Some Sense) store = ends store 0x0C false
+ended_by (Some Seek) store = sought store
+ended_by (Some Recalibrate) store = ends store 0x04 false
+ended_by (Some SearchEqual) store = searched store
+ended_by None store = ends store 0x0C false
+
+abbrev pub ended : Blocks → Ended
+ended store = ended_by store.at_hand store

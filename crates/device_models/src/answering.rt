@@ -13,6 +13,7 @@ pub fn answer<D: Device>(device: &mut D, call: &Call) -> DeviceAnswer
     match call {
         Call::Initial { code } => initial_answer(device, *code),
         Call::Absorb { bytes } => DeviceAnswer::Absorbed(device.absorb(bytes.as_slice()) as u16),
+        Call::Supply { most } => DeviceAnswer::Supplied(device.supply(usize::from(*most))),
         Call::Finish => {
             let Finish { status, more } = device.finish();
             DeviceAnswer::Ended { status, more }
@@ -20,13 +21,13 @@ pub fn answer<D: Device>(device: &mut D, call: &Call) -> DeviceAnswer
     }
 }
 
-/// An empty initial status asks for bytes; any other ends the command or its channel's part.
+/// An empty initial status begins the command; any other ends it or its channel's part.
 fn initial_answer<D: Device>(device: &mut D, code: u8) -> DeviceAnswer
     ensures { IsAnswer (call_spec.Initial code) result }
 {
     let status = device.initial(code);
     if status.bits() == 0 {
-        return DeviceAnswer::Asks;
+        return DeviceAnswer::Begins;
     }
     DeviceAnswer::Ended {
         status,

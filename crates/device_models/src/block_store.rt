@@ -1,20 +1,29 @@
 //! A store of 32 blocks of 64 bytes.
 
-ghost use Rattle.std.specs.Prelude.{◌≡◌, ◌≤◌, ◌+◌, false, length};
+ghost use Rattle.std.specs.Prelude.{◌≡◌, ◌≤◌, ◌+◌, false, length, take, drop};
+ghost use Rattle.ccw_codec.specs.Command.{class_of};
+ghost use Rattle.ccw_codec.specs.declared.Class.TheVariants.{ReadBackward};
 ghost use Rattle.device_models.specs.Laws.{IsInitial, IsFinal};
 ghost use Rattle.device_models.specs.Blocks as spec;
+ghost use Rattle.device_models.specs.Commands.{command_of, size_of};
 
+use crate::command::Command;
 use crate::{Device, Finish};
+use chan_model::chunk::Chunk;
 use scsw_irb::status::DeviceStatus;
 use std::marker::Model;
 
-const BLOCK_BYTES: usize = 64;
+const BLOCKS: u16 = 32;
 
-/// The code of the command that writes into the current block.
-const WRITE: u8 = 0x01;
+const BLOCK_BYTES: u8 = 64;
+
+const NUMBER_BYTES: u8 = 2;
 
 /// Bit 0 of the sense byte: the command was rejected.
 const COMMAND_REJECT: u8 = 0x80;
+
+/// Bit 2 of the sense byte: the number is that of no block (own).
+const NO_SUCH_BLOCK: u8 = 0x20;
 
 /// 32 blocks of 64 bytes, of which one is current, and a sense byte.
 #[derive(Drop)]
@@ -22,8 +31,11 @@ pub struct BlockStore {
     blocks: [[u8; 64]; 32],
     current: u8,
     sense: u8,
-    /// How many more bytes the write at hand takes.
-    room: u8,
+    at_hand: Option<Command>,
+    /// How many bytes the command at hand has moved.
+    moved: u8,
+    /// The block number that a command brings, its left byte first.
+    number: [u8; 2],
 }
 
 impl Model for BlockStore {
@@ -31,9 +43,9 @@ impl Model for BlockStore {
 
     ghost Value = { Blocks };
 
-    ghost view = { λ d. record { blocks = d.blocks; current = d.current; sense = d.sense; room = d.room } };
+    ghost view = { λ d. record { blocks = d.blocks; current = d.current; sense = d.sense; at_hand = d.at_hand; moved = d.moved; number = d.number } };
 
-    ghost invariant = { λ d. IsStore (record { blocks = d.blocks; current = d.current; sense = d.sense; room = d.room }) };
+    ghost invariant = { λ d. IsStore (record { blocks = d.blocks; current = d.current; sense = d.sense; at_hand = d.at_hand; moved = d.moved; number = d.number }) };
 }
 
 impl BlockStore {
@@ -45,56 +57,166 @@ impl BlockStore {
             blocks: [[0; 64]; 32],
             current: 0,
             sense: 0,
-            room: 0,
+            at_hand: None,
+            moved: 0,
+            number: [0; 2],
         }
+    }
+
+    /// The bytes that the command at hand gives next, at most so many.
+    fn given(&self, most: usize) -> Chunk
+        ensures bytes { result ≡ spec.given_of self.now most }
+        ensures bound { length result ≤ most }
+        ensures left { self.now.moved + length result ≤ size_of self.now.at_hand }
+    {
+        let place = usize::from(self.moved);
+        match self.at_hand {
+            Some(Command::Read) => part(&self.blocks[usize::from(self.current)], place, most),
+            Some(Command::Sense) => part(&[self.sense], place, most),
+            _ => Chunk::new(),
+        }
+    }
+
+    /// How many bytes the command at hand takes yet.
+    fn room(&self) -> usize
+        ensures room { result ≡ spec.room_of self.now.at_hand self.now.moved }
+        ensures left { self.now.moved + result ≤ size_of self.now.at_hand }
+    {
+        let size = match self.at_hand {
+            Some(Command::Write) => BLOCK_BYTES,
+            Some(Command::Seek | Command::SearchEqual) => NUMBER_BYTES,
+            _ => return 0,
+        };
+        usize::from(size - self.moved)
+    }
+
+    /// The block number that a command brought.
+    fn number(&self) -> u16
+        ensures { result ≡ spec.number_of self.now }
+    {
+        256 * u16::from(self.number[0]) + u16::from(self.number[1])
+    }
+
+    /// Ends the command at hand with this status.
+    fn end(&mut self, status: DeviceStatus, more: bool) -> Finish
+        ensures status { result.status ≡ status }
+        ensures more { result.more ≡ more }
+        ensures state { self.new ≡ (spec.ends self.old status.0 more).state }
+    {
+        self.at_hand = None;
+        self.moved = 0;
+        Finish { status, more }
+    }
+
+    fn seek(&mut self) -> Finish
+        ensures status { result.status.0 ≡ (spec.sought self.old).status }
+        ensures more { result.more ≡ false }
+        ensures state { self.new ≡ (spec.sought self.old).state }
+    {
+        let number = self.number();
+        if self.moved == NUMBER_BYTES && number < BLOCKS {
+            self.current = number as u8;
+            return self.end(DeviceStatus::end(), false);
+        }
+        self.sense = NO_SUCH_BLOCK;
+        self.end(DeviceStatus::end().joined(DeviceStatus::UNIT_CHECK), false)
+    }
+
+    fn search(&mut self) -> Finish
+        ensures status { result.status.0 ≡ (spec.searched self.old).status }
+        ensures more { result.more ≡ false }
+        ensures state { self.new ≡ (spec.searched self.old).state }
+    {
+        let mut status = DeviceStatus::end();
+        if self.moved == NUMBER_BYTES && self.number() == u16::from(self.current) {
+            status = status.joined(DeviceStatus::STATUS_MODIFIER);
+        }
+        self.end(status, false)
     }
 }
 
 impl Device for BlockStore {
-    /// Code 01 begins a write of at most 64 bytes into the current block; any other is rejected.
+    ghost opening = { spec.opening };
+
+    /// Codes 01 (write), 02 (read), 03 (no operation), 04 (sense), 07 (seek), 0B (recalibrate) and 31 (search
+    /// equal) are begun. Any other is rejected: the sense byte is 80 then.
     fn initial(&mut self, code: u8) -> DeviceStatus
         ensures law { IsInitial result }
-        ensures status { result.0 ≡ spec.initial_status code }
-        ensures state { self.new ≡ spec.begun self.old code }
+        ensures backward { class_of code ≡ ReadBackward → result.0 ≡ 0x02 }
+        ensures status { result.0 ≡ (spec.begun self.old (command_of code)).status }
+        ensures state { self.new ≡ (spec.begun self.old (command_of code)).state }
     {
-        if code == WRITE {
-            self.room = 64;
-            return DeviceStatus::empty();
+        self.at_hand = Command::of_code(code);
+        self.moved = 0;
+        match self.at_hand {
+            Some(Command::NoOperation) => DeviceStatus::CHANNEL_END,
+            Some(Command::Recalibrate) => {
+                self.current = 0;
+                DeviceStatus::CHANNEL_END
+            }
+            Some(_) => DeviceStatus::empty(),
+            None => {
+                self.sense = COMMAND_REJECT;
+                DeviceStatus::UNIT_CHECK
+            }
         }
-        self.sense = COMMAND_REJECT;
-        self.room = 0;
-        DeviceStatus::UNIT_CHECK
     }
 
+    /// Gives what is left of the current block (02), or the sense byte (04).
+    fn supply(&mut self, most: usize) -> Chunk
+        ensures law { length result ≤ most }
+        ensures bytes { result ≡ spec.given_of self.old most }
+        ensures state { self.new ≡ spec.supplied self.old result }
+    {
+        let bytes = self.given(most);
+        if self.at_hand == Some(Command::Sense) && bytes.len() > 0 {
+            self.sense = 0;
+        }
+        self.moved += bytes.len() as u8;
+        bytes
+    }
+
+    /// Takes bytes of the current block (01), or of a block number (07 and 31).
     fn absorb(&mut self, bytes: &[u8]) -> usize
         ensures law { result ≤ length bytes.now }
         ensures count { result ≡ spec.taken_of self.old bytes.now }
         ensures state { self.new ≡ spec.absorbed self.old bytes.now }
     {
-        let count = bytes.len().min(usize::from(self.room));
-        let place = BLOCK_BYTES - usize::from(self.room);
-        lay(
-            &mut self.blocks[usize::from(self.current)],
-            place,
-            &bytes[..count],
-        );
-        self.room -= count as u8;
+        let count = bytes.len().min(self.room());
+        let taken = &bytes[..count];
+        let place = usize::from(self.moved);
+        match self.at_hand {
+            Some(Command::Write) => lay(&mut self.blocks[usize::from(self.current)], place, taken),
+            Some(Command::Seek | Command::SearchEqual) => lay(&mut self.number, place, taken),
+            _ => {}
+        }
+        self.moved += count as u8;
         count
     }
 
+    /// Ends with channel end and device end; with device end alone after channel end (03 and 0B), with unit
+    /// check for a number that is no block's (07), and with status modifier for the current one's (31).
     fn finish(&mut self) -> Finish
         ensures law { IsFinal result.status }
-        ensures status { result.status.0 ≡ 0x0C }
-        ensures more { result.more ≡ false }
-        ensures state { self.new ≡ spec.finished self.old }
+        ensures status { result.status.0 ≡ (spec.ended self.old).status }
+        ensures more { result.more ≡ (spec.ended self.old).more }
+        ensures state { self.new ≡ (spec.ended self.old).state }
     {
-        self.room = 0;
-        Finish {
-            status: DeviceStatus::end(),
-            more: false,
+        match self.at_hand {
+            Some(Command::Read) => {
+                let more = self.moved < BLOCK_BYTES;
+                self.end(DeviceStatus::end(), more)
+            }
+            Some(Command::NoOperation | Command::Recalibrate) => {
+                self.end(DeviceStatus::DEVICE_END, false)
+            }
+            Some(Command::Seek) => self.seek(),
+            Some(Command::SearchEqual) => self.search(),
+            _ => self.end(DeviceStatus::end(), false),
         }
     }
 
+    /// Puts the store back to its opening, its blocks too.
     fn restart(&mut self)
         ensures { self.new ≡ spec.opening }
     {
@@ -102,10 +224,22 @@ impl Device for BlockStore {
     }
 }
 
-/// Lays bytes over a block from a place on.
-fn lay(block: &mut [u8; 64], place: usize, bytes: &[u8])
-    requires { place + length bytes.now ≤ 64 }
-    ensures { block.new ≡ spec.laid block.old place bytes.now }
+/// The bytes from a place on, at most so many.
+fn part(bytes: &[u8], place: usize, most: usize) -> Chunk
+    requires within { place ≤ length bytes.now }
+    requires short { length bytes.now ≤ 256 }
+    ensures bytes { result ≡ take most (drop place bytes.now) }
+    ensures bound { length result ≤ most }
+    ensures left { place + length result ≤ length bytes.now }
 {
-    block[place..place + bytes.len()].copy_from_slice(bytes);
+    let rest = &bytes[place..];
+    Chunk::of(&rest[..most.min(rest.len())])
+}
+
+/// Lays bytes over others from a place on.
+fn lay(old: &mut [u8], place: usize, bytes: &[u8])
+    requires { place + length bytes.now ≤ length old.old }
+    ensures { old.new ≡ spec.laid old.old place bytes.now }
+{
+    old[place..place + bytes.len()].copy_from_slice(bytes);
 }

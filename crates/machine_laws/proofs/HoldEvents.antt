@@ -13,24 +13,26 @@ use Rattle.chan_model.specs.declared.signal.OnPath.{OnPath}
 use Rattle.chan_model.specs.declared.signal.Up.{Up}
 use Rattle.chan_model.specs.declared.signal.Up.TheVariants as up
 use Rattle.chan_model.specs.HoldTable.{HoldStep, begun, hold_after, hold_takes, is_connected, is_on, letting_go, came_of}
-use Rattle.chan_model.specs.UnitReports.{is_last_end}
+use Rattle.chan_model.specs.UnitReports.{is_last_end, is_outward, has_device_end}
 use Rattle.wires.specs.Queues.{queue}
 use Rattle.scsw_irb.specs.declared.status.DeviceStatus.{DeviceStatus}
 use Rattle.agreement_laws.specs.Links.{Link}
 use Rattle.agreement_laws.specs.Moving.{Offers, Lets_go, Takes, Sends, HoldActed, still, stepped, offered, hold_acts}
 use Rattle.machine_model.specs.declared.state.Begun.{Begun}
-use Rattle.machine_model.specs.declared.state.Check.{Check}
+use Rattle.channel_program.specs.declared.check.Check.{Check}
 use Rattle.machine_model.specs.declared.state.Chosen.{Chosen}
 use Rattle.machine_model.specs.declared.state.Chosen.TheVariants as chosen
 use Rattle.machine_model.specs.declared.state.Program.{Program}
 use Rattle.machine_model.specs.declared.state.Subchannel.{Subchannel}
 use Rattle.machine_model.specs.declared.state.SubchannelState.{SubchannelState}
-use Rattle.machine_model.specs.declared.state.Transfer.{Transfer}
+use Rattle.transfer.specs.declared.Transfer.{Transfer}
+use Rattle.transfer.specs.Commands.{first_command, next_command}
+use Rattle.transfer.specs.Chunks.{brought, is_answered}
 use Rattle.machine_model.specs.declared.state.UpStep.{UpStep}
 use Rattle.machine_model.specs.Choosing.{IsFreeToOffer, idle_or_over, chosen_for, without_path}
-use Rattle.machine_model.specs.Programs.{first_command, is_current}
-use Rattle.machine_model.specs.Steps.{SubTurn, choose_sub, is_full, finds_full, up_front, up_sub}
-use Rattle.machine_model.specs.Taking.{ignoring, by_hold, waits_as, with_path, beginning, begin_waiting, accept, move_data, end_of, takes_up}
+use Rattle.machine_model.specs.Statuses.{has_status_modifier, chains_command}
+use Rattle.machine_model.specs.Steps.{SubTurn, UpTurn, choose_sub, is_full, finds_full, up_front, up_sub}
+use Rattle.machine_model.specs.Taking.{Met, meets, ignoring, quietly, by_hold, waits_as, with_path, beginning, begin_waiting, accept, move_bytes, move_data, with_end, chaining, chain_with, goes_on, ended, channel_ended, stops_at, command_ended, end_of, takes_up}
 use Rattle.machine_laws.proofs.Growth.{covers-taken, covers-first, IsLink, Keeps, IsAt, Reaches, stays, acts, chain, IsReached, reached}
 
 -- no unit restarted: no Notice tells of a restart
@@ -55,6 +57,10 @@ if-leaves : (l : Link) (b : Bool) (x y : UpStep) → Leaves l x → Leaves l y �
 if-leaves l true x y e f = e
 if-leaves l false x y e f = f
 
+if-meets : (l : Link) (b : Bool) (x y : Met) → Leaves l x.step → Leaves l y.step → Leaves l (if b then x else y).step
+if-meets l true x y e f = e
+if-meets l false x y e f = f
+
 ignored : (l : Link) (s : SubchannelState) → IsOf l s → Leaves l (ignoring s)
 ignored l s at = stays l s.drawn s.hold at
 
@@ -65,9 +71,12 @@ stepped-is n h (Some step) = refl
 abbrev IsSubTurn : Subchannel → Result SubTurn Fault → Type 0
 IsSubTurn sub r = IfOk r (λ t. IsOfHold sub t.sub)
 
-if-turns : (sub : Subchannel) (b : Bool) (x y : Result SubTurn Fault) → IsSubTurn sub x → IsSubTurn sub y → IsSubTurn sub (if b then x else y)
-if-turns sub true x y e f = e
-if-turns sub false x y e f = f
+abbrev IsUpTurn : Subchannel → Result UpTurn Fault → Type 0
+IsUpTurn sub r = IfOk r (λ t. IsOfHold sub t.sub)
+
+if-turns : {A : Type 0} (P : A → Type 0) (b : Bool) (x y : Result A Fault) → IfOk x P → IfOk y P → IfOk (if b then x else y) P
+if-turns P true x y e f = e
+if-turns P false x y e f = f
 
 -- nothing but the state was changed, and the hold was not
 pub kept-turns : (sub : Subchannel) (s : SubchannelState) → sub.state.drawn ≡ s.drawn → sub.state.hold ≡ s.hold → IsOfHold sub (record sub { state = s })
@@ -110,14 +119,15 @@ module _ (keeps : Keeps) where
       acts keeps l s.drawn s.hold (Takes (record { path = p; signal = x }) false) _ c at (e ∙ stepped-is s.drawn s.hold (hold_takes s.hold p x false))
 
   -- Accept: the waiting program begins, or lets the device go
-  beginning-leaves : (l : Link) (s : SubchannelState) (p t : ℕ) (program : Program) (r : Result Transfer Check) → IsOf l s → Leaves l (beginning s p t program r)
-  beginning-leaves l s p t program (Ok transfer) at =
-      acts keeps l s.drawn s.hold (Sends (record { path = p; signal = down.Command t 1 transfer.code 0 })) _ tt at refl
-  beginning-leaves l s p t program (Err check) at = let_go-leaves l s.drawn s.hold at
+  beginning-leaves : (storage : Contents) (l : Link) (s : SubchannelState) (p t : ℕ) (program : Program) (tried : ℕ) (r : Result Transfer Check) → IsOf l s →
+      Leaves l (beginning storage s p t program tried r)
+  beginning-leaves storage l s p t program tried (Ok transfer) at = acts keeps l s.drawn s.hold (Sends _) _ tt at refl
+  beginning-leaves storage l s p t program tried (Err check) at = let_go-leaves l s.drawn s.hold at
 
   begin-leaves : (storage : Contents) (l : Link) (s : SubchannelState) (p t : ℕ) (waiting : Option Program) → IsOf l s → Leaves l (begin_waiting storage s p t waiting)
   begin-leaves storage l s p t None at = ignored l s at
-  begin-leaves storage l s p t (Some program) at = beginning-leaves l s p t program (first_command storage program.orb) at
+  begin-leaves storage l s p t (Some program) at =
+      beginning-leaves storage l s p t program (first_command storage program.orb).tried (first_command storage program.orb).came at
 
   -- the hold offers the number u, or another
   begun-leaves : (storage : Contents) (l : Link) (s : SubchannelState) (h : HoldState) (p t q u : ℕ) (may same : Bool) →
@@ -145,50 +155,62 @@ module _ (keeps : Keeps) where
 
   -- Data
   move-leaves : (storage : Contents) (l : Link) (s : SubchannelState) (b : Option Begun) (p t c n seq : ℕ) (load : Load) → IsOf l s →
-      Leaves l (move_data storage s b p t c n seq load)
+      Leaves l (move_data storage s b p t c n seq load).step
   move-leaves storage l s None p t c n seq load at = ignored l s at
   move-leaves storage l s (Some b) p t c n seq load at =
-      if-leaves l (is_current b.transfer n seq) _ (ignoring s) (acts keeps l s.drawn s.hold (Sends _) _ tt at refl) (ignored l s at)
+      if-meets l (is_answered b.transfer n seq) (move_bytes storage s b p t c n seq load) (meets storage (ignoring s))
+      (if-meets l (is_outward b.transfer.code) _ _ (acts keeps l s.drawn s.hold (Sends _) _ tt at refl) (acts keeps l s.drawn s.hold (Sends _) _ tt at refl))
+      (ignored l s at)
 
   -- End
-  end_of-leaves : (l : Link) (s : SubchannelState) (b : Option Begun) (p n : ℕ) (status : DeviceStatus) (more : Bool) → IsOf l s →
-      Leaves l (end_of s b p n status more)
-  end_of-leaves l s None p n status more at = ignored l s at
-  end_of-leaves l s (Some b) p n status more at =
-      if-leaves l (n == b.transfer.command) _ (ignoring s)
-      (if-leaves l (is_last_end status) _ _ (let_go-leaves l s.drawn s.hold at) (stays l s.drawn s.hold at)) (ignored l s at)
+  chaining-leaves : (storage : Contents) (l : Link) (s : SubchannelState) (b : Begun) (p t tried : ℕ) (r : Result Transfer Check) → IsOf l s →
+      Leaves l (chaining storage s b p t tried r)
+  chaining-leaves storage l s b p t tried (Ok transfer) at = acts keeps l s.drawn s.hold (Sends _) _ tt at refl
+  chaining-leaves storage l s b p t tried (Err check) at = let_go-leaves l s.drawn s.hold at
+
+  end_of-leaves : (storage : Contents) (l : Link) (s : SubchannelState) (b : Option Begun) (p t n : ℕ) (status : DeviceStatus) (more : Bool) → IsOf l s →
+      Leaves l (end_of storage s b p t n status more)
+  end_of-leaves storage l s None p t n status more at = ignored l s at
+  end_of-leaves storage l s (Some b) p t n status more at =
+      if-leaves l (n == b.transfer.command) (command_ended storage s b p t status more) (ignoring s)
+      (if-leaves l (chains_command s.scsw b status more) (goes_on storage s (with_end b) p t status) (stops_at s b p status more)
+      (if-leaves l (has_device_end status) (chain_with storage s (with_end b) p t (next_command storage (with_end b).transfer (has_status_modifier status))) _
+      (chaining-leaves storage l s (with_end b) p t _ _ at) (stays l s.drawn s.hold at))
+      (if-leaves l (is_last_end status) (ended s b p status more) (channel_ended s b p status more) (let_go-leaves l s.drawn s.hold at) (stays l s.drawn s.hold at)))
+      (ignored l s at)
 
   takes-leaves : (storage : Contents) (l : Link) (s : SubchannelState) (p : ℕ) (x : Up) → IsTame l.ups → Contains l.ups (record { path = p; signal = x }) → IsOf l s →
-      Leaves l (takes_up storage s p x)
+      Leaves l (takes_up storage s p x).step
   takes-leaves storage l s p (up.Accept t) tame c at = accept-leaves storage l s s.hold s.hold.phase p t (waits_as s.waiting s.offered) c at
   takes-leaves storage l s p (up.Busy t) tame c at = by_hold-leaves l s p (up.Busy t) c at refl
   takes-leaves storage l s p (up.Leave t d) tame c at = by_hold-leaves l s p (up.Leave t d) c at refl
   takes-leaves storage l s p (up.Back t d) tame c at = by_hold-leaves l s p (up.Back t d) c at refl
   takes-leaves storage l s p (up.Data t d n seq load) tame c at =
-      if-leaves l (is_connected s.hold.phase p t d) _ (ignoring s) (move-leaves storage l s s.begun p t d n seq load at) (ignored l s at)
+      if-meets l (is_connected s.hold.phase p t d) (move_data storage s s.begun p t d n seq load) (meets storage (ignoring s))
+      (move-leaves storage l s s.begun p t d n seq load at) (ignored l s at)
   takes-leaves storage l s p (up.End t n status more) tame c at =
-      if-leaves l (is_on s.hold.phase t) _ (ignoring s) (end_of-leaves l s s.begun p n status more at) (ignored l s at)
+      if-leaves l (is_on s.hold.phase t) _ (ignoring s) (end_of-leaves storage l s s.begun p t n status more at) (ignored l s at)
   takes-leaves storage l s p (up.Released t) tame c at = by_hold-leaves l s p (up.Released t) c at refl
   takes-leaves storage l s p (up.Cleared r) tame c at = by_hold-leaves l s p (up.Cleared r) c at refl
   takes-leaves storage l s p (up.Notice b) tame c at = notice-leaves l s p b (nat_lt s.hold.known b) at refl (tame p b c)
   takes-leaves storage l s p (up.Attn a status) tame c at = by_hold-leaves l s p (up.Attn a status) c at refl
 
   up_front-turns : (storage : Contents) (sub : Subchannel) (path : ℕ) (front : Option Up) → slice_get (queue sub.wires.up path) 0 ≡ front →
-      IsSubTurn sub (up_front storage sub path front)
+      IsUpTurn sub (up_front storage sub path front)
   up_front-turns storage sub path None e = tt
   up_front-turns storage sub path (Some x) e =
-      if-turns sub (finds_full sub.wires.down (takes_up storage sub.state path x).came.sent) _ _ tt
+      if-turns (λ t. IsOfHold sub t.sub) (finds_full sub.wires.down (takes_up storage sub.state path x).step.came.sent) _ _ tt
       (record {
         setup = refl;
         reaches = λ l tame k.
-            reached sub l (takes_up storage sub.state path x).state (takes_up storage sub.state path x).came.sent _ k
+            reached sub l (takes_up storage sub.state path x).step.state (takes_up storage sub.state path x).step.came.sent _ k
             (takes-leaves storage l sub.state path x tame (covers-first l.ups sub.wires.up path x k.ups e) (record { drawn = k.drawn; hold = k.hold }))
             (λ m c. covers-taken m sub.wires.up path c);
       })
 
-  pub up-turns : (storage : Contents) (sub : Subchannel) (path : ℕ) → IsSubTurn sub (up_sub storage sub path)
+  pub up-turns : (storage : Contents) (sub : Subchannel) (path : ℕ) → IsUpTurn sub (up_sub storage sub path)
   up-turns storage sub path =
-      if-turns sub (nat_lt path (length sub.setup.paths)) (up_front storage sub path (slice_get (queue sub.wires.up path) 0)) _
+      if-turns (λ t. IsOfHold sub t.sub) (nat_lt path (length sub.setup.paths)) (up_front storage sub path (slice_get (queue sub.wires.up path) 0)) _
       (up_front-turns storage sub path (slice_get (queue sub.wires.up path) 0) refl) tt
 
   -- Choose
@@ -196,7 +218,7 @@ module _ (keeps : Keeps) where
   choose-turns sub chosen.Idle free = kept-turns sub sub.state refl refl
   choose-turns sub chosen.Over free = kept-turns sub (without_path sub.state) refl refl
   choose-turns sub (chosen.Offers program path) free =
-      if-turns sub (is_full sub.wires.down path) _ _ tt
+      if-turns (λ t. IsOfHold sub t.sub) (is_full sub.wires.down path) _ _ tt
       (record {
         setup = refl;
         reaches = λ l tame k.

@@ -6,7 +6,8 @@ mod RunSerials
 mod Growth
 mod Places
 mod HoldEvents
-mod UnitRestarts
+mod UnitPlain
+mod UnitNumbers
 mod UnitEvents
 mod RunAgrees
 mod Prefixes

@@ -4,6 +4,7 @@ use Rattle.std.proofs.Common.{◌≡◌, refl, subst, ℕ, zero, suc, Bool, true
 use Rattle.std.specs.Prelude.{slice_get, slice_set, if◌then◌else◌, IfOk}
 use Rattle.std.specs.List.{AllZip}
 use Rattle.orb_block.specs.declared.Orb.{Orb}
+use Rattle.schib_block.specs.declared.pmcw.Pmcw as block
 use Rattle.storage_keys.specs.Storage.{Contents}
 use Rattle.chan_model.specs.declared.fault.Fault.{Fault}
 use Rattle.chan_model.specs.declared.event.Event.{Event}
@@ -20,14 +21,15 @@ use Rattle.chan_model.specs.UnitReports.{unit_reports}
 use Rattle.wires.specs.Queues.{queue}
 use Rattle.machine_model.specs.declared.state.Chosen.{Chosen}
 use Rattle.machine_model.specs.declared.state.Chosen.TheVariants.{Idle, Over, Offers}
+use Rattle.machine_model.specs.declared.state.Pmcw.{Pmcw}
 use Rattle.machine_model.specs.declared.state.Program.{Program}
 use Rattle.machine_model.specs.declared.state.Subchannel.{Subchannel}
 use Rattle.machine_model.specs.declared.state.SubchannelState.{SubchannelState}
 use Rattle.machine_model.specs.State.{State}
-use Rattle.machine_model.specs.Instructions.{started, tested, enabled}
+use Rattle.machine_model.specs.Instructions.{started, tested}
 use Rattle.machine_model.specs.Choosing.{chosen, offered, without_path}
 use Rattle.machine_model.specs.Taking.{takes_up}
-use Rattle.machine_model.specs.Steps.{SubTurn, DownTurn, start_with, test_with, enable_with, choose_sub, is_full, finds_full, up_front, up_sub, down_front, down_sub, report_sends, Step}
+use Rattle.machine_model.specs.Steps.{SubTurn, UpTurn, DownTurn, start_with, test_with, modify_with, choose_sub, is_full, finds_full, up_front, up_sub, down_front, down_sub, report_taken, Step}
 use Rattle.machine_laws.proofs.Walk.{IsWalk, step-walks}
 
 -- what each event leaves of the state of a subchannel
@@ -35,10 +37,10 @@ pub record IsKept (R : SubchannelState → SubchannelState → Type 0) : Type 0 
   pub same : (s : SubchannelState) → R s s
   pub starts : (s : SubchannelState) (orb : Orb) → R s (started s orb)
   pub tests : (s : SubchannelState) → R s (tested s)
-  pub enables : (s : SubchannelState) (subclass : ℕ) (multipath : Bool) → R s (enabled s subclass multipath)
+  pub modifies : (s : SubchannelState) (pmcw : Pmcw) → R s (record s { pmcw = pmcw })
   pub offers : (s : SubchannelState) (program : Program) (path : ℕ) → R s (offered s program path)
   pub ends : (s : SubchannelState) → R s (without_path s)
-  pub takes : (storage : Contents) (s : SubchannelState) (path : ℕ) (signal : Up) → R s (takes_up storage s path signal).state
+  pub takes : (storage : Contents) (s : SubchannelState) (path : ℕ) (signal : Up) → R s (takes_up storage s path signal).step.state
 
 -- no event changes how a subchannel is set up
 pub record Changed (R : SubchannelState → SubchannelState → Type 0) (old new : Subchannel) : Type 0 where
@@ -50,15 +52,15 @@ pub record Moved (R : SubchannelState → SubchannelState → Type 0) (old new :
   pub sets : new.sets ≡ old.sets
   pub subs : AllZip (Changed R) old.subs new.subs
 
-if-ok : {A : Type 0} (P : A → Type 0) (b : Bool) (x y : Result A Fault) → IfOk x P → IfOk y P → IfOk (if b then x else y) P
+pub if-ok : {A : Type 0} (P : A → Type 0) (b : Bool) (x y : Result A Fault) → IfOk x P → IfOk y P → IfOk (if b then x else y) P
 if-ok P true x y e f = e
 if-ok P false x y e f = f
 
-zip-same : {A : Type 0} (R : A → A → Type 0) → ((x : A) → R x x) → (xs : List A) → AllZip R xs xs
+pub zip-same : {A : Type 0} (R : A → A → Type 0) → ((x : A) → R x x) → (xs : List A) → AllZip R xs xs
 zip-same R same [] = tt
 zip-same R same (x ∷ xs) = (same x, zip-same R same xs)
 
-zip-set : {A : Type 0} (R : A → A → Type 0) → ((x : A) → R x x) → (xs : List A) (place : ℕ) (x y : A) → slice_get xs place ≡ Some x → R x y →
+pub zip-set : {A : Type 0} (R : A → A → Type 0) → ((x : A) → R x x) → (xs : List A) (place : ℕ) (x y : A) → slice_get xs place ≡ Some x → R x y →
     AllZip R xs (slice_set xs place y)
 zip-set R same [] place x y e r = absurd (cc e)
 zip-set {A} R same (z ∷ xs) zero x y e r = let w : x ≡ z = cc e in (subst (λ (v : A). R v y) w r, zip-same R same xs)
@@ -67,6 +69,9 @@ zip-set R same (z ∷ xs) (suc place) x y e r = (same z, zip-set R same xs place
 module _ (R : SubchannelState → SubchannelState → Type 0) (k : IsKept R) where
   abbrev OkSub : Subchannel → Result SubTurn Fault → Type 0
   OkSub sub r = IfOk r (λ t. Changed R sub t.sub)
+
+  abbrev OkUp : Subchannel → Result UpTurn Fault → Type 0
+  OkUp sub r = IfOk r (λ t. Changed R sub t.sub)
 
   abbrev OkBoth : Subchannel → Result DownTurn Fault → Type 0
   OkBoth sub r = IfOk r (λ t. Changed R sub t.sub)
@@ -87,11 +92,11 @@ module _ (R : SubchannelState → SubchannelState → Type 0) (k : IsKept R) whe
   test-kept sub code.Two = unchanged sub
   test-kept sub code.Three = unchanged sub
 
-  enable-kept : (sub : Subchannel) (subclass : ℕ) (multipath : Bool) (c : ConditionCode) → Changed R sub (enable_with sub subclass multipath c).sub
-  enable-kept sub subclass multipath code.Zero = record { setup = refl; state = k.enables sub.state subclass multipath }
-  enable-kept sub subclass multipath code.One = unchanged sub
-  enable-kept sub subclass multipath code.Two = unchanged sub
-  enable-kept sub subclass multipath code.Three = unchanged sub
+  modify-kept : (sub : Subchannel) (given : block.Pmcw) (c : ConditionCode) → Changed R sub (modify_with sub given c).sub
+  modify-kept sub given code.Zero = record { setup = refl; state = k.modifies sub.state _ }
+  modify-kept sub given code.One = unchanged sub
+  modify-kept sub given code.Two = unchanged sub
+  modify-kept sub given code.Three = unchanged sub
 
   choose-kept : (sub : Subchannel) (c : Chosen) → OkSub sub (choose_sub sub c)
   choose-kept sub Idle = unchanged sub
@@ -99,13 +104,13 @@ module _ (R : SubchannelState → SubchannelState → Type 0) (k : IsKept R) whe
   choose-kept sub (Offers program path) =
       if-ok (λ t. Changed R sub t.sub) (is_full sub.wires.down path) _ _ tt (record { setup = refl; state = k.offers sub.state program path })
 
-  up_front-kept : (storage : Contents) (sub : Subchannel) (path : ℕ) (front : Option Up) → OkSub sub (up_front storage sub path front)
+  up_front-kept : (storage : Contents) (sub : Subchannel) (path : ℕ) (front : Option Up) → OkUp sub (up_front storage sub path front)
   up_front-kept storage sub path None = tt
   up_front-kept storage sub path (Some signal) =
-      if-ok (λ t. Changed R sub t.sub) (finds_full sub.wires.down (takes_up storage sub.state path signal).came.sent) _ _ tt
+      if-ok (λ t. Changed R sub t.sub) (finds_full sub.wires.down (takes_up storage sub.state path signal).step.came.sent) _ _ tt
       (record { setup = refl; state = k.takes storage sub.state path signal })
 
-  up-kept : (storage : Contents) (sub : Subchannel) (path : ℕ) → OkSub sub (up_sub storage sub path)
+  up-kept : (storage : Contents) (sub : Subchannel) (path : ℕ) → OkUp sub (up_sub storage sub path)
   up-kept storage sub path =
       if-ok (λ t. Changed R sub t.sub) (nat_lt path (length sub.setup.paths)) (up_front storage sub path (slice_get (queue sub.wires.up path) 0)) _
       (up_front-kept storage sub path (slice_get (queue sub.wires.up path) 0)) tt
@@ -121,9 +126,10 @@ module _ (R : SubchannelState → SubchannelState → Type 0) (k : IsKept R) whe
       if-ok (λ t. Changed R sub t.sub) (nat_lt path (length sub.setup.paths)) (down_front sub path u (slice_get (queue sub.wires.down path) 0)) _
       (down_front-kept sub path u (slice_get (queue sub.wires.down path) 0)) tt
 
-  report-kept : (sub : Subchannel) (u : UnitState) (sent : Option (OnPath Up)) → OkBoth sub (report_sends sub u sent)
-  report-kept sub u None = tt
-  report-kept sub u (Some s) = if-ok (λ t. Changed R sub t.sub) (is_full sub.wires.up s.path) _ _ tt (record { setup = refl; state = k.same sub.state })
+  report-kept : (sub : Subchannel) (step : Option UnitStep) → OkBoth sub (report_taken sub step)
+  report-kept sub None = tt
+  report-kept sub (Some step) =
+      if-ok (λ t. Changed R sub t.sub) (finds_full sub.wires.up step.sent) _ _ tt (record { setup = refl; state = k.same sub.state })
 
   -- at all of them
   unmoved : (s : State) → AllZip (Changed R) s.subs s.subs
@@ -137,11 +143,11 @@ module _ (R : SubchannelState → SubchannelState → Type 0) (k : IsKept R) whe
     stays = λ storage. record { sets = refl; subs = unmoved s };
     starts = λ place sub orb c e. record { sets = refl; subs = set-moved s place sub _ e (start-kept sub orb c) };
     tests = λ storage place sub c e. record { sets = refl; subs = set-moved s place sub _ e (test-kept sub c) };
-    enables = λ place sub subclass multipath c e. record { sets = refl; subs = set-moved s place sub _ e (enable-kept sub subclass multipath c) };
+    modifies = λ storage place sub given c e. record { sets = refl; subs = set-moved s place sub _ e (modify-kept sub given c) };
     chooses = λ place sub choice t e h. record { sets = refl; subs = set-moved s place sub t.sub e (subst (OkSub sub) h (choose-kept sub (chosen sub choice))) };
-    ups = λ place sub path t e h. record { sets = refl; subs = set-moved s place sub t.sub e (subst (OkSub sub) h (up-kept s.storage sub path)) };
+    ups = λ place sub path t e h. record { sets = refl; subs = set-moved s place sub t.sub e (subst (OkUp sub) h (up-kept s.storage sub path)) };
     downs = λ place sub u path t e f h. record { sets = refl; subs = set-moved s place sub t.sub e (subst (OkBoth sub) h (down-kept sub path u)) };
-    reports = λ place at sub u report t e f r h. record { sets = refl; subs = set-moved s at sub t.sub e (subst (OkBoth sub) h (report-kept sub (unit_after u (unit_reports u report)) _)) };
+    reports = λ place at sub u report t e f r h. record { sets = refl; subs = set-moved s at sub t.sub e (subst (OkBoth sub) h (report-kept sub (unit_reports u report))) };
   }
 
   pub step-moves : (s : State) (e : Event) (r : Reply) (new : State) → Step s e r new → Moved R s new

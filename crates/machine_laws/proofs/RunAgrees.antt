@@ -21,14 +21,16 @@ use Rattle.channel_config.specs.Lawful.{IsLawful}
 use Rattle.channel_config.specs.Setup.{Setup}
 use Rattle.wires.specs.Queues.{queue}
 use Rattle.orb_block.specs.declared.Orb.{Orb}
+use Rattle.schib_block.specs.declared.pmcw.Pmcw as block
 use Rattle.agreement_laws.specs.Links.{Links, link_of, opening}
 use Rattle.agreement_laws.specs.Invariant.{IsGood}
 use Rattle.agreement_laws.specs.Claims.{IsSound}
 use Rattle.machine_model.specs.declared.state.Subchannel.{Subchannel}
 use Rattle.machine_model.specs.Choosing.{chosen}
-use Rattle.machine_model.specs.Instructions.{started, tested, enabled}
+use Rattle.machine_model.specs.Instructions.{started, tested}
 use Rattle.machine_model.specs.State.{State, opening_of, opened, idle_of}
-use Rattle.machine_model.specs.Steps.{SubTurn, DownTurn, start_with, test_with, enable_with, Run, Opened, Stepped}
+use Rattle.machine_model.specs.SubchannelBlocks.{modified_state}
+use Rattle.machine_model.specs.Steps.{SubTurn, UpTurn, DownTurn, start_with, test_with, modify_with, Run, Opened, Stepped}
 use Rattle.machine_laws.specs.Agreeing.{IsAgreed, AllAgree}
 use Rattle.machine_laws.proofs.Walk.{IsWalk, step-walks}
 use Rattle.machine_laws.proofs.Places.{set-get, map-get, one-place}
@@ -167,11 +169,11 @@ test-hold sub code.One = same-hold sub
 test-hold sub code.Two = same-hold sub
 test-hold sub code.Three = same-hold sub
 
-enable-hold : (sub : Subchannel) (subclass : ℕ) (multipath : Bool) (c : ConditionCode) → IsOfHold sub (enable_with sub subclass multipath c).sub
-enable-hold sub subclass multipath code.Zero = kept-turns sub (enabled sub.state subclass multipath) refl refl
-enable-hold sub subclass multipath code.One = same-hold sub
-enable-hold sub subclass multipath code.Two = same-hold sub
-enable-hold sub subclass multipath code.Three = same-hold sub
+modify-hold : (sub : Subchannel) (given : block.Pmcw) (c : ConditionCode) → IsOfHold sub (modify_with sub given c).sub
+modify-hold sub given code.Zero = kept-turns sub (modified_state sub given) refl refl
+modify-hold sub given code.One = same-hold sub
+modify-hold sub given code.Two = same-hold sub
+modify-hold sub given code.Three = same-hold sub
 
 hold-linked : (s : State) (place : ℕ) (sub new : Subchannel) → slice_get s.subs place ≡ Some sub → IsOfHold sub new → IsStateLinked s → AreLinked (slice_set s.subs place new) s.units
 hold-linked s place sub new there h l =
@@ -223,12 +225,12 @@ module _ (keeps : Keeps) where
     stays = λ storage. l;
     starts = λ place sub orb c e. hold-linked s place sub _ e (start-hold sub orb c) l;
     tests = λ storage place sub c e. hold-linked s place sub _ e (test-hold sub c) l;
-    enables = λ place sub subclass multipath c e. hold-linked s place sub _ e (enable-hold sub subclass multipath c) l;
+    modifies = λ storage place sub given c e. hold-linked s place sub _ e (modify-hold sub given c) l;
     chooses = λ place sub choice t e h.
         hold-linked s place sub t.sub e
         (subst (λ (r : Result SubTurn Fault). IfOk r (λ t. IsOfHold sub t.sub)) h (choose-turns keeps sub (chosen sub choice) (chosen-free sub.state.hold.phase sub.state.waiting _ choice))) l;
     ups = λ place sub path t e h.
-        hold-linked s place sub t.sub e (subst (λ (r : Result SubTurn Fault). IfOk r (λ t. IsOfHold sub t.sub)) h (up-turns keeps s.storage sub path)) l;
+        hold-linked s place sub t.sub e (subst (λ (r : Result UpTurn Fault). IfOk r (λ t. IsOfHold sub t.sub)) h (up-turns keeps s.storage sub path)) l;
     downs = λ place sub u path t e f h.
         unit-linked s place sub.setup.«unit» sub t.sub u t.«unit» e f refl
         (subst (λ (r : Result DownTurn Fault). IfOk r (λ t. IsKept sub t.sub u t.«unit»)) h (down-kept keeps sub path u)) l;

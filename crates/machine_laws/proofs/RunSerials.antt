@@ -25,6 +25,7 @@ use Rattle.machine_model.specs.State.{State, opening_of, is_named, one_later, pl
 use Rattle.machine_model.specs.Instructions.{condition_of, tested}
 use Rattle.machine_model.specs.Steps.{Turn, does, with_state, test_sub, test_code_of, tests, Executes_on, Executes, Step, Run, Opened, Stepped}
 use Rattle.machine_laws.specs.Claims.{IsLater, is_same_id, is_id, serial_shown, serial_by, serial_of, serial_at, serials}
+use Rattle.machine_laws.proofs.Sound.{AreNumbered}
 use Rattle.machine_laws.proofs.RunSound.{SoundSub, one-of, run-sound, step-sets, step-later}
 
 -- the places of subchannels stay
@@ -217,30 +218,35 @@ executes-shows : (n : ℕ) (id : SubchannelId) (s : State) (cpu : ℕ) (i : Inst
 executes-shows n id s cpu (instruction.Ssch word address) r new a stays w = inl refl
 executes-shows n id s cpu (instruction.Tsch word address) r new a stays w =
     word-shows n id s cpu word address (subchannel_named s.sets word) r new a stays w
+executes-shows n id s cpu (instruction.Stsch word address) r new a stays w = inl refl
+executes-shows n id s cpu (instruction.Msch word address) r new a stays w = inl refl
 executes-shows n id s cpu (instruction.Enable word subclass multipath) r new a stays w = inl refl
 
 step-shows : (n : ℕ) (id : SubchannelId) (s : State) (e : Event) (r : Reply) (new : State) →
     All (SoundSub n) s.subs → place_in id new.subs ≡ place_in id s.subs → Step s e r new → Shows id s new (serial_of s.sets id e r)
 step-shows n id s (event.Put address bytes) r new a stays w = inl refl
+step-shows n id s (event.SetKey address key) r new a stays w = inl refl
+step-shows n id s (event.SetPrefix cpu address) r new a stays w = inl refl
+step-shows n id s (event.Show address count) r new a stays w = inl refl
 step-shows n id s (event.Execute cpu i) r new a stays w = executes-shows n id s cpu i r new a stays w
 step-shows n id s (event.Choose word) r new a stays w = inl refl
 step-shows n id s (event.Up word path) r new a stays w = inl refl
 step-shows n id s (event.Down word path) r new a stays w = inl refl
 step-shows n id s (event.Report place report) r new a stays w = inl refl
 
-run-told : (setup : Setup) (id : SubchannelId) (h : List Entry) (s : State) → Run (opening_of setup) h s → Told (set_count setup) id h s
-run-told setup id _ _ Opened =
+run-told : AreNumbered → (setup : Setup) (id : SubchannelId) (h : List Entry) (s : State) → Run (opening_of setup) h s → Told (set_count setup) id h s
+run-told numbered setup id _ _ Opened =
     record {
       same_sets = refl;
       cleared = cleared-none (of_id id (opening_of setup).subs);
       rises = λ i j d less within. absurd (omega (arith, within));
     }
-run-told setup id _ _ (Stepped h old e r new run step) =
-    let told : Told (set_count setup) id h old = run-told setup id h old run in
-    let zip : AllZip IsLater old.subs new.subs = step-later setup h old e r new run step in
-    told-step (set_count setup) id h old new (record { event = e; reply = r }) told zip (step-sets old e r new step)
+run-told numbered setup id _ _ (Stepped h old e r new run step) =
+    let told : Told (set_count setup) id h old = run-told numbered setup id h old run in
+    let zip : AllZip IsLater old.subs new.subs = step-later numbered setup h old e r new run step in
+    told-step (set_count setup) id h old new (record { event = e; reply = r }) told zip (step-sets numbered old e r new step)
     (subst (λ (sets : ℕ). Shows id old new (serial_of sets id e r)) told.same_sets
-    (step-shows (length h) id old e r new (run-sound setup h old run) (place-stays id old.subs new.subs zip) step))
+    (step-shows (length h) id old e r new (run-sound numbered setup h old run) (place-stays id old.subs new.subs zip) step))
 
-pub serials-rise : (setup : Setup) (h : List Entry) (s : State) → Run (opening_of setup) h s → (id : SubchannelId) → AllPairs (λ x y. x < y) (serials (set_count setup) id h)
-serials-rise setup h s run id = (run-told setup id h s run).rises
+pub serials-rise : AreNumbered → (setup : Setup) (h : List Entry) (s : State) → Run (opening_of setup) h s → (id : SubchannelId) → AllPairs (λ x y. x < y) (serials (set_count setup) id h)
+serials-rise numbered setup h s run id = (run-told numbered setup id h s run).rises

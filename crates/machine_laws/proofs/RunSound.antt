@@ -15,22 +15,22 @@ use Rattle.machine_model.specs.declared.state.SubchannelState.{SubchannelState}
 use Rattle.machine_model.specs.State.{State, opening_of, opened}
 use Rattle.machine_model.specs.Steps.{Step, Run, Opened, Stepped}
 use Rattle.machine_laws.specs.Claims.{IsLater}
-use Rattle.machine_laws.proofs.Sound.{Sound, later, started-sound, tested-sound, enabled-sound, offered-sound, over-sound, up-sound}
+use Rattle.machine_laws.proofs.Sound.{Sound, AreNumbered, later, started-sound, tested-sound, modified-sound, offered-sound, over-sound, up-sound}
 use Rattle.machine_laws.proofs.Moves.{IsKept, Changed, step-moves}
 
 -- one more event, above any floor
 abbrev pub Turns : ℕ → SubchannelState → SubchannelState → Type 0
 Turns n old new = (floor : Serials) → Sound floor n old → Sound floor (n + 1) new
 
-turns : (n : ℕ) → IsKept (Turns n)
-turns n = record {
+turns : AreNumbered → (n : ℕ) → IsKept (Turns n)
+turns numbered n = record {
   same = λ s floor k. later floor n s k;
   starts = λ s orb floor k. started-sound floor n s orb k;
   tests = λ s floor k. tested-sound floor n s k;
-  enables = λ s subclass multipath floor k. enabled-sound floor n s subclass multipath k;
+  modifies = λ s pmcw floor k. modified-sound floor n s pmcw k;
   offers = λ s program path floor k. offered-sound floor n s program path k;
   ends = λ s floor k. over-sound floor n s k;
-  takes = λ storage s path signal floor k. up-sound floor n storage s path signal k;
+  takes = λ storage s path signal floor k. up-sound numbered floor n storage s path signal k;
 }
 
 abbrev pub no_serials : Serials
@@ -68,17 +68,17 @@ all-later n (x ∷ xs) (y ∷ ys) a z =
 opened-sound : (setups : List SubchannelSetup) → All (SoundSub 0) (map opened setups)
 opened-sound setups = All-map (SoundSub 0) opened setups (λ k d h. (omega arith, omega arith, omega arith, tt, refl, omega arith, omega arith, omega arith))
 
-pub run-sound : (setup : Setup) (h : List Entry) (s : State) → Run (opening_of setup) h s → All (SoundSub (length h)) s.subs
-run-sound setup _ _ Opened = opened-sound setup.subchannels
-run-sound setup _ _ (Stepped h old e r new run step) =
+pub run-sound : AreNumbered → (setup : Setup) (h : List Entry) (s : State) → Run (opening_of setup) h s → All (SoundSub (length h)) s.subs
+run-sound numbered setup _ _ Opened = opened-sound setup.subchannels
+run-sound numbered setup _ _ (Stepped h old e r new run step) =
     subst (λ m. All (SoundSub m) new.subs) (sym (length-append h (record { event = e; reply = r } ∷ [])))
-    (all-after (length h) old.subs new.subs (step-moves (Turns (length h)) (turns (length h)) old e r new step).subs (run-sound setup h old run))
+    (all-after (length h) old.subs new.subs (step-moves (Turns (length h)) (turns numbered (length h)) old e r new step).subs (run-sound numbered setup h old run))
 
 -- a step after a run
-pub step-sets : (s : State) (e : Event) (r : Reply) (new : State) → Step s e r new → new.sets ≡ s.sets
-step-sets s e r new step = (step-moves (Turns 0) (turns 0) s e r new step).sets
+pub step-sets : AreNumbered → (s : State) (e : Event) (r : Reply) (new : State) → Step s e r new → new.sets ≡ s.sets
+step-sets numbered s e r new step = (step-moves (Turns 0) (turns numbered 0) s e r new step).sets
 
-pub step-later : (setup : Setup) (h : List Entry) (s : State) (e : Event) (r : Reply) (new : State) → Run (opening_of setup) h s → Step s e r new →
+pub step-later : AreNumbered → (setup : Setup) (h : List Entry) (s : State) (e : Event) (r : Reply) (new : State) → Run (opening_of setup) h s → Step s e r new →
     AllZip IsLater s.subs new.subs
-step-later setup h s e r new run step =
-    all-later (length h) s.subs new.subs (run-sound setup h s run) (step-moves (Turns (length h)) (turns (length h)) s e r new step).subs
+step-later numbered setup h s e r new run step =
+    all-later (length h) s.subs new.subs (run-sound numbered setup h s run) (step-moves (Turns (length h)) (turns numbered (length h)) s e r new step).subs

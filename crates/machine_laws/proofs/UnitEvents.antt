@@ -22,11 +22,11 @@ use Rattle.agreement_laws.specs.Links.{Link, Links, link_of}
 use Rattle.agreement_laws.specs.Moving.{UnitAct, Takes_down, Reports, unit_steps, is_to, is_owner_side, sent_by, sent_to, up_sent, Unit_acts, IsUnitGiven}
 use Rattle.agreement_laws.specs.Invariant.{ends_of, IsUpGood, IsSideGood, IsGood}
 use Rattle.machine_model.specs.declared.state.Subchannel.{Subchannel}
-use Rattle.machine_model.specs.Steps.{DownTurn, with_any_sent, finds_full, is_full, down_front, down_sub, report_sends, report_sub}
+use Rattle.machine_model.specs.Steps.{DownTurn, with_any_sent, finds_full, is_full, down_front, down_sub, report_taken, report_sub}
 use Rattle.machine_laws.proofs.Growth.{one-wider, one-within, Covers, covers-taken, covers-sent, covers-wider, covers-first, IsLink, IsWider, told, told-step, Keeps, IsReached, links_of}
 use Rattle.machine_laws.proofs.Places.{same-side, one-side}
 use Rattle.machine_laws.proofs.HoldEvents.{IsTame, IsOfHold}
-use Rattle.machine_laws.proofs.UnitRestarts.{takes-still, report-still}
+use Rattle.machine_laws.proofs.UnitPlain.{takes-plain, report-plain}
 
 -- the links of a unit after an event at the subchannel of this side
 pub record Follows (w : Links) (side : Side) (new : Subchannel) (v : UnitState) : Type 0 where
@@ -146,15 +146,6 @@ report-side u own.Idle r y e = absurd (cc e)
 report-side u (own.Owned k t place) r y e =
     owner-side k r.side ((r.number == t) && (r.command == u.last_command)) (report_on u t place u.at_hand r) y e
 
-sends-kept : (sub : Subchannel) (u v : UnitState) (one : Option (OnPath Up)) → ((s : OnPath Up) → one ≡ Some s → IsKept sub (sent_up sub sub.wires.down one) u v) →
-    AreKept sub u (report_sends sub v one)
-sends-kept sub u v None f = tt
-sends-kept sub u v (Some s) f = if-kept sub u (is_full sub.wires.up s.path) _ _ tt (f s refl)
-
-sent-some : (step : Option UnitStep) (s : OnPath Up) → (unit_table.came_of step).sent ≡ Some s → (y : UnitStep) × (step ≡ Some y)
-sent-some None s e = absurd (cc e)
-sent-some (Some y) s e = (y, refl)
-
 module _ (keeps : Keeps) where
   unit-follows : (w : Links) (act : UnitAct) (side : Side) (sub : Subchannel) (downs : List (List Down)) → IsGood w → IsUnitGiven w act → is_to w.«unit» act side ≡ true →
       IsLink sub (link_of w side) → IsFewer sub.wires.down downs →
@@ -192,7 +183,7 @@ module _ (keeps : Keeps) where
       (came-sent (unit_takes u sub.setup.side path x true))
       (unit-kept sub u (Takes_down sub.setup.side (record { path = path; signal = x }) true) (taken sub.wires.down path)
       (λ w k. covers-first (link_of w sub.setup.side).downs sub.wires.down path x k.downs e) (same-side sub.setup.side)
-      (λ m c. covers-taken m sub.wires.down path c) (takes-still 0 u sub.setup.side path x true)))
+      (λ m c. covers-taken m sub.wires.down path c) (λ e. (takes-plain u sub.setup.side path x true).restarts ∙ e)))
 
   pub down-kept : (sub : Subchannel) (path : ℕ) (u : UnitState) → AreKept sub u (down_sub sub path u)
   down-kept sub path u =
@@ -200,11 +191,14 @@ module _ (keeps : Keeps) where
       (down_front-kept sub path u (slice_get (queue sub.wires.down path) 0) refl) tt
 
   -- Report
-  pub report-kept : (sub : Subchannel) (u : UnitState) (r : Report) → same_side sub.setup.side r.side ≡ true → AreKept sub u (report_sub sub u r)
-  report-kept sub u r e =
-      sends-kept sub u (unit_after u (unit_reports u r)) (unit_table.came_of (unit_reports u r)).sent
-      (λ s h.
-      let y : (y : UnitStep) × (unit_reports u r ≡ Some y) = sent-some (unit_reports u r) s h in
-      subst (λ (one : Option (OnPath Up)). IsKept sub (sent_up sub sub.wires.down one) u (unit_after u (unit_reports u r))) (came-sent (unit_reports u r))
+  taken-kept : (sub : Subchannel) (u : UnitState) (r : Report) (step : Option UnitStep) → unit_reports u r ≡ step → same_side sub.setup.side r.side ≡ true →
+      AreKept sub u (report_taken sub step)
+  taken-kept sub u r None h e = tt
+  taken-kept sub u r (Some y) h e =
+      if-kept sub u (finds_full sub.wires.up y.sent) _ _ tt
+      (subst (λ (step : Option UnitStep). IsKept sub (sent_up sub sub.wires.down (sent_by step)) u (unit_after u step)) h
       (unit-kept sub u (Reports r) sub.wires.down (λ w k. tt)
-      (subst (λ (side : Side). is_owner_side u.own side ≡ true) (sym (one-side sub.setup.side r.side e)) (report-side u u.own r y.0 y.1)) (λ m c. c) (report-still 0 u u.own r)))
+      (subst (λ (side : Side). is_owner_side u.own side ≡ true) (sym (one-side sub.setup.side r.side e)) (report-side u u.own r y h)) (λ m c. c) (λ e. (report-plain u r).restarts ∙ e)))
+
+  pub report-kept : (sub : Subchannel) (u : UnitState) (r : Report) → same_side sub.setup.side r.side ≡ true → AreKept sub u (report_sub sub u r)
+  report-kept sub u r e = taken-kept sub u r (unit_reports u r) refl e

@@ -3,8 +3,9 @@
 use Rattle.std.proofs.Common.{◌≡◌, refl, sym, ◌∙◌, ap, subst, ℕ, ◌+◌, zero, suc, Bool, true, false, Option, None, Some, Result, Ok, Err, List, [], ◌∷◌, inl, inr, arith}
 use Rattle.std.specs.Prelude.{◌⊎◌, slice_get, if◌then◌else◌, IfOk}
 use Rattle.orb_block.specs.declared.Orb.{Orb}
+use Rattle.schib_block.specs.declared.pmcw.Pmcw as block
 use Rattle.storage_keys.specs.declared.StorageFault.{StorageFault}
-use Rattle.storage_keys.specs.Storage.{Contents, put, operand_at, operand_check}
+use Rattle.storage_keys.specs.Storage.{Contents, put, shown, key_set, prefix_set, operand_at, operand_check}
 use Rattle.channel_config.specs.declared.names.SubchannelId.{SubchannelId}
 use Rattle.chan_model.specs.declared.fault.Fault.{Fault}
 use Rattle.chan_model.specs.declared.event.Event.{Event}
@@ -21,7 +22,8 @@ use Rattle.machine_model.specs.declared.state.Subchannel.{Subchannel}
 use Rattle.machine_model.specs.State.{State, place_of, place_in, first_place, one_later, sub_at, with_sub, with_unit}
 use Rattle.machine_model.specs.Instructions.{condition_of}
 use Rattle.machine_model.specs.Choosing.{chosen}
-use Rattle.machine_model.specs.Steps.{Outcome, SubTurn, DownTurn, at_sub, at_unit, start_with, start_at, Starts, Starts_with, test_with, test_sub, test_code_of, tests, enable_with, enable_at, Executes_at, Executes_on, choose_sub, Chooses, up_sub, up_at, down_sub, down_unit, down_at, report_sub, report_to, report_at, reaches, reached_in, put_turn_of, does, Steps, Step}
+use Rattle.machine_model.specs.SubchannelBlocks.{pmcw_of, enabling}
+use Rattle.machine_model.specs.Steps.{Outcome, SubTurn, UpTurn, DownTurn, at_sub, at_storage, at_unit, start_with, start_at, Starts, Starts_with, test_with, test_sub, test_code_of, tests, store_at, stores, modify_with, modify_at, Modifies_by, Modifies, Enables_with, Enables, Executes_at, Executes_on, choose_sub, Chooses, up_sub, up_at, down_sub, down_unit, down_at, report_sub, report_to, report_at, reaches, reached_in, storage_turn, show_turn_of, does, Steps, Step}
 
 -- what follows each turn from the state s
 pub record IsWalk (s : State) (P : State → Type 0) : Type 0 where
@@ -29,12 +31,12 @@ pub record IsWalk (s : State) (P : State → Type 0) : Type 0 where
   pub starts : (place : ℕ) (sub : Subchannel) (orb : Orb) (c : ConditionCode) → slice_get s.subs place ≡ Some sub → P (with_sub s place (start_with sub orb c).sub)
   pub tests : (storage : Contents) (place : ℕ) (sub : Subchannel) (c : ConditionCode) → slice_get s.subs place ≡ Some sub →
       P (with_sub (record s { storage = storage }) place (test_with sub c).sub)
-  pub enables : (place : ℕ) (sub : Subchannel) (subclass : ℕ) (multipath : Bool) (c : ConditionCode) → slice_get s.subs place ≡ Some sub →
-      P (with_sub s place (enable_with sub subclass multipath c).sub)
+  pub modifies : (storage : Contents) (place : ℕ) (sub : Subchannel) (given : block.Pmcw) (c : ConditionCode) → slice_get s.subs place ≡ Some sub →
+      P (with_sub (record s { storage = storage }) place (modify_with sub given c).sub)
   pub chooses : (place : ℕ) (sub : Subchannel) (choice : Option ℕ) (t : SubTurn) → slice_get s.subs place ≡ Some sub →
       choose_sub sub (chosen sub choice) ≡ Ok t → P (with_sub s place t.sub)
-  pub ups : (place : ℕ) (sub : Subchannel) (path : ℕ) (t : SubTurn) → slice_get s.subs place ≡ Some sub → up_sub s.storage sub path ≡ Ok t →
-      P (with_sub s place t.sub)
+  pub ups : (place : ℕ) (sub : Subchannel) (path : ℕ) (t : UpTurn) → slice_get s.subs place ≡ Some sub → up_sub s.storage sub path ≡ Ok t →
+      P (with_sub (record s { storage = t.storage }) place t.sub)
   pub downs : (place : ℕ) (sub : Subchannel) (u : UnitState) (path : ℕ) (t : DownTurn) → slice_get s.subs place ≡ Some sub →
       slice_get s.units sub.setup.«unit» ≡ Some u → down_sub sub path u ≡ Ok t → P (with_unit (with_sub s place t.sub) sub.setup.«unit» t.«unit»)
   pub reports : (place at : ℕ) (sub : Subchannel) (u : UnitState) (report : Report) (t : DownTurn) → slice_get s.subs at ≡ Some sub →
@@ -65,6 +67,10 @@ module _ (s : State) (P : State → Type 0) (k : IsWalk s P) where
   at_sub-walks place (Ok t) f = f t refl
   at_sub-walks place (Err e) f = tt
 
+  at_storage-walks : (place : ℕ) (r : Result UpTurn Fault) → ((t : UpTurn) → r ≡ Ok t → P (with_sub (record s { storage = t.storage }) place t.sub)) → OkAll (at_storage s place r)
+  at_storage-walks place (Ok t) f = f t refl
+  at_storage-walks place (Err e) f = tt
+
   at_unit-walks : (place at : ℕ) (r : Result DownTurn Fault) → ((t : DownTurn) → r ≡ Ok t → P (with_unit (with_sub s place t.sub) at t.«unit»)) → OkAll (at_unit s place at r)
   at_unit-walks place at (Ok t) f = f t refl
   at_unit-walks place at (Err e) f = tt
@@ -86,10 +92,44 @@ module _ (s : State) (P : State → Type 0) (k : IsWalk s P) where
   tests-walk cpu address (Some place) None (Ok u) e = k.stays s.storage
   tests-walk cpu address (Some place) (Some sub) (Ok u) e = test_code-walks cpu address place sub (test_code_of sub) e
 
-  enable-walks : (p : Option ℕ) (q : Option Subchannel) (subclass : ℕ) (multipath : Bool) → sub_at s.subs p ≡ q → OkAll (enable_at s p q subclass multipath)
-  enable-walks None q subclass multipath e = k.stays s.storage
-  enable-walks (Some place) None subclass multipath e = k.stays s.storage
-  enable-walks (Some place) (Some sub) subclass multipath e = k.enables place sub subclass multipath (msch_code (condition_of sub.state)) e
+  store-walks : (cpu address : ℕ) (p : Option ℕ) (q : Option Subchannel) → OkAll (store_at s cpu address p q)
+  store-walks cpu address None q = k.stays s.storage
+  store-walks cpu address (Some place) None = k.stays s.storage
+  store-walks cpu address (Some place) (Some sub) = k.stays _
+
+  stores-walk : (cpu address : ℕ) (p : Option ℕ) (q : Option Subchannel) (r : Result (Unit {0}) StorageFault) → OkAll (stores s cpu address p q r)
+  stores-walk cpu address p q (Err f) = tt
+  stores-walk cpu address p q (Ok u) = store-walks cpu address p q
+
+  modify-walks : (storage : Contents) (p : Option ℕ) (q : Option Subchannel) (given : block.Pmcw) → sub_at s.subs p ≡ q →
+      OkAll (modify_at (record s { storage = storage }) p q given)
+  modify-walks storage None q given e = k.stays storage
+  modify-walks storage (Some place) None given e = k.stays storage
+  modify-walks storage (Some place) (Some sub) given e = k.modifies storage place sub given (msch_code (condition_of sub.state)) e
+
+  modified-walks : (storage : Contents) (p : Option ℕ) (q : Option Subchannel) (image : List ℕ) (o : Outcome) → sub_at s.subs p ≡ q →
+      Modifies_by (record s { storage = storage }) p q image o → OkAll o
+  modified-walks storage p q image o e w =
+      elim w.2 [
+        | inl x ↦ subst OkAll (sym x.1) tt
+        | inr x ↦ subst OkAll (sym x.1) (modify-walks storage p q w.0 e)
+      ]
+
+  modifies-walk : (p : Option ℕ) (q : Option Subchannel) (r : Result (List ℕ) StorageFault) (o : Outcome) → sub_at s.subs p ≡ q → Modifies s p q r o → OkAll o
+  modifies-walk p q (Err f) o e w = subst OkAll (sym w) tt
+  modifies-walk p q (Ok image) o e w = modified-walks s.storage p q image o e w
+
+  enabled-walks : (cpu : ℕ) (p : Option ℕ) (q : Option Subchannel) (subclass : ℕ) (multipath : Bool) (image : List ℕ) (o : Outcome) → sub_at s.subs p ≡ q →
+      Enables_with s cpu p q subclass multipath image o → OkAll o
+  enabled-walks cpu None q subclass multipath image o e w = modified-walks _ None q image o e w
+  enabled-walks cpu (Some place) None subclass multipath image o e w = modified-walks _ (Some place) None image o e w
+  enabled-walks cpu (Some place) (Some sub) subclass multipath image o e w =
+      subst OkAll (sym w) (k.modifies _ place sub (enabling (pmcw_of sub) subclass multipath) (msch_code (condition_of sub.state)) e)
+
+  enables-walk : (cpu : ℕ) (p : Option ℕ) (q : Option Subchannel) (subclass : ℕ) (multipath : Bool) (r : Result (List ℕ) StorageFault) (o : Outcome) →
+      sub_at s.subs p ≡ q → Enables s cpu p q subclass multipath r o → OkAll o
+  enables-walk cpu p q subclass multipath (Err f) o e w = subst OkAll (sym w) tt
+  enables-walk cpu p q subclass multipath (Ok image) o e w = enabled-walks cpu p q subclass multipath image o e w
 
   started-walks : (p : Option ℕ) (q : Option Subchannel) (image : List ℕ) (o : Outcome) → sub_at s.subs p ≡ q → Starts_with s p q image o → OkAll o
   started-walks p q image o e w =
@@ -105,7 +145,10 @@ module _ (s : State) (P : State → Type 0) (k : IsWalk s P) where
   executes-walk : (cpu : ℕ) (i : Instruction) (p : Option ℕ) (q : Option Subchannel) (o : Outcome) → sub_at s.subs p ≡ q → Executes_at s cpu i p q o → OkAll o
   executes-walk cpu (instruction.Ssch word address) p q o e w = starts-walk p q (operand_at s.storage cpu address 12 4) o e w
   executes-walk cpu (instruction.Tsch word address) p q o e w = subst OkAll (sym w) (tests-walk cpu address p q (operand_check s.storage cpu address 64 4) e)
-  executes-walk cpu (instruction.Enable word subclass multipath) p q o e w = subst OkAll (sym w) (enable-walks p q subclass multipath e)
+  executes-walk cpu (instruction.Stsch word address) p q o e w = subst OkAll (sym w) (stores-walk cpu address p q (operand_check s.storage cpu address 52 4))
+  executes-walk cpu (instruction.Msch word address) p q o e w = modifies-walk p q (operand_at s.storage cpu address 52 4) o e w
+  executes-walk cpu (instruction.Enable word subclass multipath) p q o e w =
+      enables-walk cpu p q subclass multipath (operand_at s.storage cpu 0xF00 52 4) o e w
 
   executes_on-walk : (cpu : ℕ) (i : Instruction) (x : Option SubchannelId) (o : Outcome) → Executes_on s cpu i x o → OkAll o
   executes_on-walk cpu i None o w = subst OkAll (sym w) tt
@@ -120,7 +163,7 @@ module _ (s : State) (P : State → Type 0) (k : IsWalk s P) where
   ups-walk : (p : Option ℕ) (q : Option Subchannel) (path : ℕ) → sub_at s.subs p ≡ q → OkAll (up_at s p q path)
   ups-walk None q path e = tt
   ups-walk (Some place) None path e = tt
-  ups-walk (Some place) (Some sub) path e = at_sub-walks place (up_sub s.storage sub path) (λ t h. k.ups place sub path t e h)
+  ups-walk (Some place) (Some sub) path e = at_storage-walks place (up_sub s.storage sub path) (λ t h. k.ups place sub path t e h)
 
   down_unit-walks : (place : ℕ) (sub : Subchannel) (path : ℕ) (v : Option UnitState) → slice_get s.subs place ≡ Some sub → slice_get s.units sub.setup.«unit» ≡ v →
       OkAll (down_unit s place sub path v)
@@ -145,12 +188,19 @@ module _ (s : State) (P : State → Type 0) (k : IsWalk s P) where
   reports-walk place (Some u) report f =
       report_to-walks place u report (reached_in place report.side s.subs) (sub_at s.subs (reached_in place report.side s.subs)) f refl refl
 
-  put-walks : (r : Result Contents StorageFault) → OkAll (put_turn_of s r)
-  put-walks (Ok storage) = k.stays storage
-  put-walks (Err f) = tt
+  storage-walks : (r : Result Contents StorageFault) → OkAll (storage_turn s r)
+  storage-walks (Ok storage) = k.stays storage
+  storage-walks (Err f) = tt
+
+  show-walks : (r : Result (List ℕ) StorageFault) → OkAll (show_turn_of s r)
+  show-walks (Ok bytes) = k.stays s.storage
+  show-walks (Err f) = tt
 
   steps-walk : (e : Event) (o : Outcome) → Steps s e o → OkAll o
-  steps-walk (event.Put address bytes) o w = subst OkAll (sym w) (put-walks (put s.storage address bytes))
+  steps-walk (event.Put address bytes) o w = subst OkAll (sym w) (storage-walks (put s.storage address bytes))
+  steps-walk (event.SetKey address key) o w = subst OkAll (sym w) (storage-walks (key_set s.storage address key))
+  steps-walk (event.SetPrefix cpu address) o w = subst OkAll (sym w) (storage-walks (prefix_set s.storage cpu address))
+  steps-walk (event.Show address count) o w = subst OkAll (sym w) (show-walks (shown s.storage address count))
   steps-walk (event.Execute cpu i) o w = executes_on-walk cpu i _ o w
   steps-walk (event.Choose word) o w = chooses-walk (place_of s word) (sub_at s.subs (place_of s word)) o refl w
   steps-walk (event.Up word path) o w = subst OkAll (sym w) (ups-walk (place_of s word) (sub_at s.subs (place_of s word)) path refl)

@@ -1,5 +1,5 @@
 -- What the instructions leave of a subchannel (SA22-7832, chapter 14; the effects are this project's own choice).
-use Rattle.std.specs.Prelude.{ℕ, ◌+◌, Bool, true, false, not, Some}
+use Rattle.std.specs.Prelude.{◌+◌, true, false, not, Some}
 use Rattle.orb_block.specs.declared.Orb.{Orb}
 use Rattle.scsw_irb.specs.declared.scsw.DeferredCode.TheVariants as deferred
 use Rattle.scsw_irb.specs.declared.scsw.Scsw.{Scsw}
@@ -58,10 +58,3 @@ started s orb = record s {
 -- TEST: all status that was made is cleared
 abbrev pub tested : SubchannelState → SubchannelState
 tested s = record s { scsw = tested_scsw s.scsw; serials = serials_cleared s.serials }
-
--- the interruption subclass and the mode are set, and the subchannel is enabled
-abbrev pub enabled_pmcw : Pmcw → ℕ → Bool → Pmcw
-enabled_pmcw pmcw subclass multipath = record pmcw { subclass = subclass; multipath = multipath; enabled = true }
-
-abbrev pub enabled : SubchannelState → ℕ → Bool → SubchannelState
-enabled s subclass multipath = record s { pmcw = enabled_pmcw s.pmcw subclass multipath }

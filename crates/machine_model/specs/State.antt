@@ -1,4 +1,5 @@
 -- What there is of a channel subsystem, as small values.
+use Rattle.std.proofs.Common.{lit<}
 use Rattle.std.specs.Prelude.{ℕ, ◌+◌, ◌==◌, ◌&&◌, ◌||◌, not, Bool, true, false, List, [], ◌∷◌, map, length, replicate, slice_get, slice_set, unwrap_or, Option, None, Some, if◌then◌else◌}
 use Rattle.scsw_irb.specs.Empty.{zero_scsw}
 use Rattle.storage_keys.specs.Storage.{Contents, cleared}
@@ -43,7 +44,7 @@ abbrev pub no_paths : List Bool
 no_paths = replicate 8 false
 
 abbrev pub opening_pmcw : Pmcw
-opening_pmcw = record { parameter = 0; subclass = 0; enabled = false; multipath = false; logical = all_paths; not_operational = no_paths; last_used = None; operational = all_paths }
+opening_pmcw = record { parameter = 0; subclass = 0; enabled = false; multipath = false; logical = all_paths; not_operational = no_paths; last_used = None; operational = all_paths; subclass_fits = lit< tt }
 
 abbrev pub opening_subchannel : SubchannelState
 opening_subchannel = record {

@@ -7,15 +7,24 @@ use Rattle.scsw_irb.specs.declared.status.SubchannelStatus.{SubchannelStatus}
 use Rattle.scsw_irb.specs.Empty.{no_activity}
 use Rattle.chan_model.specs.declared.status.Shown.{Shown}
 use Rattle.chan_model.specs.Status.{scsw_made, serials_made, conditions, shows_primary, no_device_status, no_subchannel_status}
+use Rattle.scsw_irb.specs.Status.{has}
 use Rattle.chan_model.specs.UnitReports.{has_channel_end, has_device_end, has_unit_check}
-use Rattle.machine_model.specs.declared.state.Check.{Check}
-use Rattle.machine_model.specs.declared.state.Check.TheVariants.{Program, Protection}
+use Rattle.channel_program.specs.declared.check.Check.{Check}
+use Rattle.channel_program.specs.declared.check.Check.TheVariants.{Program, Protection}
+use Rattle.data_move.specs.Moving.{residual}
 use Rattle.machine_model.specs.declared.state.Begun.{Begun}
 use Rattle.machine_model.specs.declared.state.SubchannelState.{SubchannelState}
 
 -- a status is made pending
 abbrev pub with_status : SubchannelState → Shown → SubchannelState
 with_status s shown = record s { scsw = scsw_made s.pmcw.enabled s.scsw shown; serials = serials_made s.pmcw.enabled s.serials }
+
+-- two more bits of a device status (SA22-7832, chapter 16)
+abbrev pub has_status_modifier : DeviceStatus → Bool
+has_status_modifier status = has status.0 0x40
+
+abbrev pub has_unit_exception : DeviceStatus → Bool
+has_unit_exception status = has status.0 0x01
 
 -- the subchannel status of a check, and of an incorrect length
 abbrev pub check_bits : Option Check → ℕ
@@ -39,20 +48,21 @@ no_path_shown scsw = record {
   count = scsw.count;
 }
 
--- a command could not be fetched, or may not take control
-abbrev pub fetch_fault_shown : ℕ → Check → Shown
-fetch_fault_shown tried check = record {
+-- a command could not be fetched, or may not take control; the count is that of the command before, where there is one
+abbrev pub fetch_fault_shown : ℕ → Check → ℕ → Shown
+fetch_fault_shown tried check count = record {
   conditions = conditions true true true;
   activity = no_activity;
   device = no_device_status;
   subchannel = record { 0 = check_bits (Some check) };
   deferred = None;
   command_address = tried;
-  count = 0;
+  count = count;
 }
 
 -- an incorrect length is shown at the first End of a command, where bytes are left on one side; not with unit check alone
--- (own), nor where SLI is one; for a command that ended at once only in format 1 where L is zero
+-- (own), nor where a halt is specified (own), nor where SLI is one and CD zero; for a command that ended at once only in
+-- format 1 where L is zero
 abbrev pub is_unit_check_alone : DeviceStatus → Bool
 is_unit_check_alone status = has_unit_check status && (not (has_channel_end status) && not (has_device_end status))
 
@@ -60,20 +70,38 @@ abbrev pub is_channel_end_alone : DeviceStatus → Bool
 is_channel_end_alone status = has_channel_end status && not (has_device_end status)
 
 abbrev pub is_short : Begun → Bool → Bool
-is_short b more = not (b.transfer.residual == 0) || more
+is_short b more = not (residual b.transfer.moving == 0) || more
+
+abbrev pub suppresses_length : Begun → Bool
+suppresses_length b = b.transfer.moving.ccw.suppress_length && not b.transfer.moving.ccw.chain_data
 
 abbrev pub shows_immediate : Begun → DeviceStatus → Bool
 shows_immediate b status = not (is_channel_end_alone status) || (b.program.orb.format_one && not b.program.orb.suppress_length)
 
-abbrev pub shows_length : Begun → DeviceStatus → Bool → Bool
-shows_length b status more =
+abbrev pub shows_length : Scsw → Begun → DeviceStatus → Bool → Bool
+shows_length scsw b status more =
     not b.transfer.ended
     && (is_short b more
     && (not (is_unit_check_alone status)
-    && (not b.transfer.suppress_length && shows_immediate b status)))
+    && (not scsw.functions.halt
+    && (not (suppresses_length b) && shows_immediate b status))))
 
-abbrev pub end_bits : Begun → DeviceStatus → Bool → SubchannelStatus
-end_bits b status more = record { 0 = bit_or (length_bits (shows_length b status more)) (check_bits b.transfer.fault) }
+abbrev pub end_bits : Scsw → Begun → DeviceStatus → Bool → SubchannelStatus
+end_bits scsw b status more = record { 0 = bit_or (length_bits (shows_length scsw b status more)) (check_bits b.transfer.fault) }
+
+-- what breaks a chain of commands: nothing is chained then, nor at a later End of the command
+abbrev pub breaks_chain : Scsw → Begun → DeviceStatus → Bool → Bool
+breaks_chain scsw b status more =
+    has_unit_check status
+    || (has_unit_exception status
+    || (shows_length scsw b status more || (is_some b.transfer.fault || scsw.functions.halt)))
+
+-- the next command is chained to where CC alone is one, and nothing breaks the chain
+abbrev pub chains_command : Scsw → Begun → DeviceStatus → Bool → Bool
+chains_command scsw b status more =
+    b.transfer.moving.ccw.chain_command
+    && (not b.transfer.moving.ccw.chain_data
+    && (not b.transfer.unchained && not (breaks_chain scsw b status more)))
 
 abbrev pub is_alert : Begun → DeviceStatus → Bool
 is_alert b status = has_unit_check status || is_some b.transfer.fault
@@ -84,10 +112,10 @@ channel_end_shown scsw b status more = record {
   conditions = conditions (is_alert b status) (shows_primary scsw.functions b.primary_shown) false;
   activity = record no_activity { device_active = true };
   device = status;
-  subchannel = end_bits b status more;
+  subchannel = end_bits scsw b status more;
   deferred = None;
-  command_address = b.tried;
-  count = b.transfer.residual;
+  command_address = b.transfer.walk.tried;
+  count = residual b.transfer.moving;
 }
 
 -- the last End of a program
@@ -96,10 +124,10 @@ last_end_shown scsw b status more = record {
   conditions = conditions (is_alert b status) (shows_primary scsw.functions b.primary_shown) true;
   activity = no_activity;
   device = status;
-  subchannel = end_bits b status more;
+  subchannel = end_bits scsw b status more;
   deferred = None;
-  command_address = b.tried;
-  count = b.transfer.residual;
+  command_address = b.transfer.walk.tried;
+  count = residual b.transfer.moving;
 }
 
 -- the last End of an earlier program while a start waits: deferred condition code 1, and the start is over (own)
@@ -108,7 +136,7 @@ earlier_end_shown scsw b status more = record {
   conditions = conditions true false false;
   activity = no_activity;
   device = status;
-  subchannel = end_bits b status more;
+  subchannel = end_bits scsw b status more;
   deferred = Some deferred.One;
   command_address = scsw.command_address;
   count = scsw.count;

@@ -1,12 +1,18 @@
 -- The steps of a channel subsystem, and its runs.
 use Rattle.std.specs.Prelude.{◌≡◌, ◌<◌, ◌≤◌, ℕ, ◌+◌, Bool, true, false, ◌==◌, ◌&&◌, nat_lt, if◌then◌else◌, Option, None, Some, List, [], ◌∷◌, ◌++◌, length, take, slice_get, Result, Ok, Err, ◌⊎◌}
 use Rattle.zbits.specs.Layout.{image_of}
+use Rattle.zbits.specs.Words.{bytes_of_words, word_at}
 use Rattle.orb_block.specs.declared.Orb.{Orb}
 use Rattle.orb_block.specs.OrbTable.{tables, IsAllowed}
 use Rattle.scsw_irb.specs.ScswTable.{irb_tables}
 use Rattle.scsw_irb.specs.declared.irb.Irb.{Irb}
+use Rattle.schib_block.specs.declared.pmcw.Pmcw as block
+use Rattle.schib_block.specs.declared.schib.Schib.{Schib}
+use Rattle.schib_block.specs.Modify as modify
+use Rattle.schib_block.specs.SchibTable.{ShowsPmcw, schib_tables}
+use Rattle.storage_keys.specs.declared.key.Key.{Key}
 use Rattle.storage_keys.specs.declared.StorageFault.{StorageFault}
-use Rattle.storage_keys.specs.Storage.{Contents, put, operand_at, operand_check, operand_stored}
+use Rattle.storage_keys.specs.Storage.{Contents, put, shown, key_set, prefix_set, operand_at, operand_check, operand_stored}
 use Rattle.chan_model.specs.declared.fault.Fault.{Fault}
 use Rattle.chan_model.specs.declared.fault.Fault.TheVariants as fault
 use Rattle.chan_model.specs.declared.names.Side.{Side}
@@ -22,11 +28,12 @@ use Rattle.chan_model.specs.declared.event.Event.{Event}
 use Rattle.chan_model.specs.declared.event.Event.TheVariants as event
 use Rattle.chan_model.specs.declared.reply.ConditionCode.{ConditionCode}
 use Rattle.chan_model.specs.declared.reply.ConditionCode.TheVariants as code
+use Rattle.chan_model.specs.declared.reply.Answer.{Answer}
 use Rattle.chan_model.specs.declared.reply.Answer.TheVariants as answer
 use Rattle.chan_model.specs.declared.reply.Reply.{Reply}
 use Rattle.chan_model.specs.declared.reply.Reply.TheVariants as reply
 use Rattle.chan_model.specs.declared.reply.Entry.{Entry}
-use Rattle.chan_model.specs.ConditionCodes.{ssch_code, tsch_code, msch_code}
+use Rattle.chan_model.specs.ConditionCodes.{ssch_code, tsch_code, msch_code, stsch_code, answer_of}
 use Rattle.chan_model.specs.PathSets.{mask_of_path}
 use Rattle.chan_model.specs.Sides.{same_side}
 use Rattle.chan_model.specs.UnitTable as unit_table
@@ -42,12 +49,13 @@ use Rattle.machine_model.specs.declared.state.SubchannelState.{SubchannelState}
 use Rattle.machine_model.specs.declared.state.Subchannel.{Subchannel}
 use Rattle.machine_model.specs.declared.state.Program.{Program}
 use Rattle.machine_model.specs.State.{State, Past, opening_of, place_of, place_in, first_place, sub_at, with_sub, with_unit}
-use Rattle.machine_model.specs.Instructions.{condition_of, started, tested, enabled}
+use Rattle.machine_model.specs.Instructions.{condition_of, started, tested}
 use Rattle.machine_model.specs.declared.state.Chosen.{Chosen}
 use Rattle.machine_model.specs.declared.state.Chosen.TheVariants.{Idle, Over, Offers}
 use Rattle.machine_model.specs.declared.state.UpStep.{UpStep}
 use Rattle.machine_model.specs.Choosing.{chosen, offered, without_path, usable_paths}
-use Rattle.machine_model.specs.Taking.{takes_up}
+use Rattle.machine_model.specs.SubchannelBlocks.{pmcw_of, schib_of, modified_state, enabling, enabling_schib, enabling_word}
+use Rattle.machine_model.specs.Taking.{Met, takes_up}
 
 -- what an accepted event answers and leaves
 pub record Turn : Type 0 where
@@ -60,13 +68,30 @@ Outcome = Result Turn Fault
 abbrev pub does : Reply → State → Outcome
 does r s = Ok (record { reply = r; state = s })
 
--- Put: bytes in storage
-abbrev pub put_turn_of : State → Result Contents StorageFault → Outcome
-put_turn_of s (Ok storage) = does reply.Done (record s { storage = storage })
-put_turn_of s (Err f) = Err (fault.Storage f)
+-- an act on storage, which leaves it so or is refused
+abbrev pub storage_turn : State → Result Contents StorageFault → Outcome
+storage_turn s (Ok storage) = does reply.Done (record s { storage = storage })
+storage_turn s (Err f) = Err (fault.Storage f)
 
+-- Put: bytes in storage
 abbrev pub put_turn : State → ℕ → List ℕ → Outcome
-put_turn s address bytes = put_turn_of s (put s.storage address bytes)
+put_turn s address bytes = storage_turn s (put s.storage address bytes)
+
+-- SetKey: the key of the block of an address
+abbrev pub key_turn : State → ℕ → Key → Outcome
+key_turn s address key = storage_turn s (key_set s.storage address key)
+
+-- SetPrefix: the prefix of a CPU
+abbrev pub prefix_turn : State → ℕ → ℕ → Outcome
+prefix_turn s cpu address = storage_turn s (prefix_set s.storage cpu address)
+
+-- Show: bytes of storage
+abbrev pub show_turn_of : State → Result (List ℕ) StorageFault → Outcome
+show_turn_of s (Ok bytes) = does (reply.Shown bytes) s
+show_turn_of s (Err f) = Err (fault.Storage f)
+
+abbrev pub show_turn : State → ℕ → ℕ → Outcome
+show_turn s address count = show_turn_of s (shown s.storage address count)
 
 -- what an event at one subchannel answers and leaves of it
 pub record SubTurn : Type 0 where
@@ -146,26 +171,78 @@ abbrev pub tests : State → ℕ → ℕ → Option ℕ → Option Subchannel �
 tests s cpu address place sub (Err f) = Err (fault.Storage f)
 tests s cpu address place sub (Ok u) = test_at s cpu address place sub
 
--- enabling: under the conditions of MODIFY
-abbrev pub enable_with : Subchannel → ℕ → Bool → ConditionCode → SubTurn
-enable_with sub subclass multipath code.Zero = leaves (reply.Code (answer.Zero sub.state.serials)) (with_state sub (enabled sub.state subclass multipath))
-enable_with sub subclass multipath code.One = leaves (reply.Code (answer.One sub.state.serials)) sub
-enable_with sub subclass multipath code.Two = leaves (reply.Code answer.Two) sub
-enable_with sub subclass multipath code.Three = leaves (reply.Code answer.Three) sub
+-- STORE: the SCHIB is stored with code 0, the only code of a subchannel that is provided
+abbrev pub with_schib : State → ℕ → ℕ → Schib → State
+with_schib s cpu address schib = record s { storage = operand_stored s.storage cpu address (image_of (schib_tables schib)) }
 
-abbrev pub enable_sub : Subchannel → ℕ → Bool → SubTurn
-enable_sub sub subclass multipath = enable_with sub subclass multipath (msch_code (condition_of sub.state))
+abbrev pub store_answer : Subchannel → Answer
+store_answer sub = answer_of (stsch_code (condition_of sub.state)) sub.state.serials
 
-abbrev pub enable_at : State → Option ℕ → Option Subchannel → ℕ → Bool → Outcome
-enable_at s None sub subclass multipath = not_provided s
-enable_at s (Some place) None subclass multipath = not_provided s
-enable_at s (Some place) (Some sub) subclass multipath = at_place s place (enable_sub sub subclass multipath)
+abbrev pub store_at : State → ℕ → ℕ → Option ℕ → Option Subchannel → Outcome
+store_at s cpu address None sub = not_provided s
+store_at s cpu address (Some place) None = not_provided s
+store_at s cpu address (Some place) (Some sub) = does (reply.Status (store_answer sub) sub.state.scsw) (with_schib s cpu address (schib_of sub))
+
+abbrev pub stores : State → ℕ → ℕ → Option ℕ → Option Subchannel → Result (Unit {0}) StorageFault → Outcome
+stores s cpu address place sub (Err f) = Err (fault.Storage f)
+stores s cpu address place sub (Ok u) = store_at s cpu address place sub
+
+-- MODIFY
+abbrev pub modify_with : Subchannel → block.Pmcw → ConditionCode → SubTurn
+modify_with sub given code.Zero = leaves (reply.Code (answer.Zero sub.state.serials)) (with_state sub (modified_state sub given))
+modify_with sub given code.One = leaves (reply.Code (answer.One sub.state.serials)) sub
+modify_with sub given code.Two = leaves (reply.Code answer.Two) sub
+modify_with sub given code.Three = leaves (reply.Code answer.Three) sub
+
+abbrev pub modify_sub : Subchannel → block.Pmcw → SubTurn
+modify_sub sub given = modify_with sub given (msch_code (condition_of sub.state))
+
+abbrev pub modify_at : State → Option ℕ → Option Subchannel → block.Pmcw → Outcome
+modify_at s None sub given = not_provided s
+modify_at s (Some place) None given = not_provided s
+modify_at s (Some place) (Some sub) given = at_place s place (modify_sub sub given)
+
+-- the contents of the SCHIB are tested before the condition code is
+abbrev pub Modifies_with : State → Option ℕ → Option Subchannel → block.Pmcw → Outcome → Type 0
+Modifies_with s place sub given r =
+    (¬ modify.IsAllowed given × (r ≡ Err fault.Operand)) ⊎ (modify.IsAllowed given × (r ≡ modify_at s place sub given))
+
+-- of the SCHIB, the path-management-control word counts
+abbrev pub Modifies_by : State → Option ℕ → Option Subchannel → List ℕ → Outcome → Type 0
+Modifies_by s place sub image r = (given : block.Pmcw) × ShowsPmcw image given × Modifies_with s place sub given r
+
+abbrev pub Modifies : State → Option ℕ → Option Subchannel → Result (List ℕ) StorageFault → Outcome → Type 0
+Modifies s place sub (Err f) r = r ≡ Err (fault.Storage f)
+Modifies s place sub (Ok image) r = Modifies_by s place sub image r
+
+-- enabling: STORE to real F00, which is in every storage; ISC, D and E one are placed there; MODIFY from F00 (own).
+-- The SCHIB that STORE stored has what MODIFY allows.
+abbrev pub enable_sub : State → ℕ → ℕ → Subchannel → ℕ → Bool → Outcome
+enable_sub s cpu place sub subclass multipath =
+    at_place (with_schib s cpu 0xF00 (enabling_schib sub subclass multipath)) place (modify_sub sub (enabling (pmcw_of sub) subclass multipath))
+
+-- where nothing was stored, they are placed in the word that stands at F04, and MODIFY tests what stands at F00
+abbrev pub with_enabling : State → ℕ → List ℕ → ℕ → Bool → State
+with_enabling s cpu image subclass multipath =
+    record s { storage = operand_stored s.storage cpu 0xF04 (bytes_of_words (enabling_word (word_at image 1) subclass multipath ∷ [])) }
+
+abbrev pub Enables_with : State → ℕ → Option ℕ → Option Subchannel → ℕ → Bool → List ℕ → Outcome → Type 0
+Enables_with s cpu None sub subclass multipath image r = Modifies_by (with_enabling s cpu image subclass multipath) None sub image r
+Enables_with s cpu (Some place) None subclass multipath image r = Modifies_by (with_enabling s cpu image subclass multipath) (Some place) None image r
+Enables_with s cpu (Some place) (Some sub) subclass multipath image r = r ≡ enable_sub s cpu place sub subclass multipath
+
+abbrev pub Enables : State → ℕ → Option ℕ → Option Subchannel → ℕ → Bool → Result (List ℕ) StorageFault → Outcome → Type 0
+Enables s cpu place sub subclass multipath (Err f) r = r ≡ Err (fault.Storage f)
+Enables s cpu place sub subclass multipath (Ok image) r = Enables_with s cpu place sub subclass multipath image r
 
 -- the tests of an instruction: general register 1, alignment, addressing, contents, condition code
 abbrev pub Executes_at : State → ℕ → Instruction → Option ℕ → Option Subchannel → Outcome → Type 0
 Executes_at s cpu (instruction.Ssch word address) place sub r = Starts s place sub (operand_at s.storage cpu address 12 4) r
 Executes_at s cpu (instruction.Tsch word address) place sub r = r ≡ tests s cpu address place sub (operand_check s.storage cpu address 64 4)
-Executes_at s cpu (instruction.Enable word subclass multipath) place sub r = r ≡ enable_at s place sub subclass multipath
+Executes_at s cpu (instruction.Stsch word address) place sub r = r ≡ stores s cpu address place sub (operand_check s.storage cpu address 52 4)
+Executes_at s cpu (instruction.Msch word address) place sub r = Modifies s place sub (operand_at s.storage cpu address 52 4) r
+Executes_at s cpu (instruction.Enable word subclass multipath) place sub r =
+    Enables s cpu place sub subclass multipath (operand_at s.storage cpu 0xF00 52 4) r
 
 abbrev pub Executes_on : State → ℕ → Instruction → Option SubchannelId → Outcome → Type 0
 Executes_on s cpu i None r = r ≡ Err fault.Operand
@@ -174,6 +251,8 @@ Executes_on s cpu i (Some id) r = Executes_at s cpu i (place_in id s.subs) (sub_
 abbrev pub word_of : Instruction → ℕ
 word_of (instruction.Ssch word address) = word
 word_of (instruction.Tsch word address) = word
+word_of (instruction.Stsch word address) = word
+word_of (instruction.Msch word address) = word
 word_of (instruction.Enable word subclass multipath) = word
 
 abbrev pub Executes : State → ℕ → Instruction → Outcome → Type 0
@@ -224,26 +303,38 @@ abbrev pub PathOf : Subchannel → ℕ → Option ℕ → Type 0
 PathOf sub path None = nat_lt path (length sub.setup.paths) ≡ false
 PathOf sub path (Some p) = (nat_lt path (length sub.setup.paths) ≡ true) × (p ≡ path)
 
--- Up: the subchannel takes the signal that waits longest
-abbrev pub up_with : Subchannel → ℕ → Up → UpStep → Result SubTurn Fault
-up_with sub path signal step =
-    if finds_full sub.wires.down step.came.sent then Err fault.WireFull
-    else Ok (leaves (reply.Up signal step.came.taken step.came.sent)
-    (record sub { state = step.state; wires = record { down = with_any_sent sub.wires.down step.came.sent; up = taken sub.wires.up path } }))
+-- Up: the subchannel takes the signal that waits longest; the bytes of a read are stored
+pub record UpTurn : Type 0 where
+  pub reply : Reply
+  pub sub : Subchannel
+  pub storage : Contents
 
-abbrev pub up_front : Contents → Subchannel → ℕ → Option Up → Result SubTurn Fault
+abbrev pub with_met : Subchannel → ℕ → UpStep → Subchannel
+with_met sub path step =
+    record sub { state = step.state; wires = record { down = with_any_sent sub.wires.down step.came.sent; up = taken sub.wires.up path } }
+
+abbrev pub up_with : Subchannel → ℕ → Up → Met → Result UpTurn Fault
+up_with sub path signal m =
+    if finds_full sub.wires.down m.step.came.sent then Err fault.WireFull
+    else Ok (record { reply = reply.Up signal m.step.came.taken m.step.came.sent; sub = with_met sub path m.step; storage = m.storage })
+
+abbrev pub up_front : Contents → Subchannel → ℕ → Option Up → Result UpTurn Fault
 up_front storage sub path None = Err fault.NotSent
 up_front storage sub path (Some signal) = up_with sub path signal (takes_up storage sub.state path signal)
 
-abbrev pub up_sub : Contents → Subchannel → ℕ → Result SubTurn Fault
+abbrev pub up_sub : Contents → Subchannel → ℕ → Result UpTurn Fault
 up_sub storage sub path =
     if nat_lt path (length sub.setup.paths) then up_front storage sub path (slice_get (queue sub.wires.up path) 0)
     else Err fault.NoSuchPath
 
+abbrev pub at_storage : State → ℕ → Result UpTurn Fault → Outcome
+at_storage s place (Err f) = Err f
+at_storage s place (Ok t) = does t.reply (with_sub (record s { storage = t.storage }) place t.sub)
+
 abbrev pub up_at : State → Option ℕ → Option Subchannel → ℕ → Outcome
 up_at s None sub path = Err fault.NoSuchSubchannel
 up_at s (Some place) None path = Err fault.NoSuchSubchannel
-up_at s (Some place) (Some sub) path = at_sub s place (up_sub s.storage sub path)
+up_at s (Some place) (Some sub) path = at_storage s place (up_sub s.storage sub path)
 
 -- Down: the unit takes the signal that waits longest; its control unit may serve it
 pub record DownTurn : Type 0 where
@@ -282,24 +373,25 @@ down_at s None sub path = Err fault.NoSuchSubchannel
 down_at s (Some place) None path = Err fault.NoSuchSubchannel
 down_at s (Some place) (Some sub) path = down_unit s place sub path (slice_get s.units sub.setup.unit)
 
--- Report: the unit takes its device's answer, and sends it to the subchannel of its side
+-- Report: the unit takes its device's answer, and sends what comes of it to the subchannel of its side
 abbrev pub reaches : ℕ → Side → Subchannel → Bool
 reaches place side sub = (sub.setup.unit == place) && same_side sub.setup.side side
 
 abbrev pub reached_in : ℕ → Side → List Subchannel → Option ℕ
 reached_in place side subs = first_place (reaches place side) subs
 
-abbrev pub with_up_sent : Subchannel → OnPath Up → Subchannel
-with_up_sent sub s = record sub { wires = record sub.wires { up = sent sub.wires.up s.path s.signal } }
+-- one that is taken may send nothing
+abbrev pub with_any_up : Subchannel → Option (OnPath Up) → Subchannel
+with_any_up sub sends = record sub { wires = record sub.wires { up = with_any_sent sub.wires.up sends } }
 
-abbrev pub report_sends : Subchannel → UnitState → Option (OnPath Up) → Result DownTurn Fault
-report_sends sub u None = Err fault.NotNow
-report_sends sub u (Some s) =
-    if is_full sub.wires.up s.path then Err fault.WireFull
-    else Ok (record { reply = reply.Done; sub = with_up_sent sub s; «unit» = u })
+abbrev pub report_taken : Subchannel → Option UnitStep → Result DownTurn Fault
+report_taken sub None = Err fault.NotNow
+report_taken sub (Some step) =
+    if finds_full sub.wires.up step.sent then Err fault.WireFull
+    else Ok (record { reply = reply.Done; sub = with_any_up sub step.sent; «unit» = step.state })
 
 abbrev pub report_sub : Subchannel → UnitState → Report → Result DownTurn Fault
-report_sub sub u report = report_sends sub (unit_after u (unit_reports u report)) (unit_table.came_of (unit_reports u report)).sent
+report_sub sub u report = report_taken sub (unit_reports u report)
 
 abbrev pub report_to : State → ℕ → UnitState → Report → Option ℕ → Option Subchannel → Outcome
 report_to s place u report None sub = Err fault.NotNow
@@ -314,6 +406,9 @@ report_at s place (Some u) report =
 -- What an event comes to: its turn, or its refusal.
 abbrev pub Steps : State → Event → Outcome → Type 0
 Steps s (event.Put address bytes) r = r ≡ put_turn s address bytes
+Steps s (event.SetKey address key) r = r ≡ key_turn s address key
+Steps s (event.SetPrefix cpu address) r = r ≡ prefix_turn s cpu address
+Steps s (event.Show address count) r = r ≡ show_turn s address count
 Steps s (event.Execute cpu i) r = Executes s cpu i r
 Steps s (event.Choose word) r = Chooses s (place_of s word) (sub_at s.subs (place_of s word)) r
 Steps s (event.Up word path) r = r ≡ up_at s (place_of s word) (sub_at s.subs (place_of s word)) path
@@ -340,6 +435,11 @@ Gives old outcome (Err f) new = (outcome ≡ Err f) × (new ≡ old)
 abbrev pub GivesBoth : Subchannel → UnitState → Result DownTurn Fault → Result Reply Fault → Subchannel → UnitState → Type 0
 GivesBoth old u outcome (Ok r) new v = outcome ≡ Ok (record { reply = r; sub = new; «unit» = v })
 GivesBoth old u outcome (Err f) new v = (outcome ≡ Err f) × ((new ≡ old) × (v ≡ u))
+
+-- the same of one subchannel and of storage
+abbrev pub GivesStorage : Contents → Subchannel → Result UpTurn Fault → Result Reply Fault → Contents → Subchannel → Type 0
+GivesStorage before old outcome (Ok r) after new = outcome ≡ Ok (record { reply = r; sub = new; storage = after })
+GivesStorage before old outcome (Err f) after new = (outcome ≡ Err f) × ((new ≡ old) × (after ≡ before))
 
 -- the same of one subchannel
 abbrev pub GivesSub : Subchannel → Result SubTurn Fault → Result Reply Fault → Subchannel → Type 0

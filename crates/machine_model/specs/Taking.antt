@@ -1,5 +1,5 @@
 -- What a subchannel does with a signal that came up by a path (own).
-use Rattle.std.specs.Prelude.{ℕ, ◌+◌, ◌<◌, ◌^◌, Bool, true, false, ◌==◌, if◌then◌else◌, Option, None, Some, slice_set, Result, Ok, Err}
+use Rattle.std.specs.Prelude.{ℕ, ◌+◌, ◌<◌, ◌^◌, Bool, true, false, not, ◌==◌, ◌&&◌, if◌then◌else◌, Option, None, Some, List, [], slice_set, Result, Ok, Err}
 use Rattle.scsw_irb.specs.declared.scsw.ActivityControl.{ActivityControl}
 use Rattle.scsw_irb.specs.declared.scsw.Scsw.{Scsw}
 use Rattle.scsw_irb.specs.declared.status.DeviceStatus.{DeviceStatus}
@@ -15,18 +15,31 @@ use Rattle.chan_model.specs.declared.signal.Up.{Up}
 use Rattle.chan_model.specs.declared.signal.Up.TheVariants as up
 use Rattle.chan_model.specs.HoldTable.{HoldStep, hold_takes, hold_after, came_of, is_connected, is_on, letting_go}
 use Rattle.chan_model.specs.Loads.{load_length}
+use Rattle.chan_model.specs.declared.signal.Load.TheVariants as load
 use Rattle.chan_model.specs.declared.status.Shown.{Shown}
-use Rattle.chan_model.specs.UnitReports.{is_last_end, has_unit_check}
-use Rattle.machine_model.specs.declared.state.Check.{Check}
+use Rattle.chan_model.specs.UnitReports.{is_last_end, is_outward, has_device_end, has_unit_check}
+use Rattle.channel_program.specs.declared.check.Check.{Check}
+use Rattle.data_move.specs.Moving.{residual}
+use Rattle.transfer.specs.declared.Transfer.{Transfer}
+use Rattle.transfer.specs.declared.Beginning.{Beginning}
+use Rattle.transfer.specs.declared.Roomy.{Roomy}
+use Rattle.transfer.specs.declared.Given.{Given}
+use Rattle.transfer.specs.Commands.{first_command, next_command, begun_with_room, with_room}
+use Rattle.transfer.specs.Chunks.{Brought, absorbed, next_given, brought, is_answered}
 use Rattle.machine_model.specs.declared.state.Pmcw.{Pmcw}
 use Rattle.machine_model.specs.declared.state.Program.{Program}
-use Rattle.machine_model.specs.declared.state.Transfer.{Transfer}
 use Rattle.machine_model.specs.declared.state.Begun.{Begun}
-use Rattle.machine_model.specs.declared.state.Given.{Given}
 use Rattle.machine_model.specs.declared.state.SubchannelState.{SubchannelState}
 use Rattle.machine_model.specs.declared.state.UpStep.{UpStep}
-use Rattle.machine_model.specs.Programs.{first_command, with_moved, is_current, next_given}
-use Rattle.machine_model.specs.Statuses.{with_status, fetch_fault_shown, channel_end_shown, last_end_shown, earlier_end_shown}
+use Rattle.machine_model.specs.Statuses.{with_status, fetch_fault_shown, channel_end_shown, last_end_shown, earlier_end_shown, has_status_modifier, chains_command}
+
+-- a subchannel after a signal, what came of the signal, and storage
+pub record Met : Type 0 where
+  pub step : UpStep
+  pub storage : Contents
+
+abbrev pub meets : Contents → UpStep → Met
+meets storage step = record { step = step; storage = storage }
 
 abbrev pub ignoring : SubchannelState → UpStep
 ignoring s = record { state = s; came = record { taken = false; sent = None } }
@@ -65,21 +78,28 @@ abbrev pub taking_over : SubchannelState → Program → Transfer → Subchannel
 taking_over s program transfer = record s {
   scsw = working_scsw s.scsw;
   waiting = None;
-  begun = Some (record { program = program; tried = program.orb.program + 8; primary_shown = false; transfer = transfer });
+  begun = Some (record { program = program; primary_shown = false; transfer = transfer });
 }
 
--- its first command is sent; where it can't be, the program is over with status, and lets the device go
-abbrev pub fetch_fault : SubchannelState → Program → Check → UpStep
-fetch_fault s program check =
-    let_go (with_status (record s { waiting = None }) (fetch_fault_shown (program.orb.program + 8) check))
+-- its first command is sent, with the room for what it brings; where it can't be, the program is over with status, and
+-- lets the device go
+abbrev pub fetch_fault : SubchannelState → ℕ → Check → UpStep
+fetch_fault s tried check = let_go (with_status (record s { waiting = None }) (fetch_fault_shown tried check 0))
 
-abbrev pub beginning : SubchannelState → ℕ → ℕ → Program → Result Transfer Check → UpStep
-beginning s p t program (Ok transfer) = sending (taking_over s program transfer) p (down.Command t 1 transfer.code 0)
-beginning s p t program (Err check) = fetch_fault s program check
+abbrev pub sends_first : SubchannelState → ℕ → ℕ → Program → Roomy → UpStep
+sends_first s p t program x =
+    sending (taking_over s program x.transfer) p (down.Command t x.transfer.command x.transfer.code x.room)
+
+abbrev pub beginning : Contents → SubchannelState → ℕ → ℕ → Program → ℕ → Result Transfer Check → UpStep
+beginning storage s p t program tried (Ok transfer) = sends_first s p t program (begun_with_room storage transfer)
+beginning storage s p t program tried (Err check) = fetch_fault s tried check
+
+abbrev pub begin_with : Contents → SubchannelState → ℕ → ℕ → Program → Beginning → UpStep
+begin_with storage s p t program first = beginning storage s p t program first.tried first.came
 
 abbrev pub begin_waiting : Contents → SubchannelState → ℕ → ℕ → Option Program → UpStep
 begin_waiting storage s p t None = quietly s
-begin_waiting storage s p t (Some program) = beginning s p t program (first_command storage program.orb)
+begin_waiting storage s p t (Some program) = begin_with storage s p t program (first_command storage program.orb)
 
 abbrev pub accepted_by : Contents → SubchannelState → HoldPhase → Taken Down → UpStep
 accepted_by storage s (hold.On t p c) came = begin_waiting storage (record s { pmcw = with_path s.pmcw p }) p t s.waiting
@@ -92,38 +112,82 @@ accept_by storage s hold came = if came.taken then accepted_by storage (record s
 abbrev pub accept : Contents → SubchannelState → Option HoldStep → UpStep
 accept storage s step = accept_by storage s (hold_after s.hold step) (came_of step)
 
--- a number that can be raised
+-- numbers that can be raised
 abbrev pub IsBelow : Option Begun → Type 0
 IsBelow None = Unit {0}
-IsBelow (Some b) = b.transfer.sequence + 1 < 2 ^ 63
+IsBelow (Some b) = (b.transfer.sequence + 1 < 2 ^ 63) × (b.transfer.command + 1 < 2 ^ 63)
 
--- Data: bytes were moved, and the next are given; the first Data of a command ends a dedicated allegiance
+-- Data: bytes were moved; the first Data of a command ends a dedicated allegiance
+abbrev pub with_transfer : SubchannelState → Begun → Transfer → SubchannelState
+with_transfer s b transfer = record s { begun = Some (record b { transfer = transfer }); dedicated = None }
+
+-- of a command that takes bytes to the device: the next are given
 abbrev pub giving : SubchannelState → Begun → ℕ → ℕ → ℕ → ℕ → ℕ → Given → UpStep
-giving s b p t c n seq given =
-    sending (record s { begun = Some (record b { transfer = given.transfer }); dedicated = None }) p (down.Give t c n (seq + 1) given.bytes)
+giving s b p t c n seq given = sending (with_transfer s b given.transfer) p (down.Give t c n (seq + 1) given.bytes)
 
-abbrev pub move_data : Contents → SubchannelState → Option Begun → ℕ → ℕ → ℕ → ℕ → ℕ → Load → UpStep
-move_data storage s None p t c n seq load = ignoring s
+abbrev pub give_next : Contents → SubchannelState → Begun → ℕ → ℕ → ℕ → ℕ → ℕ → ℕ → UpStep
+give_next storage s b p t c n seq count = giving s b p t c n seq (next_given storage (absorbed storage b.transfer seq count))
+
+-- of a command that brings bytes in: they are stored, and the device is told how many more may come
+abbrev pub answering : SubchannelState → Begun → ℕ → ℕ → ℕ → ℕ → Roomy → UpStep
+answering s b p t n seq x = sending (with_transfer s b x.transfer) p (down.Took t n seq x.room)
+
+abbrev pub take_in : SubchannelState → Begun → ℕ → ℕ → ℕ → ℕ → Brought → Met
+take_in s b p t n seq x = meets x.storage (answering s b p t n seq (with_room x.storage x.transfer))
+
+abbrev pub bytes_of : Load → List ℕ
+bytes_of (load.Absorbed count) = []
+bytes_of (load.Bytes bytes) = bytes
+
+abbrev pub move_bytes : Contents → SubchannelState → Begun → ℕ → ℕ → ℕ → ℕ → ℕ → Load → Met
+move_bytes storage s b p t c n seq load =
+    if is_outward b.transfer.code then meets storage (give_next storage s b p t c n seq (load_length load))
+    else take_in s b p t n seq (brought storage b.transfer seq (bytes_of load))
+
+abbrev pub move_data : Contents → SubchannelState → Option Begun → ℕ → ℕ → ℕ → ℕ → ℕ → Load → Met
+move_data storage s None p t c n seq load = meets storage (ignoring s)
 move_data storage s (Some b) p t c n seq load =
-    if is_current b.transfer n seq
-    then giving s b p t c n seq (next_given storage b.program.orb.key (with_moved b.transfer seq (load_length load)))
-    else ignoring s
+    if is_answered b.transfer n seq then move_bytes storage s b p t c n seq load else meets storage (ignoring s)
 
-abbrev pub take_data : Contents → SubchannelState → ℕ → ℕ → ℕ → ℕ → ℕ → Load → UpStep
+abbrev pub take_data : Contents → SubchannelState → ℕ → ℕ → ℕ → ℕ → ℕ → Load → Met
 take_data storage s p t c n seq load =
-    if is_connected s.hold.phase p t c then move_data storage s s.begun p t c n seq load else ignoring s
+    if is_connected s.hold.phase p t c then move_data storage s s.begun p t c n seq load else meets storage (ignoring s)
 
 -- End: unit check brings a dedicated allegiance to its path, any other End ends one; the last End of a program makes
 -- status, and lets the device go
 abbrev pub dedicated_after : DeviceStatus → ℕ → Option ℕ
 dedicated_after status p = if has_unit_check status then Some p else None
 
-abbrev pub has_ended : Begun → Begun
-has_ended b = record b { primary_shown = true; transfer = record b.transfer { ended = true } }
+abbrev pub with_end : Begun → Begun
+with_end b = record b { transfer = record b.transfer { ended = true } }
+
+-- an End after which the program goes on: with device end the next command is sent
+abbrev pub sends_next : SubchannelState → Begun → ℕ → ℕ → Roomy → UpStep
+sends_next s b p t x = sending (with_transfer s b x.transfer) p (down.Command t x.transfer.command x.transfer.code x.room)
+
+abbrev pub chain_fault : SubchannelState → Begun → ℕ → Check → UpStep
+chain_fault s b tried check =
+    let_go (with_status (record s { begun = None; dedicated = None }) (fetch_fault_shown tried check (residual b.transfer.moving)))
+
+abbrev pub chaining : Contents → SubchannelState → Begun → ℕ → ℕ → ℕ → Result Transfer Check → UpStep
+chaining storage s b p t tried (Ok transfer) = sends_next s b p t (begun_with_room storage transfer)
+chaining storage s b p t tried (Err check) = chain_fault s b tried check
+
+abbrev pub chain_with : Contents → SubchannelState → Begun → ℕ → ℕ → Beginning → UpStep
+chain_with storage s b p t next = chaining storage s b p t next.tried next.came
+
+abbrev pub goes_on : Contents → SubchannelState → Begun → ℕ → ℕ → DeviceStatus → UpStep
+goes_on storage s b p t status =
+    if has_device_end status then chain_with storage s b p t (next_command storage b.transfer (has_status_modifier status))
+    else quietly (record s { begun = Some b; dedicated = None })
+
+-- channel end alone where nothing is chained
+abbrev pub has_shown : Begun → Begun
+has_shown b = record b { primary_shown = true; transfer = record b.transfer { ended = true; unchained = true } }
 
 abbrev pub channel_ended : SubchannelState → Begun → ℕ → DeviceStatus → Bool → UpStep
 channel_ended s b p status more =
-    quietly (with_status (record s { begun = Some (has_ended b); dedicated = dedicated_after status p }) (channel_end_shown s.scsw b status more))
+    quietly (with_status (record s { begun = Some (has_shown b); dedicated = dedicated_after status p }) (channel_end_shown s.scsw b status more))
 
 abbrev pub last_shown : Scsw → Begun → Option Program → DeviceStatus → Bool → Shown
 last_shown scsw b None status more = last_end_shown scsw b status more
@@ -133,19 +197,26 @@ abbrev pub ended : SubchannelState → Begun → ℕ → DeviceStatus → Bool �
 ended s b p status more =
     let_go (with_status (record s { begun = None; waiting = None; dedicated = dedicated_after status p }) (last_shown s.scsw b s.waiting status more))
 
-abbrev pub end_of : SubchannelState → Option Begun → ℕ → ℕ → DeviceStatus → Bool → UpStep
-end_of s None p n status more = ignoring s
-end_of s (Some b) p n status more =
-    if n == b.transfer.command
-    then (if is_last_end status then ended s b p status more else channel_ended s b p status more)
-    else ignoring s
+abbrev pub stops_at : SubchannelState → Begun → ℕ → DeviceStatus → Bool → UpStep
+stops_at s b p status more = if is_last_end status then ended s b p status more else channel_ended s b p status more
 
-abbrev pub end_command : SubchannelState → ℕ → ℕ → ℕ → DeviceStatus → Bool → UpStep
-end_command s p t n status more = if is_on s.hold.phase t then end_of s s.begun p n status more else ignoring s
+abbrev pub command_ended : Contents → SubchannelState → Begun → ℕ → ℕ → DeviceStatus → Bool → UpStep
+command_ended storage s b p t status more =
+    if chains_command s.scsw b status more then goes_on storage s (with_end b) p t status
+    else stops_at s b p status more
+
+abbrev pub end_of : Contents → SubchannelState → Option Begun → ℕ → ℕ → ℕ → DeviceStatus → Bool → UpStep
+end_of storage s None p t n status more = ignoring s
+end_of storage s (Some b) p t n status more =
+    if n == b.transfer.command then command_ended storage s b p t status more else ignoring s
+
+abbrev pub end_command : Contents → SubchannelState → ℕ → ℕ → ℕ → DeviceStatus → Bool → UpStep
+end_command storage s p t n status more =
+    if is_on s.hold.phase t then end_of storage s s.begun p t n status more else ignoring s
 
 -- what a subchannel does with a signal
-abbrev pub takes_up : Contents → SubchannelState → ℕ → Up → UpStep
-takes_up storage s p (up.Accept t) = accept storage s (hold_takes s.hold p (up.Accept t) (waits_as s.waiting s.offered))
+abbrev pub takes_up : Contents → SubchannelState → ℕ → Up → Met
+takes_up storage s p (up.Accept t) = meets storage (accept storage s (hold_takes s.hold p (up.Accept t) (waits_as s.waiting s.offered)))
 takes_up storage s p (up.Data t c n seq load) = take_data storage s p t c n seq load
-takes_up storage s p (up.End t n status more) = end_command s p t n status more
-takes_up storage s p signal = by_hold s (hold_takes s.hold p signal false)
+takes_up storage s p (up.End t n status more) = meets storage (end_command storage s p t n status more)
+takes_up storage s p signal = meets storage (by_hold s (hold_takes s.hold p signal false))

@@ -1,9 +1,11 @@
 -- The rows of the lines that drive a machine (own).
-use Rattle.std.specs.Prelude.{ℕ, ◌==◌, List, [], ◌∷◌, Option, Some, None, Result, Ok, Err, codes, if◌then◌else◌}
+use Rattle.std.specs.Prelude.{ℕ, ◌%◌, ◌==◌, ◌&&◌, nat_le, List, [], ◌∷◌, Option, Some, None, Result, Ok, Err, codes, if◌then◌else◌}
 use Rattle.std.specs.Str.{bytes_eq}
 use Rattle.chan_model.specs.declared.event.Instruction.{Instruction}
-use Rattle.chan_model.specs.declared.event.Instruction.TheVariants.{Ssch, Tsch, Enable}
+use Rattle.chan_model.specs.declared.event.Instruction.TheVariants.{Ssch, Tsch, Stsch, Msch, Enable}
 use Rattle.chan_model.specs.declared.event.Event.TheVariants as event
+use Rattle.storage_keys.specs.Storage.{key_of_byte}
+use Rattle.storage_keys.specs.declared.key.Key.{Key}
 use Rattle.script.specs.declared.Action.{Action}
 use Rattle.script.specs.declared.Action.TheVariants as action
 use Rattle.script.specs.Words.{and_then, number, number_up_to, hex_bytes, subchannel, with_one, with_two, with_three}
@@ -12,20 +14,38 @@ use Rattle.script.specs.Words.{and_then, number, number_up_to, hex_bytes, subcha
 abbrev pub enable_row : List (List ℕ) → Result Instruction ℕ
 enable_row = with_three (λ s c d. and_then (subchannel s) (λ s. and_then (number_up_to 7 c) (λ c. and_then (number_up_to 1 d) (λ d. Some (Enable s c (d == 1))))))
 
+-- a subchannel and the address of an operand
+abbrev pub operand_row : List (List ℕ) → Result (ℕ × ℕ) ℕ
+operand_row = with_two (λ s a. and_then (subchannel s) (λ s. and_then (number a) (λ a. Some (s, a))))
+
+abbrev pub with_operand : (ℕ → ℕ → Instruction) → Result (ℕ × ℕ) ℕ → Result Instruction ℕ
+with_operand instruction (Err rule) = Err rule
+with_operand instruction (Ok operand) = Ok (instruction operand.0 operand.1)
+
 -- `ssch SUBCHANNEL ADDRESS`
 abbrev pub ssch_row : List (List ℕ) → Result Instruction ℕ
-ssch_row = with_two (λ s a. and_then (subchannel s) (λ s. and_then (number a) (λ a. Some (Ssch s a))))
+ssch_row ws = with_operand Ssch (operand_row ws)
 
 -- `tsch SUBCHANNEL ADDRESS`
 abbrev pub tsch_row : List (List ℕ) → Result Instruction ℕ
-tsch_row = with_two (λ s a. and_then (subchannel s) (λ s. and_then (number a) (λ a. Some (Tsch s a))))
+tsch_row ws = with_operand Tsch (operand_row ws)
+
+-- `stsch SUBCHANNEL ADDRESS`
+abbrev pub stsch_row : List (List ℕ) → Result Instruction ℕ
+stsch_row ws = with_operand Stsch (operand_row ws)
+
+-- `msch SUBCHANNEL ADDRESS`
+abbrev pub msch_row : List (List ℕ) → Result Instruction ℕ
+msch_row ws = with_operand Msch (operand_row ws)
 
 -- the table of the instructions
 abbrev pub instruction_row : List ℕ → List (List ℕ) → Option (Result Instruction ℕ)
 instruction_row w ws = if bytes_eq w (codes "enable") then Some (enable_row ws)
     else (if bytes_eq w (codes "ssch") then Some (ssch_row ws)
     else (if bytes_eq w (codes "tsch") then Some (tsch_row ws)
-    else None))
+    else (if bytes_eq w (codes "stsch") then Some (stsch_row ws)
+    else (if bytes_eq w (codes "msch") then Some (msch_row ws)
+    else None))))
 
 -- a CPU executes what the words say; rule 3 where there is no such CPU
 abbrev pub on_cpu : Option ℕ → Result Instruction ℕ → Result Action ℕ
@@ -48,6 +68,26 @@ cpu_row (n ∷ w ∷ ws) = on_cpu_or_rule_1 (number_up_to 0xF n) (instruction_ro
 abbrev pub put_row : List (List ℕ) → Result Action ℕ
 put_row = with_two (λ a h. and_then (number a) (λ a. and_then (hex_bytes h) (λ bs. Some (action.Event (event.Put a bs)))))
 
+-- a storage key as an even byte
+abbrev pub key_named : List ℕ → Option Key
+key_named word = and_then (number_up_to 0xFF word) (λ n. if n % 2 == 0 then Some (key_of_byte n) else None)
+
+-- `key ADDRESS KEY`
+abbrev pub key_row : List (List ℕ) → Result Action ℕ
+key_row = with_two (λ a k. and_then (number a) (λ a. and_then (key_named k) (λ k. Some (action.Event (event.SetKey a k)))))
+
+-- `prefix CPU ADDRESS`
+abbrev pub prefix_row : List (List ℕ) → Result Action ℕ
+prefix_row = with_two (λ c a. and_then (number_up_to 0xF c) (λ c. and_then (number a) (λ a. Some (action.Event (event.SetPrefix c a)))))
+
+-- so many bytes as are shown at once
+abbrev pub show_length : List ℕ → Option ℕ
+show_length word = and_then (number word) (λ n. if nat_le 1 n && nat_le n 0x40 then Some n else None)
+
+-- `show ADDRESS LENGTH`
+abbrev pub show_row : List (List ℕ) → Result Action ℕ
+show_row = with_two (λ a n. and_then (number a) (λ a. and_then (show_length n) (λ n. Some (action.Event (event.Show a n)))))
+
 -- `choose SUBCHANNEL`
 abbrev pub choose_row : List (List ℕ) → Result Action ℕ
 choose_row = with_one (λ s. and_then (subchannel s) (λ s. Some (action.Event (event.Choose s))))
@@ -64,15 +104,30 @@ down_row = with_two (λ s p. and_then (subchannel s) (λ s. and_then (number p) 
 abbrev pub dev_row : List (List ℕ) → Result Action ℕ
 dev_row = with_one (λ u. and_then (number u) (λ u. Some (action.Dev u)))
 
--- the table of the other lines
-abbrev pub event_row : List ℕ → List (List ℕ) → Option (Result Action ℕ)
-event_row w ws = if bytes_eq w (codes "cpu") then Some (cpu_row ws)
-    else (if bytes_eq w (codes "put") then Some (put_row ws)
+-- the lines that set and show storage
+abbrev pub storage_row : List ℕ → List (List ℕ) → Option (Result Action ℕ)
+storage_row w ws = if bytes_eq w (codes "put") then Some (put_row ws)
+    else (if bytes_eq w (codes "key") then Some (key_row ws)
+    else (if bytes_eq w (codes "prefix") then Some (prefix_row ws)
+    else (if bytes_eq w (codes "show") then Some (show_row ws)
+    else None)))
+
+-- the lines of the subsystem and its devices
+abbrev pub subsystem_row : List ℕ → List (List ℕ) → Option (Result Action ℕ)
+subsystem_row w ws = if bytes_eq w (codes "cpu") then Some (cpu_row ws)
     else (if bytes_eq w (codes "choose") then Some (choose_row ws)
     else (if bytes_eq w (codes "up") then Some (up_row ws)
     else (if bytes_eq w (codes "down") then Some (down_row ws)
     else (if bytes_eq w (codes "dev") then Some (dev_row ws)
-    else None)))))
+    else None))))
+
+abbrev pub or_row : Option (Result Action ℕ) → Option (Result Action ℕ) → Option (Result Action ℕ)
+or_row (Some said) other = Some said
+or_row None other = other
+
+-- the table of the other lines
+abbrev pub event_row : List ℕ → List (List ℕ) → Option (Result Action ℕ)
+event_row w ws = or_row (storage_row w ws) (subsystem_row w ws)
 
 abbrev pub on_first_cpu : Option (Result Instruction ℕ) → Option (Result Action ℕ) → Option (Result Action ℕ)
 on_first_cpu (Some said) other = Some (on_cpu (Some 0) said)

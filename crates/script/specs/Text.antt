@@ -21,6 +21,10 @@ use Rattle.chan_model.specs.declared.fault.Fault.TheVariants as fault
 abbrev pub hex_digit : ℕ → ℕ
 hex_digit d = if nat_lt d 10 then 48 + d else 55 + d
 
+-- the two digits of a byte
+abbrev pub byte_text : ℕ → List ℕ
+byte_text n = hex_digit (n / 0x10 % 16) ∷ hex_digit (n % 16) ∷ []
+
 -- a space and the eight digits of a word
 abbrev pub word_text : ℕ → List ℕ
 word_text n = 32 ∷ hex_digit (n / 0x10000000 % 16) ∷ hex_digit (n / 0x1000000 % 16) ∷ hex_digit (n / 0x100000 % 16) ∷ hex_digit (n / 0x10000 % 16)
@@ -66,6 +70,7 @@ taken_text taken = if taken then codes "took " else codes "ignored "
 
 abbrev pub reply_text : Reply → List ℕ
 reply_text reply.Done = codes "done"
+reply_text (reply.Shown bytes) = flat_map byte_text bytes
 reply_text (reply.Code answer) = answer_text answer
 reply_text (reply.Status answer scsw) = answer_text answer ++ scsw_text scsw
 reply_text (reply.Offered number path resumed) = codes "offer " ++ decimal path

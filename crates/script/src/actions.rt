@@ -6,8 +6,10 @@ ghost use Rattle.script.specs.Actions as spec;
 
 use crate::Action;
 use crate::words::{hex_bytes, number, number_up_to, one, subchannel, three, two};
+use chan_model::chunk::ChunkLength;
 use chan_model::event::{Event, Instruction};
 use chan_model::names::Cpu;
+use storage_keys::key::Key;
 
 fn enable_row(words: &[&[u8]]) -> Result<Instruction, u8>
     ensures { result ≡ spec.enable_row (map (λ w. w.now) words.now) }
@@ -23,12 +25,20 @@ fn enable_row(words: &[&[u8]]) -> Result<Instruction, u8>
     })
 }
 
-fn ssch_row(words: &[&[u8]]) -> Result<Instruction, u8>
-    ensures { result ≡ spec.ssch_row (map (λ w. w.now) words.now) }
+/// A subchannel and the address of an operand.
+fn operand_row(words: &[&[u8]]) -> Result<(u32, u32), u8>
+    ensures { result ≡ spec.operand_row (map (λ w. w.now) words.now) }
 {
     let (word, address) = two(words).ok_or(2)?;
     let subchannel = subchannel(word).ok_or(3)?;
     let address = number(address).ok_or(3)?;
+    Ok((subchannel, address))
+}
+
+fn ssch_row(words: &[&[u8]]) -> Result<Instruction, u8>
+    ensures { result ≡ spec.ssch_row (map (λ w. w.now) words.now) }
+{
+    let (subchannel, address) = operand_row(words)?;
     Ok(Instruction::Ssch {
         subchannel,
         address,
@@ -38,10 +48,28 @@ fn ssch_row(words: &[&[u8]]) -> Result<Instruction, u8>
 fn tsch_row(words: &[&[u8]]) -> Result<Instruction, u8>
     ensures { result ≡ spec.tsch_row (map (λ w. w.now) words.now) }
 {
-    let (word, address) = two(words).ok_or(2)?;
-    let subchannel = subchannel(word).ok_or(3)?;
-    let address = number(address).ok_or(3)?;
+    let (subchannel, address) = operand_row(words)?;
     Ok(Instruction::Tsch {
+        subchannel,
+        address,
+    })
+}
+
+fn stsch_row(words: &[&[u8]]) -> Result<Instruction, u8>
+    ensures { result ≡ spec.stsch_row (map (λ w. w.now) words.now) }
+{
+    let (subchannel, address) = operand_row(words)?;
+    Ok(Instruction::Stsch {
+        subchannel,
+        address,
+    })
+}
+
+fn msch_row(words: &[&[u8]]) -> Result<Instruction, u8>
+    ensures { result ≡ spec.msch_row (map (λ w. w.now) words.now) }
+{
+    let (subchannel, address) = operand_row(words)?;
+    Ok(Instruction::Msch {
         subchannel,
         address,
     })
@@ -59,6 +87,12 @@ fn instruction_row(word: &[u8], words: &[&[u8]]) -> Option<Result<Instruction, u
     }
     if word == b"tsch".as_slice() {
         return Some(tsch_row(words));
+    }
+    if word == b"stsch".as_slice() {
+        return Some(stsch_row(words));
+    }
+    if word == b"msch".as_slice() {
+        return Some(msch_row(words));
     }
     None
 }
@@ -99,6 +133,56 @@ fn put_row(words: &[&[u8]]) -> Result<Action, u8>
     Ok(Action::Event(Event::Put { address, bytes }))
 }
 
+fn key_named(word: &[u8]) -> Option<Key>
+    ensures { result ≡ spec.key_named word.now }
+{
+    let byte = number_up_to(0xFF, word)?;
+    if byte % 2 == 0 {
+        Some(Key::of_byte(byte as u8))
+    } else {
+        None
+    }
+}
+
+fn key_row(words: &[&[u8]]) -> Result<Action, u8>
+    ensures { result ≡ spec.key_row (map (λ w. w.now) words.now) }
+{
+    let (address, key) = two(words).ok_or(2)?;
+    let address = number(address).ok_or(3)?;
+    let key = key_named(key).ok_or(3)?;
+    Ok(Action::Event(Event::SetKey { address, key }))
+}
+
+fn prefix_row(words: &[&[u8]]) -> Result<Action, u8>
+    ensures { result ≡ spec.prefix_row (map (λ w. w.now) words.now) }
+{
+    let (cpu, address) = two(words).ok_or(2)?;
+    let cpu = cpu_named(cpu).ok_or(3)?;
+    let address = number(address).ok_or(3)?;
+    Ok(Action::Event(Event::SetPrefix { cpu, address }))
+}
+
+/// 1 to 40 (hexadecimal) bytes.
+fn show_length(word: &[u8]) -> Option<ChunkLength>
+    ensures { result ≡ spec.show_length word.now }
+{
+    let count = number(word)?;
+    if 1 <= count && count <= 0x40 {
+        ChunkLength::new(count)
+    } else {
+        None
+    }
+}
+
+fn show_row(words: &[&[u8]]) -> Result<Action, u8>
+    ensures { result ≡ spec.show_row (map (λ w. w.now) words.now) }
+{
+    let (address, length) = two(words).ok_or(2)?;
+    let address = number(address).ok_or(3)?;
+    let length = show_length(length).ok_or(3)?;
+    Ok(Action::Event(Event::Show { address, length }))
+}
+
 fn choose_row(words: &[&[u8]]) -> Result<Action, u8>
     ensures { result ≡ spec.choose_row (map (λ w. w.now) words.now) }
 {
@@ -133,14 +217,31 @@ fn dev_row(words: &[&[u8]]) -> Result<Action, u8>
     Ok(Action::Dev(unit))
 }
 
-fn event_row(word: &[u8], words: &[&[u8]]) -> Option<Result<Action, u8>>
-    ensures { result ≡ spec.event_row word.now (map (λ w. w.now) words.now) }
+/// The lines that set and show storage.
+fn storage_row(word: &[u8], words: &[&[u8]]) -> Option<Result<Action, u8>>
+    ensures { result ≡ spec.storage_row word.now (map (λ w. w.now) words.now) }
+{
+    if word == b"put".as_slice() {
+        return Some(put_row(words));
+    }
+    if word == b"key".as_slice() {
+        return Some(key_row(words));
+    }
+    if word == b"prefix".as_slice() {
+        return Some(prefix_row(words));
+    }
+    if word == b"show".as_slice() {
+        return Some(show_row(words));
+    }
+    None
+}
+
+/// The lines of the subsystem and its devices.
+fn subsystem_row(word: &[u8], words: &[&[u8]]) -> Option<Result<Action, u8>>
+    ensures { result ≡ spec.subsystem_row word.now (map (λ w. w.now) words.now) }
 {
     if word == b"cpu".as_slice() {
         return Some(cpu_row(words));
-    }
-    if word == b"put".as_slice() {
-        return Some(put_row(words));
     }
     if word == b"choose".as_slice() {
         return Some(choose_row(words));
@@ -155,6 +256,15 @@ fn event_row(word: &[u8], words: &[&[u8]]) -> Option<Result<Action, u8>>
         return Some(dev_row(words));
     }
     None
+}
+
+fn event_row(word: &[u8], words: &[&[u8]]) -> Option<Result<Action, u8>>
+    ensures { result ≡ spec.event_row word.now (map (λ w. w.now) words.now) }
+{
+    match storage_row(word, words) {
+        Some(said) => Some(said),
+        None => subsystem_row(word, words),
+    }
 }
 
 /// What a line's words ask the machine for, where its first word is known. An instruction without `cpu` is of CPU 0.

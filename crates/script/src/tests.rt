@@ -15,7 +15,7 @@ use scsw_irb::status::{DeviceStatus, SubchannelStatus};
 use std::alloc::AllocError;
 use storage_keys::StorageFault;
 
-const WRONG: [(&[u8], u64, u8); 44] = [
+const WRONG: [(&[u8], u64, u8); 58] = [
     (b"", 1, 6),
     (b"\n\n# nothing\n", 1, 6),
     (b"\n#\xFF\n", 1, 6),
@@ -48,6 +48,20 @@ const WRONG: [(&[u8], u64, u8); 44] = [
     (b"storage 10\nunit 0 printer\n", 2, 3),
     (b"storage 10\nunit 0 block\nsub 0 0 0 10 1x\n", 3, 3),
     (b"storage 10\ndev 0\r\n", 2, 3),
+    (b"storage 10\nkey 2000\n", 2, 2),
+    (b"storage 10\nkey 2000 11\n", 2, 3),
+    (b"storage 10\nkey 2000 100\n", 2, 3),
+    (b"storage 10\nprefix 4000\n", 2, 2),
+    (b"storage 10\nprefix 10 4000\n", 2, 3),
+    (b"storage 10\ncpu 0 prefix 0 4000\n", 2, 1),
+    (b"storage 10\nshow 500\n", 2, 2),
+    (b"storage 10\nshow 500 0\n", 2, 3),
+    (b"storage 10\nshow 500 41\n", 2, 3),
+    (b"storage 10\nshow 123456789 1\n", 2, 3),
+    (b"storage 10\nstsch 0\n", 2, 2),
+    (b"storage 10\nstsch 0 x\n", 2, 3),
+    (b"storage 10\nmsch 0 500 0\n", 2, 2),
+    (b"storage 10\nmsch x 500\n", 2, 3),
     (b"storage 10\nput 500 C1\npath 10\n", 3, 4),
     (b"storage 10\nput 500 C1\nstorage 10\n", 3, 4),
     (b"storage 10\nstorage 10\n", 2, 5),
@@ -64,6 +78,9 @@ const WRONG: [(&[u8], u64, u8); 44] = [
 
 const RIGHT: &[u8] =
     b"# a machine\n\nstorage 10\nsets 2\npath 10\npath fF\nunit 0 block\nsub 0 0100 0 10 FF\nsub 00030000 0101 0 10\nput 500 c1C2\nenable 0 7 1\ncpu f enable 30000 0 0\nssch 0001 500\ncpu 1 ssch 00001 500\ntsch 0 600\nchoose 0\n#\nup 0 1\ndown 0 12345678\ndev 3FF";
+
+const INSTRUCTIONS: &[u8] =
+    b"storage 10\nkey 2FFF 1e\nprefix f 4000\nshow 10FFE 40\nshow 0 1\nstsch 0 700\ncpu 2 msch 10001 704";
 
 #[test]
 fn wrong_lines_are_named(rt: HostRuntime) {
@@ -112,6 +129,15 @@ fn shown(action: &Action) -> (&[u8], [u32; 4]) {
                 _ => (b"put", [*address, count, 0, 0]),
             }
         }
+        Action::Event(Event::SetKey { address, key }) => {
+            (b"key", [*address, u32::from(key.byte()), 0, 0])
+        }
+        Action::Event(Event::SetPrefix { cpu, address }) => {
+            (b"prefix", [u32::from(cpu.number()), *address, 0, 0])
+        }
+        Action::Event(Event::Show { address, length }) => {
+            (b"show", [*address, length.get() as u32, 0, 0])
+        }
         Action::Event(Event::Execute { cpu, instruction }) => {
             let cpu = u32::from(cpu.number());
             match instruction {
@@ -123,6 +149,14 @@ fn shown(action: &Action) -> (&[u8], [u32; 4]) {
                     subchannel,
                     address,
                 } => (b"tsch", [cpu, *subchannel, *address, 0]),
+                Instruction::Stsch {
+                    subchannel,
+                    address,
+                } => (b"stsch", [cpu, *subchannel, *address, 0]),
+                Instruction::Msch {
+                    subchannel,
+                    address,
+                } => (b"msch", [cpu, *subchannel, *address, 0]),
                 Instruction::Enable {
                     subchannel,
                     subclass,
@@ -181,6 +215,30 @@ fn a_right_script_is_read(rt: HostRuntime) {
     assert_eq!(rt; config.paths(), [0x10, 0xFF].as_slice());
     assert_eq!(rt; config.subchannels().len(), 2);
     assert_eq!(rt; lines.len(), 10);
+}
+
+#[test]
+fn storage_lines_are_read(rt: HostRuntime) {
+    let wanted: [(u64, &[u8], [u32; 4]); 6] = [
+        (2, b"key", [0x2FFF, 0x1E, 0, 0]),
+        (3, b"prefix", [0xF, 0x4000, 0, 0]),
+        (4, b"show", [0x1_0FFE, 0x40, 0, 0]),
+        (5, b"show", [0, 1, 0, 0]),
+        (6, b"stsch", [0, 0x1_0000, 0x700, 0]),
+        (7, b"msch", [2, 0x1_0001, 0x704, 0]),
+    ];
+    match Script::read(rt.alloc(), INSTRUCTIONS) {
+        Ok(script) => {
+            assert_eq!(rt; script.lines().len(), wanted.len());
+            for (line, (number, name, numbers)) in script.lines().iter().zip(wanted) {
+                let (kind, said) = shown(&line.action);
+                assert_eq!(rt; line.number, number);
+                assert_eq!(rt; kind, name);
+                assert_eq!(rt; said, numbers);
+            }
+        }
+        Err(bad) => assert_eq!(rt; bad, ScriptBad::NoMemory),
+    }
 }
 
 fn ended() -> Scsw {
@@ -245,8 +303,14 @@ fn replies_are_shown(rt: HostRuntime) -> Result<(), AllocError> {
         cleared: 0,
     };
     let status = DeviceStatus::ATTENTION;
-    let rows: [(Reply, &[u8]); 29] = [
+    let rows: [(Reply, &[u8]); 30] = [
         (Reply::Done, b"done"),
+        (
+            Reply::Shown {
+                bytes: Chunk::of(&[0xC1, 0x02, 0xAF]),
+            },
+            b"C102AF",
+        ),
         (Reply::Code(Answer::Zero(serials)), b"cc 0"),
         (Reply::Code(Answer::One(serials)), b"cc 1"),
         (Reply::Code(Answer::Two), b"cc 2"),

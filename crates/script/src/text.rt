@@ -33,6 +33,23 @@ fn push_decimal(out: &mut Vec<u8>, number: u64) -> Result<(), AllocError>
     }
 }
 
+/// The two hexadecimal digits of a byte.
+fn push_byte(out: &mut Vec<u8>, byte: u8) -> Result<(), AllocError>
+    ensures { OnOk result (out.new.items ≡ out.old.items ++ spec.byte_text byte) }
+{
+    let digits = [hex_digit(byte / 0x10 % 16), hex_digit(byte % 16)];
+    out.extend_from_slice(&digits)
+}
+
+fn push_bytes(out: &mut Vec<u8>, bytes: &[u8]) -> Result<(), AllocError>
+    ensures { OnOk result (out.new.items ≡ out.old.items ++ flat_map spec.byte_text bytes.now) }
+{
+    for byte in bytes {
+        push_byte(out, *byte)?;
+    }
+    Ok(())
+}
+
 /// A space and the eight hexadecimal digits of a word.
 fn push_word(out: &mut Vec<u8>, word: u32) -> Result<(), AllocError>
     ensures { OnOk result (out.new.items ≡ out.old.items ++ spec.word_text word) }
@@ -124,6 +141,7 @@ pub fn reply_text(out: &mut Vec<u8>, reply: &Reply) -> Result<(), AllocError>
 {
     match reply {
         Reply::Done => out.extend_from_slice(b"done"),
+        Reply::Shown { bytes } => push_bytes(out, bytes.as_slice()),
         Reply::Code(answer) => push_answer(out, *answer),
         Reply::Status { answer, scsw } => {
             push_answer(out, *answer)?;

@@ -1,6 +1,6 @@
 //! A channel subsystem with a device for each of its units.
 
-ghost use Rattle.std.specs.Prelude.{◌≡◌, IfOk, length, slice_get};
+ghost use Rattle.std.specs.Prelude.{◌≡◌, IfOk, None, length, replicate, slice_get};
 ghost use Rattle.serving.specs.Acting.{Acts, TakesTurn, HandsIn, IsReportOf, IsNext, kept_after, opening};
 ghost use Rattle.machine_model.specs.State.{unit_turn_of};
 
@@ -45,7 +45,7 @@ impl Installation {
     {
         let units = config.units().len();
         let stores = opening_stores(alloc, units)?;
-        let kept = vec![in alloc; None; units]?;
+        let kept = no_reports(alloc, units)?;
         match Subsystem::new(alloc, config, Rotating) {
             Ok(subsystem) => Ok(Installation {
                 subsystem,
@@ -90,7 +90,7 @@ impl Installation {
             return Err(Fault::NoSuchUnit);
         };
         if let Some(report) = kept {
-            return Ok(*report);
+            return Ok(report.copy());
         }
         match turn {
             UnitTurn::Works(work) => Ok(worked(store, &work)),
@@ -102,7 +102,11 @@ impl Installation {
     fn hand_in(&mut self, unit: u32, report: Report) -> Result<Reply, Fault>
         ensures { HandsIn self.old «unit» report result self.new }
     {
-        let outcome = self.subsystem.step(&Event::Report { unit, report });
+        let event = Event::Report {
+            unit,
+            report: report.copy(),
+        };
+        let outcome = self.subsystem.step(&event);
         if let Some(kept) = self.kept.get_mut(unit as usize) {
             *kept = kept_of(report, &outcome);
         }
@@ -118,6 +122,17 @@ fn kept_of(report: Report, outcome: &Result<Reply, Fault>) -> Option<Report>
         Err(Fault::NoMemory | Fault::WireFull) => Some(report),
         _ => None,
     }
+}
+
+/// No report is kept for so many units.
+fn no_reports(alloc: Global, count: usize) -> Result<Vec<Option<Report>>, AllocError>
+    ensures { IfOk result (λ kept. kept.items ≡ replicate count None) }
+{
+    let mut kept = Vec::new(alloc);
+    for _ in 0..count {
+        kept.push(None)?;
+    }
+    Ok(kept)
 }
 
 /// So many stores at their opening.
@@ -136,7 +151,7 @@ fn worked(store: &mut BlockStore, work: &Work) -> Report
     ensures { IsReportOf work.now result }
 {
     match work {
-        Work::Report(report) => *report,
+        Work::Report(report) => report.copy(),
         Work::Call {
             side,
             number,

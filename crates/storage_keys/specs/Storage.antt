@@ -1,8 +1,9 @@
 -- What main storage holds, and what each access to it answers (SA22-7832, chapter 3: storage, key-controlled
 -- protection, prefixing).
-use Rattle.std.specs.Prelude.{◌≡◌, ℕ, ◌+◌, ◌-◌, ◌*◌, ◌/◌, ◌%◌, ◌^◌, ◌≤◌, Bool, true, false, not, ◌&&◌, ◌||◌, ◌==◌, nat_lt, nat_le, if◌then◌else◌, List, [], ◌∷◌, ◌++◌, map, length, take, drop, replicate, slice_get, slice_index, slice_set, slice_range, Result, Ok, Err, ok_or}
+use Rattle.std.specs.Prelude.{◌≡◌, ℕ, ◌+◌, ◌-◌, ◌*◌, ◌/◌, ◌%◌, ◌^◌, ◌<◌, ◌≤◌, Bool, true, false, not, ◌&&◌, ◌||◌, ◌==◌, nat_lt, nat_le, if◌then◌else◌, List, [], ◌∷◌, ◌++◌, map, length, take, drop, replicate, slice_get, slice_index, slice_set, slice_range, Result, Ok, Err, ok_or}
 use Rattle.std.specs.List.{list_all, range_with_len}
 use Rattle.std.proofs.Common.{lit<}
+use Rattle.std.proofs.lemmas.Nat.{mod_below}
 use Rattle.storage_keys.specs.declared.key.Key.{Key}
 use Rattle.storage_keys.specs.declared.StorageFault.{StorageFault}
 use Rattle.storage_keys.specs.declared.StorageFault.TheVariants.{Addressing, Protection, Specification}
@@ -42,6 +43,19 @@ bit_number false = 0
 -- a key as a byte: access-control bits 0 to 3, fetch protection 4, reference 5, change 6, bit 7 zero
 abbrev pub byte_of : Key → ℕ
 byte_of key = 16 * key.access + 8 * bit_number key.fetch_protected + 4 * bit_number key.referenced + 2 * bit_number key.changed
+
+-- the key that a byte shows; bit 7 is ignored
+pub access-lt : (byte : ℕ) → byte / 16 % 16 < 16
+access-lt byte = mod_below (byte / 16) 16 (lit< tt)
+
+abbrev pub key_of_byte : ℕ → Key
+key_of_byte byte = record {
+  access = byte / 16 % 16;
+  fetch_protected = byte / 8 % 2 == 1;
+  referenced = byte / 4 % 2 == 1;
+  changed = byte / 2 % 2 == 1;
+  access_fits = access-lt byte;
+}
 
 -- an access key permits a store into a block where it is zero or matches the block's access-control bits
 abbrev pub key_permits_store : ℕ → Key → Bool
@@ -148,6 +162,11 @@ operand_stored storage cpu address values =
 -- storage after bytes are put
 abbrev pub put : Contents → ℕ → List ℕ → Result Contents StorageFault
 put storage address bytes = if is_inside storage address (length bytes) then Ok (put_at storage address bytes) else Err Addressing
+
+-- the bytes that are shown
+abbrev pub shown : Contents → ℕ → ℕ → Result (List ℕ) StorageFault
+shown storage address count =
+    if is_inside storage address count then Ok (slice_range storage.bytes address (address + count)) else Err Addressing
 
 -- the key of the block in which an address lies
 abbrev pub key_at : Contents → ℕ → Result Key StorageFault

@@ -17,7 +17,7 @@ pub struct Key {
 }
 
 impl Key {
-    ghost use Rattle.storage_keys.specs.Storage.{byte_of, key_permits_fetch, key_permits_store};
+    ghost use Rattle.storage_keys.specs.Storage.{byte_of, key_of_byte, key_permits_fetch, key_permits_store};
 
     /// The key that every block has at first (own).
     pub const ZERO: Key = Key {
@@ -30,10 +30,11 @@ impl Key {
     /// The key that a byte shows: access-control bits 0 to 3, fetch protection 4, reference 5,
     /// change 6. Bit 7 is ignored.
     pub fn of_byte(byte: u8) -> Key
-        ensures { byte_of result ≡ byte - byte % 2 }
+        ensures key { result ≡ key_of_byte byte }
+        ensures byte { byte_of result ≡ byte - byte % 2 }
     {
         Key {
-            access: byte / 16,
+            access: byte / 16 % 16,
             fetch_protected: byte / 8 % 2 == 1,
             referenced: byte / 4 % 2 == 1,
             changed: byte / 2 % 2 == 1,

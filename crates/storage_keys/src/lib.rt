@@ -125,6 +125,19 @@ impl Storage {
         Ok(())
     }
 
+    /// So many bytes from an absolute address on, as an operator is shown them: no key is asked
+    /// (own). Addressing where a byte is not in storage.
+    pub fn show(&self, address: u32, count: usize) -> Result<&[u8], StorageFault>
+        ensures shown { IfOk result (λ bytes. spec.shown self.now address count ≡ Ok bytes.now) }
+        ensures refused { IfErr result (λ fault. spec.shown self.now address count ≡ Err fault) }
+    {
+        if self.is_inside(address, count) {
+            Ok(self.part(address, count))
+        } else {
+            Err(StorageFault::Addressing)
+        }
+    }
+
     /// The key of the block in which an absolute address lies. Addressing where it is not in
     /// storage.
     pub fn key_at(&self, address: u32) -> Result<Key, StorageFault>

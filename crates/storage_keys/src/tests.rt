@@ -68,6 +68,8 @@ fn a_block_is_guarded_by_its_key(rt: HostRuntime) {
     assert_eq!(rt; storage.fetch(2, 0x2FFF, 2).err(), Some(PROTECTION));
     assert_eq!(rt; storage.store(1, 0x2FFF, &[7]), Ok(()));
     assert!(rt; holds(&storage, 1, 0x1FFF, &[0; 2]));
+    assert_eq!(rt; storage.show(0x2FFE, 2), Ok([0, 7].as_slice()));
+    assert_eq!(rt; storage.show(0xFFFF, 2).err(), Some(ADDRESSING));
     assert_eq!(rt; storage.set_key(0x1_0000, Key::ZERO), Err(ADDRESSING));
     assert_eq!(rt; storage.key_at(0x1_0000), Err(ADDRESSING));
 }

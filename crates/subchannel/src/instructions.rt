@@ -115,12 +115,11 @@ fn started_scsw(scsw: Scsw, orb: Orb) -> Scsw
 fn started_pmcw(pmcw: Pmcw, orb: Orb) -> Pmcw
     ensures { result ≡ spec.started_pmcw pmcw orb }
 {
-    Pmcw {
-        parameter: orb.parameter,
-        logical: paths_of_mask(orb.paths),
-        not_operational: [false; 8],
-        ..pmcw
-    }
+    let mut started = pmcw;
+    started.parameter = orb.parameter;
+    started.logical = paths_of_mask(orb.paths);
+    started.not_operational = [false; 8];
+    started
 }
 
 /// The subchannel after START SUBCHANNEL with code 0.
@@ -223,27 +222,6 @@ pub fn tested(state: SubchannelState) -> SubchannelState
             cleared: state.serials.made,
             ..state.serials
         },
-        ..state
-    }
-}
-
-fn enabled_pmcw(pmcw: Pmcw, subclass: u8, multipath: bool) -> Pmcw
-    ensures { result ≡ spec.enabled_pmcw pmcw subclass multipath }
-{
-    Pmcw {
-        subclass,
-        multipath,
-        enabled: true,
-        ..pmcw
-    }
-}
-
-/// The subchannel after its subclass and mode are set and it is enabled.
-pub fn enabled(state: SubchannelState, subclass: u8, multipath: bool) -> SubchannelState
-    ensures { result ≡ spec.enabled state subclass multipath }
-{
-    SubchannelState {
-        pmcw: enabled_pmcw(state.pmcw, subclass, multipath),
         ..state
     }
 }

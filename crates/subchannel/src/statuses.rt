@@ -5,7 +5,8 @@ ghost use Rattle.chan_model.specs.Status as status_spec;
 ghost use Rattle.machine_model.specs.Statuses as spec;
 
 use chan_model::status::Shown;
-use machine_model::state::{Begun, Check, SubchannelState};
+use channel_program::check::Check;
+use machine_model::state::{Begun, SubchannelState};
 use scsw_irb::scsw::{ActivityControl, DeferredCode, FunctionControl, Scsw, StatusControl};
 use scsw_irb::serials::Serials;
 use scsw_irb::status::{DeviceStatus, SubchannelStatus};
@@ -122,8 +123,8 @@ pub fn no_path_shown(scsw: Scsw) -> Shown
 }
 
 /// A command could not be fetched, or may not take control.
-pub fn fetch_fault_shown(tried: u32, check: Check) -> Shown
-    ensures { result ≡ spec.fetch_fault_shown tried check }
+pub fn fetch_fault_shown(tried: u32, check: Check, count: u16) -> Shown
+    ensures { result ≡ spec.fetch_fault_shown tried check count }
 {
     Shown {
         conditions: conditions(true, true, true),
@@ -132,7 +133,7 @@ pub fn fetch_fault_shown(tried: u32, check: Check) -> Shown
         subchannel: check_status(Some(check)),
         deferred: None,
         command_address: tried,
-        count: 0,
+        count,
     }
 }
 
@@ -171,7 +172,7 @@ fn is_channel_end_alone(status: DeviceStatus) -> bool
 fn is_short(begun: &Begun, more: bool) -> bool
     ensures { result ≡ spec.is_short begun.now more }
 {
-    begun.transfer.residual != 0 || more
+    begun.transfer.moving.residual() != 0 || more
 }
 
 /// Whether an incorrect length of a command that ended at once is shown.
@@ -182,20 +183,51 @@ fn shows_immediate(begun: &Begun, status: DeviceStatus) -> bool
         || (begun.program.orb.format_one && !begun.program.orb.suppress_length)
 }
 
-fn shows_length(begun: &Begun, status: DeviceStatus, more: bool) -> bool
-    ensures { result ≡ spec.shows_length begun.now status more }
+fn suppresses_length(begun: &Begun) -> bool
+    ensures { result ≡ spec.suppresses_length begun.now }
+{
+    let ccw = begun.transfer.moving.ccw();
+    ccw.suppress_length && !ccw.chain_data
+}
+
+fn shows_length(scsw: Scsw, begun: &Begun, status: DeviceStatus, more: bool) -> bool
+    ensures { result ≡ spec.shows_length scsw begun.now status more }
 {
     !begun.transfer.ended
         && is_short(begun, more)
         && !is_unit_check_alone(status)
-        && !begun.transfer.suppress_length
+        && !scsw.functions.halt
+        && !suppresses_length(begun)
         && shows_immediate(begun, status)
 }
 
-fn end_status(begun: &Begun, status: DeviceStatus, more: bool) -> SubchannelStatus
-    ensures { result ≡ spec.end_bits begun.now status more }
+fn end_status(scsw: Scsw, begun: &Begun, status: DeviceStatus, more: bool) -> SubchannelStatus
+    ensures { result ≡ spec.end_bits scsw begun.now status more }
 {
-    length_status(shows_length(begun, status, more)).joined(check_status(begun.transfer.fault))
+    length_status(shows_length(scsw, begun, status, more)).joined(check_status(
+        begun.transfer.fault,
+    ))
+}
+
+fn breaks_chain(scsw: Scsw, begun: &Begun, status: DeviceStatus, more: bool) -> bool
+    ensures { result ≡ spec.breaks_chain scsw begun.now status more }
+{
+    status.has_check()
+        || status.has_unit_exception()
+        || shows_length(scsw, begun, status, more)
+        || begun.transfer.fault.is_some()
+        || scsw.functions.halt
+}
+
+/// Whether the next command is chained to after an End.
+pub fn chains_command(scsw: Scsw, begun: &Begun, status: DeviceStatus, more: bool) -> bool
+    ensures { result ≡ spec.chains_command scsw begun.now status more }
+{
+    let ccw = begun.transfer.moving.ccw();
+    ccw.chain_command
+        && !ccw.chain_data
+        && !begun.transfer.unchained
+        && !breaks_chain(scsw, begun, status, more)
 }
 
 fn is_alert(begun: &Begun, status: DeviceStatus) -> bool
@@ -225,10 +257,10 @@ pub fn channel_end_shown(scsw: Scsw, begun: &Begun, status: DeviceStatus, more: 
             ..ActivityControl::none()
         },
         device: status,
-        subchannel: end_status(begun, status, more),
+        subchannel: end_status(scsw, begun, status, more),
         deferred: None,
-        command_address: begun.tried,
-        count: begun.transfer.residual,
+        command_address: begun.transfer.walk.tried(),
+        count: begun.transfer.moving.residual(),
     }
 }
 
@@ -244,10 +276,10 @@ pub fn last_end_shown(scsw: Scsw, begun: &Begun, status: DeviceStatus, more: boo
         ),
         activity: ActivityControl::none(),
         device: status,
-        subchannel: end_status(begun, status, more),
+        subchannel: end_status(scsw, begun, status, more),
         deferred: None,
-        command_address: begun.tried,
-        count: begun.transfer.residual,
+        command_address: begun.transfer.walk.tried(),
+        count: begun.transfer.moving.residual(),
     }
 }
 
@@ -259,7 +291,7 @@ pub fn earlier_end_shown(scsw: Scsw, begun: &Begun, status: DeviceStatus, more: 
         conditions: conditions(true, false, false),
         activity: ActivityControl::none(),
         device: status,
-        subchannel: end_status(begun, status, more),
+        subchannel: end_status(scsw, begun, status, more),
         deferred: Some(DeferredCode::One),
         command_address: scsw.command_address,
         count: scsw.count,

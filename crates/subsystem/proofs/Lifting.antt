@@ -6,7 +6,7 @@ use Rattle.zbits.specs.Layout.{image_of}
 use Rattle.orb_block.specs.declared.Orb.{Orb}
 use Rattle.orb_block.specs.OrbTable.{tables}
 use Rattle.storage_keys.specs.declared.StorageFault.{StorageFault}
-use Rattle.storage_keys.specs.Storage.{operand_at}
+use Rattle.storage_keys.specs.Storage.{Contents, operand_at}
 use Rattle.channel_config.specs.declared.names.SubchannelId.{SubchannelId}
 use Rattle.channel_config.specs.SubchannelWords.{subchannel_named}
 use Rattle.chan_model.specs.declared.event.Instruction.TheVariants as instruction
@@ -20,7 +20,7 @@ use Rattle.path_select.specs.Choice.{IsChoice}
 use Rattle.machine_model.specs.declared.state.Subchannel.{Subchannel}
 use Rattle.machine_model.specs.State.{State, place_of, place_in, sub_at, with_sub, with_unit}
 use Rattle.machine_model.specs.Choosing.{chosen, usable_paths}
-use Rattle.machine_model.specs.Steps.{Outcome, SubTurn, DownTurn, Steps, Performs, Gives, GivesSub, GivesBoth, Chooses, does, at_sub, at_unit, up_at, up_sub, down_at, down_unit, down_sub, choose_sub, report_at, report_to, report_sub, reached_in, Executes_on, Starts, start_at}
+use Rattle.machine_model.specs.Steps.{Outcome, SubTurn, UpTurn, DownTurn, Steps, Performs, Gives, GivesSub, GivesStorage, GivesBoth, Chooses, does, at_sub, at_storage, at_unit, up_at, up_sub, down_at, down_unit, down_sub, choose_sub, report_at, report_to, report_sub, reached_in, Executes_on, Starts, start_at}
 
 -- an element that stands at a place
 pub at_place : {A : Type 0} (xs : List A) (i : ℕ) (x d : A) → i < length xs → x ≡ slice_index_or xs i d → slice_get xs i ≡ Some x
@@ -49,6 +49,16 @@ lifted s place sub new d outcome (Ok reply) there g = ap (at_sub s place) g
 lifted s place sub new d outcome (Err f) there g =
     (ap (at_sub s place) g.0, ap (λ (subs : List Subchannel). record s { subs = subs }) (set_back s.subs place sub new d there g.1))
 
+lifted_storage : (s : State) (place : ℕ) (sub new d : Subchannel) (after : Contents) (outcome : Result UpTurn Fault) (r : Result Reply Fault) →
+    sub ≡ slice_index_or s.subs place d → GivesStorage s.storage sub outcome r after new →
+    Gives s (at_storage s place outcome) r (with_sub (record s { storage = after }) place new)
+lifted_storage s place sub new d after outcome (Ok reply) there g = ap (at_storage s place) g
+lifted_storage s place sub new d after outcome (Err f) there g = (
+  ap (at_storage s place) g.0,
+  ap (λ (subs : List Subchannel). record s { storage = after; subs = subs }) (set_back s.subs place sub new d there g.1.0)
+      ∙ ap (λ (storage : Contents). record s { storage = storage }) g.1.1,
+)
+
 lifted_both : (s : State) (place k : ℕ) (sub new d : Subchannel) (u v w : UnitState) (outcome : Result DownTurn Fault) (r : Result Reply Fault) →
     sub ≡ slice_index_or s.subs place d → u ≡ slice_index_or s.units k w → GivesBoth sub u outcome r new v →
     Gives s (at_unit s place k outcome) r (with_unit (with_sub s place new) k v)
@@ -59,14 +69,15 @@ lifted_both s place k sub new d u v w outcome (Err f) there here g = (
       ∙ ap (λ (units : List UnitState). record s { units = units }) (set_back s.units k u v w here g.1.1),
 )
 
-pub up-performs : (s : State) (word path place : ℕ) (sub new d : Subchannel) (r : Result Reply Fault) → place_of s word ≡ Some place →
-    place < length s.subs → sub ≡ slice_index_or s.subs place d → GivesSub sub (up_sub s.storage sub path) r new →
-    Performs s (event.Up word path) r (with_sub s place new)
-up-performs s word path place sub new d r at within there g =
+pub up-performs : (s : State) (word path place : ℕ) (sub new d : Subchannel) (after : Contents) (r : Result Reply Fault) → place_of s word ≡ Some place →
+    place < length s.subs → sub ≡ slice_index_or s.subs place d → GivesStorage s.storage sub (up_sub s.storage sub path) r after new →
+    Performs s (event.Up word path) r (with_sub (record s { storage = after }) place new)
+up-performs s word path place sub new d after r at within there g =
     let outcome = up_sub s.storage sub path in
-    let steps : (o : Outcome) → o ≡ at_sub s place outcome → Steps s (event.Up word path) o =
+    let steps : (o : Outcome) → o ≡ at_storage s place outcome → Steps s (event.Up word path) o =
     λ o e. named s word place sub (λ (p : Option ℕ) (q : Option Subchannel). o ≡ up_at s p q path) at (at_place s.subs place sub d within there) e in
-    performed s (event.Up word path) (at_sub s place outcome) r (with_sub s place new) steps (lifted s place sub new d outcome r there g)
+    performed s (event.Up word path) (at_storage s place outcome) r (with_sub (record s { storage = after }) place new) steps
+    (lifted_storage s place sub new d after outcome r there g)
 
 pub choose-performs : (s : State) (word place : ℕ) (sub new d : Subchannel) (choice : Option ℕ) (r : Result Reply Fault) → place_of s word ≡ Some place →
     place < length s.subs → sub ≡ slice_index_or s.subs place d → IsChoice (usable_paths s.subs sub) choice →

@@ -5,7 +5,7 @@ ghost use Rattle.chan_model.specs.declared.fault.Fault.TheVariants as fault_spec
 ghost use Rattle.machine_model.specs.State as state_spec;
 ghost use Rattle.machine_model.specs.Steps.{Step, IsRefused, HasRun, HasAnswered, HasBegun};
 ghost use Rattle.std.specs.Bool.{OnTrue, OnFalse};
-ghost use Rattle.machine_model.specs.Bounds.{IsRoomy};
+ghost use Rattle.machine_model.specs.Bounds.{IsRoomy, IsUnitRoomy};
 ghost use Rattle.channel_config.specs.Lawful.{IsLawful};
 ghost use Rattle.machine_laws.specs.Agreeing.{AllAgree};
 ghost use Rattle.machine_laws.specs.Claims.{IsClearedOnce};
@@ -208,20 +208,26 @@ fn opened(setup: &SubchannelSetup) -> Subchannel
     }
 }
 
+fn opening_pmcw() -> Pmcw
+    ensures { result ≡ state_spec.opening_pmcw }
+{
+    Pmcw {
+        parameter: 0,
+        subclass: 0,
+        enabled: false,
+        multipath: false,
+        logical: [true; 8],
+        not_operational: [false; 8],
+        last_used: None,
+        operational: [true; 8],
+    }
+}
+
 fn opening_subchannel() -> SubchannelState
     ensures { result ≡ state_spec.opening_subchannel }
 {
     SubchannelState {
-        pmcw: Pmcw {
-            parameter: 0,
-            subclass: 0,
-            enabled: false,
-            multipath: false,
-            logical: [true; 8],
-            not_operational: [false; 8],
-            last_used: None,
-            operational: [true; 8],
-        },
+        pmcw: opening_pmcw(),
         scsw: Scsw::zero(),
         serials: Serials {
             made: 0,

@@ -94,7 +94,7 @@ fn script(alloc: Global) -> Vec<Event> {
     let _ = events.push(down());
     let _ = events.push(up());
     let _ = events.push(down());
-    let _ = events.push(report(0, DeviceAnswer::Asks));
+    let _ = events.push(report(0, DeviceAnswer::Begins));
     let _ = events.push(up());
     let _ = events.push(down());
     let _ = events.push(report(1, DeviceAnswer::Absorbed(4)));

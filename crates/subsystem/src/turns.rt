@@ -1,26 +1,30 @@
 //! What an event does at one subchannel.
 
-ghost use Rattle.std.specs.Prelude.{◌≡◌, ◌<◌, ◌^◌, true, false};
+ghost use Rattle.std.specs.Prelude.{◌≡◌, ◌<◌, ◌^◌, true, false, length};
 ghost use Rattle.machine_model.specs.Steps as spec;
 ghost use Rattle.machine_model.specs.Choosing as choosing_spec;
-ghost use Rattle.machine_model.specs.Bounds.{IsRoomy};
+ghost use Rattle.machine_model.specs.Bounds.{IsRoomy, IsUnitRoomy};
+ghost use Rattle.chan_model.specs.UnitReports as reports_spec;
 ghost use Rattle.chan_model.specs.UnitTable as unit_spec;
+ghost use Rattle.wires.specs.Queues.{queue};
+ghost use Rattle.schib_block.specs.Modify.{IsAllowed};
 
 use chan_model::fault::Fault;
 use chan_model::names::{Path, Side};
 use chan_model::paths::mask_of_path;
 use chan_model::reply::{Answer, ConditionCode, Reply};
-use chan_model::report::Report;
+use chan_model::report::{Report, ReportPath};
 use chan_model::signal::{Down, OnPath, Taken, Up};
 use machine_model::state::{Chosen, Program, Subchannel, SubchannelState, UpStep};
 use orb_block::Orb;
+use schib_block::pmcw::Pmcw;
 use scsw_irb::irb::Irb;
 use storage_keys::Storage;
 use subchannel::choosing::{offered, without_path};
-use subchannel::instructions::{
-    condition_of, enabled, msch_code, ssch_code, started, tested, tsch_code,
-};
+use subchannel::instructions::{condition_of, msch_code, ssch_code, started, tested, tsch_code};
+use subchannel::moving::stores;
 use subchannel::taking::takes_up;
+use subchannel_blocks::modified_state;
 use unit::Unit;
 use wires::Wires;
 
@@ -84,14 +88,15 @@ pub fn stores_irb(code: ConditionCode) -> bool
     }
 }
 
-/// The subclass and mode are set, and the subchannel is enabled.
-pub fn enable_sub(sub: &mut Subchannel, subclass: u8, multipath: bool) -> Reply
-    ensures { spec.enable_sub sub.old subclass multipath ≡ spec.leaves result sub.new }
+/// MODIFY SUBCHANNEL with a word that it allows.
+pub fn modify_sub(sub: &mut Subchannel, given: &Pmcw) -> Reply
+    requires { IsAllowed given.now }
+    ensures { spec.modify_sub sub.old given.now ≡ spec.leaves result sub.new }
 {
     let serials = sub.state.serials;
     match msch_code(condition_of(sub.state)) {
         ConditionCode::Zero => {
-            sub.state = enabled(sub.state, subclass, multipath);
+            sub.state = modified_state(sub, given);
             Reply::Code(Answer::Zero(serials))
         }
         ConditionCode::One => Reply::Code(Answer::One(serials)),
@@ -165,10 +170,11 @@ fn path_of(sub: &Subchannel, path: u32) -> Option<Path>
     }
 }
 
-/// The subchannel takes the signal that waits longest on the wire up of a path.
-pub fn up_sub(storage: &Storage, sub: &mut Subchannel, path: u32) -> Result<Reply, Fault>
+/// The subchannel takes the signal that waits longest on the wire up of a path. The bytes of a read are stored once it is
+/// known that their answer finds room.
+pub fn up_sub(storage: &mut Storage, sub: &mut Subchannel, path: u32) -> Result<Reply, Fault>
     requires { IsRoomy sub.old }
-    ensures { spec.GivesSub sub.old (spec.up_sub storage.now sub.old path) result sub.new }
+    ensures { spec.GivesStorage storage.old sub.old (spec.up_sub storage.old sub.old path) result storage.new sub.new }
 {
     let Some(path) = path_of(sub, path) else {
         return Err(Fault::NoSuchPath);
@@ -176,6 +182,9 @@ pub fn up_sub(storage: &Storage, sub: &mut Subchannel, path: u32) -> Result<Repl
     let Some(front) = sub.wires.front_up(path) else {
         return Err(Fault::NotSent);
     };
+    if stores(&sub.state, path, front) && finds_down_full(&sub.wires, path) {
+        return Err(Fault::WireFull);
+    }
     let UpStep { state, came } = takes_up(storage, &sub.state, path, front);
     let Taken { taken, sent } = came;
     if down_finds_full(&sub.wires, &sent) {
@@ -232,19 +241,42 @@ pub fn down_sub(sub: &mut Subchannel, unit: &mut Unit, path: u32) -> Result<Repl
     })
 }
 
-/// The unit takes its device's answer, and sends it to the subchannel.
+fn finds_down_full(wires: &Wires, path: Path) -> bool
+    ensures { result ≡ spec.is_full wires.now.down path }
+{
+    wires.down_is_full(path)
+}
+
+fn finds_up_full(wires: &Wires, path: Path) -> bool
+    ensures full { result ≡ spec.is_full wires.now.up path }
+    ensures room { result ≡ false → length (queue wires.now.up path) < 8 }
+{
+    wires.up_is_full(path)
+}
+
+/// Whether what comes of a report finds its wire full.
+fn report_finds_full(wires: &Wires, unit: &Unit, report: &Report) -> bool
+    ensures full { result ≡ spec.finds_full wires.now.up (unit_spec.came_of (reports_spec.unit_reports «unit».now report.now)).sent }
+    ensures room { spec.HasRoom wires.now.up (unit_spec.came_of (reports_spec.unit_reports «unit».now report.now)).sent result }
+{
+    match unit.report_path(report) {
+        ReportPath::SentOn(path) => finds_up_full(wires, path),
+        ReportPath::Refused | ReportPath::NothingSent => false,
+    }
+}
+
+/// The unit takes its device's answer, and sends what comes of it to the subchannel.
 pub fn report_sub(sub: &mut Subchannel, unit: &mut Unit, report: &Report) -> Result<Reply, Fault>
+    requires { IsUnitRoomy «unit».old }
     ensures { spec.GivesBoth sub.old «unit».old (spec.report_sub sub.old «unit».old report.now) result sub.new «unit».new }
 {
-    let Some(path) = unit.report_path(report) else {
+    if let ReportPath::Refused = unit.report_path(report) {
         return Err(Fault::NotNow);
-    };
-    if sub.wires.up_is_full(path) {
+    }
+    if report_finds_full(&sub.wires, unit, report) {
         return Err(Fault::WireFull);
     }
-    let Some(sent) = unit.report(report) else {
-        return Err(Fault::NotNow);
-    };
-    sub.wires.send_up(path, sent.signal);
+    let Taken { sent, .. } = unit.report(report);
+    send_any_up(&mut sub.wires, &sent);
     Ok(Reply::Done)
 }

@@ -1,5 +1,5 @@
 -- What the calls of a unit say of it beside its tables (own).
-use Rattle.std.specs.Prelude.{◌≡◌, ℕ, Bool, false, is_some, IsTrue}
+use Rattle.std.specs.Prelude.{◌≡◌, ℕ, Bool, false, Option, None, Some, is_some, IsTrue}
 use Rattle.chan_model.specs.declared.names.Side.{Side}
 use Rattle.chan_model.specs.declared.names.Side.TheVariants.{First, Second}
 use Rattle.chan_model.specs.declared.signal.Down.{Down}
@@ -7,6 +7,7 @@ use Rattle.chan_model.specs.declared.unit_state.Place.{Place}
 use Rattle.chan_model.specs.declared.unit_state.Place.TheVariants.{On, Ask, Away}
 use Rattle.chan_model.specs.declared.unit_state.Own.{Own}
 use Rattle.chan_model.specs.declared.unit_state.Own.TheVariants.{Idle, Owned}
+use Rattle.chan_model.specs.declared.unit_state.AtHand.{AtHand}
 use Rattle.chan_model.specs.declared.unit_state.UnitState.{UnitState}
 use Rattle.chan_model.specs.UnitTable.{unit_takes, came_of, side_of, owns}
 
@@ -23,6 +24,11 @@ connection_of (Away c) = c
 abbrev pub last_connection : Own → ℕ
 last_connection Idle = 0
 last_connection (Owned side t place) = connection_of place
+
+-- the number of the last chunk of the command at hand
+abbrev pub last_sequence : Option AtHand → ℕ
+last_sequence None = 0
+last_sequence (Some x) = x.sequence
 
 -- A unit's other side.
 abbrev pub other_of : Side → Side

@@ -16,7 +16,7 @@ ghost use Rattle.chan_model.specs.UnitTable as table;
 ghost use Rattle.unit.specs.UnitWords as words;
 
 use chan_model::names::{Path, Side};
-use chan_model::report::{Report, Work};
+use chan_model::report::{Report, ReportPath, Work};
 use chan_model::signal::{Down, OnPath, Taken, Up};
 use chan_model::unit_state::{Own, SideState, UnitState};
 use std::marker::Model;
@@ -97,18 +97,19 @@ impl Unit {
         signals::answers(&self.state, side, signal)
     }
 
-    /// Takes the device's answer. None where it is stale or against the law of devices, and then nothing changes.
-    pub fn report(&mut self, report: &Report) -> Option<OnPath<Up>>
+    /// Takes the device's answer. It is not taken where it is stale or against the law of devices, and then nothing
+    /// changes. Nothing is sent where a read begins.
+    pub fn report(&mut self, report: &Report) -> Taken<Up>
+        requires { words.last_sequence self.old.at_hand < 2 ^ 63 }
         ensures state { self.new ≡ table.unit_after self.old (reports.unit_reports self.old report.now) }
-        ensures sent { result ≡ (table.came_of (reports.unit_reports self.old report.now)).sent }
-        ensures path { table.path_of_sent result ≡ table.answer_path (reports.unit_reports self.old report.now) }
+        ensures came { result ≡ table.came_of (reports.unit_reports self.old report.now) }
     {
         reports::reports(&mut self.state, report)
     }
 
-    /// The path that the signal of a report is sent on. None where the report is refused.
-    pub fn report_path(&self, report: &Report) -> Option<Path>
-        ensures { result ≡ table.answer_path (reports.unit_reports self.now report.now) }
+    /// The path that the signal of a report is sent on, asked before the report is taken.
+    pub fn report_path(&self, report: &Report) -> ReportPath
+        ensures { result ≡ reports.report_path (reports.unit_reports self.now report.now) }
     {
         reports::report_path(&self.state, report)
     }

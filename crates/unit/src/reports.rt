@@ -1,18 +1,20 @@
 //! What the unit asks of its device, and what it does with the answers.
 
-ghost use Rattle.std.specs.Prelude.{◌≡◌, ◌==◌, ◌&&◌, None, Some, is_some, true};
+ghost use Rattle.std.specs.Prelude.{◌≡◌, ◌<◌, ◌==◌, ◌&&◌, ◌^◌, ℕ, None, Some, IfSome, is_some, true};
 ghost use Rattle.chan_model.specs.UnitReports as reports;
 ghost use Rattle.chan_model.specs.Sides.{same_side};
 ghost use Rattle.chan_model.specs.UnitTable as table;
 ghost use Rattle.chan_model.specs.declared.signal.Load.TheVariants as load;
 ghost use Rattle.chan_model.specs.declared.signal.Up.TheVariants as up;
 ghost use Rattle.chan_model.specs.declared.unit_state.Place.TheVariants.{On};
-ghost use Rattle.chan_model.specs.declared.unit_state.Progress.TheVariants as progress;
+ghost use Rattle.unit.specs.UnitWords as words;
 
+use crate::parts::{ignored, quietly, sending};
 use bitflags::Flags;
+use chan_model::chunk::Chunk;
 use chan_model::names::{Path, Side};
-use chan_model::report::{DeviceAnswer, Report};
-use chan_model::signal::{Load, OnPath, Up};
+use chan_model::report::{DeviceAnswer, Report, ReportPath};
+use chan_model::signal::{Load, Taken, Up};
 use chan_model::unit_state::{AtHand, Own, Place, Progress, UnitState};
 use scsw_irb::status::DeviceStatus;
 
@@ -44,11 +46,36 @@ fn is_initial(status: DeviceStatus) -> bool
     status == DeviceStatus::CHANNEL_END || status == DeviceStatus::UNIT_CHECK
 }
 
-/// Whether no bytes wait at the device, none will be moved, and no Data is unanswered.
-fn has_moved_all(command: &AtHand) -> bool
-    ensures { result ≡ reports.has_moved_all command.now }
+/// How many bytes of a read are asked for at once.
+pub fn most_of(command: &AtHand) -> u16
+    ensures { result ≡ reports.most_of command.now }
 {
-    command.stopped && command.given.is_none() && command.unanswered.is_none()
+    if command.room > 256 {
+        256
+    } else {
+        command.room
+    }
+}
+
+/// Whether no more bytes will be moved.
+pub fn is_over(command: &AtHand) -> bool
+    ensures { result ≡ reports.is_over command.now }
+{
+    command.stopped || (!is_outward(command.code) && command.room == 0)
+}
+
+/// Whether no bytes wait at the device, and no Data is unanswered.
+fn is_settled(command: &AtHand) -> bool
+    ensures { result ≡ reports.is_settled command.now }
+{
+    command.given.is_none() && command.unanswered.is_none()
+}
+
+/// Whether the device is to supply bytes of a read.
+fn is_to_supply(command: &AtHand) -> bool
+    ensures { result ≡ reports.is_to_supply command.now }
+{
+    !(is_outward(command.code) || is_over(command)) && is_settled(command)
 }
 
 /// Whether the command may end with this status.
@@ -59,14 +86,16 @@ fn may_end(halted: bool, command: &AtHand, status: DeviceStatus, more: bool) -> 
         Progress::New => {
             !more && (is_initial(status) || (halted && status == DeviceStatus::end()))
         }
-        Progress::Working => (halted || has_moved_all(command)) && has_device_end(status),
+        Progress::Working => {
+            (halted || (is_over(command) && is_settled(command))) && has_device_end(status)
+        }
         Progress::ChannelEnded => has_device_end(status) && !has_channel_end(status),
         Progress::Ended => false,
     }
 }
 
 /// Whether a command moves bytes to the device.
-fn is_outward(code: u8) -> bool
+pub fn is_outward(code: u8) -> bool
     ensures { result ≡ reports.is_outward code }
 {
     code % 2 == 1
@@ -79,22 +108,28 @@ fn is_allowed(unit: &UnitState, report: &Report) -> bool
     match &unit.at_hand {
         None => false,
         Some(command) => {
-            report.sequence == command.sequence && is_answer_allowed(unit, command, report.answer)
+            report.sequence == command.sequence && is_answer_allowed(unit, command, &report.answer)
         }
     }
 }
 
 /// Whether the device may answer so, as far as it is with the command.
-fn is_answer_allowed(unit: &UnitState, command: &AtHand, answer: DeviceAnswer) -> bool
-    ensures { result ≡ is_some (reports.answer_taken unit.now 0 0 0 command.now command.now.progress answer) }
+fn is_answer_allowed(unit: &UnitState, command: &AtHand, answer: &DeviceAnswer) -> bool
+    ensures { result ≡ is_some (reports.answer_taken unit.now 0 0 0 command.now command.now.progress answer.now) }
 {
     match (command.progress, answer) {
-        (_, DeviceAnswer::Ended { status, more }) => may_end(unit.halted, command, status, more),
-        (Progress::New, DeviceAnswer::Asks) => is_outward(command.code),
+        (_, DeviceAnswer::Ended { status, more }) => may_end(unit.halted, command, *status, *more),
+        (Progress::New, DeviceAnswer::Begins) => true,
         (Progress::Working, DeviceAnswer::Absorbed(count)) => match &command.given {
             None => false,
-            Some(bytes) => usize::from(count) <= bytes.len(),
+            Some(bytes) => usize::from(*count) <= bytes.len(),
         },
+        (Progress::Working, DeviceAnswer::Supplied(bytes)) => {
+            is_to_supply(command) && bytes.len() <= usize::from(most_of(command))
+        }
+        (Progress::Working, DeviceAnswer::Again) => {
+            command.again && command.unanswered.is_some()
+        }
         _ => false,
     }
 }
@@ -107,10 +142,11 @@ fn is_of(unit: &UnitState, side: Side, number: u64, report: &Report) -> bool
     side.same(report.side) && report.number == number && report.command == unit.last_command
 }
 
-/// What a report does. None where it is stale or against the law of devices, and then nothing changes.
-pub fn reports(unit: &mut UnitState, report: &Report) -> Option<OnPath<Up>>
+/// What a report does. It is not taken where it is stale or against the law of devices, and then nothing changes.
+pub fn reports(unit: &mut UnitState, report: &Report) -> Taken<Up>
+    requires { words.last_sequence unit.old.at_hand < 2 ^ 63 }
     ensures state { unit.new ≡ table.unit_after unit.old (reports.unit_reports unit.old report.now) }
-    ensures sent { result ≡ (table.came_of (reports.unit_reports unit.old report.now)).sent }
+    ensures came { result ≡ table.came_of (reports.unit_reports unit.old report.now) }
 {
     match unit.own {
         Own::Owned {
@@ -120,73 +156,175 @@ pub fn reports(unit: &mut UnitState, report: &Report) -> Option<OnPath<Up>>
         } if is_of(unit, side, number, report) && is_allowed(unit, report) => {
             report_on(unit, number, place, report)
         }
-        _ => None,
+        _ => ignored(),
     }
 }
 
-/// The path that the signal of a report is sent on. None where it is refused.
-pub fn report_path(unit: &UnitState, report: &Report) -> Option<Path>
-    ensures { result ≡ table.answer_path (reports.unit_reports unit.now report.now) }
+/// The path that the signal of a report is sent on, where one is.
+pub fn report_path(unit: &UnitState, report: &Report) -> ReportPath
+    ensures { result ≡ reports.report_path (reports.unit_reports unit.now report.now) }
 {
     match unit.own {
         Own::Owned {
             side,
             number,
-            place: Place::On { path, .. },
-        } if is_of(unit, side, number, report) && is_allowed(unit, report) => Some(path),
-        _ => None,
+            place,
+        } if is_of(unit, side, number, report) && is_allowed(unit, report) => {
+            path_from(unit, place, report)
+        }
+        _ => ReportPath::Refused,
     }
 }
 
-/// What a report does that is allowed: Data or End is sent on the path of the program.
-fn report_on(unit: &mut UnitState, number: u64, place: Place, report: &Report) -> Option<OnPath<Up>>
-    requires { is_some (reports.report_on unit.old 0 (On 0 0) unit.old.at_hand report.now) ≡ true }
-    ensures state { unit.new ≡ table.unit_after unit.old (reports.report_on unit.old number place unit.old.at_hand report.now) }
-    ensures sent { result ≡ (table.came_of (reports.report_on unit.old number place unit.old.at_hand report.now)).sent }
+/// The path of a report that is allowed.
+fn path_from(unit: &UnitState, place: Place, report: &Report) -> ReportPath
+    requires { is_some (reports.report_on unit.now 0 (On 0 0) unit.now.at_hand report.now) ≡ true }
+    ensures { (number : ℕ) → result ≡ reports.report_path (reports.report_on unit.now number place unit.now.at_hand report.now) }
 {
-    let Place::On { path, connection } = place else {
-        return None;
+    let Place::On { path, .. } = place else {
+        return ReportPath::Refused;
     };
-    let last_command = unit.last_command;
-    let command = unit.at_hand.as_mut()?;
-    let signal = match report.answer {
-        DeviceAnswer::Asks => data_sent(command, number, connection, last_command, 0),
-        DeviceAnswer::Absorbed(count) => {
-            data_sent(command, number, connection, last_command, count)
+    match (&unit.at_hand, &report.answer) {
+        (Some(command), DeviceAnswer::Begins) if !is_outward(command.code) => {
+            ReportPath::NothingSent
         }
-        DeviceAnswer::Ended { status, more } => {
-            command.progress = after_end(status);
-            Up::End {
-                number,
-                command: last_command,
-                status,
-                more,
-            }
-        }
-    };
-    Some(OnPath { path, signal })
+        _ => ReportPath::SentOn(path),
+    }
 }
 
-/// The Data of a command, for so many bytes that the device absorbed.
-fn data_sent(
-    command: &mut AtHand,
-    number: u64,
-    connection: u64,
-    last_command: u64,
-    count: u16,
-) -> Up
-    ensures state { command.new ≡ record command.old { progress = progress.Working; given = None; unanswered = Some (load.Absorbed count) } }
-    ensures sent { result ≡ up.Data number connection last_command command.old.sequence (load.Absorbed count) }
+/// What a report does that is allowed: Data or End is sent on the path of the program, or a read is begun.
+fn report_on(unit: &mut UnitState, number: u64, place: Place, report: &Report) -> Taken<Up>
+    requires below { words.last_sequence unit.old.at_hand < 2 ^ 63 }
+    requires allowed { is_some (reports.report_on unit.old 0 (On 0 0) unit.old.at_hand report.now) ≡ true }
+    ensures state { unit.new ≡ table.unit_after unit.old (reports.report_on unit.old number place unit.old.at_hand report.now) }
+    ensures came { result ≡ table.came_of (reports.report_on unit.old number place unit.old.at_hand report.now) }
+{
+    let Place::On { path, connection } = place else {
+        return ignored();
+    };
+    let program = Program {
+        path,
+        number,
+        connection,
+        command: unit.last_command,
+    };
+    let Some(command) = &mut unit.at_hand else {
+        return ignored();
+    };
+    match &report.answer {
+        DeviceAnswer::Begins if is_outward(command.code) => {
+            absorb(command, 0);
+            program.data(command, Load::Absorbed(0))
+        }
+        DeviceAnswer::Begins => {
+            command.progress = Progress::Working;
+            quietly()
+        }
+        DeviceAnswer::Absorbed(count) => {
+            absorb(command, *count);
+            program.data(command, Load::Absorbed(*count))
+        }
+        DeviceAnswer::Supplied(bytes) => {
+            supply(command, bytes);
+            program.data(command, Load::Bytes(bytes.copy()))
+        }
+        DeviceAnswer::Again => {
+            command.again = false;
+            program.data_again(command)
+        }
+        DeviceAnswer::Ended { status, more } => {
+            command.progress = after_end(*status);
+            program.end(*status, *more)
+        }
+    }
+}
+
+/// The device absorbed so many bytes of a write.
+fn absorb(command: &mut AtHand, count: u16)
+    ensures { command.new ≡ reports.with_absorbed command.old count }
 {
     command.progress = Progress::Working;
     command.given = None;
     command.unanswered = Some(Load::Absorbed(count));
-    Up::Data {
-        number,
-        connection,
-        command: last_command,
-        sequence: command.sequence,
-        load: Load::Absorbed(count),
+}
+
+/// The device supplied the next chunk of a read.
+fn supply(command: &mut AtHand, bytes: &Chunk)
+    requires { command.old.sequence < 2 ^ 63 }
+    ensures { command.new ≡ reports.with_supplied command.old bytes.now }
+{
+    command.sequence += 1;
+    command.asked = most_of(command);
+    command.unanswered = Some(Load::Bytes(bytes.copy()));
+}
+
+/// The program that is connected, and its last command.
+#[derive(Clone, Copy)]
+struct Program {
+    path: Path,
+    number: u64,
+    connection: u64,
+    command: u64,
+}
+
+impl Program {
+    /// The Data of the last chunk of the command.
+    fn data(&self, command: &AtHand, load: Load) -> Taken<Up>
+        ensures { result ≡ record {
+          taken = true;
+          sent = Some (record {
+            path = self.now.path;
+            signal = up.Data self.now.number self.now.connection self.now.command command.now.sequence load;
+          });
+        } }
+    {
+        sending(
+            self.path,
+            Up::Data {
+                number: self.number,
+                connection: self.connection,
+                command: self.command,
+                sequence: command.sequence,
+                load,
+            },
+        )
+    }
+
+    /// The Data that was not answered, on the connection at hand.
+    fn data_again(&self, command: &AtHand) -> Taken<Up>
+        ensures { IfSome command.now.unanswered (λ load. result ≡ record {
+          taken = true;
+          sent = Some (record {
+            path = self.now.path;
+            signal = up.Data self.now.number self.now.connection self.now.command command.now.sequence load;
+          });
+        }) }
+    {
+        match &command.unanswered {
+            Some(load) => self.data(command, load.copy()),
+            None => ignored(),
+        }
+    }
+
+    /// The End of the command.
+    fn end(&self, status: DeviceStatus, more: bool) -> Taken<Up>
+        ensures { result ≡ record {
+          taken = true;
+          sent = Some (record {
+            path = self.now.path;
+            signal = up.End self.now.number self.now.command status more;
+          });
+        } }
+    {
+        sending(
+            self.path,
+            Up::End {
+                number: self.number,
+                command: self.command,
+                status,
+                more,
+            },
+        )
     }
 }
 

@@ -3,7 +3,7 @@
 ghost use Rattle.std.specs.Prelude.{◌≡◌, Some};
 ghost use Rattle.chan_model.specs.UnitReports as reports;
 
-use chan_model::chunk::Chunk;
+use crate::reports::{is_outward, is_over, most_of};
 use chan_model::names::Side;
 use chan_model::report::{Call, DeviceAnswer, Report, Work};
 use chan_model::unit_state::{AtHand, Own, Place, Progress, UnitState};
@@ -39,23 +39,29 @@ fn work_at(unit: &UnitState, side: Side, number: u64, command: &AtHand) -> Optio
             command,
             Call::Initial { code: command.code },
         )),
-        Progress::Working if unit.halted => Some(calling(
-            unit,
-            side,
-            number,
-            command,
-            Call::Finish,
-        )),
-        Progress::Working if command.unanswered.is_none() => work_on_bytes(
-            unit, side, number, command,
-        ),
-        Progress::Working => None,
+        Progress::Working if unit.halted => {
+            Some(calling(unit, side, number, command, Call::Finish))
+        }
+        Progress::Working => work_on_data(unit, side, number, command),
         Progress::ChannelEnded => Some(calling(unit, side, number, command, Call::Finish)),
         Progress::Ended => None,
     }
 }
 
-/// The bytes that the device has not absorbed, or else the end of a transfer that was stopped.
+/// A Data that is not answered, which is sent again after a leave; or else bytes.
+fn work_on_data(unit: &UnitState, side: Side, number: u64, command: &AtHand) -> Option<Work>
+    ensures { result ≡ reports.work_on_data unit.now side number command.now command.now.unanswered }
+{
+    match command.unanswered {
+        Some(_) if command.again => {
+            Some(reporting(unit, side, number, command, DeviceAnswer::Again))
+        }
+        Some(_) => None,
+        None => work_on_bytes(unit, side, number, command),
+    }
+}
+
+/// The bytes that the device has not absorbed, or else what the transfer goes on with.
 fn work_on_bytes(unit: &UnitState, side: Side, number: u64, command: &AtHand) -> Option<Work>
     ensures { result ≡ reports.work_on_bytes unit.now side number command.now command.now.given }
 {
@@ -69,8 +75,21 @@ fn work_on_bytes(unit: &UnitState, side: Side, number: u64, command: &AtHand) ->
                 bytes: bytes.copy(),
             },
         )),
-        None if command.stopped => Some(calling(unit, side, number, command, Call::Finish)),
-        None => None,
+        None => work_on_transfer(unit, side, number, command),
+    }
+}
+
+/// The end of a transfer that is over, or else more bytes of a read.
+fn work_on_transfer(unit: &UnitState, side: Side, number: u64, command: &AtHand) -> Option<Work>
+    ensures { result ≡ reports.work_on_transfer unit.now side number command.now }
+{
+    if is_over(command) {
+        Some(calling(unit, side, number, command, Call::Finish))
+    } else if is_outward(command.code) {
+        None
+    } else {
+        let most = most_of(command);
+        Some(calling(unit, side, number, command, Call::Supply { most }))
     }
 }
 
@@ -87,18 +106,32 @@ fn calling(unit: &UnitState, side: Side, number: u64, command: &AtHand, call: Ca
     }
 }
 
-/// The report of a command that was halted before it began.
-fn halted_report(unit: &UnitState, side: Side, number: u64, command: &AtHand) -> Work
-    ensures { Some result ≡ reports.halted_report unit.now side number command.now }
+/// A report without a call.
+fn reporting(
+    unit: &UnitState,
+    side: Side,
+    number: u64,
+    command: &AtHand,
+    answer: DeviceAnswer,
+) -> Work
+    ensures { Some result ≡ reports.reporting unit.now side number command.now answer }
 {
     Work::Report(Report {
         side,
         number,
         command: unit.last_command,
         sequence: command.sequence,
-        answer: DeviceAnswer::Ended {
-            status: DeviceStatus::end(),
-            more: false,
-        },
+        answer,
     })
+}
+
+/// The report of a command that was halted before it began.
+fn halted_report(unit: &UnitState, side: Side, number: u64, command: &AtHand) -> Work
+    ensures { Some result ≡ reports.halted_report unit.now side number command.now }
+{
+    let answer = DeviceAnswer::Ended {
+        status: DeviceStatus::end(),
+        more: false,
+    };
+    reporting(unit, side, number, command, answer)
 }

@@ -93,14 +93,15 @@ impl Line {
 
     /// The unit takes its device's answer.
     pub fn report(&mut self, unit: &mut Unit, report: &Report) -> Result<(), Fault>
+        requires { words.last_sequence unit.old.at_hand < 2 ^ 63 }
         ensures { spec.Gives (spec.both unit.old self.old) (spec.acts_for (spec.both unit.old self.old) (moving.Reports report.now)) result (spec.both unit.new self.new) }
     {
         make_room(&mut self.ups, &mut self.accepted)?;
-        let sent = unit.report(report);
-        if sent.is_none() {
+        let came = unit.report(report);
+        if !came.taken {
             return Err(Fault::NotNow);
         }
-        tell(&mut self.ups, &mut self.accepted, &self.up, sent);
+        tell(&mut self.ups, &mut self.accepted, &self.up, came.sent);
         Ok(())
     }
 }

@@ -13,6 +13,6 @@ returns c =
     ap (λ (s : State). place_of s c.args.word) c.self.view_is ∙ (sym c.place_of.ensures.place ∙ c.in-Some.is) in
     let within : c.in-Some.place < length old.subs =
     subst (λ (s : State). c.in-Some.place < length s.subs) (sym c.self.view_is) c.in-Some.ensures.bound in
-    subst (λ (s : State). Performs s (event.Up c.args.word c.args.path) c.up_sub.result (with_sub old c.in-Some.place c.up_sub.new.sub)) c.self.view_is
-    (up-performs old c.args.word c.args.path c.in-Some.place c.index_mut-sub.result.now c.up_sub.new.sub c.index_mut-sub.result.now c.up_sub.result
+    subst (λ (s : State). Performs s (event.Up c.args.word c.args.path) c.up_sub.result (with_sub (record old { storage = c.up_sub.new.storage }) c.in-Some.place c.up_sub.new.sub)) c.self.view_is
+    (up-performs old c.args.word c.args.path c.in-Some.place c.index_mut-sub.result.now c.up_sub.new.sub c.index_mut-sub.result.now c.up_sub.new.storage c.up_sub.result
     at within c.index_mut-sub.ensures.value c.up_sub.ensures)

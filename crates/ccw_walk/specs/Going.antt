@@ -1,0 +1,16 @@
+-- What a call of a walk does, over all that was done before it.
+use Rattle.std.specs.Prelude.{◌≡◌, ◌<◌, ◌^◌, List, ◌++◌, ⊤}
+use Rattle.orb_block.specs.declared.Orb.{Orb}
+use Rattle.channel_program.specs.declared.Reading.{Reading}
+use Rattle.channel_program.specs.declared.Reading.TheVariants.{Transfers}
+use Rattle.channel_program.specs.Acts.{Act}
+use Rattle.channel_program.specs.Walks.{Place, place}
+
+-- wherever what was done before led to the old place, some acts more lead to the new one
+abbrev pub GoesOn : Place → List Act → Place → Type 0
+GoesOn old acts new = (orb : Orb) (before : List Act) → old ≡ place orb before → new ≡ place orb (acts ++ before)
+
+-- the target of a transfer in channel has 31 bits
+abbrev pub IsTargetInRange : Reading → Type 0
+IsTargetInRange (Transfers target) = target < 2 ^ 31
+IsTargetInRange reading = ⊤

@@ -1,0 +1,130 @@
+-- How a program goes on.
+use Rattle.std.proofs.Common.{◌≡◌, refl, ap, sym, ◌∙◌, subst, ℕ, Bool, true, false, ◌||◌, ◌&&◌, if◌then◌else◌, List, [], ◌∷◌, ◌++◌, Option, Some, None, Result, Ok, Err, IsSome}
+use Rattle.orb_block.specs.declared.Orb.{Orb}
+use Rattle.ccw_codec.specs.declared.Ccw.{Ccw}
+use Rattle.ccw_codec.specs.declared.CcwFault.{CcwFault}
+use Rattle.ccw_codec.specs.Block.{ccw_of, fault_of}
+use Rattle.ccw_codec.specs.Command.{is_transfer}
+use Rattle.storage_keys.specs.declared.StorageFault.{StorageFault}
+use Rattle.storage_keys.specs.Storage.{Contents, fetched}
+use Rattle.channel_program.specs.declared.check.Check.{Check}
+use Rattle.channel_program.specs.declared.check.Check.TheVariants.{Program}
+use Rattle.channel_program.specs.Checks.{check_of}
+use Rattle.channel_program.specs.declared.Advance.{Advance}
+use Rattle.channel_program.specs.declared.Role.{Role}
+use Rattle.channel_program.specs.declared.Reading.{Reading}
+use Rattle.channel_program.specs.declared.Reading.TheVariants.{Transfers, Takes, Suspends, Shows}
+use Rattle.channel_program.specs.Acts.{Act, Block, Unfetched, Used_up, End, Connected, Took, Word, Moved}
+use Rattle.channel_program.specs.Blocks.{reads, block_reads, command_reads, transfer_reads, is_misplaced_command, format_of}
+use Rattle.channel_program.specs.Programs.{next as next_of, next_after, role_of, role_after, IsProgram}
+use Rattle.channel_program.specs.Walks.{Place, place, after, after_block, after_acts, is_program_misplaced, act_of_fetch, fetch_act, with_target, acts_from, acts_at, block_advance, act_advance, advance_of}
+
+-- the place some acts further
+pub after-place : (orb : Orb) (before : List Act) (act : Act) → after (place orb before) act ≡ place orb (act ∷ before)
+after-place orb before (Block address bytes) = refl
+after-place orb before (Unfetched address check) = refl
+after-place orb before Used_up = refl
+after-place orb before (End ended) = refl
+after-place orb before (Connected number) = refl
+after-place orb before (Took number code) = refl
+after-place orb before (Word word) = refl
+after-place orb before (Moved chunk) = refl
+
+pub after_acts-place : (orb : Orb) (before acts : List Act) → after_acts (place orb before) acts ≡ place orb (acts ++ before)
+after_acts-place orb before [] = refl
+after_acts-place orb before (act ∷ acts) = ap (λ (p : Place). after p act) (after_acts-place orb before acts) ∙ after-place orb (acts ++ before) act
+
+-- a block is fetched, or cannot be
+fetch_or_check : (P : Act → Type 0) (test : Bool) (address : ℕ) (answer : Result (List ℕ) StorageFault) → ((bytes : List ℕ) → P (Block address bytes)) → ((check : Check) → P (Unfetched address check))
+    → P (if test then Unfetched address Program else act_of_fetch address answer)
+fetch_or_check P true address answer b u = u Program
+fetch_or_check P false address (Ok bytes) b u = b bytes
+fetch_or_check P false address (Err fault) b u = u (check_of fault)
+
+fetch_cases : (P : Act → Type 0) (storage : Contents) (orb : Orb) (role : Role) (address : ℕ) → ((bytes : List ℕ) → P (Block address bytes)) → ((check : Check) → P (Unfetched address check)) → P (fetch_act storage orb role address)
+fetch_cases P storage orb role address b u = fetch_or_check P (role.first && is_program_misplaced orb address) address (fetched storage orb.key address 8) b u
+
+-- a transfer in channel is followed by the block at its target
+follows_block : (storage : Contents) (now : Place) (acts : List Act) (address target : ℕ) (reading : Reading) → block_advance reading ≡ None → next_after address reading ≡ Some target
+    → with_target storage now reading acts ≡ fetch_act storage now.orb now.role target ∷ acts
+follows_block storage now acts address target (Transfers other) h n =
+    let same : other ≡ target = cc n in
+    ap (λ (t : ℕ). fetch_act storage now.orb now.role t ∷ acts) same
+follows_block storage now acts address target (Takes ccw) h n = absurd (cc h)
+follows_block storage now acts address target Suspends h n = absurd (cc h)
+follows_block storage now acts address target Shows h n = absurd (cc h)
+
+pub follows : (storage : Contents) (old : Place) (address target : ℕ) → let act = fetch_act storage old.orb old.role address in
+    act_advance old act ≡ None → (after old act).next ≡ Some target → acts_from storage old act ≡ fetch_act storage (after old act).orb (after old act).role target ∷ act ∷ []
+follows storage old address target =
+    fetch_cases (λ act. act_advance old act ≡ None → (after old act).next ≡ Some target → acts_from storage old act ≡ fetch_act storage (after old act).orb (after old act).role target ∷ act ∷ []) storage old.orb old.role address
+    (λ bytes h n. follows_block storage (after_block old address bytes) (Block address bytes ∷ []) address target (reads old.orb old.role bytes) h n)
+    (λ check h n. absurd (cc h))
+
+-- a transfer in channel says of the block at its target that it is one
+role_moves : (reading : Reading) (role : Role) → block_advance reading ≡ None → (role_after role reading).after_transfer ≡ true
+role_moves (Transfers target) role h = refl
+role_moves (Takes ccw) role h = absurd (cc h)
+role_moves Suspends role h = absurd (cc h)
+role_moves Shows role h = absurd (cc h)
+
+-- and there the program stands still, since that one is no transfer in channel
+pick : (test : Bool) (left right : Reading) → IsSome (block_advance left) → IsSome (block_advance right) → IsSome (block_advance (if test then left else right))
+pick true left right l r = l
+pick false left right l r = r
+
+transfer_stands : (first moved : Bool) (target : ℕ) → moved ≡ true → IsSome (block_advance (if first || moved then Shows else Transfers target))
+transfer_stands true moved target h = refl
+transfer_stands false true target h = refl
+transfer_stands false false target h = absurd (cc h)
+
+block_stands : (orb : Orb) (role : Role) (fault : Option CcwFault) (ccw : Ccw) → role.after_transfer ≡ true → IsSome (block_advance (block_reads orb role fault ccw))
+block_stands orb role (Some fault) ccw h = refl
+block_stands orb role None ccw h =
+    pick (is_transfer (format_of orb) ccw.command) (transfer_reads role ccw) (command_reads orb role ccw) (transfer_stands role.first role.after_transfer ccw.address h)
+    (pick (is_misplaced_command orb role ccw) Shows (if ccw.suspend then Suspends else Takes ccw) refl (pick ccw.suspend Suspends (Takes ccw) refl refl))
+
+reading_stands : (orb : Orb) (role : Role) (bytes : List ℕ) → role.after_transfer ≡ true → IsSome (block_advance (reads orb role bytes))
+reading_stands orb role bytes h =
+    pick (role.first && orb.modified_words) Shows (block_reads orb role (fault_of (format_of orb) bytes) (ccw_of (format_of orb) bytes)) refl (block_stands orb role (fault_of (format_of orb) bytes) (ccw_of (format_of orb) bytes) h)
+
+act_stands : (storage : Contents) (old : Place) (address : ℕ) → old.role.after_transfer ≡ true → IsSome (act_advance old (fetch_act storage old.orb old.role address))
+act_stands storage old address h =
+    fetch_cases (λ act. IsSome (act_advance old act)) storage old.orb old.role address (λ bytes. reading_stands old.orb old.role bytes h) (λ check. refl)
+
+target_stands : (storage : Contents) (old now : Place) (acts : List Act) (reading : Reading) → now ≡ after_acts old acts → advance_of old acts ≡ block_advance reading → (block_advance reading ≡ None → now.role.after_transfer ≡ true)
+    → IsSome (advance_of old (with_target storage now reading acts))
+target_stands storage old now acts (Transfers target) n a t =
+    subst (λ (p : Place). IsSome (act_advance p (fetch_act storage now.orb now.role target))) n (act_stands storage now target (t refl))
+target_stands storage old now acts (Takes ccw) n a t = subst (λ (x : Option Advance). IsSome x) (sym a) refl
+target_stands storage old now acts Suspends n a t = subst (λ (x : Option Advance). IsSome x) (sym a) refl
+target_stands storage old now acts Shows n a t = subst (λ (x : Option Advance). IsSome x) (sym a) refl
+
+pub advance_stands : (storage : Contents) (old : Place) (next : Option ℕ) → IsSome next → IsSome (advance_of old (acts_at storage old next))
+advance_stands storage old None s = absurd (cc s)
+advance_stands storage old (Some address) s =
+    fetch_cases (λ act. IsSome (advance_of old (acts_from storage old act))) storage old.orb old.role address
+    (λ bytes. target_stands storage old (after_block old address bytes) (Block address bytes ∷ []) (reads old.orb old.role bytes) refl refl (λ h. role_moves (reads old.orb old.role bytes) old.role h))
+    (λ check. refl)
+
+pub rests : (storage : Contents) (old : Place) (next : Option ℕ) → IsSome (advance_of old (acts_at storage old next)) → IsSome next
+rests storage old None s = s
+rests storage old (Some address) s = refl
+
+-- each block is where what was done before says
+program_target : (storage : Contents) (orb : Orb) (now : Place) (acts before : List Act) (reading : Reading) → IsProgram orb (acts ++ before)
+    → ((target : ℕ) → reading ≡ Transfers target → next_of orb (acts ++ before) ≡ Some target) → IsProgram orb (with_target storage now reading acts ++ before)
+program_target storage orb now acts before (Transfers target) p n =
+    fetch_cases (λ act. IsProgram orb (act ∷ (acts ++ before))) storage now.orb now.role target (λ bytes. (n target refl, p)) (λ check. (n target refl, p))
+program_target storage orb now acts before (Takes ccw) p n = p
+program_target storage orb now acts before Suspends p n = p
+program_target storage orb now acts before Shows p n = p
+
+pub program_advance : (storage : Contents) (orb : Orb) (before : List Act) (next : Option ℕ) → next_of orb before ≡ next → IsProgram orb before → IsProgram orb (acts_at storage (place orb before) next ++ before)
+program_advance storage orb before None e p = p
+program_advance storage orb before (Some address) e p =
+    fetch_cases (λ act. IsProgram orb (acts_from storage (place orb before) act ++ before)) storage orb (role_of orb before) address
+    (λ bytes.
+    program_target storage orb (after_block (place orb before) address bytes) (Block address bytes ∷ []) before (reads orb (role_of orb before) bytes) (e, p)
+    (λ target h. ap (next_after address) h))
+    (λ check. (e, p))

@@ -1,0 +1,11 @@
+use Rattle.std.proofs.Common.{◌∙◌, ap}
+use Rattle.channel_program.specs.Walks.{acts_at}
+use Rattle.channel_program.proofs.Advances.{follows, advance_stands, rests}
+use Rattle.channel_program.proofs.law.advances.Goals as goal
+
+pub returns-clause-two : goal.returns-clause-two
+returns-clause-two c = λ storage old address target there moves next.
+    ap (acts_at storage old) there ∙ follows storage old address target moves next
+
+pub returns-clause-stands : goal.returns-clause-stands
+returns-clause-stands c = λ storage old. (rests storage old old.next, advance_stands storage old old.next)

@@ -1,0 +1,26 @@
+-- What is done for one start, act by act (SA22-7832, chapter 15). A list of acts has the latest first.
+use Rattle.std.specs.Prelude.{ℕ, List, Option}
+use Rattle.channel_program.specs.declared.check.Check.{Check}
+use Rattle.channel_program.specs.declared.Ended.{Ended}
+
+-- bytes that were moved: storage as it stood, the place of each byte, and the bytes. A byte that is
+-- skipped has no place
+pub record Chunk : Type 0 where
+  pub storage : List ℕ
+  pub places : List (Option ℕ)
+  pub bytes : List ℕ
+
+pub data Act : Type 0 where
+  -- a block was fetched, or could not be
+  Block : (address : ℕ) → (bytes : List ℕ) → Act
+  Unfetched : (address : ℕ) → (check : Check) → Act
+  -- the count of the block that took control last is used up
+  Used_up : Act
+  -- the command ended
+  End : (ended : Ended) → Act
+  -- the program was offered to the device under a number, and the device took a command under it
+  Connected : (number : ℕ) → Act
+  Took : (number : ℕ) → (code : ℕ) → Act
+  -- an indirect word was fetched, and bytes were moved
+  Word : (word : ℕ) → Act
+  Moved : (chunk : Chunk) → Act

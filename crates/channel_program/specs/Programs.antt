@@ -1,0 +1,106 @@
+-- A program in storage, told from what was done for its start, the latest act first: which block is
+-- next, and which commands the blocks are (SA22-7832, chapter 15).
+use Rattle.std.specs.Prelude.{◌≡◌, ℕ, ◌+◌, ◌&&◌, not, Bool, true, false, if◌then◌else◌, List, [], ◌∷◌, Option, None, Some, ⊤}
+use Rattle.orb_block.specs.declared.Orb.{Orb}
+use Rattle.ccw_codec.specs.declared.Ccw.{Ccw}
+use Rattle.channel_program.specs.declared.Role.{Role}
+use Rattle.channel_program.specs.declared.Latest.{Latest}
+use Rattle.channel_program.specs.declared.Ended.{Ended}
+use Rattle.channel_program.specs.declared.Reading.{Reading}
+use Rattle.channel_program.specs.declared.Reading.TheVariants.{Transfers, Takes, Suspends, Shows}
+use Rattle.channel_program.specs.Blocks.{reads}
+use Rattle.channel_program.specs.Acts.{Act, Block, Unfetched, Used_up, End}
+
+-- the role of the next block: the blocks before tell it, suspended ones apart
+abbrev pub role_after : Role → Reading → Role
+role_after role (Transfers target) = record { first = false; after_transfer = true; chained = role.chained }
+role_after role (Takes ccw) = record { first = false; after_transfer = false; chained = ccw.chain_data }
+role_after role Suspends = role
+role_after role Shows = role
+
+abbrev pub role_of : Orb → List Act → Role
+role_of orb [] = record { first = true; after_transfer = false; chained = false }
+role_of orb (Block address bytes ∷ before) = role_after (role_of orb before) (reads orb (role_of orb before) bytes)
+role_of orb (act ∷ before) = role_of orb before
+
+-- the last block that took control
+abbrev pub latest_after : Option Latest → ℕ → Reading → Option Latest
+latest_after last address (Takes ccw) = Some (record { address = address; ccw = ccw })
+latest_after last address reading = last
+
+abbrev pub latest : Orb → List Act → Option Latest
+latest orb [] = None
+latest orb (Block address bytes ∷ before) = latest_after (latest orb before) address (reads orb (role_of orb before) bytes)
+latest orb (act ∷ before) = latest orb before
+
+-- after a transfer in channel the next block is at its target, and after a suspension at the same
+-- address again. A block that shows a check ends the program
+abbrev pub next_after : ℕ → Reading → Option ℕ
+next_after address (Transfers target) = Some target
+next_after address (Takes ccw) = None
+next_after address Suspends = Some address
+next_after address Shows = None
+
+-- where data is chained, the next block is 8 bytes on once the count is used up
+abbrev pub next_used_up : Option Latest → Option ℕ
+next_used_up None = None
+next_used_up (Some last) = if last.ccw.chain_data then Some (last.address + 8) else None
+
+-- where commands are chained, and data is not, it is 8 bytes on once the command ended, and 16 with
+-- status modifier
+abbrev pub next_ended : Option Latest → Ended → Option ℕ
+next_ended None ended = None
+next_ended (Some last) ended =
+    if ended.goes_on && (last.ccw.chain_command && not last.ccw.chain_data)
+    then Some (if ended.modifier then last.address + 16 else last.address + 8)
+    else None
+
+-- where the next block is, if one is to be fetched now
+abbrev pub next : Orb → List Act → Option ℕ
+next orb [] = Some orb.program
+next orb (Block address bytes ∷ before) = next_after address (reads orb (role_of orb before) bytes)
+next orb (Unfetched address check ∷ before) = None
+next orb (Used_up ∷ before) = next_used_up (latest orb before)
+next orb (End ended ∷ before) = next_ended (latest orb before) ended
+next orb (act ∷ before) = next orb before
+
+-- the address that the subchannel status shows: 8 bytes past the last block whose fetch was tried, and
+-- before any that of the program (chapter 16)
+abbrev pub tried : Orb → List Act → ℕ
+tried orb [] = orb.program
+tried orb (Block address bytes ∷ before) = address + 8
+tried orb (Unfetched address check ∷ before) = address + 8
+tried orb (act ∷ before) = tried orb before
+
+-- each block is where the acts before it say, and a count is used up, or a command ends, only where no
+-- block is to be fetched
+abbrev pub IsProgram : Orb → List Act → Type 0
+IsProgram orb [] = ⊤
+IsProgram orb (Block address bytes ∷ before) = (next orb before ≡ Some address) × IsProgram orb before
+IsProgram orb (Unfetched address check ∷ before) = (next orb before ≡ Some address) × IsProgram orb before
+IsProgram orb (Used_up ∷ before) = (next orb before ≡ None) × IsProgram orb before
+IsProgram orb (End ended ∷ before) = (next orb before ≡ None) × IsProgram orb before
+IsProgram orb (act ∷ before) = IsProgram orb before
+
+-- a command: a block that took control, and those that data was chained to, the latest first
+pub record Command : Type 0 where
+  pub first : Ccw
+  pub more : List Ccw
+
+abbrev pub join_last : List Command → Ccw → List Command
+join_last [] ccw = []
+join_last (command ∷ before) ccw = record { first = command.first; more = ccw ∷ command.more } ∷ before
+
+abbrev pub commands_after : Bool → List Command → Reading → List Command
+commands_after chained before (Takes ccw) = if chained then join_last before ccw else record { first = ccw; more = [] } ∷ before
+commands_after chained before reading = before
+
+-- the commands of a program, the latest first
+abbrev pub commands : Orb → List Act → List Command
+commands orb [] = []
+commands orb (Block address bytes ∷ before) = commands_after (role_of orb before).chained (commands orb before) (reads orb (role_of orb before) bytes)
+commands orb (act ∷ before) = commands orb before
+
+-- the code of a command is that of its first block
+abbrev pub code : Command → ℕ
+code command = command.first.command

@@ -1,0 +1,115 @@
+-- Where a program stands, and how it goes on (SA22-7832, chapter 15).
+use Rattle.std.specs.Prelude.{ℕ, ◌+◌, ◌%◌, ◌^◌, ◌==◌, ◌&&◌, ◌||◌, not, nat_le, Bool, if◌then◌else◌, List, [], ◌∷◌, Option, None, Some, Result, Ok, Err}
+use Rattle.orb_block.specs.declared.Orb.{Orb}
+use Rattle.storage_keys.specs.declared.StorageFault.{StorageFault}
+use Rattle.storage_keys.specs.Storage.{Contents, fetched}
+use Rattle.channel_program.specs.declared.check.Check.TheVariants.{Program}
+use Rattle.channel_program.specs.declared.Role.{Role}
+use Rattle.channel_program.specs.declared.Latest.{Latest}
+use Rattle.channel_program.specs.declared.Ended.{Ended}
+use Rattle.channel_program.specs.declared.Reading.{Reading}
+use Rattle.channel_program.specs.declared.Reading.TheVariants as reading
+use Rattle.channel_program.specs.declared.Advance.{Advance}
+use Rattle.channel_program.specs.declared.Advance.TheVariants.{Takes, Suspends, Stops}
+use Rattle.channel_program.specs.Checks.{check_of}
+use Rattle.channel_program.specs.Blocks.{reads}
+use Rattle.channel_program.specs.Acts.{Act, Block, Unfetched, Used_up, End}
+use Rattle.channel_program.specs.Programs.{role_of, role_after, latest as latest_of, latest_after, next as next_of, next_after, next_used_up, next_ended, tried as tried_of}
+
+-- where a program stands: what is to be known of the acts so far
+pub record Place : Type 0 where
+  pub orb : Orb
+  pub role : Role
+  pub latest : Option Latest
+  pub next : Option ℕ
+  pub tried : ℕ
+
+abbrev pub place : Orb → List Act → Place
+place orb acts = record { orb = orb; role = role_of orb acts; latest = latest_of orb acts; next = next_of orb acts; tried = tried_of orb acts }
+
+-- the place one act further
+abbrev pub after_block : Place → ℕ → List ℕ → Place
+after_block old address bytes =
+    record {
+      orb = old.orb;
+      role = role_after old.role (reads old.orb old.role bytes);
+      latest = latest_after old.latest address (reads old.orb old.role bytes);
+      next = next_after address (reads old.orb old.role bytes);
+      tried = address + 8;
+    }
+
+abbrev pub after_unfetched : Place → ℕ → Place
+after_unfetched old address = record old { next = None; tried = address + 8 }
+
+abbrev pub after_used_up : Place → Place
+after_used_up old = record old { next = next_used_up old.latest }
+
+abbrev pub after_end : Place → Ended → Place
+after_end old ended = record old { next = next_ended old.latest ended }
+
+abbrev pub after : Place → Act → Place
+after old (Block address bytes) = after_block old address bytes
+after old (Unfetched address check) = after_unfetched old address
+after old Used_up = after_used_up old
+after old (End ended) = after_end old ended
+after old act = old
+
+-- the place some acts further, the latest first
+abbrev pub after_acts : Place → List Act → Place
+after_acts old [] = old
+after_acts old (act ∷ acts) = after (after_acts old acts) act
+
+-- Fetching
+
+-- the address of a program is off a doubleword boundary, or has more than the 24 bits of format 0 (own)
+abbrev pub is_program_misplaced : Orb → ℕ → Bool
+is_program_misplaced orb address = not (address % 8 == 0) || not orb.format_one && nat_le (2 ^ 24) address
+
+abbrev pub act_of_fetch : ℕ → Result (List ℕ) StorageFault → Act
+act_of_fetch address (Ok bytes) = Block address bytes
+act_of_fetch address (Err fault) = Unfetched address (check_of fault)
+
+-- a block is fetched with the key of the operation-request block; the first is tested first
+abbrev pub fetch_act : Contents → Orb → Role → ℕ → Act
+fetch_act storage orb role address =
+    if role.first && is_program_misplaced orb address then Unfetched address Program
+    else act_of_fetch address (fetched storage orb.key address 8)
+
+-- Going on
+
+-- after a transfer in channel the block at its target is fetched too
+abbrev pub with_target : Contents → Place → Reading → List Act → List Act
+with_target storage now (reading.Transfers target) acts = fetch_act storage now.orb now.role target ∷ acts
+with_target storage now (reading.Takes ccw) acts = acts
+with_target storage now reading.Suspends acts = acts
+with_target storage now reading.Shows acts = acts
+
+abbrev pub acts_from : Contents → Place → Act → List Act
+acts_from storage old (Block address bytes) =
+    with_target storage (after_block old address bytes) (reads old.orb old.role bytes) (Block address bytes ∷ [])
+acts_from storage old act = act ∷ []
+
+abbrev pub acts_at : Contents → Place → Option ℕ → List Act
+acts_at storage old None = []
+acts_at storage old (Some address) = acts_from storage old (fetch_act storage old.orb old.role address)
+
+-- the acts by which a program goes on, where a block is next: that it is fetched, and where it is a
+-- transfer in channel, that the block at its target is. That one is no transfer, so there are at most two
+abbrev pub advance_acts : Contents → Place → List Act
+advance_acts storage old = acts_at storage old old.next
+
+-- what a block, an act and some acts come to; nothing as long as the program does not stand still
+abbrev pub block_advance : Reading → Option Advance
+block_advance (reading.Transfers target) = None
+block_advance (reading.Takes ccw) = Some (Takes ccw)
+block_advance reading.Suspends = Some Suspends
+block_advance reading.Shows = Some (Stops Program)
+
+abbrev pub act_advance : Place → Act → Option Advance
+act_advance old (Block address bytes) = block_advance (reads old.orb old.role bytes)
+act_advance old (Unfetched address check) = Some (Stops check)
+act_advance old act = None
+
+abbrev pub advance_of : Place → List Act → Option Advance
+advance_of old [] = None
+advance_of old (act ∷ acts) = act_advance (after_acts old acts) act

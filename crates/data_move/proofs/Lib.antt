@@ -1,0 +1,3 @@
+pub mod AccessLemmas
+pub mod ListLemmas
+pub mod PieceLemmas

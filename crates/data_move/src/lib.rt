@@ -1,0 +1,10 @@
+//! The data of a command word that took control: where its bytes are, and how far they are moved
+//! (SA22-7832, chapter 15).
+#![tactic(auto)]
+
+pub mod law;
+#[cfg(test)]
+mod many_lists;
+pub mod moving;
+#[cfg(test)]
+mod tests;

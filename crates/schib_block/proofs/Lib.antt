@@ -1,0 +1,2 @@
+pub mod SchibLemmas
+pub mod Written

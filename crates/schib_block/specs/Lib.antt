@@ -1,0 +1,4 @@
+pub mod SchibTable
+pub mod Reading
+pub mod Modify
+pub mod Ranges

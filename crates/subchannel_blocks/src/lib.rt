@@ -1,0 +1,160 @@
+//! The subchannel-information block of a subchannel, and what MODIFY SUBCHANNEL leaves of it (SA22-7832, chapters 14
+//! and 15).
+#![tactic(auto)]
+
+ghost use Rattle.std.specs.Prelude.{◌≡◌, ◌<◌, ◌≤◌, ◌^◌, ◌+◌, ◌-◌, nat_lt, slice_index};
+ghost use Rattle.schib_block.specs.Modify.{IsAllowed};
+ghost use Rattle.machine_model.specs.SubchannelBlocks as spec;
+ghost use Rattle.machine_model.specs.Choosing.{each_path};
+
+use chan_model::paths::{PathSet, mask_of_path, mask_of_paths, paths_of_mask};
+use machine_model::state::{Pmcw, Subchannel, SubchannelState};
+use schib_block::pmcw;
+use schib_block::schib::Schib;
+use zbits::set_field;
+
+/// The paths below a number.
+fn paths_below(count: usize) -> PathSet
+    ensures { result ≡ each_path (λ path. nat_lt path count) }
+{
+    [
+        0 < count,
+        1 < count,
+        2 < count,
+        3 < count,
+        4 < count,
+        5 < count,
+        6 < count,
+        7 < count,
+    ]
+}
+
+fn chpid_at(paths: &[u8], index: usize) -> u8
+    ensures { result ≡ slice_index paths.now index }
+{
+    match paths.get(index) {
+        Some(chpid) => *chpid,
+        None => 0,
+    }
+}
+
+fn chpids_of(paths: &[u8]) -> [u8; 8]
+    ensures { result ≡ spec.chpids_of paths.now }
+{
+    [
+        chpid_at(paths, 0),
+        chpid_at(paths, 1),
+        chpid_at(paths, 2),
+        chpid_at(paths, 3),
+        chpid_at(paths, 4),
+        chpid_at(paths, 5),
+        chpid_at(paths, 6),
+        chpid_at(paths, 7),
+    ]
+}
+
+/// The path-management-control word of a subchannel: V is one, and what there is not (limits, measurement, timing and
+/// concurrent sense) is zero.
+pub fn pmcw_of(sub: &Subchannel) -> pmcw::Pmcw
+    ensures { result ≡ spec.pmcw_of sub.now }
+{
+    let state = sub.state.pmcw;
+    let paths = sub.setup.paths.as_slice();
+    let installed = mask_of_paths(paths_below(paths.len()));
+    pmcw::Pmcw {
+        parameter: state.parameter,
+        subclass: state.subclass,
+        enabled: state.enabled,
+        limit_mode: 0,
+        measurement_mode: 0,
+        multipath: state.multipath,
+        timing: false,
+        valid: true,
+        device_number: sub.setup.device,
+        logical: mask_of_paths(state.logical),
+        not_operational: mask_of_paths(state.not_operational),
+        last_used: mask_of_path(state.last_used),
+        installed,
+        measurement_block: 0,
+        operational: mask_of_paths(state.operational),
+        available: installed,
+        chpids: chpids_of(paths),
+        concurrent_sense: false,
+    }
+}
+
+/// What STORE SUBCHANNEL stores.
+pub fn schib_of(sub: &Subchannel) -> Schib
+    ensures { result ≡ spec.schib_of sub.now }
+{
+    Schib {
+        pmcw: pmcw_of(sub),
+        scsw: sub.state.scsw,
+    }
+}
+
+fn with_word(state: Pmcw, word: &pmcw::Pmcw) -> Pmcw
+    ensures { result ≡ spec.with_word state word.now }
+{
+    let mut pmcw = state;
+    pmcw.parameter = word.parameter;
+    pmcw.subclass = word.subclass;
+    pmcw.enabled = word.enabled;
+    pmcw.multipath = word.multipath;
+    pmcw.logical = paths_of_mask(word.logical);
+    pmcw.operational = paths_of_mask(word.operational);
+    pmcw
+}
+
+/// The state after MODIFY SUBCHANNEL with code 0, which was given this word.
+pub fn modified_state(sub: &Subchannel, given: &pmcw::Pmcw) -> SubchannelState
+    requires { IsAllowed given.now }
+    ensures { result ≡ spec.modified_state sub.now given.now }
+{
+    let mut word = pmcw_of(sub);
+    let _ = word.modify(given);
+    SubchannelState {
+        pmcw: with_word(sub.state.pmcw, &word),
+        ..sub.state
+    }
+}
+
+/// The word with ISC, D and E one placed in it. Of `subclass` the three rightmost bits are placed.
+fn enabling(word: pmcw::Pmcw, subclass: u8, multipath: bool) -> pmcw::Pmcw
+    ensures { result ≡ spec.enabling word subclass multipath }
+{
+    let mut enabling = word;
+    enabling.subclass = subclass % 8;
+    enabling.enabled = true;
+    enabling.multipath = multipath;
+    enabling
+}
+
+/// What STORE SUBCHANNEL stores, with ISC, D and E one placed in it.
+pub fn enabling_schib(sub: &Subchannel, subclass: u8, multipath: bool) -> Schib
+    ensures { result ≡ spec.enabling_schib sub.now subclass multipath }
+{
+    Schib {
+        pmcw: enabling(pmcw_of(sub), subclass, multipath),
+        scsw: sub.state.scsw,
+    }
+}
+
+/// A word with a number at the bits `first` to `last`.
+fn with_field(word: u32, first: u32, last: u32, value: u32) -> u32
+    requires ordered { first ≤ last }
+    requires within { last < 32 }
+    requires fits { value < 2 ^ (last + 1 - first) }
+    ensures { result ≡ spec.with_field word first last value }
+{
+    set_field(word, first, last, value)
+}
+
+/// The second word of a block, with ISC (bits 2 to 4), E one (bit 8) and D (bit 13) placed in it.
+pub fn enabling_word(word: u32, subclass: u8, multipath: bool) -> u32
+    ensures { result ≡ spec.enabling_word word subclass multipath }
+{
+    let word = with_field(word, 2, 4, u32::from(subclass % 8));
+    let word = with_field(word, 8, 8, 1);
+    with_field(word, 13, 13, u32::from(multipath))
+}

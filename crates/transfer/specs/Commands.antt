@@ -1,0 +1,97 @@
+-- How a command of a channel program begins (SA22-7832, chapter 15).
+use Rattle.std.specs.Prelude.{ℕ, ◌+◌, Bool, true, false, not, ◌&&◌, ◌||◌, if◌then◌else◌, Option, None, Some, is_some, List, [], Result, Ok, Err}
+use Rattle.orb_block.specs.declared.Orb.{Orb}
+use Rattle.ccw_codec.specs.declared.Ccw.{Ccw}
+use Rattle.ccw_codec.specs.declared.Class.{Class}
+use Rattle.ccw_codec.specs.declared.Class.TheVariants as class
+use Rattle.ccw_codec.specs.Command.{class_of}
+use Rattle.storage_keys.specs.Storage.{Contents}
+use Rattle.chan_model.specs.UnitReports.{is_outward}
+use Rattle.channel_program.specs.declared.check.Check.{Check}
+use Rattle.channel_program.specs.declared.check.Check.TheVariants.{Program}
+use Rattle.channel_program.specs.declared.Advance.{Advance}
+use Rattle.channel_program.specs.declared.Advance.TheVariants.{Takes, Suspends, Stops}
+use Rattle.channel_program.specs.Walks.{Place, place, after_acts, after_end, advance_acts, advance_of}
+use Rattle.idaw.specs.Lists.{kind_of}
+use Rattle.data_move.specs.Moving as movement
+use Rattle.data_move.specs.Moving.{Moving}
+use Rattle.data_move.specs.Accesses as access
+use Rattle.transfer.specs.declared.Transfer.{Transfer}
+use Rattle.transfer.specs.declared.Beginning.{Beginning}
+use Rattle.transfer.specs.declared.Roomy.{Roomy}
+
+-- SKIP has an effect where bytes come in
+abbrev pub is_skipped : ℕ → Ccw → Bool
+is_skipped code ccw = ccw.skip && not (is_outward code)
+
+-- the data of a block that took control in a command of this code
+abbrev pub data_of : Place → ℕ → Ccw → Moving
+data_of walk code ccw = movement.begun (kind_of walk.orb) ccw (is_skipped code ccw)
+
+abbrev pub command_of : Place → ℕ → Ccw → Transfer
+command_of walk n ccw = record {
+  command = n;
+  code = ccw.command;
+  walk = walk;
+  moving = data_of walk ccw.command ccw;
+  sequence = 0;
+  offered = 0;
+  stopped = false;
+  fault = None;
+  ended = false;
+  unchained = false;
+}
+
+-- interruptions by the program and suspension are not served yet: a program check (own)
+abbrev pub begins : Place → ℕ → Option Advance → Result Transfer Check
+begins walk n (Some (Takes ccw)) = if ccw.program_controlled then Err Program else Ok (command_of walk n ccw)
+begins walk n (Some Suspends) = Err Program
+begins walk n (Some (Stops check)) = Err check
+begins walk n None = Err Program
+
+abbrev pub beginning_of : Place → ℕ → Option Advance → Beginning
+beginning_of walk n advance = record { tried = walk.tried; came = begins walk n advance }
+
+-- the command that a program goes on to from a place
+abbrev pub goes_to : Contents → ℕ → Place → Beginning
+goes_to storage n old =
+    let acts = advance_acts storage old in
+    beginning_of (after_acts old acts) n (advance_of old acts)
+
+-- the first command of a program, and the next after one that ended, with status modifier or without
+abbrev pub first_command : Contents → Orb → Beginning
+first_command storage orb = goes_to storage 1 (place orb [])
+
+abbrev pub next_command : Contents → Transfer → Bool → Beginning
+next_command storage t modifier = goes_to storage (t.command + 1) (after_end t.walk (record { goes_on = true; modifier = modifier }))
+
+-- the next word of an indirect list is fetched where it is needed; where it can't be, that is a fault
+abbrev pub with_located : Transfer → Result Moving Check → Transfer
+with_located t (Ok moving) = record t { moving = moving }
+with_located t (Err check) = record t { fault = Some check }
+
+abbrev pub located : Contents → Transfer → Transfer
+located storage t = if is_some t.fault then t else with_located t (access.located storage t.walk.orb.key t.moving)
+
+-- the bytes of the next chunk: none where the transfer is stopped or has a fault
+abbrev pub has_stopped : Transfer → Bool
+has_stopped t = t.stopped || is_some t.fault
+
+abbrev pub room_of : Transfer → ℕ
+room_of t = if has_stopped t then 0 else movement.room t.moving
+
+abbrev pub with_room : Contents → Transfer → Roomy
+with_room storage t = record { transfer = located storage t; room = room_of (located storage t) }
+
+-- a command that brings bytes in is told at once how many may come
+abbrev pub brings : Class → Bool
+brings class.Read = true
+brings class.Sense = true
+brings class.Write = false
+brings class.Control = false
+brings class.ReadBackward = false
+brings class.Transfer = false
+brings class.Invalid = false
+
+abbrev pub begun_with_room : Contents → Transfer → Roomy
+begun_with_room storage t = if brings (class_of t.code) then with_room storage t else record { transfer = t; room = 0 }

@@ -1,0 +1,18 @@
+-- The numbers of a command and of its chunks (own).
+use Rattle.std.specs.Prelude.{◌≡◌, ◌≤◌, ℕ, ◌+◌}
+use Rattle.transfer.specs.declared.Transfer.{Transfer}
+
+-- both numbers stay
+pub record IsSame (old new : Transfer) : Type 0 where
+  pub command : new.command ≡ old.command
+  pub sequence : new.sequence ≡ old.sequence
+
+-- a chunk may be counted
+pub record IsLater (old new : Transfer) : Type 0 where
+  pub command : new.command ≡ old.command
+  pub sequence : new.sequence ≤ old.sequence + 1
+
+-- a command begins, of which no chunk was moved
+pub record IsNew (number : ℕ) (new : Transfer) : Type 0 where
+  pub command : new.command ≡ number
+  pub sequence : new.sequence ≡ 0

@@ -1,0 +1,156 @@
+//! How a command begins.
+
+ghost use Rattle.std.specs.Prelude.{◌≡◌, ◌<◌, ◌≤◌, ◌^◌};
+ghost use Rattle.chan_model.specs.UnitReports.{is_outward as is_outward_code};
+ghost use Rattle.transfer.specs.Commands as spec;
+
+use crate::{Beginning, Roomy, Transfer};
+use ccw_codec::command::class;
+use ccw_codec::{Ccw, Class};
+use ccw_walk::Walk;
+use channel_program::check::Check;
+use channel_program::{Advance, Ended};
+use data_move::moving::Move;
+use idaw::ListKind;
+use orb_block::Orb;
+use storage_keys::Storage;
+
+/// Whether a command moves bytes to the device.
+pub fn is_outward(code: u8) -> bool
+    ensures { result ≡ is_outward_code code }
+{
+    code % 2 == 1
+}
+
+fn is_skipped(code: u8, ccw: Ccw) -> bool
+    ensures { result ≡ spec.is_skipped code ccw }
+{
+    ccw.skip && !is_outward(code)
+}
+
+pub(crate) fn data_of(walk: &Walk, code: u8, ccw: Ccw) -> Move
+    ensures { result ≡ spec.data_of walk.now code ccw }
+{
+    Move::begin(ListKind::of(&walk.orb()), ccw, is_skipped(code, ccw))
+}
+
+fn command_of(walk: Walk, command: u64, ccw: Ccw) -> Transfer
+    ensures { result ≡ spec.command_of walk command ccw }
+{
+    Transfer {
+        command,
+        code: ccw.command,
+        walk,
+        moving: data_of(&walk, ccw.command, ccw),
+        sequence: 0,
+        offered: 0,
+        stopped: false,
+        fault: None,
+        ended: false,
+        unchained: false,
+    }
+}
+
+fn begins(walk: Walk, command: u64, advance: Option<Advance>) -> Result<Transfer, Check>
+    ensures { result ≡ spec.begins walk command advance }
+{
+    match advance {
+        Some(Advance::Takes(ccw)) if ccw.program_controlled => Err(Check::Program),
+        Some(Advance::Takes(ccw)) => Ok(command_of(walk, command, ccw)),
+        Some(Advance::Suspends) => Err(Check::Program),
+        Some(Advance::Stops(check)) => Err(check),
+        None => Err(Check::Program),
+    }
+}
+
+fn goes_to(storage: &Storage, command: u64, walk: Walk) -> Beginning
+    ensures { result ≡ spec.goes_to storage.now command walk }
+{
+    let mut walk = walk;
+    let advance = walk.advance(storage);
+    Beginning {
+        tried: walk.tried(),
+        came: begins(walk, command, advance),
+    }
+}
+
+/// The first command of a program.
+pub fn first_command(storage: &Storage, orb: Orb) -> Beginning
+    ensures { result ≡ spec.first_command storage.now orb }
+{
+    goes_to(storage, 1, Walk::start(orb))
+}
+
+/// The command that is chained to one that ended, with status modifier or without.
+pub fn next_command(storage: &Storage, transfer: &Transfer, modifier: bool) -> Beginning
+    requires { transfer.now.command < 2 ^ 63 }
+    ensures { result ≡ spec.next_command storage.now transfer.now modifier }
+{
+    let mut walk = transfer.walk;
+    walk.device_end(Ended {
+        goes_on: true,
+        modifier,
+    });
+    goes_to(storage, transfer.command + 1, walk)
+}
+
+/// The next word of an indirect list is fetched where it is needed.
+pub(crate) fn located(storage: &Storage, transfer: &Transfer) -> Transfer
+    ensures { result ≡ spec.located storage.now transfer.now }
+{
+    if transfer.fault.is_some() {
+        return *transfer;
+    }
+    let mut next = *transfer;
+    if let Err(check) = next.moving.locate(storage, transfer.walk.orb().key) {
+        next.fault = Some(check);
+    }
+    next
+}
+
+pub(crate) fn has_stopped(transfer: &Transfer) -> bool
+    ensures { result ≡ spec.has_stopped transfer.now }
+{
+    transfer.stopped || transfer.fault.is_some()
+}
+
+fn room_of(transfer: &Transfer) -> u16
+    ensures { result ≡ spec.room_of transfer.now }
+{
+    if has_stopped(transfer) {
+        0
+    } else {
+        transfer.moving.room()
+    }
+}
+
+/// A transfer with the room for its next chunk.
+pub fn with_room(storage: &Storage, transfer: &Transfer) -> Roomy
+    ensures { result ≡ spec.with_room storage.now transfer.now }
+{
+    let transfer = located(storage, transfer);
+    Roomy {
+        transfer,
+        room: room_of(&transfer),
+    }
+}
+
+fn brings(class: Class) -> bool
+    ensures { result ≡ spec.brings class }
+{
+    matches!(class, Class::Read | Class::Sense)
+}
+
+/// A command that is begun, with the room that its device is told of.
+pub fn begun_with_room(storage: &Storage, transfer: &Transfer) -> Roomy
+    ensures { result ≡ spec.begun_with_room storage.now transfer.now }
+{
+    if brings(class(transfer.code)) {
+        with_room(storage, transfer)
+    } else {
+        Roomy {
+            transfer: *transfer,
+            room: 0,
+        }
+    }
+}

@@ -1,0 +1,61 @@
+//! One command of a channel program at work: how it begins, how its bytes move, and what stops it (SA22-7832, chapter
+//! 15).
+#![tactic(auto)]
+
+pub mod chunks;
+pub mod commands;
+pub mod law;
+#[cfg(test)]
+mod tests;
+
+use ccw_walk::Walk;
+use chan_model::chunk::Chunk;
+use channel_program::check::Check;
+use data_move::moving::Move;
+
+/// A command whose bytes are moved.
+#[derive(Clone, Copy)]
+pub struct Transfer {
+    /// The number of the command in its program, from 1.
+    pub command: u64,
+    pub code: u8,
+    /// Where the program stands.
+    pub walk: Walk,
+    /// The data of the block that took control last.
+    pub moving: Move,
+    /// The number of the last chunk.
+    pub sequence: u64,
+    /// How many bytes were given last.
+    pub offered: u16,
+    /// The device takes no more.
+    pub stopped: bool,
+    /// A check that stopped the transfer.
+    pub fault: Option<Check>,
+    /// Its first End came.
+    pub ended: bool,
+    /// No command is chained to it.
+    pub unchained: bool,
+}
+
+/// A command that is to begin.
+#[derive(Clone, Copy)]
+pub struct Beginning {
+    /// The address past the last block whose fetch was tried.
+    pub tried: u32,
+    /// The command, or the check that its program ends with.
+    pub came: Result<Transfer, Check>,
+}
+
+/// A command with the room that its device is told of: how many bytes of a read may come, at most 256.
+#[derive(Clone, Copy)]
+pub struct Roomy {
+    pub transfer: Transfer,
+    pub room: u16,
+}
+
+/// The next bytes of a transfer, as they are given to the device.
+#[derive(Drop)]
+pub struct Given {
+    pub transfer: Transfer,
+    pub bytes: Chunk,
+}

@@ -1,0 +1,128 @@
+//! Commands whose beginnings, bytes and ends are known from elsewhere.
+
+use crate::chunks::{absorbed, brought, is_answered, next_given};
+use crate::commands::{begun_with_room, first_command, next_command, with_room};
+use crate::law::command_numbers;
+use crate::{Beginning, Transfer};
+use channel_program::check::Check;
+use orb_block::Orb;
+use std::alloc::Global;
+use storage_keys::Storage;
+
+/// Storage of 64K with a program at 1000 and bytes at 2000.
+fn storage_of(alloc: Global, program: &[u8]) -> Option<Storage> {
+    let mut storage = Storage::new(alloc, 16).ok()?;
+    storage.put(0x1000, program).ok()?;
+    storage.put(0x2000, &[0xC1, 0xC2, 0xC3, 0xC4]).ok()?;
+    Some(storage)
+}
+
+/// The first command of a program of format 1 at 1000, with access key 0.
+fn first(storage: &Storage) -> Option<Beginning> {
+    let orb = Orb::read(&[0, 0, 0, 0, 0, 0x80, 0xFF, 0, 0, 0, 0x10, 0]).ok()?;
+    Some(first_command(storage, orb))
+}
+
+fn began(storage: &Storage) -> Option<Transfer> {
+    first(storage)?.came.ok()
+}
+
+#[test]
+fn a_write_is_given_and_absorbed(rt: HostRuntime) {
+    let program = [1, 0x20, 0, 4, 0, 0, 0x20, 0];
+    let Some(storage) = storage_of(rt.alloc(), &program) else {
+        return assert!(rt; false, "no memory");
+    };
+    let Some(transfer) = began(&storage) else {
+        return assert!(rt; false, "the program is right");
+    };
+    assert_eq!(rt; (transfer.command, transfer.code), (1, 1));
+    assert_eq!(rt; begun_with_room(&storage, &transfer).room, 0);
+    assert!(rt; is_answered(&transfer, 1, 0) && is_answered(&transfer, 1, 1));
+    assert!(rt; !is_answered(&transfer, 1, 2) && !is_answered(&transfer, 2, 0));
+    let given = next_given(&storage, &transfer);
+    assert!(rt; given.bytes.as_slice() == &[0xC1, 0xC2, 0xC3, 0xC4]);
+    let moved = absorbed(&storage, &given.transfer, 1, 4);
+    assert_eq!(rt; (moved.sequence, moved.moving.residual()), (1, 0));
+    assert_eq!(rt; next_given(&storage, &moved).bytes.len(), 0);
+    assert_eq!(rt; absorbed(&storage, &moved, 1, 4).moving.residual(), 0);
+    command_numbers();
+}
+
+#[test]
+fn data_is_chained_as_the_count_is_used_up(rt: HostRuntime) {
+    let program = [1, 0x80, 0, 2, 0, 0, 0x20, 0, 0, 0x20, 0, 2, 0, 0, 0x20, 2];
+    let Some(storage) = storage_of(rt.alloc(), &program) else {
+        return assert!(rt; false, "no memory");
+    };
+    let Some(transfer) = began(&storage) else {
+        return assert!(rt; false, "the program is right");
+    };
+    let given = next_given(&storage, &transfer);
+    assert!(rt; given.bytes.as_slice() == &[0xC1, 0xC2]);
+    let moved = absorbed(&storage, &given.transfer, 1, 2);
+    assert_eq!(rt; (moved.moving.residual(), moved.walk.tried()), (2, 0x1010));
+    assert!(rt; next_given(&storage, &moved).bytes.as_slice() == &[0xC3, 0xC4]);
+}
+
+#[test]
+fn a_read_is_stored_where_it_belongs(rt: HostRuntime) {
+    let program = [2, 0x20, 0, 4, 0, 0, 0x30, 0];
+    let Some(mut storage) = storage_of(rt.alloc(), &program) else {
+        return assert!(rt; false, "no memory");
+    };
+    let Some(transfer) = began(&storage) else {
+        return assert!(rt; false, "the program is right");
+    };
+    let told = begun_with_room(&storage, &transfer);
+    assert_eq!(rt; told.room, 4);
+    assert!(rt; !is_answered(&told.transfer, 1, 0) && is_answered(&told.transfer, 1, 1));
+    let stored = brought(&mut storage, &told.transfer, 1, &[0xA1, 0xA2, 0xA3]);
+    assert_eq!(rt; with_room(&storage, &stored).room, 1);
+    assert_eq!(rt;
+        storage.fetch(0, 0x3000, 4).ok(),
+        Some(&[0xA1, 0xA2, 0xA3, 0][..])
+    );
+    let again = brought(&mut storage, &stored, 1, &[0xB1]);
+    assert_eq!(rt; again.moving.residual(), 1);
+}
+
+#[test]
+fn the_next_command_follows(rt: HostRuntime) {
+    let program = [
+        0x31, 0x60, 0, 2, 0, 0, 0x20, 0, 8, 0, 0, 0, 0, 0, 0x10, 0, 2, 0x20, 0, 0x40, 0, 0, 0x30, 0,
+    ];
+    let Some(storage) = storage_of(rt.alloc(), &program) else {
+        return assert!(rt; false, "no memory");
+    };
+    let Some(transfer) = began(&storage) else {
+        return assert!(rt; false, "the program is right");
+    };
+    let code = |next: Beginning| match next.came {
+        Ok(next) => Some((next.command, next.code)),
+        Err(_) => None,
+    };
+    assert_eq!(rt;
+        code(next_command(&storage, &transfer, false)),
+        Some((2, 0x31))
+    );
+    assert_eq!(rt; code(next_command(&storage, &transfer, true)), Some((2, 2)));
+}
+
+#[test]
+fn what_a_program_may_not_begin_with(rt: HostRuntime) {
+    for program in [
+        [8, 0, 0, 0, 0, 0, 0x10, 0x10],
+        [1, 0x28, 0, 4, 0, 0, 0x20, 0],
+        [1, 0x22, 0, 4, 0, 0, 0x20, 0],
+    ] {
+        let Some(storage) = storage_of(rt.alloc(), &program) else {
+            return assert!(rt; false, "no memory");
+        };
+        let Some(found) = first(&storage) else {
+            return assert!(rt; false, "the block is allowed");
+        };
+        assert_eq!(rt; found.tried, 0x1008);
+        assert_eq!(rt; found.came.err(), Some(Check::Program));
+    }
+}
