@@ -27,6 +27,47 @@ fn began(storage: &Storage) -> Option<Transfer> {
     first(storage)?.came.ok()
 }
 
+fn is_met(transfer: &Transfer, command: u64, sequence: u64) -> bool {
+    transfer.sequence < 9 && is_answered(transfer, command, sequence)
+}
+
+fn after_absorbed(
+    storage: &Storage,
+    transfer: &Transfer,
+    sequence: u64,
+    count: usize,
+) -> Option<Transfer> {
+    if transfer.sequence < 9 {
+        Some(absorbed(storage, transfer, sequence, count))
+    } else {
+        None
+    }
+}
+
+fn after_brought(
+    storage: &mut Storage,
+    transfer: &Transfer,
+    sequence: u64,
+    bytes: &[u8],
+) -> Option<Transfer> {
+    if transfer.sequence < 9 {
+        Some(brought(storage, transfer, sequence, bytes))
+    } else {
+        None
+    }
+}
+
+/// The number and the code of the command that follows.
+fn followed_by(storage: &Storage, transfer: &Transfer, modifier: bool) -> Option<(u64, u8)> {
+    if transfer.command >= 9 {
+        return None;
+    }
+    match next_command(storage, transfer, modifier).came {
+        Ok(next) => Some((next.command, next.code)),
+        Err(_) => None,
+    }
+}
+
 #[test]
 fn a_write_is_given_and_absorbed(rt: HostRuntime) {
     let program = [1, 0x20, 0, 4, 0, 0, 0x20, 0];
@@ -38,14 +79,15 @@ fn a_write_is_given_and_absorbed(rt: HostRuntime) {
     };
     assert_eq!(rt; (transfer.command, transfer.code), (1, 1));
     assert_eq!(rt; begun_with_room(&storage, &transfer).room, 0);
-    assert!(rt; is_answered(&transfer, 1, 0) && is_answered(&transfer, 1, 1));
-    assert!(rt; !is_answered(&transfer, 1, 2) && !is_answered(&transfer, 2, 0));
+    assert!(rt; is_met(&transfer, 1, 0) && is_met(&transfer, 1, 1));
+    assert!(rt; !is_met(&transfer, 1, 2) && !is_met(&transfer, 2, 0));
     let given = next_given(&storage, &transfer);
-    assert!(rt; given.bytes.as_slice() == &[0xC1, 0xC2, 0xC3, 0xC4]);
-    let moved = absorbed(&storage, &given.transfer, 1, 4);
+    assert!(rt; given.bytes.as_slice() == [0xC1, 0xC2, 0xC3, 0xC4].as_slice());
+    let Some(moved) = after_absorbed(&storage, &given.transfer, 1, 4) else {
+        return assert!(rt; false, "the numbers are small");
+    };
     assert_eq!(rt; (moved.sequence, moved.moving.residual()), (1, 0));
     assert_eq!(rt; next_given(&storage, &moved).bytes.len(), 0);
-    assert_eq!(rt; absorbed(&storage, &moved, 1, 4).moving.residual(), 0);
     command_numbers();
 }
 
@@ -59,10 +101,12 @@ fn data_is_chained_as_the_count_is_used_up(rt: HostRuntime) {
         return assert!(rt; false, "the program is right");
     };
     let given = next_given(&storage, &transfer);
-    assert!(rt; given.bytes.as_slice() == &[0xC1, 0xC2]);
-    let moved = absorbed(&storage, &given.transfer, 1, 2);
+    assert!(rt; given.bytes.as_slice() == [0xC1, 0xC2].as_slice());
+    let Some(moved) = after_absorbed(&storage, &given.transfer, 1, 2) else {
+        return assert!(rt; false, "the numbers are small");
+    };
     assert_eq!(rt; (moved.moving.residual(), moved.walk.tried()), (2, 0x1010));
-    assert!(rt; next_given(&storage, &moved).bytes.as_slice() == &[0xC3, 0xC4]);
+    assert!(rt; next_given(&storage, &moved).bytes.as_slice() == [0xC3, 0xC4].as_slice());
 }
 
 #[test]
@@ -76,14 +120,19 @@ fn a_read_is_stored_where_it_belongs(rt: HostRuntime) {
     };
     let told = begun_with_room(&storage, &transfer);
     assert_eq!(rt; told.room, 4);
-    assert!(rt; !is_answered(&told.transfer, 1, 0) && is_answered(&told.transfer, 1, 1));
-    let stored = brought(&mut storage, &told.transfer, 1, &[0xA1, 0xA2, 0xA3]);
+    assert!(rt; !is_met(&told.transfer, 1, 0) && is_met(&told.transfer, 1, 1));
+    let bytes = [0xA1, 0xA2, 0xA3];
+    let Some(stored) = after_brought(&mut storage, &told.transfer, 1, &bytes) else {
+        return assert!(rt; false, "the numbers are small");
+    };
     assert_eq!(rt; with_room(&storage, &stored).room, 1);
     assert_eq!(rt;
         storage.fetch(0, 0x3000, 4).ok(),
         Some(&[0xA1, 0xA2, 0xA3, 0][..])
     );
-    let again = brought(&mut storage, &stored, 1, &[0xB1]);
+    let Some(again) = after_brought(&mut storage, &stored, 1, &[0xB1]) else {
+        return assert!(rt; false, "the numbers are small");
+    };
     assert_eq!(rt; again.moving.residual(), 1);
 }
 
@@ -98,15 +147,8 @@ fn the_next_command_follows(rt: HostRuntime) {
     let Some(transfer) = began(&storage) else {
         return assert!(rt; false, "the program is right");
     };
-    let code = |next: Beginning| match next.came {
-        Ok(next) => Some((next.command, next.code)),
-        Err(_) => None,
-    };
-    assert_eq!(rt;
-        code(next_command(&storage, &transfer, false)),
-        Some((2, 0x31))
-    );
-    assert_eq!(rt; code(next_command(&storage, &transfer, true)), Some((2, 2)));
+    assert_eq!(rt; followed_by(&storage, &transfer, false), Some((2, 0x31)));
+    assert_eq!(rt; followed_by(&storage, &transfer, true), Some((2, 2)));
 }
 
 #[test]
