@@ -22,6 +22,6 @@ returns c = λ sub there.
     ap (does shown) (stores-sub old c.args.cpu c.number.result c.args.address found c.schib_of.result c.write-image.result c.store_operand.new.self
     c.schib_of.ensures c.write-image.ensures c.number.ensures.value c.store_operand.ensures) in
     subst (λ (x : Subchannel). store_at c.args.self.now c.args.cpu c.args.address (Some c.args.place) (Some x)
-        ≡ does shown (record old { storage = c.store_operand.new.self })) same
+    ≡ does shown (record old { storage = c.store_operand.new.self })) same
     (subst (λ (s : State). store_at s c.args.cpu c.args.address (Some c.args.place) (Some found)
-        ≡ does shown (record old { storage = c.store_operand.new.self })) c.self.view_is done)
+    ≡ does shown (record old { storage = c.store_operand.new.self })) c.self.view_is done)
