@@ -134,6 +134,28 @@ const BYTES: [(&[u8], &[u8], u8); 4] = [
     ),
 ];
 
+/// Commands that end at once: each script, what it prints, and the exit status.
+const IMMEDIATE: [(&[u8], &[u8], u8); 3] = [
+    // Channel end alone, then device end while the next start waits.
+    (
+        b"storage 10\npath 10\nunit 0 block\nsub 0 0100 0 10\nput 500 000000000080FF0000001000\nput 1000 0120000400002000\nput 2000 C1C2C3C4\nenable 0 0 0\nput 1000 0320000000000000\nssch 0 500\nchoose 0\ndown 0 0\nup 0 0\ndown 0 0\ndev 0\nup 0 0\ntsch 0 600\nstsch 0 700\nssch 0 500\nstsch 0 700\ndev 0\nup 0 0\ntsch 0 600\n",
+        b"5 done\n6 done\n7 done\n8 cc 0\n9 done\n10 cc 0\n11 offer 0\n12 took select\n13 took accept\n14 took command\n15 done\n16 took end\n17 cc 0 00804045 00001008 08000000\n18 cc 0 00800040 00001008 08000000\n19 cc 0\n20 cc 0 00804440 00001000 00000000\n21 done\n22 took end\n23 cc 0 01804011 00001000 04000000\n",
+        0,
+    ),
+    // A count of four, which no byte of an immediate command uses.
+    (
+        b"storage 10\npath 10\nunit 0 block\nsub 0 0100 0 10\nput 500 000000000080FF0000001000\nput 1000 0120000400002000\nput 2000 C1C2C3C4\nenable 0 0 0\nput 1000 0300000400000000\nssch 0 500\nchoose 0\ndown 0 0\nup 0 0\ndown 0 0\ndev 0\nup 0 0\ntsch 0 600\n",
+        b"5 done\n6 done\n7 done\n8 cc 0\n9 done\n10 cc 0\n11 offer 0\n12 took select\n13 took accept\n14 took command\n15 done\n16 took end\n17 cc 0 00804045 00001008 08400004\n",
+        0,
+    ),
+    // The same with incorrect length suppressed for immediate commands.
+    (
+        b"storage 10\npath 10\nunit 0 block\nsub 0 0100 0 10\nput 500 000000000080FF0000001000\nput 1000 0120000400002000\nput 2000 C1C2C3C4\nenable 0 0 0\nput 1000 0300000400000000\nput 500 000000000080FF8000001000\nssch 0 500\nchoose 0\ndown 0 0\nup 0 0\ndown 0 0\ndev 0\nup 0 0\ntsch 0 600\n",
+        b"5 done\n6 done\n7 done\n8 cc 0\n9 done\n10 done\n11 cc 0\n12 offer 0\n13 took select\n14 took accept\n15 took command\n16 done\n17 took end\n18 cc 0 00804045 00001008 08000004\n",
+        0,
+    ),
+];
+
 #[test]
 fn commands_follow_one_another(rt: HostRuntime) {
     for (text, printed, ends) in COMMANDS {
@@ -155,6 +177,15 @@ fn indirect_words_name_the_bytes(rt: HostRuntime) {
 #[test]
 fn bytes_are_moved_where_they_belong(rt: HostRuntime) {
     for (text, printed, ends) in BYTES {
+        let (out, status) = served(&rt, "run", text);
+        assert_eq!(rt; out.as_slice(), printed);
+        assert_eq!(rt; status, ends);
+    }
+}
+
+#[test]
+fn a_command_may_end_at_once(rt: HostRuntime) {
+    for (text, printed, ends) in IMMEDIATE {
         let (out, status) = served(&rt, "run", text);
         assert_eq!(rt; out.as_slice(), printed);
         assert_eq!(rt; status, ends);
