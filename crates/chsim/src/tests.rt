@@ -44,6 +44,12 @@ const INSTRUCTIONS: [(&[u8], &[u8], u8); 4] = [
     ),
 ];
 
+/// What follows `WRITE` and `WRITTEN`: a second TEST SUBCHANNEL, and the serials; a subchannel that is not configured.
+const TESTED_AGAIN: &[u8] = b"tsch 0 600\nglance 0\nglance 1\n";
+
+const NOTHING_CLEARED: &[u8] =
+    b"23 cc 1 00800000 00001008 0C000000\n24 made 1 cleared 1\n25 refused 4\n";
+
 /// What follows `SET_UP`, and what it prints: acts outside storage or off a boundary; a key that refuses the chunk of a
 /// fetched command; enabling of a subchannel that is not there.
 const REFUSED: [(&[u8], &[u8]); 3] = [
@@ -86,6 +92,15 @@ fn a_write_runs_from_start_to_test(rt: HostRuntime) {
     let (out, status) = served(&rt, "run", text.as_slice());
     assert_eq!(rt; out.as_slice(), printed.as_slice());
     assert_eq!(rt; status, 0);
+}
+
+#[test]
+fn a_status_is_cleared_once(rt: HostRuntime) {
+    let text = joined(&rt, WRITE, TESTED_AGAIN);
+    let printed = joined(&rt, WRITTEN, NOTHING_CLEARED);
+    let (out, status) = served(&rt, "run", text.as_slice());
+    assert_eq!(rt; out.as_slice(), printed.as_slice());
+    assert_eq!(rt; status, 1);
 }
 
 #[test]

@@ -104,6 +104,10 @@ down_row = with_two (λ s p. and_then (subchannel s) (λ s. and_then (number p) 
 abbrev pub dev_row : List (List ℕ) → Result Action ℕ
 dev_row = with_one (λ u. and_then (number u) (λ u. Some (action.Dev u)))
 
+-- `glance SUBCHANNEL`
+abbrev pub glance_row : List (List ℕ) → Result Action ℕ
+glance_row = with_one (λ s. and_then (subchannel s) (λ s. Some (action.Glance s)))
+
 -- the lines that set and show storage
 abbrev pub storage_row : List ℕ → List (List ℕ) → Option (Result Action ℕ)
 storage_row w ws = if bytes_eq w (codes "put") then Some (put_row ws)
@@ -119,7 +123,8 @@ subsystem_row w ws = if bytes_eq w (codes "cpu") then Some (cpu_row ws)
     else (if bytes_eq w (codes "up") then Some (up_row ws)
     else (if bytes_eq w (codes "down") then Some (down_row ws)
     else (if bytes_eq w (codes "dev") then Some (dev_row ws)
-    else None))))
+    else (if bytes_eq w (codes "glance") then Some (glance_row ws)
+    else None)))))
 
 abbrev pub or_row : Option (Result Action ℕ) → Option (Result Action ℕ) → Option (Result Action ℕ)
 or_row (Some said) other = Some said

@@ -6,6 +6,7 @@ use Rattle.storage_keys.specs.declared.StorageFault.{StorageFault}
 use Rattle.storage_keys.specs.declared.StorageFault.TheVariants.{Addressing, Protection, Specification}
 use Rattle.scsw_irb.specs.declared.scsw.Scsw.{Scsw}
 use Rattle.scsw_irb.specs.ScswTable.{scsw_tables}
+use Rattle.scsw_irb.specs.declared.serials.Serials.{Serials}
 use Rattle.chan_model.specs.declared.signal.Down.{Down}
 use Rattle.chan_model.specs.declared.signal.Down.TheVariants as down
 use Rattle.chan_model.specs.declared.signal.Up.{Up}
@@ -16,6 +17,8 @@ use Rattle.chan_model.specs.declared.reply.Reply.{Reply}
 use Rattle.chan_model.specs.declared.reply.Reply.TheVariants as reply
 use Rattle.chan_model.specs.declared.fault.Fault.{Fault}
 use Rattle.chan_model.specs.declared.fault.Fault.TheVariants as fault
+use Rattle.script.specs.declared.Told.{Told}
+use Rattle.script.specs.declared.Told.TheVariants as told
 
 -- 0 to 9 and A to F
 abbrev pub hex_digit : ℕ → ℕ
@@ -97,12 +100,20 @@ refusal_text (fault.ScriptBad line rule) = codes "refused 9"
 refusal_text (fault.Storage kind) = storage_text kind
 refusal_text fault.Operand = codes "refused 11"
 
-abbrev pub outcome_text : Result Reply Fault → List ℕ
-outcome_text (Ok it) = reply_text it
+-- the serials of a subchannel
+abbrev pub serials_text : Serials → List ℕ
+serials_text serials = codes "made " ++ decimal serials.made ++ codes " cleared " ++ decimal serials.cleared
+
+abbrev pub told_text : Told → List ℕ
+told_text (told.Reply it) = reply_text it
+told_text (told.Serials it) = serials_text it
+
+abbrev pub outcome_text : Result Told Fault → List ℕ
+outcome_text (Ok it) = told_text it
 outcome_text (Err it) = refusal_text it
 
--- the line of one event: its line's number, and what it came to
-abbrev pub event_line : ℕ → Result Reply Fault → List ℕ
+-- the line of one action: its line's number, and what it came to
+abbrev pub event_line : ℕ → Result Told Fault → List ℕ
 event_line n outcome = decimal n ++ 32 ∷ outcome_text outcome ++ 10 ∷ []
 
 -- the line of a bad script

@@ -217,6 +217,14 @@ fn dev_row(words: &[&[u8]]) -> Result<Action, u8>
     Ok(Action::Dev(unit))
 }
 
+fn glance_row(words: &[&[u8]]) -> Result<Action, u8>
+    ensures { result ≡ spec.glance_row (map (λ w. w.now) words.now) }
+{
+    let word = one(words).ok_or(2)?;
+    let subchannel = subchannel(word).ok_or(3)?;
+    Ok(Action::Glance(subchannel))
+}
+
 /// The lines that set and show storage.
 fn storage_row(word: &[u8], words: &[&[u8]]) -> Option<Result<Action, u8>>
     ensures { result ≡ spec.storage_row word.now (map (λ w. w.now) words.now) }
@@ -254,6 +262,9 @@ fn subsystem_row(word: &[u8], words: &[&[u8]]) -> Option<Result<Action, u8>>
     }
     if word == b"dev".as_slice() {
         return Some(dev_row(words));
+    }
+    if word == b"glance".as_slice() {
+        return Some(glance_row(words));
     }
     None
 }

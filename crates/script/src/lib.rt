@@ -17,12 +17,16 @@ mod settings;
 mod tests;
 pub mod text;
 mod words;
+#[cfg(test)]
+mod wrong_lines;
 
 use crate::draft::draft_of;
 use crate::pieces::pieces;
 use crate::said::has_words;
 use chan_model::event::Event;
+use chan_model::reply::Reply;
 use channel_config::config::Config;
+use scsw_irb::serials::Serials;
 use std::alloc::Global;
 use std::marker::Model;
 
@@ -33,6 +37,17 @@ pub enum Action {
     Event(Event),
     /// The next turn of the device of the unit of this number.
     Dev(u32),
+    /// The serials of the subchannel that this word names.
+    Glance(u32),
+}
+
+/// What an action that is not refused comes to.
+#[derive(Drop)]
+pub enum Told {
+    /// The reply of an event.
+    Reply(Reply),
+    /// How many statuses a subchannel made, and how many of these are cleared.
+    Serials(Serials),
 }
 
 /// One action, and the number of its line, from 1.

@@ -1,7 +1,7 @@
 //! Scripts that are right and wrong line by line, and the text of each reply and refusal.
 
 use crate::text::{bad_line, event_line, refusal_text, reply_text};
-use crate::{Action, Script, ScriptBad};
+use crate::{Action, Script, ScriptBad, Told};
 use bitflags::Flags;
 use chan_model::chunk::Chunk;
 use chan_model::event::{Event, Instruction};
@@ -15,110 +15,17 @@ use scsw_irb::status::{DeviceStatus, SubchannelStatus};
 use std::alloc::AllocError;
 use storage_keys::StorageFault;
 
-const WRONG: [(&[u8], u64, u8); 58] = [
-    (b"", 1, 6),
-    (b"\n\n# nothing\n", 1, 6),
-    (b"\n#\xFF\n", 1, 6),
-    (b"path 10\nstorage 10\n", 1, 6),
-    (b"\n# first\n \nstorage 10", 3, 6),
-    (b"race 1 1 tsch 0\n", 1, 6),
-    (b"# first \xFF\npath 10\n", 1, 3),
-    (b"storage 10\nglance 0\n", 2, 1),
-    (b"storage 10\n\nStorage 10\n", 3, 1),
-    (b"storage 10\n path 10\n", 2, 1),
-    (b"storage 10\ncpu\n", 2, 1),
-    (b"storage 10\ncpu 1\n", 2, 1),
-    (b"storage 10\ncpu 1 up 0 0\n", 2, 1),
-    (b"storage 10\nssch 0\n", 2, 2),
-    (b"storage 10\ncpu G ssch 0\n", 2, 2),
-    (b"storage\n", 1, 2),
-    (b"storage 10\nunit 0 block \n", 2, 2),
-    (b"storage 10\nsub 0 0\n", 2, 2),
-    (b"storage 10\nenable 0 0 0 0\n", 2, 2),
-    (b"storage 10\nchoose\n", 2, 2),
-    (b"storage 10\nup 0 0 0\n", 2, 2),
-    (b"storage 123456789\n", 1, 3),
-    (b"storage 10\nput 500 C\n", 2, 3),
-    (b"storage 10\nput 500 \n", 2, 3),
-    (b"storage 10\nput 5G0 C1\n", 2, 3),
-    (b"storage 10\nenable 0 8 0\n", 2, 3),
-    (b"storage 10\nenable 0 7 2\n", 2, 3),
-    (b"storage 10\ncpu 10 tsch 0 500\n", 2, 3),
-    (b"storage 10\ncpu G tsch 0 500\n", 2, 3),
-    (b"storage 10\nunit 0 printer\n", 2, 3),
-    (b"storage 10\nunit 0 block\nsub 0 0 0 10 1x\n", 3, 3),
-    (b"storage 10\ndev 0\r\n", 2, 3),
-    (b"storage 10\nkey 2000\n", 2, 2),
-    (b"storage 10\nkey 2000 11\n", 2, 3),
-    (b"storage 10\nkey 2000 100\n", 2, 3),
-    (b"storage 10\nprefix 4000\n", 2, 2),
-    (b"storage 10\nprefix 10 4000\n", 2, 3),
-    (b"storage 10\ncpu 0 prefix 0 4000\n", 2, 1),
-    (b"storage 10\nshow 500\n", 2, 2),
-    (b"storage 10\nshow 500 0\n", 2, 3),
-    (b"storage 10\nshow 500 41\n", 2, 3),
-    (b"storage 10\nshow 123456789 1\n", 2, 3),
-    (b"storage 10\nstsch 0\n", 2, 2),
-    (b"storage 10\nstsch 0 x\n", 2, 3),
-    (b"storage 10\nmsch 0 500 0\n", 2, 2),
-    (b"storage 10\nmsch x 500\n", 2, 3),
-    (b"storage 10\nput 500 C1\npath 10\n", 3, 4),
-    (b"storage 10\nput 500 C1\nstorage 10\n", 3, 4),
-    (b"storage 10\nstorage 10\n", 2, 5),
-    (b"storage F\n", 1, 5),
-    (b"storage 10\nsets 5\n", 2, 5),
-    (b"storage 10\npath 100\n", 2, 5),
-    (b"storage 10\nunit 1 block\n", 2, 5),
-    (b"storage 10\nunit 0 block\nsub 20000 0 0 10\n", 3, 5),
-    (b"storage 10\nunit 0 block\nsub 0 0 0\n", 3, 5),
-    (b"storage 10\nunit 0 block\npath 10\nsub 0 0 1 10\n", 4, 5),
-    (b"storage 10\npath 10\npath 10\nglance 0\n", 3, 5),
-    (b"storage 10\nput 500 C1\nput 500 x", 3, 3),
-];
-
 const RIGHT: &[u8] =
-    b"# a machine\n\nstorage 10\nsets 2\npath 10\npath fF\nunit 0 block\nsub 0 0100 0 10 FF\nsub 00030000 0101 0 10\nput 500 c1C2\nenable 0 7 1\ncpu f enable 30000 0 0\nssch 0001 500\ncpu 1 ssch 00001 500\ntsch 0 600\nchoose 0\n#\nup 0 1\ndown 0 12345678\ndev 3FF";
+    b"# a machine\n\nstorage 10\nsets 2\npath 10\npath fF\nunit 0 block\nsub 0 0100 0 10 FF\nsub 00030000 0101 0 10\nput 500 c1C2\nenable 0 7 1\ncpu f enable 30000 0 0\nssch 0001 500\ncpu 1 ssch 00001 500\ntsch 0 600\nchoose 0\n#\nup 0 1\ndown 0 12345678\ndev 3FF\nglance 3";
 
 const INSTRUCTIONS: &[u8] =
     b"storage 10\nkey 2FFF 1e\nprefix f 4000\nshow 10FFE 40\nshow 0 1\nstsch 0 700\ncpu 2 msch 10001 704";
-
-#[test]
-fn wrong_lines_are_named(rt: HostRuntime) {
-    for (text, line, rule) in WRONG {
-        match Script::read(rt.alloc(), text) {
-            Ok(_) => assert!(rt; false, "line {line} rule {rule}"),
-            Err(bad) => assert_eq!(rt; bad, ScriptBad::Bad { line, rule }),
-        }
-    }
-}
-
-#[test]
-fn a_line_is_at_most_1024_bytes(rt: HostRuntime) -> Result<(), AllocError> {
-    for (length, is_right) in [(1024, true), (1025, false)] {
-        let mut text = Vec::new(rt.alloc());
-        text.extend_from_slice(b"storage 10\n")?;
-        for _ in 0..length {
-            text.push(b'#')?;
-        }
-        text.extend_from_slice(b"\ndev 0\n")?;
-        match Script::read(rt.alloc(), text.as_slice()) {
-            Ok(script) => {
-                assert!(rt; is_right);
-                assert_eq!(rt; script.lines().len(), 1);
-            }
-            Err(bad) => {
-                assert!(rt; !is_right);
-                assert_eq!(rt; bad, ScriptBad::Bad { line: 2, rule: 3 });
-            }
-        }
-    }
-    Ok(())
-}
 
 /// What an action is: its kind, and its numbers in order.
 fn shown(action: &Action) -> (&[u8], [u32; 4]) {
     match action {
         Action::Dev(unit) => (b"dev", [*unit, 0, 0, 0]),
+        Action::Glance(subchannel) => (b"glance", [*subchannel, 0, 0, 0]),
         Action::Event(Event::Put { address, bytes }) => {
             let count = bytes.len() as u32;
             match bytes.as_slice() {
@@ -190,7 +97,7 @@ fn a_right_script_is_read(rt: HostRuntime) {
             return;
         }
     };
-    let wanted: [(u64, &[u8], [u32; 4]); 10] = [
+    let wanted: [(u64, &[u8], [u32; 4]); 11] = [
         (10, b"put", [0x500, 2, 0xC1, 0xC2]),
         (11, b"enable", [0, 0x1_0000, 7, 1]),
         (12, b"enable", [0xF, 0x3_0000, 0, 0]),
@@ -201,6 +108,7 @@ fn a_right_script_is_read(rt: HostRuntime) {
         (18, b"up", [0x1_0000, 1, 0, 0]),
         (19, b"down", [0x1_0000, 0x1234_5678, 0, 0]),
         (20, b"dev", [0x3FF, 0, 0, 0]),
+        (21, b"glance", [0x1_0003, 0, 0, 0]),
     ];
     assert_eq!(rt; script.config().set_count(), 2);
     assert_eq!(rt; script.lines().len(), wanted.len());
@@ -214,7 +122,7 @@ fn a_right_script_is_read(rt: HostRuntime) {
     assert_eq!(rt; config.blocks(), Some(0x10));
     assert_eq!(rt; config.paths(), [0x10, 0xFF].as_slice());
     assert_eq!(rt; config.subchannels().len(), 2);
-    assert_eq!(rt; lines.len(), 10);
+    assert_eq!(rt; lines.len(), 11);
 }
 
 #[test]
@@ -487,12 +395,17 @@ fn refusals_are_shown(rt: HostRuntime) -> Result<(), AllocError> {
 #[test]
 fn lines_are_shown(rt: HostRuntime) -> Result<(), AllocError> {
     let mut out = Vec::new(rt.alloc());
-    event_line(&mut out, 5, &Ok(Reply::Done))?;
+    event_line(&mut out, 5, &Ok(Told::Reply(Reply::Done)))?;
+    let serials = Serials {
+        made: 12,
+        cleared: 9,
+    };
+    event_line(&mut out, 6, &Ok(Told::Serials(serials)))?;
     event_line(&mut out, 1_000, &Err(Fault::Operand))?;
     bad_line(&mut out, 9, 2)?;
     assert_eq!(rt;
         out.as_slice(),
-        b"5 done\n1000 refused 11\nbad line 9 rule 2\n".as_slice()
+        b"5 done\n6 made 12 cleared 9\n1000 refused 11\nbad line 9 rule 2\n".as_slice()
     );
     Ok(())
 }

@@ -4,10 +4,12 @@ ghost use Rattle.std.specs.Prelude.{◌≡◌, ◌<◌, ◌++◌, ◌∷◌, [],
 ghost use Rattle.std.specs.List.{flat_map};
 ghost use Rattle.script.specs.Text as spec;
 
+use crate::Told;
 use chan_model::fault::Fault;
 use chan_model::reply::{Answer, Reply};
 use chan_model::signal::{Down, Up};
 use scsw_irb::scsw::Scsw;
+use scsw_irb::serials::Serials;
 use std::alloc::AllocError;
 use std::io::Write;
 use storage_keys::StorageFault;
@@ -193,18 +195,37 @@ pub fn refusal_text(out: &mut Vec<u8>, refusal: &Fault) -> Result<(), AllocError
     })
 }
 
-/// The line of one event: the decimal number of its line, what it came to, and a line feed.
+/// `made` and `cleared`, each with its serial in decimal.
+fn push_serials(out: &mut Vec<u8>, serials: Serials) -> Result<(), AllocError>
+    ensures { OnOk result (out.new.items ≡ out.old.items ++ spec.serials_text serials) }
+{
+    out.extend_from_slice(b"made ")?;
+    push_decimal(out, serials.made)?;
+    out.extend_from_slice(b" cleared ")?;
+    push_decimal(out, serials.cleared)
+}
+
+fn push_told(out: &mut Vec<u8>, told: &Told) -> Result<(), AllocError>
+    ensures { OnOk result (out.new.items ≡ out.old.items ++ spec.told_text told.now) }
+{
+    match told {
+        Told::Reply(reply) => reply_text(out, reply),
+        Told::Serials(serials) => push_serials(out, *serials),
+    }
+}
+
+/// The line of one action: the decimal number of its line, what it came to, and a line feed.
 pub fn event_line(
     out: &mut Vec<u8>,
     line: u64,
-    outcome: &Result<Reply, Fault>,
+    outcome: &Result<Told, Fault>,
 ) -> Result<(), AllocError>
     ensures { OnOk result (out.new.items ≡ out.old.items ++ spec.event_line line outcome.now) }
 {
     push_decimal(out, line)?;
     out.push(b' ')?;
     match outcome {
-        Ok(reply) => reply_text(out, reply)?,
+        Ok(told) => push_told(out, told)?,
         Err(refusal) => refusal_text(out, refusal)?,
     }
     out.push(b'\n')?;

@@ -13,15 +13,23 @@ use Rattle.chan_model.specs.declared.report.Work.{Work}
 use Rattle.chan_model.specs.declared.report.Work.TheVariants as work
 use Rattle.channel_config.specs.Setup.{Setup}
 use Rattle.device_models.specs.Laws.{IsAnswer}
-use Rattle.machine_model.specs.State.{Past, opening_of, unit_turn_of}
+use Rattle.machine_model.specs.State.{Past, opening_of, unit_turn_of, sub_of, serials_in}
 use Rattle.machine_model.specs.Steps.{Step, IsRefused}
 use Rattle.machine_model.specs.declared.state.UnitTurn.{UnitTurn}
 use Rattle.machine_model.specs.declared.state.UnitTurn.TheVariants.{Takes, Works, Rests}
+use Rattle.scsw_irb.specs.declared.serials.Serials.{Serials}
 use Rattle.script.specs.declared.Action.{Action}
 use Rattle.script.specs.declared.Action.TheVariants as action
+use Rattle.script.specs.declared.Told.{Told}
+use Rattle.script.specs.declared.Told.TheVariants as told
 
+-- what an action comes to, and what an event does
 abbrev pub Outcome : Type 0
-Outcome = Result Reply Fault
+Outcome = Result Told Fault
+
+abbrev pub told_of : Result Reply Fault → Outcome
+told_of (Ok r) = Ok (told.Reply r)
+told_of (Err f) = Err f
 
 -- a machine, and by unit the report that is still to be handed in
 pub record Installed : Type 0 where
@@ -32,7 +40,7 @@ abbrev pub opening : Setup → Installed
 opening setup = record { past = record { state = opening_of setup; history = [] }; kept = replicate (length setup.units) None }
 
 -- an event: a step, which the history keeps with its reply; or a refusal, which changes nothing
-abbrev pub Enters : Past → Event → Outcome → Past → Type 0
+abbrev pub Enters : Past → Event → Result Reply Fault → Past → Type 0
 Enters old e (Ok r) new = Step old.state e r new.state × (new.history ≡ old.history ++ record { event = e; reply = r } ∷ [])
 Enters old e (Err f) new = ((f ≡ fault.NoMemory) ⊎ IsRefused old.state e f) × (new ≡ old)
 
@@ -64,29 +72,35 @@ kept_of_fault report fault.NoMemory = Some report
 kept_of_fault report fault.WireFull = Some report
 kept_of_fault report f = None
 
-abbrev pub kept_after : Report → Outcome → Option Report
+abbrev pub kept_after : Report → Result Reply Fault → Option Report
 kept_after report (Ok r) = None
 kept_after report (Err f) = kept_of_fault report f
 
-abbrev pub HandsIn : Installed → ℕ → Report → Outcome → Installed → Type 0
+abbrev pub HandsIn : Installed → ℕ → Report → Result Reply Fault → Installed → Type 0
 HandsIn old «unit» report r new =
     Enters old.past (event.Report «unit» report) r new.past
     × (new.kept ≡ slice_set old.kept «unit» (kept_after report r))
 
 -- a turn of the device of a unit: its next report is handed in, or it has none and nothing changes
-abbrev pub Follows : Installed → ℕ → Result Report Fault → Outcome → Installed → Type 0
+abbrev pub Follows : Installed → ℕ → Result Report Fault → Result Reply Fault → Installed → Type 0
 Follows old «unit» (Ok report) r new = HandsIn old «unit» report r new
 Follows old «unit» (Err f) r new = (r ≡ Err f) × (new ≡ old)
 
-abbrev pub TakesTurn : Installed → ℕ → Outcome → Installed → Type 0
+abbrev pub TakesTurn : Installed → ℕ → Result Reply Fault → Installed → Type 0
 TakesTurn old «unit» r new =
     (next : Result Report Fault)
     × IsNext (slice_get old.kept «unit») (unit_turn_of old.past.state «unit») next
     × Follows old «unit» next r new
 
+-- a look at the serials of a subchannel: refused where it is not configured
+abbrev pub glanced : Option Serials → Outcome
+glanced None = Err fault.NoSuchSubchannel
+glanced (Some serials) = Ok (told.Serials serials)
+
 abbrev pub Acts : Installed → Action → Outcome → Installed → Type 0
-Acts old (action.Event e) r new = Enters old.past e r new.past × (new.kept ≡ old.kept)
-Acts old (action.Dev «unit») r new = TakesTurn old «unit» r new
+Acts old (action.Event e) r new = (came : Result Reply Fault) × (r ≡ told_of came) × Enters old.past e came new.past × (new.kept ≡ old.kept)
+Acts old (action.Dev «unit») r new = (came : Result Reply Fault) × (r ≡ told_of came) × TakesTurn old «unit» came new
+Acts old (action.Glance word) r new = (r ≡ glanced (serials_in (sub_of old.past.state word))) × (new ≡ old)
 
 -- the actions in order come to these outcomes
 abbrev pub Runs : Installed → List Action → List Outcome → Installed → Type 0

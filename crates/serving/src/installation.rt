@@ -1,8 +1,9 @@
 //! A channel subsystem with a device for each of its units.
 
 ghost use Rattle.std.specs.Prelude.{◌≡◌, IfOk, None, length, replicate, slice_get};
-ghost use Rattle.serving.specs.Acting.{Acts, TakesTurn, HandsIn, IsReportOf, IsNext, kept_after, opening};
-ghost use Rattle.machine_model.specs.State.{unit_turn_of};
+ghost use Rattle.serving.specs.Acting as spec;
+ghost use Rattle.serving.specs.Acting.{Acts, TakesTurn, HandsIn, IsReportOf, IsNext, kept_after, opening, glanced};
+ghost use Rattle.machine_model.specs.State.{unit_turn_of, sub_of, serials_in};
 
 use chan_model::event::Event;
 use chan_model::fault::Fault;
@@ -13,7 +14,7 @@ use device_models::answering::answer;
 use device_models::block_store::BlockStore;
 use machine_model::state::UnitTurn;
 use path_select::Rotating;
-use script::Action;
+use script::{Action, Told};
 use std::alloc::{AllocError, Global};
 use std::marker::Model;
 use subsystem::subsystem::Subsystem;
@@ -58,13 +59,25 @@ impl Installation {
 
     /// Performs an action. A turn of a device hands in the report that is kept for its unit, else the one of the unit's next
     /// work. It is refused NoSuchUnit where the unit is not configured, and NotNow where no report is kept and a signal waits
-    /// for the unit or it has nothing to do.
-    pub fn act(&mut self, action: &Action) -> Result<Reply, Fault>
+    /// for the unit or it has nothing to do. A look at serials is refused NoSuchSubchannel where the subchannel is not
+    /// configured.
+    pub fn act(&mut self, action: &Action) -> Result<Told, Fault>
         ensures { Acts self.old action.now result self.new }
     {
         match action {
-            Action::Event(event) => self.subsystem.step(event),
-            Action::Dev(unit) => self.take_turn(*unit),
+            Action::Event(event) => told_of(self.subsystem.step(event)),
+            Action::Dev(unit) => told_of(self.take_turn(*unit)),
+            Action::Glance(subchannel) => self.glance(*subchannel),
+        }
+    }
+
+    /// The serials of the subchannel that a word names.
+    fn glance(&self, subchannel: u32) -> Result<Told, Fault>
+        ensures { result ≡ glanced (serials_in (sub_of self.now.past.state subchannel)) }
+    {
+        match self.subsystem.serials(subchannel) {
+            Some(serials) => Ok(Told::Serials(serials)),
+            None => Err(Fault::NoSuchSubchannel),
         }
     }
 
@@ -111,6 +124,16 @@ impl Installation {
             *kept = kept_of(report, &outcome);
         }
         outcome
+    }
+}
+
+/// What an event comes to, as an action.
+fn told_of(came: Result<Reply, Fault>) -> Result<Told, Fault>
+    ensures { result ≡ spec.told_of came }
+{
+    match came {
+        Ok(reply) => Ok(Told::Reply(reply)),
+        Err(fault) => Err(fault),
     }
 }
 

@@ -1,0 +1,100 @@
+//! Scripts with a bad line: its number, and the first rule that it breaks.
+
+use crate::{Script, ScriptBad};
+use std::alloc::AllocError;
+
+const WRONG: [(&[u8], u64, u8); 60] = [
+    (b"", 1, 6),
+    (b"\n\n# nothing\n", 1, 6),
+    (b"\n#\xFF\n", 1, 6),
+    (b"path 10\nstorage 10\n", 1, 6),
+    (b"\n# first\n \nstorage 10", 3, 6),
+    (b"race 1 1 tsch 0\n", 1, 6),
+    (b"# first \xFF\npath 10\n", 1, 3),
+    (b"storage 10\nlook 0\n", 2, 1),
+    (b"storage 10\n\nStorage 10\n", 3, 1),
+    (b"storage 10\n path 10\n", 2, 1),
+    (b"storage 10\ncpu\n", 2, 1),
+    (b"storage 10\ncpu 1\n", 2, 1),
+    (b"storage 10\ncpu 1 up 0 0\n", 2, 1),
+    (b"storage 10\ncpu 1 glance 0\n", 2, 1),
+    (b"storage 10\nglance\n", 2, 2),
+    (b"storage 10\nssch 0\n", 2, 2),
+    (b"storage 10\ncpu G ssch 0\n", 2, 2),
+    (b"storage\n", 1, 2),
+    (b"storage 10\nunit 0 block \n", 2, 2),
+    (b"storage 10\nsub 0 0\n", 2, 2),
+    (b"storage 10\nenable 0 0 0 0\n", 2, 2),
+    (b"storage 10\nchoose\n", 2, 2),
+    (b"storage 10\nup 0 0 0\n", 2, 2),
+    (b"storage 123456789\n", 1, 3),
+    (b"storage 10\nput 500 C\n", 2, 3),
+    (b"storage 10\nput 500 \n", 2, 3),
+    (b"storage 10\nput 5G0 C1\n", 2, 3),
+    (b"storage 10\nenable 0 8 0\n", 2, 3),
+    (b"storage 10\nenable 0 7 2\n", 2, 3),
+    (b"storage 10\ncpu 10 tsch 0 500\n", 2, 3),
+    (b"storage 10\ncpu G tsch 0 500\n", 2, 3),
+    (b"storage 10\nunit 0 printer\n", 2, 3),
+    (b"storage 10\nunit 0 block\nsub 0 0 0 10 1x\n", 3, 3),
+    (b"storage 10\ndev 0\r\n", 2, 3),
+    (b"storage 10\nkey 2000\n", 2, 2),
+    (b"storage 10\nkey 2000 11\n", 2, 3),
+    (b"storage 10\nkey 2000 100\n", 2, 3),
+    (b"storage 10\nprefix 4000\n", 2, 2),
+    (b"storage 10\nprefix 10 4000\n", 2, 3),
+    (b"storage 10\ncpu 0 prefix 0 4000\n", 2, 1),
+    (b"storage 10\nshow 500\n", 2, 2),
+    (b"storage 10\nshow 500 0\n", 2, 3),
+    (b"storage 10\nshow 500 41\n", 2, 3),
+    (b"storage 10\nshow 123456789 1\n", 2, 3),
+    (b"storage 10\nstsch 0\n", 2, 2),
+    (b"storage 10\nstsch 0 x\n", 2, 3),
+    (b"storage 10\nmsch 0 500 0\n", 2, 2),
+    (b"storage 10\nmsch x 500\n", 2, 3),
+    (b"storage 10\nput 500 C1\npath 10\n", 3, 4),
+    (b"storage 10\nput 500 C1\nstorage 10\n", 3, 4),
+    (b"storage 10\nstorage 10\n", 2, 5),
+    (b"storage F\n", 1, 5),
+    (b"storage 10\nsets 5\n", 2, 5),
+    (b"storage 10\npath 100\n", 2, 5),
+    (b"storage 10\nunit 1 block\n", 2, 5),
+    (b"storage 10\nunit 0 block\nsub 20000 0 0 10\n", 3, 5),
+    (b"storage 10\nunit 0 block\nsub 0 0 0\n", 3, 5),
+    (b"storage 10\nunit 0 block\npath 10\nsub 0 0 1 10\n", 4, 5),
+    (b"storage 10\npath 10\npath 10\nglance 0\n", 3, 5),
+    (b"storage 10\nput 500 C1\nput 500 x", 3, 3),
+];
+
+#[test]
+fn wrong_lines_are_named(rt: HostRuntime) {
+    for (text, line, rule) in WRONG {
+        match Script::read(rt.alloc(), text) {
+            Ok(_) => assert!(rt; false, "line {line} rule {rule}"),
+            Err(bad) => assert_eq!(rt; bad, ScriptBad::Bad { line, rule }),
+        }
+    }
+}
+
+#[test]
+fn a_line_is_at_most_1024_bytes(rt: HostRuntime) -> Result<(), AllocError> {
+    for (length, is_right) in [(1024, true), (1025, false)] {
+        let mut text = Vec::new(rt.alloc());
+        text.extend_from_slice(b"storage 10\n")?;
+        for _ in 0..length {
+            text.push(b'#')?;
+        }
+        text.extend_from_slice(b"\ndev 0\n")?;
+        match Script::read(rt.alloc(), text.as_slice()) {
+            Ok(script) => {
+                assert!(rt; is_right);
+                assert_eq!(rt; script.lines().len(), 1);
+            }
+            Err(bad) => {
+                assert!(rt; !is_right);
+                assert_eq!(rt; bad, ScriptBad::Bad { line: 2, rule: 3 });
+            }
+        }
+    }
+    Ok(())
+}
