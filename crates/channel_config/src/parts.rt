@@ -12,6 +12,10 @@ use std::marker::Model;
 pub enum UnitKind {
     /// 32 blocks of 64 bytes (own).
     Block,
+    /// A line of at most 126 bytes (own).
+    Console,
+    /// Rejects every command (own).
+    Rejecting,
 }
 
 /// The channel-path identifiers (CHPIDs) of a subchannel, by path index: at most eight (SA22-7832, chapter 13).

@@ -1,5 +1,11 @@
 //! The channel reports that wait for a program, and the resets of channel paths that it asked for (SA22-7832,
 //! chapters 14 and 17).
+//!
+//! Used alone, this crate promises: at most 16 reports wait, the oldest first, and `stcrw` takes the oldest. A report that
+//! finds no room is lost, and the last one that waits says so from then on. The reset of a path is asked for by an accepted
+//! `rchp` alone, and until it is done or the path goes down; both are reported. Nothing here takes memory or has a condition;
+//! only `reset_done` refuses, where no reset is asked for, and then nothing changes. After a reset of the channel subsystem,
+//! which loses the reports and the resets asked for, the state is that of `Reports::new`.
 #![tactic(auto)]
 
 ghost use Rattle.std.specs.Prelude.{◌≡◌, slice_get, length};

@@ -156,6 +156,25 @@ const IMMEDIATE: [(&[u8], &[u8], u8); 3] = [
     ),
 ];
 
+/// Consoles, and devices that reject: each script, and what it prints.
+const DEVICES: [(&[u8], &[u8]); 3] = [
+    // A line is written to a console and read.
+    (
+        b"storage 10\npath 10\nunit 0 console\nsub 0 0100 0 10\nput 500 000000000080FF0000001000\nput 1000 0160000400002000\nput 1008 0A20000800003000\nput 2000 C1C2C3C4\nenable 0 0 0\nssch 0 500\nchoose 0\ndown 0 0\nup 0 0\ndown 0 0\ndev 0\nup 0 0\ndown 0 0\ndev 0\nup 0 0\ndown 0 0\ndev 0\nup 0 0\ndown 0 0\ndev 0\ndev 0\nup 0 0\ndown 0 0\ndev 0\nup 0 0\ntsch 0 600\nshow 3000 8\n",
+        b"5 done\n6 done\n7 done\n8 done\n9 cc 0\n10 cc 0\n11 offer 0\n12 took select\n13 took accept\n14 took command\n15 done\n16 took data\n17 took give\n18 done\n19 took data\n20 took give\n21 done\n22 took end\n23 took command\n24 done\n25 done\n26 took data\n27 took took\n28 done\n29 took end\n30 cc 0 00804007 00001010 0C000004\n31 C1C2C3C400000000\n",
+    ),
+    // A console rejects a command of a store, and its sense byte says so.
+    (
+        b"storage 10\npath 10\nunit 0 console\nsub 0 0100 0 10\nput 500 000000000080FF0000001000\nput 1000 0220000400002000\nput 1008 0420000100003000\nput 520 000000000080FF0000001008\nenable 0 0 0\nssch 0 500\nchoose 0\ndown 0 0\nup 0 0\ndown 0 0\ndev 0\nup 0 0\ntsch 0 600\ndown 0 0\nup 0 0\nssch 0 520\nchoose 0\ndown 0 0\nup 0 0\ndown 0 0\ndev 0\ndev 0\nup 0 0\ndown 0 0\ndev 0\nup 0 0\ntsch 0 600\nshow 3000 1\n",
+        b"5 done\n6 done\n7 done\n8 done\n9 cc 0\n10 cc 0\n11 offer 0\n12 took select\n13 took accept\n14 took command\n15 done\n16 took end\n17 cc 0 00804017 00001008 02000004\n18 took release\n19 took released\n20 cc 0\n21 offer 0\n22 took select\n23 took accept\n24 took command\n25 done\n26 done\n27 took data\n28 took took\n29 done\n30 took end\n31 cc 0 00804007 00001010 0C000000\n32 80\n",
+    ),
+    // A device rejects a command; then its path alone is allowed.
+    (
+        b"storage 10\npath 10\npath 11\npath 12\npath 13\nunit 0 reject\nsub 0 0100 0 10 11 12 13\nput 500 000000000080100000001000\nput 520 000000000080E00000001000\nput 1000 0120000400002000\nput 2000 C1C2C3C4\nenable 0 0 0\nssch 0 500\nchoose 0\ndown 0 3\nup 0 3\ndown 0 3\ndev 0\nup 0 3\ntsch 0 600\nssch 0 520\nchoose 0\ndown 0 3\nup 0 3\nchoose 0\ntsch 0 600\n",
+        b"8 done\n9 done\n10 done\n11 done\n12 cc 0\n13 cc 0\n14 offer 3\n15 took select\n16 took accept\n17 took command\n18 done\n19 took end\n20 cc 0 00804017 00001008 02000004\n21 cc 0\n22 idle\n23 took release\n24 took released\n25 status\n26 cc 0 03804017 00001000 00000000\n",
+    ),
+];
+
 #[test]
 fn commands_follow_one_another(rt: HostRuntime) {
     for (text, printed, ends) in COMMANDS {
@@ -189,5 +208,14 @@ fn a_command_may_end_at_once(rt: HostRuntime) {
         let (out, status) = served(&rt, "run", text);
         assert_eq!(rt; out.as_slice(), printed);
         assert_eq!(rt; status, ends);
+    }
+}
+
+#[test]
+fn each_kind_of_unit_answers(rt: HostRuntime) {
+    for (text, printed) in DEVICES {
+        let (out, status) = served(&rt, "run", text);
+        assert_eq!(rt; out.as_slice(), printed);
+        assert_eq!(rt; status, 0);
     }
 }

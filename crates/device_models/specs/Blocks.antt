@@ -2,7 +2,12 @@
 use Rattle.std.specs.Prelude.{◌<◌, ◌≤◌, ℕ, ◌+◌, ◌-◌, ◌*◌, ◌==◌, ◌&&◌, nat_lt, Bool, false, if◌then◌else◌, Option, None, Some, List, [], ◌∷◌, ◌++◌, length, take, drop, min, replicate, slice_index, slice_index_or, slice_set}
 use Rattle.device_models.specs.declared.command.Command.{Command}
 use Rattle.device_models.specs.declared.command.Command.TheVariants.{Write, Read, NoOperation, Sense, Seek, Recalibrate, SearchEqual}
-use Rattle.device_models.specs.Commands.{size_of}
+use Rattle.device_models.specs.Commands.{command_of, size_of}
+use Rattle.device_models.specs.Shapes.{Begun, Ended, answer_of_begun, answer_of_ended, part, sense_left}
+use Rattle.chan_model.specs.declared.report.Call.{Call}
+use Rattle.chan_model.specs.declared.report.Call.TheVariants as call
+use Rattle.chan_model.specs.declared.report.DeviceAnswer.{DeviceAnswer}
+use Rattle.chan_model.specs.declared.report.DeviceAnswer.TheVariants as answer
 
 -- 32 blocks of 64 bytes, the number of the current one, the sense byte, the command at hand, how many of its bytes are
 -- moved, and the two bytes of the block number that a command brings
@@ -34,19 +39,15 @@ opening =
 abbrev pub current_block : Blocks → List ℕ
 current_block store = slice_index_or store.blocks store.current []
 
--- The initial status of a command, and the store with it at hand.
-pub record Begun : Type 0 where
-  pub status : ℕ
-  pub state : Blocks
-
-abbrev pub begins : Blocks → Command → ℕ → Begun
+-- A command is begun: it is at hand.
+abbrev pub begins : Blocks → Command → ℕ → Begun Blocks
 begins store command status = record { status = status; state = record store { at_hand = Some command; moved = 0 } }
 
 -- a code without a command: unit check, and the sense byte says command reject
-abbrev pub rejected : Blocks → Begun
+abbrev pub rejected : Blocks → Begun Blocks
 rejected store = record { status = 0x02; state = record store { sense = 0x80; at_hand = None; moved = 0 } }
 
-abbrev pub begun : Blocks → Option Command → Begun
+abbrev pub begun : Blocks → Option Command → Begun Blocks
 begun store (Some Write) = begins store Write 0
 begun store (Some Read) = begins store Read 0
 begun store (Some NoOperation) = begins store NoOperation 0x08
@@ -58,16 +59,15 @@ begun store None = rejected store
 
 -- The bytes that a command gives, at most so many of them: the current block from its start, or the sense byte.
 abbrev pub given_by : Option Command → Blocks → ℕ → List ℕ
-given_by (Some Read) store most = take most (drop store.moved (current_block store))
-given_by (Some Sense) store most = take most (drop store.moved (store.sense ∷ []))
+given_by (Some Read) store most = part (current_block store) store.moved most
+given_by (Some Sense) store most = part (store.sense ∷ []) store.moved most
 given_by command store most = []
 
 abbrev pub given_of : Blocks → ℕ → List ℕ
 given_of store most = given_by store.at_hand store most
 
--- the sense byte is zero once it is given
 abbrev pub sense_after : Option Command → ℕ → List ℕ → ℕ
-sense_after (Some Sense) sense (byte ∷ bytes) = 0
+sense_after (Some Sense) sense bytes = sense_left sense bytes
 sense_after command sense bytes = sense
 
 abbrev pub supplied : Blocks → List ℕ → Blocks
@@ -97,13 +97,8 @@ abbrev pub absorbed : Blocks → List ℕ → Blocks
 absorbed store bytes =
     record (laid_by store.at_hand store (take (taken_of store bytes) bytes)) { moved = store.moved + taken_of store bytes }
 
--- The status that ends a command, whether it had more bytes to give, and the store with no command at hand.
-pub record Ended : Type 0 where
-  pub status : ℕ
-  pub more : Bool
-  pub state : Blocks
-
-abbrev pub ends : Blocks → ℕ → Bool → Ended
+-- A command is ended: none is at hand.
+abbrev pub ends : Blocks → ℕ → Bool → Ended Blocks
 ends store status more = record { status = status; more = more; state = record store { at_hand = None; moved = 0 } }
 
 -- the block number that a command brought, whole
@@ -111,17 +106,17 @@ abbrev pub number_of : Blocks → ℕ
 number_of store = 256 * slice_index store.number 0 + slice_index store.number 1
 
 -- the number is that of a block: it is current now; otherwise unit check, and the sense byte says so
-abbrev pub sought : Blocks → Ended
+abbrev pub sought : Blocks → Ended Blocks
 sought store =
     if (store.moved == 2) && nat_lt (number_of store) 32
     then ends (record store { current = number_of store }) 0x0C false
     else ends (record store { sense = 0x20 }) 0x0E false
 
 -- the number is that of the current block: status modifier
-abbrev pub searched : Blocks → Ended
+abbrev pub searched : Blocks → Ended Blocks
 searched store = ends store (if (store.moved == 2) && (number_of store == store.current) then 0x4C else 0x0C) false
 
-abbrev pub ended_by : Option Command → Blocks → Ended
+abbrev pub ended_by : Option Command → Blocks → Ended Blocks
 ended_by (Some Write) store = ends store 0x0C false
 ended_by (Some Read) store = ends store 0x0C (nat_lt store.moved 64)
 ended_by (Some NoOperation) store = ends store 0x04 false
@@ -131,5 +126,18 @@ ended_by (Some Recalibrate) store = ends store 0x04 false
 ended_by (Some SearchEqual) store = searched store
 ended_by None store = ends store 0x0C false
 
-abbrev pub ended : Blocks → Ended
+abbrev pub ended : Blocks → Ended Blocks
 ended store = ended_by store.at_hand store
+
+-- Each call of a store: its answer, and the store after it.
+abbrev pub answer_of : Blocks → Call → DeviceAnswer
+answer_of store (call.Initial code) = answer_of_begun (begun store (command_of code))
+answer_of store (call.Absorb bytes) = answer.Absorbed (taken_of store bytes)
+answer_of store (call.Supply most) = answer.Supplied (given_of store most)
+answer_of store call.Finish = answer_of_ended (ended store)
+
+abbrev pub after : Blocks → Call → Blocks
+after store (call.Initial code) = (begun store (command_of code)).state
+after store (call.Absorb bytes) = absorbed store bytes
+after store (call.Supply most) = supplied store (given_of store most)
+after store call.Finish = (ended store).state

@@ -3,13 +3,17 @@
 ghost use Rattle.std.specs.Prelude.{◌≡◌, ◌≤◌, ◌+◌, false, length, take, drop};
 ghost use Rattle.ccw_codec.specs.Command.{class_of};
 ghost use Rattle.ccw_codec.specs.declared.Class.TheVariants.{ReadBackward};
-ghost use Rattle.device_models.specs.Laws.{IsInitial, IsFinal};
+ghost use Rattle.device_law.specs.Laws.{IsInitial, IsFinal};
 ghost use Rattle.device_models.specs.Blocks as spec;
 ghost use Rattle.device_models.specs.Commands.{command_of, size_of};
+ghost use Rattle.chan_model.specs.declared.report.Call.TheVariants as call;
+ghost use Rattle.chan_model.specs.declared.report.DeviceAnswer.TheVariants as answer;
+ghost use Rattle.device_law.specs.Calls.{IsTold, answer_of_initial, answer_of_finish};
 
 use crate::command::Command;
-use crate::{Device, Finish};
+use crate::giving::{COMMAND_REJECT, part};
 use chan_model::chunk::Chunk;
+use device_law::{Device, Finish};
 use scsw_irb::status::DeviceStatus;
 use std::marker::Model;
 
@@ -18,9 +22,6 @@ const BLOCKS: u16 = 32;
 const BLOCK_BYTES: u8 = 64;
 
 const NUMBER_BYTES: u8 = 2;
-
-/// Bit 0 of the sense byte: the command was rejected.
-const COMMAND_REJECT: u8 = 0x80;
 
 /// Bit 2 of the sense byte: the number is that of no block (own).
 const NO_SUCH_BLOCK: u8 = 0x20;
@@ -136,16 +137,13 @@ impl BlockStore {
 }
 
 impl Device for BlockStore {
-    ghost opening = { spec.opening };
+    ghost answers = { IsTold spec.answer_of spec.after };
+
+    ghost opening = { λ _. spec.opening };
 
     /// Codes 01 (write), 02 (read), 03 (no operation), 04 (sense), 07 (seek), 0B (recalibrate) and 31 (search
     /// equal) are begun. Any other is rejected: the sense byte is 80 then.
-    fn initial(&mut self, code: u8) -> DeviceStatus
-        ensures law { IsInitial result }
-        ensures backward { class_of code ≡ ReadBackward → result.0 ≡ 0x02 }
-        ensures status { result.0 ≡ (spec.begun self.old (command_of code)).status }
-        ensures state { self.new ≡ (spec.begun self.old (command_of code)).state }
-    {
+    fn initial(&mut self, code: u8) -> DeviceStatus {
         self.at_hand = Command::of_code(code);
         self.moved = 0;
         match self.at_hand {
@@ -163,11 +161,7 @@ impl Device for BlockStore {
     }
 
     /// Gives what is left of the current block (02), or the sense byte (04).
-    fn supply(&mut self, most: usize) -> Chunk
-        ensures law { length result ≤ most }
-        ensures bytes { result ≡ spec.given_of self.old most }
-        ensures state { self.new ≡ spec.supplied self.old result }
-    {
+    fn supply(&mut self, most: usize) -> Chunk {
         let bytes = self.given(most);
         if self.at_hand == Some(Command::Sense) && bytes.len() > 0 {
             self.sense = 0;
@@ -177,11 +171,7 @@ impl Device for BlockStore {
     }
 
     /// Takes bytes of the current block (01), or of a block number (07 and 31).
-    fn absorb(&mut self, bytes: &[u8]) -> usize
-        ensures law { result ≤ length bytes.now }
-        ensures count { result ≡ spec.taken_of self.old bytes.now }
-        ensures state { self.new ≡ spec.absorbed self.old bytes.now }
-    {
+    fn absorb(&mut self, bytes: &[u8]) -> usize {
         let count = bytes.len().min(self.room());
         let taken = &bytes[..count];
         let place = usize::from(self.moved);
@@ -196,12 +186,7 @@ impl Device for BlockStore {
 
     /// Ends with channel end and device end; with device end alone after channel end (03 and 0B), with unit
     /// check for a number that is no block's (07), and with status modifier for the current one's (31).
-    fn finish(&mut self) -> Finish
-        ensures law { IsFinal result.status }
-        ensures status { result.status.0 ≡ (spec.ended self.old).status }
-        ensures more { result.more ≡ (spec.ended self.old).more }
-        ensures state { self.new ≡ (spec.ended self.old).state }
-    {
+    fn finish(&mut self) -> Finish {
         match self.at_hand {
             Some(Command::Read) => {
                 let more = self.moved < BLOCK_BYTES;
@@ -217,23 +202,9 @@ impl Device for BlockStore {
     }
 
     /// Puts the store back to its opening, its blocks too.
-    fn restart(&mut self)
-        ensures { self.new ≡ spec.opening }
-    {
+    fn restart(&mut self) {
         *self = BlockStore::new();
     }
-}
-
-/// The bytes from a place on, at most so many.
-fn part(bytes: &[u8], place: usize, most: usize) -> Chunk
-    requires within { place ≤ length bytes.now }
-    requires short { length bytes.now ≤ 256 }
-    ensures bytes { result ≡ take most (drop place bytes.now) }
-    ensures bound { length result ≤ most }
-    ensures left { place + length result ≤ length bytes.now }
-{
-    let rest = &bytes[place..];
-    Chunk::of(&rest[..most.min(rest.len())])
 }
 
 /// Lays bytes over others from a place on.

@@ -6,3 +6,5 @@ pub mod SubchannelBlocks
 pub mod Taking
 pub mod Steps
 pub mod Bounds
+pub mod Functions
+pub mod Causes

@@ -1,5 +1,5 @@
 -- The statuses of a subchannel, by their causes (SA22-7832, chapter 16; the bits are this project's own choice).
-use Rattle.std.specs.Prelude.{ℕ, Bool, true, false, not, ◌==◌, ◌&&◌, ◌||◌, Option, None, Some, is_some, bit_or}
+use Rattle.std.specs.Prelude.{ℕ, Bool, true, false, not, ◌&&◌, ◌||◌, Option, None, Some, is_some, bit_or}
 use Rattle.scsw_irb.specs.declared.scsw.DeferredCode.TheVariants as deferred
 use Rattle.scsw_irb.specs.declared.scsw.Scsw.{Scsw}
 use Rattle.scsw_irb.specs.declared.status.DeviceStatus.{DeviceStatus}
@@ -11,7 +11,7 @@ use Rattle.scsw_irb.specs.Status.{has}
 use Rattle.chan_model.specs.UnitReports.{has_channel_end, has_device_end, has_unit_check}
 use Rattle.channel_program.specs.declared.check.Check.{Check}
 use Rattle.channel_program.specs.declared.check.Check.TheVariants.{Program, Protection}
-use Rattle.data_move.specs.Moving.{residual}
+use Rattle.data_move.specs.Moving.{residual, is_incorrect}
 use Rattle.machine_model.specs.declared.state.Begun.{Begun}
 use Rattle.machine_model.specs.declared.state.SubchannelState.{SubchannelState}
 
@@ -69,9 +69,6 @@ is_unit_check_alone status = has_unit_check status && (not (has_channel_end stat
 abbrev pub is_channel_end_alone : DeviceStatus → Bool
 is_channel_end_alone status = has_channel_end status && not (has_device_end status)
 
-abbrev pub is_short : Begun → Bool → Bool
-is_short b more = not (residual b.transfer.moving == 0) || more
-
 abbrev pub suppresses_length : Begun → Bool
 suppresses_length b = b.transfer.moving.ccw.suppress_length && not b.transfer.moving.ccw.chain_data
 
@@ -81,7 +78,7 @@ shows_immediate b status = not (is_channel_end_alone status) || (b.program.orb.f
 abbrev pub shows_length : Scsw → Begun → DeviceStatus → Bool → Bool
 shows_length scsw b status more =
     not b.transfer.ended
-    && (is_short b more
+    && (is_incorrect b.transfer.moving more
     && (not (is_unit_check_alone status)
     && (not scsw.functions.halt
     && (not (suppresses_length b) && shows_immediate b status))))

@@ -1,4 +1,9 @@
 //! Which of the usable paths of a subchannel is taken (own).
+//!
+//! Used alone, this crate promises: by each type that keeps the law of `PathChoice`, a choice is None exactly where the set
+//! is empty, and otherwise one of its paths. `Lowest` gives the lowest of them; `Rotating` gives the first that follows the
+//! path of the choice before, where path 0 follows path 7. A choice depends on its arguments alone, changes nothing, takes no
+//! memory and refuses nothing; which paths are usable is the caller's to say.
 #![tactic(auto)]
 
 ghost use Rattle.std.specs.Prelude.{◌<◌, ◌+◌};

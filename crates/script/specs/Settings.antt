@@ -2,14 +2,17 @@
 use Rattle.std.specs.Prelude.{ℕ, List, [], ◌∷◌, Option, Some, None, Result, Err, codes, if◌then◌else◌}
 use Rattle.std.specs.Str.{bytes_eq}
 use Rattle.channel_config.specs.declared.parts.UnitKind.{UnitKind}
-use Rattle.channel_config.specs.declared.parts.UnitKind.TheVariants.{Block}
+use Rattle.channel_config.specs.declared.parts.UnitKind.TheVariants.{Block, Console, Rejecting}
 use Rattle.channel_config.specs.Setup.{Setup, with_storage, with_sets, with_path, with_unit, with_subchannel}
 use Rattle.script.specs.declared.settings.Setting.{Setting}
 use Rattle.script.specs.declared.settings.Setting.TheVariants.{Storage, Sets, Path, Unit, Subchannel}
 use Rattle.script.specs.Words.{and_then, number, numbers_of, subchannel, or_rule_3, with_one, with_two}
 
 abbrev pub kind_named : List ℕ → Option UnitKind
-kind_named word = if bytes_eq word (codes "block") then Some Block else None
+kind_named word = if bytes_eq word (codes "block") then Some Block
+    else (if bytes_eq word (codes "console") then Some Console
+    else (if bytes_eq word (codes "reject") then Some Rejecting
+    else None))
 
 -- `storage BLOCKS`
 abbrev pub storage_row : List (List ℕ) → Result Setting ℕ

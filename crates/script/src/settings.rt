@@ -39,6 +39,10 @@ fn kind_named(word: &[u8]) -> Option<UnitKind>
 {
     if word == b"block".as_slice() {
         Some(UnitKind::Block)
+    } else if word == b"console".as_slice() {
+        Some(UnitKind::Console)
+    } else if word == b"reject".as_slice() {
+        Some(UnitKind::Rejecting)
     } else {
         None
     }

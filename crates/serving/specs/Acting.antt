@@ -1,5 +1,5 @@
 -- What the actions of a script come to at a channel subsystem with its devices.
-use Rattle.std.specs.Prelude.{◌≡◌, ℕ, ◌⊎◌, List, [], ◌∷◌, ◌++◌, length, replicate, slice_get, slice_set, Option, None, Some, Result, Ok, Err}
+use Rattle.std.specs.Prelude.{◌≡◌, ℕ, ◌⊎◌, List, [], ◌∷◌, ◌++◌, length, map, replicate, slice_get, slice_set, Option, None, Some, Result, Ok, Err}
 use Rattle.chan_model.specs.declared.event.Event.{Event}
 use Rattle.chan_model.specs.declared.event.Event.TheVariants as event
 use Rattle.chan_model.specs.declared.fault.Fault.{Fault}
@@ -12,7 +12,8 @@ use Rattle.chan_model.specs.declared.report.Report.{Report}
 use Rattle.chan_model.specs.declared.report.Work.{Work}
 use Rattle.chan_model.specs.declared.report.Work.TheVariants as work
 use Rattle.channel_config.specs.Setup.{Setup}
-use Rattle.device_models.specs.Laws.{IsAnswer}
+use Rattle.device_models.specs.AnyDevices.{device_of, answer_of, after}
+use Rattle.device_models.specs.declared.any_device.AnyDevice.{AnyDevice}
 use Rattle.machine_model.specs.State.{Past, opening_of, unit_turn_of, sub_of, serials_in}
 use Rattle.machine_model.specs.Steps.{Step, IsRefused}
 use Rattle.machine_model.specs.declared.state.UnitTurn.{UnitTurn}
@@ -31,40 +32,72 @@ abbrev pub told_of : Result Reply Fault → Outcome
 told_of (Ok r) = Ok (told.Reply r)
 told_of (Err f) = Err f
 
--- a machine, and by unit the report that is still to be handed in
+-- a machine, and by unit its device and the report that is still to be handed in
 pub record Installed : Type 0 where
   pub past : Past
+  pub devices : List AnyDevice
   pub kept : List (Option Report)
 
 abbrev pub opening : Setup → Installed
-opening setup = record { past = record { state = opening_of setup; history = [] }; kept = replicate (length setup.units) None }
+opening setup = record {
+  past = record { state = opening_of setup; history = [] };
+  devices = map device_of setup.units;
+  kept = replicate (length setup.units) None;
+}
 
 -- an event: a step, which the history keeps with its reply; or a refusal, which changes nothing
 abbrev pub Enters : Past → Event → Result Reply Fault → Past → Type 0
 Enters old e (Ok r) new = Step old.state e r new.state × (new.history ≡ old.history ++ record { event = e; reply = r } ∷ [])
 Enters old e (Err f) new = ((f ≡ fault.NoMemory) ⊎ IsRefused old.state e f) × (new ≡ old)
 
--- the report of a unit's work: its own, or one with an answer that the call may bring
-abbrev pub IsAnswered : Side → ℕ → ℕ → ℕ → Call → Report → Type 0
-IsAnswered side number command sequence call report =
-    (answer : DeviceAnswer) × IsAnswer call answer
-    × (report ≡ record { side = side; number = number; command = command; sequence = sequence; answer = answer })
+-- A turn of a device: the report that is to be handed in, or why there is none; and the devices, of which one may be called.
+pub record Turn : Type 0 where
+  pub report : Result Report Fault
+  pub devices : List AnyDevice
 
-abbrev pub IsReportOf : Work → Report → Type 0
-IsReportOf (work.Report own) report = report ≡ own
-IsReportOf (work.Call side number command sequence call) report = IsAnswered side number command sequence call report
+abbrev pub refused : List AnyDevice → Fault → Turn
+refused devices fault = record { report = Err fault; devices = devices }
 
--- the report that a unit hands in next: the one that is kept for it, else the one of its work
-abbrev pub IsNextOf : UnitTurn → Result Report Fault → Type 0
-IsNextOf Takes next = next ≡ Err fault.NotNow
-IsNextOf Rests next = next ≡ Err fault.NotNow
-IsNextOf (Works w) next = (report : Report) × IsReportOf w report × (next ≡ Ok report)
+abbrev pub hands : List AnyDevice → Report → Turn
+hands devices report = record { report = Ok report; devices = devices }
 
-abbrev pub IsNext : Option (Option Report) → Option UnitTurn → Result Report Fault → Type 0
-IsNext None turn next = next ≡ Err fault.NoSuchUnit
-IsNext (Some kept) None next = next ≡ Err fault.NoSuchUnit
-IsNext (Some None) (Some turn) next = IsNextOf turn next
-IsNext (Some (Some report)) (Some turn) next = next ≡ Ok report
+-- what the device of a unit answers to a call, and the devices after it
+abbrev pub answered : Option AnyDevice → Call → Option DeviceAnswer
+answered None call = None
+answered (Some device) call = Some (answer_of device call)
+
+abbrev pub called : List AnyDevice → ℕ → Option AnyDevice → Call → List AnyDevice
+called devices place None call = devices
+called devices place (Some device) call = slice_set devices place (after device call)
+
+-- the report of a work, its own or one with what the device answered; and the devices after it
+abbrev pub report_with : Side → ℕ → ℕ → ℕ → Option DeviceAnswer → Result Report Fault
+report_with side number command sequence None = Err fault.NoSuchUnit
+report_with side number command sequence (Some answer) =
+    Ok (record { side = side; number = number; command = command; sequence = sequence; answer = answer })
+
+abbrev pub report_of : Option AnyDevice → Work → Result Report Fault
+report_of device (work.Report own) = Ok own
+report_of device (work.Call side number command sequence call) = report_with side number command sequence (answered device call)
+
+abbrev pub devices_after : List AnyDevice → ℕ → Work → List AnyDevice
+devices_after devices place (work.Report own) = devices
+devices_after devices place (work.Call side number command sequence call) = called devices place (slice_get devices place) call
+
+abbrev pub worked : List AnyDevice → ℕ → Work → Turn
+worked devices place w = record { report = report_of (slice_get devices place) w; devices = devices_after devices place w }
+
+-- the report that is kept for a unit, else the one of its work
+abbrev pub turn_by : List AnyDevice → ℕ → Option (Option Report) → Option UnitTurn → Turn
+turn_by devices place None turn = refused devices fault.NoSuchUnit
+turn_by devices place (Some kept) None = refused devices fault.NoSuchUnit
+turn_by devices place (Some (Some report)) (Some turn) = hands devices report
+turn_by devices place (Some None) (Some Takes) = refused devices fault.NotNow
+turn_by devices place (Some None) (Some Rests) = refused devices fault.NotNow
+turn_by devices place (Some None) (Some (Works w)) = worked devices place w
+
+abbrev pub turn_of : Installed → ℕ → Turn
+turn_of old place = turn_by old.devices place (slice_get old.kept place) (unit_turn_of old.past.state place)
 
 -- a report is kept where it was refused for want of memory or of room on a wire, and only there
 abbrev pub kept_of_fault : Report → Fault → Option Report
@@ -77,20 +110,18 @@ kept_after report (Ok r) = None
 kept_after report (Err f) = kept_of_fault report f
 
 abbrev pub HandsIn : Installed → ℕ → Report → Result Reply Fault → Installed → Type 0
-HandsIn old «unit» report r new =
-    Enters old.past (event.Report «unit» report) r new.past
-    × (new.kept ≡ slice_set old.kept «unit» (kept_after report r))
+HandsIn old place report r new =
+    Enters old.past (event.Report place report) r new.past
+    × (new.devices ≡ old.devices)
+    × (new.kept ≡ slice_set old.kept place (kept_after report r))
 
--- a turn of the device of a unit: its next report is handed in, or it has none and nothing changes
+-- a turn of the device of a unit: its report is handed in, or it has none and nothing changes
 abbrev pub Follows : Installed → ℕ → Result Report Fault → Result Reply Fault → Installed → Type 0
-Follows old «unit» (Ok report) r new = HandsIn old «unit» report r new
-Follows old «unit» (Err f) r new = (r ≡ Err f) × (new ≡ old)
+Follows old place (Ok report) r new = HandsIn old place report r new
+Follows old place (Err f) r new = (r ≡ Err f) × (new ≡ old)
 
 abbrev pub TakesTurn : Installed → ℕ → Result Reply Fault → Installed → Type 0
-TakesTurn old «unit» r new =
-    (next : Result Report Fault)
-    × IsNext (slice_get old.kept «unit») (unit_turn_of old.past.state «unit») next
-    × Follows old «unit» next r new
+TakesTurn old place r new = Follows (record old { devices = (turn_of old place).devices }) place (turn_of old place).report r new
 
 -- a look at the serials of a subchannel: refused where it is not configured
 abbrev pub glanced : Option Serials → Outcome
@@ -98,8 +129,9 @@ glanced None = Err fault.NoSuchSubchannel
 glanced (Some serials) = Ok (told.Serials serials)
 
 abbrev pub Acts : Installed → Action → Outcome → Installed → Type 0
-Acts old (action.Event e) r new = (came : Result Reply Fault) × (r ≡ told_of came) × Enters old.past e came new.past × (new.kept ≡ old.kept)
-Acts old (action.Dev «unit») r new = (came : Result Reply Fault) × (r ≡ told_of came) × TakesTurn old «unit» came new
+Acts old (action.Event e) r new =
+    (came : Result Reply Fault) × (r ≡ told_of came) × Enters old.past e came new.past × (new.devices ≡ old.devices) × (new.kept ≡ old.kept)
+Acts old (action.Dev place) r new = (came : Result Reply Fault) × (r ≡ told_of came) × TakesTurn old place came new
 Acts old (action.Glance word) r new = (r ≡ glanced (serials_in (sub_of old.past.state word))) × (new ≡ old)
 
 -- the actions in order come to these outcomes

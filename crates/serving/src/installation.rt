@@ -1,17 +1,19 @@
 //! A channel subsystem with a device for each of its units.
 
-ghost use Rattle.std.specs.Prelude.{◌≡◌, IfOk, None, length, replicate, slice_get};
+ghost use Rattle.std.specs.Prelude.{◌≡◌, IfOk, None, map, replicate, slice_get};
 ghost use Rattle.serving.specs.Acting as spec;
-ghost use Rattle.serving.specs.Acting.{Acts, TakesTurn, HandsIn, IsReportOf, IsNext, kept_after, opening, glanced};
-ghost use Rattle.machine_model.specs.State.{unit_turn_of, sub_of, serials_in};
+ghost use Rattle.serving.specs.Acting.{Acts, TakesTurn, HandsIn, kept_after, opening, glanced};
+ghost use Rattle.machine_model.specs.State.{sub_of, serials_in};
+ghost use Rattle.device_models.specs.AnyDevices.{device_of};
 
 use chan_model::event::Event;
 use chan_model::fault::Fault;
 use chan_model::reply::Reply;
-use chan_model::report::{Report, Work};
+use chan_model::report::{Call, DeviceAnswer, Report, Work};
 use channel_config::config::Config;
-use device_models::answering::answer;
-use device_models::block_store::BlockStore;
+use channel_config::parts::UnitKind;
+use device_law::answering::answer;
+use device_models::any_device::AnyDevice;
 use machine_model::state::UnitTurn;
 use path_select::Rotating;
 use script::{Action, Told};
@@ -19,24 +21,21 @@ use std::alloc::{AllocError, Global};
 use std::marker::Model;
 use subsystem::subsystem::Subsystem;
 
-/// A channel subsystem, with a store of blocks for each unit, and by unit the report that is still to be handed in: one for
-/// which there was no memory or no room on a wire.
+/// A channel subsystem, with a device for each unit, and by unit the report that is still to be handed in: one for which there
+/// was no memory or no room on a wire.
 #[derive(Drop)]
 pub struct Installation {
     subsystem: Subsystem<Rotating>,
-    stores: Vec<BlockStore>,
+    devices: Vec<AnyDevice>,
     kept: Vec<Option<Report>>,
 }
 
 impl Model for Installation {
-    ghost use Rattle.std.specs.Prelude.{◌≡◌, length};
     ghost use Rattle.serving.specs.Acting.{Installed};
 
     ghost Value = { Installed };
 
-    ghost view = { λ i. record { past = i.subsystem; kept = i.kept.items } };
-
-    ghost invariant = { λ i. length i.stores.items ≡ length i.kept.items };
+    ghost view = { λ i. record { past = i.subsystem; devices = i.devices.items; kept = i.kept.items } };
 }
 
 impl Installation {
@@ -44,13 +43,12 @@ impl Installation {
     pub fn new(alloc: Global, config: Config) -> Result<Installation, AllocError>
         ensures { IfOk result (λ i. i ≡ opening config) }
     {
-        let units = config.units().len();
-        let stores = opening_stores(alloc, units)?;
-        let kept = no_reports(alloc, units)?;
+        let devices = opening_devices(alloc, config.units())?;
+        let kept = no_reports(alloc, config.units().len())?;
         match Subsystem::new(alloc, config, Rotating) {
             Ok(subsystem) => Ok(Installation {
                 subsystem,
-                stores,
+                devices,
                 kept,
             }),
             Err(_) => Err(AllocError),
@@ -90,13 +88,10 @@ impl Installation {
 
     /// The report that is kept for a unit, else the one of its next work.
     fn next_report(&mut self, unit: u32) -> Result<Report, Fault>
-        ensures next { IsNext (slice_get self.old.kept «unit») (unit_turn_of self.old.past.state «unit») result }
-        ensures same { self.new ≡ self.old }
+        ensures report { result ≡ (spec.turn_of self.old «unit»).report }
+        ensures calls { self.new ≡ record self.old { devices = (spec.turn_of self.old «unit»).devices } }
     {
         let Some(kept) = self.kept.get(unit as usize) else {
-            return Err(Fault::NoSuchUnit);
-        };
-        let Some(store) = self.stores.get_mut(unit as usize) else {
             return Err(Fault::NoSuchUnit);
         };
         let Some(turn) = self.subsystem.unit_turn(unit) else {
@@ -106,7 +101,7 @@ impl Installation {
             return Ok(report.copy());
         }
         match turn {
-            UnitTurn::Works(work) => Ok(worked(store, &work)),
+            UnitTurn::Works(work) => worked(&mut self.devices, unit, work),
             UnitTurn::Takes | UnitTurn::Rests => Err(Fault::NotNow),
         }
     }
@@ -158,35 +153,48 @@ fn no_reports(alloc: Global, count: usize) -> Result<Vec<Option<Report>>, AllocE
     Ok(kept)
 }
 
-/// So many stores at their opening.
-fn opening_stores(alloc: Global, count: usize) -> Result<Vec<BlockStore>, AllocError>
-    ensures { IfOk result (λ stores. length stores.items ≡ count) }
+/// The device of each unit, at its opening.
+fn opening_devices(alloc: Global, kinds: &[UnitKind]) -> Result<Vec<AnyDevice>, AllocError>
+    ensures { IfOk result (λ devices. devices.items ≡ map device_of kinds.now) }
 {
-    let mut stores = Vec::new(alloc);
-    for _ in 0..count {
-        stores.push(BlockStore::new())?;
+    let mut devices = Vec::new(alloc);
+    for kind in kinds {
+        devices.push(AnyDevice::of(*kind))?;
     }
-    Ok(stores)
+    Ok(devices)
 }
 
-/// The report of a work. Where there is a call of the device, it is made.
-fn worked(store: &mut BlockStore, work: &Work) -> Report
-    ensures { IsReportOf work.now result }
+/// The report of a work of a unit. Where there is a call of its device, it is made.
+fn worked(devices: &mut Vec<AnyDevice>, unit: u32, work: Work) -> Result<Report, Fault>
+    ensures report { result ≡ spec.report_of (slice_get devices.old.items «unit») work }
+    ensures calls { devices.new.items ≡ spec.devices_after devices.old.items «unit» work }
 {
     match work {
-        Work::Report(report) => report.copy(),
+        Work::Report(report) => Ok(report),
         Work::Call {
             side,
             number,
             command,
             sequence,
             call,
-        } => Report {
-            side: *side,
-            number: *number,
-            command: *command,
-            sequence: *sequence,
-            answer: answer(store, call),
-        },
+        } => {
+            let answer = called(devices, unit, &call).ok_or(Fault::NoSuchUnit)?;
+            Ok(Report {
+                side,
+                number,
+                command,
+                sequence,
+                answer,
+            })
+        }
     }
+}
+
+/// Calls the device of a unit.
+fn called(devices: &mut Vec<AnyDevice>, unit: u32, call: &Call) -> Option<DeviceAnswer>
+    ensures answer { result ≡ spec.answered (slice_get devices.old.items «unit») call.now }
+    ensures calls { devices.new.items ≡ spec.called devices.old.items «unit» (slice_get devices.old.items «unit») call.now }
+{
+    let device = devices.get_mut(unit as usize)?;
+    Some(answer(device, call))
 }

@@ -6,7 +6,6 @@ ghost use Rattle.machine_model.specs.Taking as spec;
 ghost use Rattle.transfer.specs.Commands as transfer_spec;
 
 use crate::answers::{ignoring, let_go, quietly, sending};
-use crate::statuses::{fetch_fault_shown, with_status};
 use chan_model::hold_state::{HoldPhase, HoldState};
 use chan_model::names::Path;
 use chan_model::signal::{Down, Taken, Up};
@@ -14,6 +13,7 @@ use channel_program::check::Check;
 use hold::Hold;
 use machine_model::state::{Begun, Pmcw, Program, SubchannelState, UpStep};
 use scsw_irb::scsw::{ActivityControl, Scsw};
+use status::shown::{fetch_fault_shown, with_status};
 use storage_keys::Storage;
 use transfer::commands::{begun_with_room, first_command};
 use transfer::{Roomy, Transfer};

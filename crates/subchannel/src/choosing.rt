@@ -4,12 +4,12 @@ ghost use Rattle.std.specs.Prelude.{◌≡◌, ◌<◌, ◌^◌};
 ghost use Rattle.machine_model.specs.Choosing as spec;
 ghost use Rattle.chan_model.specs.declared.hold_state.HoldPhase.TheVariants as phase;
 
-use crate::statuses::{no_path_shown, with_status};
 use chan_model::hold_state::HoldPhase;
 use chan_model::names::Path;
 use chan_model::paths::PathSet;
 use hold::Hold;
 use machine_model::state::{Chosen, Program, Subchannel, SubchannelState};
+use status::shown::{no_path_shown, with_status};
 
 fn keeps_dedicated(dedicated: Option<Path>, path: usize) -> bool
     ensures { result ≡ spec.keeps_dedicated dedicated path }

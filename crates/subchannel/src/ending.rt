@@ -1,24 +1,19 @@
 //! What a subchannel does as a command ends.
 
 ghost use Rattle.std.specs.Prelude.{◌≡◌, ◌<◌, ◌^◌};
-ghost use Rattle.chan_model.specs.UnitReports as report_spec;
 ghost use Rattle.machine_model.specs.Taking as spec;
 ghost use Rattle.transfer.specs.Commands as transfer_spec;
 
 use crate::answers::{ignoring, let_go, quietly, sending};
 use crate::moving::with_transfer;
-use crate::statuses::{
-    chains_command, channel_end_shown, earlier_end_shown, fetch_fault_shown, last_end_shown,
-    with_status,
-};
 use chan_model::names::Path;
 use chan_model::signal::Down;
-use chan_model::status::Shown;
 use channel_program::check::Check;
 use hold::Hold;
-use machine_model::state::{Begun, Program, SubchannelState, UpStep};
-use scsw_irb::scsw::Scsw;
+use machine_model::state::{Begun, SubchannelState, UpStep};
 use scsw_irb::status::DeviceStatus;
+use status::causes::{has_shown, is_last_end, last_shown};
+use status::shown::{chains_command, channel_end_shown, fetch_fault_shown, with_status};
 use storage_keys::Storage;
 use transfer::Roomy;
 use transfer::commands::{begun_with_room, next_command};
@@ -27,12 +22,6 @@ fn dedicated_after(status: DeviceStatus, path: Path) -> Option<Path>
     ensures { result ≡ spec.dedicated_after status path }
 {
     if status.has_check() { Some(path) } else { None }
-}
-
-fn is_last_end(status: DeviceStatus) -> bool
-    ensures { result ≡ report_spec.is_last_end status }
-{
-    !status.has_channel_end() || status.has_device_end() || status.has_check()
 }
 
 fn with_end(begun: &Begun) -> Begun
@@ -122,16 +111,6 @@ fn goes_on(
     quietly(next)
 }
 
-fn has_shown(begun: &Begun) -> Begun
-    ensures { result ≡ spec.has_shown begun.now }
-{
-    let mut next = *begun;
-    next.primary_shown = true;
-    next.transfer.ended = true;
-    next.transfer.unchained = true;
-    next
-}
-
 fn channel_ended(
     state: &SubchannelState,
     begun: &Begun,
@@ -146,21 +125,6 @@ fn channel_ended(
     next.begun = Some(has_shown(begun));
     next.dedicated = dedicated_after(status, path);
     quietly(with_status(next, channel_end_shown(state.scsw, begun, status, more)))
-}
-
-fn last_shown(
-    scsw: Scsw,
-    begun: &Begun,
-    waiting: Option<Program>,
-    status: DeviceStatus,
-    more: bool,
-) -> Shown
-    ensures { result ≡ spec.last_shown scsw begun.now waiting status more }
-{
-    match waiting {
-        None => last_end_shown(scsw, begun, status, more),
-        Some(_) => earlier_end_shown(scsw, begun, status, more),
-    }
 }
 
 fn ended(

@@ -7,5 +7,4 @@ pub mod choosing;
 mod ending;
 pub mod instructions;
 pub mod moving;
-pub mod statuses;
 pub mod taking;

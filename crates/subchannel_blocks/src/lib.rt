@@ -7,8 +7,10 @@ ghost use Rattle.schib_block.specs.Modify.{IsAllowed};
 ghost use Rattle.machine_model.specs.SubchannelBlocks as spec;
 ghost use Rattle.machine_model.specs.Choosing.{each_path};
 
-use chan_model::paths::{PathSet, mask_of_path, mask_of_paths, paths_of_mask};
-use machine_model::state::{Pmcw, Subchannel, SubchannelState};
+use chan_model::paths::{PathSet, mask_of_path, mask_of_paths};
+use functions::effects::placed;
+use functions::law::modified;
+use machine_model::state::{Subchannel, SubchannelState};
 use schib_block::pmcw;
 use schib_block::schib::Schib;
 use zbits::set_field;
@@ -93,30 +95,13 @@ pub fn schib_of(sub: &Subchannel) -> Schib
     }
 }
 
-fn with_word(state: Pmcw, word: &pmcw::Pmcw) -> Pmcw
-    ensures { result ≡ spec.with_word state word.now }
-{
-    let mut pmcw = state;
-    pmcw.parameter = word.parameter;
-    pmcw.subclass = word.subclass;
-    pmcw.enabled = word.enabled;
-    pmcw.multipath = word.multipath;
-    pmcw.logical = paths_of_mask(word.logical);
-    pmcw.operational = paths_of_mask(word.operational);
-    pmcw
-}
-
 /// The state after MODIFY SUBCHANNEL with code 0, which was given this word.
 pub fn modified_state(sub: &Subchannel, given: &pmcw::Pmcw) -> SubchannelState
     requires { IsAllowed given.now }
     ensures { result ≡ spec.modified_state sub.now given.now }
 {
-    let mut word = pmcw_of(sub);
-    let _ = word.modify(given);
-    SubchannelState {
-        pmcw: with_word(sub.state.pmcw, &word),
-        ..sub.state
-    }
+    modified();
+    placed(sub.state, given)
 }
 
 /// The word with ISC, D and E one placed in it. Of `subclass` the three rightmost bits are placed.

@@ -6,6 +6,7 @@ use Rattle.chan_model.specs.declared.event.Event.{Event}
 use Rattle.chan_model.specs.declared.reply.Entry.{Entry}
 use Rattle.chan_model.specs.declared.reply.Reply.{Reply}
 use Rattle.machine_laws.specs.Agreeing.{AllAgree}
+use Rattle.program_laws.specs.Claims.{AllTold, HasTold}
 use Rattle.machine_laws.specs.Claims.{IsClearedOnce}
 use Rattle.machine_model.specs.State.{State, opening_of}
 use Rattle.machine_model.specs.Steps.{HasRun, Run, Opened, Stepped, Step}
@@ -35,3 +36,7 @@ past-cleared keeps rises h s run =
 pub past-agrees : ((setup : Setup) (h : List Entry) (s : State) → IsLawful setup → Run (opening_of setup) h s → AllAgree s) →
     (h : List Entry) (s : State) → HasRun h s → AllAgree s
 past-agrees agrees h s run = agrees run.0 h s run.1 run.2
+
+pub past-told : ((setup : Setup) → IsLawful setup → (h : List Entry) (s : State) (run : Run (opening_of setup) h s) → AllTold (opening_of setup) h s run) →
+    (h : List Entry) (s : State) → HasRun h s → HasTold h s
+past-told told h s run = (run.0, run.1, run.2, told run.0 run.1 h s run.2)

@@ -1,14 +1,13 @@
 -- A signal whose answer finds its wire full is not taken.
-use Rattle.std.proofs.Common.{◌≡◌, refl, ◌∙◌, ap, subst, ℕ, Bool, true, nat_lt, Option, Some, Result, Ok, Err, length}
+use Rattle.std.proofs.Common.{◌≡◌, ◌∙◌, ap, ℕ, Bool, true, nat_lt, Some, Ok, Err, length}
 use Rattle.std.specs.Prelude.{if◌then◌else◌, slice_get}
 use Rattle.storage_keys.specs.Storage.{Contents}
-use Rattle.chan_model.specs.declared.fault.Fault.{Fault}
 use Rattle.chan_model.specs.declared.fault.Fault.TheVariants as fault
 use Rattle.chan_model.specs.declared.reply.Reply.TheVariants as reply
 use Rattle.chan_model.specs.declared.signal.Up.{Up}
 use Rattle.wires.specs.Queues.{queue}
 use Rattle.machine_model.specs.declared.state.Subchannel.{Subchannel}
-use Rattle.machine_model.specs.Steps.{UpTurn, finds_full, with_met, up_with, up_front, up_sub}
+use Rattle.machine_model.specs.Steps.{finds_full, with_met, up_with, up_front, up_sub}
 use Rattle.machine_model.specs.Taking.{Met, takes_up}
 
 with-full : (sub : Subchannel) (path : ℕ) (signal : Up) (m : Met) → finds_full sub.wires.down m.step.came.sent ≡ true → up_with sub path signal m ≡ Err fault.WireFull

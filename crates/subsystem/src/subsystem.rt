@@ -8,6 +8,7 @@ ghost use Rattle.std.specs.Bool.{OnTrue, OnFalse};
 ghost use Rattle.machine_model.specs.Bounds.{IsRoomy, IsUnitRoomy};
 ghost use Rattle.channel_config.specs.Lawful.{IsLawful};
 ghost use Rattle.machine_laws.specs.Agreeing.{AllAgree};
+ghost use Rattle.program_laws.specs.Claims.{HasTold};
 ghost use Rattle.machine_laws.specs.Claims.{IsClearedOnce};
 
 use crate::history::History;
@@ -21,6 +22,7 @@ use hold::Hold;
 use machine_laws::{agreements, numbers, serials, steps};
 use machine_model::state::{Pmcw, Subchannel, SubchannelState, UnitTurn};
 use path_select::PathChoice;
+use program_laws::programs;
 use scsw_irb::scsw::Scsw;
 use scsw_irb::serials::Serials;
 use std::alloc::{AllocError, Global};
@@ -113,6 +115,8 @@ impl<P: PathChoice + Drop> Subsystem<P> {
         ensures cleared_once { IsClearedOnce self.new.state.sets self.new.history }
         // Each subchannel and its unit agree on the program that holds the device, or a reset is due; by one path.
         ensures agree { AllAgree self.new.state }
+        // What is told of the program that each subchannel offered last: its blocks, its commands and its bytes.
+        ensures told { HasTold self.new.history self.new.state }
     {
         let mut answers = Vec::new(alloc);
         if answers.reserve(events.len()).is_err() {
@@ -131,15 +135,18 @@ impl<P: PathChoice + Drop> Subsystem<P> {
         Ok(answers)
     }
 
-    /// The history replays to the state, each status is cleared once, and subchannels and units agree.
+    /// The history replays to the state, each status is cleared once, subchannels and units agree, and what is told of the
+    /// programs holds.
     fn recalls(&self)
         ensures replays { HasRun self.now.history self.now.state }
         ensures cleared_once { IsClearedOnce self.now.state.sets self.now.history }
         ensures agree { AllAgree self.now.state }
+        ensures told { HasTold self.now.history self.now.state }
     {
         steps();
         serials();
         agreements();
+        programs();
         let _ = &self.history;
     }
 
@@ -149,6 +156,7 @@ impl<P: PathChoice + Drop> Subsystem<P> {
         ensures replays { HasRun self.now.history self.now.state }
         ensures cleared_once { IsClearedOnce self.now.state.sets self.now.history }
         ensures agree { AllAgree self.now.state }
+        ensures told { HasTold self.now.history self.now.state }
     {
         self.recalls();
         History::of(self.history.as_slice())
@@ -259,7 +267,7 @@ fn idle(kind: UnitKind) -> Unit
     ensures { result ≡ state_spec.idle_of kind }
 {
     match kind {
-        UnitKind::Block => Unit::new(),
+        UnitKind::Block | UnitKind::Console | UnitKind::Rejecting => Unit::new(),
     }
 }
 

@@ -1,4 +1,10 @@
 //! The wires between one subchannel and its unit (own).
+//!
+//! Used alone, this crate promises: each of the eight paths has a queue down and a queue up, of at most 8 signals each. A
+//! signal that is sent goes to the end of its queue and the one that is taken was its front, so signals arrive in the order in
+//! which they were sent, once each; only `lose` makes signals vanish, and then all of one path, both ways. No call changes a
+//! queue but those that it names. Sending has the condition that there is room, and taking that a signal waits; `down_is_full`
+//! and `front_down` tell that beforehand, and so do their like for the way up. Nothing here takes memory.
 #![tactic(auto)]
 
 mod way;

@@ -12,4 +12,5 @@ loop-event-preserved g c = record {
   replays = c.recalls-in-loop-event.ensures.replays;
   cleared_once = c.recalls-in-loop-event.ensures.cleared_once;
   agree = c.recalls-in-loop-event.ensures.agree;
+  told = c.recalls-in-loop-event.ensures.told;
 }

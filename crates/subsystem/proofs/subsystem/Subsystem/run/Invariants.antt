@@ -1,6 +1,7 @@
 use Rattle.std.proofs.Common.{◌+◌, ◌≤◌, length, take, vec_len, vec_capacity}
 use Rattle.machine_model.specs.Steps.{HasAnswered, HasRun}
 use Rattle.machine_laws.specs.Agreeing.{AllAgree}
+use Rattle.program_laws.specs.Claims.{HasTold}
 use Rattle.machine_laws.specs.Claims.{IsClearedOnce}
 use Rattle.subsystem.proofs.subsystem.Subsystem.run.Given as goal
 
@@ -11,4 +12,5 @@ invariant-loop-event g l = record {
   replays : HasRun l.self.history l.self.state;
   cleared_once : IsClearedOnce l.self.state.sets l.self.history;
   agree : AllAgree l.self.state;
+  told : HasTold l.self.history l.self.state;
 }

@@ -1,0 +1,2 @@
+pub mod Allegiances
+pub mod PathUse

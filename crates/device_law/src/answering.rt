@@ -1,0 +1,41 @@
+//! What a device answers to a call of its unit.
+
+ghost use Rattle.std.specs.Prelude.{◌≡◌};
+ghost use Rattle.device_law.specs.Laws.{IsAnswer};
+ghost use Rattle.chan_model.specs.declared.report.Call.TheVariants as call_spec;
+
+use crate::{Device, Finish};
+use chan_model::report::{Call, DeviceAnswer};
+
+/// Makes the call.
+pub fn answer<D: Device>(device: &mut D, call: &Call) -> DeviceAnswer
+    ensures law { IsAnswer call.now result }
+    ensures answers { D.answers device.old call.now result device.new }
+    ensures opening { D.opening device.new ≡ D.opening device.old }
+{
+    match call {
+        Call::Initial { code } => initial_answer(device, *code),
+        Call::Absorb { bytes } => DeviceAnswer::Absorbed(device.absorb(bytes.as_slice()) as u16),
+        Call::Supply { most } => DeviceAnswer::Supplied(device.supply(usize::from(*most))),
+        Call::Finish => {
+            let Finish { status, more } = device.finish();
+            DeviceAnswer::Ended { status, more }
+        }
+    }
+}
+
+/// An empty initial status begins the command; any other ends it or its channel's part.
+fn initial_answer<D: Device>(device: &mut D, code: u8) -> DeviceAnswer
+    ensures law { IsAnswer (call_spec.Initial code) result }
+    ensures answers { D.answers device.old (call_spec.Initial code) result device.new }
+    ensures opening { D.opening device.new ≡ D.opening device.old }
+{
+    let status = device.initial(code);
+    if status.bits() == 0 {
+        return DeviceAnswer::Begins;
+    }
+    DeviceAnswer::Ended {
+        status,
+        more: false,
+    }
+}

@@ -1,0 +1,20 @@
+use Rattle.std.proofs.Common.{◌≡◌, sym, ℕ, Bool, true, false, nat_lt, arith}
+use Rattle.std.specs.Prelude.{if◌then◌else◌}
+use Rattle.std.proofs.lemmas.Bool.{le-ltb}
+use Rattle.machine_model.specs.declared.state.SubchannelState.{SubchannelState}
+use Rattle.machine_model.specs.Functions.{drops_status, dropped, halting}
+use Rattle.functions.specs.Counted.{IsCounted}
+use Rattle.functions.proofs.law.counts.Goals as goal
+
+not-below : (m : ℕ) → false ≡ nat_lt m m
+not-below m = sym (le-ltb m m (omega arith))
+
+pick : (b : Bool) (x y : SubchannelState) → IsCounted x → IsCounted y → IsCounted (if b then x else y)
+pick true x y k l = k
+pick false x y k l = l
+
+pub returns-clause-halt : goal.returns-clause-halt
+returns-clause-halt c = λ s k. pick (drops_status s.scsw) (dropped (halting s)) (halting s) (omega arith, not-below s.serials.made) k
+
+pub returns-clause-clear : goal.returns-clause-clear
+returns-clause-clear c = λ s k. (omega arith, not-below s.serials.made)

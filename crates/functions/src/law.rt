@@ -1,0 +1,26 @@
+//! What holds of the effects of instructions; its code is empty.
+
+ghost use Rattle.std.specs.Prelude.{◌≡◌};
+ghost use Rattle.orb_block.specs.declared.Orb.{Orb};
+ghost use Rattle.schib_block.specs.declared.pmcw.Pmcw as block;
+ghost use Rattle.machine_model.specs.declared.state.Subchannel.{Subchannel};
+ghost use Rattle.machine_model.specs.declared.state.SubchannelState.{SubchannelState};
+ghost use Rattle.machine_model.specs.Functions.{resumed, halted, cleared, cancelled, placed};
+ghost use Rattle.machine_model.specs.Instructions.{started};
+ghost use Rattle.machine_model.specs.SubchannelBlocks.{modified_state};
+ghost use Rattle.functions.specs.Counted.{IsCounted};
+
+/// MODIFY SUBCHANNEL leaves the same whatever else the word of its subchannel has.
+pub fn modified()
+    ensures { (sub : Subchannel) (given : block.Pmcw) → modified_state sub given ≡ placed sub.state given }
+{}
+
+/// After each instruction status is pending exactly where some status that was made is not cleared, if it was before.
+pub fn counts()
+    ensures start { (s : SubchannelState) (orb : Orb) → IsCounted s → IsCounted (started s orb) }
+    ensures resume { (s : SubchannelState) → IsCounted s → IsCounted (resumed s) }
+    ensures halt { (s : SubchannelState) → IsCounted s → IsCounted (halted s) }
+    ensures clear { (s : SubchannelState) → IsCounted s → IsCounted (cleared s) }
+    ensures cancel { (s : SubchannelState) → IsCounted s → IsCounted (cancelled s) }
+    ensures modify { (s : SubchannelState) (given : block.Pmcw) → IsCounted s → IsCounted (placed s given) }
+{}

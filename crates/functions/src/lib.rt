@@ -1,0 +1,93 @@
+//! The instructions that change what a subchannel does (SA22-7832, chapter 14): the condition code of each, and what it leaves
+//! of its subchannel. The request for an interruption is the caller's, and so are the operands.
+#![tactic(auto)]
+
+ghost use Rattle.std.specs.Prelude.{◌≡◌, ◌<◌, ◌^◌};
+ghost use Rattle.chan_model.specs.ConditionCodes as code_spec;
+ghost use Rattle.machine_model.specs.Functions as spec;
+ghost use Rattle.machine_model.specs.Instructions.{condition_of, started};
+
+pub mod codes;
+pub mod effects;
+pub mod law;
+#[cfg(test)]
+mod tests;
+
+use chan_model::reply::ConditionCode;
+use machine_model::state::SubchannelState;
+use orb_block::Orb;
+use schib_block::pmcw;
+
+/// START SUBCHANNEL with an ORB that is allowed.
+pub fn ssch(state: &mut SubchannelState, orb: Orb) -> ConditionCode
+    requires { state.old.starts < 2 ^ 63 }
+    ensures code { result ≡ code_spec.ssch_code (condition_of state.old) }
+    ensures state { state.new ≡ spec.left_by result state.old (started state.old orb) }
+{
+    let code = codes::ssch_code(codes::condition_of(*state));
+    if code == ConditionCode::Zero {
+        *state = effects::started(*state, orb);
+    }
+    code
+}
+
+/// RESUME SUBCHANNEL.
+pub fn rsch(state: &mut SubchannelState) -> ConditionCode
+    ensures code { result ≡ code_spec.rsch_code (condition_of state.old) }
+    ensures state { state.new ≡ spec.left_by result state.old (spec.resumed state.old) }
+{
+    let code = codes::rsch_code(codes::condition_of(*state));
+    if code == ConditionCode::Zero {
+        *state = effects::resumed(*state);
+    }
+    code
+}
+
+/// HALT SUBCHANNEL.
+pub fn hsch(state: &mut SubchannelState) -> ConditionCode
+    ensures code { result ≡ code_spec.hsch_code (condition_of state.old) }
+    ensures state { state.new ≡ spec.left_by result state.old (spec.halted state.old) }
+{
+    let code = codes::hsch_code(codes::condition_of(*state));
+    if code == ConditionCode::Zero {
+        *state = effects::halted(*state);
+    }
+    code
+}
+
+/// CLEAR SUBCHANNEL. The Reset that is then due is not sent here.
+pub fn csch(state: &mut SubchannelState) -> ConditionCode
+    requires { state.old.drawn < 2 ^ 63 }
+    ensures code { result ≡ code_spec.csch_code (condition_of state.old) }
+    ensures state { state.new ≡ spec.left_by result state.old (spec.cleared state.old) }
+{
+    let code = codes::csch_code(codes::condition_of(*state));
+    if code == ConditionCode::Zero {
+        *state = effects::cleared(*state);
+    }
+    code
+}
+
+/// CANCEL SUBCHANNEL.
+pub fn xsch(state: &mut SubchannelState) -> ConditionCode
+    ensures code { result ≡ code_spec.xsch_code (condition_of state.old) }
+    ensures state { state.new ≡ spec.left_by result state.old (spec.cancelled state.old) }
+{
+    let code = codes::xsch_code(codes::condition_of(*state));
+    if code == ConditionCode::Zero {
+        *state = effects::cancelled(*state);
+    }
+    code
+}
+
+/// MODIFY SUBCHANNEL with a word that is allowed.
+pub fn msch(state: &mut SubchannelState, given: &pmcw::Pmcw) -> ConditionCode
+    ensures code { result ≡ code_spec.msch_code (condition_of state.old) }
+    ensures state { state.new ≡ spec.left_by result state.old (spec.placed state.old given.now) }
+{
+    let code = codes::msch_code(codes::condition_of(*state));
+    if code == ConditionCode::Zero {
+        *state = effects::placed(*state, given);
+    }
+    code
+}

@@ -1,0 +1,86 @@
+-- What a program's going on does to its commands and to the data of the command at work.
+use Rattle.std.proofs.Common.{◌≡◌, refl, ap, subst, ℕ, Bool, true, false, List, [], ◌∷◌, ◌++◌, Option, Some, None, Result, Ok, Err}
+use Rattle.std.specs.Prelude.{◌&&◌, if◌then◌else◌}
+use Rattle.orb_block.specs.declared.Orb.{Orb}
+use Rattle.storage_keys.specs.declared.StorageFault.{StorageFault}
+use Rattle.storage_keys.specs.Storage.{Contents, fetched}
+use Rattle.channel_program.specs.declared.check.Check.{Check}
+use Rattle.channel_program.specs.declared.check.Check.TheVariants.{Program}
+use Rattle.channel_program.specs.Checks.{check_of}
+use Rattle.channel_program.specs.declared.Advance.{Advance}
+use Rattle.channel_program.specs.declared.Advance.TheVariants as advance
+use Rattle.channel_program.specs.declared.Role.{Role}
+use Rattle.channel_program.specs.declared.Reading.{Reading}
+use Rattle.channel_program.specs.declared.Reading.TheVariants.{Transfers, Takes, Suspends, Shows}
+use Rattle.channel_program.specs.Acts.{Act, Block, Unfetched}
+use Rattle.channel_program.specs.Blocks.{reads}
+use Rattle.channel_program.specs.Programs.{Command, next, next_after, role_of, role_after, commands, commands_after}
+use Rattle.channel_program.specs.Walks.{place, after_block, is_program_misplaced, act_of_fetch, fetch_act, with_target, acts_from, acts_at, advance_acts, block_advance, advance_of}
+use Rattle.idaw.specs.Places.{Reach}
+use Rattle.program_laws.specs.Reaches.{reaches, reaches_after}
+
+-- a block is fetched, or cannot be
+fetch_or_check : (P : Act → Type 0) (test : Bool) (address : ℕ) (answer : Result (List ℕ) StorageFault) → ((bytes : List ℕ) → P (Block address bytes)) →
+    ((check : Check) → P (Unfetched address check)) → P (if test then Unfetched address Program else act_of_fetch address answer)
+fetch_or_check P true address answer b u = u Program
+fetch_or_check P false address (Ok bytes) b u = b bytes
+fetch_or_check P false address (Err fault) b u = u (check_of fault)
+
+fetch_cases : (P : Act → Type 0) (storage : Contents) (orb : Orb) (role : Role) (address : ℕ) → ((bytes : List ℕ) → P (Block address bytes)) →
+    ((check : Check) → P (Unfetched address check)) → P (fetch_act storage orb role address)
+fetch_cases P storage orb role address b u = fetch_or_check P (role.first && is_program_misplaced orb address) address (fetched storage orb.key address 8) b u
+
+-- where a block takes control it joins the commands and the data; otherwise these stay
+abbrev pub Went : Bool → List Command → List Command → List Reach → List Reach → Option ℕ → Role → Option Advance → Type 0
+Went c cs ds rs qs n role (Some (advance.Takes ccw)) =
+    (ds ≡ commands_after c cs (Takes ccw)) × (qs ≡ reaches_after c cs rs (Takes ccw)) × (n ≡ None) × (role.chained ≡ ccw.chain_data)
+Went c cs ds rs qs n role (Some advance.Suspends) = (ds ≡ cs) × (qs ≡ rs)
+Went c cs ds rs qs n role (Some (advance.Stops check)) = (ds ≡ cs) × (qs ≡ rs)
+Went c cs ds rs qs n role None = (ds ≡ cs) × (qs ≡ rs)
+
+block-went : (c : Bool) (cs : List Command) (rs : List Reach) (address : ℕ) (role : Role) (r : Reading) →
+    Went c cs (commands_after c cs r) rs (reaches_after c cs rs r) (next_after address r) (role_after role r) (block_advance r)
+block-went c cs rs address role (Transfers target) = (refl, refl)
+block-went c cs rs address role (Takes ccw) = (refl, refl, refl, refl)
+block-went c cs rs address role Suspends = (refl, refl)
+block-went c cs rs address role Shows = (refl, refl)
+
+-- from the acts before to those after
+abbrev pub WentTo : Orb → List Act → List Act → Type 0
+WentTo orb before acts =
+    Went (role_of orb before).chained (commands orb before) (commands orb (acts ++ before)) (reaches orb before) (reaches orb (acts ++ before))
+    (next orb (acts ++ before)) (role_of orb (acts ++ before)) (advance_of (place orb before) acts)
+
+went-from : (c d : Bool) (cs ds es : List Command) (rs qs ps : List Reach) (n : Option ℕ) (role : Role) (a : Option Advance) → d ≡ c → ds ≡ cs → qs ≡ rs →
+    Went d ds es qs ps n role a → Went c cs es rs ps n role a
+went-from c d cs ds es rs qs ps n role a e f g w =
+    subst (λ (x : Bool). Went x cs es rs ps n role a) e
+    (subst (λ (x : List Command). Went d x es rs ps n role a) f (subst (λ (x : List Reach). Went d ds es x ps n role a) g w))
+
+target-went : (storage : Contents) (orb : Orb) (before : List Act) (address : ℕ) (bytes : List ℕ) (r : Reading) → reads orb (role_of orb before) bytes ≡ r →
+    WentTo orb before (with_target storage (after_block (place orb before) address bytes) r (Block address bytes ∷ []))
+target-went storage orb before address bytes (Transfers target) e =
+    let role : Role = role_of orb before in
+    let cs : List Command = commands orb before in
+    let rs : List Reach = reaches orb before in
+    let mid : List Act = Block address bytes ∷ before in
+    let same : (role_of orb mid).chained ≡ role.chained = ap (λ (r : Reading). (role_after role r).chained) e in
+    let commanded : commands orb mid ≡ cs = ap (λ (r : Reading). commands_after role.chained cs r) e in
+    let reached : reaches orb mid ≡ rs = ap (λ (r : Reading). reaches_after role.chained cs rs r) e in
+    fetch_cases (λ act. WentTo orb before (act ∷ Block address bytes ∷ [])) storage orb (role_of orb mid) target
+    (λ more. went-from role.chained (role_of orb mid).chained cs (commands orb mid) _ rs (reaches orb mid) _ _ (role_of orb (Block target more ∷ mid)) _ same commanded reached
+    (block-went (role_of orb mid).chained (commands orb mid) (reaches orb mid) target (role_of orb mid) (reads orb (role_of orb mid) more)))
+    (λ check. (commanded, reached))
+target-went storage orb before address bytes (Takes ccw) e = block-went _ (commands orb before) (reaches orb before) address (role_of orb before) (reads orb (role_of orb before) bytes)
+target-went storage orb before address bytes Suspends e = block-went _ (commands orb before) (reaches orb before) address (role_of orb before) (reads orb (role_of orb before) bytes)
+target-went storage orb before address bytes Shows e = block-went _ (commands orb before) (reaches orb before) address (role_of orb before) (reads orb (role_of orb before) bytes)
+
+at-went : (storage : Contents) (orb : Orb) (before : List Act) (n : Option ℕ) → WentTo orb before (acts_at storage (place orb before) n)
+at-went storage orb before None = (refl, refl)
+at-went storage orb before (Some address) =
+    fetch_cases (λ act. WentTo orb before (acts_from storage (place orb before) act)) storage orb (role_of orb before) address
+    (λ bytes. target-went storage orb before address bytes (reads orb (role_of orb before) bytes) refl)
+    (λ check. (refl, refl))
+
+pub advance-went : (storage : Contents) (orb : Orb) (before : List Act) → WentTo orb before (advance_acts storage (place orb before))
+advance-went storage orb before = at-went storage orb before (next orb before)

@@ -1,0 +1,265 @@
+-- What a subchannel sends down as it meets a signal: a Command is the one at work, under the number of its connection.
+use Rattle.std.proofs.Common.{◌≡◌, refl, ◌∙◌, ap, ℕ, Bool, true, false, ◌==◌, ◌&&◌, nat_lt, Option, None, Some, Result, Ok, Err}
+use Rattle.std.specs.Prelude.{if◌then◌else◌, IfSome}
+use Rattle.std.proofs.lemmas.Bool.{eq-eqb}
+use Rattle.scsw_irb.specs.declared.status.DeviceStatus.{DeviceStatus}
+use Rattle.storage_keys.specs.Storage.{Contents}
+use Rattle.chan_model.specs.declared.hold_state.HoldPhase.{HoldPhase}
+use Rattle.chan_model.specs.declared.hold_state.HoldPhase.TheVariants as hold
+use Rattle.chan_model.specs.declared.hold_state.HoldState.{HoldState}
+use Rattle.chan_model.specs.declared.signal.Down.{Down}
+use Rattle.chan_model.specs.declared.signal.Down.TheVariants as down
+use Rattle.chan_model.specs.declared.signal.Load.{Load}
+use Rattle.chan_model.specs.declared.signal.OnPath.{OnPath}
+use Rattle.chan_model.specs.declared.signal.Taken.{Taken}
+use Rattle.chan_model.specs.declared.signal.Up.{Up}
+use Rattle.chan_model.specs.declared.signal.Up.TheVariants as up
+use Rattle.chan_model.specs.HoldTable as hold_table
+use Rattle.chan_model.specs.HoldTable.{HoldStep, refusing, granting, begun, accepted, left, asked_back, found_busy, released, cleared, noticed, attended, hold_takes, hold_after, came_of, is_connected, is_on, letting_go}
+use Rattle.chan_model.specs.UnitReports.{is_last_end, is_outward, has_device_end}
+use Rattle.channel_program.specs.declared.check.Check.{Check}
+use Rattle.transfer.specs.declared.Transfer.{Transfer}
+use Rattle.transfer.specs.Commands.{first_command, next_command}
+use Rattle.transfer.specs.Chunks.{is_answered}
+use Rattle.machine_model.specs.declared.state.Begun.{Begun}
+use Rattle.machine_model.specs.declared.state.Program.{Program}
+use Rattle.machine_model.specs.declared.state.SubchannelState.{SubchannelState}
+use Rattle.machine_model.specs.declared.state.UpStep.{UpStep}
+use Rattle.machine_model.specs.Statuses.{has_status_modifier, chains_command}
+use Rattle.machine_model.specs.Taking.{Met, ignoring, by_hold, let_go, waits_as, with_path, beginning, begin_waiting, accepted_by, accept, move_bytes, move_data, take_data, with_end, chaining, goes_on, stops_at, command_ended, end_of, end_command, takes_up}
+
+-- a Command is of the transfer at work
+pub record IsAtWork (s : SubchannelState) (t n code : ℕ) : Type 0 where
+  pub begun : Begun
+  pub is : s.begun ≡ Some begun
+  pub command : n ≡ begun.transfer.command
+  pub same_code : code ≡ begun.transfer.code
+  pub on : is_on s.hold.phase t ≡ true
+
+abbrev pub IsOf : SubchannelState → Down → Type 0
+IsOf s (down.Select t) = ⊥
+IsOf s (down.Command t n code room) = IsAtWork s t n code
+IsOf s (down.Grant t c) = Unit {0}
+IsOf s (down.Refuse t c) = Unit {0}
+IsOf s (down.Took t n q room) = Unit {0}
+IsOf s (down.Give t c n q bytes) = Unit {0}
+IsOf s (down.Halt t) = Unit {0}
+IsOf s (down.Release t) = Unit {0}
+IsOf s (down.Reset r b) = ⊥
+IsOf s (down.Got a) = Unit {0}
+
+-- and it is sent nothing else that raises a number
+abbrev pub IsSent : SubchannelState → Option (OnPath Down) → Type 0
+IsSent s one = IfSome one (λ x. IsOf s x.signal)
+
+abbrev Sends : UpStep → Type 0
+Sends step = IsSent step.state step.came.sent
+
+if-sends : (c : Bool) (x y : UpStep) → Sends x → Sends y → Sends (if c then x else y)
+if-sends true x y e f = e
+if-sends false x y e f = f
+
+if-met : (c : Bool) (x y : Met) → Sends x.step → Sends y.step → Sends (if c then x else y).step
+if-met true x y e f = e
+if-met false x y e f = f
+
+-- the hold alone
+abbrev pub IsOfHold : Down → Type 0
+IsOfHold (down.Select t) = ⊥
+IsOfHold (down.Command t n code room) = ⊥
+IsOfHold (down.Grant t c) = Unit {0}
+IsOfHold (down.Refuse t c) = Unit {0}
+IsOfHold (down.Took t n q room) = ⊥
+IsOfHold (down.Give t c n q bytes) = ⊥
+IsOfHold (down.Halt t) = Unit {0}
+IsOfHold (down.Release t) = Unit {0}
+IsOfHold (down.Reset r b) = ⊥
+IsOfHold (down.Got a) = Unit {0}
+
+abbrev pub Mutters : Option HoldStep → Type 0
+Mutters step = IfSome (came_of step).sent (λ x. IsOfHold x.signal)
+
+of-hold : (s : SubchannelState) (d : Down) → IsOfHold d → IsOf s d
+of-hold s (down.Select t) h = absurd h
+of-hold s (down.Command t n code room) h = absurd h
+of-hold s (down.Grant t c) h = tt
+of-hold s (down.Refuse t c) h = tt
+of-hold s (down.Took t n q room) h = absurd h
+of-hold s (down.Give t c n q bytes) h = absurd h
+of-hold s (down.Halt t) h = tt
+of-hold s (down.Release t) h = tt
+of-hold s (down.Reset r b) h = absurd h
+of-hold s (down.Got a) h = tt
+
+muttered : (s : SubchannelState) (one : Option (OnPath Down)) → IfSome one (λ x. IsOfHold x.signal) → IsSent s one
+muttered s None h = tt
+muttered s (Some x) h = of-hold s x.signal h
+
+if-mutters : (c : Bool) (x y : Option HoldStep) → Mutters x → Mutters y → Mutters (if c then x else y)
+if-mutters true x y e f = e
+if-mutters false x y e f = f
+
+nothing : Mutters None
+nothing = tt
+
+begun-mutters : (h : HoldState) (t p : ℕ) (may : Bool) → Mutters (Some (begun h t p may))
+begun-mutters h t p true = tt
+begun-mutters h t p false = tt
+
+pub accepted-mutters : (h : HoldState) (phase : HoldPhase) (u : ℕ) (may : Bool) → Mutters (accepted h phase u may)
+accepted-mutters h hold.Free u may = nothing
+accepted-mutters h (hold.Offer t p) u may = if-mutters (u == t) _ None (begun-mutters h t p may) nothing
+accepted-mutters h (hold.On t p c) u may = nothing
+accepted-mutters h (hold.Away t) u may = nothing
+accepted-mutters h (hold.Letting t p) u may = nothing
+accepted-mutters h (hold.Reset r) u may = nothing
+
+pub busy-mutters : (h : HoldState) (phase : HoldPhase) (u : ℕ) → Mutters (found_busy h phase u)
+busy-mutters h hold.Free u = nothing
+busy-mutters h (hold.Offer t p) u = if-mutters (u == t) _ None tt nothing
+busy-mutters h (hold.On t p c) u = nothing
+busy-mutters h (hold.Away t) u = nothing
+busy-mutters h (hold.Letting t p) u = nothing
+busy-mutters h (hold.Reset r) u = nothing
+
+pub left-mutters : (h : HoldState) (phase : HoldPhase) (u d : ℕ) → Mutters (left h phase u d)
+left-mutters h hold.Free u d = nothing
+left-mutters h (hold.Offer t p) u d = nothing
+left-mutters h (hold.On t p c) u d = if-mutters ((u == t) && (d == c)) _ None tt nothing
+left-mutters h (hold.Away t) u d = nothing
+left-mutters h (hold.Letting t p) u d = nothing
+left-mutters h (hold.Reset r) u d = nothing
+
+pub back-mutters : (h : HoldState) (phase : HoldPhase) (p u c : ℕ) (may : Bool) → Mutters (asked_back h phase p u c may)
+back-mutters h hold.Free p u c may = nothing
+back-mutters h (hold.Offer t q) p u c may = nothing
+back-mutters h (hold.On t q d) p u c may = if-mutters ((u == t) && nat_lt h.seen c) (Some (refusing h p t c)) None tt nothing
+back-mutters h (hold.Away t) p u c may =
+    if-mutters ((u == t) && nat_lt h.seen c) (if may then Some (granting h p t c) else Some (refusing h p t c)) None
+    (if-mutters may (Some (granting h p t c)) (Some (refusing h p t c)) tt tt) nothing
+back-mutters h (hold.Letting t q) p u c may = nothing
+back-mutters h (hold.Reset r) p u c may = nothing
+
+pub released-mutters : (h : HoldState) (phase : HoldPhase) (u : ℕ) → Mutters (released h phase u)
+released-mutters h hold.Free u = nothing
+released-mutters h (hold.Offer t p) u = nothing
+released-mutters h (hold.On t p c) u = nothing
+released-mutters h (hold.Away t) u = nothing
+released-mutters h (hold.Letting t p) u = if-mutters (u == t) _ None tt nothing
+released-mutters h (hold.Reset r) u = nothing
+
+pub cleared-mutters : (h : HoldState) (phase : HoldPhase) (u : ℕ) → Mutters (cleared h phase u)
+cleared-mutters h hold.Free u = nothing
+cleared-mutters h (hold.Offer t p) u = nothing
+cleared-mutters h (hold.On t p c) u = nothing
+cleared-mutters h (hold.Away t) u = nothing
+cleared-mutters h (hold.Letting t p) u = nothing
+cleared-mutters h (hold.Reset r) u = if-mutters (u == r) _ None tt nothing
+
+pub attended-mutters : (h : HoldState) (phase : HoldPhase) (p a : ℕ) (may : Bool) → Mutters (attended h phase p a may)
+attended-mutters h hold.Free p a may = if-mutters may _ None tt nothing
+attended-mutters h (hold.Offer t q) p a may = nothing
+attended-mutters h (hold.On t q c) p a may = nothing
+attended-mutters h (hold.Away t) p a may = nothing
+attended-mutters h (hold.Letting t q) p a may = nothing
+attended-mutters h (hold.Reset r) p a may = nothing
+
+pub noticed-mutters : (h : HoldState) (b : ℕ) → Mutters (noticed h b)
+noticed-mutters h b = if-mutters (nat_lt h.known b) (Some (hold_table.quietly (record h { known = b }))) None tt nothing
+
+by_hold-sends : (s : SubchannelState) (step : Option HoldStep) → Mutters step → Sends (by_hold s step)
+by_hold-sends s step m = muttered (by_hold s step).state (came_of step).sent m
+
+-- the device is let go
+pub letting-mutters : (h : HoldState) (phase : HoldPhase) → Mutters (letting_go h phase)
+letting-mutters h hold.Free = nothing
+letting-mutters h (hold.Offer t p) = nothing
+letting-mutters h (hold.On t p c) = tt
+letting-mutters h (hold.Away t) = nothing
+letting-mutters h (hold.Letting t p) = nothing
+letting-mutters h (hold.Reset r) = nothing
+
+let_go-sends : (s : SubchannelState) → Sends (let_go s)
+let_go-sends s = muttered (let_go s).state (came_of (letting_go s.hold s.hold.phase)).sent (letting-mutters s.hold s.hold.phase)
+
+-- Accept
+beginning-sends : (storage : Contents) (s : SubchannelState) (p t : ℕ) (program : Program) (tried : ℕ) (r : Result Transfer Check) → is_on s.hold.phase t ≡ true →
+    Sends (beginning storage s p t program tried r)
+beginning-sends storage s p t program tried (Ok transfer) e = record { begun = _; is = refl; command = refl; same_code = refl; on = e }
+beginning-sends storage s p t program tried (Err check) e = let_go-sends _
+
+waiting-sends : (storage : Contents) (s : SubchannelState) (p t : ℕ) (waiting : Option Program) → is_on s.hold.phase t ≡ true → Sends (begin_waiting storage s p t waiting)
+waiting-sends storage s p t None e = tt
+waiting-sends storage s p t (Some program) e =
+    beginning-sends storage s p t program (first_command storage program.orb).tried (first_command storage program.orb).came e
+
+is-self : (t p c : ℕ) → is_on (hold.On t p c) t ≡ true
+is-self t p c = eq-eqb t t refl
+
+accepted_by-sends : (storage : Contents) (s : SubchannelState) (phase : HoldPhase) (came : Taken Down) → s.hold.phase ≡ phase → IfSome came.sent (λ x. IsOfHold x.signal) →
+    Sends (accepted_by storage s phase came)
+accepted_by-sends storage s (hold.On t p c) came e m =
+    waiting-sends storage (record s { pmcw = with_path s.pmcw p }) p t s.waiting (ap (λ (x : HoldPhase). is_on x t) e ∙ is-self t p c)
+accepted_by-sends storage s (hold.Letting t p) came e m = muttered (record s { pmcw = with_path s.pmcw p }) came.sent m
+accepted_by-sends storage s hold.Free came e m = muttered s came.sent m
+accepted_by-sends storage s (hold.Offer t p) came e m = muttered s came.sent m
+accepted_by-sends storage s (hold.Away t) came e m = muttered s came.sent m
+accepted_by-sends storage s (hold.Reset r) came e m = muttered s came.sent m
+
+accept-sends : (storage : Contents) (s : SubchannelState) (step : Option HoldStep) → Mutters step → Sends (accept storage s step)
+accept-sends storage s step m =
+    if-sends (came_of step).taken _ _ (accepted_by-sends storage (record s { hold = hold_after s.hold step }) (hold_after s.hold step).phase (came_of step) refl m) tt
+
+-- Data
+move_bytes-sends : (storage : Contents) (s : SubchannelState) (b : Begun) (p t c n q : ℕ) (load : Load) → Sends (move_bytes storage s b p t c n q load).step
+move_bytes-sends storage s b p t c n q load = if-met (is_outward b.transfer.code) _ _ tt tt
+
+move_data-sends : (storage : Contents) (s : SubchannelState) (b : Option Begun) (p t c n q : ℕ) (load : Load) → Sends (move_data storage s b p t c n q load).step
+move_data-sends storage s None p t c n q load = tt
+move_data-sends storage s (Some b) p t c n q load = if-met (is_answered b.transfer n q) _ _ (move_bytes-sends storage s b p t c n q load) tt
+
+take_data-sends : (storage : Contents) (s : SubchannelState) (p t c n q : ℕ) (load : Load) → Sends (take_data storage s p t c n q load).step
+take_data-sends storage s p t c n q load = if-met (is_connected s.hold.phase p t c) _ _ (move_data-sends storage s s.begun p t c n q load) tt
+
+-- End
+chaining-sends : (storage : Contents) (s : SubchannelState) (b : Begun) (p t tried : ℕ) (r : Result Transfer Check) → is_on s.hold.phase t ≡ true →
+    Sends (chaining storage s b p t tried r)
+chaining-sends storage s b p t tried (Ok transfer) e = record { begun = _; is = refl; command = refl; same_code = refl; on = e }
+chaining-sends storage s b p t tried (Err check) e = let_go-sends _
+
+goes_on-sends : (storage : Contents) (s : SubchannelState) (b : Begun) (p t : ℕ) (status : DeviceStatus) → is_on s.hold.phase t ≡ true → Sends (goes_on storage s b p t status)
+goes_on-sends storage s b p t status e =
+    if-sends (has_device_end status) _ _
+    (chaining-sends storage s b p t (next_command storage b.transfer (has_status_modifier status)).tried (next_command storage b.transfer (has_status_modifier status)).came e) tt
+
+stops_at-sends : (s : SubchannelState) (b : Begun) (p : ℕ) (status : DeviceStatus) (more : Bool) → Sends (stops_at s b p status more)
+stops_at-sends s b p status more = if-sends (is_last_end status) _ _ (let_go-sends _) tt
+
+command_ended-sends : (storage : Contents) (s : SubchannelState) (b : Begun) (p t : ℕ) (status : DeviceStatus) (more : Bool) → is_on s.hold.phase t ≡ true →
+    Sends (command_ended storage s b p t status more)
+command_ended-sends storage s b p t status more e =
+    if-sends (chains_command s.scsw b status more) _ _ (goes_on-sends storage s (with_end b) p t status e) (stops_at-sends s b p status more)
+
+end_of-sends : (storage : Contents) (s : SubchannelState) (b : Option Begun) (p t n : ℕ) (status : DeviceStatus) (more : Bool) → is_on s.hold.phase t ≡ true →
+    Sends (end_of storage s b p t n status more)
+end_of-sends storage s None p t n status more e = tt
+end_of-sends storage s (Some b) p t n status more e = if-sends (n == b.transfer.command) _ _ (command_ended-sends storage s b p t status more e) tt
+
+end_command-sends : (storage : Contents) (s : SubchannelState) (p t n : ℕ) (status : DeviceStatus) (more : Bool) → Sends (end_command storage s p t n status more)
+end_command-sends storage s p t n status more = by (is_on s.hold.phase t) refl
+  where
+    by : (c : Bool) → is_on s.hold.phase t ≡ c → Sends (if c then end_of storage s s.begun p t n status more else ignoring s)
+    by true e = end_of-sends storage s s.begun p t n status more e
+    by false e = tt
+
+pub up-sends : (storage : Contents) (s : SubchannelState) (p : ℕ) (x : Up) → Sends (takes_up storage s p x).step
+up-sends storage s p (up.Accept t) = accept-sends storage s (accepted s.hold s.hold.phase t (waits_as s.waiting s.offered)) (accepted-mutters s.hold s.hold.phase t (waits_as s.waiting s.offered))
+up-sends storage s p (up.Data t c n q load) = take_data-sends storage s p t c n q load
+up-sends storage s p (up.End t n status more) = end_command-sends storage s p t n status more
+up-sends storage s p (up.Busy t) = by_hold-sends s (found_busy s.hold s.hold.phase t) (busy-mutters s.hold s.hold.phase t)
+up-sends storage s p (up.Leave t c) = by_hold-sends s (left s.hold s.hold.phase t c) (left-mutters s.hold s.hold.phase t c)
+up-sends storage s p (up.Back t c) = by_hold-sends s (asked_back s.hold s.hold.phase p t c false) (back-mutters s.hold s.hold.phase p t c false)
+up-sends storage s p (up.Released t) = by_hold-sends s (released s.hold s.hold.phase t) (released-mutters s.hold s.hold.phase t)
+up-sends storage s p (up.Cleared r) = by_hold-sends s (cleared s.hold s.hold.phase r) (cleared-mutters s.hold s.hold.phase r)
+up-sends storage s p (up.Notice b) = by_hold-sends s (noticed s.hold b) (noticed-mutters s.hold b)
+up-sends storage s p (up.Attn a status) = by_hold-sends s (attended s.hold s.hold.phase p a false) (attended-mutters s.hold s.hold.phase p a false)

@@ -1,0 +1,175 @@
+-- After each run of a lawful set-up what a device absorbed for its command are the first bytes of chunks that were copied
+-- for it, side by side from the first place on.
+use Rattle.std.proofs.Common.{◌≡◌, refl, sym, ap, subst, ℕ, ◌+◌, Bool, true, false, ◌==◌, length, Option, None, Some, Result, Ok, List, arith}
+use Rattle.std.specs.Prelude.{if◌then◌else◌, slice_get, IfOk}
+use Rattle.std.proofs.lemmas.Bool.{eq-eqb, eqb-true}
+use Rattle.storage_keys.specs.Storage.{Contents}
+use Rattle.channel_config.specs.Lawful.{IsLawful}
+use Rattle.channel_config.specs.Setup.{Setup}
+use Rattle.channel_config.specs.declared.parts.SubchannelSetup.{SubchannelSetup}
+use Rattle.chan_model.specs.declared.fault.Fault.{Fault}
+use Rattle.chan_model.specs.declared.names.Side.{Side}
+use Rattle.chan_model.specs.declared.reply.Entry.{Entry}
+use Rattle.chan_model.specs.declared.unit_state.UnitState.{UnitState}
+use Rattle.chan_model.specs.UnitTable.{idle_unit}
+use Rattle.chan_model.specs.UnitReports.{unit_reports}
+use Rattle.wires.specs.Queues.{no_queues}
+use Rattle.machine_model.specs.declared.state.Begun.{Begun}
+use Rattle.machine_model.specs.declared.state.Subchannel.{Subchannel}
+use Rattle.machine_model.specs.declared.state.SubchannelState.{SubchannelState}
+use Rattle.machine_model.specs.Choosing.{is_any, allowed_paths, chosen}
+use Rattle.machine_model.specs.Instructions.{started, tested}
+use Rattle.machine_model.specs.State.{State, opening_of, opened}
+use Rattle.machine_model.specs.Steps.{with_state, SubTurn, UpTurn, DownTurn, choose_sub, up_sub, Run, Opened, Stepped}
+use Rattle.program_laws.specs.Stories.{Story, chosen_at, met_at, taken_at, reported_at, story, story_after}
+use Rattle.program_laws.specs.Claims.{AbsorbsInOrder, part_of}
+use Rattle.program_laws.proofs.Turns.{Happening, Stays, Starts_with_orb, Is_tested, Is_modified, Is_chosen, Meets, Sinks, Is_reported, Other_sinks, Other_reported, step-happens}
+use Rattle.program_laws.proofs.Ties.{AreLaws}
+use Rattle.program_laws.proofs.Accesses.{AreAccesses}
+use Rattle.program_laws.proofs.Holds.{HasWork, HeldBy}
+use Rattle.program_laws.proofs.UnitHands.{IsCalm}
+use Rattle.program_laws.proofs.LinkOrders.{AtUnit, IsLinked, chosen-waits, held-needs}
+use Rattle.program_laws.proofs.LinkWires.{HandClosed, IsGiving, IsTelling, IsClosed, IsWired}
+use Rattle.program_laws.proofs.LinkModes.{AnyGive, AnyData, ModeOf, Waits, Over, Reads, Writes, absorbs-none}
+use Rattle.program_laws.proofs.LinkMeets.{flow-absorbs}
+use Rattle.program_laws.proofs.LinkFlows.{AtSub, choose-flows, up-flows, down-flows, report-flows, calm-flows, other-down, other-told}
+use Rattle.program_laws.proofs.RunSides.{map-get, run-one-sided}
+use Rattle.program_laws.proofs.RunOrders.{AllNeeds, on-none, unit-there, idle-there, run-linked}
+
+-- at one place
+abbrev Flows : Side → Subchannel → Option Story → Option UnitState → Type 0
+Flows side sub k u = AtUnit (AtSub side sub k) u
+
+flows-as : (side : Side) (new x : Subchannel) (k m : Option Story) (u v : Option UnitState) → new.setup.side ≡ side → new ≡ x → m ≡ k → v ≡ u → Flows side x k u → Flows new.setup.side new m v
+flows-as side new x k m u v a b c d l =
+    subst (λ (y : Side). Flows y new m v) (sym a)
+    (subst (λ (y : Subchannel). Flows side y m v) (sym b)
+    (subst (λ (y : Option Story). Flows side x y v) (sym c)
+    (subst (λ (y : Option UnitState). Flows side x k y) (sym d) l)))
+
+chosen-flows : (sub : Subchannel) (choice : Option ℕ) (k : Option Story) (u : Option UnitState) (t : SubTurn) → choose_sub sub (chosen sub choice) ≡ Ok t → HeldBy sub.state k →
+    HeldBy t.sub.state (chosen_at (Some sub) t.reply k) → AtUnit (IsLinked sub.setup.side sub.wires.down k) u → Flows sub.setup.side sub k u →
+    Flows sub.setup.side t.sub (chosen_at (Some sub) t.reply k) u
+chosen-flows sub choice k None t e h i l a = absurd l
+chosen-flows sub choice k (Some u) t e h i l a =
+    (subst (λ (r : Result SubTurn Fault). IfOk r (λ t. HeldBy t.sub.state (chosen_at (Some sub) t.reply k) → AtSub sub.setup.side t.sub (chosen_at (Some sub) t.reply k) u)) e
+    (choose-flows sub (chosen sub choice) k u (chosen-waits sub.state.hold.phase sub.state.waiting (is_any (allowed_paths sub)) choice) h l a)) i
+
+-- a state with the same program at work
+state-flows : (sub : Subchannel) (x : SubchannelState) (k : Option Story) (u : Option UnitState) → x.begun ≡ sub.state.begun → Flows sub.setup.side sub k u →
+    Flows sub.setup.side (with_state sub x) k u
+state-flows sub x k u e a =
+    subst (λ (b : Option Begun). AtUnit (λ v. ModeOf sub.setup.side b k sub.wires.down sub.wires.up v) u) (sym e) a
+
+module _ (laws : AreLaws) (accesses : AreAccesses) where
+  met-flows : (storage : Contents) (sub : Subchannel) (path : ℕ) (k : Option Story) (u : Option UnitState) (t : UpTurn) → up_sub storage sub path ≡ Ok t → HeldBy sub.state k →
+      Flows sub.setup.side sub k u → Flows sub.setup.side t.sub (met_at storage (Some sub) path k) u
+  met-flows storage sub path k None t e h a = absurd a
+  met-flows storage sub path k (Some u) t e h a =
+      subst (λ (r : Result UpTurn Fault). IfOk r (λ t. AtSub sub.setup.side t.sub (met_at storage (Some sub) path k) u)) e (up-flows laws accesses storage sub path k u h a)
+
+  happens-flows : (storage : Contents) (old new : Subchannel) (u v : Option UnitState) (f : Option Story → Option Story) → Happening storage old new u v f → new.setup ≡ old.setup →
+      (k : Option Story) → HeldBy old.state k → HeldBy new.state (f k) → AtUnit (IsLinked old.setup.side old.wires.down k) u → Flows old.setup.side old k u →
+      Flows new.setup.side new (f k) v
+  happens-flows storage old new u v f (Stays e w s) i k n m l a = flows-as old.setup.side new old k (f k) u v (ap (λ (x : SubchannelSetup). x.side) i) e (s k) w a
+  happens-flows storage old new u v f (Starts_with_orb orb e w s) i k n m l a =
+      flows-as old.setup.side new (with_state old (started old.state orb)) k (f k) u v (ap (λ (x : SubchannelSetup). x.side) i) e (s k) w
+      (state-flows old (started old.state orb) k u refl a)
+  happens-flows storage old new u v f (Is_tested e w s) i k n m l a =
+      flows-as old.setup.side new (with_state old (tested old.state)) k (f k) u v (ap (λ (x : SubchannelSetup). x.side) i) e (s k) w (state-flows old (tested old.state) k u refl a)
+  happens-flows storage old new u v f (Is_modified pmcw e w s) i k n m l a =
+      flows-as old.setup.side new (with_state old (record old.state { pmcw = pmcw })) k (f k) u v (ap (λ (x : SubchannelSetup). x.side) i) e (s k) w
+      (state-flows old (record old.state { pmcw = pmcw }) k u refl a)
+  happens-flows storage old new u v f (Is_chosen choice t c e w s) i k n m l a =
+      flows-as old.setup.side new t.sub (chosen_at (Some old) t.reply k) (f k) u v (ap (λ (x : SubchannelSetup). x.side) i) e (s k) w
+      (chosen-flows old choice k u t c n
+      (subst (λ (x : Subchannel). HeldBy x.state (chosen_at (Some old) t.reply k)) e (subst (λ (x : Option Story). HeldBy new.state x) (s k) m)) l a)
+  happens-flows storage old new u v f (Meets path t c e w s) i k n m l a =
+      flows-as old.setup.side new t.sub (met_at storage (Some old) path k) (f k) u v (ap (λ (x : SubchannelSetup). x.side) i) e (s k) w (met-flows storage old path k u t c n a)
+  happens-flows storage old new u v f (Sinks path x t is c e w s) i k n m l a =
+      flows-as old.setup.side new t.sub (taken_at t.reply k) (f k) (Some t.«unit») v (ap (λ (x : SubchannelSetup). x.side) i) e (s k) w
+      (subst (λ (r : Result DownTurn Fault). IfOk r (λ t. AtSub old.setup.side t.sub (taken_at t.reply k) t.«unit»)) c
+      (down-flows old path x k n (subst (AtUnit (IsLinked old.setup.side old.wires.down k)) is l) (subst (Flows old.setup.side old k) is a)))
+  happens-flows storage old new u v f (Is_reported report x t is same c e w s) i k n m l a =
+      flows-as old.setup.side new t.sub (reported_at (Some x) report k) (f k) (Some t.«unit») v (ap (λ (x : SubchannelSetup). x.side) i) e (s k) w
+      (subst (λ (r : Result DownTurn Fault). IfOk r (λ t. AtSub old.setup.side t.sub (reported_at (Some x) report k) t.«unit»)) c
+      (report-flows old x report k (unit_reports x report) refl same (subst (AtUnit (IsLinked old.setup.side old.wires.down k)) is l) (subst (Flows old.setup.side old k) is a)))
+  happens-flows storage old new u v f (Other_sinks other path x t apart is c e w s) i k n m l a =
+      flows-as old.setup.side new old k (f k) (Some t.«unit») v (ap (λ (x : SubchannelSetup). x.side) i) e (s k) w
+      (calm-flows old.setup.side old k x t.«unit»
+      (subst (λ (r : Result DownTurn Fault). IfOk r (λ t. IsCalm old.setup.side x t.«unit»)) c (other-down other old.setup.side path x apart)) (subst (Flows old.setup.side old k) is a))
+  happens-flows storage old new u v f (Other_reported other report x t apart is same c e w s) i k n m l a =
+      flows-as old.setup.side new old k (f k) (Some t.«unit») v (ap (λ (x : SubchannelSetup). x.side) i) e (s k) w
+      (calm-flows old.setup.side old k x t.«unit»
+      (subst (λ (r : Result DownTurn Fault). IfOk r (λ t. IsCalm old.setup.side x t.«unit»)) c (other-told other old.setup.side x report (unit_reports x report) refl apart same))
+      (subst (Flows old.setup.side old k) is a))
+
+  -- at the opening
+  opens-wired : (side : Side) → IsWired side 0 0 HandClosed AnyGive AnyData no_queues.down no_queues.up idle_unit
+  opens-wired side = record {
+    hand = λ o. tt;
+    gives = on-none (IsGiving 0 0 AnyGive) 8;
+    tells = on-none (IsTelling 0 0 AnyData (IsClosed side 0 idle_unit)) 8;
+  }
+
+  opens-flows : (setup : Setup) → IsLawful setup → (place : ℕ) (sub : Subchannel) → slice_get (opening_of setup).subs place ≡ Some sub →
+      Flows sub.setup.side sub None (slice_get (opening_of setup).units sub.setup.«unit»)
+  opens-flows setup lawful place sub e =
+      let a : (s : SubchannelSetup) × (slice_get setup.subchannels place ≡ Some s) × (opened s ≡ sub) = map-get opened setup.subchannels place sub e in
+      let kind = unit-there setup lawful place a.0 a.1 in
+      subst (λ (x : Subchannel). Flows x.setup.side x None (slice_get (opening_of setup).units x.setup.«unit»)) a.2
+      (subst (Flows a.0.side (opened a.0) None) (sym (idle-there setup.units a.0.«unit» kind.0 kind.1)) (opens-wired a.0.side))
+
+  -- after a run, given what is kept of the programs
+  abbrev pub AllHeld : Setup → Type 0
+  AllHeld setup = (h : List Entry) (s : State) (run : Run (opening_of setup) h s) (place : ℕ) (sub : Subchannel) → slice_get s.subs place ≡ Some sub →
+      HeldBy sub.state (story place (opening_of setup) h s run)
+
+  held-all : (setup : Setup) → AllHeld setup → AllNeeds setup
+  held-all setup held h s run place sub e = held-needs (story place (opening_of setup) h s run) sub.state (held h s run place sub e)
+
+  run-flows : (setup : Setup) → IsLawful setup → AllHeld setup → (h : List Entry) (s : State) (run : Run (opening_of setup) h s) (place : ℕ) (sub : Subchannel) → slice_get s.subs place ≡ Some sub →
+      Flows sub.setup.side sub (story place (opening_of setup) h s run) (slice_get s.units sub.setup.«unit»)
+  run-flows setup lawful held _ _ Opened place sub e = opens-flows setup lawful place sub e
+  run-flows setup lawful held _ _ (Stepped h old e r new run step) place sub at =
+      let a = step-happens old (run-one-sided setup lawful h old run) place e r new step sub at in
+      subst (λ (x : SubchannelSetup). Flows sub.setup.side sub (story_after place old e r (story place (opening_of setup) h old run)) (slice_get new.units x.«unit»)) (sym a.2)
+      (happens-flows old.storage a.0 sub (slice_get old.units a.0.setup.«unit») (slice_get new.units a.0.setup.«unit») (story_after place old e r) a.3 a.2
+      (story place (opening_of setup) h old run) (held h old run place a.0 a.1) (held _ new (Stepped h old e r new run step) place sub at)
+      (run-linked setup lawful (held-all setup held) h old run place a.0 a.1) (run-flows setup lawful held h old run place a.0 a.1))
+
+  -- what it means
+  part-now : (k : Story) (b : Bool) → b ≡ true → AbsorbsInOrder k.orb k.now k.absorbed → AbsorbsInOrder k.orb (if b then k.now else k.before) k.absorbed
+  part-now k true e a = a
+  part-now k false e a = absurd (cc e)
+
+  part-before : (k : Story) (b : Bool) → b ≡ false → AbsorbsInOrder k.orb k.before k.absorbed → AbsorbsInOrder k.orb (if b then k.now else k.before) k.absorbed
+  part-before k true e a = absurd (cc e)
+  part-before k false e a = a
+
+  not-same : (n m : ℕ) → n + 1 ≡ m → (n == m) ≡ false
+  not-same n m e = by (n == m) refl
+    where
+      by : (b : Bool) → (n == m) ≡ b → b ≡ false
+      by true f = absurd (let g : n ≡ m = eqb-true n m f in omega (arith, e, g))
+      by false f = refl
+
+  mode-absorbs : (storage : Contents) (sub : Subchannel) (k : Story) (u : UnitState) → HeldBy sub.state (Some k) → AtSub sub.setup.side sub (Some k) u → AbsorbsInOrder k.orb (part_of k) k.absorbed
+  mode-absorbs storage sub k u h (Waits b e n q y a w) = part-before k (length k.taken == k.sent) (not-same (length k.taken) k.sent n) a
+  mode-absorbs storage sub k u h (Over e n z a w) = part-now k (length k.taken == k.sent) (eq-eqb (length k.taken) k.sent n) a
+  mode-absorbs storage sub k u h (Reads b e n o z w) =
+      part-now k (length k.taken == k.sent) (eq-eqb (length k.taken) k.sent n) (absorbs-none k.orb k.now k.absorbed z)
+  mode-absorbs storage sub k u h (Writes b e n o lead f w) =
+      let work : HasWork (Some b) k = subst (λ (x : Option Begun). HasWork x k) e h.work in
+      part-now k (length k.taken == k.sent) (eq-eqb (length k.taken) k.sent n)
+      (flow-absorbs laws accesses storage sub.setup.side sub.state k sub.wires.down sub.wires.up u 0 h (Writes b e n o lead f w) b.transfer lead work.0.tied f)
+
+  unit-absorbs : (storage : Contents) (sub : Subchannel) (k : Story) (u : Option UnitState) → HeldBy sub.state (Some k) → Flows sub.setup.side sub (Some k) u → AbsorbsInOrder k.orb (part_of k) k.absorbed
+  unit-absorbs storage sub k None h a = absurd a
+  unit-absorbs storage sub k (Some u) h a = mode-absorbs storage sub k u h a
+
+  pub run-absorbs : (setup : Setup) → IsLawful setup → AllHeld setup → (h : List Entry) (s : State) (run : Run (opening_of setup) h s) (place : ℕ) (sub : Subchannel) (k : Story) →
+      slice_get s.subs place ≡ Some sub → story place (opening_of setup) h s run ≡ Some k → AbsorbsInOrder k.orb (part_of k) k.absorbed
+  run-absorbs setup lawful held h s run place sub k at e =
+      unit-absorbs s.storage sub k (slice_get s.units sub.setup.«unit») (subst (λ (x : Option Story). HeldBy sub.state x) e (held h s run place sub at))
+      (subst (λ (x : Option Story). Flows sub.setup.side sub x (slice_get s.units sub.setup.«unit»)) e (run-flows setup lawful held h s run place sub at))

@@ -1,0 +1,219 @@
+-- What a subchannel does for its program with a signal only adds to the codes of its commands.
+use Rattle.std.proofs.Common.{◌≡◌, refl, sym, ◌∙◌, ap, ℕ, ◌+◌, ◌≤◌, Bool, true, false, ◌==◌, ◌&&◌, Option, None, Some, Result, Ok, Err, List, [], ◌∷◌, ◌++◌, length, map, append_assoc, inl, inr, arith}
+use Rattle.std.specs.Prelude.{◌⊎◌, if◌then◌else◌, is_some}
+use Rattle.orb_block.specs.declared.Orb.{Orb}
+use Rattle.ccw_codec.specs.declared.Ccw.{Ccw}
+use Rattle.scsw_irb.specs.declared.status.DeviceStatus.{DeviceStatus}
+use Rattle.storage_keys.specs.Storage.{Contents}
+use Rattle.chan_model.specs.declared.hold_state.HoldPhase.{HoldPhase}
+use Rattle.chan_model.specs.declared.hold_state.HoldPhase.TheVariants as hold
+use Rattle.chan_model.specs.declared.hold_state.HoldState.{HoldState}
+use Rattle.chan_model.specs.declared.signal.Load.{Load}
+use Rattle.chan_model.specs.declared.signal.Up.{Up}
+use Rattle.chan_model.specs.declared.signal.Up.TheVariants as up
+use Rattle.chan_model.specs.HoldTable.{HoldStep, hold_takes, hold_after, came_of, is_connected, is_on}
+use Rattle.chan_model.specs.HoldTable as hold_table
+use Rattle.chan_model.specs.Loads.{load_length}
+use Rattle.chan_model.specs.UnitReports.{is_outward, has_device_end}
+use Rattle.channel_program.specs.declared.check.Check.{Check}
+use Rattle.channel_program.specs.declared.Reading.{Reading}
+use Rattle.channel_program.specs.declared.Reading.TheVariants.{Transfers, Takes, Suspends, Shows}
+use Rattle.channel_program.specs.Acts.{Act, Block, Unfetched, Used_up, End, Connected, Took, Word, Moved}
+use Rattle.channel_program.specs.Blocks.{reads}
+use Rattle.channel_program.specs.Programs.{Command, join_last, commands_after, commands, code, role_of}
+use Rattle.transfer.specs.declared.Transfer.{Transfer}
+use Rattle.transfer.specs.Commands.{first_command, next_command, located, has_stopped}
+use Rattle.transfer.specs.Chunks.{with_moved, chains_data, with_answer, absorbed, fitting, brought, is_answered}
+use Rattle.machine_model.specs.declared.state.Begun.{Begun}
+use Rattle.machine_model.specs.declared.state.Program.{Program}
+use Rattle.machine_model.specs.declared.state.SubchannelState.{SubchannelState}
+use Rattle.machine_model.specs.Statuses.{has_status_modifier, chains_command}
+use Rattle.machine_model.specs.Taking.{waits_as, bytes_of}
+use Rattle.program_laws.specs.Doings.{Part, no_part, with_acts, with_places, moved_on, answered, with_copy, copying, giving, gives, with_arrival, storing, arriving, takes_in, located_acts, chained_acts, chunk_of, first_acts, next_acts}
+use Rattle.program_laws.specs.Stories.{Story, goes_on, begins, accepted_at, accepted, moves, answers, chains, ends, meets}
+
+-- the codes of the commands, the latest first
+abbrev pub codes_of : Story → List ℕ
+codes_of k = map code (commands k.orb k.now.acts)
+
+-- one more act adds a code, or none
+joined-codes : (cs : List Command) (ccw : Ccw) → map code (join_last cs ccw) ≡ map code cs
+joined-codes [] ccw = refl
+joined-codes (c ∷ cs) ccw = refl
+
+abbrev pub Adds : List ℕ → List ℕ → Type 0
+Adds old new = (more : List ℕ) × (new ≡ more ++ old)
+
+adds-none : (xs ys : List ℕ) → ys ≡ xs → Adds xs ys
+adds-none xs ys e = ([], e)
+
+pub adds-then : (xs ys zs : List ℕ) → Adds xs ys → Adds ys zs → Adds xs zs
+adds-then xs ys zs a b = (b.0 ++ a.0, b.1 ∙ ap (λ (l : List ℕ). b.0 ++ l) a.1 ∙ sym (append_assoc b.0 a.0 xs))
+
+after-adds : (chained : Bool) (cs : List Command) (r : Reading) → Adds (map code cs) (map code (commands_after chained cs r))
+after-adds chained cs (Transfers target) = adds-none _ _ refl
+after-adds true cs (Takes ccw) = adds-none (map code cs) (map code (join_last cs ccw)) (joined-codes cs ccw)
+after-adds false cs (Takes ccw) = (ccw.command ∷ [], refl)
+after-adds chained cs Suspends = adds-none _ _ refl
+after-adds chained cs Shows = adds-none _ _ refl
+
+pub acts-add : (orb : Orb) (acts before : List Act) → Adds (map code (commands orb before)) (map code (commands orb (acts ++ before)))
+acts-add orb [] before = adds-none _ _ refl
+acts-add orb (Block address bytes ∷ acts) before =
+    adds-then (map code (commands orb before)) (map code (commands orb (acts ++ before))) _ (acts-add orb acts before)
+    (after-adds (role_of orb (acts ++ before)).chained (commands orb (acts ++ before)) (reads orb (role_of orb (acts ++ before)) bytes))
+acts-add orb (Unfetched address check ∷ acts) before = acts-add orb acts before
+acts-add orb (Used_up ∷ acts) before = acts-add orb acts before
+acts-add orb (End ended ∷ acts) before = acts-add orb acts before
+acts-add orb (Connected number ∷ acts) before = acts-add orb acts before
+acts-add orb (Took number c ∷ acts) before = acts-add orb acts before
+acts-add orb (Word word ∷ acts) before = acts-add orb acts before
+acts-add orb (Moved chunk ∷ acts) before = acts-add orb acts before
+
+-- parts whose acts grew
+abbrev pub IsOn : Part → Part → Type 0
+IsOn k new = (more : List Act) × (new.acts ≡ more ++ k.acts)
+
+on-same : (k new : Part) → new.acts ≡ k.acts → IsOn k new
+on-same k new e = ([], e)
+
+on-then : (x y z : Part) → IsOn x y → IsOn y z → IsOn x z
+on-then x y z a b = (b.0 ++ a.0, b.1 ∙ ap (λ (l : List Act). b.0 ++ l) a.1 ∙ sym (append_assoc b.0 a.0 x.acts))
+
+if-on : (k : Part) (c : Bool) (x y : Part) → IsOn k x → IsOn k y → IsOn k (if c then x else y)
+if-on k true x y e f = e
+if-on k false x y e f = f
+
+moved_on-on : (storage : Contents) (t : Transfer) (n : ℕ) (k : Part) → IsOn k (moved_on storage t n k)
+moved_on-on storage t n k = if-on k (chains_data (with_moved t n) n) _ _ (chained_acts storage (with_moved t n), refl) (on-same k (with_places k t.moving n) refl)
+
+answered-on : (storage : Contents) (t : Transfer) (s count : ℕ) (k : Part) → IsOn k (answered storage t s count k)
+answered-on storage t s count k = if-on k (s == t.sequence + 1) _ k (moved_on-on storage (with_answer t s count) _ k) (on-same k k refl)
+
+with_copy-on : (storage : Contents) (t : Transfer) (r : Result (List ℕ) Check) (k : Part) → IsOn k (with_copy storage t r k)
+with_copy-on storage t (Ok bytes) k = on-same k (record k { copied = chunk_of storage t.moving bytes ∷ k.copied }) refl
+with_copy-on storage t (Err check) k = on-same k k refl
+
+copying-on : (storage : Contents) (t : Transfer) (k : Part) → IsOn k (copying storage t k)
+copying-on storage t k = if-on k (has_stopped t) k _ (on-same k k refl) (with_copy-on storage t _ k)
+
+giving-on : (storage : Contents) (t : Transfer) (k : Part) → IsOn k (giving storage t k)
+giving-on storage t k = on-then k (with_acts k (located_acts storage t)) (giving storage t k) (located_acts storage t, refl) (copying-on storage (located storage t) (with_acts k (located_acts storage t)))
+
+pub gives-on : (storage : Contents) (t : Transfer) (s count : ℕ) (k : Part) → IsOn k (gives storage t s count k)
+gives-on storage t s count k = on-then k (answered storage t s count k) (gives storage t s count k) (answered-on storage t s count k) (giving-on storage (absorbed storage t s count) (answered storage t s count k))
+
+with_arrival-on : (storage : Contents) (t : Transfer) (bytes : List ℕ) (r : Result Contents Check) (k : Part) → IsOn k (with_arrival storage t bytes r k)
+with_arrival-on storage t bytes (Ok after) k =
+    let x : Part = record k { arrived = record { former = storage.bytes; chunk = chunk_of after t.moving bytes } ∷ k.arrived } in
+    on-then k x (moved_on after t (length bytes) x) (on-same k x refl) (moved_on-on after t (length bytes) x)
+with_arrival-on storage t bytes (Err check) k = on-same k k refl
+
+storing-on : (storage : Contents) (t : Transfer) (bytes : List ℕ) (k : Part) → IsOn k (storing storage t bytes k)
+storing-on storage t bytes k = if-on k (is_some t.fault) k _ (on-same k k refl) (with_arrival-on storage t bytes _ k)
+
+arriving-on : (storage : Contents) (t : Transfer) (s : ℕ) (bytes : List ℕ) (k : Part) → IsOn k (arriving storage t s bytes k)
+arriving-on storage t s bytes k = if-on k (s == t.sequence + 1) (storing storage (record t { sequence = s }) (fitting t bytes) k) k (storing-on storage (record t { sequence = s }) (fitting t bytes) k) (on-same k k refl)
+
+pub takes_in-on : (storage : Contents) (t : Transfer) (s : ℕ) (bytes : List ℕ) (k : Part) → IsOn k (takes_in storage t s bytes k)
+takes_in-on storage t s bytes k =
+    on-then k (arriving storage t s bytes k) (takes_in storage t s bytes k) (arriving-on storage t s bytes k)
+    (located_acts (brought storage t s bytes).storage (brought storage t s bytes).transfer, refl)
+
+-- a story in which the codes grew or stayed, or before any was sent, and the device took and absorbed nothing
+abbrev pub IsMore : Story → Story → Type 0
+IsMore k new = Adds (codes_of k) (codes_of new) ⊎ (k.sent ≡ 0)
+
+pub record IsGrown (k new : Story) : Type 0 where
+  pub number : new.number ≡ k.number
+  pub taken : new.taken ≡ k.taken
+  pub absorbed : new.absorbed ≡ k.absorbed
+  pub sent : k.sent ≤ new.sent
+  pub codes : IsMore k new
+
+pub same-grown : (k : Story) → IsGrown k k
+same-grown k = record { number = refl; taken = refl; absorbed = refl; sent = omega arith; codes = inl ([], refl) }
+
+if-grown : (k : Story) (c : Bool) (x y : Story) → IsGrown k x → IsGrown k y → IsGrown k (if c then x else y)
+if-grown k true x y e f = e
+if-grown k false x y e f = f
+
+now-grown : (k : Story) (now : Part) → IsOn k.now now → IsGrown k (record k { now = now })
+now-grown k now a =
+    let c : Adds (codes_of k) (map code (commands k.orb (a.0 ++ k.now.acts))) = acts-add k.orb a.0 k.now.acts in
+    record {
+      number = refl;
+      taken = refl;
+      absorbed = refl;
+      sent = omega arith;
+      codes = inl (c.0, ap (λ (l : List Act). map code (commands k.orb l)) a.1 ∙ c.1);
+    }
+
+goes_on-grown : (came : Result Transfer Check) (acts : List Act) (k : Story) → IsGrown k (goes_on came acts k)
+goes_on-grown (Ok t) acts k =
+    let c : Adds (codes_of k) (map code (commands k.orb (acts ++ k.now.acts))) = acts-add k.orb acts k.now.acts in
+    record { number = refl; taken = refl; absorbed = refl; sent = omega arith; codes = inl (c.0, c.1) }
+goes_on-grown (Err check) acts k = now-grown k (with_acts k.now acts) (acts, refl)
+
+-- where none was sent
+begins-grown : (storage : Contents) (program : Program) (k : Story) → k.sent ≡ 0 → IsGrown k (begins storage program k)
+begins-grown storage program k e = by (first_command storage program.orb).came
+  where
+    by : (came : Result Transfer Check) → IsGrown k (goes_on came (first_acts storage program.orb) (record k { orb = program.orb; now = no_part }))
+    by (Ok t) = record { number = refl; taken = refl; absorbed = refl; sent = omega arith; codes = inr e }
+    by (Err check) = record { number = refl; taken = refl; absorbed = refl; sent = omega arith; codes = inr e }
+
+accepted_at-grown : (storage : Contents) (phase : HoldPhase) (waiting : Option Program) (k : Story) → k.sent ≡ 0 → IsGrown k (accepted_at storage phase waiting k)
+accepted_at-grown storage (hold.On t p c) (Some program) k e = begins-grown storage program k e
+accepted_at-grown storage (hold.On t p c) None k e = same-grown k
+accepted_at-grown storage hold.Free waiting k e = same-grown k
+accepted_at-grown storage (hold.Offer t p) waiting k e = same-grown k
+accepted_at-grown storage (hold.Away t) waiting k e = same-grown k
+accepted_at-grown storage (hold.Letting t p) waiting k e = same-grown k
+accepted_at-grown storage (hold.Reset r) waiting k e = same-grown k
+
+accepted-grown : (storage : Contents) (s : SubchannelState) (step : Option HoldStep) (k : Story) → k.sent ≡ 0 → IsGrown k (accepted storage s step k)
+accepted-grown storage s step k e = if-grown k (came_of step).taken _ k (accepted_at-grown storage (hold_after s.hold step).phase s.waiting k e) (same-grown k)
+
+-- Accept is taken at an offer alone
+abbrev pub IsUnbegun : HoldPhase → Story → Type 0
+IsUnbegun phase k = (t p : ℕ) → phase ≡ hold.Offer t p → k.sent ≡ 0
+
+accept-grown : (storage : Contents) (s : SubchannelState) (h : HoldState) (phase : HoldPhase) (t : ℕ) (may : Bool) (k : Story) → IsUnbegun phase k →
+    IsGrown k (accepted storage s (hold_table.accepted h phase t may) k)
+accept-grown storage s h hold.Free t may k e = same-grown k
+accept-grown storage s h (hold.Offer u p) t may k e = accepted-grown storage s (hold_table.accepted h (hold.Offer u p) t may) k (e u p refl)
+accept-grown storage s h (hold.On u p c) t may k e = same-grown k
+accept-grown storage s h (hold.Away u) t may k e = same-grown k
+accept-grown storage s h (hold.Letting u p) t may k e = same-grown k
+accept-grown storage s h (hold.Reset r) t may k e = same-grown k
+
+moves-grown : (storage : Contents) (t : Transfer) (s : ℕ) (load : Load) (k : Story) → IsGrown k (moves storage t s load k)
+moves-grown storage t s load k =
+    if-grown k (is_outward t.code) _ _ (now-grown k (gives storage t s (load_length load) k.now) (gives-on storage t s (load_length load) k.now))
+    (now-grown k (takes_in storage t s (bytes_of load) k.now) (takes_in-on storage t s (bytes_of load) k.now))
+
+answers-grown : (storage : Contents) (b : Option Begun) (n s : ℕ) (load : Load) (k : Story) → IsGrown k (answers storage b n s load k)
+answers-grown storage None n s load k = same-grown k
+answers-grown storage (Some b) n s load k = if-grown k (is_answered b.transfer n s) _ k (moves-grown storage b.transfer s load k) (same-grown k)
+
+chains-grown : (storage : Contents) (s : SubchannelState) (b : Begun) (status : DeviceStatus) (more : Bool) (k : Story) → IsGrown k (chains storage s b status more k)
+chains-grown storage s b status more k =
+    if-grown k (chains_command s.scsw b status more && has_device_end status) _ k
+    (goes_on-grown (next_command storage b.transfer (has_status_modifier status)).came (next_acts storage b.transfer (has_status_modifier status)) k) (same-grown k)
+
+ends-grown : (storage : Contents) (s : SubchannelState) (b : Option Begun) (n : ℕ) (status : DeviceStatus) (more : Bool) (k : Story) → IsGrown k (ends storage s b n status more k)
+ends-grown storage s None n status more k = same-grown k
+ends-grown storage s (Some b) n status more k = if-grown k (n == b.transfer.command) _ k (chains-grown storage s b status more k) (same-grown k)
+
+pub meets-grown : (storage : Contents) (s : SubchannelState) (p : ℕ) (x : Up) (k : Story) → IsUnbegun s.hold.phase k → IsGrown k (meets storage s p x k)
+meets-grown storage s p (up.Accept t) k e = accept-grown storage s s.hold s.hold.phase t (waits_as s.waiting s.offered) k e
+meets-grown storage s p (up.Data t c n seq load) k e = if-grown k (is_connected s.hold.phase p t c) _ k (answers-grown storage s.begun n seq load k) (same-grown k)
+meets-grown storage s p (up.End t n status more) k e = if-grown k (is_on s.hold.phase t) _ k (ends-grown storage s s.begun n status more k) (same-grown k)
+meets-grown storage s p (up.Busy t) k e = same-grown k
+meets-grown storage s p (up.Leave t c) k e = same-grown k
+meets-grown storage s p (up.Back t c) k e = same-grown k
+meets-grown storage s p (up.Released t) k e = same-grown k
+meets-grown storage s p (up.Cleared r) k e = same-grown k
+meets-grown storage s p (up.Notice b) k e = same-grown k
+meets-grown storage s p (up.Attn a status) k e = same-grown k

@@ -1,0 +1,290 @@
+-- What a unit does with a signal or a report leaves the number of each side, and the program that holds it, as they were,
+-- but for a Select, a Command and a Reset of that side.
+use Rattle.std.proofs.Common.{◌≡◌, refl, sym, ◌∙◌, ap, ℕ, ◌+◌, Bool, true, false, ◌==◌, ◌&&◌, not, nat_lt, nat_le, length, Option, None, Some, List}
+use Rattle.std.specs.Prelude.{if◌then◌else◌}
+use Rattle.scsw_irb.specs.declared.status.DeviceStatus.{DeviceStatus}
+use Rattle.chan_model.specs.declared.names.Side.{Side}
+use Rattle.chan_model.specs.declared.names.Side.TheVariants.{First, Second}
+use Rattle.chan_model.specs.declared.report.DeviceAnswer.{DeviceAnswer}
+use Rattle.chan_model.specs.declared.report.DeviceAnswer.TheVariants as answer
+use Rattle.chan_model.specs.declared.report.Report.{Report}
+use Rattle.chan_model.specs.declared.signal.Down.{Down}
+use Rattle.chan_model.specs.declared.signal.Down.TheVariants as down
+use Rattle.chan_model.specs.declared.signal.Load.{Load}
+use Rattle.chan_model.specs.declared.unit_state.AtHand.{AtHand}
+use Rattle.chan_model.specs.declared.unit_state.Attention.{Attention}
+use Rattle.chan_model.specs.declared.unit_state.Own.{Own}
+use Rattle.chan_model.specs.declared.unit_state.Own.TheVariants as own
+use Rattle.chan_model.specs.declared.unit_state.Place.{Place}
+use Rattle.chan_model.specs.declared.unit_state.Place.TheVariants.{On, Ask, Away}
+use Rattle.chan_model.specs.declared.unit_state.Progress.{Progress}
+use Rattle.chan_model.specs.declared.unit_state.Progress.TheVariants as progress
+use Rattle.chan_model.specs.declared.unit_state.SideState.{SideState}
+use Rattle.chan_model.specs.declared.unit_state.UnitState.{UnitState}
+use Rattle.chan_model.specs.Sides.{same_side}
+use Rattle.chan_model.specs.UnitTable.{UnitStep, changes, with_given, side_of, with_side, owns, is_owner, is_owner_on, freed, raised, selected, given_next, answered_load, answered_last, granted_at, granted, refused_at, refused, without_side, reset_side, resets, forgetting, unit_works, unit_takes, unit_after, telling}
+use Rattle.chan_model.specs.UnitReports.{is_outward, is_to_supply, most_of, may_end, end_sent, begun, absorbed, supplied, sent_again, answer_taken, report_on, report_of, unit_reports}
+
+-- what is kept of a side is as it was, and a program of it that holds the device held it before, with the same last command
+pub record IsStill (side : Side) (u v : UnitState) : Type 0 where
+  pub side_state : side_of v side ≡ side_of u side
+  pub owner : (t : ℕ) → is_owner v.own side t ≡ true → (is_owner u.own side t ≡ true) × (v.last_command ≡ u.last_command)
+
+abbrev pub IsStillStep : Side → UnitState → Option UnitStep → Type 0
+IsStillStep side u step = IsStill side u (unit_after u step)
+
+pub still : (side : Side) (u : UnitState) → IsStill side u u
+still side u = record { side_state = refl; owner = λ t e. (e, refl) }
+
+if-still : (side : Side) (u : UnitState) (c : Bool) (x y : Option UnitStep) → IsStillStep side u x → IsStillStep side u y → IsStillStep side u (if c then x else y)
+if-still side u true x y e f = e
+if-still side u false x y e f = f
+
+-- the sides and the owner are as they were
+same-own : (side : Side) (u v : UnitState) → side_of v side ≡ side_of u side → v.own ≡ u.own → v.last_command ≡ u.last_command → IsStill side u v
+same-own side u v s o l = record { side_state = s; owner = λ t e. (ap (λ (x : Own). is_owner x side t) (sym o) ∙ e, l) }
+
+pub same-sides : (side : Side) (u v : UnitState) → v.first ≡ u.first → v.second ≡ u.second → side_of v side ≡ side_of u side
+same-sides First u v e f = e
+same-sides Second u v e f = f
+
+-- the place alone is another
+same-program : (side k : Side) (n : ℕ) (place to : Place) (u : UnitState) → u.own ≡ own.Owned k n place → IsStill side u (record u { own = own.Owned k n to })
+same-program side k n place to u o = record {
+  side_state = same-sides side u (record u { own = own.Owned k n to }) refl refl;
+  owner = λ t e. (ap (λ (x : Own). is_owner x side t) o ∙ e, refl);
+}
+
+-- no program holds the device
+no-owner : (side : Side) (u v : UnitState) → side_of v side ≡ side_of u side → v.own ≡ own.Idle → IsStill side u v
+no-owner side u v s o = record { side_state = s; owner = λ t e. absurd (cc (sym (ap (λ (x : Own). is_owner x side t) o) ∙ e)) }
+
+-- with another command at hand
+with-hand : (side : Side) (u : UnitState) (x : Option AtHand) → IsStill side u (record u { at_hand = x })
+with-hand side u x = same-own side u (record u { at_hand = x }) (same-sides side u (record u { at_hand = x }) refl refl) refl refl
+
+-- the other side is changed
+other-side : (side k : Side) (u : UnitState) (s : SideState) → same_side k side ≡ false → side_of (with_side u k s) side ≡ side_of u side
+other-side First First u s e = absurd (cc e)
+other-side First Second u s e = refl
+other-side Second First u s e = refl
+other-side Second Second u s e = absurd (cc e)
+
+pub side-own : (k : Side) (u : UnitState) (s : SideState) → (with_side u k s).own ≡ u.own
+side-own First u s = refl
+side-own Second u s = refl
+
+side-last : (k : Side) (u : UnitState) (s : SideState) → (with_side u k s).last_command ≡ u.last_command
+side-last First u s = refl
+side-last Second u s = refl
+
+pub same-raised : (side k : Side) (u : UnitState) (s : SideState) → same_side k side ≡ false → IsStill side u (with_side u k s)
+same-raised side k u s e = same-own side u (with_side u k s) (other-side side k u s e) (side-own k u s) (side-last k u s)
+
+pub other-owner : (side k : Side) (n t : ℕ) (place : Place) → same_side k side ≡ false → is_owner (own.Owned k n place) side t ≡ true → ⊥
+other-owner First First n t place e f = absurd (cc e)
+other-owner First Second n t place e f = absurd (cc f)
+other-owner Second First n t place e f = absurd (cc f)
+other-owner Second Second n t place e f = absurd (cc e)
+
+-- an owner of one side is of no other
+pub one-owner : (side k : Side) (o : Own) (n t : ℕ) → same_side k side ≡ false → is_owner o k n ≡ true → is_owner o side t ≡ true → ⊥
+one-owner side k own.Idle n t e f g = absurd (cc f)
+one-owner First First (own.Owned j m place) n t e f g = absurd (cc e)
+one-owner Second Second (own.Owned j m place) n t e f g = absurd (cc e)
+one-owner First Second (own.Owned First m place) n t e f g = absurd (cc f)
+one-owner First Second (own.Owned Second m place) n t e f g = absurd (cc g)
+one-owner Second First (own.Owned First m place) n t e f g = absurd (cc g)
+one-owner Second First (own.Owned Second m place) n t e f g = absurd (cc f)
+
+-- the signals of any side that leave it
+given-still : (side : Side) (u : UnitState) (x : Option AtHand) (s : ℕ) (bytes : List ℕ) → IsStillStep side u (given_next u x s bytes)
+given-still side u None s bytes = still side u
+given-still side u (Some x) s bytes = if-still side u (s == x.sequence + 1) _ None (with-hand side u (Some (with_given x s bytes))) (still side u)
+
+load-still : (side : Side) (u : UnitState) (x : AtHand) (load : Option Load) (room : ℕ) → IsStillStep side u (answered_load u x load room)
+load-still side u x None room = still side u
+load-still side u x (Some load) room = with-hand side u _
+
+answered-still : (side : Side) (u : UnitState) (x : Option AtHand) (s room : ℕ) → IsStillStep side u (answered_last u x s room)
+answered-still side u None s room = still side u
+answered-still side u (Some x) s room = if-still side u (s == x.sequence) _ None (load-still side u x x.unanswered room) (still side u)
+
+granted_at-still : (side : Side) (u : UnitState) (k : Side) (n : ℕ) (place : Place) (p c : ℕ) → u.own ≡ own.Owned k n place → IsStillStep side u (granted_at u k n place p c)
+granted_at-still side u k n (Ask q d) p c o =
+    if-still side u (c == d) _ _ (same-program side k n (Ask q d) (On q d) u o) (if-still side u (nat_lt c d) _ None (still side u) (still side u))
+granted_at-still side u k n (On q d) p c o = if-still side u (nat_lt c d) _ None (still side u) (still side u)
+granted_at-still side u k n (Away d) p c o = if-still side u (nat_lt c d) _ None (still side u) (still side u)
+
+granted-still : (side : Side) (u : UnitState) (o : Own) (k : Side) (p t c : ℕ) → u.own ≡ o → IsStillStep side u (granted u o k p t c)
+granted-still side u own.Idle k p t c o = still side u
+granted-still side u (own.Owned j v place) k p t c o = if-still side u (same_side j k && (t == v)) _ None (granted_at-still side u j v place p c o) (still side u)
+
+refused_at-still : (side : Side) (u : UnitState) (k : Side) (n : ℕ) (place : Place) (c : ℕ) → u.own ≡ own.Owned k n place → IsStillStep side u (refused_at u k n place c)
+refused_at-still side u k n (Ask q d) c o = if-still side u (c == d) _ None (same-program side k n (Ask q d) (Away d) u o) (still side u)
+refused_at-still side u k n (On q d) c o = still side u
+refused_at-still side u k n (Away d) c o = still side u
+
+refused-still : (side : Side) (u : UnitState) (o : Own) (k : Side) (t c : ℕ) → u.own ≡ o → IsStillStep side u (refused u o k t c)
+refused-still side u own.Idle k t c o = still side u
+refused-still side u (own.Owned j v place) k t c o = if-still side u (same_side j k && (t == v)) _ None (refused_at-still side u j v place c o) (still side u)
+
+forgetting-still : (side : Side) (u : UnitState) (x : Option Attention) (k : Side) (a : ℕ) → IsStillStep side u (forgetting u x k a)
+forgetting-still side u None k a = still side u
+forgetting-still side u (Some x) k a =
+    if-still side u (same_side x.side k && (a == x.number)) _ None
+    (same-own side u (record u { attention = None }) (same-sides side u (record u { attention = None }) refl refl) refl refl) (still side u)
+
+halted-still : (side : Side) (u : UnitState) → IsStill side u (record u { halted = true })
+halted-still side u = same-own side u (record u { halted = true }) (same-sides side u (record u { halted = true }) refl refl) refl refl
+
+freed-still : (side : Side) (u : UnitState) → IsStill side u (freed u)
+freed-still side u = no-owner side u (freed u) (same-sides side u (freed u) refl refl) refl
+
+-- the signals that are no Select, Command or Reset
+abbrev pub IsMild : Down → Type 0
+IsMild (down.Select t) = ⊥
+IsMild (down.Command t n code room) = ⊥
+IsMild (down.Grant t c) = Unit {0}
+IsMild (down.Refuse t c) = Unit {0}
+IsMild (down.Took t n s room) = Unit {0}
+IsMild (down.Give t c n s bytes) = Unit {0}
+IsMild (down.Halt t) = Unit {0}
+IsMild (down.Release t) = Unit {0}
+IsMild (down.Reset r b) = ⊥
+IsMild (down.Got a) = Unit {0}
+
+mild-works : (side : Side) (u : UnitState) (k : Side) (p : ℕ) (d : Down) (may : Bool) → IsMild d → IsStillStep side u (unit_works u k p d may)
+mild-works side u k p (down.Select t) may m = absurd m
+mild-works side u k p (down.Command t n code room) may m = absurd m
+mild-works side u k p (down.Grant t c) may m = granted-still side u u.own k p t c refl
+mild-works side u k p (down.Refuse t c) may m = refused-still side u u.own k t c refl
+mild-works side u k p (down.Took t n s room) may m =
+    if-still side u (is_owner u.own k t && (n == u.last_command)) _ None (answered-still side u u.at_hand s room) (still side u)
+mild-works side u k p (down.Give t c n s bytes) may m =
+    if-still side u (is_owner_on u.own k t c && (n == u.last_command)) _ None (given-still side u u.at_hand s bytes) (still side u)
+mild-works side u k p (down.Halt t) may m = if-still side u (is_owner u.own k t && not u.halted) _ None (halted-still side u) (still side u)
+mild-works side u k p (down.Release t) may m = if-still side u (is_owner u.own k t) _ None (freed-still side u) (still side u)
+mild-works side u k p (down.Reset r b) may m = absurd m
+mild-works side u k p (down.Got a) may m = forgetting-still side u u.attention k a
+
+fresh-still : (side : Side) (u : UnitState) (k : Side) (p : ℕ) (step : Option UnitStep) → IsStillStep side u step → IsStillStep side u (if (side_of u k).fresh then telling u p else step)
+fresh-still side u k p step h = if-still side u (side_of u k).fresh (telling u p) step (still side u) h
+
+pub mild-still : (side : Side) (u : UnitState) (k : Side) (p : ℕ) (d : Down) (may : Bool) → IsMild d → IsStillStep side u (unit_takes u k p d may)
+mild-still side u k p (down.Select t) may m = absurd m
+mild-still side u k p (down.Command t n code room) may m = absurd m
+mild-still side u k p (down.Grant t c) may m = fresh-still side u k p _ (mild-works side u k p (down.Grant t c) may m)
+mild-still side u k p (down.Refuse t c) may m = fresh-still side u k p _ (mild-works side u k p (down.Refuse t c) may m)
+mild-still side u k p (down.Took t n s room) may m = fresh-still side u k p _ (mild-works side u k p (down.Took t n s room) may m)
+mild-still side u k p (down.Give t c n s bytes) may m = fresh-still side u k p _ (mild-works side u k p (down.Give t c n s bytes) may m)
+mild-still side u k p (down.Halt t) may m = fresh-still side u k p _ (mild-works side u k p (down.Halt t) may m)
+mild-still side u k p (down.Release t) may m = fresh-still side u k p _ (mild-works side u k p (down.Release t) may m)
+mild-still side u k p (down.Reset r b) may m = absurd m
+mild-still side u k p (down.Got a) may m = fresh-still side u k p _ (mild-works side u k p (down.Got a) may m)
+
+-- every signal of the other side leaves this one
+selected-other : (side : Side) (u : UnitState) (o : Own) (k : Side) (p t : ℕ) (may : Bool) → same_side k side ≡ false → IsStillStep side u (selected (raised u k t) o k p t may)
+selected-other side u own.Idle k p t true e = record {
+  side_state = other-held side k e;
+  owner = λ n f. absurd (other-owner side k t n (On p 0) e f);
+}
+  where
+    other-held : (side k : Side) → same_side k side ≡ false → side_of (unit_after u (selected (raised u k t) own.Idle k p t true)) side ≡ side_of u side
+    other-held First First e = absurd (cc e)
+    other-held First Second e = refl
+    other-held Second First e = refl
+    other-held Second Second e = absurd (cc e)
+selected-other side u own.Idle k p t false e = same-raised side k u _ e
+selected-other side u (own.Owned j v place) k p t may e = same-raised side k u _ e
+
+commanded-other : (side : Side) (u : UnitState) (k : Side) (t n : ℕ) (x : Option AtHand) (b : Bool) → same_side k side ≡ false → is_owner u.own k t ≡ b → (c : Bool) →
+    IsStillStep side u (if b && c then changes (record u { last_command = n; at_hand = x }) else None)
+commanded-other side u k t n x false e f c = still side u
+commanded-other side u k t n x true e f false = still side u
+commanded-other side u k t n x true e f true = record {
+  side_state = same-sides side u (record u { last_command = n; at_hand = x }) refl refl;
+  owner = λ m g. absurd (one-owner side k u.own t m e f g);
+}
+
+freed-where : (side : Side) (u : UnitState) (c : Bool) → IsStill side u (if c then freed u else u)
+freed-where side u true = freed-still side u
+freed-where side u false = still side u
+
+still-after : (side : Side) (u v w : UnitState) → IsStill side u v → IsStill side v w → IsStill side u w
+still-after side u v w a b = record {
+  side_state = b.side_state ∙ a.side_state;
+  owner = λ t e. let f = b.owner t e in let g = a.owner t f.0 in (g.0, f.1 ∙ g.1);
+}
+
+reset-other : (side : Side) (u : UnitState) (k : Side) (r : ℕ) → same_side k side ≡ false → IsStill side u (reset_side u k r)
+reset-other side u k r e =
+    still-after side u (without_side u k) (reset_side u k r) (freed-where side u (owns u.own k)) (same-raised side k (without_side u k) _ e)
+
+pub other-still : (side : Side) (u : UnitState) (k : Side) (p : ℕ) (d : Down) (may : Bool) → same_side k side ≡ false → IsStillStep side u (unit_takes u k p d may)
+other-still side u k p (down.Select t) may e =
+    fresh-still side u k p _ (if-still side u (nat_lt (side_of u k).floor t) _ None (selected-other side u u.own k p t may e) (still side u))
+other-still side u k p (down.Command t n code room) may e = fresh-still side u k p _ (commanded-other side u k t n _ (is_owner u.own k t) e refl (n == u.last_command + 1))
+other-still side u k p (down.Grant t c) may e = mild-still side u k p (down.Grant t c) may tt
+other-still side u k p (down.Refuse t c) may e = mild-still side u k p (down.Refuse t c) may tt
+other-still side u k p (down.Took t n s room) may e = mild-still side u k p (down.Took t n s room) may tt
+other-still side u k p (down.Give t c n s bytes) may e = mild-still side u k p (down.Give t c n s bytes) may tt
+other-still side u k p (down.Halt t) may e = mild-still side u k p (down.Halt t) may tt
+other-still side u k p (down.Release t) may e = mild-still side u k p (down.Release t) may tt
+other-still side u k p (down.Reset r b) may e =
+    if-still side u (resets u k r b) _ _ (reset-other side u k r e) (fresh-still side u k p None (still side u))
+other-still side u k p (down.Got a) may e = mild-still side u k p (down.Got a) may tt
+
+-- a report is of the command at hand alone
+begun-still : (side : Side) (u : UnitState) (p t c : ℕ) (x : AtHand) → IsStillStep side u (begun u p t c x)
+begun-still side u p t c x = if-still side u (is_outward x.code) _ _ (with-hand side u _) (with-hand side u _)
+
+absorbed-still : (side : Side) (u : UnitState) (p t c : ℕ) (x : AtHand) (bytes : Option (List ℕ)) (count : ℕ) → IsStillStep side u (absorbed u p t c x bytes count)
+absorbed-still side u p t c x None count = still side u
+absorbed-still side u p t c x (Some bytes) count = if-still side u (nat_le count (length bytes)) _ None (with-hand side u _) (still side u)
+
+supplied-still : (side : Side) (u : UnitState) (p t c : ℕ) (x : AtHand) (bytes : List ℕ) → IsStillStep side u (supplied u p t c x bytes)
+supplied-still side u p t c x bytes = if-still side u (is_to_supply x && nat_le (length bytes) (most_of x)) _ None (with-hand side u _) (still side u)
+
+again-still : (side : Side) (u : UnitState) (p t c : ℕ) (x : AtHand) (load : Option Load) → IsStillStep side u (sent_again u p t c x load)
+again-still side u p t c x None = still side u
+again-still side u p t c x (Some load) = if-still side u x.again _ None (with-hand side u _) (still side u)
+
+ended-still : (side : Side) (u : UnitState) (p t : ℕ) (x : AtHand) (may : Bool) (status : DeviceStatus) (more : Bool) → IsStillStep side u (if may then end_sent u p t x status more else None)
+ended-still side u p t x may status more = if-still side u may (end_sent u p t x status more) None (with-hand side u _) (still side u)
+
+answer-still : (side : Side) (u : UnitState) (p t c : ℕ) (x : AtHand) (at : Progress) (a : DeviceAnswer) → IsStillStep side u (answer_taken u p t c x at a)
+answer-still side u p t c x progress.New (answer.Ended status more) = ended-still side u p t x (may_end u.halted x progress.New status more) status more
+answer-still side u p t c x progress.Working (answer.Ended status more) = ended-still side u p t x (may_end u.halted x progress.Working status more) status more
+answer-still side u p t c x progress.ChannelEnded (answer.Ended status more) = ended-still side u p t x (may_end u.halted x progress.ChannelEnded status more) status more
+answer-still side u p t c x progress.Ended (answer.Ended status more) = ended-still side u p t x (may_end u.halted x progress.Ended status more) status more
+answer-still side u p t c x progress.New answer.Begins = begun-still side u p t c x
+answer-still side u p t c x progress.Working answer.Begins = still side u
+answer-still side u p t c x progress.ChannelEnded answer.Begins = still side u
+answer-still side u p t c x progress.Ended answer.Begins = still side u
+answer-still side u p t c x progress.New (answer.Absorbed count) = still side u
+answer-still side u p t c x progress.Working (answer.Absorbed count) = absorbed-still side u p t c x x.given count
+answer-still side u p t c x progress.ChannelEnded (answer.Absorbed count) = still side u
+answer-still side u p t c x progress.Ended (answer.Absorbed count) = still side u
+answer-still side u p t c x progress.New (answer.Supplied bytes) = still side u
+answer-still side u p t c x progress.Working (answer.Supplied bytes) = supplied-still side u p t c x bytes
+answer-still side u p t c x progress.ChannelEnded (answer.Supplied bytes) = still side u
+answer-still side u p t c x progress.Ended (answer.Supplied bytes) = still side u
+answer-still side u p t c x progress.New answer.Again = still side u
+answer-still side u p t c x progress.Working answer.Again = again-still side u p t c x x.unanswered
+answer-still side u p t c x progress.ChannelEnded answer.Again = still side u
+answer-still side u p t c x progress.Ended answer.Again = still side u
+
+report_on-still : (side : Side) (u : UnitState) (t : ℕ) (place : Place) (x : Option AtHand) (r : Report) → IsStillStep side u (report_on u t place x r)
+report_on-still side u t (On p c) (Some x) r = if-still side u (r.sequence == x.sequence) _ None (answer-still side u p t c x x.progress r.answer) (still side u)
+report_on-still side u t (On p c) None r = still side u
+report_on-still side u t (Ask p c) x r = still side u
+report_on-still side u t (Away c) x r = still side u
+
+report_of-still : (side : Side) (u : UnitState) (o : Own) (r : Report) → IsStillStep side u (report_of u o r)
+report_of-still side u own.Idle r = still side u
+report_of-still side u (own.Owned k t place) r =
+    if-still side u (same_side k r.side && ((r.number == t) && (r.command == u.last_command))) _ None (report_on-still side u t place u.at_hand r) (still side u)
+
+pub report-still : (side : Side) (u : UnitState) (r : Report) → IsStillStep side u (unit_reports u r)
+report-still side u r = report_of-still side u u.own r

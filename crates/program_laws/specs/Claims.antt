@@ -1,0 +1,93 @@
+-- What is claimed of the program that a subchannel offered last (SA22-7832, chapter 15).
+use Rattle.std.specs.Prelude.{◌≡◌, ◌⊎◌, ℕ, ◌+◌, ◌==◌, Option, None, Some, List, [], ◌∷◌, ◌++◌, length, map, reverse, take, slice_get, if◌then◌else◌, All, Contains}
+use Rattle.std.specs.List.{flat_map}
+use Rattle.chan_model.specs.declared.reply.Entry.{Entry}
+use Rattle.channel_config.specs.Lawful.{IsLawful}
+use Rattle.channel_config.specs.Setup.{Setup}
+use Rattle.orb_block.specs.declared.Orb.{Orb}
+use Rattle.channel_program.specs.Acts.{Act, Chunk}
+use Rattle.channel_program.specs.Programs.{IsProgram, commands, code}
+use Rattle.idaw.specs.Lists.{kind_of, block}
+use Rattle.idaw.specs.Places.{places}
+use Rattle.data_move.specs.Accesses.{bytes_at}
+use Rattle.data_move.specs.Moving.{residual}
+use Rattle.machine_model.specs.declared.state.Begun.{Begun}
+use Rattle.machine_model.specs.declared.state.Subchannel.{Subchannel}
+use Rattle.machine_model.specs.State.{State, opening_of}
+use Rattle.machine_model.specs.Steps.{Run}
+use Rattle.program_laws.specs.Reaches.{reaches, counts}
+use Rattle.program_laws.specs.Doings.{Arrival, Part}
+use Rattle.program_laws.specs.Stories.{Story, story}
+
+abbrev pub IsBeginning : {A : Type 0} → List A → List A → Type 0
+IsBeginning {A} xs ys = (rest : List A) × (xs ++ rest ≡ ys)
+
+-- the places of the command at work, in the order of its bytes
+abbrev pub places_of : Orb → List Act → List (Option ℕ)
+places_of orb acts = places (block (kind_of orb)) (reaches orb acts)
+
+-- the codes of the commands of a program, the first first
+abbrev pub codes : Orb → List Act → List ℕ
+codes orb acts = reverse (map code (commands orb acts))
+
+-- the commands that the device took are consecutive commands of the program, each once, from the first on
+abbrev pub TakesInOrder : Story → Type 0
+TakesInOrder k = IsBeginning (reverse k.taken) (codes k.orb k.now.acts)
+
+-- a chunk has the bytes at its places, as storage stood when it was copied
+abbrev pub IsCopied : Chunk → Type 0
+IsCopied c = c.bytes ≡ bytes_at c.storage c.places
+
+-- each byte that was stored stands at its place, and no other byte was changed
+pub record IsStored (a : Arrival) : Type 0 where
+  pub whole : length a.chunk.places ≡ length a.chunk.bytes
+  pub stands : (i place : ℕ) → slice_get a.chunk.places i ≡ Some (Some place) → slice_get a.chunk.storage place ≡ slice_get a.chunk.bytes i
+  pub others : (place : ℕ) → Contains a.chunk.places (Some place) ⊎ (slice_get a.chunk.storage place ≡ slice_get a.former place)
+
+-- the places at which bytes of a read were stored, in order
+abbrev pub places_arrived : List Arrival → List (Option ℕ)
+places_arrived [] = []
+places_arrived (a ∷ before) = places_arrived before ++ a.chunk.places
+
+-- the first bytes of a chunk
+abbrev pub first_of : Chunk → ℕ → Chunk
+first_of c n = record { storage = c.storage; places = take n c.places; bytes = take n c.bytes }
+
+abbrev pub IsFirstOf : List Chunk → Chunk → Type 0
+IsFirstOf copied c = (whole : Chunk) × (n : ℕ) × Contains copied whole × (c ≡ first_of whole n)
+
+-- what the device absorbed for a command are the first bytes of chunks that were copied for it, and these lie side by side
+-- from the first place of the command on
+abbrev pub AbsorbsInOrder : Orb → Part → List ℕ → Type 0
+AbsorbsInOrder orb part absorbed =
+    (chunks : List Chunk) × All (IsFirstOf part.copied) chunks × (flat_map (λ c. c.bytes) chunks ≡ absorbed)
+    × IsBeginning (flat_map (λ c. c.places) chunks) (places_of orb part.acts)
+
+-- the command that the device took last: the last that was sent, or the one before
+abbrev pub part_of : Story → Part
+part_of k = if length k.taken == k.sent then k.now else k.before
+
+pub record IsTold (k : Story) : Type 0 where
+  -- each block is where the blocks before it say
+  pub program : IsProgram k.orb k.now.acts
+  pub takes : TakesInOrder k
+  -- the bytes that were moved are those at the first places of the command
+  pub moves : IsBeginning k.now.moved (places_of k.orb k.now.acts)
+  pub copied : All IsCopied (part_of k).copied
+  pub absorbs : AbsorbsInOrder k.orb (part_of k) k.absorbed
+  pub arrived : All IsStored k.now.arrived
+  pub arrives : IsBeginning (places_arrived k.now.arrived) (places_of k.orb k.now.acts)
+
+-- the count that is shown: the sum of the counts of the command's blocks, less the bytes that were moved
+abbrev pub IsCounted : Option Begun → Story → Type 0
+IsCounted None k = Unit {0}
+IsCounted (Some b) k = counts (reaches k.orb k.now.acts) ≡ length k.now.moved + residual b.transfer.moving
+
+-- after a run this holds of each subchannel
+abbrev pub AllTold : (opening : State) (h : List Entry) (s : State) → Run opening h s → Type 0
+AllTold opening h s run = (place : ℕ) (sub : Subchannel) (k : Story) → slice_get s.subs place ≡ Some sub → story place opening h s run ≡ Some k →
+    IsTold k × IsCounted sub.state.begun k
+
+-- these entries lead to the state from the opening of some machine that is lawfully set up, and so they tell
+abbrev pub HasTold : List Entry → State → Type 0
+HasTold h s = (setup : Setup) × IsLawful setup × (run : Run (opening_of setup) h s) × AllTold (opening_of setup) h s run

@@ -1,0 +1,120 @@
+-- What is done for a program, act by act, as the subsystem begins its commands and moves their bytes (SA22-7832, chapter
+-- 15). The acts of a list stand the latest first.
+use Rattle.std.specs.Prelude.{ℕ, ◌+◌, ◌==◌, Bool, true, min, if◌then◌else◌, Option, is_some, List, [], ◌∷◌, ◌++◌, length, Result, Ok, Err}
+use Rattle.orb_block.specs.declared.Orb.{Orb}
+use Rattle.ccw_codec.specs.Command.{class_of}
+use Rattle.storage_keys.specs.Storage.{Contents}
+use Rattle.channel_program.specs.declared.check.Check.{Check}
+use Rattle.channel_program.specs.declared.Ended.{Ended}
+use Rattle.channel_program.specs.Acts.{Act, Chunk, Used_up, End, Word}
+use Rattle.channel_program.specs.Walks.{Place, place, after_used_up, after_end, advance_acts}
+use Rattle.idaw.specs.Places.{each_below}
+use Rattle.data_move.specs.Moving.{Moving, needs_word, next_place, room}
+use Rattle.data_move.specs.Accesses as access
+use Rattle.transfer.specs.declared.Transfer.{Transfer}
+use Rattle.transfer.specs.Commands.{goes_to, located, has_stopped, brings}
+use Rattle.transfer.specs.Chunks.{Brought, with_moved, chains_data, with_answer, absorbed, fitting, brought}
+
+-- a word of an indirect list is fetched where it is needed
+abbrev pub act_of_word : Result ℕ Check → List Act
+act_of_word (Ok word) = Word word ∷ []
+act_of_word (Err check) = []
+
+abbrev pub word_acts : Contents → ℕ → Moving → List Act
+word_acts storage key m = if needs_word m then act_of_word (access.word_fetched storage key m) else []
+
+abbrev pub located_acts : Contents → Transfer → List Act
+located_acts storage t = if is_some t.fault then [] else word_acts storage t.walk.orb.key t.moving
+
+-- a command begins from a place: its blocks, and the word of a read that is told at once how many bytes may come
+abbrev pub room_acts : Contents → Result Transfer Check → List Act
+room_acts storage (Ok t) = if brings (class_of t.code) then located_acts storage t else []
+room_acts storage (Err check) = []
+
+abbrev pub goes_acts : Contents → ℕ → Place → List Act
+goes_acts storage n old = room_acts storage (goes_to storage n old).came ++ advance_acts storage old
+
+abbrev pub first_acts : Contents → Orb → List Act
+first_acts storage orb = goes_acts storage 1 (place orb [])
+
+abbrev pub next_acts : Contents → Transfer → Bool → List Act
+next_acts storage t modifier =
+    let ended : Ended = record { goes_on = true; modifier = modifier } in
+    goes_acts storage (t.command + 1) (after_end t.walk ended) ++ End ended ∷ []
+
+-- data is chained
+abbrev pub chained_acts : Contents → Transfer → List Act
+chained_acts storage t = advance_acts storage (after_used_up t.walk) ++ Used_up ∷ []
+
+-- bytes that were stored, and storage as it stood before
+pub record Arrival : Type 0 where
+  pub former : List ℕ
+  pub chunk : Chunk
+
+-- what was done for the program as far as one of its commands, and for this command: the chunks that were copied for the
+-- device and the bytes of a read that were stored, each list with the latest first; and the places of the bytes that
+-- were moved, in order
+pub record Part : Type 0 where
+  pub acts : List Act
+  pub copied : List Chunk
+  pub arrived : List Arrival
+  pub moved : List (Option ℕ)
+
+abbrev pub no_part : Part
+no_part = record { acts = []; copied = []; arrived = []; moved = [] }
+
+abbrev pub with_acts : Part → List Act → Part
+with_acts k acts = record k { acts = acts ++ k.acts }
+
+-- so many of the next bytes are moved
+abbrev pub with_places : Part → Moving → ℕ → Part
+with_places k m n = record k { moved = k.moved ++ each_below (next_place m) n }
+
+abbrev pub moved_on : Contents → Transfer → ℕ → Part → Part
+moved_on storage t n k =
+    if chains_data (with_moved t n) n then with_acts (with_places k t.moving n) (chained_acts storage (with_moved t n))
+    else with_places k t.moving n
+
+-- the next bytes, as storage has them
+abbrev pub chunk_of : Contents → Moving → List ℕ → Chunk
+chunk_of storage m bytes = record { storage = storage.bytes; places = each_below (next_place m) (length bytes); bytes = bytes }
+
+-- the answer of a device that absorbed bytes of chunk s
+abbrev pub answered : Contents → Transfer → ℕ → ℕ → Part → Part
+answered storage t s count k =
+    if s == t.sequence + 1 then moved_on storage (with_answer t s count) (min count (room t.moving)) k else k
+
+-- the next chunk is copied for the device
+abbrev pub with_copy : Contents → Transfer → Result (List ℕ) Check → Part → Part
+with_copy storage t (Ok bytes) k = record k { copied = chunk_of storage t.moving bytes ∷ k.copied }
+with_copy storage t (Err check) k = k
+
+abbrev pub copying : Contents → Transfer → Part → Part
+copying storage t k = if has_stopped t then k else with_copy storage t (access.copied storage t.walk.orb.key t.moving) k
+
+abbrev pub giving : Contents → Transfer → Part → Part
+giving storage t k = copying storage (located storage t) (with_acts k (located_acts storage t))
+
+-- a Data of a command that takes bytes to the device
+abbrev pub gives : Contents → Transfer → ℕ → ℕ → Part → Part
+gives storage t s count k = giving storage (absorbed storage t s count) (answered storage t s count k)
+
+-- the bytes of chunk s of a read are stored
+abbrev pub with_arrival : Contents → Transfer → List ℕ → Result Contents Check → Part → Part
+with_arrival storage t bytes (Ok after) k =
+    moved_on after t (length bytes) (record k { arrived = record { former = storage.bytes; chunk = chunk_of after t.moving bytes } ∷ k.arrived })
+with_arrival storage t bytes (Err check) k = k
+
+abbrev pub storing : Contents → Transfer → List ℕ → Part → Part
+storing storage t bytes k =
+    if is_some t.fault then k else with_arrival storage t bytes (access.stored storage t.walk.orb.key t.moving bytes) k
+
+abbrev pub arriving : Contents → Transfer → ℕ → List ℕ → Part → Part
+arriving storage t s bytes k = if s == t.sequence + 1 then storing storage (record t { sequence = s }) (fitting t bytes) k else k
+
+-- a Data of a command that brings bytes in
+abbrev pub located_after : Brought → Part → Part
+located_after x k = with_acts k (located_acts x.storage x.transfer)
+
+abbrev pub takes_in : Contents → Transfer → ℕ → List ℕ → Part → Part
+takes_in storage t s bytes k = located_after (brought storage t s bytes) (arriving storage t s bytes k)

@@ -1,0 +1,4 @@
+pub mod Reaches
+pub mod Doings
+pub mod Stories
+pub mod Claims

@@ -1,0 +1,46 @@
+-- The data of the command at work, block by block (SA22-7832, chapter 15).
+use Rattle.std.specs.Prelude.{ℕ, ◌+◌, Bool, true, false, if◌then◌else◌, List, [], ◌∷◌}
+use Rattle.orb_block.specs.declared.Orb.{Orb}
+use Rattle.ccw_codec.specs.declared.Ccw.{Ccw}
+use Rattle.channel_program.specs.declared.Reading.{Reading}
+use Rattle.channel_program.specs.declared.Reading.TheVariants.{Takes}
+use Rattle.channel_program.specs.Acts.{Act, Block, Word}
+use Rattle.channel_program.specs.Blocks.{reads}
+use Rattle.channel_program.specs.Programs.{Command, role_of, commands, code}
+use Rattle.idaw.specs.Places.{Reach, with_word}
+use Rattle.transfer.specs.Commands.{is_skipped}
+
+-- a block that took control in a command of this code, of whose list no word was fetched
+abbrev pub reach : ℕ → Ccw → Reach
+reach code ccw = record { ccw = ccw; skipped = is_skipped code ccw; words = [] }
+
+-- data that is chained is of the command at work, whose code it has; otherwise a command begins
+abbrev pub chained_reach : List Command → List Reach → Ccw → List Reach
+chained_reach [] rs ccw = rs
+chained_reach (command ∷ before) rs ccw = reach (code command) ccw ∷ rs
+
+abbrev pub reaches_with : Bool → List Command → List Reach → Ccw → List Reach
+reaches_with true cs rs ccw = chained_reach cs rs ccw
+reaches_with false cs rs ccw = reach ccw.command ccw ∷ []
+
+-- an interruption by the program is not served yet: its block is a program check, and moves nothing (own)
+abbrev pub reaches_after : Bool → List Command → List Reach → Reading → List Reach
+reaches_after chained cs rs (Takes ccw) = if ccw.program_controlled then rs else reaches_with chained cs rs ccw
+reaches_after chained cs rs reading = rs
+
+abbrev pub word_after : List Reach → ℕ → List Reach
+word_after [] word = []
+word_after (r ∷ rs) word = with_word r word ∷ rs
+
+-- the blocks of the command at work that took control, with the words fetched for them, the latest first
+abbrev pub reaches : Orb → List Act → List Reach
+reaches orb [] = []
+reaches orb (Block address bytes ∷ before) =
+    reaches_after (role_of orb before).chained (commands orb before) (reaches orb before) (reads orb (role_of orb before) bytes)
+reaches orb (Word word ∷ before) = word_after (reaches orb before) word
+reaches orb (act ∷ before) = reaches orb before
+
+-- the sum of their counts
+abbrev pub counts : List Reach → ℕ
+counts [] = 0
+counts (r ∷ rs) = counts rs + r.ccw.count

@@ -1,0 +1,162 @@
+-- What was done for the program that a subchannel offered last: a function of the run (SA22-7832, chapter 15).
+use Rattle.std.specs.Prelude.{ℕ, ◌+◌, ◌==◌, ◌&&◌, Bool, true, false, if◌then◌else◌, Option, None, Some, List, [], ◌∷◌, ◌++◌, take, slice_get, Result, Ok, Err}
+use Rattle.orb_block.specs.declared.Orb.{Orb}
+use Rattle.scsw_irb.specs.declared.status.DeviceStatus.{DeviceStatus}
+use Rattle.storage_keys.specs.Storage.{Contents}
+use Rattle.chan_model.specs.declared.hold_state.HoldPhase.{HoldPhase}
+use Rattle.chan_model.specs.declared.hold_state.HoldPhase.TheVariants as hold
+use Rattle.chan_model.specs.declared.signal.Down.{Down}
+use Rattle.chan_model.specs.declared.signal.Down.TheVariants as down
+use Rattle.chan_model.specs.declared.signal.Load.{Load}
+use Rattle.chan_model.specs.declared.signal.Up.{Up}
+use Rattle.chan_model.specs.declared.signal.Up.TheVariants as up
+use Rattle.chan_model.specs.declared.event.Event.{Event}
+use Rattle.chan_model.specs.declared.event.Event.TheVariants as event
+use Rattle.chan_model.specs.declared.reply.Entry.{Entry}
+use Rattle.chan_model.specs.declared.reply.Reply.{Reply}
+use Rattle.chan_model.specs.declared.reply.Reply.TheVariants as reply
+use Rattle.chan_model.specs.declared.report.DeviceAnswer.{DeviceAnswer}
+use Rattle.chan_model.specs.declared.report.DeviceAnswer.TheVariants.{Absorbed}
+use Rattle.chan_model.specs.declared.report.Report.{Report}
+use Rattle.chan_model.specs.declared.unit_state.AtHand.{AtHand}
+use Rattle.chan_model.specs.declared.unit_state.UnitState.{UnitState}
+use Rattle.chan_model.specs.HoldTable.{HoldStep, hold_takes, hold_after, came_of, is_connected, is_on}
+use Rattle.chan_model.specs.Loads.{load_length}
+use Rattle.chan_model.specs.UnitReports.{is_outward, has_device_end}
+use Rattle.channel_program.specs.declared.check.Check.{Check}
+use Rattle.channel_program.specs.Acts.{Act}
+use Rattle.transfer.specs.declared.Transfer.{Transfer}
+use Rattle.transfer.specs.Commands.{first_command, next_command}
+use Rattle.transfer.specs.Chunks.{is_answered}
+use Rattle.wires.specs.Queues.{first_of}
+use Rattle.machine_model.specs.declared.state.Begun.{Begun}
+use Rattle.machine_model.specs.declared.state.Program.{Program}
+use Rattle.machine_model.specs.declared.state.Subchannel.{Subchannel}
+use Rattle.machine_model.specs.declared.state.SubchannelState.{SubchannelState}
+use Rattle.machine_model.specs.State.{State, place_of}
+use Rattle.machine_model.specs.Statuses.{has_status_modifier, chains_command}
+use Rattle.machine_model.specs.Taking.{waits_as, bytes_of}
+use Rattle.machine_model.specs.Steps.{Run, Opened, Stepped, reached_in}
+use Rattle.program_laws.specs.Doings.{Part, no_part, with_acts, first_acts, next_acts, gives, takes_in}
+
+-- what was done for the program that was offered under this number
+pub record Story : Type 0 where
+  pub number : ℕ
+  pub orb : Orb
+  -- how many commands were sent, and what was done as far as the last of them, and as far as the one before
+  pub sent : ℕ
+  pub now : Part
+  pub before : Part
+  -- the codes of the commands that the device took, the latest first
+  pub taken : List ℕ
+  -- the bytes that it absorbed for the last one, in order
+  pub absorbed : List ℕ
+
+-- Choose: a program is offered
+abbrev pub offered : ℕ → Orb → Story
+offered t orb = record { number = t; orb = orb; sent = 0; now = no_part; before = no_part; taken = []; absorbed = [] }
+
+abbrev pub offered_for : Option Program → ℕ → Option Story → Option Story
+offered_for None t k = k
+offered_for (Some program) t k = Some (offered t program.orb)
+
+abbrev pub chosen_at : Option Subchannel → Reply → Option Story → Option Story
+chosen_at (Some sub) (reply.Offered t p resumed) k = offered_for sub.state.waiting t k
+chosen_at sub r k = k
+
+-- a command begins, or can't
+abbrev pub goes_on : Result Transfer Check → List Act → Story → Story
+goes_on (Ok t) acts k = record k { sent = k.sent + 1; now = record no_part { acts = acts ++ k.now.acts }; before = k.now }
+goes_on (Err check) acts k = record k { now = with_acts k.now acts }
+
+-- Accept: the first
+abbrev pub begins : Contents → Program → Story → Story
+begins storage program k =
+    goes_on (first_command storage program.orb).came (first_acts storage program.orb) (record k { orb = program.orb; now = no_part })
+
+abbrev pub accepted_at : Contents → HoldPhase → Option Program → Story → Story
+accepted_at storage (hold.On t p c) (Some program) k = begins storage program k
+accepted_at storage phase waiting k = k
+
+abbrev pub accepted : Contents → SubchannelState → Option HoldStep → Story → Story
+accepted storage s step k = if (came_of step).taken then accepted_at storage (hold_after s.hold step).phase s.waiting k else k
+
+-- Data: bytes are moved
+abbrev pub moves : Contents → Transfer → ℕ → Load → Story → Story
+moves storage t s load k =
+    if is_outward t.code then record k { now = gives storage t s (load_length load) k.now }
+    else record k { now = takes_in storage t s (bytes_of load) k.now }
+
+abbrev pub answers : Contents → Option Begun → ℕ → ℕ → Load → Story → Story
+answers storage None n s load k = k
+answers storage (Some b) n s load k = if is_answered b.transfer n s then moves storage b.transfer s load k else k
+
+-- End: the next
+abbrev pub chains : Contents → SubchannelState → Begun → DeviceStatus → Bool → Story → Story
+chains storage s b status more k =
+    if chains_command s.scsw b status more && has_device_end status
+    then goes_on (next_command storage b.transfer (has_status_modifier status)).came (next_acts storage b.transfer (has_status_modifier status)) k
+    else k
+
+abbrev pub ends : Contents → SubchannelState → Option Begun → ℕ → DeviceStatus → Bool → Story → Story
+ends storage s None n status more k = k
+ends storage s (Some b) n status more k = if n == b.transfer.command then chains storage s b status more k else k
+
+-- what the subchannel does for its program with a signal
+abbrev pub meets : Contents → SubchannelState → ℕ → Up → Story → Story
+meets storage s p (up.Accept t) k = accepted storage s (hold_takes s.hold p (up.Accept t) (waits_as s.waiting s.offered)) k
+meets storage s p (up.Data t c n seq load) k = if is_connected s.hold.phase p t c then answers storage s.begun n seq load k else k
+meets storage s p (up.End t n status more) k = if is_on s.hold.phase t then ends storage s s.begun n status more k else k
+meets storage s p signal k = k
+
+abbrev pub met_with : Contents → SubchannelState → ℕ → Option Up → Option Story → Option Story
+met_with storage s p (Some signal) (Some k) = Some (meets storage s p signal k)
+met_with storage s p signal k = k
+
+abbrev pub met_at : Contents → Option Subchannel → ℕ → Option Story → Option Story
+met_at storage None p k = k
+met_at storage (Some sub) p k = met_with storage sub.state p (first_of sub.wires.up p) k
+
+-- the device takes a command of the program
+abbrev pub takes : Down → Story → Story
+takes (down.Command t n code room) k = if t == k.number then record k { taken = code ∷ k.taken; absorbed = [] } else k
+takes signal k = k
+
+abbrev pub taken_at : Reply → Option Story → Option Story
+taken_at (reply.Down signal true sent) (Some k) = Some (takes signal k)
+taken_at r k = k
+
+-- the device absorbs bytes that it was given
+abbrev pub absorbs : ℕ → Option AtHand → Story → Story
+absorbs count None k = k
+absorbs count (Some x) k = absorbs_of count x.given k
+  where
+    absorbs_of : ℕ → Option (List ℕ) → Story → Story
+    absorbs_of count None k = k
+    absorbs_of count (Some bytes) k = record k { absorbed = k.absorbed ++ take count bytes }
+
+abbrev pub reported : UnitState → Report → DeviceAnswer → Story → Story
+reported u report (Absorbed count) k = if report.number == k.number then absorbs count u.at_hand k else k
+reported u report answer k = k
+
+abbrev pub reported_at : Option UnitState → Report → Option Story → Option Story
+reported_at (Some u) report (Some k) = Some (reported u report report.answer k)
+reported_at u report k = k
+
+-- an event at the subchannel of a place
+abbrev pub is_place : Option ℕ → ℕ → Bool
+is_place None place = false
+is_place (Some i) place = i == place
+
+abbrev pub story_after : ℕ → State → Event → Reply → Option Story → Option Story
+story_after place s (event.Choose word) r k = if is_place (place_of s word) place then chosen_at (slice_get s.subs place) r k else k
+story_after place s (event.Up word path) r k = if is_place (place_of s word) place then met_at s.storage (slice_get s.subs place) path k else k
+story_after place s (event.Down word path) r k = if is_place (place_of s word) place then taken_at r k else k
+story_after place s (event.Report u report) r k =
+    if is_place (reached_in u report.side s.subs) place then reported_at (slice_get s.units u) report k else k
+story_after place s e r k = k
+
+-- the story of the subchannel at a place; none where nothing was offered
+abbrev pub story : ℕ → (opening : State) (h : List Entry) (s : State) → Run opening h s → Option Story
+story place opening _ _ Opened = None
+story place opening _ _ (Stepped h old e r new run step) = story_after place old e r (story place opening h old run)

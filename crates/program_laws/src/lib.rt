@@ -1,0 +1,32 @@
+//! What holds of the channel programs of every run: theorems over the definitions of the machine alone.
+#![tactic(auto)]
+
+ghost use Rattle.std.specs.Prelude.{List};
+ghost use Rattle.chan_model.specs.declared.reply.Entry.{Entry};
+ghost use Rattle.channel_config.specs.Lawful.{IsLawful};
+ghost use Rattle.channel_config.specs.Setup.{Setup};
+ghost use Rattle.machine_model.specs.State.{State, opening_of};
+ghost use Rattle.machine_model.specs.Steps.{Run};
+ghost use Rattle.program_laws.specs.Claims.{AllTold};
+
+use channel_program::law as walks;
+use data_move::law as moves;
+use storage_keys::law as storage;
+
+/// After each run from the opening of a lawful set-up, for each subchannel, of the program that was offered last: each block
+/// stands where the blocks before it say; the device took consecutive commands of the program, each once, from the first
+/// on; the bytes that were moved are those at the first places of the command at work, in order; a chunk for the device was
+/// copied from its places as storage stood then; what the device absorbed for a command are the first bytes of such chunks,
+/// side by side from the first place of the command on; the bytes of a read were stored at their places, and no other byte
+/// was changed; and the count is the sum of the counts of the command's blocks less the bytes that were moved (SA22-7832,
+/// chapter 15).
+pub fn programs()
+    ensures told { (setup : Setup) → IsLawful setup → (h : List Entry) (s : State) (run : Run (opening_of setup) h s) → AllTold (opening_of setup) h s run }
+{
+    moves::pieces();
+    walks::places();
+    walks::advances();
+    walks::programs();
+    storage::fetched_bytes();
+    storage::put_bytes();
+}

@@ -1,0 +1,103 @@
+use Rattle.std.proofs.Common.{◌≡◌, refl, sym, subst, ◌∙◌, ℕ, ◌+◌, ◌≤◌, Bool, true, false, not, nat_lt, Option, None, Some, arith}
+use Rattle.std.specs.Prelude.{if◌then◌else◌}
+use Rattle.std.proofs.lemmas.Bool.{lt-ltb, le-ltb}
+use Rattle.scsw_irb.specs.declared.scsw.Scsw.{Scsw}
+use Rattle.scsw_irb.specs.declared.serials.Serials.{Serials}
+use Rattle.chan_model.specs.declared.status.Shown.{Shown}
+use Rattle.chan_model.specs.Status.{scsw_made, serials_made, is_uncleared, intermediate_alone, ended_scsw, suspended_scsw, without_status}
+use Rattle.chan_model.specs.UnitReports.{is_last_end}
+use Rattle.machine_model.specs.declared.cause.Cause.{Cause}
+use Rattle.machine_model.specs.declared.cause.Cause.TheVariants as cause
+use Rattle.machine_model.specs.declared.state.Begun.{Begun}
+use Rattle.machine_model.specs.declared.state.Program.{Program}
+use Rattle.machine_model.specs.declared.state.SubchannelState.{SubchannelState}
+use Rattle.machine_model.specs.Causes.{programs_left, without_begun, without_waiting, joined_by, joined_where, shown_of}
+use Rattle.machine_model.specs.Functions.{without_programs, ends_suspended}
+use Rattle.machine_model.specs.Instructions.{tested}
+use Rattle.machine_model.specs.Taking.{has_shown}
+use Rattle.functions.specs.Counted.{IsCounted}
+use Rattle.status.proofs.law.counts.Goals as goal
+
+-- programs that are over change neither the counts nor whether the subchannel is enabled
+abbrev Same : SubchannelState → SubchannelState → Type 0
+Same s x = (s.pmcw.enabled ≡ x.pmcw.enabled) × (s.serials ≡ x.serials)
+
+pick-same : (b : Bool) (s x y : SubchannelState) → Same s x → Same s y → Same s (if b then x else y)
+pick-same true s x y k l = k
+pick-same false s x y k l = l
+
+begun-same : (b : Option Begun) (s : SubchannelState) → Same s (without_begun b s)
+begun-same None s = (refl, refl)
+begun-same (Some b) s = (refl, refl)
+
+waiting-same : (w : Option Program) (s : SubchannelState) → Same s (without_waiting w s)
+waiting-same None s = (refl, refl)
+waiting-same (Some w) s = (refl, refl)
+
+same : (s : SubchannelState) (c : Cause) → Same s (programs_left s c)
+same s (cause.End b status more) = pick-same (is_last_end status) s (without_programs s) (record s { begun = Some (has_shown b) }) (refl, refl) (refl, refl)
+same s (cause.FetchFault tried check count) = begun-same s.begun s
+same s cause.Attention = (refl, refl)
+same s cause.NoPath = waiting-same s.waiting s
+same s cause.InterfaceControlCheck = (refl, refl)
+same s (cause.Interruption tried count) = (refl, refl)
+same s (cause.Suspension tried count) = (refl, refl)
+same s cause.ClearDone = (refl, refl)
+same s cause.HaltDone = (refl, refl)
+
+abbrev Counted : Scsw → Serials → Type 0
+Counted scsw x = (x.cleared ≤ x.made) × (scsw.status.pending ≡ is_uncleared x)
+
+joined-pending : (b : Bool) (x y : Scsw) → x.status.pending ≡ true → y.status.pending ≡ true → (if b then x else y).status.pending ≡ true
+joined-pending true x y e f = e
+joined-pending false x y e f = f
+
+made : (e : Bool) (scsw : Scsw) (x : Serials) (c : Cause) (shown : Shown) → Counted scsw x →
+    Counted (scsw_made e (joined_where e scsw c) shown) (serials_made e x)
+made true scsw x c shown k =
+    let o : x.cleared ≤ x.made = k.0 in
+    (omega (arith, o), joined-pending (joined_by scsw c).status.pending _ _ refl refl ∙ sym (lt-ltb x.cleared (x.made + 1) (omega (arith, o))))
+made false scsw x c shown k = k
+
+made-after : (s : SubchannelState) (c : Cause) (shown : Shown) (e : Bool) (x : Serials) → s.pmcw.enabled ≡ e → s.serials ≡ x → IsCounted s →
+    Counted (scsw_made e (joined_where s.pmcw.enabled s.scsw c) shown) (serials_made e x)
+made-after s c shown e x f g k =
+    subst (λ v. Counted (scsw_made v (joined_where s.pmcw.enabled s.scsw c) shown) (serials_made v x)) f
+    (subst (λ v. Counted (scsw_made s.pmcw.enabled (joined_where s.pmcw.enabled s.scsw c) shown) (serials_made s.pmcw.enabled v)) g
+    (made s.pmcw.enabled s.scsw s.serials c shown k))
+
+pub returns-clause-made : goal.returns-clause-made
+returns-clause-made c = λ s x k.
+    let kept : Same s (programs_left s x) = same s x in
+    made-after s x (shown_of s x) (programs_left s x).pmcw.enabled (programs_left s x).serials kept.0 kept.1 k
+
+-- TEST clears all status
+not-below : (m : ℕ) → false ≡ nat_lt m m
+not-below m = sym (le-ltb m m (omega arith))
+
+cleared-scsw : (b c d : Bool) (x y z w : Scsw) → x.status.pending ≡ false → y.status.pending ≡ false → z.status.pending ≡ false → w.status.pending ≡ false →
+    (if b then (if not c then x else (if d then y else z)) else w).status.pending ≡ false
+cleared-scsw true true true x y z w e f g h = f
+cleared-scsw true true false x y z w e f g h = g
+cleared-scsw true false d x y z w e f g h = e
+cleared-scsw false c d x y z w e f g h = h
+
+tested-not : (b : Bool) (x y : Scsw) → x.status.pending ≡ b → y.status.pending ≡ false → (if not b then x else y).status.pending ≡ false
+tested-not true x y e f = f
+tested-not false x y e f = e
+
+tested-counted : (s : SubchannelState) → IsCounted (tested s)
+tested-counted s = (
+  omega arith,
+  tested-not s.scsw.status.pending s.scsw _ refl
+      (cleared-scsw (intermediate_alone s.scsw.status) s.scsw.activity.suspended s.scsw.functions.halt
+      (without_status s.scsw) (ended_scsw s.scsw) (suspended_scsw s.scsw) (ended_scsw s.scsw) refl refl refl refl)
+      ∙ not-below s.serials.made,
+)
+
+pick : (b : Bool) (x y : SubchannelState) → IsCounted x → IsCounted y → IsCounted (if b then x else y)
+pick true x y k l = k
+pick false x y k l = l
+
+pub returns-clause-test : goal.returns-clause-test
+returns-clause-test c = λ s. pick (ends_suspended s.scsw) (without_programs (tested s)) (tested s) (tested-counted s) (tested-counted s)

@@ -1,0 +1,304 @@
+//! What each cause of status shows, and which programs are over with it (SA22-7832, chapter 16; own).
+
+ghost use Rattle.std.specs.Prelude.{◌≡◌, ◌<◌, ◌^◌};
+ghost use Rattle.chan_model.specs.UnitReports as report_spec;
+ghost use Rattle.machine_model.specs.Causes as spec;
+ghost use Rattle.machine_model.specs.Taking as taking_spec;
+
+use crate::shown::{
+    channel_end_shown, conditions, earlier_end_shown, fetch_fault_shown, last_end_shown,
+    no_path_shown, shows_primary, with_status,
+};
+use crate::testing::without_programs;
+use chan_model::status::Shown;
+use machine_model::cause::Cause;
+use machine_model::state::{Begun, Program, SubchannelState};
+use scsw_irb::scsw::{ActivityControl, DeferredCode, FunctionControl, Scsw, StatusControl};
+use scsw_irb::status::{DeviceStatus, SubchannelStatus};
+
+fn plain_shown(command_address: u32, count: u16) -> Shown
+    ensures { result ≡ spec.plain_shown command_address count }
+{
+    Shown {
+        conditions: StatusControl::none(),
+        activity: ActivityControl::none(),
+        device: DeviceStatus::empty(),
+        subchannel: SubchannelStatus::empty(),
+        deferred: None,
+        command_address,
+        count,
+    }
+}
+
+/// The program of which a status speaks, where it was begun.
+fn spoken_of(state: &SubchannelState) -> Option<Begun>
+    ensures { result ≡ spec.spoken_of state.now.waiting state.now.begun }
+{
+    match state.waiting {
+        None => state.begun,
+        Some(_) => None,
+    }
+}
+
+fn address_shown(state: &SubchannelState) -> u32
+    ensures { result ≡ spec.address_shown state.now }
+{
+    match spoken_of(state) {
+        None => state.scsw.command_address,
+        Some(begun) => begun.transfer.walk.tried(),
+    }
+}
+
+fn count_shown(state: &SubchannelState) -> u16
+    ensures { result ≡ spec.count_shown state.now }
+{
+    match spoken_of(state) {
+        None => state.scsw.count,
+        Some(begun) => begun.transfer.moving.residual(),
+    }
+}
+
+fn was_shown(begun: Option<Begun>) -> bool
+    ensures { result ≡ spec.was_shown begun }
+{
+    match begun {
+        None => false,
+        Some(begun) => begun.primary_shown,
+    }
+}
+
+/// Whether an End is the last of its program: it has device end or unit check, or no channel end.
+pub fn is_last_end(status: DeviceStatus) -> bool
+    ensures { result ≡ report_spec.is_last_end status }
+{
+    !status.has_channel_end() || status.has_device_end() || status.has_check()
+}
+
+/// The last End of a program, or of an earlier one while a start waits.
+pub fn last_shown(
+    scsw: Scsw,
+    begun: &Begun,
+    waiting: Option<Program>,
+    status: DeviceStatus,
+    more: bool,
+) -> Shown
+    ensures { result ≡ taking_spec.last_shown scsw begun.now waiting status more }
+{
+    match waiting {
+        None => last_end_shown(scsw, begun, status, more),
+        Some(_) => earlier_end_shown(scsw, begun, status, more),
+    }
+}
+
+fn end_shown(state: &SubchannelState, begun: &Begun, status: DeviceStatus, more: bool) -> Shown
+    ensures { result ≡ spec.end_shown state.now begun.now status more }
+{
+    if is_last_end(status) {
+        last_shown(state.scsw, begun, state.waiting, status, more)
+    } else {
+        channel_end_shown(state.scsw, begun, status, more)
+    }
+}
+
+fn attention_deferred(waiting: Option<Program>) -> Option<DeferredCode>
+    ensures { result ≡ spec.attention_deferred waiting }
+{
+    match waiting {
+        None => None,
+        Some(_) => Some(DeferredCode::One),
+    }
+}
+
+fn attention_shown(state: &SubchannelState) -> Shown
+    ensures { result ≡ spec.attention_shown state.now }
+{
+    Shown {
+        conditions: conditions(true, false, false),
+        device: DeviceStatus::ATTENTION,
+        deferred: attention_deferred(state.waiting),
+        ..plain_shown(state.scsw.command_address, state.scsw.count)
+    }
+}
+
+fn path_missing_shown(state: &SubchannelState) -> Shown
+    ensures { result ≡ spec.path_missing_shown state.now }
+{
+    Shown {
+        command_address: address_shown(state),
+        count: count_shown(state),
+        ..no_path_shown(state.scsw)
+    }
+}
+
+fn interface_shown(state: &SubchannelState) -> Shown
+    ensures { result ≡ spec.interface_shown state.now }
+{
+    let primary = shows_primary(state.scsw.functions, was_shown(spoken_of(state)));
+    Shown {
+        conditions: conditions(true, primary, true),
+        subchannel: SubchannelStatus::INTERFACE_CONTROL_CHECK,
+        ..plain_shown(address_shown(state), count_shown(state))
+    }
+}
+
+fn intermediate() -> StatusControl
+    ensures { result ≡ spec.intermediate }
+{
+    StatusControl {
+        intermediate: true,
+        ..StatusControl::none()
+    }
+}
+
+fn interruption_shown(state: &SubchannelState, tried: u32, count: u16) -> Shown
+    ensures { result ≡ spec.interruption_shown state.now tried count }
+{
+    Shown {
+        conditions: intermediate(),
+        activity: state.scsw.activity,
+        subchannel: SubchannelStatus::PROGRAM_CONTROLLED,
+        ..plain_shown(tried, count)
+    }
+}
+
+fn suspension_shown(tried: u32, count: u16) -> Shown
+    ensures { result ≡ spec.suspension_shown tried count }
+{
+    Shown {
+        conditions: intermediate(),
+        activity: ActivityControl {
+            suspended: true,
+            ..ActivityControl::none()
+        },
+        ..plain_shown(tried, count)
+    }
+}
+
+/// What a cause shows.
+pub(crate) fn shown_of(state: &SubchannelState, cause: &Cause) -> Shown
+    ensures { result ≡ spec.shown_of state.now cause.now }
+{
+    match cause {
+        Cause::End {
+            begun,
+            status,
+            more,
+        } => end_shown(state, begun, *status, *more),
+        Cause::FetchFault {
+            tried,
+            check,
+            count,
+        } => fetch_fault_shown(*tried, *check, *count),
+        Cause::Attention => attention_shown(state),
+        Cause::NoPath => path_missing_shown(state),
+        Cause::InterfaceControlCheck => interface_shown(state),
+        Cause::Interruption { tried, count } => interruption_shown(state, *tried, *count),
+        Cause::Suspension { tried, count } => suspension_shown(*tried, *count),
+        Cause::ClearDone => plain_shown(0, 0),
+        Cause::HaltDone => plain_shown(address_shown(state), count_shown(state)),
+    }
+}
+
+fn without_begun(state: &SubchannelState) -> SubchannelState
+    ensures { result ≡ spec.without_begun state.now.begun state.now }
+{
+    let mut next = *state;
+    if next.begun.is_some() {
+        next.begun = None;
+    } else {
+        next.waiting = None;
+    }
+    next
+}
+
+fn without_waiting(state: &SubchannelState) -> SubchannelState
+    ensures { result ≡ spec.without_waiting state.now.waiting state.now }
+{
+    let mut next = *state;
+    if next.waiting.is_some() {
+        next.waiting = None;
+    } else {
+        next.begun = None;
+    }
+    next
+}
+
+/// A program that showed its primary status with channel end alone: nothing is chained to its command.
+pub fn has_shown(begun: &Begun) -> Begun
+    ensures { result ≡ taking_spec.has_shown begun.now }
+{
+    let mut next = *begun;
+    next.primary_shown = true;
+    next.transfer.ended = true;
+    next.transfer.unchained = true;
+    next
+}
+
+fn after_end(state: &SubchannelState, begun: &Begun, last: bool) -> SubchannelState
+    ensures { result ≡ spec.after_end state.now begun.now last }
+{
+    if last {
+        return without_programs(*state);
+    }
+    let mut next = *state;
+    next.begun = Some(has_shown(begun));
+    next
+}
+
+fn programs_left(state: &SubchannelState, cause: &Cause) -> SubchannelState
+    ensures state { result ≡ spec.programs_left state.now cause.now }
+    ensures counts { result.serials ≡ state.now.serials }
+{
+    match cause {
+        Cause::End { begun, status, .. } => after_end(state, begun, is_last_end(*status)),
+        Cause::FetchFault { .. } => without_begun(state),
+        Cause::Attention => {
+            let mut next = *state;
+            next.waiting = None;
+            next
+        }
+        Cause::NoPath => without_waiting(state),
+        Cause::InterfaceControlCheck | Cause::HaltDone => without_programs(*state),
+        Cause::Interruption { .. } | Cause::Suspension { .. } | Cause::ClearDone => *state,
+    }
+}
+
+fn clear_scsw() -> Scsw
+    ensures { result ≡ spec.clear_scsw }
+{
+    let mut scsw = Scsw::zero();
+    scsw.functions.clear = true;
+    scsw
+}
+
+fn without_intermediate(scsw: Scsw) -> Scsw
+    ensures { result ≡ spec.without_intermediate scsw }
+{
+    let mut scsw = scsw;
+    scsw.status.intermediate = false;
+    scsw
+}
+
+/// The status word that the status of a cause joins.
+fn joined_where(enabled: bool, scsw: Scsw, cause: &Cause) -> Scsw
+    ensures { result ≡ spec.joined_where enabled scsw cause.now }
+{
+    if !enabled {
+        return scsw;
+    }
+    match cause {
+        Cause::ClearDone => clear_scsw(),
+        Cause::HaltDone => without_intermediate(scsw),
+        _ => scsw,
+    }
+}
+
+/// The subchannel after a cause of status.
+pub(crate) fn with_cause(state: &SubchannelState, cause: &Cause) -> SubchannelState
+    requires { state.now.serials.made < 2 ^ 63 }
+    ensures { result ≡ spec.with_cause state.now cause.now }
+{
+    let mut next = programs_left(state, cause);
+    next.scsw = joined_where(state.pmcw.enabled, state.scsw, cause);
+    with_status(next, shown_of(state, cause))
+}

@@ -1,0 +1,43 @@
+//! Status: what makes it pending at a subchannel, and what TEST SUBCHANNEL leaves of it (SA22-7832, chapters 14 and 16).
+#![tactic(auto)]
+
+ghost use Rattle.std.specs.Prelude.{◌≡◌, ◌<◌, ◌^◌};
+ghost use Rattle.chan_model.specs.ConditionCodes as code_spec;
+ghost use Rattle.chan_model.specs.Status as status_spec;
+ghost use Rattle.machine_model.specs.Causes as cause_spec;
+ghost use Rattle.machine_model.specs.Functions as spec;
+ghost use Rattle.machine_model.specs.Instructions.{condition_of};
+
+pub mod causes;
+pub mod law;
+pub mod shown;
+pub mod testing;
+#[cfg(test)]
+mod tests;
+
+use chan_model::reply::ConditionCode;
+use functions::codes::tsch_code;
+use machine_model::cause::Cause;
+use machine_model::state::SubchannelState;
+
+/// Makes the status of a cause pending. A subchannel that is not enabled gets none (own), but its activity and its programs
+/// change. The request for an interruption is the caller's.
+pub fn make_pending(state: &mut SubchannelState, cause: &Cause)
+    requires { state.old.serials.made < 2 ^ 63 }
+    ensures state { state.new ≡ cause_spec.with_cause state.old cause.now }
+    ensures made { state.new.serials ≡ status_spec.serials_made state.old.pmcw.enabled state.old.serials }
+{
+    *state = causes::with_cause(state, cause);
+}
+
+/// TEST SUBCHANNEL: the status word that is stored is the one before.
+pub fn tsch(state: &mut SubchannelState) -> ConditionCode
+    ensures code { result ≡ code_spec.tsch_code (condition_of state.old) }
+    ensures state { state.new ≡ spec.left_by result state.old (spec.tested_wholly state.old) }
+{
+    let code = tsch_code(functions::codes::condition_of(*state));
+    if code == ConditionCode::Zero {
+        *state = testing::tested_wholly(*state);
+    }
+    code
+}
