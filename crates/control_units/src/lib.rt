@@ -1,4 +1,9 @@
 //! Control units: which of the units that share one may be served (SA22-7832, chapter 13; the sharing is own).
+//!
+//! Used alone, this crate promises: a type that keeps the law of `ControlUnit` serves a unit where no other is begun, and
+//! says that a control-unit end is owed just where a unit was refused since the last was over. `Sharing` serves a unit
+//! exactly where no other of its group is begun. `Sharing::new` alone takes memory, and fails only for want of it; nothing
+//! else refuses.
 #![tactic(auto)]
 
 pub mod sharing;

@@ -1,4 +1,11 @@
 //! What every device keeps to, as its unit calls it, and the answer to what a unit asks of one.
+//!
+//! Used alone, this crate promises: a type that keeps the law of `Device` begins a command with an empty initial status,
+//! channel end alone or unit check alone, refuses every read backward, gives at most what it is asked for, takes at most what
+//! it is offered, and ends with device end; a restart leaves it at its opening, whatever came before. Each call tells by the
+//! relation `answers` that it was made, what it answered and which device it left, so that a contract above can say that a
+//! call was made; `answer` makes the call that a unit asks for, and its answer is one that a unit may report. Nothing here
+//! takes memory or refuses.
 #![tactic(auto)]
 
 pub mod answering;

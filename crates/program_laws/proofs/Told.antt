@@ -1,12 +1,14 @@
 -- What is told of the program of each subchannel, after each run.
-use Rattle.std.proofs.Common.{subst, Option, None, Some, List}
+use Rattle.std.proofs.Common.{◌≡◌, subst, ℕ, ◌+◌, Option, None, Some, List, length}
 use Rattle.chan_model.specs.declared.reply.Entry.{Entry}
 use Rattle.channel_config.specs.Lawful.{IsLawful}
 use Rattle.channel_config.specs.Setup.{Setup}
 use Rattle.machine_model.specs.declared.state.Begun.{Begun}
 use Rattle.machine_model.specs.State.{State, opening_of}
 use Rattle.machine_model.specs.Steps.{Run}
-use Rattle.program_laws.specs.Reaches.{reaches}
+use Rattle.scsw_irb.specs.declared.scsw.Scsw.{Scsw}
+use Rattle.data_move.specs.Moving.{residual}
+use Rattle.program_laws.specs.Reaches.{reaches, counts}
 use Rattle.program_laws.specs.Stories.{Story, story}
 use Rattle.program_laws.specs.Claims.{IsCounted, AllTold}
 use Rattle.program_laws.proofs.Ties.{AreLaws, spot-counts}
@@ -20,9 +22,12 @@ use Rattle.program_laws.proofs.Choices.{IsKept, KeptBy, kept-held, run-held}
 use Rattle.program_laws.proofs.RunFlows.{AllHeld, run-absorbs}
 
 -- the count that is shown
-work-counts : (b : Option Begun) (k : Story) → HasWork b k → IsCounted b k
-work-counts None k w = tt
-work-counts (Some b) k w = spot-counts k.orb (reaches k.orb k.now.acts) b.transfer k.now.moved w.0.tied.spot
+work-counts : (scsw : Scsw) (b : Option Begun) (k : Story) → HasWork b k → IsCounted scsw b k
+work-counts scsw None k w = tt
+work-counts scsw (Some b) k w =
+    let c : counts (reaches k.orb k.now.acts) ≡ length k.now.moved + residual b.transfer.moving =
+    spot-counts k.orb (reaches k.orb k.now.acts) b.transfer k.now.moved w.0.tied.spot in
+    λ status more tried check. (c, c, c)
 
 module _ (laws : AreLaws) (accesses : AreAccesses) where
   all-held : (setup : Setup) → IsLawful setup → AllHeld laws accesses setup
@@ -48,5 +53,5 @@ module _ (laws : AreLaws) (accesses : AreAccesses) where
           arrived = done.arrived;
           arrives = done.arrives;
         },
-        work-counts sub.state.begun k kept.0.work,
+        work-counts sub.state.scsw sub.state.begun k kept.0.work,
       )

@@ -1,16 +1,21 @@
 -- What is claimed of the program that a subchannel offered last (SA22-7832, chapter 15).
-use Rattle.std.specs.Prelude.{◌≡◌, ◌⊎◌, ℕ, ◌+◌, ◌==◌, Option, None, Some, List, [], ◌∷◌, ◌++◌, length, map, reverse, take, slice_get, if◌then◌else◌, All, Contains}
+use Rattle.std.specs.Prelude.{Bool, ◌≡◌, ◌⊎◌, ℕ, ◌+◌, ◌==◌, Option, None, Some, List, [], ◌∷◌, ◌++◌, length, map, reverse, take, slice_get, if◌then◌else◌, All, Contains}
 use Rattle.std.specs.List.{flat_map}
 use Rattle.chan_model.specs.declared.reply.Entry.{Entry}
 use Rattle.channel_config.specs.Lawful.{IsLawful}
 use Rattle.channel_config.specs.Setup.{Setup}
 use Rattle.orb_block.specs.declared.Orb.{Orb}
+use Rattle.scsw_irb.specs.declared.scsw.Scsw.{Scsw}
+use Rattle.scsw_irb.specs.declared.status.DeviceStatus.{DeviceStatus}
+use Rattle.chan_model.specs.declared.status.Shown.{Shown}
+use Rattle.channel_program.specs.declared.check.Check.{Check}
 use Rattle.channel_program.specs.Acts.{Act, Chunk}
 use Rattle.channel_program.specs.Programs.{IsProgram, commands, code}
 use Rattle.idaw.specs.Lists.{kind_of, block}
 use Rattle.idaw.specs.Places.{places}
 use Rattle.data_move.specs.Accesses.{bytes_at}
 use Rattle.data_move.specs.Moving.{residual}
+use Rattle.machine_model.specs.Statuses.{channel_end_shown, last_end_shown, fetch_fault_shown}
 use Rattle.machine_model.specs.declared.state.Begun.{Begun}
 use Rattle.machine_model.specs.declared.state.Subchannel.{Subchannel}
 use Rattle.machine_model.specs.State.{State, opening_of}
@@ -78,15 +83,23 @@ pub record IsTold (k : Story) : Type 0 where
   pub arrived : All IsStored k.now.arrived
   pub arrives : IsBeginning (places_arrived k.now.arrived) (places_of k.orb k.now.acts)
 
--- the count that is shown: the sum of the counts of the command's blocks, less the bytes that were moved
-abbrev pub IsCounted : Option Begun → Story → Type 0
-IsCounted None k = Unit {0}
-IsCounted (Some b) k = counts (reaches k.orb k.now.acts) ≡ length k.now.moved + residual b.transfer.moving
+-- the count that a status shows: the sum of the counts of the command's blocks, less the bytes that were moved
+abbrev pub IsRest : Shown → Story → Type 0
+IsRest shown k = counts (reaches k.orb k.now.acts) ≡ length k.now.moved + shown.count
+
+-- an End of the command at work shows that count: channel end alone, the last of its program, or one after which the next
+-- block shows a check
+abbrev pub IsCounted : Scsw → Option Begun → Story → Type 0
+IsCounted scsw None k = Unit {0}
+IsCounted scsw (Some b) k =
+    (status : DeviceStatus) (more : Bool) (tried : ℕ) (check : Check) →
+    IsRest (channel_end_shown scsw b status more) k × IsRest (last_end_shown scsw b status more) k
+    × IsRest (fetch_fault_shown tried check (residual b.transfer.moving)) k
 
 -- after a run this holds of each subchannel
 abbrev pub AllTold : (opening : State) (h : List Entry) (s : State) → Run opening h s → Type 0
 AllTold opening h s run = (place : ℕ) (sub : Subchannel) (k : Story) → slice_get s.subs place ≡ Some sub → story place opening h s run ≡ Some k →
-    IsTold k × IsCounted sub.state.begun k
+    IsTold k × IsCounted sub.state.scsw sub.state.begun k
 
 -- these entries lead to the state from the opening of some machine that is lawfully set up, and so they tell
 abbrev pub HasTold : List Entry → State → Type 0
