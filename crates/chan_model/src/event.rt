@@ -30,6 +30,22 @@ pub enum Instruction {
         subchannel: u32,
         address: u32,
     },
+    /// RESUME SUBCHANNEL.
+    Rsch {
+        subchannel: u32,
+    },
+    /// HALT SUBCHANNEL.
+    Hsch {
+        subchannel: u32,
+    },
+    /// CLEAR SUBCHANNEL.
+    Csch {
+        subchannel: u32,
+    },
+    /// CANCEL SUBCHANNEL.
+    Xsch {
+        subchannel: u32,
+    },
     /// STORE SUBCHANNEL to real F00 (hexadecimal); then the interruption subclass, the multipath mode and the enabled bit,
     /// which is one, are placed in the bytes there; then MODIFY SUBCHANNEL from F00. They are executed as one instruction
     /// (own), with MODIFY SUBCHANNEL's condition code. Of `subclass` the three rightmost bits are placed.

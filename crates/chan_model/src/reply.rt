@@ -49,6 +49,16 @@ pub enum Reply {
         path: Path,
         resumed: bool,
     },
+    /// A Reset was sent under this number on this path.
+    ResetSent {
+        number: u64,
+        path: Path,
+    },
+    /// A Halt was sent to the program of this number on this path.
+    HaltSent {
+        number: u64,
+        path: Path,
+    },
     /// Choosing made status pending.
     Pending,
     /// There was nothing to choose.
@@ -125,6 +135,14 @@ impl Reply {
                 number: *number,
                 path: *path,
                 resumed: *resumed,
+            },
+            Reply::ResetSent { number, path } => Reply::ResetSent {
+                number: *number,
+                path: *path,
+            },
+            Reply::HaltSent { number, path } => Reply::HaltSent {
+                number: *number,
+                path: *path,
             },
             Reply::Pending => Reply::Pending,
             Reply::Idle => Reply::Idle,

@@ -118,6 +118,28 @@ fn lengths_keep_their_range(rt: HostRuntime) {
     assert!(rt; matches!(shown.copy(), Reply::Shown { .. }));
 }
 
+/// The number and the path of a Reset, or of a Halt, that was sent: first of the one, then of the other.
+fn sent(reply: &Reply) -> (Option<(u64, u64)>, Option<(u64, u64)>) {
+    match reply {
+        Reply::ResetSent { number, path } => (Some((*number, path.index() as u64)), None),
+        Reply::HaltSent { number, path } => (None, Some((*number, path.index() as u64))),
+        _ => (None, None),
+    }
+}
+
+#[test]
+fn resets_and_halts_that_are_sent_are_copied(rt: HostRuntime) {
+    match Path::new(5) {
+        Some(path) => {
+            let reset = Reply::ResetSent { number: 3, path };
+            let halt = Reply::HaltSent { number: 4, path };
+            assert_eq!(rt; sent(&reset.copy()), (Some((3, 5)), None));
+            assert_eq!(rt; sent(&halt.copy()), (None, Some((4, 5))));
+        }
+        None => assert!(rt; false, "the path is in range"),
+    }
+}
+
 #[test]
 fn codes_bring_their_serials(rt: HostRuntime) {
     let serials = Serials {

@@ -10,6 +10,8 @@ mod memory;
 #[cfg(test)]
 mod programs;
 #[cfg(test)]
+mod stops;
+#[cfg(test)]
 mod tests;
 
 use command_words::{Refused, Wanted, command_of};

@@ -14,10 +14,11 @@ const WRITTEN: &[u8] =
 const SET_UP: &[u8] = b"storage 10\npath 10\nunit 0 block\nsub 0 0100 0 10\n";
 
 /// One path and a subchannel that is enabled, with an ORB, a CCW and its bytes in storage.
-const ENABLED: &[u8] =
+pub const ENABLED: &[u8] =
     b"storage 10\npath 10\nunit 0 block\nsub 0 0100 0 10\nput 500 000000000080FF0000001000\nput 1000 0120000400002000\nput 2000 C1C2C3C4\nenable 0 0 0\n";
 
-const ENABLING: &[u8] = b"5 done\n6 done\n7 done\n8 cc 0\n";
+/// What it prints.
+pub const ENABLING: &[u8] = b"5 done\n6 done\n7 done\n8 cc 0\n";
 
 /// What follows `ENABLED`, what it prints, and the exit status: a second start; operands that are not allowed; operands
 /// under a prefix; a subchannel that is modified.
@@ -67,7 +68,8 @@ const REFUSED: [(&[u8], &[u8]); 3] = [
     ),
 ];
 
-fn joined(rt: &HostRuntime, first: &[u8], more: &[u8]) -> Vec<u8> {
+/// Two texts, one after the other.
+pub fn joined(rt: &HostRuntime, first: &[u8], more: &[u8]) -> Vec<u8> {
     let mut text = Vec::new(rt.alloc());
     let _ = text.extend_from_slice(first);
     let _ = text.extend_from_slice(more);

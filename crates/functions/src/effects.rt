@@ -71,6 +71,7 @@ pub fn started(state: SubchannelState, orb: Orb) -> SubchannelState
             orb,
             single_path,
         }),
+        suspended: None,
         ..state
     }
 }
@@ -206,6 +207,7 @@ pub(crate) fn cleared(state: SubchannelState) -> SubchannelState
         drawn,
         waiting: None,
         begun: None,
+        suspended: None,
         hold: hold.state(),
         dedicated: None,
         ..state
@@ -228,17 +230,11 @@ fn cancelled_scsw(scsw: Scsw) -> Scsw
 pub(crate) fn cancelled(state: SubchannelState) -> SubchannelState
     ensures { result ≡ spec.cancelled state }
 {
-    let begun = if state.scsw.activity.suspended {
-        None
-    } else {
-        state.begun
-    };
-    SubchannelState {
-        scsw: cancelled_scsw(state.scsw),
-        waiting: None,
-        begun,
-        ..state
-    }
+    let mut next = state;
+    next.scsw = cancelled_scsw(state.scsw);
+    next.waiting = None;
+    next.suspended = None;
+    next
 }
 
 fn with_word(state: Pmcw, word: &pmcw::Pmcw) -> Pmcw

@@ -5,12 +5,13 @@ use crate::codes::{
     xsch_code,
 };
 use crate::{csch, hsch, msch, rsch, ssch, xsch};
+use ccw_walk::Walk;
 use chan_model::hold_state::{HoldPhase, HoldState};
 use chan_model::names::Path;
 use chan_model::paths::mask_of_paths;
 use chan_model::reply::ConditionCode;
 use chan_model::status::Condition;
-use machine_model::state::{Pmcw, Program, SubchannelState};
+use machine_model::state::{Pmcw, Program, Standing, SubchannelState};
 use orb_block::Orb;
 use schib_block::pmcw;
 use scsw_irb::scsw::Scsw;
@@ -38,6 +39,7 @@ fn subchannel(words: [u32; 3]) -> SubchannelState {
         starts: 2,
         waiting: None,
         begun: None,
+        suspended: None,
         hold: HoldState {
             phase: HoldPhase::Free,
             seen: 0,
@@ -183,13 +185,40 @@ fn a_start_is_cancelled(rt: HostRuntime) {
     assert!(rt; xsch(&mut state) == ConditionCode::Two);
 }
 
+/// A suspended program.
+fn suspended() -> Option<Standing> {
+    let orb = orb()?;
+    Some(Standing {
+        program: Program {
+            start: 2,
+            orb,
+            single_path: true,
+        },
+        walk: Walk::start(orb),
+        count: 0,
+    })
+}
+
+#[test]
+fn a_suspended_program_is_cancelled(rt: HostRuntime) {
+    let mut state = subchannel([0x0880_4820, 0x1008, 0x0000_0004]);
+    state.suspended = suspended();
+    assert!(rt; state.suspended.is_some());
+    assert!(rt; xsch(&mut state) == ConditionCode::Zero);
+    assert!(rt; is_same_words(&state, [0x0880_0000, 0x1008, 0x0000_0004]));
+    assert!(rt; state.suspended.is_none());
+    assert!(rt; xsch(&mut state) == ConditionCode::Two);
+}
+
 #[test]
 fn a_suspended_program_is_resumed(rt: HostRuntime) {
     let mut state = subchannel([0x0880_4020, 0x1008, 0]);
+    state.suspended = suspended();
     assert!(rt; rsch(&mut state) == ConditionCode::Zero);
     assert!(rt; is_same_words(&state, [0x0880_4820, 0x1008, 0]));
     assert!(rt; mask_of_paths(state.pmcw.not_operational) == 0);
     assert!(rt; rsch(&mut state) == ConditionCode::Two);
+    assert!(rt; state.suspended.is_some());
     let mut active = subchannel([0x0880_40C0, 0x1008, 0]);
     assert!(rt; rsch(&mut active) == ConditionCode::Zero);
     assert!(rt; mask_of_paths(active.pmcw.not_operational) == 0xFF);
@@ -217,6 +246,10 @@ fn a_clear_leaves_nothing_but_itself(rt: HostRuntime) {
     assert!(rt; matches!(state.hold.phase, HoldPhase::Reset { number: 5 }));
     assert!(rt; state.drawn == 5 && state.serials.cleared == 9);
     assert!(rt; state.waiting.is_none() && state.dedicated.is_none());
+    let mut held = subchannel([0x0880_4020, 0x1008, 0]);
+    held.suspended = suspended();
+    assert!(rt; clear(&mut held) == Some(ConditionCode::Zero));
+    assert!(rt; held.suspended.is_none());
     assert!(rt; state.last_path.is_some() && state.pmcw.last_used.is_none());
     assert!(rt; mask_of_paths(state.pmcw.operational) == 0xFF);
     assert!(rt; mask_of_paths(state.pmcw.not_operational) == 0);

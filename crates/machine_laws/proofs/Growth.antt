@@ -9,9 +9,11 @@ use Rattle.chan_model.specs.declared.hold_state.HoldState.{HoldState}
 use Rattle.chan_model.specs.declared.signal.OnPath.{OnPath}
 use Rattle.chan_model.specs.declared.signal.Down.{Down}
 use Rattle.chan_model.specs.declared.signal.Up.{Up}
+use Rattle.chan_model.specs.declared.signal.Up.TheVariants as up
 use Rattle.chan_model.specs.declared.unit_state.UnitState.{UnitState}
 use Rattle.wires.specs.Queues.{queue, taken}
-use Rattle.agreement_laws.specs.Links.{Link, Links, Carries, with_accepted}
+use Rattle.agreement_laws.specs.Claims.{IsSound, IsPassed}
+use Rattle.agreement_laws.specs.Links.{Link, Links, link_of, Carries, with_accepted}
 use Rattle.agreement_laws.specs.Moving.{HoldAct, HoldActed, still, hold_acts, LinkStep, Cause, Hold_acts, IsHoldGiven, Step}
 use Rattle.agreement_laws.specs.Invariant.{IsGood}
 use Rattle.machine_model.specs.declared.state.Subchannel.{Subchannel}
@@ -118,6 +120,13 @@ links_of Second u l other = record { «unit» = u; first = other; second = l }
 abbrev pub Keeps : Type 0
 Keeps = (old : Links) (cause : Cause) (new : Links) → IsGood old → Step old cause new → IsGood new
 
+-- what both sides are sound by; a Busy that may arrive is passed, and what is passed stays so
+pub record AreLaws : Type 0 where
+  pub keeps : Keeps
+  pub means : (w : Links) (side : Side) → IsGood w → IsSound w side
+  pub busy : (w : Links) (side : Side) (x : OnPath Up) (t : ℕ) → IsGood w → Contains (link_of w side).ups x → x.signal ≡ up.Busy t → IsPassed w side t
+  pub stays : (old : Links) (cause : Cause) (new : Links) (side : Side) (t : ℕ) → IsGood old → Step old cause new → IsPassed old side t → IsPassed new side t
+
 -- what holds with a link holds with another, by acts of the hold
 abbrev pub Leads : Link → Link → Type 0
 Leads l m = (side : Side) (u : UnitState) (other : Link) → IsGood (links_of side u l other) → IsGood (links_of side u m other)
@@ -143,9 +152,10 @@ pub record Reaches (l : Link) (acted : HoldActed) : Type 0 where
   pub downs : Wider l.downs link.downs
   pub sent : IfSome acted.sent (λ x. Contains link.downs x)
   pub ups : Wider l.ups link.ups
+  pub accepted : link.accepted ≡ l.accepted
 
 pub stays : (l : Link) (n : ℕ) (h : HoldState) → IsAt l n h → Reaches l (still n h)
-stays l n h at = record { link = l; leads = λ side u other g. g; at = at; downs = λ x c. c; sent = tt; ups = λ x c. c }
+stays l n h at = record { link = l; leads = λ side u other g. g; at = at; downs = λ x c. c; sent = tt; ups = λ x c. c; accepted = refl }
 
 -- one act
 acts-at : (l : Link) (n : ℕ) (h : HoldState) (act : HoldAct) → IsAt l n h → hold_acts l.drawn l.hold act ≡ hold_acts n h act
@@ -161,6 +171,7 @@ acts keeps l n h act acted given at e =
       downs = one-wider l.downs (hold_acts l.drawn l.hold act).sent;
       sent = one-within l.downs (hold_acts l.drawn l.hold act).sent;
       ups = λ x c. c;
+      accepted = refl;
     })
 
 -- one after another
@@ -174,6 +185,7 @@ chain l first second a f =
       downs = λ x c. b.downs x (a.downs x c);
       sent = b.sent;
       ups = λ x c. b.ups x (a.ups x c);
+      accepted = b.accepted ∙ a.accepted;
     }
 
 -- what is left of a subchannel is a link that is led to
@@ -181,6 +193,7 @@ pub record IsReached (l : Link) (new : Subchannel) : Type 0 where
   pub link : Link
   pub leads : Leads l link
   pub is : IsLink new link
+  pub accepted : link.accepted ≡ l.accepted
 
 pub reached : (sub : Subchannel) (l : Link) (s : SubchannelState) (one : Option (OnPath Down)) (ups : List (List Up)) → IsLink sub l →
     Reaches l (record { drawn = s.drawn; hold = s.hold; sent = one }) → ((m : List (OnPath Up)) → Covers m sub.wires.up → Covers m ups) →
@@ -195,4 +208,5 @@ reached sub l s one ups k r f =
         downs = covers-sent r.link.downs sub.wires.down one r.sent (covers-wider l.downs r.link.downs sub.wires.down r.downs k.downs);
         ups = f r.link.ups (covers-wider l.ups r.link.ups sub.wires.up r.ups k.ups);
       };
+      accepted = r.accepted;
     }

@@ -1,5 +1,5 @@
 -- What a subchannel does, of itself or with a signal that came up, is acts of its hold.
-use Rattle.std.proofs.Common.{◌≡◌, refl, ◌∙◌, ap, ℕ, ◌+◌, Bool, true, false, ◌==◌, nat_lt, length, Option, None, Some, Result, Ok, Err, List, arith}
+use Rattle.std.proofs.Common.{◌≡◌, refl, sym, ◌∙◌, ap, ℕ, ◌+◌, Bool, true, false, ◌==◌, nat_lt, length, Option, None, Some, Result, List, arith}
 use Rattle.std.specs.Prelude.{if◌then◌else◌, slice_get, IfOk, Contains}
 use Rattle.std.proofs.lemmas.Bool.{ltb-true}
 use Rattle.storage_keys.specs.Storage.{Contents}
@@ -7,32 +7,42 @@ use Rattle.chan_model.specs.declared.hold_state.HoldPhase.{HoldPhase}
 use Rattle.chan_model.specs.declared.hold_state.HoldPhase.TheVariants as hold
 use Rattle.chan_model.specs.declared.hold_state.HoldState.{HoldState}
 use Rattle.chan_model.specs.declared.fault.Fault.{Fault}
+use Rattle.chan_model.specs.declared.signal.Down.{Down}
 use Rattle.chan_model.specs.declared.signal.Down.TheVariants as down
 use Rattle.chan_model.specs.declared.signal.Load.{Load}
 use Rattle.chan_model.specs.declared.signal.OnPath.{OnPath}
 use Rattle.chan_model.specs.declared.signal.Up.{Up}
 use Rattle.chan_model.specs.declared.signal.Up.TheVariants as up
-use Rattle.chan_model.specs.HoldTable.{HoldStep, begun, hold_after, hold_takes, is_connected, is_on, letting_go, came_of}
+use Rattle.chan_model.specs.HoldTable.{HoldStep, begun, hold_after, hold_takes, is_connected, is_on, letting_go, sending_reset, came_of}
 use Rattle.chan_model.specs.UnitReports.{is_last_end, is_outward, has_device_end}
 use Rattle.wires.specs.Queues.{queue}
 use Rattle.scsw_irb.specs.declared.status.DeviceStatus.{DeviceStatus}
 use Rattle.agreement_laws.specs.Links.{Link}
-use Rattle.agreement_laws.specs.Moving.{Offers, Lets_go, Takes, Sends, HoldActed, still, stepped, offered, hold_acts}
+use Rattle.agreement_laws.specs.Moving.{Offers, Sends_reset, Lets_go, Is_reset, Takes, Sends, HoldActed, still, stepped, offered, hold_acts}
 use Rattle.machine_model.specs.declared.state.Begun.{Begun}
-use Rattle.channel_program.specs.declared.check.Check.{Check}
+use Rattle.channel_program.specs.Walks.{Place}
 use Rattle.machine_model.specs.declared.state.Chosen.{Chosen}
 use Rattle.machine_model.specs.declared.state.Chosen.TheVariants as chosen
-use Rattle.machine_model.specs.declared.state.Program.{Program}
 use Rattle.machine_model.specs.declared.state.Subchannel.{Subchannel}
 use Rattle.machine_model.specs.declared.state.SubchannelState.{SubchannelState}
-use Rattle.transfer.specs.declared.Transfer.{Transfer}
-use Rattle.transfer.specs.Commands.{first_command, next_command}
-use Rattle.transfer.specs.Chunks.{brought, is_answered}
+use Rattle.transfer.specs.declared.Came.{Came}
+use Rattle.transfer.specs.declared.Came.TheVariants as came
+use Rattle.data_move.specs.Moving.{residual}
+use Rattle.chan_model.specs.Loads.{load_length}
+use Rattle.transfer.specs.declared.Given.{Given}
+use Rattle.transfer.specs.declared.Roomy.{Roomy}
+use Rattle.transfer.specs.Commands.{first_command, next_command, begun_with_room, with_room}
+use Rattle.transfer.specs.Chunks.{absorbed, next_given, brought, is_answered}
+use Rattle.machine_model.specs.Functions.{cleared}
 use Rattle.machine_model.specs.declared.state.UpStep.{UpStep}
-use Rattle.machine_model.specs.Choosing.{IsFreeToOffer, idle_or_over, chosen_for, without_path}
+use Rattle.machine_model.specs.declared.cause.Cause.TheVariants as cause
+use Rattle.machine_model.specs.declared.state.Standing.{Standing}
+use Rattle.machine_model.specs.Causes.{with_cause}
+use Rattle.machine_model.specs.Choosing.{IsFitFor, reset_sent, halt_sent}
 use Rattle.machine_model.specs.Statuses.{has_status_modifier, chains_command}
 use Rattle.machine_model.specs.Steps.{SubTurn, UpTurn, choose_sub, is_full, finds_full, up_front, up_sub}
-use Rattle.machine_model.specs.Taking.{Met, meets, ignoring, quietly, by_hold, waits_as, with_path, beginning, begin_waiting, accept, move_bytes, move_data, with_end, chaining, chain_with, goes_on, ended, channel_ended, stops_at, command_ended, end_of, takes_up}
+use Rattle.machine_model.specs.Taking.{Met, meets, ignoring, quietly, sending, let_go, by_hold, moving_on, giving, give_next, answering, take_in, bytes_of, standing, goes_ahead, with_path, taking_over, interrupted, suspending, beginning, begin_standing, halt_done, accept, move_bytes, move_data, with_end, chaining, chain_with, goes_on, end_shown_at, stops_at, command_ended, end_of, reset_taken, takes_up}
+use Rattle.machine_laws.proofs.SameHold.{IsSameHold, same-hold, same-then, cause-same, interrupted-same, moving-same, suspending-same, halt_done-same, clear_done-same}
 use Rattle.machine_laws.proofs.Growth.{covers-taken, covers-first, IsLink, Keeps, IsAt, Reaches, stays, acts, chain, IsReached, reached}
 
 -- no unit restarted: no Notice tells of a restart
@@ -86,20 +96,23 @@ kept-turns sub s n h =
       reaches = λ l tame k. reached sub l s None sub.wires.up k (stays l s.drawn s.hold (record { drawn = k.drawn ∙ n; hold = k.hold ∙ h })) (λ m c. c);
     }
 
--- Choose: an offer is of a hold that is free
-idle_or_over-free : (any : Bool) (phase : HoldPhase) → IsFreeToOffer (idle_or_over any) phase
-idle_or_over-free true phase = tt
-idle_or_over-free false phase = tt
+pub same-turns : (sub : Subchannel) (s : SubchannelState) → IsSameHold sub.state s → IsOfHold sub (record sub { state = s })
+same-turns sub s h = kept-turns sub s (sym h.drawn) (sym h.hold)
 
-pub chosen-free : (phase : HoldPhase) (waiting : Option Program) (any : Bool) (choice : Option ℕ) → IsFreeToOffer (chosen_for phase waiting any choice) phase
-chosen-free phase None any choice = tt
-chosen-free hold.Free (Some program) any (Some path) = refl
-chosen-free hold.Free (Some program) any None = idle_or_over-free any hold.Free
-chosen-free (hold.Offer t q) (Some program) any choice = tt
-chosen-free (hold.On t q c) (Some program) any choice = tt
-chosen-free (hold.Away t) (Some program) any choice = tt
-chosen-free (hold.Letting t q) (Some program) any choice = tt
-chosen-free (hold.Reset r) (Some program) any choice = idle_or_over-free any (hold.Reset r)
+-- acts that lead to the hold and the counter of one state lead to those of another that has the same
+still-of : (l : Link) (s x : SubchannelState) → IsSameHold s x → IsOf l s → IsOf l x
+still-of l s x h at = record { drawn = at.drawn ∙ sym h.drawn; hold = at.hold ∙ sym h.hold }
+
+reaches-same : (l : Link) (s x : SubchannelState) (one : Option (OnPath Down)) → IsSameHold s x → Reaches l (record { drawn = s.drawn; hold = s.hold; sent = one }) →
+    Reaches l (record { drawn = x.drawn; hold = x.hold; sent = one })
+reaches-same l s x one h r = record { link = r.link; leads = r.leads; at = still-of r.link s x h r.at; downs = r.downs; sent = r.sent; ups = r.ups; accepted = r.accepted }
+
+quiet-leaves : (l : Link) (s x : SubchannelState) → IsSameHold s x → IsOf l s → Leaves l (quietly x)
+quiet-leaves l s x h at = stays l x.drawn x.hold (still-of l s x h at)
+
+reset-leaves : (l : Link) (s : SubchannelState) (step : Option HoldStep) → Leaves l (by_hold s step) → Leaves l (reset_taken s step)
+reset-leaves l s None r = r
+reset-leaves l s (Some step) r = reaches-same l (record s { hold = step.state }) _ step.sent (clear_done-same (record s { hold = step.state })) r
 
 -- Notice: a count that is not above the known one
 notice-leaves : (l : Link) (s : SubchannelState) (p b : ℕ) (more : Bool) → IsOf l s → nat_lt s.hold.known b ≡ more → b ≡ 0 →
@@ -118,16 +131,26 @@ module _ (keeps : Keeps) where
   by_hold-leaves l s p x c at e =
       acts keeps l s.drawn s.hold (Takes (record { path = p; signal = x }) false) _ c at (e ∙ stepped-is s.drawn s.hold (hold_takes s.hold p x false))
 
-  -- Accept: the waiting program begins, or lets the device go
-  beginning-leaves : (storage : Contents) (l : Link) (s : SubchannelState) (p t : ℕ) (program : Program) (tried : ℕ) (r : Result Transfer Check) → IsOf l s →
-      Leaves l (beginning storage s p t program tried r)
-  beginning-leaves storage l s p t program tried (Ok transfer) at = acts keeps l s.drawn s.hold (Sends _) _ tt at refl
-  beginning-leaves storage l s p t program tried (Err check) at = let_go-leaves l s.drawn s.hold at
+  let-leaves : (l : Link) (s x : SubchannelState) → IsSameHold s x → IsOf l s → Leaves l (let_go x)
+  let-leaves l s x h at = let_go-leaves l x.drawn x.hold (still-of l s x h at)
 
-  begin-leaves : (storage : Contents) (l : Link) (s : SubchannelState) (p t : ℕ) (waiting : Option Program) → IsOf l s → Leaves l (begin_waiting storage s p t waiting)
+  -- a signal of its program is sent
+  command-leaves : (l : Link) (s x : SubchannelState) (p t n code room : ℕ) → IsSameHold s x → IsOf l s → Leaves l (sending x p (down.Command t n code room))
+  command-leaves l s x p t n code room h at = acts keeps l x.drawn x.hold (Sends _) _ tt (still-of l s x h at) refl
+
+  -- Accept: the program that was offered begins or goes on, or lets the device go
+  beginning-leaves : (storage : Contents) (l : Link) (s : SubchannelState) (p t : ℕ) (st : Standing) (walk : Place) (r : Came) → IsOf l s →
+      Leaves l (beginning storage s p t st walk r)
+  beginning-leaves storage l s p t st walk (came.Begins transfer) at =
+      let next = taking_over s st.program (begun_with_room storage transfer).transfer in
+      command-leaves l s (interrupted next next.begun) p t _ _ _ (same-then s next (interrupted next next.begun) (same-hold s next refl refl) (interrupted-same next next.begun)) at
+  beginning-leaves storage l s p t st walk came.Suspends at = let-leaves l s (suspending s st.program walk st.count) (suspending-same s st.program walk st.count) at
+  beginning-leaves storage l s p t st walk (came.Stops check) at =
+      let-leaves l s (with_cause s (cause.FetchFault walk.tried check st.count)) (cause-same s (cause.FetchFault walk.tried check st.count)) at
+
+  begin-leaves : (storage : Contents) (l : Link) (s : SubchannelState) (p t : ℕ) (st : Option Standing) → IsOf l s → Leaves l (begin_standing storage s p t st)
   begin-leaves storage l s p t None at = ignored l s at
-  begin-leaves storage l s p t (Some program) at =
-      beginning-leaves storage l s p t program (first_command storage program.orb).tried (first_command storage program.orb).came at
+  begin-leaves storage l s p t (Some st) at = beginning-leaves storage l s p t st (first_command storage st.walk).walk (first_command storage st.walk).came at
 
   -- the hold offers the number u, or another
   begun-leaves : (storage : Contents) (l : Link) (s : SubchannelState) (h : HoldState) (p t q u : ℕ) (may same : Bool) →
@@ -137,10 +160,12 @@ module _ (keeps : Keeps) where
       chain l (still s.drawn (record h { phase = hold.On t q 0; seen = 0; first_path = Some q })) _
       (acts keeps l s.drawn (record h { phase = hold.Offer t q }) (Takes (record { path = p; signal = up.Accept u }) true) _ c at
       (ap (λ (b : Bool). stepped s.drawn (record h { phase = hold.Offer t q }) (if b then Some (begun (record h { phase = hold.Offer t q }) t q true) else None)) e))
-      (λ m on. begin-leaves storage m (record s { hold = record h { phase = hold.On t q 0; seen = 0; first_path = Some q }; pmcw = with_path s.pmcw q }) q t s.waiting on)
+      (λ m on. begin-leaves storage m (record s { hold = record h { phase = hold.On t q 0; seen = 0; first_path = Some q }; pmcw = with_path s.pmcw q }) q t (standing s) on)
   begun-leaves storage l s h p t q u false true c at e =
-      acts keeps l s.drawn (record h { phase = hold.Offer t q }) (Takes (record { path = p; signal = up.Accept u }) false) _ c at
-      (ap (λ (b : Bool). stepped s.drawn (record h { phase = hold.Offer t q }) (if b then Some (begun (record h { phase = hold.Offer t q }) t q false) else None)) e)
+      let next = record s { hold = record h { phase = hold.Letting t q; seen = 0; first_path = Some q }; pmcw = with_path s.pmcw q } in
+      reaches-same l next (halt_done next) (Some (record { path = q; signal = down.Release t })) (halt_done-same next)
+      (acts keeps l s.drawn (record h { phase = hold.Offer t q }) (Takes (record { path = p; signal = up.Accept u }) false) _ c at
+      (ap (λ (b : Bool). stepped s.drawn (record h { phase = hold.Offer t q }) (if b then Some (begun (record h { phase = hold.Offer t q }) t q false) else None)) e))
   begun-leaves storage l s h p t q u may false c at e = stays l s.drawn (record h { phase = hold.Offer t q }) at
 
   accept-leaves : (storage : Contents) (l : Link) (s : SubchannelState) (h : HoldState) (phase : HoldPhase) (p u : ℕ) (may : Bool) →
@@ -154,19 +179,43 @@ module _ (keeps : Keeps) where
   accept-leaves storage l s h (hold.Reset r) p u may c at = stays l s.drawn (record h { phase = hold.Reset r }) at
 
   -- Data
+  given-leaves : (l : Link) (s : SubchannelState) (b : Begun) (p t c n seq : ℕ) (given : Given) → IsOf l s → Leaves l (giving s b p t c n seq given)
+  given-leaves l s b p t c n seq given at =
+      let x = moving_on s b given.transfer in acts keeps l x.drawn x.hold (Sends _) _ tt (still-of l s x (moving-same s b given.transfer) at) refl
+
+  answer-leaves : (l : Link) (s : SubchannelState) (b : Begun) (p t n seq : ℕ) (roomy : Roomy) → IsOf l s → Leaves l (answering s b p t n seq roomy)
+  answer-leaves l s b p t n seq roomy at =
+      let x = moving_on s b roomy.transfer in acts keeps l x.drawn x.hold (Sends _) _ tt (still-of l s x (moving-same s b roomy.transfer) at) refl
+
   move-leaves : (storage : Contents) (l : Link) (s : SubchannelState) (b : Option Begun) (p t c n seq : ℕ) (load : Load) → IsOf l s →
       Leaves l (move_data storage s b p t c n seq load).step
   move-leaves storage l s None p t c n seq load at = ignored l s at
   move-leaves storage l s (Some b) p t c n seq load at =
       if-meets l (is_answered b.transfer n seq) (move_bytes storage s b p t c n seq load) (meets storage (ignoring s))
-      (if-meets l (is_outward b.transfer.code) _ _ (acts keeps l s.drawn s.hold (Sends _) _ tt at refl) (acts keeps l s.drawn s.hold (Sends _) _ tt at refl))
+      (if-meets l (is_outward b.transfer.code) (meets storage (give_next storage s b p t c n seq (load_length load))) (take_in s b p t n seq (brought storage b.transfer seq (bytes_of load)))
+      (given-leaves l s b p t c n seq (next_given storage (absorbed storage b.transfer seq (load_length load))) at)
+      (answer-leaves l s b p t n seq (with_room (brought storage b.transfer seq (bytes_of load)).storage (brought storage b.transfer seq (bytes_of load)).transfer) at))
       (ignored l s at)
 
   -- End
-  chaining-leaves : (storage : Contents) (l : Link) (s : SubchannelState) (b : Begun) (p t tried : ℕ) (r : Result Transfer Check) → IsOf l s →
-      Leaves l (chaining storage s b p t tried r)
-  chaining-leaves storage l s b p t tried (Ok transfer) at = acts keeps l s.drawn s.hold (Sends _) _ tt at refl
-  chaining-leaves storage l s b p t tried (Err check) at = let_go-leaves l s.drawn s.hold at
+  chaining-leaves : (storage : Contents) (l : Link) (s : SubchannelState) (b : Begun) (p t : ℕ) (walk : Place) (r : Came) → IsOf l s →
+      Leaves l (chaining storage s b p t walk r)
+  chaining-leaves storage l s b p t walk (came.Begins transfer) at =
+      let x = moving_on s b (begun_with_room storage transfer).transfer in
+      command-leaves l s x p t _ _ _ (moving-same s b (begun_with_room storage transfer).transfer) at
+  chaining-leaves storage l s b p t walk came.Suspends at =
+      let x = suspending (record s { dedicated = None }) b.program walk (residual b.transfer.moving) in
+      let-leaves l (record s { dedicated = None }) x (suspending-same (record s { dedicated = None }) b.program walk (residual b.transfer.moving)) at
+  chaining-leaves storage l s b p t walk (came.Stops check) at =
+      let x = with_cause (record s { dedicated = None }) (cause.FetchFault walk.tried check (residual b.transfer.moving)) in
+      let-leaves l (record s { dedicated = None }) x (cause-same (record s { dedicated = None }) (cause.FetchFault walk.tried check (residual b.transfer.moving))) at
+
+  stops-leaves : (l : Link) (s : SubchannelState) (b : Begun) (p : ℕ) (status : DeviceStatus) (more : Bool) → IsOf l s → Leaves l (stops_at s b p status more)
+  stops-leaves l s b p status more at =
+      let e : IsSameHold s (with_cause s (cause.End b status more)) = cause-same s (cause.End b status more) in
+      let x = end_shown_at s b p status more in
+      let same : IsSameHold s x = same-hold s x e.drawn e.hold in
+      if-leaves l (is_last_end status) (let_go x) (quietly x) (let-leaves l s x same at) (quiet-leaves l s x same at)
 
   end_of-leaves : (storage : Contents) (l : Link) (s : SubchannelState) (b : Option Begun) (p t n : ℕ) (status : DeviceStatus) (more : Bool) → IsOf l s →
       Leaves l (end_of storage s b p t n status more)
@@ -176,12 +225,12 @@ module _ (keeps : Keeps) where
       (if-leaves l (chains_command s.scsw b status more) (goes_on storage s (with_end b) p t status) (stops_at s b p status more)
       (if-leaves l (has_device_end status) (chain_with storage s (with_end b) p t (next_command storage (with_end b).transfer (has_status_modifier status))) _
       (chaining-leaves storage l s (with_end b) p t _ _ at) (stays l s.drawn s.hold at))
-      (if-leaves l (is_last_end status) (ended s b p status more) (channel_ended s b p status more) (let_go-leaves l s.drawn s.hold at) (stays l s.drawn s.hold at)))
+      (stops-leaves l s b p status more at))
       (ignored l s at)
 
   takes-leaves : (storage : Contents) (l : Link) (s : SubchannelState) (p : ℕ) (x : Up) → IsTame l.ups → Contains l.ups (record { path = p; signal = x }) → IsOf l s →
       Leaves l (takes_up storage s p x).step
-  takes-leaves storage l s p (up.Accept t) tame c at = accept-leaves storage l s s.hold s.hold.phase p t (waits_as s.waiting s.offered) c at
+  takes-leaves storage l s p (up.Accept t) tame c at = accept-leaves storage l s s.hold s.hold.phase p t (goes_ahead s) c at
   takes-leaves storage l s p (up.Busy t) tame c at = by_hold-leaves l s p (up.Busy t) c at refl
   takes-leaves storage l s p (up.Leave t d) tame c at = by_hold-leaves l s p (up.Leave t d) c at refl
   takes-leaves storage l s p (up.Back t d) tame c at = by_hold-leaves l s p (up.Back t d) c at refl
@@ -191,7 +240,7 @@ module _ (keeps : Keeps) where
   takes-leaves storage l s p (up.End t n status more) tame c at =
       if-leaves l (is_on s.hold.phase t) _ (ignoring s) (end_of-leaves storage l s s.begun p t n status more at) (ignored l s at)
   takes-leaves storage l s p (up.Released t) tame c at = by_hold-leaves l s p (up.Released t) c at refl
-  takes-leaves storage l s p (up.Cleared r) tame c at = by_hold-leaves l s p (up.Cleared r) c at refl
+  takes-leaves storage l s p (up.Cleared r) tame c at = reset-leaves l s (hold_takes s.hold p (up.Cleared r) false) (by_hold-leaves l s p (up.Cleared r) c at refl)
   takes-leaves storage l s p (up.Notice b) tame c at = notice-leaves l s p b (nat_lt s.hold.known b) at refl (tame p b c)
   takes-leaves storage l s p (up.Attn a status) tame c at = by_hold-leaves l s p (up.Attn a status) c at refl
 
@@ -214,16 +263,48 @@ module _ (keeps : Keeps) where
       (up_front-turns storage sub path (slice_get (queue sub.wires.up path) 0) refl) tt
 
   -- Choose
-  pub choose-turns : (sub : Subchannel) (c : Chosen) → IsFreeToOffer c sub.state.hold.phase → IsSubTurn sub (choose_sub sub c)
-  choose-turns sub chosen.Idle free = kept-turns sub sub.state refl refl
-  choose-turns sub chosen.Over free = kept-turns sub (without_path sub.state) refl refl
-  choose-turns sub (chosen.Offers program path) free =
+  pub choose-turns : (sub : Subchannel) (c : Chosen) → IsFitFor c sub.state.hold → IsSubTurn sub (choose_sub sub c)
+  choose-turns sub chosen.Idle fit = kept-turns sub sub.state refl refl
+  choose-turns sub (chosen.Resets r path) fit =
+      if-turns (λ t. IsOfHold sub t.sub) (is_full sub.wires.down path) _ _ tt
+      (record {
+        setup = refl;
+        reaches = λ l tame k.
+            reached sub l (reset_sent sub.state path) (Some (record { path = path; signal = down.Reset r sub.state.hold.known })) sub.wires.up k
+            (acts keeps l sub.state.drawn sub.state.hold (Sends_reset path) _ tt (record { drawn = k.drawn; hold = k.hold })
+            (stepped-is sub.state.drawn sub.state.hold (sending_reset sub.state.hold sub.state.hold.phase path)
+            ∙ ap (λ (phase : HoldPhase). record { drawn = sub.state.drawn; hold = (reset_sent sub.state path).hold; sent = (came_of (sending_reset sub.state.hold phase path)).sent }) fit))
+            (λ m c. c);
+      })
+  choose-turns sub chosen.Clears fit = same-turns sub (with_cause sub.state cause.ClearDone) (cause-same sub.state cause.ClearDone)
+  choose-turns sub (chosen.Halts t path) fit =
+      if-turns (λ t. IsOfHold sub t.sub) (is_full sub.wires.down path) _ _ tt
+      (record {
+        setup = refl;
+        reaches = λ l tame k.
+            reached sub l (halt_sent sub.state) (Some (record { path = path; signal = down.Halt t })) sub.wires.up k
+            (acts keeps l sub.state.drawn sub.state.hold (Sends _) _ tt (record { drawn = k.drawn; hold = k.hold }) refl)
+            (λ m c. c);
+      })
+  choose-turns sub chosen.Ends fit = same-turns sub (with_cause sub.state cause.HaltDone) (cause-same sub.state cause.HaltDone)
+  choose-turns sub chosen.Over fit = same-turns sub (with_cause sub.state cause.NoPath) (cause-same sub.state cause.NoPath)
+  choose-turns sub (chosen.Offers c path) fit =
       if-turns (λ t. IsOfHold sub t.sub) (is_full sub.wires.down path) _ _ tt
       (record {
         setup = refl;
         reaches = λ l tame k.
             reached sub l _ (Some (record { path = path; signal = down.Select (sub.state.drawn + 1) })) sub.wires.up k
-            (acts keeps l sub.state.drawn sub.state.hold (Offers path program.single_path) _ tt (record { drawn = k.drawn; hold = k.hold })
-            (ap (λ (phase : HoldPhase). offered sub.state.drawn sub.state.hold phase path program.single_path) free))
+            (acts keeps l sub.state.drawn sub.state.hold (Offers path c.program.single_path) _ tt (record { drawn = k.drawn; hold = k.hold })
+            (ap (λ (phase : HoldPhase). offered sub.state.drawn sub.state.hold phase path c.program.single_path) fit))
             (λ m c. c);
       })
+
+  -- CLEAR
+  pub clear-turns : (sub : Subchannel) → IsOfHold sub (record sub { state = cleared sub.state })
+  clear-turns sub =
+      record {
+        setup = refl;
+        reaches = λ l tame k.
+            reached sub l (cleared sub.state) None sub.wires.up k
+            (acts keeps l sub.state.drawn sub.state.hold Is_reset _ tt (record { drawn = k.drawn; hold = k.hold }) refl) (λ m c. c);
+      }

@@ -5,9 +5,17 @@ mod RunSound
 mod RunSerials
 mod Growth
 mod Places
+mod SameHold
+mod Choices
 mod HoldEvents
 mod UnitPlain
 mod UnitNumbers
 mod UnitEvents
+mod Linked
 mod RunAgrees
 mod Prefixes
+mod Waits
+mod WaitsUp
+mod Pairs
+mod Tales
+mod TaleEvents

@@ -12,7 +12,6 @@ use Rattle.chan_model.specs.declared.reply.Reply.{Reply}
 use Rattle.chan_model.specs.declared.reply.ConditionCode.{ConditionCode}
 use Rattle.chan_model.specs.declared.reply.ConditionCode.TheVariants as code
 use Rattle.chan_model.specs.declared.signal.Down.{Down}
-use Rattle.chan_model.specs.declared.signal.OnPath.{OnPath}
 use Rattle.chan_model.specs.declared.signal.Up.{Up}
 use Rattle.chan_model.specs.declared.unit_state.UnitState.{UnitState}
 use Rattle.chan_model.specs.UnitTable as unit_table
@@ -20,26 +19,34 @@ use Rattle.chan_model.specs.UnitTable.{UnitStep, unit_takes, unit_after}
 use Rattle.chan_model.specs.UnitReports.{unit_reports}
 use Rattle.wires.specs.Queues.{queue}
 use Rattle.machine_model.specs.declared.state.Chosen.{Chosen}
-use Rattle.machine_model.specs.declared.state.Chosen.TheVariants.{Idle, Over, Offers}
+use Rattle.machine_model.specs.declared.state.Chosen.TheVariants as chosen_is
 use Rattle.machine_model.specs.declared.state.Pmcw.{Pmcw}
 use Rattle.machine_model.specs.declared.state.Program.{Program}
 use Rattle.machine_model.specs.declared.state.Subchannel.{Subchannel}
 use Rattle.machine_model.specs.declared.state.SubchannelState.{SubchannelState}
 use Rattle.machine_model.specs.State.{State}
-use Rattle.machine_model.specs.Instructions.{started, tested}
-use Rattle.machine_model.specs.Choosing.{chosen, offered, without_path}
+use Rattle.machine_model.specs.declared.cause.Cause.TheVariants as cause
+use Rattle.machine_model.specs.Causes.{with_cause}
+use Rattle.machine_model.specs.Choosing.{chosen, reset_sent, halt_sent, offered}
+use Rattle.machine_model.specs.Functions.{tested_wholly}
+use Rattle.machine_model.specs.Instructions.{started}
 use Rattle.machine_model.specs.Taking.{takes_up}
-use Rattle.machine_model.specs.Steps.{SubTurn, UpTurn, DownTurn, start_with, test_with, modify_with, choose_sub, is_full, finds_full, up_front, up_sub, down_front, down_sub, report_taken, Step}
-use Rattle.machine_laws.proofs.Walk.{IsWalk, step-walks}
+use Rattle.machine_model.specs.Steps.{SubTurn, UpTurn, DownTurn, start_with, test_with, modify_with, choose_sub, is_full, finds_full, up_front, up_sub, down_front, down_sub, report_taken, function_sub, Step}
+use Rattle.machine_laws.proofs.Walk.{Function, effect_of, IsWalk, step-walks}
 
 -- what each event leaves of the state of a subchannel
 pub record IsKept (R : SubchannelState → SubchannelState → Type 0) : Type 0 where
   pub same : (s : SubchannelState) → R s s
   pub starts : (s : SubchannelState) (orb : Orb) → R s (started s orb)
-  pub tests : (s : SubchannelState) → R s (tested s)
+  pub tests : (s : SubchannelState) → R s (tested_wholly s)
   pub modifies : (s : SubchannelState) (pmcw : Pmcw) → R s (record s { pmcw = pmcw })
+  pub functions : (s : SubchannelState) (f : Function) → R s (effect_of f s)
+  pub resets : (s : SubchannelState) (path : ℕ) → R s (reset_sent s path)
+  pub clears : (s : SubchannelState) → R s (with_cause s cause.ClearDone)
+  pub halts : (s : SubchannelState) → R s (halt_sent s)
+  pub ends : (s : SubchannelState) → R s (with_cause s cause.HaltDone)
+  pub over : (s : SubchannelState) → R s (with_cause s cause.NoPath)
   pub offers : (s : SubchannelState) (program : Program) (path : ℕ) → R s (offered s program path)
-  pub ends : (s : SubchannelState) → R s (without_path s)
   pub takes : (storage : Contents) (s : SubchannelState) (path : ℕ) (signal : Up) → R s (takes_up storage s path signal).step.state
 
 -- no event changes how a subchannel is set up
@@ -98,11 +105,23 @@ module _ (R : SubchannelState → SubchannelState → Type 0) (k : IsKept R) whe
   modify-kept sub given code.Two = unchanged sub
   modify-kept sub given code.Three = unchanged sub
 
+  function-kept : (sub : Subchannel) (f : Function) (c : ConditionCode) → Changed R sub (function_sub sub c (effect_of f sub.state)).sub
+  function-kept sub f code.Zero = record { setup = refl; state = k.functions sub.state f }
+  function-kept sub f code.One = unchanged sub
+  function-kept sub f code.Two = unchanged sub
+  function-kept sub f code.Three = unchanged sub
+
   choose-kept : (sub : Subchannel) (c : Chosen) → OkSub sub (choose_sub sub c)
-  choose-kept sub Idle = unchanged sub
-  choose-kept sub Over = record { setup = refl; state = k.ends sub.state }
-  choose-kept sub (Offers program path) =
-      if-ok (λ t. Changed R sub t.sub) (is_full sub.wires.down path) _ _ tt (record { setup = refl; state = k.offers sub.state program path })
+  choose-kept sub chosen_is.Idle = unchanged sub
+  choose-kept sub (chosen_is.Resets r path) =
+      if-ok (λ t. Changed R sub t.sub) (is_full sub.wires.down path) _ _ tt (record { setup = refl; state = k.resets sub.state path })
+  choose-kept sub chosen_is.Clears = record { setup = refl; state = k.clears sub.state }
+  choose-kept sub (chosen_is.Halts t path) =
+      if-ok (λ t. Changed R sub t.sub) (is_full sub.wires.down path) _ _ tt (record { setup = refl; state = k.halts sub.state })
+  choose-kept sub chosen_is.Ends = record { setup = refl; state = k.ends sub.state }
+  choose-kept sub chosen_is.Over = record { setup = refl; state = k.over sub.state }
+  choose-kept sub (chosen_is.Offers c path) =
+      if-ok (λ t. Changed R sub t.sub) (is_full sub.wires.down path) _ _ tt (record { setup = refl; state = k.offers sub.state c.program path })
 
   up_front-kept : (storage : Contents) (sub : Subchannel) (path : ℕ) (front : Option Up) → OkUp sub (up_front storage sub path front)
   up_front-kept storage sub path None = tt
@@ -138,17 +157,38 @@ module _ (R : SubchannelState → SubchannelState → Type 0) (k : IsKept R) whe
   set-moved : (s : State) (place : ℕ) (sub new : Subchannel) → slice_get s.subs place ≡ Some sub → Changed R sub new → AllZip (Changed R) s.subs (slice_set s.subs place new)
   set-moved s place sub new e c = zip-set (Changed R) unchanged s.subs place sub new e c
 
-  moves : (s : State) → IsWalk s (Moved R s)
+  moves : (s : State) → IsWalk s (λ e r. Moved R s)
   moves s = record {
-    stays = λ storage. record { sets = refl; subs = unmoved s };
-    starts = λ place sub orb c e. record { sets = refl; subs = set-moved s place sub _ e (start-kept sub orb c) };
-    tests = λ storage place sub c e. record { sets = refl; subs = set-moved s place sub _ e (test-kept sub c) };
-    modifies = λ storage place sub given c e. record { sets = refl; subs = set-moved s place sub _ e (modify-kept sub given c) };
-    chooses = λ place sub choice t e h. record { sets = refl; subs = set-moved s place sub t.sub e (subst (OkSub sub) h (choose-kept sub (chosen sub choice))) };
-    ups = λ place sub path t e h. record { sets = refl; subs = set-moved s place sub t.sub e (subst (OkUp sub) h (up-kept s.storage sub path)) };
-    downs = λ place sub u path t e f h. record { sets = refl; subs = set-moved s place sub t.sub e (subst (OkBoth sub) h (down-kept sub path u)) };
-    reports = λ place at sub u report t e f r h. record { sets = refl; subs = set-moved s at sub t.sub e (subst (OkBoth sub) h (report-kept sub (unit_reports u report))) };
+    stays = λ v r storage n. record { sets = refl; subs = unmoved s };
+    starts = λ cpu word address id place sub orb c n f e. record { sets = refl; subs = set-moved s place sub _ e (start-kept sub orb c) };
+    tests = λ v r storage place sub c n e. record { sets = refl; subs = set-moved s place sub _ e (test-kept sub c) };
+    modifies = λ v r storage place sub given c n e. record { sets = refl; subs = set-moved s place sub _ e (modify-kept sub given c) };
+    functions = λ v r place sub f c n e. record { sets = refl; subs = set-moved s place sub _ e (function-kept sub f c) };
+    chooses = λ word place sub choice t n e h. record { sets = refl; subs = set-moved s place sub t.sub e (subst (OkSub sub) h (choose-kept sub (chosen sub choice))) };
+    ups = λ v r place sub path t n e h. record { sets = refl; subs = set-moved s place sub t.sub e (subst (OkUp sub) h (up-kept s.storage sub path)) };
+    downs = λ word place sub u path t n e f h. record { sets = refl; subs = set-moved s place sub t.sub e (subst (OkBoth sub) h (down-kept sub path u)) };
+    reports = λ v q place at sub u report t n e f r h. record { sets = refl; subs = set-moved s at sub t.sub e (subst (OkBoth sub) h (report-kept sub (unit_reports u report))) };
   }
 
   pub step-moves : (s : State) (e : Event) (r : Reply) (new : State) → Step s e r new → Moved R s new
-  step-moves s e r new w = step-walks s (Moved R s) (moves s) e r new w
+  step-moves s e r new w = step-walks s (λ e r. Moved R s) (moves s) e r new w
+
+-- no step changes how many sets there are
+pub sets-stay : (s : State) (e : Event) (r : Reply) (new : State) → Step s e r new → new.sets ≡ s.sets
+sets-stay s e r new w =
+    (step-moves (λ s new. Unit {0})
+    (record {
+      same = λ s. tt;
+      starts = λ s orb. tt;
+      tests = λ s. tt;
+      modifies = λ s pmcw. tt;
+      functions = λ s f. tt;
+      resets = λ s path. tt;
+      clears = λ s. tt;
+      halts = λ s. tt;
+      ends = λ s. tt;
+      over = λ s. tt;
+      offers = λ s program path. tt;
+      takes = λ storage s path signal. tt;
+    })
+    s e r new w).sets

@@ -72,7 +72,7 @@ one-side First Second e = absurd (cc e)
 one-side Second First e = absurd (cc e)
 one-side Second Second e = refl
 
-both-true : (a b : Bool) → a ≡ true → b ≡ true → (a && b) ≡ true
+pub both-true : (a b : Bool) → a ≡ true → b ≡ true → (a && b) ≡ true
 both-true true b e f = f
 both-true false b e f = absurd (cc e)
 

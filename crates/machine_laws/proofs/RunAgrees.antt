@@ -1,25 +1,25 @@
--- After each run of a lawful set-up each unit has links that stand for its subchannels, and what holds of a unit and its
--- links holds of them.
-use Rattle.std.proofs.Common.{◌≡◌, ◌≢◌, refl, sym, ◌∙◌, ap, subst, ℕ, ◌==◌, zero, suc, Bool, true, false, Some, Result, List, [], inl, inr}
-use Rattle.std.specs.Prelude.{◌⊎◌, slice_get, slice_set, replicate, All, Contains, IfOk}
-use Rattle.std.proofs.lemmas.Bool.{eqb-true, eqb-false, and_parts}
-use Rattle.std.proofs.lemmas.List.Elements.{All-nil}
+-- After each run of a lawful set-up each unit has such links: each subchannel and its unit agree, and the starts of a
+-- subchannel that began a program rise.
+use Rattle.std.proofs.Common.{◌≡◌, refl, sym, ◌∙◌, ap, subst, ℕ, ◌<◌, ◌==◌, zero, suc, Bool, true, false, Option, None, Some, Result, List, [], ◌∷◌, ◌++◌, arith}
+use Rattle.std.specs.Prelude.{◌&&◌, if◌then◌else◌, slice_get, slice_set, AllPairs, IfOk}
+use Rattle.std.proofs.lemmas.Bool.{eqb-true, eq-eqb, and_parts}
+use Rattle.storage_keys.specs.Storage.{Contents}
 use Rattle.chan_model.specs.declared.fault.Fault.{Fault}
 use Rattle.chan_model.specs.declared.hold_state.HoldPhase.{HoldPhase}
 use Rattle.chan_model.specs.declared.hold_state.HoldState.{HoldState}
 use Rattle.chan_model.specs.declared.names.Side.{Side}
-use Rattle.chan_model.specs.declared.names.Side.TheVariants.{First, Second}
 use Rattle.chan_model.specs.declared.reply.ConditionCode.{ConditionCode}
 use Rattle.chan_model.specs.declared.reply.ConditionCode.TheVariants as code
 use Rattle.chan_model.specs.declared.reply.Entry.{Entry}
-use Rattle.chan_model.specs.declared.signal.OnPath.{OnPath}
+use Rattle.chan_model.specs.declared.reply.Reply.{Reply}
+use Rattle.chan_model.specs.declared.reply.Reply.TheVariants as reply
 use Rattle.chan_model.specs.declared.unit_state.UnitState.{UnitState}
 use Rattle.chan_model.specs.Sides.{same_side}
+use Rattle.channel_config.specs.declared.names.SubchannelId.{SubchannelId}
 use Rattle.channel_config.specs.declared.parts.SubchannelSetup.{SubchannelSetup}
-use Rattle.channel_config.specs.declared.parts.UnitKind.{UnitKind}
 use Rattle.channel_config.specs.Lawful.{IsLawful}
-use Rattle.channel_config.specs.Setup.{Setup}
-use Rattle.wires.specs.Queues.{queue}
+use Rattle.channel_config.specs.Setup.{Setup, set_count}
+use Rattle.channel_config.specs.SubchannelWords.{subchannel_named}
 use Rattle.orb_block.specs.declared.Orb.{Orb}
 use Rattle.schib_block.specs.declared.pmcw.Pmcw as block
 use Rattle.agreement_laws.specs.Links.{Links, link_of, opening}
@@ -27,131 +27,25 @@ use Rattle.agreement_laws.specs.Invariant.{IsGood}
 use Rattle.agreement_laws.specs.Claims.{IsSound}
 use Rattle.machine_model.specs.declared.state.Subchannel.{Subchannel}
 use Rattle.machine_model.specs.Choosing.{chosen}
-use Rattle.machine_model.specs.Instructions.{started, tested}
-use Rattle.machine_model.specs.State.{State, opening_of, opened, idle_of}
+use Rattle.machine_model.specs.Functions.{resumed, halted, cancelled, tested_wholly}
+use Rattle.machine_model.specs.Instructions.{started}
+use Rattle.machine_model.specs.State.{State, opening_of, is_named, one_later, place_in, place_of_id, with_sub, with_unit}
 use Rattle.machine_model.specs.SubchannelBlocks.{modified_state}
-use Rattle.machine_model.specs.Steps.{SubTurn, UpTurn, DownTurn, start_with, test_with, modify_with, Run, Opened, Stepped}
+use Rattle.machine_model.specs.Steps.{SubTurn, UpTurn, DownTurn, start_with, test_with, modify_with, function_sub, Run, Opened, Stepped}
 use Rattle.machine_laws.specs.Agreeing.{IsAgreed, AllAgree}
-use Rattle.machine_laws.proofs.Walk.{IsWalk, step-walks}
-use Rattle.machine_laws.proofs.Places.{set-get, map-get, one-place}
-use Rattle.machine_laws.proofs.Growth.{Covers, IsLink, link-wider, Keeps}
-use Rattle.machine_laws.proofs.HoldEvents.{IsOfHold, up-turns, kept-turns, choose-turns, chosen-free}
-use Rattle.machine_laws.proofs.UnitEvents.{Follows, IsKept, hold-kept, down-kept, report-kept}
-
--- the links of the unit at a place, which never restarted
-pub record IsLinked (subs : List Subchannel) (at : ℕ) (u : UnitState) : Type 0 where
-  pub links : Links
-  pub good : IsGood links
-  pub «unit» : links.«unit» ≡ u
-  pub restarts : u.restarts ≡ 0
-  pub stand : (place : ℕ) (sub : Subchannel) → slice_get subs place ≡ Some sub → sub.setup.«unit» ≡ at → IsLink sub (link_of links sub.setup.side)
-
-abbrev pub AreApart : List Subchannel → Type 0
-AreApart subs = (i j : ℕ) (x y : Subchannel) → slice_get subs i ≡ Some x → slice_get subs j ≡ Some y → x.setup.«unit» ≡ y.setup.«unit» → same_side x.setup.side y.setup.side ≡ true → i ≡ j
-
-pub record AreLinked (subs : List Subchannel) (units : List UnitState) : Type 0 where
-  pub apart : AreApart subs
-  pub linked : (at : ℕ) (u : UnitState) → slice_get units at ≡ Some u → IsLinked subs at u
-
--- one subchannel was changed, but not how it is set up
-before : (subs : List Subchannel) (place : ℕ) (sub new : Subchannel) (i : ℕ) (x : Subchannel) → slice_get subs place ≡ Some sub → new.setup ≡ sub.setup →
-    slice_get (slice_set subs place new) i ≡ Some x → (y : Subchannel) × (slice_get subs i ≡ Some y) × (x.setup ≡ y.setup)
-before subs place sub new i x at s e =
-    elim (set-get subs place new i x e) [
-      | inl p ↦ (sub, subst (λ (k : ℕ). slice_get subs k ≡ Some sub) (sym p.0) at, ap (λ (y : Subchannel). y.setup) p.1 ∙ s)
-      | inr p ↦ (x, p.1, refl)
-    ]
-
-apart-kept : (subs : List Subchannel) (place : ℕ) (sub new : Subchannel) → slice_get subs place ≡ Some sub → new.setup ≡ sub.setup → AreApart subs → AreApart (slice_set subs place new)
-apart-kept subs place sub new at s apart i j x y e f u side =
-    let a : (z : Subchannel) × (slice_get subs i ≡ Some z) × (x.setup ≡ z.setup) = before subs place sub new i x at s e in
-    let b : (z : Subchannel) × (slice_get subs j ≡ Some z) × (y.setup ≡ z.setup) = before subs place sub new j y at s f in
-    apart i j a.0 b.0 a.1 b.1
-    (ap (λ (z : SubchannelSetup). z.«unit») (sym a.2) ∙ (u ∙ ap (λ (z : SubchannelSetup). z.«unit») b.2))
-    (ap (λ (z : SubchannelSetup). same_side z.side b.0.setup.side) (sym a.2) ∙ (ap (λ (z : SubchannelSetup). same_side x.setup.side z.side) (sym b.2) ∙ side))
-
--- a unit of other subchannels
-other-linked : (subs : List Subchannel) (place : ℕ) (sub new : Subchannel) (at : ℕ) (u : UnitState) → slice_get subs place ≡ Some sub → new.setup ≡ sub.setup →
-    at ≢ sub.setup.«unit» → IsLinked subs at u → IsLinked (slice_set subs place new) at u
-other-linked subs place sub new at u there s n l =
-    record {
-      links = l.links;
-      good = l.good;
-      «unit» = l.«unit»;
-      restarts = l.restarts;
-      stand = λ i x e h.
-          elim (set-get subs place new i x e) [
-            | inl p ↦ absurd (n (sym h ∙ (ap (λ (y : Subchannel). y.setup.«unit») p.1 ∙ ap (λ (z : SubchannelSetup). z.«unit») s)))
-            | inr p ↦ l.stand i x p.1 h
-          ];
-    }
-
--- the unit of this one
-not-true : (b : Bool) → (b ≡ true → ⊥) → b ≡ false
-not-true true n = absurd (n refl)
-not-true false n = refl
-
-here-linked : (subs : List Subchannel) (place : ℕ) (sub new : Subchannel) (at : ℕ) (u v : UnitState) → slice_get subs place ≡ Some sub → AreApart subs →
-    at ≡ sub.setup.«unit» → IsKept sub new u v → IsLinked subs at u → IsLinked (slice_set subs place new) at v
-here-linked subs place sub new at u v there apart e k l =
-    let f : Follows l.links sub.setup.side new v = k.follows l.links l.good l.«unit» l.restarts (l.stand place sub there (sym e)) in
-    record {
-      links = f.links;
-      good = f.good;
-      «unit» = f.«unit»;
-      restarts = k.restarts l.restarts;
-      stand = λ i x h g.
-          elim (set-get subs place new i x h) [
-            | inl p ↦ subst (λ (y : Subchannel). IsLink y (link_of f.links y.setup.side)) (sym p.1)
-                (subst (λ (z : SubchannelSetup). IsLink new (link_of f.links z.side)) (sym k.setup) f.here)
-            | inr p ↦ link-wider x (link_of l.links x.setup.side) (link_of f.links x.setup.side)
-                (f.there x.setup.side (not-true (same_side sub.setup.side x.setup.side) (λ q. p.0 (sym (apart place i sub x there p.1 (sym e ∙ sym g) q)))))
-                (l.stand i x p.1 g)
-          ];
-    }
-
--- the units, of which that of this subchannel was changed, or none
-abbrev AreAfter : List UnitState → List UnitState → Subchannel → Subchannel → Type 0
-AreAfter old units sub new = (at : ℕ) (v : UnitState) → slice_get units at ≡ Some v →
-    (u : UnitState) × (slice_get old at ≡ Some u) × (((at ≢ sub.setup.«unit») × (v ≡ u)) ⊎ ((at ≡ sub.setup.«unit») × IsKept sub new u v))
-
-same-or-not : (a b : ℕ) (same : Bool) → (a == b) ≡ same → (a ≡ b) ⊎ (a ≢ b)
-same-or-not a b true e = inl (eqb-true a b e)
-same-or-not a b false e = inr (eqb-false a b e)
-
-same-after : (units : List UnitState) (sub new : Subchannel) → ((u : UnitState) → IsKept sub new u u) → AreAfter units units sub new
-same-after units sub new k at v e = (
-  v,
-  e,
-  elim (same-or-not at sub.setup.«unit» (at == sub.setup.«unit») refl) [
-    | inl h ↦ inr (h, k v)
-    | inr n ↦ inl (n, refl)
-  ],
-)
-
-set-after : (units : List UnitState) (sub new : Subchannel) (place : ℕ) (u v : UnitState) → slice_get units place ≡ Some u → place ≡ sub.setup.«unit» → IsKept sub new u v →
-    AreAfter units (slice_set units place v) sub new
-set-after units sub new place u v there e k at w h =
-    elim (set-get units place v at w h) [
-      | inl p ↦ (u, subst (λ (i : ℕ). slice_get units i ≡ Some u) (sym p.0) there, inr (p.0 ∙ e, subst (λ (y : UnitState). IsKept sub new u y) (sym p.1) k))
-      | inr p ↦ (w, p.1, inl (λ q. p.0 (q ∙ sym e), refl))
-    ]
-
-all-linked : (subs : List Subchannel) (units after : List UnitState) (place : ℕ) (sub new : Subchannel) → slice_get subs place ≡ Some sub → new.setup ≡ sub.setup →
-    AreAfter units after sub new → AreLinked subs units → AreLinked (slice_set subs place new) after
-all-linked subs units after place sub new there s a l =
-    record {
-      apart = apart-kept subs place sub new there s l.apart;
-      linked = λ at v e.
-          let b : (u : UnitState) × (slice_get units at ≡ Some u) × (((at ≢ sub.setup.«unit») × (v ≡ u)) ⊎ ((at ≡ sub.setup.«unit») × IsKept sub new u v)) = a at v e in
-          elim b.2 [
-            | inl p ↦ subst (λ (u : UnitState). IsLinked (slice_set subs place new) at u) (sym p.1) (other-linked subs place sub new at b.0 there s p.0 (l.linked at b.0 b.1))
-            | inr p ↦ here-linked subs place sub new at b.0 v there l.apart p.0 p.1 (l.linked at b.0 b.1)
-          ];
-    }
-
-abbrev pub IsStateLinked : State → Type 0
-IsStateLinked s = AreLinked s.subs s.units
+use Rattle.machine_laws.specs.Beginnings.{Starts, no_starts, with_start, with_offer, with_taken, starts_after, starts_by, starts, IsBegunOnce}
+use Rattle.machine_laws.specs.Claims.{is_same_id, is_id}
+use Rattle.machine_laws.proofs.Walk.{Function, Resumes, Halts, Clears, Cancels, effect_of, IsWalk, first-passes, step-walks}
+use Rattle.machine_laws.proofs.Moves.{sets-stay}
+use Rattle.machine_laws.proofs.Places.{both-true}
+use Rattle.machine_laws.proofs.Growth.{AreLaws}
+use Rattle.machine_laws.proofs.Choices.{chosen-fit, chosen-of}
+use Rattle.machine_laws.proofs.HoldEvents.{IsOfHold, up-turns, kept-turns, same-turns, choose-turns, clear-turns}
+use Rattle.machine_laws.proofs.RunSerials.{same-id}
+use Rattle.machine_laws.proofs.SameHold.{tested-same, halted-same}
+use Rattle.machine_laws.proofs.TaleEvents.{Tells, start-tells, test-tells, modify-tells, function-tells, choose-tells, up_sub-tells}
+use Rattle.machine_laws.proofs.UnitEvents.{Follows, IsKept, down-kept, report-kept}
+use Rattle.machine_laws.proofs.Linked.{IsLinked, IsAbout, AreLinked, hold-linked, unit-linked, opens-linked}
 
 -- the instructions leave the hold
 same-hold : (sub : Subchannel) → IsOfHold sub sub
@@ -164,7 +58,7 @@ start-hold sub orb code.Two = same-hold sub
 start-hold sub orb code.Three = same-hold sub
 
 test-hold : (sub : Subchannel) (c : ConditionCode) → IsOfHold sub (test_with sub c).sub
-test-hold sub code.Zero = kept-turns sub (tested sub.state) refl refl
+test-hold sub code.Zero = same-turns sub (tested_wholly sub.state) (tested-same sub.state)
 test-hold sub code.One = same-hold sub
 test-hold sub code.Two = same-hold sub
 test-hold sub code.Three = same-hold sub
@@ -175,75 +69,191 @@ modify-hold sub given code.One = same-hold sub
 modify-hold sub given code.Two = same-hold sub
 modify-hold sub given code.Three = same-hold sub
 
-hold-linked : (s : State) (place : ℕ) (sub new : Subchannel) → slice_get s.subs place ≡ Some sub → IsOfHold sub new → IsStateLinked s → AreLinked (slice_set s.subs place new) s.units
-hold-linked s place sub new there h l =
-    all-linked s.subs s.units s.units place sub new there h.setup (same-after s.units sub new (λ u. hold-kept sub new u h)) l
+-- the places of subchannels stay
+place-set : (id : SubchannelId) (subs : List Subchannel) (place : ℕ) (sub new : Subchannel) → slice_get subs place ≡ Some sub → new.setup ≡ sub.setup →
+    place_in id (slice_set subs place new) ≡ place_in id subs
+place-set id [] place sub new e s = absurd (cc e)
+place-set id (x ∷ xs) zero sub new e s =
+    let same : x ≡ sub = cc e in
+    ap (λ (setup : SubchannelSetup). if (setup.id.set == id.set) && (setup.id.number == id.number) then Some 0 else one_later (place_in id xs))
+    (s ∙ ap (λ (y : Subchannel). y.setup) (sym same))
+place-set id (x ∷ xs) (suc place) sub new e s = ap (λ (p : Option ℕ). if is_named id x then Some 0 else one_later p) (place-set id xs place sub new e s)
 
-unit-linked : (s : State) (place at : ℕ) (sub new : Subchannel) (u v : UnitState) → slice_get s.subs place ≡ Some sub → slice_get s.units at ≡ Some u → at ≡ sub.setup.«unit» →
-    IsKept sub new u v → IsStateLinked s → AreLinked (slice_set s.subs place new) (slice_set s.units at v)
-unit-linked s place at sub new u v there found e k l =
-    all-linked s.subs s.units (slice_set s.units at v) place sub new there k.setup (set-after s.units sub new at u v found e k) l
+-- a state after entries that tell this of the subchannel of an id
+pub record IsStateTold (id : SubchannelId) (k : Starts) (s : State) : Type 0 where
+  pub linked : AreLinked s.subs s.units (place_in id s.subs) k
+  pub rises : AllPairs (λ x y. x < y) k.begun
 
--- at the opening no signal waits
-no-signal : {A : Type 0} (n p : ℕ) → queue {A = A} (replicate n []) p ≡ []
-no-signal zero p = refl
-no-signal (suc n) zero = refl
-no-signal (suc n) (suc p) = no-signal n p
+-- an event that tells nothing, and one of the subchannel that a word names
+silent-about : (which : Option ℕ) (place : ℕ) (k next : Starts) → next ≡ k → IsAbout which place k k next
+silent-about which place k next e = record { here = λ h. sym e; there = λ h. sym e }
 
-covers-none : {A : Type 0} (l : List (OnPath A)) (n : ℕ) → Covers l (replicate n [])
-covers-none {A} l n p = let P : A → Type 0 = λ x. Contains l (record { path = p; signal = x }) in subst (λ (xs : List A). All P xs) (sym (no-signal n p)) (All-nil P)
+not-both : (id named : SubchannelId) (sub : Subchannel) → is_named id sub ≡ true → is_named named sub ≡ true → is_same_id named id ≡ true
+not-both id named sub e f =
+    let a : ((sub.setup.id.set == id.set) ≡ true) × ((sub.setup.id.number == id.number) ≡ true) = and_parts (sub.setup.id.set == id.set) (sub.setup.id.number == id.number) e in
+    let b : ((sub.setup.id.set == named.set) ≡ true) × ((sub.setup.id.number == named.number) ≡ true) = and_parts (sub.setup.id.set == named.set) (sub.setup.id.number == named.number) f in
+    both-true (named.set == id.set) (named.number == id.number)
+    (eq-eqb named.set id.set (sym (eqb-true sub.setup.id.set named.set b.0) ∙ eqb-true sub.setup.id.set id.set a.0))
+    (eq-eqb named.number id.number (sym (eqb-true sub.setup.id.number named.number b.1) ∙ eqb-true sub.setup.id.number id.number a.1))
 
-opened-link : (setup : SubchannelSetup) (side : Side) → IsLink (opened setup) (link_of opening side)
-opened-link setup First = record { drawn = refl; hold = refl; downs = covers-none [] 8; ups = covers-none [] 8 }
-opened-link setup Second = record { drawn = refl; hold = refl; downs = covers-none [] 8; ups = covers-none [] 8 }
-
-opens-linked : (setup : Setup) → IsLawful setup → IsGood opening → IsStateLinked (opening_of setup)
-opens-linked setup lawful good =
+id-about : (subs : List Subchannel) (id named : SubchannelId) (place : ℕ) (sub : Subchannel) (same : Bool) (k mine : Starts) → is_same_id named id ≡ same → place_in named subs ≡ Some place →
+    slice_get subs place ≡ Some sub → IsAbout (place_in id subs) place k mine (if same then mine else k)
+id-about subs id named place sub true k mine e at there =
+    record { here = λ h. refl; there = λ n. absurd (n (subst (λ (x : SubchannelId). place_in x subs ≡ Some place) (same-id named id e) at)) }
+id-about subs id named place sub false k mine e at there =
     record {
-      apart = λ i j x y e f u side.
-          let a : (s : SubchannelSetup) × (slice_get setup.subchannels i ≡ Some s) × (opened s ≡ x) = map-get opened setup.subchannels i x e in
-          let b : (s : SubchannelSetup) × (slice_get setup.subchannels j ≡ Some s) × (opened s ≡ y) = map-get opened setup.subchannels j y f in
-          one-place setup.subchannels i j a.0 b.0 lawful.shared a.1 b.1
-          (ap (λ (z : Subchannel). z.setup.«unit») a.2 ∙ (u ∙ ap (λ (z : Subchannel). z.setup.«unit») (sym b.2)))
-          (ap (λ (z : Subchannel). same_side z.setup.side b.0.side) a.2 ∙ (ap (λ (z : Subchannel). same_side x.setup.side z.setup.side) b.2 ∙ side));
-      linked = λ at u e.
-          let a : (kind : UnitKind) × (slice_get setup.units at ≡ Some kind) × (idle_of kind ≡ u) = map-get idle_of setup.units at u e in
-          record {
-            links = opening;
-            good = good;
-            «unit» = a.2;
-            restarts = ap (λ (v : UnitState). v.restarts) (sym a.2);
-            stand = λ place sub h g.
-                let b : (s : SubchannelSetup) × (slice_get setup.subchannels place ≡ Some s) × (opened s ≡ sub) = map-get opened setup.subchannels place sub h in
-                subst (λ (y : Subchannel). IsLink y (link_of opening y.setup.side)) b.2 (opened-link b.0 b.0.side);
-          };
+      here = λ h. let both : is_same_id named id ≡ true = not-both id named sub (first-passes (is_named id) subs place sub h there) (first-passes (is_named named) subs place sub at there) in
+          absurd (cc (sym both ∙ e));
+      there = λ n. refl;
     }
 
-module _ (keeps : Keeps) where
-  links-walk : (s : State) → IsStateLinked s → IsWalk s IsStateLinked
-  links-walk s l = record {
-    stays = λ storage. l;
-    starts = λ place sub orb c e. hold-linked s place sub _ e (start-hold sub orb c) l;
-    tests = λ storage place sub c e. hold-linked s place sub _ e (test-hold sub c) l;
-    modifies = λ storage place sub given c e. hold-linked s place sub _ e (modify-hold sub given c) l;
-    chooses = λ place sub choice t e h.
-        hold-linked s place sub t.sub e
-        (subst (λ (r : Result SubTurn Fault). IfOk r (λ t. IsOfHold sub t.sub)) h (choose-turns keeps sub (chosen sub choice) (chosen-free sub.state.hold.phase sub.state.waiting _ choice))) l;
-    ups = λ place sub path t e h.
-        hold-linked s place sub t.sub e (subst (λ (r : Result UpTurn Fault). IfOk r (λ t. IsOfHold sub t.sub)) h (up-turns keeps s.storage sub path)) l;
-    downs = λ place sub u path t e f h.
-        unit-linked s place sub.setup.«unit» sub t.sub u t.«unit» e f refl
-        (subst (λ (r : Result DownTurn Fault). IfOk r (λ t. IsKept sub t.sub u t.«unit»)) h (down-kept keeps sub path u)) l;
-    reports = λ place at sub u report t e f reached h.
+named-about : (subs : List Subchannel) (id : SubchannelId) (x : Option SubchannelId) (place : ℕ) (sub : Subchannel) (k mine : Starts) → place_of_id subs x ≡ Some place →
+    slice_get subs place ≡ Some sub → IsAbout (place_in id subs) place k mine (if is_id x id then mine else k)
+named-about subs id None place sub k mine at there = absurd (cc at)
+named-about subs id (Some named) place sub k mine at there = id-about subs id named place sub (is_same_id named id) k mine refl at there
+
+-- what rises stays so where nothing begins
+if-rises : (b : Bool) (k mine : Starts) → mine.begun ≡ k.begun → (if b then mine else k).begun ≡ k.begun
+if-rises true k mine e = e
+if-rises false k mine e = refl
+
+rises-same : (k next : Starts) → next.begun ≡ k.begun → AllPairs (λ x y. x < y) k.begun → AllPairs (λ x y. x < y) next.begun
+rises-same k next e r = subst (λ (xs : List ℕ). AllPairs (λ x y. x < y) xs) (sym e) r
+
+start-begun : (sub : Subchannel) (orb : Orb) (c : ConditionCode) (k : Starts) → (with_start (start_with sub orb c).reply k).begun ≡ k.begun
+start-begun sub orb code.Zero k = refl
+start-begun sub orb code.One k = refl
+start-begun sub orb code.Two k = refl
+start-begun sub orb code.Three k = refl
+
+offer-begun : (r : Reply) (k : Starts) → (with_offer r k).begun ≡ k.begun
+offer-begun reply.Done k = refl
+offer-begun (reply.Shown bytes) k = refl
+offer-begun (reply.Code a) k = refl
+offer-begun (reply.Status a scsw) k = refl
+offer-begun (reply.Offered t p true) k = refl
+offer-begun (reply.Offered t p false) k = refl
+offer-begun (reply.ResetSent r p) k = refl
+offer-begun (reply.HaltSent t p) k = refl
+offer-begun reply.Pending k = refl
+offer-begun reply.Idle k = refl
+offer-begun (reply.Up x taken one) k = refl
+offer-begun (reply.Down x taken one) k = refl
+
+-- an event that begins a program is one of that subchannel
+down-rises : (b : Bool) (k mine : Starts) → (b ≡ true → AllPairs (λ x y. x < y) mine.begun) → AllPairs (λ x y. x < y) k.begun → AllPairs (λ x y. x < y) (if b then mine else k).begun
+down-rises true k mine f r = f refl
+down-rises false k mine f r = r
+
+named-place : (subs : List Subchannel) (id : SubchannelId) (x : Option SubchannelId) (place : ℕ) → place_of_id subs x ≡ Some place → is_id x id ≡ true → place_in id subs ≡ Some place
+named-place subs id None place at e = absurd (cc e)
+named-place subs id (Some named) place at e = subst (λ (x : SubchannelId). place_in x subs ≡ Some place) (same-id named id e) at
+
+-- an entry more
+starts-more : (sets : ℕ) (id : SubchannelId) (k : Starts) (h : List Entry) (x : Entry) → starts_by sets id k (h ++ x ∷ []) ≡ starts_after sets id x.event x.reply (starts_by sets id k h)
+starts-more sets id k [] x = refl
+starts-more sets id k (y ∷ h) x = starts-more sets id (starts_after sets id y.event y.reply k) h x
+
+module _ (laws : AreLaws) where
+  -- CLEAR alone changes the hold
+  effect-hold : (sub : Subchannel) (f : Function) → IsOfHold sub (record sub { state = effect_of f sub.state })
+  effect-hold sub Resumes = kept-turns sub (resumed sub.state) refl refl
+  effect-hold sub Halts = same-turns sub (halted sub.state) (halted-same sub.state)
+  effect-hold sub Clears = clear-turns laws.keeps sub
+  effect-hold sub Cancels = kept-turns sub (cancelled sub.state) refl refl
+
+  function-hold : (sub : Subchannel) (f : Function) (c : ConditionCode) → IsOfHold sub (function_sub sub c (effect_of f sub.state)).sub
+  function-hold sub f code.Zero = effect-hold sub f
+  function-hold sub f code.One = same-hold sub
+  function-hold sub f code.Two = same-hold sub
+  function-hold sub f code.Three = same-hold sub
+
+  -- an event at the subchannel of a place
+  told-at : (id : SubchannelId) (s : State) (storage : Contents) (place : ℕ) (sub new : Subchannel) (k mine next : Starts) → slice_get s.subs place ≡ Some sub → IsOfHold sub new →
+      Tells sub new.state k mine → IsAbout (place_in id s.subs) place k mine next → next.begun ≡ k.begun → IsStateTold id k s →
+      IsStateTold id next (with_sub (record s { storage = storage }) place new)
+  told-at id s storage place sub new k mine next there h f about same l =
+      record {
+        linked = subst (λ (which : Option ℕ). AreLinked (slice_set s.subs place new) s.units which next) (sym (place-set id s.subs place sub new there h.setup))
+            (hold-linked laws s place sub new (place_in id s.subs) k mine next there h f about l.linked);
+        rises = rises-same k next same l.rises;
+      }
+
+  told-unit : (id : SubchannelId) (s : State) (place at : ℕ) (sub new : Subchannel) (u v : UnitState) (k mine next : Starts) → slice_get s.subs place ≡ Some sub →
+      slice_get s.units at ≡ Some u → at ≡ sub.setup.«unit» → IsKept sub new u v k mine → IsAbout (place_in id s.subs) place k mine next →
+      AllPairs (λ x y. x < y) next.begun → IsStateTold id k s → IsStateTold id next (with_unit (with_sub s place new) at v)
+  told-unit id s place at sub new u v k mine next there found e f about r l =
+      record {
+        linked = subst (λ (which : Option ℕ). AreLinked (slice_set s.subs place new) (slice_set s.units at v) which next) (sym (place-set id s.subs place sub new there f.setup))
+            (unit-linked s place at sub new u v (place_in id s.subs) k mine next there found e f about l.linked);
+        rises = r;
+      }
+
+  -- what began rises, where the unit of the subchannel took a signal
+  unit-rises : (id : SubchannelId) (s : State) (place at : ℕ) (sub new : Subchannel) (u v : UnitState) (k mine : Starts) → slice_get s.subs place ≡ Some sub →
+      slice_get s.units at ≡ Some u → at ≡ sub.setup.«unit» → IsKept sub new u v k mine → place_in id s.subs ≡ Some place → IsStateTold id k s → AllPairs (λ x y. x < y) mine.begun
+  unit-rises id s place at sub new u v k mine there found e f which l =
+      let x : IsLinked s.subs at u (place_in id s.subs) k = l.linked.linked at u found in
+      let g : Follows x.links sub.setup.side sub new v k mine = f.follows x.links x.good x.«unit» x.restarts (x.stand place sub there (sym e)) in
+      (g.told (x.told place sub there (sym e) which)).rises
+
+  links-walk : (id : SubchannelId) (k : Starts) (s : State) → IsStateTold id k s → IsWalk s (λ e r. IsStateTold id (starts_after s.sets id e r k))
+  links-walk id k s l = record {
+    stays = λ v r storage n.
+        subst (λ (next : Starts). IsStateTold id next (record s { storage = storage })) (sym (n s.sets id k)) (record { linked = l.linked; rises = l.rises });
+    starts = λ cpu word address named place sub orb c n f e.
+        told-at id s s.storage place sub (start_with sub orb c).sub k (with_start (start_with sub orb c).reply k) _ e (start-hold sub orb c) (start-tells sub orb c k)
+        (named-about s.subs id (subchannel_named s.sets word) place sub k (with_start (start_with sub orb c).reply k) (ap (place_of_id s.subs) n ∙ f) e)
+        (if-rises (is_id (subchannel_named s.sets word) id) k (with_start (start_with sub orb c).reply k) (start-begun sub orb c k)) l;
+    tests = λ v r storage place sub c n e.
+        told-at id s storage place sub _ k k _ e (test-hold sub c) (test-tells sub c k) (silent-about _ place k _ (n s.sets id k))
+        (ap (λ (x : Starts). x.begun) (n s.sets id k)) l;
+    modifies = λ v r storage place sub given c n e.
+        told-at id s storage place sub _ k k _ e (modify-hold sub given c) (modify-tells sub given c k) (silent-about _ place k _ (n s.sets id k))
+        (ap (λ (x : Starts). x.begun) (n s.sets id k)) l;
+    functions = λ v r place sub f c n e.
+        told-at id s s.storage place sub _ k k _ e (function-hold sub f c) (function-tells sub f c k) (silent-about _ place k _ (n s.sets id k))
+        (ap (λ (x : Starts). x.begun) (n s.sets id k)) l;
+    chooses = λ word place sub choice t n e h.
+        told-at id s s.storage place sub t.sub k (with_offer t.reply k) _ e
+        (subst (λ (r : Result SubTurn Fault). IfOk r (λ t. IsOfHold sub t.sub)) h (choose-turns laws.keeps sub (chosen sub choice) (chosen-fit sub choice)))
+        (subst (λ (r : Result SubTurn Fault). IfOk r (λ t. Tells sub t.sub.state k (with_offer t.reply k))) h (choose-tells sub (chosen sub choice) k (chosen-fit sub choice) (chosen-of sub choice)))
+        (named-about s.subs id (subchannel_named s.sets word) place sub k (with_offer t.reply k) n e)
+        (if-rises (is_id (subchannel_named s.sets word) id) k (with_offer t.reply k) (offer-begun t.reply k)) l;
+    ups = λ v r place sub path t n e h.
+        told-at id s t.storage place sub t.sub k k _ e
+        (subst (λ (r : Result UpTurn Fault). IfOk r (λ t. IsOfHold sub t.sub)) h (up-turns laws.keeps s.storage sub path))
+        (subst (λ (r : Result UpTurn Fault). IfOk r (λ t. Tells sub t.sub.state k k)) h (up_sub-tells s.storage sub path k))
+        (silent-about _ place k _ (n s.sets id k)) (ap (λ (x : Starts). x.begun) (n s.sets id k)) l;
+    downs = λ word place sub u path t n e f h.
+        let kept : IsKept sub t.sub u t.«unit» k (with_taken t.reply k) =
+        subst (λ (r : Result DownTurn Fault). IfOk r (λ t. IsKept sub t.sub u t.«unit» k (with_taken t.reply k))) h (down-kept laws sub path u k) in
+        told-unit id s place sub.setup.«unit» sub t.sub u t.«unit» k (with_taken t.reply k) _ e f refl kept
+        (named-about s.subs id (subchannel_named s.sets word) place sub k (with_taken t.reply k) n e)
+        (down-rises (is_id (subchannel_named s.sets word) id) k (with_taken t.reply k)
+        (λ b. unit-rises id s place sub.setup.«unit» sub t.sub u t.«unit» k (with_taken t.reply k) e f refl kept (named-place s.subs id (subchannel_named s.sets word) place n b) l)
+        l.rises)
+        l;
+    reports = λ v r place at sub u report t n e f reached h.
         let both : ((sub.setup.«unit» == place) ≡ true) × (same_side sub.setup.side report.side ≡ true) = and_parts (sub.setup.«unit» == place) (same_side sub.setup.side report.side) reached in
-        unit-linked s at place sub t.sub u t.«unit» e f (sym (eqb-true sub.setup.«unit» place both.0))
-        (subst (λ (r : Result DownTurn Fault). IfOk r (λ t. IsKept sub t.sub u t.«unit»)) h (report-kept keeps sub u report both.1)) l;
+        told-unit id s at place sub t.sub u t.«unit» k k _ e f (sym (eqb-true sub.setup.«unit» place both.0))
+        (subst (λ (r : Result DownTurn Fault). IfOk r (λ t. IsKept sub t.sub u t.«unit» k k)) h (report-kept laws sub u report k both.1))
+        (silent-about _ at k _ (n s.sets id k)) (rises-same k (starts_after s.sets id v r k) (ap (λ (x : Starts). x.begun) (n s.sets id k)) l.rises) l;
   }
 
-  run-linked : (setup : Setup) (h : List Entry) (s : State) → IsLawful setup → IsGood opening → Run (opening_of setup) h s → IsStateLinked s
-  run-linked setup _ _ lawful good Opened = opens-linked setup lawful good
-  run-linked setup _ _ lawful good (Stepped h old e r new run step) =
-      step-walks old IsStateLinked (links-walk old (run-linked setup h old lawful good run)) e r new step
+  run-told : (setup : Setup) (id : SubchannelId) (h : List Entry) (s : State) → IsLawful setup → IsGood opening → Run (opening_of setup) h s →
+      (s.sets ≡ set_count setup) × IsStateTold id (starts (set_count setup) id h) s
+  run-told setup id _ _ lawful good Opened =
+      (refl, record { linked = opens-linked setup (place_in id (opening_of setup).subs) lawful good; rises = λ i j d less within. absurd (omega (arith, within)) })
+  run-told setup id _ _ lawful good (Stepped h old e r new run step) =
+      let told : (old.sets ≡ set_count setup) × IsStateTold id (starts (set_count setup) id h) old = run-told setup id h old lawful good run in
+      let next : (new.sets ≡ old.sets) × IsStateTold id (starts_after old.sets id e r (starts (set_count setup) id h)) new =
+      (sets-stay old e r new step, step-walks old _ (links-walk id (starts (set_count setup) id h) old told.1) e r new step) in (
+        next.0 ∙ told.0,
+        subst (λ (k : Starts). IsStateTold id k new)
+            (ap (λ (sets : ℕ). starts_after sets id e r (starts (set_count setup) id h)) told.0 ∙ sym (starts-more (set_count setup) id no_starts h (record { event = e; reply = r })))
+            next.1,
+      )
 
 -- what it means
 sound-agreed : (phase : HoldPhase) (u : UnitState) (w : Links) (side : Side) → (link_of w side).hold.phase ≡ phase → w.«unit» ≡ u → IsSound w side → IsAgreed phase u side
@@ -251,11 +261,16 @@ sound-agreed phase u w side e f k =
     subst (λ (v : UnitState). IsAgreed phase v side) f
     (subst (λ (x : HoldPhase). IsAgreed x w.«unit» side) e (record { agree = k.agree; one_path = k.one_path }))
 
-linked-agree : ((w : Links) (side : Side) → IsGood w → IsSound w side) → (s : State) → IsStateLinked s → AllAgree s
-linked-agree means s l = λ place sub u e f.
-    let k : IsLinked s.subs sub.setup.«unit» u = l.linked sub.setup.«unit» u f in
-    sound-agreed sub.state.hold.phase u k.links sub.setup.side (ap (λ (h : HoldState). h.phase) (k.stand place sub e refl).hold) k.«unit» (means k.links sub.setup.side k.good)
+linked-agree : ((w : Links) (side : Side) → IsGood w → IsSound w side) → (s : State) (which : Option ℕ) (k : Starts) → AreLinked s.subs s.units which k → AllAgree s
+linked-agree means s which k l = λ place sub u e f.
+    let x : IsLinked s.subs sub.setup.«unit» u which k = l.linked sub.setup.«unit» u f in
+    sound-agreed sub.state.hold.phase u x.links sub.setup.side (ap (λ (h : HoldState). h.phase) (x.stand place sub e refl).hold) x.«unit» (means x.links sub.setup.side x.good)
 
-pub run-agrees : IsGood opening → Keeps → ((w : Links) (side : Side) → IsGood w → IsSound w side) → (setup : Setup) (h : List Entry) (s : State) → IsLawful setup →
-    Run (opening_of setup) h s → AllAgree s
-run-agrees good keeps means setup h s lawful run = linked-agree means s (run-linked keeps setup h s lawful good run)
+pub run-agrees : IsGood opening → AreLaws → (setup : Setup) (h : List Entry) (s : State) → IsLawful setup → Run (opening_of setup) h s → AllAgree s
+run-agrees good laws setup h s lawful run =
+    let told = run-told laws setup (record { set = 0; number = 0 }) h s lawful good run in
+    linked-agree laws.means s _ _ told.1.linked
+
+-- the starts that began a program, of each subchannel, rise
+pub run-begins : IsGood opening → AreLaws → (setup : Setup) (h : List Entry) (s : State) → IsLawful setup → Run (opening_of setup) h s → IsBegunOnce (set_count setup) h
+run-begins good laws setup h s lawful run = λ id. (run-told laws setup id h s lawful good run).1.rises

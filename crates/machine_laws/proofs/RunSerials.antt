@@ -22,6 +22,8 @@ use Rattle.chan_model.specs.declared.reply.Reply.{Reply}
 use Rattle.chan_model.specs.ConditionCodes.{in_order, is_operational}
 use Rattle.machine_model.specs.declared.state.Subchannel.{Subchannel}
 use Rattle.machine_model.specs.State.{State, opening_of, is_named, one_later, place_in, sub_at}
+use Rattle.machine_model.specs.declared.state.SubchannelState.{SubchannelState}
+use Rattle.machine_model.specs.Functions.{ends_suspended, without_programs, tested_wholly}
 use Rattle.machine_model.specs.Instructions.{condition_of, tested}
 use Rattle.machine_model.specs.Steps.{Turn, does, with_state, test_sub, test_code_of, tests, Executes_on, Executes, Step, Run, Opened, Stepped}
 use Rattle.machine_laws.specs.Claims.{IsLater, is_same_id, is_id, serial_shown, serial_by, serial_of, serial_at, serials}
@@ -159,23 +161,35 @@ same-reply r q s t e = ap (λ (u : Turn). u.reply) (same-turn (record { reply = 
 same-state : (r q : Reply) (s t : State) → does r s ≡ does q t → s ≡ t
 same-state r q s t e = ap (λ (u : Turn). u.state) (same-turn (record { reply = r; state = s }) (record { reply = q; state = t }) e)
 
+-- all status that was made is cleared
+abbrev IsAllCleared : SubchannelState → SubchannelState → Type 0
+IsAllCleared s new = (new.serials.made ≡ s.serials.made) × (new.serials.cleared ≡ s.serials.made)
+
+if-cleared : (s : SubchannelState) (b : Bool) (x y : SubchannelState) → IsAllCleared s x → IsAllCleared s y → IsAllCleared s (if b then x else y)
+if-cleared s true x y e f = e
+if-cleared s false x y e f = f
+
+wholly-cleared : (s : SubchannelState) → IsAllCleared s (tested_wholly s)
+wholly-cleared s = if-cleared s (ends_suspended s.scsw) (without_programs (tested s)) (tested s) (refl, refl) (refl, refl)
+
 test-shows : (n : ℕ) (id : SubchannelId) (s : State) (cpu address place : ℕ) (sub : Subchannel) (c : ConditionCode) (r : Reply) (new : State) →
     SoundSub n sub → place_in id new.subs ≡ place_in id s.subs → place_in id s.subs ≡ Some place → slice_get s.subs place ≡ Some sub →
     test_code_of sub ≡ c → does r new ≡ test_sub s cpu address place sub c → Shows id s new (serial_shown r)
 test-shows n id s cpu address place sub code.Zero r new k stays at there is w =
     let pending : sub.state.scsw.status.pending ≡ true =
     pending-from (is_operational (condition_of sub.state)) sub.state.scsw.status.pending is in
+    let all : IsAllCleared sub.state (tested_wholly sub.state) = wholly-cleared sub.state in
     inr (
       sub.state.serials.made,
-      ap serial_shown (same-reply r _ new _ w),
+      ap serial_shown (same-reply r _ new _ w) ∙ ap (λ (made : ℕ). made ∷ []) all.0,
       record {
         before = sub;
-        after = with_state sub (tested sub.state);
+        after = with_state sub (tested_wholly sub.state);
         found = ap (sub_at s.subs) at ∙ there;
         left = ap (sub_at new.subs) (stays ∙ at)
-            ∙ (ap (λ (t : State). slice_get t.subs place) (same-state r _ new _ w) ∙ get-set s.subs place sub (with_state sub (tested sub.state)) there);
+            ∙ (ap (λ (t : State). slice_get t.subs place) (same-state r _ new _ w) ∙ get-set s.subs place sub (with_state sub (tested_wholly sub.state)) there);
         above = ltb-true sub.state.serials.cleared sub.state.serials.made (sym k.4 ∙ pending);
-        reached = omega arith;
+        reached = omega (arith, all.1);
       },
     )
 test-shows n id s cpu address place sub code.One r new k stays at there is w = inl (ap serial_shown (same-reply r _ new _ w))
@@ -191,7 +205,7 @@ tests-show n id s cpu address (Some place) None (Ok u) r new a stays at there w 
 tests-show n id s cpu address (Some place) (Some sub) (Ok u) r new a stays at there w =
     test-shows n id s cpu address place sub (test_code_of sub) r new (one-of n s.subs place sub a there) stays at there refl w
 
-same-id : (a b : SubchannelId) → is_same_id a b ≡ true → a ≡ b
+pub same-id : (a b : SubchannelId) → is_same_id a b ≡ true → a ≡ b
 same-id a b e =
     let both : ((a.set == b.set) ≡ true) × ((a.number == b.number) ≡ true) = and_parts (a.set == b.set) (a.number == b.number) e in
     let sets : a.set ≡ b.set = eqb-true a.set b.set both.0 in
@@ -221,6 +235,10 @@ executes-shows n id s cpu (instruction.Tsch word address) r new a stays w =
 executes-shows n id s cpu (instruction.Stsch word address) r new a stays w = inl refl
 executes-shows n id s cpu (instruction.Msch word address) r new a stays w = inl refl
 executes-shows n id s cpu (instruction.Enable word subclass multipath) r new a stays w = inl refl
+executes-shows n id s cpu (instruction.Rsch word) r new a stays w = inl refl
+executes-shows n id s cpu (instruction.Hsch word) r new a stays w = inl refl
+executes-shows n id s cpu (instruction.Csch word) r new a stays w = inl refl
+executes-shows n id s cpu (instruction.Xsch word) r new a stays w = inl refl
 
 step-shows : (n : ℕ) (id : SubchannelId) (s : State) (e : Event) (r : Reply) (new : State) →
     All (SoundSub n) s.subs → place_in id new.subs ≡ place_in id s.subs → Step s e r new → Shows id s new (serial_of s.sets id e r)

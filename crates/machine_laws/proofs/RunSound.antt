@@ -10,12 +10,13 @@ use Rattle.channel_config.specs.Setup.{Setup}
 use Rattle.chan_model.specs.declared.event.Event.{Event}
 use Rattle.chan_model.specs.declared.reply.Entry.{Entry}
 use Rattle.chan_model.specs.declared.reply.Reply.{Reply}
+use Rattle.machine_model.specs.declared.cause.Cause.TheVariants as cause
 use Rattle.machine_model.specs.declared.state.Subchannel.{Subchannel}
 use Rattle.machine_model.specs.declared.state.SubchannelState.{SubchannelState}
 use Rattle.machine_model.specs.State.{State, opening_of, opened}
 use Rattle.machine_model.specs.Steps.{Step, Run, Opened, Stepped}
 use Rattle.machine_laws.specs.Claims.{IsLater}
-use Rattle.machine_laws.proofs.Sound.{Sound, AreNumbered, later, started-sound, tested-sound, modified-sound, offered-sound, over-sound, up-sound}
+use Rattle.machine_laws.proofs.Sound.{Sound, AreNumbered, later, started-sound, wholly-sound, modified-sound, effect-sound, reset_sent-sound, halt_sent-sound, made-sound, offered-sound, up-sound}
 use Rattle.machine_laws.proofs.Moves.{IsKept, Changed, step-moves}
 
 -- one more event, above any floor
@@ -26,10 +27,15 @@ turns : AreNumbered → (n : ℕ) → IsKept (Turns n)
 turns numbered n = record {
   same = λ s floor k. later floor n s k;
   starts = λ s orb floor k. started-sound floor n s orb k;
-  tests = λ s floor k. tested-sound floor n s k;
+  tests = λ s floor k. wholly-sound floor n s k;
   modifies = λ s pmcw floor k. modified-sound floor n s pmcw k;
   offers = λ s program path floor k. offered-sound floor n s program path k;
-  ends = λ s floor k. over-sound floor n s k;
+  functions = λ s f floor k. effect-sound floor n s f k;
+  resets = λ s path floor k. reset_sent-sound floor n s path k;
+  clears = λ s floor k. made-sound floor n s cause.ClearDone tt k;
+  halts = λ s floor k. halt_sent-sound floor n s k;
+  ends = λ s floor k. made-sound floor n s cause.HaltDone tt k;
+  over = λ s floor k. made-sound floor n s cause.NoPath tt k;
   takes = λ storage s path signal floor k. up-sound numbered floor n storage s path signal k;
 }
 

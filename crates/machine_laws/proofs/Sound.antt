@@ -1,14 +1,14 @@
 -- What is kept of the state of a subchannel: its numbers, and when status is pending. Its serials are at least those of
 -- a floor, which may be any.
-use Rattle.std.proofs.Common.{◌≡◌, refl, sym, ◌∙◌, ℕ, ◌+◌, ◌≤◌, ◌==◌, ◌%◌, Bool, true, false, not, nat_lt, Option, None, Some, Result, Ok, Err, List, arith}
-use Rattle.std.specs.Prelude.{if◌then◌else◌, IfOk}
-use Rattle.std.proofs.lemmas.Bool.{eqb-true, lt-ltb, le-ltb}
+use Rattle.std.proofs.Common.{◌≡◌, refl, sym, ◌∙◌, ℕ, ◌+◌, ◌≤◌, ◌==◌, Bool, true, false, not, nat_lt, Option, None, Some, List, arith}
+use Rattle.std.specs.Prelude.{if◌then◌else◌}
+use Rattle.std.proofs.lemmas.Bool.{lt-ltb, le-ltb}
 use Rattle.orb_block.specs.declared.Orb.{Orb}
 use Rattle.scsw_irb.specs.declared.scsw.Scsw.{Scsw}
 use Rattle.scsw_irb.specs.declared.serials.Serials.{Serials}
 use Rattle.scsw_irb.specs.declared.status.DeviceStatus.{DeviceStatus}
 use Rattle.storage_keys.specs.Storage.{Contents}
-use Rattle.channel_program.specs.declared.check.Check.{Check}
+use Rattle.channel_program.specs.Walks.{Place}
 use Rattle.chan_model.specs.declared.hold_state.HoldPhase.{HoldPhase}
 use Rattle.chan_model.specs.declared.hold_state.HoldPhase.TheVariants as hold
 use Rattle.chan_model.specs.declared.hold_state.HoldState.{HoldState}
@@ -18,25 +18,33 @@ use Rattle.chan_model.specs.declared.signal.Taken.{Taken}
 use Rattle.chan_model.specs.declared.signal.Up.{Up}
 use Rattle.chan_model.specs.declared.signal.Up.TheVariants as up
 use Rattle.chan_model.specs.declared.status.Shown.{Shown}
-use Rattle.chan_model.specs.HoldTable.{hold_takes, hold_after, came_of, is_connected, is_on}
+use Rattle.chan_model.specs.HoldTable.{HoldStep, hold_takes, hold_after, came_of, is_connected, is_on}
 use Rattle.chan_model.specs.Loads.{load_length}
-use Rattle.chan_model.specs.Status.{scsw_made, serials_made, is_uncleared, intermediate_alone, ended_scsw, suspended_scsw, without_status}
+use Rattle.chan_model.specs.Status.{scsw_made, serials_made, serials_cleared, is_uncleared, intermediate_alone, ended_scsw, suspended_scsw, without_status}
 use Rattle.chan_model.specs.UnitReports.{is_last_end, is_outward, has_device_end}
 use Rattle.data_move.specs.Moving.{residual}
 use Rattle.transfer.specs.declared.Transfer.{Transfer}
 use Rattle.transfer.specs.Commands.{first_command, next_command, with_room, begun_with_room}
 use Rattle.transfer.specs.Chunks.{absorbed, next_given, brought, is_answered}
-use Rattle.transfer.specs.Numbers.{IsSame, IsLater, IsNew}
+use Rattle.transfer.specs.declared.Came.{Came}
+use Rattle.transfer.specs.declared.Came.TheVariants as came
+use Rattle.transfer.specs.Numbers.{IsSame, IsLater, IsNew, IfBegins}
+use Rattle.machine_model.specs.declared.cause.Cause.{Cause}
+use Rattle.machine_model.specs.declared.cause.Cause.TheVariants as cause
 use Rattle.machine_model.specs.declared.state.Begun.{Begun}
 use Rattle.machine_model.specs.declared.state.Pmcw.{Pmcw}
 use Rattle.machine_model.specs.declared.state.Program.{Program}
+use Rattle.machine_model.specs.declared.state.Standing.{Standing}
 use Rattle.machine_model.specs.declared.state.SubchannelState.{SubchannelState}
 use Rattle.machine_model.specs.declared.state.UpStep.{UpStep}
 use Rattle.machine_model.specs.Bounds.{IsMovedWithin}
 use Rattle.machine_model.specs.Instructions.{started, tested}
-use Rattle.machine_model.specs.Choosing.{offered, without_path}
-use Rattle.machine_model.specs.Statuses.{with_status, no_path_shown, fetch_fault_shown, channel_end_shown, has_status_modifier, chains_command}
-use Rattle.machine_model.specs.Taking.{Met, meets, ignoring, quietly, waits_as, beginning, begin_waiting, accepted_by, accept_by, with_transfer, give_next, take_in, bytes_of, move_bytes, move_data, take_data, with_end, chaining, chain_with, goes_on, channel_ended, ended, stops_at, command_ended, end_of, end_command, takes_up, with_path, dedicated_after, last_shown, has_shown}
+use Rattle.machine_model.specs.Causes.{joined_by, shown_of, without_begun, without_waiting, after_end, with_cause}
+use Rattle.machine_model.specs.Choosing.{reset_sent, halt_sent, offered}
+use Rattle.machine_model.specs.Functions.{halting, dropped, cleared_scsw, without_programs, tested_wholly, drops_status, ends_suspended}
+use Rattle.machine_model.specs.Statuses.{with_status, has_status_modifier, chains_command, has_shown}
+use Rattle.machine_model.specs.Taking.{Met, meets, ignoring, quietly, without_interruption, interrupted_by, standing, goes_ahead, taking_over, suspended_alone, standing_still, suspending, beginning, begin_standing, halt_done, accepted_by, accept_by, with_transfer, moving_on, give_next, take_in, bytes_of, move_bytes, move_data, take_data, with_end, chaining, chain_with, goes_on, end_shown_at, stops_at, command_ended, end_of, end_command, reset_taken, takes_up, with_path, let_go}
+use Rattle.machine_laws.proofs.Walk.{Function, Resumes, Halts, Clears, Cancels, effect_of}
 
 abbrev pub Sound : Serials → ℕ → SubchannelState → Type 0
 Sound floor n s =
@@ -60,10 +68,18 @@ joined-pending : (b : Bool) (x y : Scsw) → x.status.pending ≡ true → y.sta
 joined-pending true x y e f = e
 joined-pending false x y e f = f
 
-made-pending : (e : Bool) (scsw : Scsw) (x : Serials) (shown : Shown) → scsw.status.pending ≡ is_uncleared x → x.cleared ≤ x.made →
-    (scsw_made e scsw shown).status.pending ≡ is_uncleared (serials_made e x)
-made-pending true scsw x shown p o = joined-pending scsw.status.pending _ _ refl refl ∙ sym (lt-ltb x.cleared (x.made + 1) (omega (arith, o)))
-made-pending false scsw x shown p o = p
+made-pending : (e : Bool) (scsw : Scsw) (x : Serials) (c : Cause) (shown : Shown) → scsw.status.pending ≡ is_uncleared x → x.cleared ≤ x.made →
+    (scsw_made e (joined_by e scsw c) shown).status.pending ≡ is_uncleared (serials_made e x)
+made-pending true scsw x c shown p o = joined-pending (joined_by true scsw c).status.pending _ _ refl refl ∙ sym (lt-ltb x.cleared (x.made + 1) (omega (arith, o)))
+made-pending false scsw x (cause.End b status more) shown p o = p
+made-pending false scsw x (cause.FetchFault tried check count) shown p o = p
+made-pending false scsw x cause.Attention shown p o = p
+made-pending false scsw x cause.NoPath shown p o = p
+made-pending false scsw x cause.InterfaceControlCheck shown p o = p
+made-pending false scsw x (cause.Interruption tried count) shown p o = p
+made-pending false scsw x (cause.Suspension tried count) shown p o = p
+made-pending false scsw x cause.ClearDone shown p o = p
+made-pending false scsw x cause.HaltDone shown p o = p
 
 made-above : (e : Bool) (floor x : Serials) → floor.cleared ≤ x.cleared → floor.made ≤ x.made →
     (floor.cleared ≤ (serials_made e x).cleared) × (floor.made ≤ (serials_made e x).made)
@@ -74,18 +90,64 @@ made-order : (e : Bool) (x : Serials) → x.cleared ≤ x.made → (serials_made
 made-order true x o = omega (arith, o)
 made-order false x o = o
 
-pub status-sound : (floor : Serials) (n : ℕ) (s : SubchannelState) (shown : Shown) → Sound floor n s → Sound floor (n + 1) (with_status s shown)
-status-sound floor n s shown k =
+-- the same, before the status of an event is made
+abbrev Ready : Serials → ℕ → SubchannelState → Type 0
+Ready floor n s =
+    (s.drawn ≤ n + 1) × (s.starts ≤ n + 1) × (s.serials.made ≤ n) × IsMovedWithin (n + 1) s.begun
+    × (s.scsw.status.pending ≡ is_uncleared s.serials) × (s.serials.cleared ≤ s.serials.made)
+    × (floor.cleared ≤ s.serials.cleared) × (floor.made ≤ s.serials.made)
+
+to-ready : (floor : Serials) (n : ℕ) (s : SubchannelState) → Sound floor n s → Ready floor n s
+to-ready floor n s k = (omega (arith, k.0), omega (arith, k.1), k.2, moved-later n s.begun k.3, k.4, k.5, k.6, k.7)
+
+ready-sound : (floor : Serials) (n : ℕ) (s : SubchannelState) → Ready floor n s → Sound floor (n + 1) s
+ready-sound floor n s k = (k.0, k.1, omega (arith, k.2), k.3, k.4, k.5, k.6, k.7)
+
+left-sound : (floor : Serials) (n : ℕ) (s : SubchannelState) (w : Option Program) (b : Option Begun) (st : Option Standing) (c : Cause) (shown : Shown) →
+    IsMovedWithin (n + 1) b → Ready floor n s →
+    Sound floor (n + 1) (with_status (record s { waiting = w; begun = b; suspended = st; scsw = joined_by s.pmcw.enabled s.scsw c }) shown)
+left-sound floor n s w b st c shown m k =
     let above = made-above s.pmcw.enabled floor s.serials k.6 k.7 in (
-      omega (arith, k.0),
-      omega (arith, k.1),
+      k.0,
+      k.1,
       made-le s.pmcw.enabled s.serials n k.2,
-      moved-later n s.begun k.3,
-      made-pending s.pmcw.enabled s.scsw s.serials shown k.4 k.5,
+      m,
+      made-pending s.pmcw.enabled s.scsw s.serials c shown k.4 k.5,
       made-order s.pmcw.enabled s.serials k.5,
       above.0,
       above.1,
     )
+
+after_end-sound : (floor : Serials) (n : ℕ) (s : SubchannelState) (b : Begun) (last : Bool) (c : Cause) (shown : Shown) → IsMovedWithin (n + 1) (Some b) → Ready floor n s →
+    Sound floor (n + 1) (with_status (record (after_end s b last) { scsw = joined_by s.pmcw.enabled s.scsw c }) shown)
+after_end-sound floor n s b true c shown m k = left-sound floor n s None None None c shown tt k
+after_end-sound floor n s b false c shown m k = left-sound floor n s s.waiting (Some (has_shown b)) s.suspended c shown m k
+
+without_begun-sound : (floor : Serials) (n : ℕ) (s : SubchannelState) (b : Option Begun) (c : Cause) (shown : Shown) → Ready floor n s →
+    Sound floor (n + 1) (with_status (record (without_begun b s) { scsw = joined_by s.pmcw.enabled s.scsw c }) shown)
+without_begun-sound floor n s None c shown k = left-sound floor n s None s.begun None c shown k.3 k
+without_begun-sound floor n s (Some b) c shown k = left-sound floor n s s.waiting None s.suspended c shown tt k
+
+without_waiting-sound : (floor : Serials) (n : ℕ) (s : SubchannelState) (w : Option Program) (c : Cause) (shown : Shown) → Ready floor n s →
+    Sound floor (n + 1) (with_status (record (without_waiting w s) { scsw = joined_by s.pmcw.enabled s.scsw c }) shown)
+without_waiting-sound floor n s None c shown k = left-sound floor n s s.waiting s.begun None c shown k.3 k
+without_waiting-sound floor n s (Some w) c shown k = left-sound floor n s None s.begun s.suspended c shown k.3 k
+
+-- the program that ends
+abbrev IsEndWithin : ℕ → Cause → Type 0
+IsEndWithin n (cause.End b status more) = IsMovedWithin n (Some b)
+IsEndWithin n c = Unit {0}
+
+cause-sound : (floor : Serials) (n : ℕ) (s : SubchannelState) (c : Cause) → IsEndWithin (n + 1) c → Ready floor n s → Sound floor (n + 1) (with_cause s c)
+cause-sound floor n s (cause.End b status more) m k = after_end-sound floor n s b (is_last_end status) (cause.End b status more) (shown_of s (cause.End b status more)) m k
+cause-sound floor n s (cause.FetchFault tried check count) m k = without_begun-sound floor n s s.begun (cause.FetchFault tried check count) (shown_of s (cause.FetchFault tried check count)) k
+cause-sound floor n s cause.Attention m k = left-sound floor n s None s.begun s.suspended cause.Attention (shown_of s cause.Attention) k.3 k
+cause-sound floor n s cause.NoPath m k = without_waiting-sound floor n s s.waiting cause.NoPath (shown_of s cause.NoPath) k
+cause-sound floor n s cause.InterfaceControlCheck m k = left-sound floor n s None None None cause.InterfaceControlCheck (shown_of s cause.InterfaceControlCheck) tt k
+cause-sound floor n s (cause.Interruption tried count) m k = left-sound floor n s s.waiting s.begun s.suspended (cause.Interruption tried count) (shown_of s (cause.Interruption tried count)) k.3 k
+cause-sound floor n s (cause.Suspension tried count) m k = left-sound floor n s s.waiting s.begun s.suspended (cause.Suspension tried count) (shown_of s (cause.Suspension tried count)) k.3 k
+cause-sound floor n s cause.ClearDone m k = left-sound floor n s s.waiting s.begun s.suspended cause.ClearDone (shown_of s cause.ClearDone) k.3 k
+cause-sound floor n s cause.HaltDone m k = left-sound floor n s None None None cause.HaltDone (shown_of s cause.HaltDone) tt k
 
 -- instructions and choosing
 pub started-sound : (floor : Serials) (n : ℕ) (s : SubchannelState) (orb : Orb) → Sound floor n s → Sound floor (n + 1) (started s orb)
@@ -108,7 +170,7 @@ tested-not false x y e f = e
 not-below : (m : ℕ) → false ≡ nat_lt m m
 not-below m = sym (le-ltb m m (omega arith))
 
-pub tested-sound : (floor : Serials) (n : ℕ) (s : SubchannelState) → Sound floor n s → Sound floor (n + 1) (tested s)
+tested-sound : (floor : Serials) (n : ℕ) (s : SubchannelState) → Sound floor n s → Sound floor (n + 1) (tested s)
 tested-sound floor n s k = (
   omega (arith, k.0),
   omega (arith, k.1),
@@ -126,8 +188,36 @@ tested-sound floor n s k = (
 pub offered-sound : (floor : Serials) (n : ℕ) (s : SubchannelState) (program : Program) (p : ℕ) → Sound floor n s → Sound floor (n + 1) (offered s program p)
 offered-sound floor n s program p k = (omega (arith, k.0), omega (arith, k.1), omega (arith, k.2), moved-later n s.begun k.3, k.4, k.5, k.6, k.7)
 
-pub over-sound : (floor : Serials) (n : ℕ) (s : SubchannelState) → Sound floor n s → Sound floor (n + 1) (without_path s)
-over-sound floor n s k = status-sound floor n (record s { waiting = None }) (no_path_shown s.scsw) k
+pick-state : (floor : Serials) (n : ℕ) (b : Bool) (x y : SubchannelState) → Sound floor n x → Sound floor n y → Sound floor n (if b then x else y)
+pick-state floor n true x y k l = k
+pick-state floor n false x y k l = l
+
+pub wholly-sound : (floor : Serials) (n : ℕ) (s : SubchannelState) → Sound floor n s → Sound floor (n + 1) (tested_wholly s)
+wholly-sound floor n s k =
+    let t : Sound floor (n + 1) (tested s) = tested-sound floor n s k in
+    pick-state floor (n + 1) (ends_suspended s.scsw) (without_programs (tested s)) (tested s) (t.0, t.1, t.2, tt, t.4, t.5, t.6, t.7) t
+
+-- all status counts as cleared
+none-sound : (floor : Serials) (n : ℕ) (s : SubchannelState) (b : Option Begun) (m : ℕ) (scsw : Scsw) → scsw.status.pending ≡ false → m ≤ n + 1 → IsMovedWithin (n + 1) b →
+    Ready floor n s → Sound floor (n + 1) (record s { drawn = m; begun = b; scsw = scsw; serials = serials_cleared s.serials })
+none-sound floor n s b m scsw p d w k = (d, k.1, omega (arith, k.2), w, p ∙ not-below s.serials.made, omega arith, omega (arith, k.5, k.6), k.7)
+
+pub effect-sound : (floor : Serials) (n : ℕ) (s : SubchannelState) (f : Function) → Sound floor n s → Sound floor (n + 1) (effect_of f s)
+effect-sound floor n s Resumes k = later floor n s k
+effect-sound floor n s Halts k =
+    pick-state floor (n + 1) (drops_status s.scsw) (dropped (halting s)) (halting s)
+    (none-sound floor n (halting s) s.begun s.drawn (without_status (halting s).scsw) refl (omega (arith, k.0)) (moved-later n s.begun k.3) (to-ready floor n (halting s) k)) (later floor n s k)
+effect-sound floor n s Clears k = none-sound floor n s None (s.drawn + 1) cleared_scsw refl (omega (arith, k.0)) tt (to-ready floor n s k)
+effect-sound floor n s Cancels k = later floor n s k
+
+pub reset_sent-sound : (floor : Serials) (n : ℕ) (s : SubchannelState) (p : ℕ) → Sound floor n s → Sound floor (n + 1) (reset_sent s p)
+reset_sent-sound floor n s p k = later floor n s k
+
+pub halt_sent-sound : (floor : Serials) (n : ℕ) (s : SubchannelState) → Sound floor n s → Sound floor (n + 1) (halt_sent s)
+halt_sent-sound floor n s k = later floor n s k
+
+pub made-sound : (floor : Serials) (n : ℕ) (s : SubchannelState) (c : Cause) → IsEndWithin (n + 1) c → Sound floor n s → Sound floor (n + 1) (with_cause s c)
+made-sound floor n s c m k = cause-sound floor n s c m (to-ready floor n s k)
 
 -- signals
 pick : (floor : Serials) (n : ℕ) (b : Bool) (x y : UpStep) → Sound floor n x.state → Sound floor n y.state → Sound floor n (if b then x else y).state
@@ -139,14 +229,32 @@ pick-met floor n true x y k l = k
 pick-met floor n false x y k l = l
 
 -- another transfer is at hand
-transferred : (floor : Serials) (n : ℕ) (s : SubchannelState) (b : Begun) (t : Transfer) → t.sequence ≤ n + 1 → t.command ≤ n + 1 → Sound floor n s →
-    Sound floor (n + 1) (with_transfer s b t)
-transferred floor n s b t q m k = (omega (arith, k.0), omega (arith, k.1), omega (arith, k.2), (q, m), k.4, k.5, k.6, k.7)
+interrupted-sound : (floor : Serials) (n : ℕ) (s : SubchannelState) (b : Begun) → IsMovedWithin (n + 1) (Some b) → Ready floor n s → Sound floor (n + 1) (interrupted_by s b)
+interrupted-sound floor n s b m k =
+    pick-state floor (n + 1) b.transfer.interrupts
+    (with_cause (record s { begun = Some (without_interruption b) }) (cause.Interruption b.transfer.walk.tried (residual b.transfer.moving))) s
+    (cause-sound floor n (record s { begun = Some (without_interruption b) }) (cause.Interruption b.transfer.walk.tried (residual b.transfer.moving)) tt
+    (k.0, k.1, k.2, m, k.4, k.5, k.6, k.7))
+    (ready-sound floor n s k)
+
+transferred : (floor : Serials) (n : ℕ) (s : SubchannelState) (b : Begun) (t : Transfer) → t.sequence ≤ n + 1 → t.command ≤ n + 1 → Ready floor n s →
+    Sound floor (n + 1) (moving_on s b t)
+transferred floor n s b t q m k =
+    interrupted-sound floor n (with_transfer s b t) (record b { transfer = t }) (q, m) (k.0, k.1, k.2, (q, m), k.4, k.5, k.6, k.7)
+
+-- a program is suspended
+suspending-sound : (floor : Serials) (n : ℕ) (s : SubchannelState) (program : Program) (walk : Place) (count : ℕ) → Ready floor n s →
+    Sound floor (n + 1) (suspending s program walk count)
+suspending-sound floor n s program walk count k =
+    pick-state floor (n + 1) program.orb.suppress_suspended
+    (record (standing_still s program walk count) { scsw = suspended_alone s.scsw }) (with_cause (standing_still s program walk count) (cause.Suspension walk.tried count))
+    (k.0, k.1, omega (arith, k.2), tt, k.4, k.5, k.6, k.7)
+    (cause-sound floor n (standing_still s program walk count) (cause.Suspension walk.tried count) tt (k.0, k.1, k.2, tt, k.4, k.5, k.6, k.7))
 
 -- how commands and their chunks are numbered
 pub record AreNumbered : Type 0 where
-  pub first : (storage : Contents) (orb : Orb) → IfOk (first_command storage orb).came (IsNew 1)
-  pub next : (storage : Contents) (t : Transfer) (modifier : Bool) → IfOk (next_command storage t modifier).came (IsNew (t.command + 1))
+  pub first : (storage : Contents) (walk : Place) → IfBegins (first_command storage walk).came (IsNew 1)
+  pub next : (storage : Contents) (t : Transfer) (modifier : Bool) → IfBegins (next_command storage t modifier).came (IsNew (t.command + 1))
   pub begun : (storage : Contents) (t : Transfer) → IsSame t (begun_with_room storage t).transfer
   pub room : (storage : Contents) (t : Transfer) → IsSame t (with_room storage t).transfer
   pub given : (storage : Contents) (t : Transfer) → IsSame t (next_given storage t).transfer
@@ -154,35 +262,42 @@ pub record AreNumbered : Type 0 where
   pub brought : (storage : Contents) (t : Transfer) (s : ℕ) (bytes : List ℕ) → IsLater t (brought storage t s bytes).transfer
 
 module _ (numbered : AreNumbered) where
-  beginning-sound : (floor : Serials) (n : ℕ) (storage : Contents) (s : SubchannelState) (p t : ℕ) (program : Program) (tried : ℕ) (r : Result Transfer Check) →
-      IfOk r (IsNew 1) → Sound floor n s → Sound floor (n + 1) (beginning storage s p t program tried r).state
-  beginning-sound floor n storage s p t program tried (Ok transfer) f k =
+  beginning-sound : (floor : Serials) (n : ℕ) (storage : Contents) (s : SubchannelState) (p t : ℕ) (st : Standing) (walk : Place) (r : Came) →
+      IfBegins r (IsNew 1) → Ready floor n s → Sound floor (n + 1) (beginning storage s p t st walk r).state
+  beginning-sound floor n storage s p t st walk (came.Begins transfer) f k =
       let b : IsSame transfer (begun_with_room storage transfer).transfer = numbered.begun storage transfer in
       let q : (begun_with_room storage transfer).transfer.sequence ≤ n + 1 = omega (arith, b.sequence, f.sequence) in
       let m : (begun_with_room storage transfer).transfer.command ≤ n + 1 = omega (arith, b.command, f.command) in
-      (omega (arith, k.0), omega (arith, k.1), omega (arith, k.2), (q, m), k.4, k.5, k.6, k.7)
-  beginning-sound floor n storage s p t program tried (Err check) f k = status-sound floor n (record s { waiting = None }) (fetch_fault_shown tried check 0) k
+      let new : Begun = record { program = st.program; primary_shown = false; transfer = (begun_with_room storage transfer).transfer } in
+      interrupted-sound floor n (taking_over s st.program (begun_with_room storage transfer).transfer) new (q, m) (k.0, k.1, k.2, (q, m), k.4, k.5, k.6, k.7)
+  beginning-sound floor n storage s p t st walk came.Suspends f k = suspending-sound floor n s st.program walk st.count k
+  beginning-sound floor n storage s p t st walk (came.Stops check) f k = cause-sound floor n s (cause.FetchFault walk.tried check st.count) tt k
 
-  begin_waiting-sound : (floor : Serials) (n : ℕ) (storage : Contents) (s : SubchannelState) (p t : ℕ) (w : Option Program) → Sound floor n s →
-      Sound floor (n + 1) (begin_waiting storage s p t w).state
-  begin_waiting-sound floor n storage s p t None k = later floor n s k
-  begin_waiting-sound floor n storage s p t (Some program) k =
-      beginning-sound floor n storage s p t program (first_command storage program.orb).tried (first_command storage program.orb).came (numbered.first storage program.orb) k
+  begin_standing-sound : (floor : Serials) (n : ℕ) (storage : Contents) (s : SubchannelState) (p t : ℕ) (st : Option Standing) → Ready floor n s →
+      Sound floor (n + 1) (begin_standing storage s p t st).state
+  begin_standing-sound floor n storage s p t None k = ready-sound floor n s k
+  begin_standing-sound floor n storage s p t (Some st) k =
+      beginning-sound floor n storage s p t st (first_command storage st.walk).walk (first_command storage st.walk).came (numbered.first storage st.walk) k
 
-  accepted_by-sound : (floor : Serials) (n : ℕ) (storage : Contents) (s : SubchannelState) (phase : HoldPhase) (came : Taken Down) → Sound floor n s →
-      Sound floor (n + 1) (accepted_by storage s phase came).state
-  accepted_by-sound floor n storage s hold.Free came k = later floor n s k
-  accepted_by-sound floor n storage s (hold.Offer t p) came k = later floor n s k
-  accepted_by-sound floor n storage s (hold.On t p c) came k = begin_waiting-sound floor n storage (record s { pmcw = with_path s.pmcw p }) p t s.waiting k
-  accepted_by-sound floor n storage s (hold.Away t) came k = later floor n s k
-  accepted_by-sound floor n storage s (hold.Letting t p) came k = later floor n s k
-  accepted_by-sound floor n storage s (hold.Reset r) came k = later floor n s k
+  halt_done-sound : (floor : Serials) (n : ℕ) (s : SubchannelState) → Ready floor n s → Sound floor (n + 1) (halt_done s)
+  halt_done-sound floor n s k =
+      pick-state floor (n + 1) s.scsw.activity.halt_pending (with_cause s cause.HaltDone) s (cause-sound floor n s cause.HaltDone tt k) (ready-sound floor n s k)
 
-  accept-sound : (floor : Serials) (n : ℕ) (storage : Contents) (s : SubchannelState) (h : HoldState) (came : Taken Down) → Sound floor n s →
-      Sound floor (n + 1) (accept_by storage s h came).state
-  accept-sound floor n storage s h came k =
-      pick floor (n + 1) came.taken (accepted_by storage (record s { hold = h }) h.phase came) (ignoring s)
-      (accepted_by-sound floor n storage (record s { hold = h }) h.phase came k) (later floor n s k)
+  accepted_by-sound : (floor : Serials) (n : ℕ) (storage : Contents) (s : SubchannelState) (phase : HoldPhase) (taken : Taken Down) → Sound floor n s →
+      Sound floor (n + 1) (accepted_by storage s phase taken).state
+  accepted_by-sound floor n storage s hold.Free taken k = later floor n s k
+  accepted_by-sound floor n storage s (hold.Offer t p) taken k = later floor n s k
+  accepted_by-sound floor n storage s (hold.On t p c) taken k =
+      begin_standing-sound floor n storage (record s { pmcw = with_path s.pmcw p }) p t (standing s) (to-ready floor n s k)
+  accepted_by-sound floor n storage s (hold.Away t) taken k = later floor n s k
+  accepted_by-sound floor n storage s (hold.Letting t p) taken k = halt_done-sound floor n (record s { pmcw = with_path s.pmcw p }) (to-ready floor n s k)
+  accepted_by-sound floor n storage s (hold.Reset r) taken k = later floor n s k
+
+  accept-sound : (floor : Serials) (n : ℕ) (storage : Contents) (s : SubchannelState) (h : HoldState) (taken : Taken Down) → Sound floor n s →
+      Sound floor (n + 1) (accept_by storage s h taken).state
+  accept-sound floor n storage s h taken k =
+      pick floor (n + 1) taken.taken (accepted_by storage (record s { hold = h }) h.phase taken) (ignoring s)
+      (accepted_by-sound floor n storage (record s { hold = h }) h.phase taken k) (later floor n s k)
 
   -- Data
   given-sound : (floor : Serials) (n : ℕ) (storage : Contents) (s : SubchannelState) (b : Begun) (p t c m seq count : ℕ) → IsMovedWithin n (Some b) → Sound floor n s →
@@ -191,7 +306,8 @@ module _ (numbered : AreNumbered) where
       let a : IsLater b.transfer (absorbed storage b.transfer seq count) = numbered.absorbed storage b.transfer seq count in
       let g : IsSame (absorbed storage b.transfer seq count) (next_given storage (absorbed storage b.transfer seq count)).transfer =
       numbered.given storage (absorbed storage b.transfer seq count) in
-      transferred floor n s b (next_given storage (absorbed storage b.transfer seq count)).transfer (omega (arith, w.0, a.sequence, g.sequence)) (omega (arith, w.1, a.command, g.command)) k
+      transferred floor n s b (next_given storage (absorbed storage b.transfer seq count)).transfer (omega (arith, w.0, a.sequence, g.sequence)) (omega (arith, w.1, a.command, g.command))
+      (to-ready floor n s k)
 
   taken-sound : (floor : Serials) (n : ℕ) (storage : Contents) (s : SubchannelState) (b : Begun) (p t m seq : ℕ) (bytes : List ℕ) → IsMovedWithin n (Some b) → Sound floor n s →
       Sound floor (n + 1) (take_in s b p t m seq (brought storage b.transfer seq bytes)).step.state
@@ -199,7 +315,8 @@ module _ (numbered : AreNumbered) where
       let x = brought storage b.transfer seq bytes in
       let a : IsLater b.transfer x.transfer = numbered.brought storage b.transfer seq bytes in
       let r : IsSame x.transfer (with_room x.storage x.transfer).transfer = numbered.room x.storage x.transfer in
-      transferred floor n s b (with_room x.storage x.transfer).transfer (omega (arith, w.0, a.sequence, r.sequence)) (omega (arith, w.1, a.command, r.command)) k
+      transferred floor n s b (with_room x.storage x.transfer).transfer (omega (arith, w.0, a.sequence, r.sequence)) (omega (arith, w.1, a.command, r.command))
+      (to-ready floor n s k)
 
   move-sound : (floor : Serials) (n : ℕ) (storage : Contents) (s : SubchannelState) (b : Option Begun) (p t c m seq : ℕ) (load : Load) → IsMovedWithin n b → Sound floor n s →
       Sound floor (n + 1) (move_data storage s b p t c m seq load).step.state
@@ -217,28 +334,29 @@ module _ (numbered : AreNumbered) where
       (move-sound floor n storage s s.begun p t c m seq load k.3 k) (later floor n s k)
 
   -- End
-  chaining-sound : (floor : Serials) (n : ℕ) (storage : Contents) (s : SubchannelState) (b : Begun) (p t tried : ℕ) (r : Result Transfer Check) → b.transfer.command ≤ n →
-      IfOk r (IsNew (b.transfer.command + 1)) → Sound floor n s → Sound floor (n + 1) (chaining storage s b p t tried r).state
-  chaining-sound floor n storage s b p t tried (Ok transfer) w f k =
+  chaining-sound : (floor : Serials) (n : ℕ) (storage : Contents) (s : SubchannelState) (b : Begun) (p t : ℕ) (walk : Place) (r : Came) → b.transfer.command ≤ n →
+      IfBegins r (IsNew (b.transfer.command + 1)) → Ready floor n s → Sound floor (n + 1) (chaining storage s b p t walk r).state
+  chaining-sound floor n storage s b p t walk (came.Begins transfer) w f k =
       let g : IsSame transfer (begun_with_room storage transfer).transfer = numbered.begun storage transfer in
       transferred floor n s b (begun_with_room storage transfer).transfer (omega (arith, f.sequence, g.sequence)) (omega (arith, w, f.command, g.command)) k
-  chaining-sound floor n storage s b p t tried (Err check) w f k =
-      status-sound floor n (record s { begun = None; dedicated = None }) (fetch_fault_shown tried check (residual b.transfer.moving)) (k.0, k.1, k.2, tt, k.4, k.5, k.6, k.7)
+  chaining-sound floor n storage s b p t walk came.Suspends w f k =
+      suspending-sound floor n (record s { dedicated = None }) b.program walk (residual b.transfer.moving) k
+  chaining-sound floor n storage s b p t walk (came.Stops check) w f k =
+      cause-sound floor n (record s { dedicated = None }) (cause.FetchFault walk.tried check (residual b.transfer.moving)) tt k
 
   goes_on-sound : (floor : Serials) (n : ℕ) (storage : Contents) (s : SubchannelState) (b : Begun) (p t : ℕ) (st : DeviceStatus) → IsMovedWithin n (Some b) → Sound floor n s →
       Sound floor (n + 1) (goes_on storage s b p t st).state
   goes_on-sound floor n storage s b p t st w k =
       pick floor (n + 1) (has_device_end st) (chain_with storage s b p t (next_command storage b.transfer (has_status_modifier st)))
       (quietly (record s { begun = Some b; dedicated = None }))
-      (chaining-sound floor n storage s b p t _ _ w.1 (numbered.next storage b.transfer (has_status_modifier st)) k)
+      (chaining-sound floor n storage s b p t _ _ w.1 (numbered.next storage b.transfer (has_status_modifier st)) (to-ready floor n s k))
       (omega (arith, k.0), omega (arith, k.1), omega (arith, k.2), moved-later n (Some b) w, k.4, k.5, k.6, k.7)
 
   stops-sound : (floor : Serials) (n : ℕ) (s : SubchannelState) (b : Begun) (p : ℕ) (st : DeviceStatus) (more : Bool) → IsMovedWithin n (Some b) → Sound floor n s →
       Sound floor (n + 1) (stops_at s b p st more).state
   stops-sound floor n s b p st more w k =
-      pick floor (n + 1) (is_last_end st) (ended s b p st more) (channel_ended s b p st more)
-      (status-sound floor n (record s { begun = None; waiting = None; dedicated = dedicated_after st p }) (last_shown s.scsw b s.waiting st more) (k.0, k.1, k.2, tt, k.4, k.5, k.6, k.7))
-      (status-sound floor n (record s { begun = Some (has_shown b); dedicated = dedicated_after st p }) (channel_end_shown s.scsw b st more) (k.0, k.1, k.2, w, k.4, k.5, k.6, k.7))
+      let e : Sound floor (n + 1) (with_cause s (cause.End b st more)) = made-sound floor n s (cause.End b st more) (moved-later n (Some b) w) k in
+      pick floor (n + 1) (is_last_end st) (let_go (end_shown_at s b p st more)) (quietly (end_shown_at s b p st more)) e e
 
   end_of-sound : (floor : Serials) (n : ℕ) (storage : Contents) (s : SubchannelState) (b : Option Begun) (p t m : ℕ) (st : DeviceStatus) (more : Bool) → IsMovedWithin n b → Sound floor n s →
       Sound floor (n + 1) (end_of storage s b p t m st more).state
@@ -254,16 +372,22 @@ module _ (numbered : AreNumbered) where
   end-sound floor n storage s p t m st more k =
       pick floor (n + 1) (is_on s.hold.phase t) (end_of storage s s.begun p t m st more) (ignoring s) (end_of-sound floor n storage s s.begun p t m st more k.3 k) (later floor n s k)
 
+  reset-sound : (floor : Serials) (n : ℕ) (s : SubchannelState) (step : Option HoldStep) → Sound floor n s → Sound floor (n + 1) (reset_taken s step).state
+  reset-sound floor n s None k = later floor n s k
+  reset-sound floor n s (Some step) k =
+      pick-state floor (n + 1) s.scsw.activity.clear_pending (with_cause (record s { hold = step.state }) cause.ClearDone) (record s { hold = step.state })
+      (made-sound floor n (record s { hold = step.state }) cause.ClearDone tt k) (later floor n s k)
+
   pub up-sound : (floor : Serials) (n : ℕ) (storage : Contents) (s : SubchannelState) (p : ℕ) (signal : Up) → Sound floor n s →
       Sound floor (n + 1) (takes_up storage s p signal).step.state
   up-sound floor n storage s p (up.Accept t) k =
-      let step = hold_takes s.hold p (up.Accept t) (waits_as s.waiting s.offered) in accept-sound floor n storage s (hold_after s.hold step) (came_of step) k
+      let step = hold_takes s.hold p (up.Accept t) (goes_ahead s) in accept-sound floor n storage s (hold_after s.hold step) (came_of step) k
   up-sound floor n storage s p (up.Busy t) k = later floor n s k
   up-sound floor n storage s p (up.Leave t c) k = later floor n s k
   up-sound floor n storage s p (up.Back t c) k = later floor n s k
   up-sound floor n storage s p (up.Data t c m seq load) k = data-sound floor n storage s p t c m seq load k
   up-sound floor n storage s p (up.End t m st more) k = end-sound floor n storage s p t m st more k
   up-sound floor n storage s p (up.Released t) k = later floor n s k
-  up-sound floor n storage s p (up.Cleared r) k = later floor n s k
+  up-sound floor n storage s p (up.Cleared r) k = reset-sound floor n s (hold_takes s.hold p (up.Cleared r) false) k
   up-sound floor n storage s p (up.Notice b) k = later floor n s k
   up-sound floor n storage s p (up.Attn a st) k = later floor n s k

@@ -1,11 +1,13 @@
 -- What an event leaves of a subchannel and its unit follows from what held of the unit and its links.
 use Rattle.std.proofs.Common.{◌≡◌, refl, sym, ◌∙◌, ap, subst, ℕ, ◌==◌, ◌&&◌, ◌≤◌, Bool, true, false, nat_lt, length, Option, None, Some, Result, List, arith}
-use Rattle.std.specs.Prelude.{if◌then◌else◌, slice_get, IfOk, IfSome, Contains}
+use Rattle.std.specs.Prelude.{◌≢◌, if◌then◌else◌, slice_get, All, IfOk, IfSome, Contains}
 use Rattle.std.proofs.lemmas.List.Elements.{All-contains}
 use Rattle.chan_model.specs.declared.fault.Fault.{Fault}
 use Rattle.chan_model.specs.declared.names.Side.{Side}
 use Rattle.chan_model.specs.declared.names.Side.TheVariants.{First, Second}
 use Rattle.chan_model.specs.declared.report.Report.{Report}
+use Rattle.chan_model.specs.declared.reply.Reply.{Reply}
+use Rattle.chan_model.specs.declared.reply.Reply.TheVariants as reply
 use Rattle.chan_model.specs.declared.signal.Down.{Down}
 use Rattle.chan_model.specs.declared.signal.OnPath.{OnPath}
 use Rattle.chan_model.specs.declared.signal.Up.{Up}
@@ -18,50 +20,90 @@ use Rattle.chan_model.specs.UnitTable as unit_table
 use Rattle.chan_model.specs.UnitTable.{UnitStep, unit_takes, unit_after}
 use Rattle.chan_model.specs.UnitReports.{unit_reports, report_on, report_of}
 use Rattle.wires.specs.Queues.{queue, taken}
-use Rattle.agreement_laws.specs.Links.{Link, Links, link_of}
-use Rattle.agreement_laws.specs.Moving.{UnitAct, Takes_down, Reports, unit_steps, is_to, is_owner_side, sent_by, sent_to, up_sent, Unit_acts, IsUnitGiven}
+use Rattle.agreement_laws.specs.Claims.{IsPassed}
+use Rattle.agreement_laws.specs.Links.{Link, Links, link_of, with_accepted}
+use Rattle.agreement_laws.specs.Moving.{UnitAct, Takes_down, Reports, unit_steps, is_to, is_owner_side, sent_by, sent_to, up_sent, Unit_acts, IsUnitGiven, Step}
 use Rattle.agreement_laws.specs.Invariant.{ends_of, IsUpGood, IsSideGood, IsGood}
 use Rattle.machine_model.specs.declared.state.Subchannel.{Subchannel}
-use Rattle.machine_model.specs.Steps.{DownTurn, with_any_sent, finds_full, is_full, down_front, down_sub, report_taken, report_sub}
-use Rattle.machine_laws.proofs.Growth.{one-wider, one-within, Covers, covers-taken, covers-sent, covers-wider, covers-first, IsLink, IsWider, told, told-step, Keeps, IsReached, links_of}
+use Rattle.machine_model.specs.Steps.{DownTurn, with_any_sent, finds_full, down_front, down_sub, report_taken, report_sub}
+use Rattle.machine_laws.proofs.Growth.{one-wider, one-within, Covers, covers-taken, covers-sent, covers-wider, covers-first, IsLink, IsWider, told, told-step, AreLaws, IsReached, links_of}
+use Rattle.machine_laws.specs.Beginnings.{Starts, with_taken}
+use Rattle.machine_laws.proofs.Tales.{IsAccepted, IsTold, told-wider}
+use Rattle.machine_laws.proofs.TaleEvents.{takes-of, accepted-wider, Wide, taken-told, AreBusyPassed, Tells}
 use Rattle.machine_laws.proofs.Places.{same-side, one-side}
 use Rattle.machine_laws.proofs.HoldEvents.{IsTame, IsOfHold}
 use Rattle.machine_laws.proofs.UnitPlain.{takes-plain, report-plain}
 
--- the links of a unit after an event at the subchannel of this side
-pub record Follows (w : Links) (side : Side) (new : Subchannel) (v : UnitState) : Type 0 where
+-- the links of a unit after an event at the subchannel of this side, and what is told of the subchannel before and after it
+pub record Follows (w : Links) (side : Side) (sub new : Subchannel) (v : UnitState) (k next : Starts) : Type 0 where
   pub links : Links
   pub good : IsGood links
   pub «unit» : links.«unit» ≡ v
   pub here : IsLink new (link_of links side)
-  pub there : (k : Side) → same_side side k ≡ false → IsWider (link_of w k) (link_of links k)
+  pub there : (j : Side) → same_side side j ≡ false → IsWider (link_of w j) (link_of links j)
+  pub passed : (j : Side) (t : ℕ) → IsPassed w j t → IsPassed links j t
+  pub accepted : (j : Side) (t : ℕ) → IsAccepted w j t → IsAccepted links j t
+  pub told : IsTold k sub.state w side → IsTold next new.state links side
 
 -- an event that left these of a subchannel and its unit, which never restarted
-pub record IsKept (sub new : Subchannel) (u v : UnitState) : Type 0 where
+pub record IsKept (sub new : Subchannel) (u v : UnitState) (k next : Starts) : Type 0 where
   pub setup : new.setup ≡ sub.setup
   pub restarts : u.restarts ≡ 0 → v.restarts ≡ 0
-  pub follows : (w : Links) → IsGood w → w.«unit» ≡ u → u.restarts ≡ 0 → IsLink sub (link_of w sub.setup.side) → Follows w sub.setup.side new v
+  pub follows : (w : Links) → IsGood w → w.«unit» ≡ u → u.restarts ≡ 0 → IsLink sub (link_of w sub.setup.side) → Follows w sub.setup.side sub new v k next
 
 same-wider : (l : Link) → IsWider l l
 same-wider l = record { drawn = refl; hold = refl; downs = λ x c. c; ups = λ x c. c }
 
--- acts of the hold alone
-hold-follows : (w : Links) (side : Side) (new : Subchannel) → IsGood w → IsReached (link_of w side) new → Follows w side new w.«unit»
-hold-follows w First new g r =
+-- acts of the hold alone: nothing is accepted
+same-accepted : (ts us : List ℕ) (t : ℕ) → us ≡ ts → Contains ts t → Contains us t
+same-accepted ts us t e c = subst (λ (xs : List ℕ). Contains xs t) (sym e) c
+
+same-never : (ts us : List ℕ) (t : ℕ) → us ≡ ts → All (λ a. a ≢ t) ts → All (λ a. a ≢ t) us
+same-never ts us t e n = subst (λ (xs : List ℕ). All (λ a. a ≢ t) xs) (sym e) n
+
+first-passed : (w : Links) (l : Link) → l.accepted ≡ w.first.accepted → (j : Side) (t : ℕ) → IsPassed w j t → IsPassed (links_of First w.«unit» l w.second) j t
+first-passed w l e First t p = record { never = same-never w.first.accepted l.accepted t e p.never; floor = p.floor }
+first-passed w l e Second t p = record { never = p.never; floor = p.floor }
+
+first-accepted : (w : Links) (l : Link) → l.accepted ≡ w.first.accepted → (j : Side) (t : ℕ) → IsAccepted w j t → IsAccepted (links_of First w.«unit» l w.second) j t
+first-accepted w l e First t c = same-accepted w.first.accepted l.accepted t e c
+first-accepted w l e Second t c = c
+
+second-passed : (w : Links) (l : Link) → l.accepted ≡ w.second.accepted → (j : Side) (t : ℕ) → IsPassed w j t → IsPassed (links_of Second w.«unit» l w.first) j t
+second-passed w l e First t p = record { never = p.never; floor = p.floor }
+second-passed w l e Second t p = record { never = same-never w.second.accepted l.accepted t e p.never; floor = p.floor }
+
+second-accepted : (w : Links) (l : Link) → l.accepted ≡ w.second.accepted → (j : Side) (t : ℕ) → IsAccepted w j t → IsAccepted (links_of Second w.«unit» l w.first) j t
+second-accepted w l e First t c = c
+second-accepted w l e Second t c = same-accepted w.second.accepted l.accepted t e c
+
+hold-told : (sub new : Subchannel) (k next : Starts) (w m : Links) (side : Side) → Tells sub new.state k next → AreBusyPassed sub w side →
+    ((t : ℕ) → IsPassed w side t → IsPassed m side t) → ((t : ℕ) → IsAccepted w side t → IsAccepted m side t) → IsTold k sub.state w side → IsTold next new.state m side
+hold-told sub new k next w m side f b p a t = f m side (λ path n e. p n (b path n e)) (told-wider k sub.state w m side p a t)
+
+hold-follows : (w : Links) (side : Side) (sub new : Subchannel) (k next : Starts) → IsGood w → IsReached (link_of w side) new → Tells sub new.state k next → AreBusyPassed sub w side →
+    Follows w side sub new w.«unit» k next
+hold-follows w First sub new k next g r f b =
     record {
       links = links_of First w.«unit» r.link w.second;
       good = r.leads First w.«unit» w.second g;
       «unit» = refl;
       here = r.is;
-      there = λ k e. elim k as (λ k. same_side First k ≡ false → IsWider (link_of w k) (link_of (links_of First w.«unit» r.link w.second) k)) [ First ↦ λ e. absurd (cc e) | Second ↦ λ e. same-wider w.second ] e;
+      there = λ j e. elim j as (λ j. same_side First j ≡ false → IsWider (link_of w j) (link_of (links_of First w.«unit» r.link w.second) j)) [ First ↦ λ e. absurd (cc e) | Second ↦ λ e. same-wider w.second ] e;
+      passed = first-passed w r.link r.accepted;
+      accepted = first-accepted w r.link r.accepted;
+      told = hold-told sub new k next w (links_of First w.«unit» r.link w.second) First f b (first-passed w r.link r.accepted First) (first-accepted w r.link r.accepted First);
     }
-hold-follows w Second new g r =
+hold-follows w Second sub new k next g r f b =
     record {
       links = links_of Second w.«unit» r.link w.first;
       good = r.leads Second w.«unit» w.first g;
       «unit» = refl;
       here = r.is;
-      there = λ k e. elim k as (λ k. same_side Second k ≡ false → IsWider (link_of w k) (link_of (links_of Second w.«unit» r.link w.first) k)) [ First ↦ λ e. same-wider w.first | Second ↦ λ e. absurd (cc e) ] e;
+      there = λ j e. elim j as (λ j. same_side Second j ≡ false → IsWider (link_of w j) (link_of (links_of Second w.«unit» r.link w.first) j)) [ First ↦ λ e. same-wider w.first | Second ↦ λ e. absurd (cc e) ] e;
+      passed = second-passed w r.link r.accepted;
+      accepted = second-accepted w r.link r.accepted;
+      told = hold-told sub new k next w (links_of Second w.«unit» r.link w.first) Second f b (second-passed w r.link r.accepted Second) (second-accepted w r.link r.accepted Second);
     }
 
 side-good : (w : Links) (side : Side) → IsGood w → IsSideGood w side
@@ -75,14 +117,19 @@ good-tame w side g e p b c =
     (record { path = p; signal = up.Notice b }) (side-good w side g).ups c in
     omega (arith, le, e)
 
-pub hold-kept : (sub new : Subchannel) (u : UnitState) → IsOfHold sub new → IsKept sub new u u
-hold-kept sub new u h =
+busy-passed : AreLaws → (sub : Subchannel) (w : Links) (side : Side) → IsGood w → IsLink sub (link_of w side) → AreBusyPassed sub w side
+busy-passed laws sub w side g k path t e =
+    laws.busy w side (record { path = path; signal = up.Busy t }) t g (covers-first (link_of w side).ups sub.wires.up path (up.Busy t) k.ups e) refl
+
+pub hold-kept : AreLaws → (sub new : Subchannel) (u : UnitState) (k next : Starts) → IsOfHold sub new → Tells sub new.state k next → IsKept sub new u u k next
+hold-kept laws sub new u k next h f =
     record {
       setup = h.setup;
       restarts = λ e. e;
-      follows = λ w g e z k.
-          subst (λ (v : UnitState). Follows w sub.setup.side new v) e
-          (hold-follows w sub.setup.side new g (h.reaches (link_of w sub.setup.side) (good-tame w sub.setup.side g (ap (λ (v : UnitState). v.restarts) e ∙ z)) k));
+      follows = λ w g e z l.
+          subst (λ (v : UnitState). Follows w sub.setup.side sub new v k next) e
+          (hold-follows w sub.setup.side sub new k next g (h.reaches (link_of w sub.setup.side) (good-tame w sub.setup.side g (ap (λ (v : UnitState). v.restarts) e ∙ z)) l) f
+          (busy-passed laws sub w sub.setup.side g l));
     }
 
 -- an act of the unit
@@ -90,12 +137,12 @@ abbrev told_links : Links → UnitAct → Links
 told_links w act =
     record { «unit» = unit_after w.«unit» (unit_steps w.«unit» act); first = told w.first (up_sent w.«unit» act First); second = told w.second (up_sent w.«unit» act Second) }
 
-told-wider : (l : Link) (one : Option (OnPath Up)) → IsWider l (told l one)
-told-wider l one = record { drawn = refl; hold = refl; downs = λ x c. c; ups = one-wider l.ups one }
+link-told : (l : Link) (one : Option (OnPath Up)) → IsWider l (told l one)
+link-told l one = record { drawn = refl; hold = refl; downs = λ x c. c; ups = one-wider l.ups one }
 
 links-wider : (w : Links) (act : UnitAct) (k : Side) → IsWider (link_of w k) (link_of (told_links w act) k)
-links-wider w act First = told-wider w.first (up_sent w.«unit» act First)
-links-wider w act Second = told-wider w.second (up_sent w.«unit» act Second)
+links-wider w act First = link-told w.first (up_sent w.«unit» act First)
+links-wider w act Second = link-told w.second (up_sent w.«unit» act Second)
 
 sent-within : (l : Link) (b : Bool) (one : Option (OnPath Up)) → b ≡ true → IfSome one (λ x. Contains (told l (sent_to b one)).ups x)
 sent-within l true one e = one-within l.ups one
@@ -127,12 +174,27 @@ came-sent : (step : Option UnitStep) → sent_by step ≡ (unit_table.came_of st
 came-sent None = refl
 came-sent (Some step) = refl
 
-abbrev AreKept : Subchannel → UnitState → Result DownTurn Fault → Type 0
-AreKept sub u r = IfOk r (λ t. IsKept sub t.sub u t.«unit»)
+abbrev pub AreKept : Subchannel → UnitState → Starts → (Reply → Starts) → Result DownTurn Fault → Type 0
+AreKept sub u k g r = IfOk r (λ t. IsKept sub t.sub u t.«unit» k (g t.reply))
 
-if-kept : (sub : Subchannel) (u : UnitState) (b : Bool) (x y : Result DownTurn Fault) → AreKept sub u x → AreKept sub u y → AreKept sub u (if b then x else y)
-if-kept sub u true x y e f = e
-if-kept sub u false x y e f = f
+if-kept : (sub : Subchannel) (u : UnitState) (k : Starts) (g : Reply → Starts) (b : Bool) (x y : Result DownTurn Fault) → AreKept sub u k g x → AreKept sub u k g y →
+    AreKept sub u k g (if b then x else y)
+if-kept sub u k g true x y e f = e
+if-kept sub u k g false x y e f = f
+
+-- what was accepted at each side after an act of the unit
+told-accepted : (w : Links) (act : UnitAct) (j : Side) (t : ℕ) → IsAccepted w j t → IsAccepted (told_links w act) j t
+told-accepted w act First t c = accepted-wider w.first.accepted (up_sent w.«unit» act First) t c
+told-accepted w act Second t c = accepted-wider w.second.accepted (up_sent w.«unit» act Second) t c
+
+told-list : (w : Links) (act : UnitAct) (j : Side) → is_to w.«unit» act j ≡ true →
+    (link_of (told_links w act) j).accepted ≡ with_accepted (link_of w j).accepted (sent_by (unit_steps w.«unit» act))
+told-list w act First e = ap (λ (b : Bool). with_accepted w.first.accepted (sent_to b (sent_by (unit_steps w.«unit» act)))) e
+told-list w act Second e = ap (λ (b : Bool). with_accepted w.second.accepted (sent_to b (sent_by (unit_steps w.«unit» act)))) e
+
+-- what is told after it
+abbrev TellsUnit : Subchannel → UnitState → UnitAct → Starts → Starts → Type 0
+TellsUnit sub u act k next = (w m : Links) (side : Side) → Wide w m side (sent_by (unit_steps u act)) → IsTold k sub.state w side → IsTold next sub.state m side
 
 -- Report: one that is taken is of the side of the program that holds the device
 owner-side : (k side : Side) (b : Bool) (step : Option UnitStep) (y : UnitStep) → (if same_side k side && b then step else None) ≡ Some y → same_side k side ≡ true
@@ -146,59 +208,81 @@ report-side u own.Idle r y e = absurd (cc e)
 report-side u (own.Owned k t place) r y e =
     owner-side k r.side ((r.number == t) && (r.command == u.last_command)) (report_on u t place u.at_hand r) y e
 
-module _ (keeps : Keeps) where
-  unit-follows : (w : Links) (act : UnitAct) (side : Side) (sub : Subchannel) (downs : List (List Down)) → IsGood w → IsUnitGiven w act → is_to w.«unit» act side ≡ true →
-      IsLink sub (link_of w side) → IsFewer sub.wires.down downs →
-      Follows w side (sent_up sub downs (sent_by (unit_steps w.«unit» act))) (unit_after w.«unit» (unit_steps w.«unit» act))
-  unit-follows w act side sub downs g given e k f =
+module _ (laws : AreLaws) where
+  unit-follows : (w : Links) (act : UnitAct) (side : Side) (sub : Subchannel) (downs : List (List Down)) (k next : Starts) → IsGood w → IsUnitGiven w act →
+      is_to w.«unit» act side ≡ true → IsLink sub (link_of w side) → IsFewer sub.wires.down downs → TellsUnit sub w.«unit» act k next →
+      Follows w side sub (sent_up sub downs (sent_by (unit_steps w.«unit» act))) (unit_after w.«unit» (unit_steps w.«unit» act)) k next
+  unit-follows w act side sub downs k next g given e l f tells =
+      let step : Step w (Unit_acts act) (told_links w act) =
+      record { given = given; «unit» = refl; first = told-step w.first (up_sent w.«unit» act First); second = told-step w.second (up_sent w.«unit» act Second) } in
+      let good : IsGood (told_links w act) = laws.keeps w (Unit_acts act) (told_links w act) g step in
       record {
         links = told_links w act;
-        good = keeps w (Unit_acts act) (told_links w act) g
-            (record { given = given; «unit» = refl; first = told-step w.first (up_sent w.«unit» act First); second = told-step w.second (up_sent w.«unit» act Second) });
+        good = good;
         «unit» = refl;
-        here = unit-link sub (link_of w side) (link_of (told_links w act) side) downs (sent_by (unit_steps w.«unit» act)) k (links-wider w act side) (sent-told w act side e) f;
+        here = unit-link sub (link_of w side) (link_of (told_links w act) side) downs (sent_by (unit_steps w.«unit» act)) l (links-wider w act side) (sent-told w act side e) f;
         there = λ j h. links-wider w act j;
+        passed = λ j t p. laws.stays w (Unit_acts act) (told_links w act) j t g step p;
+        accepted = told-accepted w act;
+        told = tells w (told_links w act) side (record {
+          passed = λ t p. laws.stays w (Unit_acts act) (told_links w act) side t g step p;
+          accepted = told-accepted w act side;
+          once = (laws.means (told_links w act) side good).once;
+          list = told-list w act side e;
+        });
       }
 
-  unit-kept : (sub : Subchannel) (u : UnitState) (act : UnitAct) (downs : List (List Down)) →
+  unit-kept : (sub : Subchannel) (u : UnitState) (act : UnitAct) (downs : List (List Down)) (k next : Starts) →
       ((w : Links) → IsLink sub (link_of w sub.setup.side) → IsUnitGiven w act) → is_to u act sub.setup.side ≡ true → IsFewer sub.wires.down downs →
-      (u.restarts ≡ 0 → (unit_after u (unit_steps u act)).restarts ≡ 0) →
-      IsKept sub (sent_up sub downs (sent_by (unit_steps u act))) u (unit_after u (unit_steps u act))
-  unit-kept sub u act downs given to f still =
+      (u.restarts ≡ 0 → (unit_after u (unit_steps u act)).restarts ≡ 0) → TellsUnit sub u act k next →
+      IsKept sub (sent_up sub downs (sent_by (unit_steps u act))) u (unit_after u (unit_steps u act)) k next
+  unit-kept sub u act downs k next given to f still tells =
       record {
         setup = refl;
         restarts = still;
-        follows = λ w g e z k.
-            subst (λ (v : UnitState). Follows w sub.setup.side (sent_up sub downs (sent_by (unit_steps v act))) (unit_after v (unit_steps v act))) e
-            (unit-follows w act sub.setup.side sub downs g (given w k) (ap (λ (v : UnitState). is_to v act sub.setup.side) e ∙ to) k f);
+        follows = λ w g e z l.
+            subst (λ (v : UnitState). Follows w sub.setup.side sub (sent_up sub downs (sent_by (unit_steps v act))) (unit_after v (unit_steps v act)) k next) e
+            (unit-follows w act sub.setup.side sub downs k next g (given w l) (ap (λ (v : UnitState). is_to v act sub.setup.side) e ∙ to) l f
+            (subst (λ (v : UnitState). TellsUnit sub v act k next) (sym e) tells));
       }
 
   -- Down
-  down_front-kept : (sub : Subchannel) (path : ℕ) (u : UnitState) (front : Option Down) → slice_get (queue sub.wires.down path) 0 ≡ front →
-      AreKept sub u (down_front sub path u front)
-  down_front-kept sub path u None e = tt
-  down_front-kept sub path u (Some x) e =
-      if-kept sub u (finds_full sub.wires.up (unit_table.came_of (unit_takes u sub.setup.side path x true)).sent) _ _ tt
-      (subst (λ (one : Option (OnPath Up)). IsKept sub (sent_up sub (taken sub.wires.down path) one) u (unit_after u (unit_takes u sub.setup.side path x true)))
-      (came-sent (unit_takes u sub.setup.side path x true))
-      (unit-kept sub u (Takes_down sub.setup.side (record { path = path; signal = x }) true) (taken sub.wires.down path)
-      (λ w k. covers-first (link_of w sub.setup.side).downs sub.wires.down path x k.downs e) (same-side sub.setup.side)
-      (λ m c. covers-taken m sub.wires.down path c) (λ e. (takes-plain u sub.setup.side path x true).restarts ∙ e)))
+  down-tells : (sub : Subchannel) (path : ℕ) (u : UnitState) (x : Down) (k : Starts) →
+      TellsUnit sub u (Takes_down sub.setup.side (record { path = path; signal = x }) true) k
+      (with_taken (reply.Down x (unit_table.came_of (unit_takes u sub.setup.side path x true)).taken (unit_table.came_of (unit_takes u sub.setup.side path x true)).sent) k)
+  down-tells sub path u x k w m side h t =
+      let step = unit_takes u sub.setup.side path x true in
+      taken-told k sub.state w m side x (unit_table.came_of step).taken (unit_table.came_of step).sent
+      (subst (Wide w m side) (came-sent step) h) (takes-of u sub.setup.side path x true) t
 
-  pub down-kept : (sub : Subchannel) (path : ℕ) (u : UnitState) → AreKept sub u (down_sub sub path u)
-  down-kept sub path u =
-      if-kept sub u (nat_lt path (length sub.setup.paths)) (down_front sub path u (slice_get (queue sub.wires.down path) 0)) _
-      (down_front-kept sub path u (slice_get (queue sub.wires.down path) 0) refl) tt
+  down_front-kept : (sub : Subchannel) (path : ℕ) (u : UnitState) (k : Starts) (front : Option Down) → slice_get (queue sub.wires.down path) 0 ≡ front →
+      AreKept sub u k (λ r. with_taken r k) (down_front sub path u front)
+  down_front-kept sub path u k None e = tt
+  down_front-kept sub path u k (Some x) e =
+      let step = unit_takes u sub.setup.side path x true in
+      let next = with_taken (reply.Down x (unit_table.came_of step).taken (unit_table.came_of step).sent) k in
+      if-kept sub u k (λ r. with_taken r k) (finds_full sub.wires.up (unit_table.came_of step).sent) _ _ tt
+      (subst (λ (one : Option (OnPath Up)). IsKept sub (sent_up sub (taken sub.wires.down path) one) u (unit_after u step) k next)
+      (came-sent step)
+      (unit-kept sub u (Takes_down sub.setup.side (record { path = path; signal = x }) true) (taken sub.wires.down path) k next
+      (λ w l. covers-first (link_of w sub.setup.side).downs sub.wires.down path x l.downs e) (same-side sub.setup.side)
+      (λ m c. covers-taken m sub.wires.down path c) (λ e. (takes-plain u sub.setup.side path x true).restarts ∙ e) (down-tells sub path u x k)))
+
+  pub down-kept : (sub : Subchannel) (path : ℕ) (u : UnitState) (k : Starts) → AreKept sub u k (λ r. with_taken r k) (down_sub sub path u)
+  down-kept sub path u k =
+      if-kept sub u k (λ r. with_taken r k) (nat_lt path (length sub.setup.paths)) (down_front sub path u (slice_get (queue sub.wires.down path) 0)) _
+      (down_front-kept sub path u k (slice_get (queue sub.wires.down path) 0) refl) tt
 
   -- Report
-  taken-kept : (sub : Subchannel) (u : UnitState) (r : Report) (step : Option UnitStep) → unit_reports u r ≡ step → same_side sub.setup.side r.side ≡ true →
-      AreKept sub u (report_taken sub step)
-  taken-kept sub u r None h e = tt
-  taken-kept sub u r (Some y) h e =
-      if-kept sub u (finds_full sub.wires.up y.sent) _ _ tt
-      (subst (λ (step : Option UnitStep). IsKept sub (sent_up sub sub.wires.down (sent_by step)) u (unit_after u step)) h
-      (unit-kept sub u (Reports r) sub.wires.down (λ w k. tt)
-      (subst (λ (side : Side). is_owner_side u.own side ≡ true) (sym (one-side sub.setup.side r.side e)) (report-side u u.own r y h)) (λ m c. c) (λ e. (report-plain u r).restarts ∙ e)))
+  taken-kept : (sub : Subchannel) (u : UnitState) (r : Report) (k : Starts) (step : Option UnitStep) → unit_reports u r ≡ step → same_side sub.setup.side r.side ≡ true →
+      AreKept sub u k (λ r. k) (report_taken sub step)
+  taken-kept sub u r k None h e = tt
+  taken-kept sub u r k (Some y) h e =
+      if-kept sub u k (λ r. k) (finds_full sub.wires.up y.sent) _ _ tt
+      (subst (λ (step : Option UnitStep). IsKept sub (sent_up sub sub.wires.down (sent_by step)) u (unit_after u step) k k) h
+      (unit-kept sub u (Reports r) sub.wires.down k k (λ w l. tt)
+      (subst (λ (side : Side). is_owner_side u.own side ≡ true) (sym (one-side sub.setup.side r.side e)) (report-side u u.own r y h)) (λ m c. c) (λ e. (report-plain u r).restarts ∙ e)
+      (λ w m side h t. told-wider k sub.state w m side h.passed h.accepted t)))
 
-  pub report-kept : (sub : Subchannel) (u : UnitState) (r : Report) → same_side sub.setup.side r.side ≡ true → AreKept sub u (report_sub sub u r)
-  report-kept sub u r e = taken-kept sub u r (unit_reports u r) refl e
+  pub report-kept : (sub : Subchannel) (u : UnitState) (r : Report) (k : Starts) → same_side sub.setup.side r.side ≡ true → AreKept sub u k (λ r. k) (report_sub sub u r)
+  report-kept sub u r k e = taken-kept sub u r k (unit_reports u r) refl e

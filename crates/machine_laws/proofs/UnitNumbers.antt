@@ -1,13 +1,11 @@
 -- The number of the last chunk at each unit is at most the number of events.
-use Rattle.std.proofs.Common.{◌≡◌, refl, sym, subst, ℕ, ◌+◌, ◌<◌, true, nat_lt, Option, None, Some, Result, List, [], ◌∷◌, length, map, arith, length-append}
+use Rattle.std.proofs.Common.{◌≡◌, sym, subst, ℕ, ◌+◌, ◌<◌, true, nat_lt, Option, None, Some, Result, List, [], ◌∷◌, length, map, arith, length-append}
 use Rattle.std.specs.Prelude.{slice_get, All, IfOk}
 use Rattle.std.specs.List.{AllZip}
 use Rattle.std.proofs.lemmas.List.Elements.{All-map, AllZip-get_or, length_all_zip}
-use Rattle.chan_model.specs.declared.event.Event.{Event}
 use Rattle.chan_model.specs.declared.fault.Fault.{Fault}
 use Rattle.chan_model.specs.declared.report.Report.{Report}
 use Rattle.chan_model.specs.declared.reply.Entry.{Entry}
-use Rattle.chan_model.specs.declared.reply.Reply.{Reply}
 use Rattle.chan_model.specs.declared.signal.Down.{Down}
 use Rattle.chan_model.specs.declared.unit_state.UnitState.{UnitState}
 use Rattle.chan_model.specs.UnitTable as unit_table
@@ -19,7 +17,7 @@ use Rattle.wires.specs.Queues.{queue}
 use Rattle.machine_model.specs.declared.state.Subchannel.{Subchannel}
 use Rattle.machine_model.specs.Bounds.{IsUnitWithin}
 use Rattle.machine_model.specs.State.{State, opening_of, idle_of}
-use Rattle.machine_model.specs.Steps.{DownTurn, finds_full, down_front, down_sub, report_taken, report_sub, Step, Run, Opened, Stepped}
+use Rattle.machine_model.specs.Steps.{DownTurn, finds_full, down_front, down_sub, report_taken, report_sub, Run, Opened, Stepped}
 use Rattle.machine_laws.proofs.Moves.{if-ok, zip-same, zip-set}
 use Rattle.machine_laws.proofs.UnitPlain.{IsPlain, IsPlainStep, stays, takes-plain, report-plain}
 use Rattle.machine_laws.proofs.Walk.{IsWalk, step-walks}
@@ -51,16 +49,17 @@ ArePlain s new = AllZip IsPlain s.units new.units
 same-units : (s : State) → AllZip IsPlain s.units s.units
 same-units s = zip-same IsPlain stays s.units
 
-units-walk : (s : State) → IsWalk s (ArePlain s)
+units-walk : (s : State) → IsWalk s (λ e r. ArePlain s)
 units-walk s = record {
-  stays = λ storage. same-units s;
-  starts = λ place sub orb c e. same-units s;
-  tests = λ storage place sub c e. same-units s;
-  modifies = λ storage place sub given c e. same-units s;
-  chooses = λ place sub choice t e h. same-units s;
-  ups = λ place sub path t e h. same-units s;
-  downs = λ place sub u path t e f h. zip-set IsPlain stays s.units sub.setup.«unit» u t.«unit» f (subst (AreUnits u) h (down-plain sub path u));
-  reports = λ place at sub u report t e f r h. zip-set IsPlain stays s.units place u t.«unit» f (subst (AreUnits u) h (report_sub-plain sub u report));
+  stays = λ v r storage n. same-units s;
+  starts = λ cpu word address id place sub orb c n f e. same-units s;
+  tests = λ v r storage place sub c n e. same-units s;
+  modifies = λ v r storage place sub given c n e. same-units s;
+  functions = λ v r place sub f c n e. same-units s;
+  chooses = λ word place sub choice t n e h. same-units s;
+  ups = λ v r place sub path t n e h. same-units s;
+  downs = λ word place sub u path t n e f h. zip-set IsPlain stays s.units sub.setup.«unit» u t.«unit» f (subst (AreUnits u) h (down-plain sub path u));
+  reports = λ v q place at sub u report t n e f r h. zip-set IsPlain stays s.units place u t.«unit» f (subst (AreUnits u) h (report_sub-plain sub u report));
 }
 
 units-after : (n : ℕ) (xs ys : List UnitState) → AllZip IsPlain xs ys → All (IsUnitWithin n) xs → All (IsUnitWithin (n + 1)) ys
@@ -77,4 +76,4 @@ pub run-units : (setup : Setup) (h : List Entry) (s : State) → Run (opening_of
 run-units setup _ _ Opened = opened-units setup.units
 run-units setup _ _ (Stepped h old e r new run step) =
     subst (λ m. All (IsUnitWithin m) new.units) (sym (length-append h (record { event = e; reply = r } ∷ [])))
-    (units-after (length h) old.units new.units (step-walks old (ArePlain old) (units-walk old) e r new step) (run-units setup h old run))
+    (units-after (length h) old.units new.units (step-walks old (λ v q. ArePlain old) (units-walk old) e r new step) (run-units setup h old run))

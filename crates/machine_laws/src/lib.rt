@@ -12,9 +12,10 @@ ghost use Rattle.machine_model.specs.State.{State, opening_of};
 ghost use Rattle.machine_model.specs.Steps.{Step, Run};
 ghost use Rattle.machine_model.specs.Bounds.{IsWithin, IsUnitWithin};
 ghost use Rattle.machine_laws.specs.Agreeing.{AllAgree, LeadsToAgreed};
+ghost use Rattle.machine_laws.specs.Beginnings.{IsBegunOnce};
 ghost use Rattle.machine_laws.specs.Claims.{IsPendingUncleared, IsLater, IsClearedOnce};
 
-use agreement_laws::agreement;
+use agreement_laws::{agreement, passing};
 use transfer::law::command_numbers;
 
 /// After each run the numbers of each subchannel, and of the chunks at each unit, are at most as many as there were events, and its status is pending
@@ -53,4 +54,14 @@ pub fn agreements()
         LeadsToAgreed (opening_of setup) h }
 {
     agreement();
+    passing();
+}
+
+/// Each START SUBCHANNEL (SA22-7832, chapter 14) begins at most one program at its device: after each run of a lawful
+/// set-up the starts that began one, of each subchannel, rise.
+pub fn beginnings()
+    ensures once { (setup : Setup) (h : List Entry) (s : State) → IsLawful setup → Run (opening_of setup) h s → IsBegunOnce (set_count setup) h }
+{
+    agreement();
+    passing();
 }

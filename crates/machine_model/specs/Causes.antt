@@ -15,10 +15,10 @@ use Rattle.machine_model.specs.declared.cause.Cause.{Cause}
 use Rattle.machine_model.specs.declared.cause.Cause.TheVariants as cause
 use Rattle.machine_model.specs.declared.state.Program.{Program}
 use Rattle.machine_model.specs.declared.state.Begun.{Begun}
+use Rattle.machine_model.specs.declared.state.Standing.{Standing}
 use Rattle.machine_model.specs.declared.state.SubchannelState.{SubchannelState}
 use Rattle.machine_model.specs.Functions.{without_programs}
-use Rattle.machine_model.specs.Statuses.{with_status, channel_end_shown, fetch_fault_shown, no_path_shown}
-use Rattle.machine_model.specs.Taking.{last_shown, has_shown}
+use Rattle.machine_model.specs.Statuses.{with_status, channel_end_shown, fetch_fault_shown, no_path_shown, last_shown, has_shown}
 
 -- status is pending, and nothing else is shown
 abbrev pub plain_shown : ℕ → ℕ → Shown
@@ -32,28 +32,43 @@ plain_shown address count = record {
   count = count;
 }
 
--- the program of which a status speaks, where it was begun: a start that waits was not, and its words stand as it left them
-abbrev pub spoken_of : Option Program → Option Begun → Option Begun
-spoken_of None begun = begun
-spoken_of (Some program) begun = None
+-- the words of the program of which a status speaks: where a start waits, or no program is there, they stand as they were
+-- left; otherwise they are those of the program that holds the device, or of the suspended one
+abbrev pub address_at : ℕ → Option Standing → ℕ
+address_at stands None = stands
+address_at stands (Some st) = st.walk.tried
 
-abbrev pub address_of : ℕ → Option Begun → ℕ
-address_of stands None = stands
-address_of stands (Some b) = b.transfer.walk.tried
+abbrev pub address_of : ℕ → Option Begun → Option Standing → ℕ
+address_of stands None suspended = address_at stands suspended
+address_of stands (Some b) suspended = b.transfer.walk.tried
 
-abbrev pub count_of : ℕ → Option Begun → ℕ
-count_of stands None = stands
-count_of stands (Some b) = residual b.transfer.moving
-
-abbrev pub was_shown : Option Begun → Bool
-was_shown None = false
-was_shown (Some b) = b.primary_shown
+abbrev pub address_by : ℕ → Option Program → Option Begun → Option Standing → ℕ
+address_by stands None begun suspended = address_of stands begun suspended
+address_by stands (Some program) begun suspended = stands
 
 abbrev pub address_shown : SubchannelState → ℕ
-address_shown s = address_of s.scsw.command_address (spoken_of s.waiting s.begun)
+address_shown s = address_by s.scsw.command_address s.waiting s.begun s.suspended
+
+abbrev pub count_at : ℕ → Option Standing → ℕ
+count_at stands None = stands
+count_at stands (Some st) = st.count
+
+abbrev pub count_of : ℕ → Option Begun → Option Standing → ℕ
+count_of stands None suspended = count_at stands suspended
+count_of stands (Some b) suspended = residual b.transfer.moving
+
+abbrev pub count_by : ℕ → Option Program → Option Begun → Option Standing → ℕ
+count_by stands None begun suspended = count_of stands begun suspended
+count_by stands (Some program) begun suspended = stands
 
 abbrev pub count_shown : SubchannelState → ℕ
-count_shown s = count_of s.scsw.count (spoken_of s.waiting s.begun)
+count_shown s = count_by s.scsw.count s.waiting s.begun s.suspended
+
+-- that program showed its primary status: one that waits or is suspended did not
+abbrev pub was_shown : Option Program → Option Begun → Bool
+was_shown None None = false
+was_shown None (Some b) = b.primary_shown
+was_shown (Some program) begun = false
 
 -- End: channel end alone; otherwise the last of its program, or of an earlier one while a start waits
 abbrev pub end_shown : SubchannelState → Begun → DeviceStatus → Bool → Shown
@@ -79,7 +94,7 @@ path_missing_shown s = record (no_path_shown s.scsw) { command_address = address
 -- interface-control check: primary status too where its program has not shown it, as where a start waits
 abbrev pub interface_shown : SubchannelState → Shown
 interface_shown s = record (plain_shown (address_shown s) (count_shown s)) {
-  conditions = conditions true (shows_primary s.scsw.functions (was_shown (spoken_of s.waiting s.begun))) true;
+  conditions = conditions true (shows_primary s.scsw.functions (was_shown s.waiting s.begun)) true;
   subchannel = record { 0 = 0x02 };
 }
 
@@ -112,14 +127,14 @@ shown_of s (cause.Suspension tried count) = suspension_shown tried count
 shown_of s cause.ClearDone = plain_shown 0 0
 shown_of s cause.HaltDone = plain_shown (address_shown s) (count_shown s)
 
--- the program that was begun is over, or where none was the one that waits
+-- the program that was begun is over, or where none was the one that was to be
 abbrev pub without_begun : Option Begun → SubchannelState → SubchannelState
-without_begun None s = record s { waiting = None }
+without_begun None s = record s { waiting = None; suspended = None }
 without_begun (Some b) s = record s { begun = None }
 
 -- the program that waits is over, or where none waits the suspended one
 abbrev pub without_waiting : Option Program → SubchannelState → SubchannelState
-without_waiting None s = record s { begun = None }
+without_waiting None s = record s { suspended = None }
 without_waiting (Some program) s = record s { waiting = None }
 
 -- after channel end alone the program works on, and showed its primary status
@@ -138,22 +153,19 @@ programs_left s cause.ClearDone = s
 programs_left s cause.HaltDone = without_programs s
 
 -- the status word that the status joins: with a clear nothing but the clear function is left; with a halt an intermediate
--- status that stands is turned off
+-- status that stands is turned off; one that is not enabled gets no status, but its activity and its programs change
 abbrev pub clear_scsw : Scsw
 clear_scsw = record zero_scsw { functions = record no_functions { clear = true } }
 
 abbrev pub without_intermediate : Scsw → Scsw
 without_intermediate scsw = record scsw { status = record scsw.status { intermediate = false } }
 
-abbrev pub joined_by : Scsw → Cause → Scsw
-joined_by scsw cause.ClearDone = clear_scsw
-joined_by scsw cause.HaltDone = without_intermediate scsw
-joined_by scsw other = scsw
+abbrev pub joined_by : Bool → Scsw → Cause → Scsw
+joined_by enabled scsw cause.ClearDone = if enabled then clear_scsw else scsw
+joined_by enabled scsw cause.HaltDone = if enabled then without_intermediate scsw else scsw
+joined_by enabled scsw other = scsw
 
--- the subchannel after the cause; one that is not enabled gets no status, but its activity and its programs change
-abbrev pub joined_where : Bool → Scsw → Cause → Scsw
-joined_where enabled scsw cause = if enabled then joined_by scsw cause else scsw
-
+-- the subchannel after the cause
 abbrev pub with_cause : SubchannelState → Cause → SubchannelState
 with_cause s cause =
-    with_status (record (programs_left s cause) { scsw = joined_where s.pmcw.enabled s.scsw cause }) (shown_of s cause)
+    with_status (record (programs_left s cause) { scsw = joined_by s.pmcw.enabled s.scsw cause }) (shown_of s cause)

@@ -1,6 +1,6 @@
 -- What the instructions that were accepted leave of a subchannel, beside START (SA22-7832, chapter 14; the effects are this
 -- project's own choice).
-use Rattle.std.specs.Prelude.{◌+◌, Bool, true, false, ◌&&◌, if◌then◌else◌, Option, None}
+use Rattle.std.specs.Prelude.{◌+◌, Bool, true, false, ◌&&◌, if◌then◌else◌, None}
 use Rattle.schib_block.specs.declared.pmcw.Pmcw as block
 use Rattle.scsw_irb.specs.declared.scsw.ActivityControl.{ActivityControl}
 use Rattle.scsw_irb.specs.declared.scsw.Scsw.{Scsw}
@@ -10,7 +10,6 @@ use Rattle.chan_model.specs.declared.reply.ConditionCode.TheVariants.{Zero, One,
 use Rattle.chan_model.specs.HoldTable.{resetting}
 use Rattle.chan_model.specs.Status.{intermediate_alone, without_status, serials_cleared}
 use Rattle.machine_model.specs.declared.state.Pmcw.{Pmcw}
-use Rattle.machine_model.specs.declared.state.Begun.{Begun}
 use Rattle.machine_model.specs.declared.state.SubchannelState.{SubchannelState}
 use Rattle.machine_model.specs.State.{all_paths, no_paths}
 use Rattle.machine_model.specs.Instructions.{tested}
@@ -76,6 +75,7 @@ cleared s = record s {
   drawn = s.drawn + 1;
   waiting = None;
   begun = None;
+  suspended = None;
   hold = resetting s.hold (s.drawn + 1);
   dedicated = None;
 }
@@ -92,15 +92,8 @@ cancelled_scsw scsw = record scsw {
   activity = cancelled_activity scsw.activity;
 }
 
-abbrev pub cancelled_begun : Bool → Option Begun → Option Begun
-cancelled_begun suspended begun = if suspended then None else begun
-
 abbrev pub cancelled : SubchannelState → SubchannelState
-cancelled s = record s {
-  scsw = cancelled_scsw s.scsw;
-  waiting = None;
-  begun = cancelled_begun s.scsw.activity.suspended s.begun;
-}
+cancelled s = record s { scsw = cancelled_scsw s.scsw; waiting = None; suspended = None }
 
 -- MODIFY: what may be changed is as in the given word
 abbrev pub placed : SubchannelState → block.Pmcw → SubchannelState
@@ -112,7 +105,7 @@ ends_suspended scsw =
     scsw.status.pending && (intermediate_alone scsw.status && (scsw.activity.suspended && scsw.functions.halt))
 
 abbrev pub without_programs : SubchannelState → SubchannelState
-without_programs s = record s { waiting = None; begun = None }
+without_programs s = record s { waiting = None; begun = None; suspended = None }
 
 abbrev pub tested_wholly : SubchannelState → SubchannelState
 tested_wholly s = if ends_suspended s.scsw then without_programs (tested s) else tested s

@@ -1,5 +1,5 @@
 -- What the instructions leave of a subchannel (SA22-7832, chapter 14; the effects are this project's own choice).
-use Rattle.std.specs.Prelude.{◌+◌, true, false, not, Some}
+use Rattle.std.specs.Prelude.{◌+◌, true, false, not, None, Some}
 use Rattle.orb_block.specs.declared.Orb.{Orb}
 use Rattle.scsw_irb.specs.declared.scsw.DeferredCode.TheVariants as deferred
 use Rattle.scsw_irb.specs.declared.scsw.Scsw.{Scsw}
@@ -47,12 +47,14 @@ started_scsw scsw orb = record scsw {
 abbrev pub started_pmcw : Pmcw → Orb → Pmcw
 started_pmcw pmcw orb = record pmcw { parameter = orb.parameter; logical = paths_of_mask orb.paths; not_operational = no_paths }
 
+-- the program waits; none is suspended beside it, as the start function is in progress as long as one is
 abbrev pub started : SubchannelState → Orb → SubchannelState
 started s orb = record s {
   pmcw = started_pmcw s.pmcw orb;
   scsw = started_scsw s.scsw orb;
   starts = s.starts + 1;
   waiting = Some (record { start = s.starts + 1; orb = orb; single_path = not s.pmcw.multipath });
+  suspended = None;
 }
 
 -- TEST: all status that was made is cleared

@@ -8,3 +8,4 @@ pub mod Steps
 pub mod Bounds
 pub mod Functions
 pub mod Causes
+pub mod Answering

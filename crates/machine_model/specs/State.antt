@@ -1,6 +1,6 @@
 -- What there is of a channel subsystem, as small values.
 use Rattle.std.proofs.Common.{lit<}
-use Rattle.std.specs.Prelude.{ℕ, ◌+◌, ◌==◌, ◌&&◌, ◌||◌, not, Bool, true, false, List, [], ◌∷◌, map, length, replicate, slice_get, slice_set, unwrap_or, Option, None, Some, if◌then◌else◌}
+use Rattle.std.specs.Prelude.{ℕ, zero, suc, ◌+◌, ◌%◌, ◌==◌, ◌&&◌, not, nat_lt, Bool, true, false, List, [], ◌∷◌, map, length, replicate, slice_get, slice_set, unwrap_or, Option, None, Some, if◌then◌else◌}
 use Rattle.scsw_irb.specs.Empty.{zero_scsw}
 use Rattle.storage_keys.specs.Storage.{Contents, cleared}
 use Rattle.chan_model.specs.declared.unit_state.UnitState.{UnitState}
@@ -12,13 +12,20 @@ use Rattle.channel_config.specs.declared.parts.UnitKind.{UnitKind}
 use Rattle.channel_config.specs.declared.parts.SubchannelSetup.{SubchannelSetup}
 use Rattle.channel_config.specs.Setup.{Setup, set_count}
 use Rattle.channel_config.specs.SubchannelWords.{subchannel_named}
-use Rattle.std.specs.List.{list_any}
 use Rattle.scsw_irb.specs.declared.serials.Serials.{Serials}
 use Rattle.chan_model.specs.declared.signal.Down.{Down}
 use Rattle.chan_model.specs.declared.report.Work.{Work}
 use Rattle.chan_model.specs.UnitReports.{unit_work}
 use Rattle.machine_model.specs.declared.state.UnitTurn.{UnitTurn}
+use Rattle.machine_model.specs.declared.state.UnitTurn.TheVariants as unit_turn
 use Rattle.machine_model.specs.declared.state.UnitTurn.TheVariants.{Takes, Works, Rests}
+use Rattle.chan_model.specs.declared.names.Side.{Side}
+use Rattle.chan_model.specs.declared.names.Side.TheVariants.{First, Second}
+use Rattle.chan_model.specs.declared.unit_state.Own.{Own}
+use Rattle.chan_model.specs.declared.unit_state.Own.TheVariants.{Idle, Owned}
+use Rattle.chan_model.specs.declared.unit_state.Place.{Place}
+use Rattle.chan_model.specs.declared.unit_state.Place.TheVariants.{Away}
+use Rattle.chan_model.specs.Sides.{same_side}
 use Rattle.wires.specs.Queues.{no_queues, queue}
 use Rattle.machine_model.specs.declared.state.Pmcw.{Pmcw}
 use Rattle.machine_model.specs.declared.state.SubchannelState.{SubchannelState}
@@ -55,6 +62,7 @@ opening_subchannel = record {
   starts = 0;
   waiting = None;
   begun = None;
+  suspended = None;
   hold = free_hold;
   offered = 0;
   last_path = None;
@@ -120,26 +128,68 @@ abbrev pub serials_in : Option Subchannel → Option Serials
 serials_in None = None
 serials_in (Some sub) = Some sub.state.serials
 
--- a signal waits on some wire down to a unit
+-- the subchannel that reaches a side of a unit
+abbrev pub reaches : ℕ → Side → Subchannel → Bool
+reaches place side sub = (sub.setup.unit == place) && same_side sub.setup.side side
+
+abbrev pub reached_in : ℕ → Side → List Subchannel → Option ℕ
+reached_in place side subs = first_place (reaches place side) subs
+
+abbrev pub reached_sub : ℕ → Side → List Subchannel → Option Subchannel
+reached_sub place side subs = sub_at subs (reached_in place side subs)
+
+-- the lowest path of a subchannel whose wire down has a signal
 abbrev pub has_signal : List (List Down) → ℕ → Bool
 has_signal queues path = not (length (queue queues path) == 0)
 
-abbrev pub any_down : List (List Down) → Bool
-any_down queues =
-    has_signal queues 0 || (has_signal queues 1 || (has_signal queues 2 || (has_signal queues 3
-    || (has_signal queues 4 || (has_signal queues 5 || (has_signal queues 6 || has_signal queues 7))))))
+abbrev pub path_or : Bool → ℕ → Option ℕ → Option ℕ
+path_or here path later = if here then Some path else later
 
-abbrev pub awaits : ℕ → Subchannel → Bool
-awaits place sub = (sub.setup.«unit» == place) && any_down sub.wires.down
+abbrev pub signal_path : List (List Down) → Option ℕ
+signal_path queues =
+    path_or (has_signal queues 0) 0 (path_or (has_signal queues 1) 1 (path_or (has_signal queues 2) 2 (path_or (has_signal queues 3) 3
+    (path_or (has_signal queues 4) 4 (path_or (has_signal queues 5) 5 (path_or (has_signal queues 6) 6 (path_or (has_signal queues 7) 7 None)))))))
 
--- what a unit is to do: take a signal, else what its program asks for, else nothing
-abbrev pub turn_from : Option Work → UnitTurn
-turn_from None = Rests
-turn_from (Some w) = Works w
+abbrev pub takes_on : Subchannel → Option ℕ → Option UnitTurn
+takes_on sub None = None
+takes_on sub (Some path) = Some (Takes sub.setup.id path)
+
+abbrev pub takes_from : Option Subchannel → Option UnitTurn
+takes_from None = None
+takes_from (Some sub) = takes_on sub (signal_path sub.wires.down)
+
+-- a program that is away may ask for a path: the first of its subchannel in cyclic order from the one whose index is the
+-- number of its last connection, modulo 8 (own)
+abbrev pub cyclic_path : ℕ → ℕ → ℕ → Option ℕ
+cyclic_path paths zero from = None
+cyclic_path paths (suc n) from = if nat_lt (from % 8) paths then Some (from % 8) else cyclic_path paths n (from + 1)
+
+abbrev pub away_path : Option Subchannel → ℕ → Option ℕ
+away_path None c = None
+away_path (Some sub) c = cyclic_path (length sub.setup.paths) 8 c
+
+abbrev pub turn_of_place : List Subchannel → ℕ → Side → Place → UnitTurn
+turn_of_place subs place side (Away c) = unit_turn.Away (away_path (reached_sub place side subs) c)
+turn_of_place subs place side other = Rests
+
+abbrev pub turn_of_own : List Subchannel → ℕ → Own → UnitTurn
+turn_of_own subs place Idle = Rests
+turn_of_own subs place (Owned side t at) = turn_of_place subs place side at
+
+-- what a unit is to do, the first that there is: take a signal, of its first side before its second; what its program
+-- asks for; ask for a path
+abbrev pub turn_by_work : State → ℕ → UnitState → Option Work → UnitTurn
+turn_by_work s place u None = turn_of_own s.subs place u.own
+turn_by_work s place u (Some w) = Works w
+
+abbrev pub turn_or : Option UnitTurn → UnitTurn → UnitTurn
+turn_or None later = later
+turn_or (Some turn) later = turn
 
 abbrev pub turn_of_unit : State → ℕ → Option UnitState → Option UnitTurn
 turn_of_unit s place None = None
-turn_of_unit s place (Some u) = Some (if list_any (awaits place) s.subs then Takes else turn_from (unit_work u))
+turn_of_unit s place (Some u) =
+    Some (turn_or (takes_from (reached_sub place First s.subs)) (turn_or (takes_from (reached_sub place Second s.subs)) (turn_by_work s place u (unit_work u))))
 
 abbrev pub unit_turn_of : State → ℕ → Option UnitTurn
 unit_turn_of s place = turn_of_unit s place (slice_get s.units place)

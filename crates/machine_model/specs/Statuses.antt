@@ -13,6 +13,7 @@ use Rattle.channel_program.specs.declared.check.Check.{Check}
 use Rattle.channel_program.specs.declared.check.Check.TheVariants.{Program, Protection}
 use Rattle.data_move.specs.Moving.{residual, is_incorrect}
 use Rattle.machine_model.specs.declared.state.Begun.{Begun}
+use Rattle.machine_model.specs.declared.state.Program as state
 use Rattle.machine_model.specs.declared.state.SubchannelState.{SubchannelState}
 
 -- a status is made pending
@@ -138,3 +139,11 @@ earlier_end_shown scsw b status more = record {
   command_address = scsw.command_address;
   count = scsw.count;
 }
+
+abbrev pub last_shown : Scsw → Begun → Option state.Program → DeviceStatus → Bool → Shown
+last_shown scsw b None status more = last_end_shown scsw b status more
+last_shown scsw b (Some waiting) status more = earlier_end_shown scsw b status more
+
+-- channel end alone where nothing is chained
+abbrev pub has_shown : Begun → Begun
+has_shown b = record b { primary_shown = true; transfer = record b.transfer { ended = true; unchained = true } }

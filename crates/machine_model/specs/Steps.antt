@@ -1,5 +1,5 @@
 -- The steps of a channel subsystem, and its runs.
-use Rattle.std.specs.Prelude.{◌≡◌, ◌<◌, ◌≤◌, ℕ, ◌+◌, Bool, true, false, ◌==◌, ◌&&◌, nat_lt, if◌then◌else◌, Option, None, Some, List, [], ◌∷◌, ◌++◌, length, take, slice_get, Result, Ok, Err, ◌⊎◌}
+use Rattle.std.specs.Prelude.{◌≡◌, ◌<◌, ℕ, ◌+◌, Bool, true, false, ◌==◌, nat_lt, if◌then◌else◌, Option, None, Some, List, [], ◌∷◌, ◌++◌, length, slice_get, Result, Ok, Err, ◌⊎◌}
 use Rattle.zbits.specs.Layout.{image_of}
 use Rattle.zbits.specs.Words.{bytes_of_words, word_at}
 use Rattle.orb_block.specs.declared.Orb.{Orb}
@@ -15,7 +15,6 @@ use Rattle.storage_keys.specs.declared.StorageFault.{StorageFault}
 use Rattle.storage_keys.specs.Storage.{Contents, put, shown, key_set, prefix_set, operand_at, operand_check, operand_stored}
 use Rattle.chan_model.specs.declared.fault.Fault.{Fault}
 use Rattle.chan_model.specs.declared.fault.Fault.TheVariants as fault
-use Rattle.chan_model.specs.declared.names.Side.{Side}
 use Rattle.chan_model.specs.declared.signal.OnPath.{OnPath}
 use Rattle.chan_model.specs.declared.signal.Down.{Down}
 use Rattle.chan_model.specs.declared.signal.Down.TheVariants as down
@@ -33,9 +32,8 @@ use Rattle.chan_model.specs.declared.reply.Answer.TheVariants as answer
 use Rattle.chan_model.specs.declared.reply.Reply.{Reply}
 use Rattle.chan_model.specs.declared.reply.Reply.TheVariants as reply
 use Rattle.chan_model.specs.declared.reply.Entry.{Entry}
-use Rattle.chan_model.specs.ConditionCodes.{ssch_code, tsch_code, msch_code, stsch_code, answer_of}
+use Rattle.chan_model.specs.ConditionCodes.{ssch_code, tsch_code, msch_code, stsch_code, rsch_code, hsch_code, csch_code, xsch_code, answer_of}
 use Rattle.chan_model.specs.PathSets.{mask_of_path}
-use Rattle.chan_model.specs.Sides.{same_side}
 use Rattle.chan_model.specs.UnitTable as unit_table
 use Rattle.chan_model.specs.UnitTable.{UnitStep, unit_takes, unit_after}
 use Rattle.chan_model.specs.UnitReports.{unit_reports}
@@ -47,13 +45,16 @@ use Rattle.path_select.specs.Choice.{IsChoice}
 use Rattle.wires.specs.Queues.{queue, sent, taken}
 use Rattle.machine_model.specs.declared.state.SubchannelState.{SubchannelState}
 use Rattle.machine_model.specs.declared.state.Subchannel.{Subchannel}
-use Rattle.machine_model.specs.declared.state.Program.{Program}
-use Rattle.machine_model.specs.State.{State, Past, opening_of, place_of, place_in, first_place, sub_at, with_sub, with_unit}
-use Rattle.machine_model.specs.Instructions.{condition_of, started, tested}
+use Rattle.machine_model.specs.declared.cause.Cause.{Cause}
+use Rattle.machine_model.specs.declared.cause.Cause.TheVariants as cause
+use Rattle.machine_model.specs.State.{State, opening_of, place_of, place_in, sub_at, with_sub, with_unit, reached_in}
+use Rattle.machine_model.specs.Instructions.{condition_of, started}
 use Rattle.machine_model.specs.declared.state.Chosen.{Chosen}
-use Rattle.machine_model.specs.declared.state.Chosen.TheVariants.{Idle, Over, Offers}
+use Rattle.machine_model.specs.declared.state.Chosen.TheVariants.{Idle, Resets, Clears, Halts, Ends, Over, Offers}
 use Rattle.machine_model.specs.declared.state.UpStep.{UpStep}
-use Rattle.machine_model.specs.Choosing.{chosen, offered, without_path, usable_paths}
+use Rattle.machine_model.specs.Causes.{with_cause}
+use Rattle.machine_model.specs.Choosing.{chosen, paths_to_choose, reset_sent, halt_sent, offered}
+use Rattle.machine_model.specs.Functions.{left_by, resumed, halted, cleared, cancelled, tested_wholly}
 use Rattle.machine_model.specs.SubchannelBlocks.{pmcw_of, schib_of, modified_state, enabling, enabling_schib, enabling_word}
 use Rattle.machine_model.specs.Taking.{Met, takes_up}
 
@@ -141,7 +142,7 @@ abbrev pub irb_of : SubchannelState → Irb
 irb_of s = record { scsw = s.scsw; last_path_used = mask_of_path s.pmcw.last_used }
 
 abbrev pub test_with : Subchannel → ConditionCode → SubTurn
-test_with sub code.Zero = leaves (reply.Status (answer.Zero (tested sub.state).serials) sub.state.scsw) (with_state sub (tested sub.state))
+test_with sub code.Zero = leaves (reply.Status (answer.Zero (tested_wholly sub.state).serials) sub.state.scsw) (with_state sub (tested_wholly sub.state))
 test_with sub code.One = leaves (reply.Status (answer.One sub.state.serials) sub.state.scsw) sub
 test_with sub code.Two = leaves (reply.Code answer.Two) sub
 test_with sub code.Three = leaves (reply.Code answer.Three) sub
@@ -235,6 +236,30 @@ abbrev pub Enables : State → ℕ → Option ℕ → Option Subchannel → ℕ 
 Enables s cpu place sub subclass multipath (Err f) r = r ≡ Err (fault.Storage f)
 Enables s cpu place sub subclass multipath (Ok image) r = Enables_with s cpu place sub subclass multipath image r
 
+-- RESUME, HALT, CLEAR, CANCEL: with code 0 the effect is left
+abbrev pub function_left : Subchannel → ConditionCode → SubchannelState → SubTurn
+function_left sub code state = leaves (reply.Code (answer_of code state.serials)) (with_state sub state)
+
+abbrev pub function_sub : Subchannel → ConditionCode → SubchannelState → SubTurn
+function_sub sub code effect = function_left sub code (left_by code sub.state effect)
+
+abbrev pub resume_sub : Subchannel → SubTurn
+resume_sub sub = function_sub sub (rsch_code (condition_of sub.state)) (resumed sub.state)
+
+abbrev pub halt_sub : Subchannel → SubTurn
+halt_sub sub = function_sub sub (hsch_code (condition_of sub.state)) (halted sub.state)
+
+abbrev pub clear_sub : Subchannel → SubTurn
+clear_sub sub = function_sub sub (csch_code (condition_of sub.state)) (cleared sub.state)
+
+abbrev pub cancel_sub : Subchannel → SubTurn
+cancel_sub sub = function_sub sub (xsch_code (condition_of sub.state)) (cancelled sub.state)
+
+abbrev pub function_at : State → Option ℕ → Option Subchannel → (Subchannel → SubTurn) → Outcome
+function_at s None sub turn = not_provided s
+function_at s (Some place) None turn = not_provided s
+function_at s (Some place) (Some sub) turn = at_place s place (turn sub)
+
 -- the tests of an instruction: general register 1, alignment, addressing, contents, condition code
 abbrev pub Executes_at : State → ℕ → Instruction → Option ℕ → Option Subchannel → Outcome → Type 0
 Executes_at s cpu (instruction.Ssch word address) place sub r = Starts s place sub (operand_at s.storage cpu address 12 4) r
@@ -243,6 +268,10 @@ Executes_at s cpu (instruction.Stsch word address) place sub r = r ≡ stores s 
 Executes_at s cpu (instruction.Msch word address) place sub r = Modifies s place sub (operand_at s.storage cpu address 52 4) r
 Executes_at s cpu (instruction.Enable word subclass multipath) place sub r =
     Enables s cpu place sub subclass multipath (operand_at s.storage cpu 0xF00 52 4) r
+Executes_at s cpu (instruction.Rsch word) place sub r = r ≡ function_at s place sub resume_sub
+Executes_at s cpu (instruction.Hsch word) place sub r = r ≡ function_at s place sub halt_sub
+Executes_at s cpu (instruction.Csch word) place sub r = r ≡ function_at s place sub clear_sub
+Executes_at s cpu (instruction.Xsch word) place sub r = r ≡ function_at s place sub cancel_sub
 
 abbrev pub Executes_on : State → ℕ → Instruction → Option SubchannelId → Outcome → Type 0
 Executes_on s cpu i None r = r ≡ Err fault.Operand
@@ -254,6 +283,10 @@ word_of (instruction.Tsch word address) = word
 word_of (instruction.Stsch word address) = word
 word_of (instruction.Msch word address) = word
 word_of (instruction.Enable word subclass multipath) = word
+word_of (instruction.Rsch word) = word
+word_of (instruction.Hsch word) = word
+word_of (instruction.Csch word) = word
+word_of (instruction.Xsch word) = word
 
 abbrev pub Executes : State → ℕ → Instruction → Outcome → Type 0
 Executes s cpu i r = Executes_on s cpu i (subchannel_named s.sets (word_of i)) r
@@ -277,16 +310,24 @@ with_any_sent queues None = queues
 with_any_sent queues (Some s) = sent queues s.path s.signal
 
 -- Choose
-abbrev pub offer_sub : Subchannel → Program → ℕ → Result SubTurn Fault
-offer_sub sub program path =
+abbrev pub send_sub : Subchannel → SubchannelState → ℕ → Down → Reply → Result SubTurn Fault
+send_sub sub state path signal r =
     if is_full sub.wires.down path then Err fault.WireFull
-    else Ok (leaves (reply.Offered (sub.state.drawn + 1) path false)
-    (record sub { state = offered sub.state program path; wires = record sub.wires { down = sent sub.wires.down path (down.Select (sub.state.drawn + 1)) } }))
+    else Ok (leaves r (record sub { state = state; wires = record sub.wires { down = sent sub.wires.down path signal } }))
+
+-- a status is made pending
+abbrev pub pend_sub : Subchannel → Cause → Result SubTurn Fault
+pend_sub sub cause = Ok (leaves reply.Pending (with_state sub (with_cause sub.state cause)))
 
 abbrev pub choose_sub : Subchannel → Chosen → Result SubTurn Fault
 choose_sub sub Idle = Ok (leaves reply.Idle sub)
-choose_sub sub Over = Ok (leaves reply.Pending (with_state sub (without_path sub.state)))
-choose_sub sub (Offers program path) = offer_sub sub program path
+choose_sub sub (Resets r path) = send_sub sub (reset_sent sub.state path) path (down.Reset r sub.state.hold.known) (reply.ResetSent r path)
+choose_sub sub Clears = pend_sub sub cause.ClearDone
+choose_sub sub (Halts t path) = send_sub sub (halt_sent sub.state) path (down.Halt t) (reply.HaltSent t path)
+choose_sub sub Ends = pend_sub sub cause.HaltDone
+choose_sub sub Over = pend_sub sub cause.NoPath
+choose_sub sub (Offers c path) =
+    send_sub sub (offered sub.state c.program path) path (down.Select (sub.state.drawn + 1)) (reply.Offered (sub.state.drawn + 1) path c.resumes)
 
 abbrev pub at_sub : State → ℕ → Result SubTurn Fault → Outcome
 at_sub s place (Err f) = Err f
@@ -296,7 +337,7 @@ abbrev pub Chooses : State → Option ℕ → Option Subchannel → Outcome → 
 Chooses s None sub r = r ≡ Err fault.NoSuchSubchannel
 Chooses s (Some place) None r = r ≡ Err fault.NoSuchSubchannel
 Chooses s (Some place) (Some sub) r =
-    (choice : Option ℕ) × IsChoice (usable_paths s.subs sub) choice × (r ≡ at_sub s place (choose_sub sub (chosen sub choice)))
+    (choice : Option ℕ) × IsChoice (paths_to_choose s.subs sub) choice × (r ≡ at_sub s place (choose_sub sub (chosen sub choice)))
 
 -- the path of this index, where the subchannel has one
 abbrev pub PathOf : Subchannel → ℕ → Option ℕ → Type 0
@@ -374,12 +415,6 @@ down_at s (Some place) None path = Err fault.NoSuchSubchannel
 down_at s (Some place) (Some sub) path = down_unit s place sub path (slice_get s.units sub.setup.unit)
 
 -- Report: the unit takes its device's answer, and sends what comes of it to the subchannel of its side
-abbrev pub reaches : ℕ → Side → Subchannel → Bool
-reaches place side sub = (sub.setup.unit == place) && same_side sub.setup.side side
-
-abbrev pub reached_in : ℕ → Side → List Subchannel → Option ℕ
-reached_in place side subs = first_place (reaches place side) subs
-
 -- one that is taken may send nothing
 abbrev pub with_any_up : Subchannel → Option (OnPath Up) → Subchannel
 with_any_up sub sends = record sub { wires = record sub.wires { up = with_any_sent sub.wires.up sends } }
@@ -454,26 +489,3 @@ pub data Run (opening : State) : List Entry → State → Type 0 where
 -- these entries lead to the state from the opening of some machine that is lawfully set up
 abbrev pub HasRun : List Entry → State → Type 0
 HasRun h s = (setup : Setup) × IsLawful setup × Run (opening_of setup) h s
-
--- the events that were accepted, with their replies
-abbrev pub accepted : List Event → List (Result Reply Fault) → List Entry
-accepted [] answers = []
-accepted (e ∷ events) [] = []
-accepted (e ∷ events) (Ok r ∷ answers) = record { event = e; reply = r } ∷ accepted events answers
-accepted (e ∷ events) (Err f ∷ answers) = accepted events answers
-
--- each event in order came to its answer: a step with its reply, or a refusal that changed nothing
-abbrev pub Answered : State → List Event → List (Result Reply Fault) → State → Type 0
-Answered old [] [] new = new ≡ old
-Answered old (e ∷ events) (a ∷ answers) new = (middle : State) × Performs old e a middle × Answered middle events answers new
-Answered old [] (a ∷ answers) new = ⊥
-Answered old (e ∷ events) [] new = ⊥
-
--- so many events were answered, and the history grew by those that were accepted
-pub record HasAnswered (old : Past) (events : List Event) (answers : List (Result Reply Fault)) (new : Past) : Type 0 where
-  pub answered : Answered old.state events answers new.state
-  pub history : new.history ≡ old.history ++ accepted events answers
-
--- the first of the events were
-abbrev pub HasBegun : Past → List Event → Past → Type 0
-HasBegun old events new = (n : ℕ) × (answers : List (Result Reply Fault)) × (n ≤ length events) × HasAnswered old (take n events) answers new

@@ -1,5 +1,5 @@
 -- What a subchannel does with a signal that came up by a path (own).
-use Rattle.std.specs.Prelude.{ℕ, ◌+◌, ◌<◌, ◌^◌, Bool, true, false, ◌==◌, if◌then◌else◌, Option, None, Some, List, [], slice_set, Result, Ok, Err}
+use Rattle.std.specs.Prelude.{ℕ, ◌+◌, ◌<◌, ◌^◌, Bool, true, false, not, ◌==◌, ◌&&◌, if◌then◌else◌, Option, None, Some, is_some, List, [], slice_set}
 use Rattle.scsw_irb.specs.declared.scsw.ActivityControl.{ActivityControl}
 use Rattle.scsw_irb.specs.declared.scsw.Scsw.{Scsw}
 use Rattle.scsw_irb.specs.declared.status.DeviceStatus.{DeviceStatus}
@@ -16,12 +16,14 @@ use Rattle.chan_model.specs.declared.signal.Up.TheVariants as up
 use Rattle.chan_model.specs.HoldTable.{HoldStep, hold_takes, hold_after, came_of, is_connected, is_on, letting_go}
 use Rattle.chan_model.specs.Loads.{load_length}
 use Rattle.chan_model.specs.declared.signal.Load.TheVariants as load
-use Rattle.chan_model.specs.declared.status.Shown.{Shown}
+use Rattle.scsw_irb.specs.Empty.{no_activity}
 use Rattle.chan_model.specs.UnitReports.{is_last_end, is_outward, has_device_end, has_unit_check}
-use Rattle.channel_program.specs.declared.check.Check.{Check}
+use Rattle.channel_program.specs.Walks.{Place, place}
 use Rattle.data_move.specs.Moving.{residual}
 use Rattle.transfer.specs.declared.Transfer.{Transfer}
 use Rattle.transfer.specs.declared.Beginning.{Beginning}
+use Rattle.transfer.specs.declared.Came.{Came}
+use Rattle.transfer.specs.declared.Came.TheVariants as came
 use Rattle.transfer.specs.declared.Roomy.{Roomy}
 use Rattle.transfer.specs.declared.Given.{Given}
 use Rattle.transfer.specs.Commands.{first_command, next_command, begun_with_room, with_room}
@@ -31,7 +33,10 @@ use Rattle.machine_model.specs.declared.state.Program.{Program}
 use Rattle.machine_model.specs.declared.state.Begun.{Begun}
 use Rattle.machine_model.specs.declared.state.SubchannelState.{SubchannelState}
 use Rattle.machine_model.specs.declared.state.UpStep.{UpStep}
-use Rattle.machine_model.specs.Statuses.{with_status, fetch_fault_shown, channel_end_shown, last_end_shown, earlier_end_shown, has_status_modifier, chains_command}
+use Rattle.machine_model.specs.declared.cause.Cause.TheVariants as cause
+use Rattle.machine_model.specs.declared.state.Standing.{Standing}
+use Rattle.machine_model.specs.Causes.{with_cause}
+use Rattle.machine_model.specs.Statuses.{has_status_modifier, chains_command}
 
 -- a subchannel after a signal, what came of the signal, and storage
 pub record Met : Type 0 where
@@ -60,10 +65,39 @@ let_go s =
 abbrev pub by_hold : SubchannelState → Option HoldStep → UpStep
 by_hold s step = record { state = record s { hold = hold_after s.hold step }; came = came_of step }
 
--- Accept: the path is the last used and is operational; the waiting program that was offered takes the device
-abbrev pub waits_as : Option Program → ℕ → Bool
-waits_as None start = false
-waits_as (Some program) start = program.start == start
+-- a block that took control may ask for an interruption by the program: intermediate status, as soon as it did
+abbrev pub without_interruption : Begun → Begun
+without_interruption b = record b { transfer = record b.transfer { interrupts = false } }
+
+abbrev pub interrupted_by : SubchannelState → Begun → SubchannelState
+interrupted_by s b =
+    if b.transfer.interrupts
+    then with_cause (record s { begun = Some (without_interruption b) }) (cause.Interruption b.transfer.walk.tried (residual b.transfer.moving))
+    else s
+
+abbrev pub interrupted : SubchannelState → Option Begun → SubchannelState
+interrupted s None = s
+interrupted s (Some b) = interrupted_by s b
+
+-- Accept: the path is the last used and is operational; the program that was offered takes the device, from its beginning
+-- where it waited, and otherwise from where it was suspended
+abbrev pub from_start : Program → Standing
+from_start program = record { program = program; walk = place program.orb []; count = 0 }
+
+abbrev pub suspended_as : Option Standing → ℕ → Option Standing
+suspended_as None start = None
+suspended_as (Some st) start = if st.program.start == start then Some st else None
+
+abbrev pub standing_as : Option Program → Option Standing → ℕ → Option Standing
+standing_as None suspended start = suspended_as suspended start
+standing_as (Some program) suspended start = if program.start == start then Some (from_start program) else suspended_as suspended start
+
+abbrev pub standing : SubchannelState → Option Standing
+standing s = standing_as s.waiting s.suspended s.offered
+
+-- it does where it isn't over, and no halt is pending
+abbrev pub goes_ahead : SubchannelState → Bool
+goes_ahead s = is_some (standing s) && not s.scsw.activity.halt_pending
 
 abbrev pub with_path : Pmcw → ℕ → Pmcw
 with_path pmcw p = record pmcw { last_used = Some p; operational = slice_set pmcw.operational p true }
@@ -78,36 +112,53 @@ abbrev pub taking_over : SubchannelState → Program → Transfer → Subchannel
 taking_over s program transfer = record s {
   scsw = working_scsw s.scsw;
   waiting = None;
+  suspended = None;
   begun = Some (record { program = program; primary_shown = false; transfer = transfer });
 }
 
--- its first command is sent, with the room for what it brings; where it can't be, the program is over with status, and
--- lets the device go
-abbrev pub fetch_fault : SubchannelState → ℕ → Check → UpStep
-fetch_fault s tried check = let_go (with_status (record s { waiting = None }) (fetch_fault_shown tried check 0))
+-- a program is suspended before its next block takes control: intermediate status, unless U is one; a resume that is
+-- pending is turned off (own). No start waits behind a program that goes on
+abbrev pub suspended_alone : Scsw → Scsw
+suspended_alone scsw = record scsw { activity = record no_activity { suspended = true } }
 
+abbrev pub standing_still : SubchannelState → Program → Place → ℕ → SubchannelState
+standing_still s program walk count = record s { waiting = None; begun = None; suspended = Some (record { program = program; walk = walk; count = count }) }
+
+abbrev pub suspending : SubchannelState → Program → Place → ℕ → SubchannelState
+suspending s program walk count =
+    if program.orb.suppress_suspended then record (standing_still s program walk count) { scsw = suspended_alone s.scsw }
+    else with_cause (standing_still s program walk count) (cause.Suspension walk.tried count)
+
+-- its first command is sent, with the room for what it brings; where it can't be, the program is suspended or over, and
+-- lets the device go
 abbrev pub sends_first : SubchannelState → ℕ → ℕ → Program → Roomy → UpStep
 sends_first s p t program x =
-    sending (taking_over s program x.transfer) p (down.Command t x.transfer.command x.transfer.code x.room)
+    let next = taking_over s program x.transfer in
+    sending (interrupted next next.begun) p (down.Command t x.transfer.command x.transfer.code x.room)
 
-abbrev pub beginning : Contents → SubchannelState → ℕ → ℕ → Program → ℕ → Result Transfer Check → UpStep
-beginning storage s p t program tried (Ok transfer) = sends_first s p t program (begun_with_room storage transfer)
-beginning storage s p t program tried (Err check) = fetch_fault s tried check
+abbrev pub beginning : Contents → SubchannelState → ℕ → ℕ → Standing → Place → Came → UpStep
+beginning storage s p t st walk (came.Begins transfer) = sends_first s p t st.program (begun_with_room storage transfer)
+beginning storage s p t st walk came.Suspends = let_go (suspending s st.program walk st.count)
+beginning storage s p t st walk (came.Stops check) = let_go (with_cause s (cause.FetchFault walk.tried check st.count))
 
-abbrev pub begin_with : Contents → SubchannelState → ℕ → ℕ → Program → Beginning → UpStep
-begin_with storage s p t program first = beginning storage s p t program first.tried first.came
+abbrev pub begin_with : Contents → SubchannelState → ℕ → ℕ → Standing → Beginning → UpStep
+begin_with storage s p t st first = beginning storage s p t st first.walk first.came
 
-abbrev pub begin_waiting : Contents → SubchannelState → ℕ → ℕ → Option Program → UpStep
-begin_waiting storage s p t None = quietly s
-begin_waiting storage s p t (Some program) = begin_with storage s p t program (first_command storage program.orb)
+abbrev pub begin_standing : Contents → SubchannelState → ℕ → ℕ → Option Standing → UpStep
+begin_standing storage s p t None = quietly s
+begin_standing storage s p t (Some st) = begin_with storage s p t st (first_command storage st.walk)
+
+-- where a halt is pending, it is performed as the device is let go
+abbrev pub halt_done : SubchannelState → SubchannelState
+halt_done s = if s.scsw.activity.halt_pending then with_cause s cause.HaltDone else s
 
 abbrev pub accepted_by : Contents → SubchannelState → HoldPhase → Taken Down → UpStep
-accepted_by storage s (hold.On t p c) came = begin_waiting storage (record s { pmcw = with_path s.pmcw p }) p t s.waiting
-accepted_by storage s (hold.Letting t p) came = record { state = record s { pmcw = with_path s.pmcw p }; came = came }
-accepted_by storage s phase came = record { state = s; came = came }
+accepted_by storage s (hold.On t p c) taken = begin_standing storage (record s { pmcw = with_path s.pmcw p }) p t (standing s)
+accepted_by storage s (hold.Letting t p) taken = record { state = halt_done (record s { pmcw = with_path s.pmcw p }); came = taken }
+accepted_by storage s phase taken = record { state = s; came = taken }
 
 abbrev pub accept_by : Contents → SubchannelState → HoldState → Taken Down → UpStep
-accept_by storage s hold came = if came.taken then accepted_by storage (record s { hold = hold }) hold.phase came else ignoring s
+accept_by storage s hold taken = if taken.taken then accepted_by storage (record s { hold = hold }) hold.phase taken else ignoring s
 
 abbrev pub accept : Contents → SubchannelState → Option HoldStep → UpStep
 accept storage s step = accept_by storage s (hold_after s.hold step) (came_of step)
@@ -121,16 +172,19 @@ IsBelow (Some b) = (b.transfer.sequence + 1 < 2 ^ 63) × (b.transfer.command + 1
 abbrev pub with_transfer : SubchannelState → Begun → Transfer → SubchannelState
 with_transfer s b transfer = record s { begun = Some (record b { transfer = transfer }); dedicated = None }
 
+abbrev pub moving_on : SubchannelState → Begun → Transfer → SubchannelState
+moving_on s b transfer = let next = with_transfer s b transfer in interrupted next next.begun
+
 -- of a command that takes bytes to the device: the next are given
 abbrev pub giving : SubchannelState → Begun → ℕ → ℕ → ℕ → ℕ → ℕ → Given → UpStep
-giving s b p t c n seq given = sending (with_transfer s b given.transfer) p (down.Give t c n (seq + 1) given.bytes)
+giving s b p t c n seq given = sending (moving_on s b given.transfer) p (down.Give t c n (seq + 1) given.bytes)
 
 abbrev pub give_next : Contents → SubchannelState → Begun → ℕ → ℕ → ℕ → ℕ → ℕ → ℕ → UpStep
 give_next storage s b p t c n seq count = giving s b p t c n seq (next_given storage (absorbed storage b.transfer seq count))
 
 -- of a command that brings bytes in: they are stored, and the device is told how many more may come
 abbrev pub answering : SubchannelState → Begun → ℕ → ℕ → ℕ → ℕ → Roomy → UpStep
-answering s b p t n seq x = sending (with_transfer s b x.transfer) p (down.Took t n seq x.room)
+answering s b p t n seq x = sending (moving_on s b x.transfer) p (down.Took t n seq x.room)
 
 abbrev pub take_in : SubchannelState → Begun → ℕ → ℕ → ℕ → ℕ → Brought → Met
 take_in s b p t n seq x = meets x.storage (answering s b p t n seq (with_room x.storage x.transfer))
@@ -163,42 +217,29 @@ with_end b = record b { transfer = record b.transfer { ended = true } }
 
 -- an End after which the program goes on: with device end the next command is sent
 abbrev pub sends_next : SubchannelState → Begun → ℕ → ℕ → Roomy → UpStep
-sends_next s b p t x = sending (with_transfer s b x.transfer) p (down.Command t x.transfer.command x.transfer.code x.room)
+sends_next s b p t x = sending (moving_on s b x.transfer) p (down.Command t x.transfer.command x.transfer.code x.room)
 
-abbrev pub chain_fault : SubchannelState → Begun → ℕ → Check → UpStep
-chain_fault s b tried check =
-    let_go (with_status (record s { begun = None; dedicated = None }) (fetch_fault_shown tried check (residual b.transfer.moving)))
-
-abbrev pub chaining : Contents → SubchannelState → Begun → ℕ → ℕ → ℕ → Result Transfer Check → UpStep
-chaining storage s b p t tried (Ok transfer) = sends_next s b p t (begun_with_room storage transfer)
-chaining storage s b p t tried (Err check) = chain_fault s b tried check
+abbrev pub chaining : Contents → SubchannelState → Begun → ℕ → ℕ → Place → Came → UpStep
+chaining storage s b p t walk (came.Begins transfer) = sends_next s b p t (begun_with_room storage transfer)
+chaining storage s b p t walk came.Suspends = let_go (suspending (record s { dedicated = None }) b.program walk (residual b.transfer.moving))
+chaining storage s b p t walk (came.Stops check) =
+    let_go (with_cause (record s { dedicated = None }) (cause.FetchFault walk.tried check (residual b.transfer.moving)))
 
 abbrev pub chain_with : Contents → SubchannelState → Begun → ℕ → ℕ → Beginning → UpStep
-chain_with storage s b p t next = chaining storage s b p t next.tried next.came
+chain_with storage s b p t next = chaining storage s b p t next.walk next.came
 
 abbrev pub goes_on : Contents → SubchannelState → Begun → ℕ → ℕ → DeviceStatus → UpStep
 goes_on storage s b p t status =
     if has_device_end status then chain_with storage s b p t (next_command storage b.transfer (has_status_modifier status))
     else quietly (record s { begun = Some b; dedicated = None })
 
--- channel end alone where nothing is chained
-abbrev pub has_shown : Begun → Begun
-has_shown b = record b { primary_shown = true; transfer = record b.transfer { ended = true; unchained = true } }
-
-abbrev pub channel_ended : SubchannelState → Begun → ℕ → DeviceStatus → Bool → UpStep
-channel_ended s b p status more =
-    quietly (with_status (record s { begun = Some (has_shown b); dedicated = dedicated_after status p }) (channel_end_shown s.scsw b status more))
-
-abbrev pub last_shown : Scsw → Begun → Option Program → DeviceStatus → Bool → Shown
-last_shown scsw b None status more = last_end_shown scsw b status more
-last_shown scsw b (Some program) status more = earlier_end_shown scsw b status more
-
-abbrev pub ended : SubchannelState → Begun → ℕ → DeviceStatus → Bool → UpStep
-ended s b p status more =
-    let_go (with_status (record s { begun = None; waiting = None; dedicated = dedicated_after status p }) (last_shown s.scsw b s.waiting status more))
+-- channel end alone where nothing is chained, and the last End of a program
+abbrev pub end_shown_at : SubchannelState → Begun → ℕ → DeviceStatus → Bool → SubchannelState
+end_shown_at s b p status more = record (with_cause s (cause.End b status more)) { dedicated = dedicated_after status p }
 
 abbrev pub stops_at : SubchannelState → Begun → ℕ → DeviceStatus → Bool → UpStep
-stops_at s b p status more = if is_last_end status then ended s b p status more else channel_ended s b p status more
+stops_at s b p status more =
+    if is_last_end status then let_go (end_shown_at s b p status more) else quietly (end_shown_at s b p status more)
 
 abbrev pub command_ended : Contents → SubchannelState → Begun → ℕ → ℕ → DeviceStatus → Bool → UpStep
 command_ended storage s b p t status more =
@@ -214,9 +255,18 @@ abbrev pub end_command : Contents → SubchannelState → ℕ → ℕ → ℕ �
 end_command storage s p t n status more =
     if is_on s.hold.phase t then end_of storage s s.begun p t n status more else ignoring s
 
+-- Cleared: where a clear is pending, it is performed
+abbrev pub clear_done : SubchannelState → SubchannelState
+clear_done s = if s.scsw.activity.clear_pending then with_cause s cause.ClearDone else s
+
+abbrev pub reset_taken : SubchannelState → Option HoldStep → UpStep
+reset_taken s None = ignoring s
+reset_taken s (Some step) = record { state = clear_done (record s { hold = step.state }); came = came_of (Some step) }
+
 -- what a subchannel does with a signal
 abbrev pub takes_up : Contents → SubchannelState → ℕ → Up → Met
-takes_up storage s p (up.Accept t) = meets storage (accept storage s (hold_takes s.hold p (up.Accept t) (waits_as s.waiting s.offered)))
+takes_up storage s p (up.Accept t) = meets storage (accept storage s (hold_takes s.hold p (up.Accept t) (goes_ahead s)))
 takes_up storage s p (up.Data t c n seq load) = take_data storage s p t c n seq load
 takes_up storage s p (up.End t n status more) = meets storage (end_command storage s p t n status more)
+takes_up storage s p (up.Cleared r) = meets storage (reset_taken s (hold_takes s.hold p (up.Cleared r) false))
 takes_up storage s p signal = meets storage (by_hold s (hold_takes s.hold p signal false))

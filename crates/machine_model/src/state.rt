@@ -2,11 +2,13 @@
 
 ghost use Rattle.std.specs.Prelude.{◌<◌};
 
+use ccw_walk::Walk;
 use chan_model::hold_state::HoldState;
 use chan_model::names::Path;
 use chan_model::paths::PathSet;
 use chan_model::report::Work;
 use chan_model::signal::{Down, Taken};
+use channel_config::names::SubchannelId;
 use channel_config::parts::SubchannelSetup;
 use orb_block::Orb;
 use scsw_irb::scsw::Scsw;
@@ -55,6 +57,15 @@ pub struct Begun {
     pub transfer: Transfer,
 }
 
+/// A program that is to be begun, or to go on, from where it stands.
+#[derive(Clone, Copy)]
+pub struct Standing {
+    pub program: Program,
+    pub walk: Walk,
+    /// How many bytes of its last command were not moved; 0 before the first.
+    pub count: u16,
+}
+
 /// What changes of a subchannel, but for its wires.
 #[derive(Clone, Copy)]
 pub struct SubchannelState {
@@ -67,12 +78,14 @@ pub struct SubchannelState {
     pub starts: u64,
     /// The program that waits to be begun.
     pub waiting: Option<Program>,
-    /// The program that was begun.
+    /// The program that holds the device.
     pub begun: Option<Begun>,
+    /// The program that is suspended.
+    pub suspended: Option<Standing>,
     pub hold: HoldState,
     /// The start that the number of the hold was offered for.
     pub offered: u64,
-    /// The path of the last offer.
+    /// The path of the last offer or Reset.
     pub last_path: Option<Path>,
     /// The path of the dedicated allegiance (SA22-7832, chapter 15).
     pub dedicated: Option<Path>,
@@ -86,15 +99,31 @@ pub struct Subchannel {
     pub wires: Wires,
 }
 
+/// A program that is to be offered.
+#[derive(Clone, Copy)]
+pub struct Candidate {
+    pub program: Program,
+    /// It was suspended.
+    pub resumes: bool,
+}
+
 /// What the subsystem does of itself for a subchannel.
 #[derive(Clone, Copy)]
 pub enum Chosen {
     /// Nothing.
     Idle,
-    /// The program that waits is over: it found no path.
+    /// The Reset that is due is sent under this number on a path.
+    Resets { number: u64, path: Path },
+    /// The clear function is performed: there is no path for its Reset.
+    Clears,
+    /// A Halt is sent to the program of this number on a path.
+    Halts { number: u64, path: Path },
+    /// The halt function is performed: no device is held.
+    Ends,
+    /// The program that is to be offered is over: it found no path.
     Over,
-    /// The program that waits is offered on a path.
-    Offers { program: Program, path: Path },
+    /// A program is offered on a path.
+    Offers { candidate: Candidate, path: Path },
 }
 
 /// A subchannel after a signal, and what came of the signal.
@@ -107,10 +136,14 @@ pub struct UpStep {
 /// What a unit is to do next.
 #[derive(Drop)]
 pub enum UnitTurn {
-    /// A signal waits on a wire down to it.
-    Takes,
+    /// The signal that waits longest on the wire down of this path is to be taken: it is the lowest path where one waits, of
+    /// the unit's first side, or where none waits there of its second.
+    Takes { subchannel: SubchannelId, path: u32 },
     /// Its program asks for this.
     Works(Work),
+    /// Its program is away, and may ask for this path: the first of its subchannel in cyclic order from the one whose index is
+    /// the number of its last connection, modulo 8.
+    Away { path: Option<u32> },
     /// Nothing.
     Rests,
 }

@@ -8,7 +8,7 @@ use Rattle.std.proofs.lemmas.List.FromFn.{map-range_with_len_more, length-range_
 use Rattle.std.proofs.lemmas.Option.{slice_get-get_or, slice_get_past, get_or_from_slice_get, slice_get_within}
 use Rattle.storage_keys.specs.declared.StorageFault.{StorageFault}
 use Rattle.storage_keys.specs.Storage as keys
-use Rattle.storage_keys.specs.Storage.{Contents, is_inside, permits_fetch, permits_store, access_check, where_permitted, fetched, put_at}
+use Rattle.storage_keys.specs.Storage.{Contents, is_inside, permits_store, access_check, where_permitted, fetched, put_at}
 use Rattle.idaw.specs.Places.{each_below}
 use Rattle.data_move.specs.Moving.{Moving, room, next_place}
 use Rattle.data_move.specs.Accesses as access

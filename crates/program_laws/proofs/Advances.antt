@@ -30,20 +30,21 @@ fetch_cases : (P : Act → Type 0) (storage : Contents) (orb : Orb) (role : Role
     ((check : Check) → P (Unfetched address check)) → P (fetch_act storage orb role address)
 fetch_cases P storage orb role address b u = fetch_or_check P (role.first && is_program_misplaced orb address) address (fetched storage orb.key address 8) b u
 
--- where a block takes control it joins the commands and the data; otherwise these stay
+-- where a block takes control it joins the commands and the data; otherwise these stay, and where the program is suspended
+-- the marks too
 abbrev pub Went : Bool → List Command → List Command → List Reach → List Reach → Option ℕ → Role → Option Advance → Type 0
 Went c cs ds rs qs n role (Some (advance.Takes ccw)) =
     (ds ≡ commands_after c cs (Takes ccw)) × (qs ≡ reaches_after c cs rs (Takes ccw)) × (n ≡ None) × (role.chained ≡ ccw.chain_data)
-Went c cs ds rs qs n role (Some advance.Suspends) = (ds ≡ cs) × (qs ≡ rs)
+Went c cs ds rs qs n role (Some advance.Suspends) = (ds ≡ cs) × (qs ≡ rs) × (role.chained ≡ c)
 Went c cs ds rs qs n role (Some (advance.Stops check)) = (ds ≡ cs) × (qs ≡ rs)
 Went c cs ds rs qs n role None = (ds ≡ cs) × (qs ≡ rs)
 
-block-went : (c : Bool) (cs : List Command) (rs : List Reach) (address : ℕ) (role : Role) (r : Reading) →
-    Went c cs (commands_after c cs r) rs (reaches_after c cs rs r) (next_after address r) (role_after role r) (block_advance r)
-block-went c cs rs address role (Transfers target) = (refl, refl)
-block-went c cs rs address role (Takes ccw) = (refl, refl, refl, refl)
-block-went c cs rs address role Suspends = (refl, refl)
-block-went c cs rs address role Shows = (refl, refl)
+block-went : (cs : List Command) (rs : List Reach) (address : ℕ) (role : Role) (r : Reading) →
+    Went role.chained cs (commands_after role.chained cs r) rs (reaches_after role.chained cs rs r) (next_after address r) (role_after role r) (block_advance r)
+block-went cs rs address role (Transfers target) = (refl, refl)
+block-went cs rs address role (Takes ccw) = (refl, refl, refl, refl)
+block-went cs rs address role Suspends = (refl, refl, refl)
+block-went cs rs address role Shows = (refl, refl)
 
 -- from the acts before to those after
 abbrev pub WentTo : Orb → List Act → List Act → Type 0
@@ -69,11 +70,11 @@ target-went storage orb before address bytes (Transfers target) e =
     let reached : reaches orb mid ≡ rs = ap (λ (r : Reading). reaches_after role.chained cs rs r) e in
     fetch_cases (λ act. WentTo orb before (act ∷ Block address bytes ∷ [])) storage orb (role_of orb mid) target
     (λ more. went-from role.chained (role_of orb mid).chained cs (commands orb mid) _ rs (reaches orb mid) _ _ (role_of orb (Block target more ∷ mid)) _ same commanded reached
-    (block-went (role_of orb mid).chained (commands orb mid) (reaches orb mid) target (role_of orb mid) (reads orb (role_of orb mid) more)))
+    (block-went (commands orb mid) (reaches orb mid) target (role_of orb mid) (reads orb (role_of orb mid) more)))
     (λ check. (commanded, reached))
-target-went storage orb before address bytes (Takes ccw) e = block-went _ (commands orb before) (reaches orb before) address (role_of orb before) (reads orb (role_of orb before) bytes)
-target-went storage orb before address bytes Suspends e = block-went _ (commands orb before) (reaches orb before) address (role_of orb before) (reads orb (role_of orb before) bytes)
-target-went storage orb before address bytes Shows e = block-went _ (commands orb before) (reaches orb before) address (role_of orb before) (reads orb (role_of orb before) bytes)
+target-went storage orb before address bytes (Takes ccw) e = block-went (commands orb before) (reaches orb before) address (role_of orb before) (reads orb (role_of orb before) bytes)
+target-went storage orb before address bytes Suspends e = block-went (commands orb before) (reaches orb before) address (role_of orb before) (reads orb (role_of orb before) bytes)
+target-went storage orb before address bytes Shows e = block-went (commands orb before) (reaches orb before) address (role_of orb before) (reads orb (role_of orb before) bytes)
 
 at-went : (storage : Contents) (orb : Orb) (before : List Act) (n : Option ℕ) → WentTo orb before (acts_at storage (place orb before) n)
 at-went storage orb before None = (refl, refl)

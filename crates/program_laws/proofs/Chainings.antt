@@ -1,5 +1,5 @@
 -- Data chaining, and bytes that are moved.
-use Rattle.std.proofs.Common.{◌≡◌, refl, ap, sym, ◌∙◌, subst, ℕ, ◌-◌, ◌≤◌, Bool, true, false, List, [], ◌∷◌, ◌++◌, length, Option, Some, None, inl, arith, append_assoc}
+use Rattle.std.proofs.Common.{◌≡◌, refl, ap, sym, ◌∙◌, subst, ℕ, ◌+◌, ◌-◌, ◌≤◌, Bool, true, false, List, [], ◌∷◌, ◌++◌, length, Option, Some, None, inl, arith, append_assoc}
 use Rattle.std.specs.Prelude.{◌&&◌, ◌==◌, not, is_some, is_none, IsSome, if◌then◌else◌}
 use Rattle.std.proofs.lemmas.Bool.{and_parts, eqb-true}
 use Rattle.std.proofs.lemmas.List.{append-nil}
@@ -17,13 +17,13 @@ use Rattle.channel_program.specs.Walks.{Place, place, after_acts, after_used_up,
 use Rattle.idaw.specs.Lists.{block, kind_of}
 use Rattle.idaw.specs.Places.{Reach, place_of, each_below, places}
 use Rattle.data_move.specs.Moving as movement
-use Rattle.data_move.specs.Moving.{Moving, begun, with_piece, moved, next_place, needs_word, residual, uses_list, room, IsAt, MayFetch}
+use Rattle.data_move.specs.Moving.{Moving, moved, next_place, residual, IsAt}
 use Rattle.transfer.specs.declared.Transfer.{Transfer}
 use Rattle.transfer.specs.Commands.{is_skipped, data_of}
 use Rattle.transfer.specs.Chunks.{chains_data, chained_to, chained_from, chained, with_moved, moved_on}
 use Rattle.program_laws.specs.Reaches.{reach, reaches, reaches_after, reaches_with, chained_reach}
 use Rattle.program_laws.specs.Doings as doing
-use Rattle.program_laws.specs.Doings.{Part, act_of_word, word_acts, located_acts, room_acts, chained_acts, with_acts, with_places}
+use Rattle.program_laws.specs.Doings.{Part, chained_acts, with_acts, with_places}
 use Rattle.program_laws.proofs.Lists.{none-some}
 use Rattle.program_laws.proofs.Advances.{Went, advance-went}
 use Rattle.program_laws.proofs.Ties.{AreLaws, HasCode, IsMovedTo, Tied, spot-changed, ccw-of, done-within, with_moved-tied}
@@ -49,133 +49,117 @@ module _ (laws : AreLaws) where
   joined-length (x ∷ xs) ccw = refl
 
   joined-spot : (orb : Orb) (cs : List Command) (rs : List Reach) (t : Transfer) (walk : Place) (ps : List (Option ℕ)) (ccw : Ccw) → walk.orb ≡ orb → HasCode cs t.code →
-      ps ≡ places (block (kind_of orb)) rs → IsMovedTo orb (chained_reach cs rs ccw) (record t { walk = walk; moving = data_of walk t.code ccw }) ps
+      ps ≡ places (block (kind_of orb)) rs → IsMovedTo orb (chained_reach cs rs ccw) (record t { walk = walk; moving = data_of walk t.code ccw; interrupts = ccw.program_controlled }) ps
   joined-spot orb [] rs t walk ps ccw e h w = absurd h
   joined-spot orb (x ∷ xs) rs t walk ps ccw e h w =
       (inl (subst (λ (c : ℕ). IsAt (reach c ccw) (data_of walk t.code ccw)) (sym h) (laws.begins (kind_of walk.orb) ccw (is_skipped t.code ccw))), w ∙ sym (append-nil (places (block (kind_of orb)) rs)))
 
-  joins : (orb : Orb) (before acts : List Act) (t : Transfer) (walk : Place) (ps : List (Option ℕ)) (ccw : Ccw) (b : Bool) → ccw.program_controlled ≡ b →
-      walk ≡ place orb acts → IsProgram orb acts → (role_of orb before).chained ≡ true → HasCode (commands orb before) t.code → t.moving.kind ≡ kind_of orb →
-      length (commands orb before) ≡ t.command → IsMovedTo orb (reaches orb before) t ps → residual t.moving ≡ 0 →
-      commands orb acts ≡ commands_after (role_of orb before).chained (commands orb before) (Takes ccw) →
-      reaches orb acts ≡ reaches_after (role_of orb before).chained (commands orb before) (reaches orb before) (Takes ccw) → next orb acts ≡ None →
-      (role_of orb acts).chained ≡ ccw.chain_data →
-      Tied orb acts ps (if b then record t { walk = walk; fault = Some Program } else record t { walk = walk; moving = data_of walk t.code ccw })
-  joins orb before acts t walk ps ccw true e w p c h m l s z f g n i =
-      let cs : List Command = commands orb before in
-      let commanded : commands orb acts ≡ join_last cs ccw = f ∙ ap (λ (x : Bool). if x then join_last cs ccw else record { first = ccw; more = [] } ∷ cs) c in
-      let reached : reaches orb acts ≡ reaches orb before =
-      g ∙ ap (λ (x : Bool). if x then reaches orb before else reaches_with (role_of orb before).chained cs (reaches orb before) ccw) e in
-      record {
-        walk = w;
-        program = p;
-        stands = λ x. absurd (cc x);
-        chained = λ x. absurd (cc x);
-        coded = subst (λ (xs : List Command). HasCode xs t.code) (sym commanded) (joined-code cs ccw t.code h);
-        kind = m;
-        spot =
-            subst (λ (rs : List Reach). IsMovedTo orb rs (record t { walk = walk; fault = Some Program }) ps) (sym reached)
-            (spot-changed orb (reaches orb before) t (record t { walk = walk; fault = Some Program }) ps refl (λ x. refl) s);
-        number = ap length commanded ∙ joined-length cs ccw ∙ l;
-      }
-  joins orb before acts t walk ps ccw false e w p c h m l s z f g n i =
-      let cs : List Command = commands orb before in
-      let commanded : commands orb acts ≡ join_last cs ccw = f ∙ ap (λ (x : Bool). if x then join_last cs ccw else record { first = ccw; more = [] } ∷ cs) c in
-      let reached : reaches orb acts ≡ chained_reach cs (reaches orb before) ccw =
-      g ∙ ap (λ (x : Bool). if x then reaches orb before else reaches_with (role_of orb before).chained cs (reaches orb before) ccw) e
-      ∙ ap (λ (x : Bool). reaches_with x cs (reaches orb before) ccw) c in
-      record {
-        walk = w;
-        program = p;
-        stands = λ x. n;
-        chained = λ x. i;
-        coded = subst (λ (xs : List Command). HasCode xs t.code) (sym commanded) (joined-code cs ccw t.code h);
-        kind = ap (λ (x : Place). kind_of x.orb) w;
-        spot =
-            subst (λ (rs : List Reach). IsMovedTo orb rs (record t { walk = walk; moving = data_of walk t.code ccw }) ps) (sym reached)
-            (joined-spot orb cs (reaches orb before) t walk ps ccw (ap (λ (x : Place). x.orb) w) h (whole orb (reaches orb before) t ps z s));
-        number = ap length commanded ∙ joined-length cs ccw ∙ l;
-      }
+  -- so many commands were sent under earlier numbers
+  module _ (earlier : ℕ) where
+    joins : (orb : Orb) (before acts : List Act) (t : Transfer) (walk : Place) (ps : List (Option ℕ)) (ccw : Ccw) →
+        walk ≡ place orb acts → IsProgram orb acts → (role_of orb before).chained ≡ true → HasCode (commands orb before) t.code → t.moving.kind ≡ kind_of orb →
+        length (commands orb before) ≡ earlier + t.command → IsMovedTo orb (reaches orb before) t ps → residual t.moving ≡ 0 →
+        commands orb acts ≡ commands_after (role_of orb before).chained (commands orb before) (Takes ccw) →
+        reaches orb acts ≡ reaches_after (role_of orb before).chained (commands orb before) (reaches orb before) (Takes ccw) → next orb acts ≡ None →
+        (role_of orb acts).chained ≡ ccw.chain_data →
+        Tied earlier orb acts ps (record t { walk = walk; moving = data_of walk t.code ccw; interrupts = ccw.program_controlled })
+    joins orb before acts t walk ps ccw w p c h m l s z f g n i =
+        let cs : List Command = commands orb before in
+        let commanded : commands orb acts ≡ join_last cs ccw = f ∙ ap (λ (x : Bool). if x then join_last cs ccw else record { first = ccw; more = [] } ∷ cs) c in
+        let reached : reaches orb acts ≡ chained_reach cs (reaches orb before) ccw =
+        g ∙ ap (λ (x : Bool). reaches_with x cs (reaches orb before) ccw) c in
+        record {
+          walk = w;
+          program = p;
+          stands = λ x. n;
+          chained = λ x. i;
+          coded = subst (λ (xs : List Command). HasCode xs t.code) (sym commanded) (joined-code cs ccw t.code h);
+          kind = ap (λ (x : Place). kind_of x.orb) w;
+          spot =
+              subst (λ (rs : List Reach). IsMovedTo orb rs (record t { walk = walk; moving = data_of walk t.code ccw; interrupts = ccw.program_controlled }) ps) (sym reached)
+              (joined-spot orb cs (reaches orb before) t walk ps ccw (ap (λ (x : Place). x.orb) w) h (whole orb (reaches orb before) t ps z s));
+          number = ap length commanded ∙ joined-length cs ccw ∙ l;
+        }
 
-  -- none is: the program stopped
-  unjoined : (orb : Orb) (before acts : List Act) (t : Transfer) (walk : Place) (ps : List (Option ℕ)) (check : Check) → walk ≡ place orb acts → IsProgram orb acts →
-      HasCode (commands orb before) t.code → t.moving.kind ≡ kind_of orb → length (commands orb before) ≡ t.command → IsMovedTo orb (reaches orb before) t ps →
-      commands orb acts ≡ commands orb before → reaches orb acts ≡ reaches orb before → Tied orb acts ps (record t { walk = walk; fault = Some check })
-  unjoined orb before acts t walk ps check w p h m l s f g = record {
-    walk = w;
-    program = p;
-    stands = λ x. absurd (cc x);
-    chained = λ x. absurd (cc x);
-    coded = subst (λ (xs : List Command). HasCode xs t.code) (sym f) h;
-    kind = m;
-    spot =
-        subst (λ (rs : List Reach). IsMovedTo orb rs (record t { walk = walk; fault = Some check }) ps) (sym g)
-        (spot-changed orb (reaches orb before) t (record t { walk = walk; fault = Some check }) ps refl (λ x. refl) s);
-    number = ap length f ∙ l;
-  }
+    -- none is: the program stopped
+    unjoined : (orb : Orb) (before acts : List Act) (t : Transfer) (walk : Place) (ps : List (Option ℕ)) (check : Check) → walk ≡ place orb acts → IsProgram orb acts →
+        HasCode (commands orb before) t.code → t.moving.kind ≡ kind_of orb → length (commands orb before) ≡ earlier + t.command → IsMovedTo orb (reaches orb before) t ps →
+        commands orb acts ≡ commands orb before → reaches orb acts ≡ reaches orb before → Tied earlier orb acts ps (record t { walk = walk; fault = Some check })
+    unjoined orb before acts t walk ps check w p h m l s f g = record {
+      walk = w;
+      program = p;
+      stands = λ x. absurd (cc x);
+      chained = λ x. absurd (cc x);
+      coded = subst (λ (xs : List Command). HasCode xs t.code) (sym f) h;
+      kind = m;
+      spot =
+          subst (λ (rs : List Reach). IsMovedTo orb rs (record t { walk = walk; fault = Some check }) ps) (sym g)
+          (spot-changed orb (reaches orb before) t (record t { walk = walk; fault = Some check }) ps refl (λ x. refl) s);
+      number = ap length f ∙ l;
+    }
 
-  -- no block is next: nothing is done
-  stays-tied : (orb : Orb) (before : List Act) (t : Transfer) (ps : List (Option ℕ)) → is_some t.fault ≡ false → next orb (Used_up ∷ before) ≡ None → Tied orb before ps t →
-      Tied orb (Used_up ∷ before) ps t
-  stays-tied orb before t ps f n k = record {
-    walk =
-        k.walk ∙ ap (λ (x : Option ℕ). (let p : Place = record { orb = orb; role = role_of orb before; latest = latest orb before; next = x; tried = tried orb before } in p)) (k.stands f ∙ sym n);
-    program = (k.stands f, k.program);
-    stands = λ x. n;
-    chained = k.chained;
-    coded = k.coded;
-    kind = k.kind;
-    spot = k.spot;
-    number = k.number;
-  }
+    -- no block is next: nothing is done
+    stays-tied : (orb : Orb) (before : List Act) (t : Transfer) (ps : List (Option ℕ)) → is_some t.fault ≡ false → next orb (Used_up ∷ before) ≡ None → Tied earlier orb before ps t →
+        Tied earlier orb (Used_up ∷ before) ps t
+    stays-tied orb before t ps f n k = record {
+      walk =
+          k.walk ∙ ap (λ (x : Option ℕ). (let p : Place = record { orb = orb; role = role_of orb before; latest = latest orb before; next = x; tried = tried orb before } in p)) (k.stands f ∙ sym n);
+      program = (k.stands f, k.program);
+      stands = λ x. n;
+      chained = k.chained;
+      coded = k.coded;
+      kind = k.kind;
+      spot = k.spot;
+      number = k.number;
+    }
 
-  chained-by : (storage : Contents) (orb : Orb) (before acts : List Act) (t : Transfer) (walk : Place) (ps : List (Option ℕ)) (a : Option Advance) → walk ≡ place orb acts →
-      IsProgram orb acts → is_some t.fault ≡ false → (role_of orb before).chained ≡ true → residual t.moving ≡ 0 → Tied orb before ps t →
-      Went (role_of orb before).chained (commands orb before) (commands orb acts) (reaches orb before) (reaches orb acts) (next orb acts) (role_of orb acts) a →
-      (a ≡ None → Tied orb acts ps t) → Tied orb acts ps (chained_to t walk a)
-  chained-by storage orb before acts t walk ps (Some (advance.Takes ccw)) w p f c z k g o =
-      joins orb before acts t walk ps ccw ccw.program_controlled refl w p c k.coded k.kind k.number k.spot z g.0 g.1 g.2 g.3
-  chained-by storage orb before acts t walk ps (Some advance.Suspends) w p f c z k g o = unjoined orb before acts t walk ps Program w p k.coded k.kind k.number k.spot g.0 g.1
-  chained-by storage orb before acts t walk ps (Some (advance.Stops check)) w p f c z k g o = unjoined orb before acts t walk ps check w p k.coded k.kind k.number k.spot g.0 g.1
-  chained-by storage orb before acts t walk ps None w p f c z k g o = o refl
+    chained-by : (storage : Contents) (orb : Orb) (before acts : List Act) (t : Transfer) (walk : Place) (ps : List (Option ℕ)) (a : Option Advance) → walk ≡ place orb acts →
+        IsProgram orb acts → is_some t.fault ≡ false → (role_of orb before).chained ≡ true → residual t.moving ≡ 0 → Tied earlier orb before ps t →
+        Went (role_of orb before).chained (commands orb before) (commands orb acts) (reaches orb before) (reaches orb acts) (next orb acts) (role_of orb acts) a →
+        (a ≡ None → Tied earlier orb acts ps t) → Tied earlier orb acts ps (chained_to t walk a)
+    chained-by storage orb before acts t walk ps (Some (advance.Takes ccw)) w p f c z k g o =
+        joins orb before acts t walk ps ccw w p c k.coded k.kind k.number k.spot z g.0 g.1 g.2 g.3
+    chained-by storage orb before acts t walk ps (Some advance.Suspends) w p f c z k g o = unjoined orb before acts t walk ps Program w p k.coded k.kind k.number k.spot g.0 g.1
+    chained-by storage orb before acts t walk ps (Some (advance.Stops check)) w p f c z k g o = unjoined orb before acts t walk ps check w p k.coded k.kind k.number k.spot g.0 g.1
+    chained-by storage orb before acts t walk ps None w p f c z k g o = o refl
 
-  none-next : (storage : Contents) (old : Place) (n : Option ℕ) → old.next ≡ n → advance_of old (advance_acts storage old) ≡ None → n ≡ None
-  none-next storage old None e a = refl
-  none-next storage old (Some address) e a =
-      let s : IsSome (advance_of old (advance_acts storage old)) = (laws.stands storage old).1 (ap (λ (x : Option ℕ). is_some x) e) in
-      absurd (cc (sym (ap (λ (x : Option Advance). is_some x) a) ∙ s))
+    none-next : (storage : Contents) (old : Place) (n : Option ℕ) → old.next ≡ n → advance_of old (advance_acts storage old) ≡ None → n ≡ None
+    none-next storage old None e a = refl
+    none-next storage old (Some address) e a =
+        let s : IsSome (advance_of old (advance_acts storage old)) = (laws.stands storage old).1 (ap (λ (x : Option ℕ). is_some x) e) in
+        absurd (cc (sym (ap (λ (x : Option Advance). is_some x) a) ∙ s))
 
-  chained-tied : (storage : Contents) (orb : Orb) (acts : List Act) (ps : List (Option ℕ)) (t : Transfer) → is_some t.fault ≡ false → t.moving.ccw.chain_data ≡ true →
-      residual t.moving ≡ 0 → Tied orb acts ps t → Tied orb (chained_acts storage t ++ acts) ps (chained storage t)
-  chained-tied storage orb acts ps t f d z k =
-      let used : List Act = Used_up ∷ acts in
-      let old : Place = place orb used in
-      let news : List Act = advance_acts storage old in
-      let by : Tied orb (news ++ used) ps (chained_from storage t old) =
-      chained-by storage orb acts (news ++ used) t (after_acts old news) ps (advance_of old news) (laws.leads orb used news) (laws.goes storage orb used (k.stands f, k.program)) f (k.chained f ∙ d) z
-      k
-      (advance-went storage orb used)
-      (λ e.
-      let n : next orb used ≡ None = none-next storage old (next orb used) refl e in
-      let none : news ≡ [] = ap (λ (x : Option ℕ). acts_at storage old x) n in
-      subst (λ (xs : List Act). Tied orb (xs ++ used) ps t) (sym none) (stays-tied orb acts t ps f n k)) in
-      subst (λ (w : Place). Tied orb ((advance_acts storage (after_used_up w) ++ Used_up ∷ []) ++ acts) ps (chained_from storage t (after_used_up w))) (sym k.walk)
-      (subst (λ (xs : List Act). Tied orb xs ps (chained_from storage t old)) (sym (append_assoc news (Used_up ∷ []) acts)) by)
+    chained-tied : (storage : Contents) (orb : Orb) (acts : List Act) (ps : List (Option ℕ)) (t : Transfer) → is_some t.fault ≡ false → t.moving.ccw.chain_data ≡ true →
+        residual t.moving ≡ 0 → Tied earlier orb acts ps t → Tied earlier orb (chained_acts storage t ++ acts) ps (chained storage t)
+    chained-tied storage orb acts ps t f d z k =
+        let used : List Act = Used_up ∷ acts in
+        let old : Place = place orb used in
+        let news : List Act = advance_acts storage old in
+        let by : Tied earlier orb (news ++ used) ps (chained_from storage t old) =
+        chained-by storage orb acts (news ++ used) t (after_acts old news) ps (advance_of old news) (laws.leads orb used news) (laws.goes storage orb used (k.stands f, k.program)) f (k.chained f ∙ d) z
+        k
+        (advance-went storage orb used)
+        (λ e.
+        let n : next orb used ≡ None = none-next storage old (next orb used) refl e in
+        let none : news ≡ [] = ap (λ (x : Option ℕ). acts_at storage old x) n in
+        subst (λ (xs : List Act). Tied earlier orb (xs ++ used) ps t) (sym none) (stays-tied orb acts t ps f n k)) in
+        subst (λ (w : Place). Tied earlier orb ((advance_acts storage (after_used_up w) ++ Used_up ∷ []) ++ acts) ps (chained_from storage t (after_used_up w))) (sym k.walk)
+        (subst (λ (xs : List Act). Tied earlier orb xs ps (chained_from storage t old)) (sym (append_assoc news (Used_up ∷ []) acts)) by)
 
-  moved_on-by : (storage : Contents) (orb : Orb) (p : Part) (t : Transfer) (n : ℕ) (b : Bool) → chains_data (with_moved t n) n ≡ b → n ≤ t.moving.left →
-      Tied orb p.acts p.moved t →
-      let q : Part = if b then with_acts (with_places p t.moving n) (chained_acts storage (with_moved t n)) else with_places p t.moving n in
-      Tied orb q.acts q.moved (if b then chained storage (with_moved t n) else with_moved t n)
-  moved_on-by storage orb p t n true e l k =
-      let m : Moving = movement.moved t.moving n in
-      let a : (_ : not (n == 0) ≡ true) × (((residual m == 0) && (m.ccw.chain_data && is_none t.fault)) ≡ true) =
-      and_parts (not (n == 0)) ((residual m == 0) && (m.ccw.chain_data && is_none t.fault)) e in
-      let b : (_ : (residual m == 0) ≡ true) × ((m.ccw.chain_data && is_none t.fault) ≡ true) = and_parts (residual m == 0) (m.ccw.chain_data && is_none t.fault) a.1 in
-      let c : (_ : m.ccw.chain_data ≡ true) × (is_none t.fault ≡ true) = and_parts m.ccw.chain_data (is_none t.fault) b.1 in
-      chained-tied storage orb p.acts (p.moved ++ each_below (next_place t.moving) n) (with_moved t n) (none-some t.fault c.1) c.0 (eqb-true (residual m) 0 b.0)
-      (with_moved-tied laws orb p.acts p.moved t n l k)
-  moved_on-by storage orb p t n false e l k = with_moved-tied laws orb p.acts p.moved t n l k
+    moved_on-by : (storage : Contents) (orb : Orb) (p : Part) (t : Transfer) (n : ℕ) (b : Bool) → chains_data (with_moved t n) n ≡ b → n ≤ t.moving.left →
+        Tied earlier orb p.acts p.moved t →
+        let q : Part = if b then with_acts (with_places p t.moving n) (chained_acts storage (with_moved t n)) else with_places p t.moving n in
+        Tied earlier orb q.acts q.moved (if b then chained storage (with_moved t n) else with_moved t n)
+    moved_on-by storage orb p t n true e l k =
+        let m : Moving = movement.moved t.moving n in
+        let a : (_ : not (n == 0) ≡ true) × (((residual m == 0) && (m.ccw.chain_data && is_none t.fault)) ≡ true) =
+        and_parts (not (n == 0)) ((residual m == 0) && (m.ccw.chain_data && is_none t.fault)) e in
+        let b : (_ : (residual m == 0) ≡ true) × ((m.ccw.chain_data && is_none t.fault) ≡ true) = and_parts (residual m == 0) (m.ccw.chain_data && is_none t.fault) a.1 in
+        let c : (_ : m.ccw.chain_data ≡ true) × (is_none t.fault ≡ true) = and_parts m.ccw.chain_data (is_none t.fault) b.1 in
+        chained-tied storage orb p.acts (p.moved ++ each_below (next_place t.moving) n) (with_moved t n) (none-some t.fault c.1) c.0 (eqb-true (residual m) 0 b.0)
+        (with_moved-tied earlier laws orb p.acts p.moved t n l k)
+    moved_on-by storage orb p t n false e l k = with_moved-tied earlier laws orb p.acts p.moved t n l k
 
-  pub moved_on-tied : (storage : Contents) (orb : Orb) (p : Part) (t : Transfer) (n : ℕ) → n ≤ t.moving.left → Tied orb p.acts p.moved t →
-      Tied orb (doing.moved_on storage t n p).acts (doing.moved_on storage t n p).moved (moved_on storage t n)
-  moved_on-tied storage orb p t n l k = moved_on-by storage orb p t n (chains_data (with_moved t n) n) refl l k
+    pub moved_on-tied : (storage : Contents) (orb : Orb) (p : Part) (t : Transfer) (n : ℕ) → n ≤ t.moving.left → Tied earlier orb p.acts p.moved t →
+        Tied earlier orb (doing.moved_on storage t n p).acts (doing.moved_on storage t n p).moved (moved_on storage t n)
+    moved_on-tied storage orb p t n l k = moved_on-by storage orb p t n (chains_data (with_moved t n) n) refl l k

@@ -1,12 +1,13 @@
 -- What the choosing of a path, and the taking of a signal, do to a subchannel.
-use Rattle.std.proofs.Common.{◌≡◌, refl, ap, sym, subst, ℕ, ◌+◌, Bool, true, false, List, [], ◌∷◌, ◌++◌, length, Option, Some, None, Result, Ok, Err}
-use Rattle.std.specs.Prelude.{◌==◌, nat_lt, if◌then◌else◌, slice_get, take, IfOk}
+use Rattle.std.proofs.Common.{◌≡◌, refl, ap, sym, ◌∙◌, subst, arith, ℕ, ◌+◌, ◌≤◌, Bool, true, false, List, [], ◌∷◌, ◌++◌, length, Option, Some, None, Result, Ok, Err}
+use Rattle.std.specs.Prelude.{if◌then◌else◌, ◌==◌, nat_lt, slice_get, take, IfOk}
 use Rattle.std.proofs.lemmas.List.Elements.{All-nil}
 use Rattle.storage_keys.specs.Storage.{Contents}
 use Rattle.chan_model.specs.declared.fault.Fault.{Fault}
 use Rattle.chan_model.specs.declared.fault.Fault.TheVariants as fault
 use Rattle.chan_model.specs.declared.hold_state.HoldPhase.{HoldPhase}
 use Rattle.chan_model.specs.declared.hold_state.HoldPhase.TheVariants as hold
+use Rattle.chan_model.specs.declared.hold_state.HoldState.{HoldState}
 use Rattle.chan_model.specs.declared.signal.Up.{Up}
 use Rattle.chan_model.specs.declared.signal.Up.TheVariants as up
 use Rattle.chan_model.specs.declared.signal.Down.{Down}
@@ -28,29 +29,34 @@ use Rattle.channel_config.specs.Setup.{Setup}
 use Rattle.orb_block.specs.declared.Orb.{Orb}
 use Rattle.channel_program.specs.Programs.{code}
 use Rattle.chan_model.specs.HoldTable as hold_table
-use Rattle.chan_model.specs.HoldTable.{hold_takes, is_connected, is_on}
+use Rattle.chan_model.specs.HoldTable.{hold_after, sending_reset, is_connected, is_on}
 use Rattle.wires.specs.Queues.{queue}
 use Rattle.machine_model.specs.declared.state.Begun.{Begun}
 use Rattle.machine_model.specs.declared.state.Chosen.{Chosen}
-use Rattle.machine_model.specs.declared.state.Chosen.TheVariants.{Idle, Over, Offers}
+use Rattle.machine_model.specs.declared.state.Chosen.TheVariants.{Idle, Resets, Clears, Halts, Ends, Over, Offers}
+use Rattle.machine_model.specs.declared.cause.Cause.TheVariants as cause
+use Rattle.machine_model.specs.declared.state.Standing.{Standing}
 use Rattle.machine_model.specs.declared.state.Program.{Program}
 use Rattle.machine_model.specs.declared.state.Subchannel.{Subchannel}
 use Rattle.machine_model.specs.declared.state.SubchannelState.{SubchannelState}
-use Rattle.machine_model.specs.Choosing.{chosen, chosen_for, without_path, idle_or_over, is_any, allowed_paths, offered}
-use Rattle.machine_model.specs.declared.state.Pmcw.{Pmcw}
+use Rattle.machine_model.specs.Choosing.{chosen, reset_sent, halt_sent, offered}
+use Rattle.machine_model.specs.Causes.{without_waiting, with_cause}
+use Rattle.machine_model.specs.Functions.{resumed, halting, drops_status, dropped, halted, cleared, cancelled, ends_suspended, without_programs, tested_wholly}
 use Rattle.machine_model.specs.Instructions.{started, tested}
 use Rattle.machine_model.specs.State.{State, opening_of, opened}
 use Rattle.machine_model.specs.Taking as taking
-use Rattle.machine_model.specs.Taking.{takes_up, waits_as, by_hold}
+use Rattle.machine_model.specs.Taking.{takes_up, goes_ahead, by_hold, reset_taken}
 use Rattle.machine_model.specs.Steps.{SubTurn, UpTurn, DownTurn, is_full, finds_full, choose_sub, up_front, up_sub, down_front, down_sub, report_taken, report_sub, Run, Opened, Stepped}
 use Rattle.program_laws.specs.Stories as stories
-use Rattle.program_laws.specs.Stories.{Story, offered_for, chosen_at, met_with, met_at, meets, takes, taken_at, absorbs, reported, reported_at, story, story_after}
+use Rattle.program_laws.specs.Stories.{Story, offered_for, resumed_for, chosen_at, met_with, met_at, meets, takes, taken_at, absorbs, reported, reported_at, story, story_after}
 use Rattle.program_laws.specs.Claims.{IsCopied}
-use Rattle.program_laws.proofs.Turns.{Happening, Stays, Starts_with_orb, Is_tested, Is_modified, Is_chosen, Meets, Sinks, Is_reported, Other_sinks, Other_reported, if-ok, step-happens}
+use Rattle.program_laws.proofs.Turns.{Happening, Stays, Starts_with_orb, Is_tested, Is_resumed, Is_halted, Is_cleared, Is_cancelled, Is_modified, Is_chosen, Meets, Sinks, Is_reported, Other_sinks, Other_reported, if-ok, step-happens}
 use Rattle.program_laws.proofs.Accesses.{AreAccesses}
 use Rattle.program_laws.proofs.Ties.{AreLaws}
-use Rattle.program_laws.proofs.Holds.{HasWork, IsHeld, IsUntold, HeldBy, none-begun, nothing-done, signal-held}
+use Rattle.program_laws.proofs.Holds.{IsPhase, IsDrawn, HasWork, IsStanding, IsHeld, IsUnheld, IsUntold, HeldBy, done-held, none-begun, none-stands, without-held, nothing-done, past-done}
+use Rattle.program_laws.proofs.HoldMeets.{signal-held}
 use Rattle.program_laws.proofs.Copies.{AreCopied, meets-copied}
+use Rattle.program_laws.proofs.LinkChosen.{IsFound, IsFitting, chosen-fits}
 use Rattle.program_laws.proofs.RunSides.{map-get, run-one-sided}
 
 -- what is kept of its program, and what was copied for it
@@ -65,59 +71,142 @@ pub kept-held : (s : SubchannelState) (k : Option Story) → KeptBy s k → Held
 kept-held s None h = h
 kept-held s (Some k) h = h.0
 
--- an offer is made of the program that waits, where the hold is free
-abbrev pub IsOffer : HoldPhase → Option Program → Chosen → Type 0
-IsOffer phase waiting Idle = Unit {0}
-IsOffer phase waiting Over = Unit {0}
-IsOffer phase waiting (Offers program path) = (phase ≡ hold.Free) × (waiting ≡ Some program)
+-- none is suspended beside one that waits, as an offer is made of it
+waiting-alone : (w : Option Program) (b : Option Begun) (st : Option Standing) (program : Program) (k : Story) → w ≡ Some program → IsStanding w b st k → st ≡ None
+waiting-alone w b None program k e x = refl
+waiting-alone w b (Some st) program k e x = absurd (cc (sym e ∙ x.0))
 
-idle-offer : (phase : HoldPhase) (waiting : Option Program) (any : Bool) → IsOffer phase waiting (idle_or_over any)
-idle-offer phase waiting true = tt
-idle-offer phase waiting false = tt
+alone-kept : (s : SubchannelState) (program : Program) (k : Option Story) → s.waiting ≡ Some program → KeptBy s k → s.suspended ≡ None
+alone-kept s program None e h = h.suspended
+alone-kept s program (Some k) e h = waiting-alone s.waiting s.begun s.suspended program k e h.0.standing
 
-pub is-offer : (phase : HoldPhase) (waiting : Option Program) (any : Bool) (choice : Option ℕ) → IsOffer phase waiting (chosen_for phase waiting any choice)
-is-offer phase None any choice = tt
-is-offer hold.Free (Some program) any (Some path) = (refl, refl)
-is-offer hold.Free (Some program) any None = idle-offer hold.Free (Some program) any
-is-offer (hold.Offer t p) (Some program) any choice = tt
-is-offer (hold.On t p c) (Some program) any choice = tt
-is-offer (hold.Away t) (Some program) any choice = tt
-is-offer (hold.Letting t p) (Some program) any choice = tt
-is-offer (hold.Reset r) (Some program) any choice = idle-offer (hold.Reset r) (Some program) any
-
-offered-held : (s : SubchannelState) (program : Program) (path : ℕ) → s.begun ≡ None → IsKept (offered s program path) (stories.offered (s.drawn + 1) program.orb)
-offered-held s program path z = (
+offered-held : (s : SubchannelState) (program : Program) (path : ℕ) → s.begun ≡ None → s.suspended ≡ None →
+    IsKept (offered s program path) (stories.offered (s.drawn + 1) program.orb)
+offered-held s program path z e = (
   record {
-    number = refl;
+    number = omega arith;
     phase = (refl, z, refl);
+    drawn = tt;
     work = subst (λ (b : Option Begun). HasWork b (stories.offered (s.drawn + 1) program.orb)) (sym z) (nothing-done program.orb);
+    standing = none-stands s.waiting s.begun s.suspended (stories.offered (s.drawn + 1) program.orb) e;
   },
   (All-nil IsCopied, All-nil IsCopied),
 )
 
-over-held : (s : SubchannelState) (k : Option Story) → KeptBy s k → KeptBy (without_path s) k
-over-held s None h = record { phase = h.phase; begun = h.begun; drawn = h.drawn }
-over-held s (Some k) h = (record { number = h.0.number; phase = h.0.phase; work = h.0.work }, h.1)
+resumed-stands : (w : Option Program) (b : Option Begun) (st : Option Standing) (t : ℕ) (k : Story) → IsStanding w b st k → IsStanding w b st (stories.resumed t k)
+resumed-stands w b None t k x = tt
+resumed-stands w b (Some st) t k x = x
 
-choose-held : (sub : Subchannel) (k : Option Story) (c : Chosen) → IsOffer sub.state.hold.phase sub.state.waiting c → KeptBy sub.state k →
+resumed-held : (s : SubchannelState) (program : Program) (path : ℕ) (st : Standing) (k : Option Story) → s.begun ≡ None → s.suspended ≡ Some st → KeptBy s k →
+    KeptBy (offered s program path) (resumed_for (s.drawn + 1) k)
+resumed-held s program path st None z e h = absurd (cc (sym h.suspended ∙ e))
+resumed-held s program path st (Some k) z e h = (
+  record {
+    number = omega arith;
+    phase = (refl, z, refl);
+    drawn = tt;
+    work = subst (λ (b : Option Begun). HasWork b (stories.resumed (s.drawn + 1) k)) (sym z) (past-done k.orb k.now (done-held s k h.0));
+    standing = resumed-stands s.waiting s.begun s.suspended (s.drawn + 1) k h.0.standing;
+  },
+  (All-nil IsCopied, All-nil IsCopied),
+)
+
+found-held : (sub : Subchannel) (program : Program) (path : ℕ) (resumes : Bool) (k : Option Story) → sub.state.begun ≡ None →
+    IsFound sub.state.waiting sub.state.suspended resumes program → KeptBy sub.state k →
+    KeptBy (offered sub.state program path) (chosen_at (Some sub) (reply.Offered (sub.state.drawn + 1) path resumes) k)
+found-held sub program path false k z f h =
+    subst (λ (w : Option Program). KeptBy (offered sub.state program path) (offered_for w (sub.state.drawn + 1) k)) (sym f)
+    (offered-held sub.state program path z (alone-kept sub.state program k f h))
+found-held sub program path true k z f h = resumed-held sub.state program path f.0 k z f.1 h
+
+-- a change of nothing that is told of
+same-kept : (s u : SubchannelState) (k : Option Story) → u.hold.phase ≡ s.hold.phase → u.drawn ≡ s.drawn → u.begun ≡ s.begun → u.waiting ≡ s.waiting →
+    u.suspended ≡ s.suspended → KeptBy s k → KeptBy u k
+same-kept s u None e d b w q h = record {
+  phase = subst (λ (x : HoldPhase). IsUnheld x u.drawn) (sym e) (subst (λ (n : ℕ). IsUnheld s.hold.phase n) (sym d) h.phase);
+  begun = b ∙ h.begun;
+  suspended = q ∙ h.suspended;
+}
+same-kept s u (Some k) e d b w q h = (
+  record {
+    number = subst (λ (n : ℕ). k.number ≤ n) (sym d) h.0.number;
+    phase =
+        subst (λ (x : HoldPhase). IsPhase x k.number u.begun k.sent) (sym e)
+        (subst (λ (x : Option Begun). IsPhase s.hold.phase k.number x k.sent) (sym b) h.0.phase);
+    drawn = subst (λ (x : HoldPhase). IsDrawn x u.drawn) (sym e) (subst (λ (n : ℕ). IsDrawn s.hold.phase n) (sym d) h.0.drawn);
+    work = subst (λ (x : Option Begun). HasWork x k) (sym b) h.0.work;
+    standing =
+        subst (λ (x : Option Program). IsStanding x u.begun u.suspended k) (sym w)
+        (subst (λ (x : Option Begun). IsStanding s.waiting x u.suspended k) (sym b)
+        (subst (λ (x : Option Standing). IsStanding s.waiting s.begun x k) (sym q) h.0.standing));
+  },
+  h.1,
+)
+
+-- all programs are over
+without-kept : (s : SubchannelState) (k : Option Story) → KeptBy s k → KeptBy (without_programs s) k
+without-kept s None h = record { phase = h.phase; begun = refl; suspended = refl }
+without-kept s (Some k) h = (without-held s k h.0, h.1)
+
+-- the one that waits is, or where none does the one that is suspended
+over-kept : (s : SubchannelState) (w : Option Program) (k : Option Story) → s.waiting ≡ w → KeptBy s k → KeptBy (without_waiting w s) k
+over-kept s None None e h = record { phase = h.phase; begun = h.begun; suspended = refl }
+over-kept s None (Some k) e h = (record { number = h.0.number; phase = h.0.phase; drawn = h.0.drawn; work = h.0.work; standing = tt }, h.1)
+over-kept s (Some program) None e h = record { phase = h.phase; begun = h.begun; suspended = h.suspended }
+over-kept s (Some program) (Some k) e h = (
+  record {
+    number = h.0.number;
+    phase = h.0.phase;
+    drawn = h.0.drawn;
+    work = h.0.work;
+    standing = none-stands None s.begun s.suspended k (waiting-alone s.waiting s.begun s.suspended program k e h.0.standing);
+  },
+  h.1,
+)
+
+reset-phase : (h : HoldState) (phase : HoldPhase) (path : ℕ) → (hold_after h (sending_reset h phase path)).phase ≡ h.phase
+reset-phase h hold.Free path = refl
+reset-phase h (hold.Offer t p) path = refl
+reset-phase h (hold.On t p c) path = refl
+reset-phase h (hold.Away t) path = refl
+reset-phase h (hold.Letting t p) path = refl
+reset-phase h (hold.Reset r) path = refl
+
+choose-held : (sub : Subchannel) (k : Option Story) (c : Chosen) → IsFitting sub.state c → KeptBy sub.state k →
     IfOk (choose_sub sub c) (λ t. KeptBy t.sub.state (chosen_at (Some sub) t.reply k))
 choose-held sub k Idle o h = h
-choose-held sub k Over o h = over-held sub.state k h
-choose-held sub k (Offers program path) o h =
-    let new : SubchannelState = offered sub.state program path in
+choose-held sub k (Resets r path) o h =
     if-ok (λ t. KeptBy t.sub.state (chosen_at (Some sub) t.reply k)) (is_full sub.wires.down path) (Err fault.WireFull) _ tt
-    (subst (λ (w : Option Program). KeptBy new (offered_for w (sub.state.drawn + 1) k)) (sym o.1) (offered-held sub.state program path (none-begun sub.state k (kept-held sub.state k h) o.0)))
+    (same-kept sub.state (reset_sent sub.state path) k (reset-phase sub.state.hold sub.state.hold.phase path) refl refl refl refl h)
+choose-held sub k Clears o h = same-kept sub.state (with_cause sub.state cause.ClearDone) k refl refl refl refl refl h
+choose-held sub k (Halts t path) o h =
+    if-ok (λ t. KeptBy t.sub.state (chosen_at (Some sub) t.reply k)) (is_full sub.wires.down path) (Err fault.WireFull) _ tt
+    (same-kept sub.state (halt_sent sub.state) k refl refl refl refl refl h)
+choose-held sub k Ends o h =
+    same-kept (without_programs sub.state) (with_cause sub.state cause.HaltDone) k refl refl refl refl refl (without-kept sub.state k h)
+choose-held sub k Over o h =
+    same-kept (without_waiting sub.state.waiting sub.state) (with_cause sub.state cause.NoPath) k refl refl refl refl refl (over-kept sub.state sub.state.waiting k refl h)
+choose-held sub k (Offers c path) o h =
+    if-ok (λ t. KeptBy t.sub.state (chosen_at (Some sub) t.reply k)) (is_full sub.wires.down path) (Err fault.WireFull) _ tt
+    (found-held sub c.program path c.resumes k (none-begun sub.state k (kept-held sub.state k h) o.0) o.1 h)
 
 pub chosen-held : (sub : Subchannel) (k : Option Story) (choice : Option ℕ) (t : SubTurn) → choose_sub sub (chosen sub choice) ≡ Ok t → KeptBy sub.state k →
     KeptBy t.sub.state (chosen_at (Some sub) t.reply k)
 chosen-held sub k choice t e h =
     subst (λ (r : Result SubTurn Fault). IfOk r (λ t. KeptBy t.sub.state (chosen_at (Some sub) t.reply k))) e
-    (choose-held sub k (chosen sub choice) (is-offer sub.state.hold.phase sub.state.waiting (is_any (allowed_paths sub)) choice) h)
+    (choose-held sub k (chosen sub choice) (chosen-fits sub choice) h)
 
 -- the unit's doings leave it
 untaken-held : (s : SubchannelState) (k : Story) (taken : List ℕ) (absorbed : List ℕ) → IsKept s k → IsKept s (record k { taken = taken; absorbed = absorbed })
-untaken-held s k taken absorbed h = (record { number = h.0.number; phase = h.0.phase; work = work s.begun h.0.work }, h.1)
+untaken-held s k taken absorbed h = (
+  record { number = h.0.number; phase = h.0.phase; drawn = h.0.drawn; work = work s.begun h.0.work; standing = stands s.waiting s.begun s.suspended h.0.standing },
+  h.1,
+)
   where
+    stands : (w : Option Program) (b : Option Begun) (st : Option Standing) → IsStanding w b st k → IsStanding w b st (record k { taken = taken; absorbed = absorbed })
+    stands w b None x = tt
+    stands w b (Some st) x = x
+
     work : (b : Option Begun) → HasWork b k → HasWork b (record k { taken = taken; absorbed = absorbed })
     work None w = w
     work (Some b) w = w
@@ -194,24 +283,47 @@ told-held sub u report t k e h =
 -- no signal tells of a program where none was offered
 noticed-untold : (s : SubchannelState) (c : ℕ) (b : Bool) → IsUntold s →
     IsUntold (by_hold s (if b then Some (hold_table.quietly (record s.hold { known = c })) else None)).state
-noticed-untold s c true u = record { phase = u.phase; begun = u.begun; drawn = u.drawn }
+noticed-untold s c true u = record { phase = u.phase; begun = u.begun; suspended = u.suspended }
 noticed-untold s c false u = u
 
+unheld-by : (s : SubchannelState) (f : HoldPhase → SubchannelState) (phase : HoldPhase) → IsUnheld phase s.drawn → IsUntold (f hold.Free) →
+    ((r : ℕ) → IsUntold (f (hold.Reset r))) → IsUntold (f phase)
+unheld-by s f hold.Free u x y = x
+unheld-by s f (hold.Offer t p) u x y = absurd u
+unheld-by s f (hold.On t p c) u x y = absurd u
+unheld-by s f (hold.Away t) u x y = absurd u
+unheld-by s f (hold.Letting t p) u x y = absurd u
+unheld-by s f (hold.Reset r) u x y = y r
+
+freed-if : (s : SubchannelState) (b : Bool) → IsUntold s → IsUntold (if b then with_cause s cause.ClearDone else s)
+freed-if s true u = record { phase = u.phase; begun = u.begun; suspended = u.suspended }
+freed-if s false u = u
+
+cleared-if : (s : SubchannelState) (b : Bool) → IsUntold s →
+    IsUntold (reset_taken s (if b then Some (hold_table.quietly (record s.hold { phase = hold.Free; reset_path = None })) else None)).state
+cleared-if s true u =
+    freed-if (record s { hold = record s.hold { phase = hold.Free; reset_path = None } }) s.scsw.activity.clear_pending
+    (record { phase = tt; begun = u.begun; suspended = u.suspended })
+cleared-if s false u = u
+
 module _ (laws : AreLaws) (accesses : AreAccesses) where
+  -- nothing changes, where the hold is free or to be reset
+  abbrev unmet : (s : SubchannelState) (f : HoldPhase → SubchannelState) → IsUntold s → IsUntold (f hold.Free) → ((r : ℕ) → IsUntold (f (hold.Reset r))) → IsUntold (f s.hold.phase)
+  unmet s f u x y = unheld-by s f s.hold.phase u.phase x y
+
   pub untold-met : (storage : Contents) (s : SubchannelState) (p : ℕ) (signal : Up) → IsUntold s → IsUntold (takes_up storage s p signal).step.state
-  untold-met storage s p (up.Accept t) u =
-      subst (λ (x : HoldPhase). IsUntold (taking.accept storage s (hold_table.accepted s.hold x t (waits_as s.waiting s.offered))).state) (sym u.phase) u
-  untold-met storage s p (up.Busy t) u = subst (λ (x : HoldPhase). IsUntold (by_hold s (hold_table.found_busy s.hold x t)).state) (sym u.phase) u
-  untold-met storage s p (up.Leave t c) u = subst (λ (x : HoldPhase). IsUntold (by_hold s (hold_table.left s.hold x t c)).state) (sym u.phase) u
-  untold-met storage s p (up.Back t c) u = subst (λ (x : HoldPhase). IsUntold (by_hold s (hold_table.asked_back s.hold x p t c false)).state) (sym u.phase) u
+  untold-met storage s p (up.Accept t) u = unmet s (λ x. (taking.accept storage s (hold_table.accepted s.hold x t (goes_ahead s))).state) u u (λ r. u)
+  untold-met storage s p (up.Busy t) u = unmet s (λ x. (by_hold s (hold_table.found_busy s.hold x t)).state) u u (λ r. u)
+  untold-met storage s p (up.Leave t c) u = unmet s (λ x. (by_hold s (hold_table.left s.hold x t c)).state) u u (λ r. u)
+  untold-met storage s p (up.Back t c) u = unmet s (λ x. (by_hold s (hold_table.asked_back s.hold x p t c false)).state) u u (λ r. u)
   untold-met storage s p (up.Data t c n seq load) u =
-      subst (λ (x : HoldPhase). IsUntold (if is_connected x p t c then taking.move_data storage s s.begun p t c n seq load else taking.meets storage (taking.ignoring s)).step.state) (sym u.phase) u
+      unmet s (λ x. (if is_connected x p t c then taking.move_data storage s s.begun p t c n seq load else taking.meets storage (taking.ignoring s)).step.state) u u (λ r. u)
   untold-met storage s p (up.End t n status more) u =
-      subst (λ (x : HoldPhase). IsUntold (if is_on x t then taking.end_of storage s s.begun p t n status more else taking.ignoring s).state) (sym u.phase) u
-  untold-met storage s p (up.Released t) u = subst (λ (x : HoldPhase). IsUntold (by_hold s (hold_table.released s.hold x t)).state) (sym u.phase) u
-  untold-met storage s p (up.Cleared r) u = subst (λ (x : HoldPhase). IsUntold (by_hold s (hold_table.cleared s.hold x r)).state) (sym u.phase) u
+      unmet s (λ x. (if is_on x t then taking.end_of storage s s.begun p t n status more else taking.ignoring s).state) u u (λ r. u)
+  untold-met storage s p (up.Released t) u = unmet s (λ x. (by_hold s (hold_table.released s.hold x t)).state) u u (λ r. u)
+  untold-met storage s p (up.Cleared r) u = unmet s (λ x. (reset_taken s (hold_table.cleared s.hold x r)).state) u u (λ q. cleared-if s (r == q) u)
   untold-met storage s p (up.Notice b) u = noticed-untold s b (nat_lt s.hold.known b) u
-  untold-met storage s p (up.Attn a status) u = subst (λ (x : HoldPhase). IsUntold (by_hold s (hold_table.attended s.hold x p a false)).state) (sym u.phase) u
+  untold-met storage s p (up.Attn a status) u = unmet s (λ x. (by_hold s (hold_table.attended s.hold x p a false)).state) u u (λ r. u)
 
   any-met : (storage : Contents) (s : SubchannelState) (p : ℕ) (signal : Up) (k : Option Story) → KeptBy s k → KeptBy (takes_up storage s p signal).step.state (met_with storage s p (Some signal) k)
   any-met storage s p signal None h = untold-met storage s p signal h
@@ -235,17 +347,36 @@ module _ (laws : AreLaws) (accesses : AreAccesses) where
   same-held : (old new : Subchannel) (f : Option Story → Option Story) (k : Option Story) → new ≡ old → f k ≡ k → KeptBy old.state k → KeptBy new.state (f k)
   same-held old new f k e g h = subst (λ (x : Option Story). KeptBy new.state x) (sym g) (subst (λ (x : Subchannel). KeptBy x.state k) (sym e) h)
 
+  -- an instruction
   started-held : (s : SubchannelState) (orb : Orb) (k : Option Story) → KeptBy s k → KeptBy (started s orb) k
-  started-held s orb None h = record { phase = h.phase; begun = h.begun; drawn = h.drawn }
-  started-held s orb (Some k) h = (record { number = h.0.number; phase = h.0.phase; work = h.0.work }, h.1)
+  started-held s orb None h = record { phase = h.phase; begun = h.begun; suspended = refl }
+  started-held s orb (Some k) h = (record { number = h.0.number; phase = h.0.phase; drawn = h.0.drawn; work = h.0.work; standing = tt }, h.1)
 
-  tested-held : (s : SubchannelState) (k : Option Story) → KeptBy s k → KeptBy (tested s) k
-  tested-held s None h = record { phase = h.phase; begun = h.begun; drawn = h.drawn }
-  tested-held s (Some k) h = (record { number = h.0.number; phase = h.0.phase; work = h.0.work }, h.1)
+  tested-held : (s : SubchannelState) (k : Option Story) → KeptBy s k → KeptBy (tested_wholly s) k
+  tested-held s k h = by (ends_suspended s.scsw)
+    where
+      by : (b : Bool) → KeptBy (if b then without_programs (tested s) else tested s) k
+      by true = same-kept (without_programs s) (without_programs (tested s)) k refl refl refl refl refl (without-kept s k h)
+      by false = same-kept s (tested s) k refl refl refl refl refl h
 
-  modified-held : (s : SubchannelState) (pmcw : Pmcw) (k : Option Story) → KeptBy s k → KeptBy (record s { pmcw = pmcw }) k
-  modified-held s pmcw None h = record { phase = h.phase; begun = h.begun; drawn = h.drawn }
-  modified-held s pmcw (Some k) h = (record { number = h.0.number; phase = h.0.phase; work = h.0.work }, h.1)
+  halted-kept : (s : SubchannelState) (k : Option Story) → KeptBy s k → KeptBy (halted s) k
+  halted-kept s k h = by (drops_status s.scsw)
+    where
+      by : (b : Bool) → KeptBy (if b then dropped (halting s) else halting s) k
+      by true = same-kept s (dropped (halting s)) k refl refl refl refl refl h
+      by false = same-kept s (halting s) k refl refl refl refl refl h
+
+  cleared-kept : (s : SubchannelState) (k : Option Story) → KeptBy s k → KeptBy (cleared s) k
+  cleared-kept s None h = record { phase = omega arith; begun = refl; suspended = refl }
+  cleared-kept s (Some k) h =
+      let n : k.number ≤ s.drawn = h.0.number in (
+        record { number = omega (arith, n); phase = (refl, omega (arith, n)); drawn = omega arith; work = done-held s k h.0; standing = tt },
+        h.1,
+      )
+
+  cancelled-held : (s : SubchannelState) (k : Option Story) → KeptBy s k → KeptBy (cancelled s) k
+  cancelled-held s None h = record { phase = h.phase; begun = h.begun; suspended = refl }
+  cancelled-held s (Some k) h = (record { number = h.0.number; phase = h.0.phase; drawn = h.0.drawn; work = h.0.work; standing = tt }, h.1)
 
   told : (new : Subchannel) (s : SubchannelState) (f : Option Story → Option Story) (k next : Option Story) → new.state ≡ s → f k ≡ next → KeptBy s next → KeptBy new.state (f k)
   told new s f k next e g h = subst (λ (x : Option Story). KeptBy new.state x) (sym g) (subst (λ (x : SubchannelState). KeptBy x next) (sym e) h)
@@ -257,8 +388,14 @@ module _ (laws : AreLaws) (accesses : AreAccesses) where
       KeptBy old.state k → KeptBy new.state (f k)
   happens-held storage old new u v f (Stays e w g) k h = same-held old new f k e (g k) h
   happens-held storage old new u v f (Starts_with_orb orb e w g) k h = told new (started old.state orb) f k k (ap state-of e) (g k) (started-held old.state orb k h)
-  happens-held storage old new u v f (Is_tested e w g) k h = told new (tested old.state) f k k (ap state-of e) (g k) (tested-held old.state k h)
-  happens-held storage old new u v f (Is_modified pmcw e w g) k h = told new (record old.state { pmcw = pmcw }) f k k (ap state-of e) (g k) (modified-held old.state pmcw k h)
+  happens-held storage old new u v f (Is_tested e w g) k h = told new (tested_wholly old.state) f k k (ap state-of e) (g k) (tested-held old.state k h)
+  happens-held storage old new u v f (Is_resumed e w g) k h =
+      told new (resumed old.state) f k k (ap state-of e) (g k) (same-kept old.state (resumed old.state) k refl refl refl refl refl h)
+  happens-held storage old new u v f (Is_halted e w g) k h = told new (halted old.state) f k k (ap state-of e) (g k) (halted-kept old.state k h)
+  happens-held storage old new u v f (Is_cleared e w g) k h = told new (cleared old.state) f k k (ap state-of e) (g k) (cleared-kept old.state k h)
+  happens-held storage old new u v f (Is_cancelled e w g) k h = told new (cancelled old.state) f k k (ap state-of e) (g k) (cancelled-held old.state k h)
+  happens-held storage old new u v f (Is_modified pmcw e w g) k h = told new (record old.state { pmcw = pmcw }) f k k (ap state-of e) (g k)
+      (same-kept old.state (record old.state { pmcw = pmcw }) k refl refl refl refl refl h)
   happens-held storage old new u v f (Is_chosen choice t c e w g) k h =
       told new t.sub.state f k (chosen_at (Some old) t.reply k) (ap state-of e) (g k) (chosen-held old k choice t c h)
   happens-held storage old new u v f (Meets path t c e w g) k h =
@@ -272,7 +409,7 @@ module _ (laws : AreLaws) (accesses : AreAccesses) where
 
   -- after a run
   free-untold : (sub : Subchannel) (setup : SubchannelSetup) → opened setup ≡ sub → IsUntold sub.state
-  free-untold sub setup e = subst (λ (x : Subchannel). IsUntold x.state) e (record { phase = refl; begun = refl; drawn = refl })
+  free-untold sub setup e = subst (λ (x : Subchannel). IsUntold x.state) e (record { phase = tt; begun = refl; suspended = refl })
 
   pub run-held : (setup : Setup) → IsLawful setup → (h : List Entry) (s : State) (run : Run (opening_of setup) h s) (place : ℕ) (sub : Subchannel) → slice_get s.subs place ≡ Some sub →
       KeptBy sub.state (story place (opening_of setup) h s run)

@@ -1,5 +1,5 @@
 -- What was copied for the device is as storage stood then.
-use Rattle.std.proofs.Common.{◌≡◌, refl, ℕ, ◌+◌, Bool, true, false, List, ◌∷◌, length, Option, Some, None, Result, Ok, Err}
+use Rattle.std.proofs.Common.{◌≡◌, refl, ℕ, ◌+◌, Bool, true, false, List, [], ◌∷◌, length, Option, Some, None, Result, Ok, Err}
 use Rattle.std.specs.Prelude.{◌==◌, ◌&&◌, min, is_some, if◌then◌else◌, All}
 use Rattle.std.proofs.lemmas.List.Elements.{All-nil, All-cons}
 use Rattle.storage_keys.specs.Storage.{Contents}
@@ -14,20 +14,25 @@ use Rattle.chan_model.specs.Loads.{load_length}
 use Rattle.chan_model.specs.UnitReports.{is_outward, has_device_end}
 use Rattle.channel_program.specs.declared.check.Check.{Check}
 use Rattle.channel_program.specs.Acts.{Act}
+use Rattle.channel_program.specs.Programs.{commands}
+use Rattle.channel_program.specs.Walks.{Place, place}
 use Rattle.data_move.specs.Moving.{room}
 use Rattle.data_move.specs.Accesses as access
 use Rattle.transfer.specs.declared.Transfer.{Transfer}
+use Rattle.transfer.specs.declared.Came.{Came}
+use Rattle.transfer.specs.declared.Came.TheVariants as came
 use Rattle.transfer.specs.Commands.{first_command, next_command, located, has_stopped}
 use Rattle.transfer.specs.Chunks.{chains_data, with_moved, with_answer, absorbed, fitting, is_answered}
 use Rattle.machine_model.specs.declared.state.Begun.{Begun}
 use Rattle.machine_model.specs.declared.state.Program.{Program}
+use Rattle.machine_model.specs.declared.state.Standing.{Standing}
 use Rattle.machine_model.specs.declared.state.SubchannelState.{SubchannelState}
 use Rattle.machine_model.specs.Statuses.{has_status_modifier, chains_command}
-use Rattle.machine_model.specs.Taking.{waits_as, bytes_of}
+use Rattle.machine_model.specs.Taking.{goes_ahead, bytes_of}
 use Rattle.program_laws.specs.Doings as doing
-use Rattle.program_laws.specs.Doings.{Part, no_part, with_acts, with_places, with_copy, copying, located_acts, chunk_of, chained_acts, answered, giving, gives, with_arrival, storing, arriving, takes_in, first_acts, next_acts}
+use Rattle.program_laws.specs.Doings.{Part, no_part, with_acts, with_places, with_copy, located_acts, chunk_of, chained_acts, answered, gives, with_arrival, storing, takes_in, first_acts, next_acts}
 use Rattle.program_laws.specs.Stories as stories
-use Rattle.program_laws.specs.Stories.{Story, meets}
+use Rattle.program_laws.specs.Stories.{Story, past_part, meets}
 use Rattle.program_laws.specs.Claims.{IsCopied, part_of}
 use Rattle.program_laws.proofs.Accesses.{AreAccesses, copied-bytes}
 
@@ -96,23 +101,44 @@ module _ (accesses : AreAccesses) where
       copy-if storage u (with_acts (answered storage t s count p) (located_acts storage a)) (has_stopped u) (answer-if storage t s count p (s == t.sequence + 1) c)
 
   -- the story
-  goes-copied : (came : Result Transfer Check) (acts : List Act) (k : Story) → AreCopied k → AreCopied (stories.goes_on came acts k)
-  goes-copied (Ok t) acts k c = (All-nil IsCopied, c.0)
-  goes-copied (Err check) acts k c = c
+  goes-copied : (c : Came) (acts : List Act) (k : Story) → AreCopied k → AreCopied (stories.goes_on c acts k)
+  goes-copied (came.Begins t) acts k c = (All-nil IsCopied, c.0)
+  goes-copied came.Suspends acts k c = c
+  goes-copied (came.Stops check) acts k c = c
 
-  begins-copied : (storage : Contents) (phase : HoldPhase) (w : Option Program) (k : Story) → AreCopied k → AreCopied (stories.accepted_at storage phase w k)
-  begins-copied storage (hold.On t p d) (Some program) k c =
-      goes-copied (first_command storage program.orb).came (first_acts storage program.orb) (record k { orb = program.orb; now = no_part }) (All-nil IsCopied, c.1)
-  begins-copied storage (hold.On t p d) None k c = c
-  begins-copied storage hold.Free w k c = c
-  begins-copied storage (hold.Offer t p) w k c = c
-  begins-copied storage (hold.Away t) w k c = c
-  begins-copied storage (hold.Letting t p) w k c = c
-  begins-copied storage (hold.Reset r) w k c = c
+  begins-copied : (storage : Contents) (walk : Place) (k : Story) → AreCopied k → AreCopied (stories.begins storage walk k)
+  begins-copied storage walk k c = goes-copied (first_command storage walk).came (first_acts storage walk) k c
+
+  again-if : (storage : Contents) (st : Standing) (k : Story) (b : Bool) → AreCopied k → AreCopied (if b then stories.begins_again storage st k else k)
+  again-if storage st k true c = begins-copied storage st.walk (record k { earlier = length (commands k.orb k.now.acts); now = past_part k.now }) (All-nil IsCopied, c.1)
+  again-if storage st k false c = c
+
+  again-copied : (storage : Contents) (suspended : Option Standing) (start : ℕ) (k : Story) → AreCopied k → AreCopied (stories.again_as storage suspended start k)
+  again-copied storage None start k c = c
+  again-copied storage (Some st) start k c = again-if storage st k (st.program.start == start) c
+
+  anew-if : (storage : Contents) (program : Program) (suspended : Option Standing) (start : ℕ) (k : Story) (b : Bool) → AreCopied k →
+      AreCopied (if b then stories.begins_anew storage program k else stories.again_as storage suspended start k)
+  anew-if storage program suspended start k true c =
+      begins-copied storage (place program.orb []) (record k { orb = program.orb; earlier = 0; now = no_part }) (All-nil IsCopied, c.1)
+  anew-if storage program suspended start k false c = again-copied storage suspended start k c
+
+  begins_as-copied : (storage : Contents) (waiting : Option Program) (suspended : Option Standing) (start : ℕ) (k : Story) → AreCopied k →
+      AreCopied (stories.begins_as storage waiting suspended start k)
+  begins_as-copied storage None suspended start k c = again-copied storage suspended start k c
+  begins_as-copied storage (Some program) suspended start k c = anew-if storage program suspended start k (program.start == start) c
+
+  accepted-copied : (storage : Contents) (phase : HoldPhase) (s : SubchannelState) (k : Story) → AreCopied k → AreCopied (stories.accepted_at storage phase s k)
+  accepted-copied storage (hold.On t p d) s k c = begins_as-copied storage s.waiting s.suspended s.offered k c
+  accepted-copied storage hold.Free s k c = c
+  accepted-copied storage (hold.Offer t p) s k c = c
+  accepted-copied storage (hold.Away t) s k c = c
+  accepted-copied storage (hold.Letting t p) s k c = c
+  accepted-copied storage (hold.Reset r) s k c = c
 
   accept-if : (storage : Contents) (s : SubchannelState) (step : Option HoldStep) (k : Story) (b : Bool) → AreCopied k →
-      AreCopied (if b then stories.accepted_at storage (hold_after s.hold step).phase s.waiting k else k)
-  accept-if storage s step k true c = begins-copied storage (hold_after s.hold step).phase s.waiting k c
+      AreCopied (if b then stories.accepted_at storage (hold_after s.hold step).phase s k else k)
+  accept-if storage s step k true c = accepted-copied storage (hold_after s.hold step).phase s k c
   accept-if storage s step k false c = c
 
   move-if : (storage : Contents) (t : Transfer) (seq : ℕ) (load : Load) (k : Story) (b : Bool) → AreCopied k →
@@ -155,7 +181,7 @@ module _ (accesses : AreAccesses) where
 
   pub meets-copied : (storage : Contents) (s : SubchannelState) (p : ℕ) (signal : Up) (k : Story) → AreCopied k → AreCopied (meets storage s p signal k)
   meets-copied storage s p (up.Accept t) k c =
-      let step : Option HoldStep = hold_takes s.hold p (up.Accept t) (waits_as s.waiting s.offered) in
+      let step : Option HoldStep = hold_takes s.hold p (up.Accept t) (goes_ahead s) in
       accept-if storage s step k (came_of step).taken c
   meets-copied storage s p (up.Data t d n seq load) k c = data-if storage s n seq load k (is_connected s.hold.phase p t d) c
   meets-copied storage s p (up.End t n status more) k c = on-if storage s n status more k (is_on s.hold.phase t) c

@@ -1,6 +1,9 @@
--- One short story, so that the definitions are seen to tell one: a write of two bytes at 16, by a program at 8.
-use Rattle.std.proofs.Common.{◌≡◌, false, true, [], ◌∷◌, map, Some, refl, lit<}
+-- Short stories, so that the definitions are seen to tell them: a write of two bytes at 16, by a program at 8; and one that
+-- is suspended and resumed.
+use Rattle.std.proofs.Common.{◌≡◌, ℕ, false, true, [], ◌∷◌, map, Some, refl, lit<}
+use Rattle.std.specs.Prelude.{is_some}
 use Rattle.orb_block.specs.declared.Orb.{Orb}
+use Rattle.scsw_irb.specs.declared.status.DeviceStatus.{DeviceStatus}
 use Rattle.storage_keys.specs.Storage.{Contents}
 use Rattle.chan_model.specs.declared.hold_state.HoldPhase.TheVariants as hold
 use Rattle.chan_model.specs.declared.signal.Load.TheVariants as load
@@ -10,7 +13,7 @@ use Rattle.machine_model.specs.declared.state.Program.{Program}
 use Rattle.machine_model.specs.declared.state.SubchannelState.{SubchannelState}
 use Rattle.machine_model.specs.State.{opening_subchannel}
 use Rattle.machine_model.specs.Taking.{takes_up}
-use Rattle.program_laws.specs.Stories.{Story, offered, meets}
+use Rattle.program_laws.specs.Stories.{Story, offered, resumed, meets}
 use Rattle.program_laws.specs.Claims.{codes}
 
 -- at 8 a block of format 1: code 1, count 2, address 16
@@ -71,7 +74,7 @@ example_sent : sent_story.sent ≡ 1
 unfolding storage
 example_sent = refl
 
-example_codes : codes moved_story.orb moved_story.now.acts ≡ 1 ∷ []
+example_codes : codes moved_story.earlier moved_story.orb moved_story.now.acts ≡ 1 ∷ []
 unfolding storage
 example_codes = refl
 
@@ -82,3 +85,57 @@ example_copied = refl
 example_moved : moved_story.now.moved ≡ Some 16 ∷ Some 17 ∷ []
 unfolding storage
 example_moved = refl
+
+-- a program of two commands that is suspended before its second, at 16, and resumed where this one is no longer marked: the
+-- second is the first that is sent under the new number
+stored : ℕ → Contents
+stored flags = record {
+  bytes = 0 ∷ 0 ∷ 0 ∷ 0 ∷ 0 ∷ 0 ∷ 0 ∷ 0 ∷ 1 ∷ 96 ∷ 0 ∷ 2 ∷ 0 ∷ 0 ∷ 0 ∷ 24 ∷ 5 ∷ flags ∷ 0 ∷ 1 ∷ 0 ∷ 0 ∷ 0 ∷ 24 ∷ 193 ∷ 194 ∷ [];
+  keys = [];
+  prefixes = [];
+}
+
+abbrev marked : Contents
+marked = stored 2
+
+abbrev unmarked : Contents
+unmarked = stored 0
+
+abbrev suspendable : Orb
+suspendable = record orb { suspend = true }
+
+abbrev waiting_state : SubchannelState
+waiting_state = record offered_state { waiting = Some (record program { orb = suspendable }) }
+
+abbrev working_state : SubchannelState
+working_state = (takes_up marked waiting_state 0 (up.Accept 1)).step.state
+
+abbrev working_story : Story
+working_story = meets marked waiting_state 0 (up.Accept 1) (offered 1 suspendable)
+
+abbrev ended : DeviceStatus
+ended = record { 0 = 0x0C }
+
+abbrev suspended_state : SubchannelState
+suspended_state = (takes_up marked working_state 0 (up.End 1 1 ended false)).step.state
+
+abbrev suspended_story : Story
+suspended_story = meets marked working_state 0 (up.End 1 1 ended false) working_story
+
+abbrev resumed_state : SubchannelState
+resumed_state = record suspended_state { drawn = 2; hold = record free_hold { phase = hold.Offer 2 0 } }
+
+abbrev resumed_story : Story
+resumed_story = meets unmarked resumed_state 0 (up.Accept 2) (resumed 2 suspended_story)
+
+example_suspended : is_some suspended_state.suspended ≡ true
+unfolding stored
+example_suspended = refl
+
+example_suspended_codes : codes 0 suspended_story.orb suspended_story.now.acts ≡ 1 ∷ []
+unfolding stored
+example_suspended_codes = refl
+
+example_resumed_codes : codes resumed_story.earlier resumed_story.orb resumed_story.now.acts ≡ 5 ∷ []
+unfolding stored
+example_resumed_codes = refl

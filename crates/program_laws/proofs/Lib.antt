@@ -1,3 +1,4 @@
+mod TurnPlaces
 mod Turns
 mod Lists
 mod Advances
@@ -5,11 +6,16 @@ mod Ties
 mod Chainings
 mod Accesses
 mod Parts
+mod Caused
 mod Holds
+mod HoldMeets
 mod UnitSides
 mod UnitOrders
 mod UnitGrowth
 mod LinkSent
+mod LinkNeeds
+mod LinkDrawn
+mod LinkChosen
 mod LinkOrders
 mod RunSides
 mod RunOrders
@@ -22,6 +28,8 @@ mod UnitTold
 mod LinkWires
 mod LinkModes
 mod LinkReports
+mod LinkCourses
+mod LinkIdle
 mod LinkMeets
 mod LinkFlows
 mod RunFlows

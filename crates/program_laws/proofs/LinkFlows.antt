@@ -1,6 +1,6 @@
 -- The bytes that a device absorbs for its command: what a step at one place keeps of what holds of them.
-use Rattle.std.proofs.Common.{◌≡◌, refl, sym, ◌∙◌, ap, subst, ℕ, ◌+◌, ◌<◌, Bool, true, false, nat_lt, length, Option, None, Some, Err, List, [], arith}
-use Rattle.std.specs.Prelude.{if◌then◌else◌, slice_get, IfOk, IfSome}
+use Rattle.std.proofs.Common.{◌≡◌, refl, sym, ◌∙◌, ap, subst, ℕ, ◌+◌, ◌≤◌, Bool, true, false, nat_lt, length, Option, None, Some, Err, List, [], arith}
+use Rattle.std.specs.Prelude.{slice_get, IfOk, IfSome}
 use Rattle.storage_keys.specs.Storage.{Contents}
 use Rattle.chan_model.specs.declared.fault.Fault.TheVariants as fault
 use Rattle.chan_model.specs.declared.hold_state.HoldPhase.{HoldPhase}
@@ -13,123 +13,172 @@ use Rattle.chan_model.specs.declared.signal.Down.{Down}
 use Rattle.chan_model.specs.declared.signal.Down.TheVariants as down
 use Rattle.chan_model.specs.declared.signal.OnPath.{OnPath}
 use Rattle.chan_model.specs.declared.signal.Up.{Up}
-use Rattle.chan_model.specs.declared.signal.Up.TheVariants as up
 use Rattle.chan_model.specs.declared.unit_state.AtHand.{AtHand}
 use Rattle.chan_model.specs.declared.unit_state.Own.{Own}
 use Rattle.chan_model.specs.declared.unit_state.Place.TheVariants.{On}
 use Rattle.chan_model.specs.declared.unit_state.UnitState.{UnitState}
-use Rattle.chan_model.specs.HoldTable as hold_table
-use Rattle.chan_model.specs.HoldTable.{is_connected, is_on, left, asked_back, found_busy, released, cleared, noticed, attended}
 use Rattle.chan_model.specs.Sides.{same_side}
 use Rattle.chan_model.specs.UnitTable.{UnitStep, came_of, is_owner, unit_takes, unit_after}
 use Rattle.chan_model.specs.UnitReports.{unit_reports}
 use Rattle.wires.specs.Queues.{queue, taken}
 use Rattle.machine_model.specs.declared.state.Begun.{Begun}
 use Rattle.machine_model.specs.declared.state.Chosen.{Chosen}
-use Rattle.machine_model.specs.declared.state.Chosen.TheVariants.{Idle, Over, Offers}
+use Rattle.machine_model.specs.declared.state.Chosen.TheVariants.{Idle, Resets, Clears, Halts, Ends, Over, Offers}
 use Rattle.machine_model.specs.declared.state.Program.{Program}
 use Rattle.machine_model.specs.declared.state.Subchannel.{Subchannel}
 use Rattle.machine_model.specs.declared.state.SubchannelState.{SubchannelState}
 use Rattle.machine_model.specs.Choosing as choosing
-use Rattle.machine_model.specs.Choosing.{is_any, allowed_paths, chosen}
-use Rattle.machine_model.specs.Taking as taking
-use Rattle.machine_model.specs.Taking.{waits_as, takes_up}
+use Rattle.machine_model.specs.Taking.{takes_up}
 use Rattle.machine_model.specs.Steps.{with_any_sent, is_full, finds_full, choose_sub, up_front, up_sub, down_front, down_sub, report_taken}
-use Rattle.program_laws.specs.Doings.{no_part}
-use Rattle.program_laws.specs.Stories.{Story, offered, offered_for, chosen_at, met_with, met_at, taken_at, reported_at}
+use Rattle.program_laws.specs.Stories.{Story, offered, offered_for, resumed, chosen_at, meets, met_with, met_at, taken_at, reported_at}
 use Rattle.program_laws.proofs.Turns.{if-ok}
 use Rattle.program_laws.proofs.Ties.{AreLaws}
 use Rattle.program_laws.proofs.Accesses.{AreAccesses}
-use Rattle.program_laws.proofs.Holds.{HeldBy}
+use Rattle.program_laws.proofs.Caused.{path-begun}
+use Rattle.program_laws.proofs.Holds.{IsPhase, IsHeld, IsUnheld, HasWork, HeldBy}
 use Rattle.program_laws.proofs.UnitSides.{other-owner}
 use Rattle.program_laws.proofs.UnitOrders.{IsDown, IsNumbered, on-first}
 use Rattle.program_laws.proofs.UnitHands.{IsCalm, other-calm}
 use Rattle.program_laws.proofs.UnitTold.{IsTold, Begins_out, Begins_in, Absorbs, Supplies, Tells_again, Ends, IsReportTaken, report-taken}
-use Rattle.program_laws.proofs.LinkSent.{IsOfHold, busy-mutters, left-mutters, back-mutters, released-mutters, cleared-mutters, attended-mutters, noticed-mutters}
-use Rattle.program_laws.proofs.LinkOrders.{IsLinked, IsWaiting, below-next, number_of, held-needs}
-use Rattle.program_laws.proofs.LinkWires.{HandClosed, IsClosed, IsOfCommand, IsTelling, IsWired, IsAnswered, wired-holds, wired-offers, wired-calm, wired-takes, wired-tells, first-tells}
+use Rattle.program_laws.proofs.LinkNeeds.{held-needs}
+use Rattle.program_laws.proofs.LinkChosen.{IsFound, IsFitting}
+use Rattle.program_laws.proofs.LinkOrders.{IsLinked, number_of, took_of, number-drawn}
+use Rattle.program_laws.proofs.LinkIdle.{IsIdle, IsNoOffer, idle-meets}
+use Rattle.program_laws.proofs.LinkCourses.{Course, Follows, Cut, CourseOf, over-course, course-carried, course-down, course-reports}
+use Rattle.program_laws.proofs.LinkWires.{HandClosed, IsClosed, IsOfCommand, IsGiving, IsTelling, IsWired, IsAnswered, wired-holds, wired-sends, sent-hold, wired-offers, wired-calm, wired-takes, wired-tells, first-tells}
 use Rattle.program_laws.proofs.LinkViews.{view_of}
 use Rattle.program_laws.proofs.LinkModes as modes
-use Rattle.program_laws.proofs.LinkModes.{AnyGive, NoGive, AnyData, HandPlain, HandFlow, Mode, Waits, Reads, Writes, ModeOf, fit-closed, mode-carried, absorbs-none, mode-down}
+use Rattle.program_laws.proofs.LinkModes.{AnyGive, NoGive, AnyData, HandPlain, HandFlow, Mode, Waits, Reads, Writes, fit-closed, mode-carried, absorbs-none}
 use Rattle.program_laws.proofs.UnitFlows.{IsGive, IsData}
-use Rattle.program_laws.proofs.LinkReports.{one-side, report-owner, told-closed, told-own, mode-reports}
-use Rattle.program_laws.proofs.LinkMeets.{sent-hold, mode-meets}
+use Rattle.program_laws.proofs.LinkReports.{one-side, report-owner, told-closed, told-own}
+use Rattle.program_laws.proofs.LinkMeets.{mode-meets}
 
 abbrev pub AtSub : Side → Subchannel → Option Story → UnitState → Type 0
-AtSub side sub k u = ModeOf side sub.state.begun k sub.wires.down sub.wires.up u
+AtSub side sub k u = CourseOf side sub.state.begun k sub.wires.down sub.wires.up u
 
--- Choose
-offer-wires : (side : Side) (begun : Option Begun) (k : Option Story) (number : ℕ) (took : List ℕ) (downs : List (List Down)) (ups : List (List Up)) (u : UnitState) (path after : ℕ) →
-    number ≡ number_of k → number < after → IsNumbered side number took u → ModeOf side begun k downs ups u →
-    IsWired side after 0 HandClosed AnyGive AnyData (with_any_sent downs (Some (record { path = path; signal = down.Select after }))) ups u
-offer-wires side begun None number took downs ups u path after e l n w =
-    wired-offers side 0 after 0 took HandClosed HandClosed AnyGive AnyGive AnyData AnyData downs ups u path (omega (arith, e, l)) (subst (λ (i : ℕ). IsNumbered side i took u) e n) w
-offer-wires side begun (Some k) number took downs ups u path after e l n (Waits b h g q y a w) =
-    wired-offers side k.number after (length k.taken) took HandClosed HandClosed AnyGive AnyGive AnyData AnyData downs ups u path (omega (arith, e, l)) (subst (λ (i : ℕ). IsNumbered side i took u) e n) w
-offer-wires side begun (Some k) number took downs ups u path after e l n (modes.Over h g q a w) =
-    wired-offers side k.number after (length k.taken) took HandClosed HandClosed AnyGive AnyGive AnyData AnyData downs ups u path (omega (arith, e, l)) (subst (λ (i : ℕ). IsNumbered side i took u) e n) w
-offer-wires side begun (Some k) number took downs ups u path after e l n (Reads b h g o q w) =
-    wired-offers side k.number after (length k.taken) took HandPlain HandClosed NoGive AnyGive AnyData AnyData downs ups u path (omega (arith, e, l)) (subst (λ (i : ℕ). IsNumbered side i took u) e n) w
-offer-wires side begun (Some k) number took downs ups u path after e l n (Writes b h g o lead f w) =
-    wired-offers side k.number after (length k.taken) took (HandFlow b.transfer.code (view_of b.transfer k.now) lead) HandClosed (IsGive (view_of b.transfer k.now)) AnyGive
-    (IsData (view_of b.transfer k.now) lead) AnyData downs ups u path (omega (arith, e, l)) (subst (λ (i : ℕ). IsNumbered side i took u) e n) w
+-- Choose: a greater number is drawn
+mode-offer : (side : Side) (drawn : ℕ) (begun : Option Begun) (k : Story) (took : List ℕ) (downs : List (List Down)) (ups : List (List Up)) (u : UnitState) (path : ℕ) → k.number ≤ drawn →
+    IsNumbered side drawn k.number took u → Mode side begun k downs ups u →
+    IsWired side (drawn + 1) 0 HandClosed AnyGive AnyData (with_any_sent downs (Some (record { path = path; signal = down.Select (drawn + 1) }))) ups u
+mode-offer side drawn begun k took downs ups u path l n (Waits b h g q y a w) =
+    wired-offers side drawn k.number (drawn + 1) (length k.taken) took HandClosed HandClosed AnyGive AnyGive AnyData AnyData downs ups u path l (omega arith) n w
+mode-offer side drawn begun k took downs ups u path l n (modes.Over h g q a w) =
+    wired-offers side drawn k.number (drawn + 1) (length k.taken) took HandClosed HandClosed AnyGive AnyGive AnyData AnyData downs ups u path l (omega arith) n w
+mode-offer side drawn begun k took downs ups u path l n (Reads b h g o q w) =
+    wired-offers side drawn k.number (drawn + 1) (length k.taken) took HandPlain HandClosed NoGive AnyGive AnyData AnyData downs ups u path l (omega arith) n w
+mode-offer side drawn begun k took downs ups u path l n (Writes b h g o lead f w) =
+    wired-offers side drawn k.number (drawn + 1) (length k.taken) took (HandFlow b.transfer.code (view_of b.transfer k.now) lead) HandClosed (IsGive (view_of b.transfer k.now)) AnyGive
+    (IsData (view_of b.transfer k.now) lead) AnyData downs ups u path l (omega arith) n w
 
-pub choose-flows : (sub : Subchannel) (c : Chosen) (k : Option Story) (u : UnitState) → IsWaiting sub.state.waiting c → HeldBy sub.state k → IsLinked sub.setup.side sub.wires.down k u →
+offer-wires : (side : Side) (drawn : ℕ) (begun : Option Begun) (k : Option Story) (took : List ℕ) (downs : List (List Down)) (ups : List (List Up)) (u : UnitState) (path : ℕ) → number_of k ≤ drawn →
+    IsNumbered side drawn (number_of k) took u → CourseOf side begun k downs ups u →
+    IsWired side (drawn + 1) 0 HandClosed AnyGive AnyData (with_any_sent downs (Some (record { path = path; signal = down.Select (drawn + 1) }))) ups u
+offer-wires side drawn begun None took downs ups u path l n w =
+    wired-offers side drawn 0 (drawn + 1) 0 took HandClosed HandClosed AnyGive AnyGive AnyData AnyData downs ups u path l (omega arith) n w
+offer-wires side drawn begun (Some k) took downs ups u path l n (Follows m) = mode-offer side drawn begun k took downs ups u path l n m
+offer-wires side drawn begun (Some k) took downs ups u path l n (Cut e b w m) = mode-offer side drawn (Some b) k took downs ups u path l n m
+
+-- the program is offered: nothing was sent of it under this number
+offers-over : (sub : Subchannel) (path : ℕ) (t : Subchannel) (k : Option Story) (new : Story) (u : UnitState) → HeldBy sub.state k → IsLinked sub.setup.side sub.state.drawn sub.wires.down k u →
+    AtSub sub.setup.side sub k u → t.wires.down ≡ with_any_sent sub.wires.down (Some (record { path = path; signal = down.Select (sub.state.drawn + 1) })) → t.wires.up ≡ sub.wires.up →
+    t.state.begun ≡ None → new.number ≡ sub.state.drawn + 1 → new.sent ≡ 0 → new.taken ≡ [] → new.absorbed ≡ [] → AtSub sub.setup.side t (Some new) u
+offers-over sub path t k new u h l a d x b i n g z =
+    let w : IsWired sub.setup.side (sub.state.drawn + 1) 0 HandClosed AnyGive AnyData (with_any_sent sub.wires.down (Some (record { path = path; signal = down.Select (sub.state.drawn + 1) }))) sub.wires.up u =
+    offer-wires sub.setup.side sub.state.drawn sub.state.begun k _ sub.wires.down sub.wires.up u path (number-drawn k sub.state (held-needs k sub.state h)) l.kept a in
+    let P : ℕ → ℕ → List (List Down) → List (List Up) → Type 0 = λ i m downs ups. IsWired sub.setup.side i m HandClosed AnyGive AnyData downs ups u in
+    let v : P new.number (length new.taken) t.wires.down t.wires.up =
+    subst (λ (y : ℕ). P y (length new.taken) t.wires.down t.wires.up) (sym i)
+    (subst (λ (y : List ℕ). P (sub.state.drawn + 1) (length y) t.wires.down t.wires.up) (sym g)
+    (subst (λ (y : List (List Down)). P (sub.state.drawn + 1) 0 y t.wires.up) (sym d) (subst (λ (y : List (List Up)). P (sub.state.drawn + 1) 0 (with_any_sent sub.wires.down (Some (record { path = path; signal = down.Select (sub.state.drawn + 1) }))) y) (sym x) w))) in
+    Follows (modes.Over b (ap length g ∙ sym n) (λ y. z) (absorbs-none new.orb new.now new.absorbed z) v)
+
+offered-begun : (s : SubchannelState) (n path : ℕ) (k : Story) → s.hold.phase ≡ hold.Offer n path → IsHeld s k → s.begun ≡ None
+offered-begun s n path k e h = (subst (λ (x : HoldPhase). IsPhase x k.number s.begun k.sent) e h.phase).1
+
+offers-flows : (sub : Subchannel) (program : Program) (path : ℕ) (resumes : Bool) (t : Subchannel) (k : Option Story) (u : UnitState) →
+    IsFound sub.state.waiting sub.state.suspended resumes program → HeldBy sub.state k → IsLinked sub.setup.side sub.state.drawn sub.wires.down k u → AtSub sub.setup.side sub k u →
+    t.wires.down ≡ with_any_sent sub.wires.down (Some (record { path = path; signal = down.Select (sub.state.drawn + 1) })) → t.wires.up ≡ sub.wires.up →
+    t.state.hold.phase ≡ hold.Offer (sub.state.drawn + 1) path →
+    HeldBy t.state (chosen_at (Some sub) (reply.Offered (sub.state.drawn + 1) path resumes) k) →
+    AtSub sub.setup.side t (chosen_at (Some sub) (reply.Offered (sub.state.drawn + 1) path resumes) k) u
+offers-flows sub program path false t k u w h l a d x f =
+    let n : ℕ = sub.state.drawn + 1 in
+    let P : Option Story → Type 0 = λ y. HeldBy t.state y → AtSub sub.setup.side t y u in
+    let made : P (Some (offered n program.orb)) = λ y. offers-over sub path t k (offered n program.orb) u h l a d x (offered-begun t.state n path (offered n program.orb) f y) refl refl refl refl in
+    subst (λ (y : Option Program). P (offered_for y n k)) (sym w) made
+offers-flows sub program path true t None u w h l a d x f = absurd (cc (sym h.suspended ∙ w.1))
+offers-flows sub program path true t (Some k) u w h l a d x f =
+    let n : ℕ = sub.state.drawn + 1 in
+    λ y. offers-over sub path t (Some k) (resumed n k) u h l a d x (offered-begun t.state n path (resumed n k) f y) refl refl refl refl
+
+-- a signal that gives nothing
+sends-flows : (side : Side) (begun : Option Begun) (k : Option Story) (downs : List (List Down)) (ups : List (List Up)) (u : UnitState) (path : ℕ) (d : Down) →
+    ((number m : ℕ) (Q : ℕ → List ℕ → Type 0) → IsGiving number m Q d) → CourseOf side begun k downs ups u → CourseOf side begun k (with_any_sent downs (Some (record { path = path; signal = d }))) ups u
+sends-flows side begun k downs ups u path d g a =
+    let one : Option (OnPath Down) = Some (record { path = path; signal = d }) in
+    course-carried side begun k downs (with_any_sent downs one) ups ups u u
+    (λ P Q R f w. wired-sends side (number_of k) (length (took_of k)) P Q R downs ups u one (g (number_of k) (length (took_of k)) Q) w) a
+
+pub choose-flows : (sub : Subchannel) (c : Chosen) (k : Option Story) (u : UnitState) → IsFitting sub.state c → HeldBy sub.state k → IsLinked sub.setup.side sub.state.drawn sub.wires.down k u →
     AtSub sub.setup.side sub k u → IfOk (choose_sub sub c) (λ t. HeldBy t.sub.state (chosen_at (Some sub) t.reply k) → AtSub sub.setup.side t.sub (chosen_at (Some sub) t.reply k) u)
 choose-flows sub Idle k u w h l a = λ x. a
-choose-flows sub Over k u w h l a = λ x. a
-choose-flows sub (Offers program path) k u w h l a =
-    let s : SubchannelState = sub.state in
-    let after : ℕ = s.drawn + 1 in
-    let t : Subchannel = record sub { state = choosing.offered s program path; wires = record sub.wires { down = with_any_sent sub.wires.down (Some (record { path = path; signal = down.Select after })) } } in
+choose-flows sub (Resets r path) k u w h l a =
     if-ok (λ t. HeldBy t.sub.state (chosen_at (Some sub) t.reply k) → AtSub sub.setup.side t.sub (chosen_at (Some sub) t.reply k) u) (is_full sub.wires.down path) (Err fault.WireFull) _ tt
-    (subst (λ (x : Option Program). HeldBy t.state (offered_for x after k) → AtSub sub.setup.side t (offered_for x after k) u) (sym w)
-    (λ (x : HeldBy t.state (Some (offered after program.orb))).
-    modes.Over x.phase.1 refl (λ z. refl) (absorbs-none program.orb no_part [] refl)
-    (offer-wires sub.setup.side s.begun k (number_of k) _ sub.wires.down sub.wires.up u path after refl (below-next k s (held-needs k s h)) l.kept a)))
+    (λ x. sends-flows sub.setup.side sub.state.begun k sub.wires.down sub.wires.up u path (down.Reset r sub.state.hold.known) (λ n m Q. tt) a)
+choose-flows sub Clears k u w h l a = λ x. a
+choose-flows sub (Halts t path) k u w h l a =
+    if-ok (λ t. HeldBy t.sub.state (chosen_at (Some sub) t.reply k) → AtSub sub.setup.side t.sub (chosen_at (Some sub) t.reply k) u) (is_full sub.wires.down path) (Err fault.WireFull) _ tt
+    (λ x. sends-flows sub.setup.side sub.state.begun k sub.wires.down sub.wires.up u path (down.Halt t) (λ n m Q. tt) a)
+choose-flows sub Ends k u w h l a = λ x. over-course sub.setup.side sub.state k sub.wires.down sub.wires.up u h a
+choose-flows sub Over k u w h l a =
+    λ x. subst (λ (b : Option Begun). CourseOf sub.setup.side b k sub.wires.down sub.wires.up u) (sym (path-begun sub.state sub.state.waiting)) a
+choose-flows sub (Offers c path) k u w h l a =
+    let t : Subchannel = record sub {
+      state = choosing.offered sub.state c.program path;
+      wires = record sub.wires { down = with_any_sent sub.wires.down (Some (record { path = path; signal = down.Select (sub.state.drawn + 1) })) };
+    } in
+    if-ok (λ t. HeldBy t.sub.state (chosen_at (Some sub) t.reply k) → AtSub sub.setup.side t.sub (chosen_at (Some sub) t.reply k) u) (is_full sub.wires.down path) (Err fault.WireFull) _ tt
+    (offers-flows sub c.program path c.resumes t k u w.1 h l a refl refl refl)
 
--- Up, where nothing was offered
-accept-none : (storage : Contents) (s : SubchannelState) (phase : HoldPhase) (t : ℕ) (may : Bool) → phase ≡ hold.Free →
-    IfSome (taking.accept storage s (hold_table.accepted s.hold phase t may)).came.sent (λ d. IsOfHold d.signal)
-accept-none storage s hold.Free t may e = tt
-accept-none storage s (hold.Offer v p) t may e = absurd (cc e)
-accept-none storage s (hold.On v p c) t may e = absurd (cc e)
-accept-none storage s (hold.Away v) t may e = absurd (cc e)
-accept-none storage s (hold.Letting v p) t may e = absurd (cc e)
-accept-none storage s (hold.Reset r) t may e = absurd (cc e)
+-- Up: where nothing was offered, and where the program was over before the device was done
+untold-no-offer : (phase : HoldPhase) (drawn : ℕ) → IsUnheld phase drawn → IsNoOffer phase
+untold-no-offer phase drawn h t p e = absurd (subst (λ (x : HoldPhase). IsUnheld x drawn) e h)
 
-none-sends : (storage : Contents) (s : SubchannelState) (path : ℕ) (x : Up) → s.hold.phase ≡ hold.Free → IfSome (takes_up storage s path x).step.came.sent (λ d. IsOfHold d.signal)
-none-sends storage s path (up.Accept t) e = accept-none storage s s.hold.phase t (waits_as s.waiting s.offered) e
-none-sends storage s path (up.Data t c n q l) e = by (is_connected s.hold.phase path t c) (ap (λ (x : HoldPhase). is_connected x path t c) e)
-  where
-    by : (b : Bool) → b ≡ false → IfSome (if b then taking.move_data storage s s.begun path t c n q l else taking.meets storage (taking.ignoring s)).step.came.sent (λ d. IsOfHold d.signal)
-    by true f = absurd (cc f)
-    by false f = tt
-none-sends storage s path (up.End t n status more) e = by (is_on s.hold.phase t) (ap (λ (x : HoldPhase). is_on x t) e)
-  where
-    by : (b : Bool) → b ≡ false → IfSome (if b then taking.end_of storage s s.begun path t n status more else taking.ignoring s).came.sent (λ d. IsOfHold d.signal)
-    by true f = absurd (cc f)
-    by false f = tt
-none-sends storage s path (up.Busy t) e = busy-mutters s.hold s.hold.phase t
-none-sends storage s path (up.Leave t c) e = left-mutters s.hold s.hold.phase t c
-none-sends storage s path (up.Back t c) e = back-mutters s.hold s.hold.phase path t c false
-none-sends storage s path (up.Released t) e = released-mutters s.hold s.hold.phase t
-none-sends storage s path (up.Cleared r) e = cleared-mutters s.hold s.hold.phase r
-none-sends storage s path (up.Notice b) e = noticed-mutters s.hold b
-none-sends storage s path (up.Attn a status) e = attended-mutters s.hold s.hold.phase path a false
+sent-no-offer : (s : SubchannelState) (k : Story) (b : Begun) → IsHeld s k → HasWork (Some b) k → IsNoOffer s.hold.phase
+sent-no-offer s k b h w t p e =
+    let none : k.sent ≡ 0 = (subst (λ (x : HoldPhase). IsPhase x k.number s.begun k.sent) e h.phase).2 in
+    absurd (omega (arith, none, w.2))
 
 module _ (laws : AreLaws) (accesses : AreAccesses) where
+  cut-meets : (storage : Contents) (side : Side) (s : SubchannelState) (k : Story) (downs : List (List Down)) (ups : List (List Up)) (u : UnitState) (path : ℕ) (x : Up) (b : Begun) → IsHeld s k →
+      s.begun ≡ None → HasWork (Some b) k → Mode side (Some b) k downs ups u →
+      Course side (takes_up storage s path x).step.state.begun (meets storage s path x k) (with_any_sent downs (takes_up storage s path x).step.came.sent) (taken ups path) u
+  cut-meets storage side s k downs ups u path x b h e w m =
+      let i : IsIdle s (takes_up storage s path x).step (meets storage s path x) = idle-meets storage s e (sent-no-offer s k b h w) path x in
+      let one : Option (OnPath Down) = (takes_up storage s path x).step.came.sent in
+      subst (λ (y : Story). Course side (takes_up storage s path x).step.state.begun y (with_any_sent downs one) (taken ups path) u) (sym (i.same k))
+      (Cut (i.begun ∙ e) b w
+      (mode-carried side (Some b) k downs (with_any_sent downs one) ups (taken ups path) u u
+      (λ P Q R f v. wired-holds side k.number (length k.taken) P P Q Q R R downs ups u one path (λ z y. y) (λ j bytes y. y) (λ j l y. y) (sent-hold k.number (length k.taken) Q one i.sends) v) m))
+
+  course-meets : (storage : Contents) (side : Side) (s : SubchannelState) (k : Story) (downs : List (List Down)) (ups : List (List Up)) (u : UnitState) (path : ℕ) (x : Up) →
+      slice_get (queue ups path) 0 ≡ Some x → IsHeld s k → Course side s.begun k downs ups u →
+      Course side (takes_up storage s path x).step.state.begun (meets storage s path x k) (with_any_sent downs (takes_up storage s path x).step.came.sent) (taken ups path) u
+  course-meets storage side s k downs ups u path x e h (Follows m) =
+      Follows (mode-meets laws accesses storage side s k downs ups u path h m x (λ P Q R w. first-tells side k.number (length k.taken) P Q R downs ups u path x e w))
+  course-meets storage side s k downs ups u path x e h (Cut z b w m) = cut-meets storage side s k downs ups u path x b h z w m
+
   met-flows : (storage : Contents) (sub : Subchannel) (path : ℕ) (x : Up) (k : Option Story) (u : UnitState) → slice_get (queue sub.wires.up path) 0 ≡ Some x → HeldBy sub.state k →
       AtSub sub.setup.side sub k u →
-      ModeOf sub.setup.side (takes_up storage sub.state path x).step.state.begun (met_with storage sub.state path (Some x) k)
+      CourseOf sub.setup.side (takes_up storage sub.state path x).step.state.begun (met_with storage sub.state path (Some x) k)
       (with_any_sent sub.wires.down (takes_up storage sub.state path x).step.came.sent) (taken sub.wires.up path) u
   met-flows storage sub path x None u e h a =
       let one : Option (OnPath Down) = (takes_up storage sub.state path x).step.came.sent in
+      let i : IsIdle sub.state (takes_up storage sub.state path x).step (meets storage sub.state path x) =
+      idle-meets storage sub.state h.begun (untold-no-offer sub.state.hold.phase sub.state.drawn h.phase) path x in
       wired-holds sub.setup.side 0 0 HandClosed HandClosed AnyGive AnyGive AnyData AnyData sub.wires.down sub.wires.up u one path (λ i y. y) (λ i bytes y. y) (λ i l y. y)
-      (sent-hold 0 0 AnyGive one (none-sends storage sub.state path x h.phase)) a
-  met-flows storage sub path x (Some k) u e h a =
-      mode-meets laws accesses storage sub.setup.side sub.state k sub.wires.down sub.wires.up u path h a x
-      (λ P Q R w. first-tells sub.setup.side k.number (length k.taken) P Q R sub.wires.down sub.wires.up u path x e w)
+      (sent-hold 0 0 AnyGive one i.sends) a
+  met-flows storage sub path x (Some k) u e h a = course-meets storage sub.setup.side sub.state k sub.wires.down sub.wires.up u path x e h a
 
   up_front-flows : (storage : Contents) (sub : Subchannel) (path : ℕ) (front : Option Up) (k : Option Story) (u : UnitState) → slice_get (queue sub.wires.up path) 0 ≡ front → HeldBy sub.state k →
       AtSub sub.setup.side sub k u → IfOk (up_front storage sub path front) (λ t. AtSub sub.setup.side t.sub (met_with storage sub.state path front k) u)
@@ -145,47 +194,47 @@ module _ (laws : AreLaws) (accesses : AreAccesses) where
       (Err fault.NoSuchPath) (up_front-flows storage sub path (slice_get (queue sub.wires.up path) 0) k u refl h a) tt
 
 -- Down
-none-answered : (side : Side) (u : UnitState) (path : ℕ) (d : Down) → IsDown 0 0 [] d → IsAnswered side 0 u path d
-none-answered side u path (down.Select t) i = tt
-none-answered side u path (down.Command t n code room) i = λ e. absurd (let k = i.1 e in omega (arith, k.0, k.1.count))
-none-answered side u path (down.Grant t c) i = tt
-none-answered side u path (down.Refuse t c) i = tt
-none-answered side u path (down.Took t n s room) i = tt
-none-answered side u path (down.Give t c n s bytes) i = tt
-none-answered side u path (down.Halt t) i = tt
-none-answered side u path (down.Release t) i = tt
-none-answered side u path (down.Reset r b) i = tt
-none-answered side u path (down.Got a) i = tt
+none-answered : (side : Side) (drawn : ℕ) (u : UnitState) (path : ℕ) (d : Down) → IsDown drawn 0 0 [] d → IsAnswered side 0 u path d
+none-answered side drawn u path (down.Select t) i = tt
+none-answered side drawn u path (down.Command t n code room) i = λ e. absurd (let k = i.1 e in omega (arith, k.0, k.1.count))
+none-answered side drawn u path (down.Grant t c) i = tt
+none-answered side drawn u path (down.Refuse t c) i = tt
+none-answered side drawn u path (down.Took t n s room) i = tt
+none-answered side drawn u path (down.Give t c n s bytes) i = tt
+none-answered side drawn u path (down.Halt t) i = tt
+none-answered side drawn u path (down.Release t) i = tt
+none-answered side drawn u path (down.Reset r b) i = tt
+none-answered side drawn u path (down.Got a) i = tt
 
 none-taken : (d : Down) (came : Bool) (sent : Option (OnPath Up)) → taken_at (reply.Down d came sent) None ≡ None
 none-taken d true sent = refl
 none-taken d false sent = refl
 
 sunk-flows : (sub : Subchannel) (path : ℕ) (d : Down) (k : Option Story) (u : UnitState) → slice_get (queue sub.wires.down path) 0 ≡ Some d → HeldBy sub.state k →
-    IsLinked sub.setup.side sub.wires.down k u → AtSub sub.setup.side sub k u →
-    ModeOf sub.setup.side sub.state.begun
+    IsLinked sub.setup.side sub.state.drawn sub.wires.down k u → AtSub sub.setup.side sub k u →
+    CourseOf sub.setup.side sub.state.begun
     (taken_at (reply.Down d (came_of (unit_takes u sub.setup.side path d true)).taken (came_of (unit_takes u sub.setup.side path d true)).sent) k) (taken sub.wires.down path)
     (with_any_sent sub.wires.up (came_of (unit_takes u sub.setup.side path d true)).sent) (unit_after u (unit_takes u sub.setup.side path d true))
 sunk-flows sub path d None u e h l a =
-    let i : IsDown 0 0 [] d = on-first (IsDown 0 0 []) sub.wires.down path d l.downs e in
-    subst (λ (x : Option Story). ModeOf sub.setup.side sub.state.begun x (taken sub.wires.down path)
+    let i : IsDown sub.state.drawn 0 0 [] d = on-first (IsDown sub.state.drawn 0 0 []) sub.wires.down path d l.downs e in
+    subst (λ (x : Option Story). CourseOf sub.setup.side sub.state.begun x (taken sub.wires.down path)
     (with_any_sent sub.wires.up (came_of (unit_takes u sub.setup.side path d true)).sent) (unit_after u (unit_takes u sub.setup.side path d true)))
     (sym (none-taken d (came_of (unit_takes u sub.setup.side path d true)).taken (came_of (unit_takes u sub.setup.side path d true)).sent))
-    (wired-takes sub.setup.side 0 0 0 [] HandClosed AnyGive AnyData sub.wires.down sub.wires.up u path d e i fit-closed.none fit-closed.answered fit-closed.gives l.kept.fresh l.kept.last
-    (none-answered sub.setup.side u path d i) a)
+    (wired-takes sub.setup.side sub.state.drawn 0 0 0 [] HandClosed AnyGive AnyData sub.wires.down sub.wires.up u path d e i fit-closed.none fit-closed.answered fit-closed.gives l.kept.fresh l.kept.last
+    (none-answered sub.setup.side sub.state.drawn u path d i) a)
 sunk-flows sub path d (Some k) u e h l a =
-    let i : IsDown k.number k.sent _ d = on-first (IsDown k.number k.sent _) sub.wires.down path d l.downs e in
-    mode-down sub.setup.side k sub.wires.down sub.wires.up u path l sub.state.begun d (held-needs (Some k) sub.state h).begun e i a
+    let i : IsDown sub.state.drawn k.number k.sent _ d = on-first (IsDown sub.state.drawn k.number k.sent _) sub.wires.down path d l.downs e in
+    course-down sub.setup.side sub.state.drawn k sub.wires.down sub.wires.up u path l sub.state.begun d (held-needs (Some k) sub.state h).begun e i a
 
 down_front-flows : (sub : Subchannel) (path : ℕ) (u : UnitState) (front : Option Down) (k : Option Story) → slice_get (queue sub.wires.down path) 0 ≡ front → HeldBy sub.state k →
-    IsLinked sub.setup.side sub.wires.down k u → AtSub sub.setup.side sub k u →
+    IsLinked sub.setup.side sub.state.drawn sub.wires.down k u → AtSub sub.setup.side sub k u →
     IfOk (down_front sub path u front) (λ t. AtSub sub.setup.side t.sub (taken_at t.reply k) t.«unit»)
 down_front-flows sub path u None k e h l a = tt
 down_front-flows sub path u (Some d) k e h l a =
     if-ok (λ t. AtSub sub.setup.side t.sub (taken_at t.reply k) t.«unit») (finds_full sub.wires.up (came_of (unit_takes u sub.setup.side path d true)).sent) (Err fault.WireFull) _ tt
     (sunk-flows sub path d k u e h l a)
 
-pub down-flows : (sub : Subchannel) (path : ℕ) (u : UnitState) (k : Option Story) → HeldBy sub.state k → IsLinked sub.setup.side sub.wires.down k u → AtSub sub.setup.side sub k u →
+pub down-flows : (sub : Subchannel) (path : ℕ) (u : UnitState) (k : Option Story) → HeldBy sub.state k → IsLinked sub.setup.side sub.state.drawn sub.wires.down k u → AtSub sub.setup.side sub k u →
     IfOk (down_sub sub path u) (λ t. AtSub sub.setup.side t.sub (taken_at t.reply k) t.«unit»)
 down-flows sub path u k h l a =
     if-ok (λ t. AtSub sub.setup.side t.sub (taken_at t.reply k) t.«unit») (nat_lt path (length sub.setup.paths)) (down_front sub path u (slice_get (queue sub.wires.down path) 0))
@@ -201,11 +250,11 @@ none-told u p t c x _ _ number m E (Supplies bytes o w) f = (f.0, λ e. ((f.1 e)
 none-told u p t c x _ _ number m E (Tells_again l e w) f = (f.0, λ e. ((f.1 e).0, λ i. tt))
 none-told u p t c x _ _ number m E (Ends status more) f = f
 
-reported-none : (side : Side) (downs : List (List Down)) (ups : List (List Up)) (u : UnitState) (report : Report) (y : UnitStep) → same_side side report.side ≡ true → IsNumbered side 0 [] u →
+reported-none : (side : Side) (drawn : ℕ) (downs : List (List Down)) (ups : List (List Up)) (u : UnitState) (report : Report) (y : UnitStep) → same_side side report.side ≡ true → IsNumbered side drawn 0 [] u →
     IsReportTaken u report y → IsWired side 0 0 HandClosed AnyGive AnyData downs ups u → IsWired side 0 0 HandClosed AnyGive AnyData downs (with_any_sent ups y.sent) y.state
-reported-none side downs ups u report y s n t w =
+reported-none side drawn downs ups u report y s n t w =
     let owner : is_owner u.own side report.number ≡ true = report-owner side u report y s t in
-    let zero : report.number ≡ 0 = omega (arith, n.owned report.number owner, n.floor) in
+    let zero : report.number ≡ 0 = omega (arith, n.named report.number owner) in
     let mine : is_owner u.own side 0 ≡ true = subst (λ (i : ℕ). is_owner u.own side i ≡ true) zero owner in
     let last : u.last_command ≡ 0 = n.last mine in
     let closed : HandClosed y.state.at_hand =
@@ -214,22 +263,21 @@ reported-none side downs ups u report y s n t w =
     (none-told u t.path report.number t.connection t.hand report.answer y 0 0 (IsClosed side 0 y.state) t.told (omega (arith, zero), λ e. (omega (arith, last), λ i o. closed))) w
 
 pub report-flows : (sub : Subchannel) (u : UnitState) (report : Report) (k : Option Story) (step : Option UnitStep) → unit_reports u report ≡ step → same_side sub.setup.side report.side ≡ true →
-    IsLinked sub.setup.side sub.wires.down k u → AtSub sub.setup.side sub k u →
+    IsLinked sub.setup.side sub.state.drawn sub.wires.down k u → AtSub sub.setup.side sub k u →
     IfOk (report_taken sub step) (λ t. AtSub sub.setup.side t.sub (reported_at (Some u) report k) t.«unit»)
 report-flows sub u report k None e s l a = tt
 report-flows sub u report None (Some y) e s l a =
     if-ok (λ t. AtSub sub.setup.side t.sub (reported_at (Some u) report None) t.«unit») (finds_full sub.wires.up y.sent) (Err fault.WireFull) _ tt
-    (reported-none sub.setup.side sub.wires.down sub.wires.up u report y s l.kept (report-taken u report y e) a)
+    (reported-none sub.setup.side sub.state.drawn sub.wires.down sub.wires.up u report y s l.kept (report-taken u report y e) a)
 report-flows sub u report (Some k) (Some y) e s l a =
     if-ok (λ t. AtSub sub.setup.side t.sub (reported_at (Some u) report (Some k)) t.«unit») (finds_full sub.wires.up y.sent) (Err fault.WireFull) _ tt
-    (mode-reports sub.setup.side sub.state.begun k sub.wires.down sub.wires.up u report y s l.kept (report-taken u report y e) a)
+    (course-reports sub.setup.side sub.state.drawn sub.state.begun k sub.wires.down sub.wires.up u report y s l.kept (report-taken u report y e) a)
 
 -- the other side
 pub calm-flows : (side : Side) (sub : Subchannel) (k : Option Story) (u v : UnitState) → IsCalm side u v → AtSub side sub k u → AtSub side sub k v
-calm-flows side sub None u v c a = wired-calm side 0 0 HandClosed AnyGive AnyData sub.wires.down sub.wires.up u v c a
-calm-flows side sub (Some k) u v c a =
-    mode-carried side sub.state.begun k sub.wires.down sub.wires.down sub.wires.up sub.wires.up u v
-    (λ P Q R f w. wired-calm side k.number (length k.taken) P Q R sub.wires.down sub.wires.up u v c w) a
+calm-flows side sub k u v c a =
+    course-carried side sub.state.begun k sub.wires.down sub.wires.down sub.wires.up sub.wires.up u v
+    (λ P Q R f w. wired-calm side (number_of k) (length (took_of k)) P Q R sub.wires.down sub.wires.up u v c w) a
 
 other-down_front : (other : Subchannel) (side : Side) (path : ℕ) (u : UnitState) (front : Option Down) → same_side other.setup.side side ≡ false →
     IfOk (down_front other path u front) (λ t. IsCalm side u t.«unit»)

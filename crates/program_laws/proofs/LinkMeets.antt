@@ -1,10 +1,10 @@
 -- The bytes that a device absorbs for its command: what the subsystem does with a signal keeps what holds of them.
-use Rattle.std.proofs.Common.{◌≡◌, refl, sym, ◌∙◌, ap, subst, ℕ, ◌+◌, ◌≤◌, Bool, true, false, ◌==◌, ◌&&◌, ◌||◌, not, length, Option, None, Some, Result, Ok, Err, List, [], ◌∷◌, ◌++◌, inl, inr, arith}
-use Rattle.std.specs.Prelude.{◌⊎◌, if◌then◌else◌, min, IfSome, is_some, All}
-use Rattle.std.specs.List.{flat_map}
-use Rattle.std.proofs.lemmas.Bool.{eqb-true, eqb-false, and_parts}
-use Rattle.std.proofs.Math.Nat.{min-eq_left, min-le_left}
+use Rattle.std.proofs.Common.{◌≡◌, refl, sym, ◌∙◌, ap, subst, ℕ, ◌+◌, ◌≤◌, Bool, true, false, ◌==◌, ◌&&◌, ◌||◌, not, length, Option, None, Some, List, [], ◌∷◌, ◌++◌, inl, inr, arith}
+use Rattle.std.specs.Prelude.{◌⊎◌, if◌then◌else◌, min, IfSome, is_some}
+use Rattle.std.proofs.lemmas.Bool.{eqb-true, eqb-false}
+use Rattle.std.proofs.Math.Nat.{min-eq_left}
 use Rattle.scsw_irb.specs.declared.status.DeviceStatus.{DeviceStatus}
+use Rattle.orb_block.specs.declared.Orb.{Orb}
 use Rattle.storage_keys.specs.Storage.{Contents}
 use Rattle.chan_model.specs.declared.hold_state.HoldPhase.{HoldPhase}
 use Rattle.chan_model.specs.declared.hold_state.HoldPhase.TheVariants as hold
@@ -22,68 +22,50 @@ use Rattle.chan_model.specs.HoldTable as hold_table
 use Rattle.chan_model.specs.HoldTable.{HoldStep, hold_after, came_of, is_connected, is_on, letting_go, left, asked_back, found_busy, released, cleared, noticed, attended}
 use Rattle.chan_model.specs.Loads.{load_length}
 use Rattle.chan_model.specs.UnitReports.{is_outward, is_last_end, has_device_end}
-use Rattle.channel_program.specs.declared.check.Check.{Check}
-use Rattle.channel_program.specs.Acts.{Act, Chunk, End}
-use Rattle.channel_program.specs.Walks.{place, after_end}
-use Rattle.idaw.specs.Lists.{kind_of, block}
-use Rattle.idaw.specs.Places.{Reach, places, each_below}
-use Rattle.data_move.specs.Moving.{room, next_place}
+use Rattle.channel_program.specs.Acts.{Act, End}
+use Rattle.channel_program.specs.Programs.{commands}
+use Rattle.channel_program.specs.Walks.{Place, after_end}
+use Rattle.idaw.specs.Places.{each_below}
+use Rattle.data_move.specs.Moving.{residual, room}
 use Rattle.transfer.specs.declared.Transfer.{Transfer}
+use Rattle.transfer.specs.declared.Came.{Came}
+use Rattle.transfer.specs.declared.Came.TheVariants as came
 use Rattle.transfer.specs.declared.Given.{Given}
 use Rattle.transfer.specs.Commands.{first_command, next_command, begun_with_room, with_room}
-use Rattle.transfer.specs.Chunks.{Brought, absorbed, next_given, brought, is_current, is_answered, with_moved}
+use Rattle.transfer.specs.Chunks.{Brought, absorbed, next_given, brought, is_answered}
 use Rattle.machine_model.specs.declared.state.Begun.{Begun}
 use Rattle.machine_model.specs.declared.state.Program.{Program}
+use Rattle.machine_model.specs.declared.state.Standing.{Standing}
 use Rattle.machine_model.specs.declared.state.SubchannelState.{SubchannelState}
 use Rattle.machine_model.specs.declared.state.UpStep.{UpStep}
-use Rattle.machine_model.specs.Statuses.{has_status_modifier, chains_command}
+use Rattle.machine_model.specs.Statuses.{has_status_modifier, has_shown, chains_command}
+use Rattle.machine_model.specs.Causes as causes
+use Rattle.machine_model.specs.Causes.{with_cause}
+use Rattle.machine_model.specs.declared.cause.Cause.TheVariants as cause
 use Rattle.machine_model.specs.Taking as taking
-use Rattle.machine_model.specs.Taking.{Met, waits_as, bytes_of, takes_up, with_end, has_shown}
+use Rattle.machine_model.specs.Taking.{Met, goes_ahead, from_start, bytes_of, takes_up, with_end}
 use Rattle.machine_model.specs.Steps.{with_any_sent}
 use Rattle.wires.specs.Queues.{taken}
 use Rattle.program_laws.specs.Reaches.{reaches}
 use Rattle.program_laws.specs.Doings.{Part, no_part, with_acts, gives, takes_in, first_acts, next_acts}
 use Rattle.program_laws.specs.Stories as stories
 use Rattle.program_laws.specs.Stories.{Story, meets}
-use Rattle.program_laws.specs.Claims.{AbsorbsInOrder, IsBeginning, IsFirstOf, places_of}
-use Rattle.program_laws.proofs.Ties.{AreLaws, Tied, spot-begins, with_moved-tied}
+use Rattle.program_laws.specs.Claims.{AbsorbsInOrder}
+use Rattle.program_laws.proofs.Ties.{AreLaws}
 use Rattle.program_laws.proofs.Accesses.{AreAccesses}
 use Rattle.program_laws.proofs.Parts.{IsSame, absorbed-same, next_given-same, located-same, brought-same, WentOn}
-use Rattle.program_laws.proofs.Holds.{IsPhase, IsHeld, HasWork, chains-facts, next-went}
+use Rattle.program_laws.proofs.Holds.{IsPhase, IsHeld, HasWork}
+use Rattle.program_laws.proofs.HoldMeets.{chains-facts, next-went}
+use Rattle.program_laws.proofs.Caused.{IsUninterrupted, suspending-workless, fault-begun, halt-begun, clear-begun}
 use Rattle.program_laws.proofs.UnitFlows.{View, Flow, IsGive, IsData, IsGood, answered-hand, answered-flow, answered-give, answered-data, located-give, located-data, located-hand, located-flow}
 use Rattle.program_laws.proofs.UnitFlows as flows
 use Rattle.program_laws.proofs.UnitGrowth.{codes_of}
 use Rattle.program_laws.proofs.LinkSent.{IsOfHold, Mutters, busy-mutters, left-mutters, back-mutters, released-mutters, cleared-mutters, attended-mutters, noticed-mutters, letting-mutters}
-use Rattle.program_laws.proofs.LinkOrders.{IsLast, on-number, held-needs}
-use Rattle.program_laws.proofs.LinkViews.{view_of, answers-view, repeats-view, goes-new, room-seq}
-use Rattle.program_laws.proofs.LinkWires.{HandClosed, IsClosed, IsGiving, IsTelling, IsWired, wired-holds}
+use Rattle.program_laws.proofs.LinkNeeds.{IsLast, on-number, connected-number, held-needs}
+use Rattle.program_laws.proofs.LinkViews.{view_of, answers-view, repeats-view, goes-new, room-seq, current-facts}
+use Rattle.program_laws.proofs.LinkWires.{HandClosed, IsClosed, IsGiving, IsTelling, IsWired, wired-holds, sent-hold}
+use Rattle.program_laws.proofs.LinkCourses.{mode-marked, interrupted-mode, flow-absorbs, absorbs-on}
 use Rattle.program_laws.proofs.LinkModes.{AnyGive, NoGive, AnyData, HandPlain, HandFlow, Mode, Waits, Over, Reads, Writes, mode-carried, absorbs-none}
-
--- the signals of the hold alone give nothing
-giving-hold : (number m : ℕ) (Q : ℕ → List ℕ → Type 0) (d : Down) → IsOfHold d → IsGiving number m Q d
-giving-hold number m Q (down.Select t) h = absurd h
-giving-hold number m Q (down.Command t n code room) h = absurd h
-giving-hold number m Q (down.Grant t c) h = tt
-giving-hold number m Q (down.Refuse t c) h = tt
-giving-hold number m Q (down.Took t n s room) h = absurd h
-giving-hold number m Q (down.Give t c n s bytes) h = absurd h
-giving-hold number m Q (down.Halt t) h = tt
-giving-hold number m Q (down.Release t) h = tt
-giving-hold number m Q (down.Reset r b) h = absurd h
-giving-hold number m Q (down.Got a) h = tt
-
-pub sent-hold : (number m : ℕ) (Q : ℕ → List ℕ → Type 0) (one : Option (OnPath Down)) → IfSome one (λ d. IsOfHold d.signal) → IfSome one (λ d. IsGiving number m Q d.signal)
-sent-hold number m Q None h = tt
-sent-hold number m Q (Some d) h = giving-hold number m Q d.signal h
-
--- the program that is connected
-connected-number : (phase : HoldPhase) (n : ℕ) (b : Option Begun) (sent p t c : ℕ) → IsPhase phase n b sent → is_connected phase p t c ≡ true → t ≡ n
-connected-number hold.Free n b sent p t c k e = absurd (cc e)
-connected-number (hold.Offer u q) n b sent p t c k e = absurd (cc e)
-connected-number (hold.On u q d) n b sent p t c k e = eqb-true t u (and_parts (t == u) ((p == q) && (c == d)) e).0 ∙ k
-connected-number (hold.Away u) n b sent p t c k e = absurd (cc e)
-connected-number (hold.Letting u q) n b sent p t c k e = absurd (cc e)
-connected-number (hold.Reset r) n b sent p t c k e = absurd (cc e)
 
 -- the lesser of two numbers
 least : (j n : ℕ) → j ≤ n → min j n ≡ j
@@ -126,34 +108,68 @@ module _ (laws : AreLaws) (accesses : AreAccesses) (storage : Contents) (side : 
   over-facts begun (Reads b e n o q w) z = absurd (cc (sym e ∙ z))
   over-facts begun (Writes b e n o lead f w) z = absurd (cc (sym e ∙ z))
 
-  begins-goes : (r : SubchannelState) (p t : ℕ) (program : Program) (tried : ℕ) (came : Result Transfer Check) → (first_command storage program.orb).came ≡ came → r.begun ≡ s.begun →
-      s.begun ≡ None → k.sent ≡ 0 →
-      Goes (taking.beginning storage r p t program tried came) (stories.goes_on came (first_acts storage program.orb) (record k { orb = program.orb; now = no_part }))
-  begins-goes r p t program tried (Ok tr) c e n z =
-      let f = over-facts s.begun mode n in
-      let one : Option (OnPath Down) = Some (record { path = p; signal = down.Command t (begun_with_room storage tr).transfer.command (begun_with_room storage tr).transfer.code (begun_with_room storage tr).room }) in
-      Waits (record { program = program; primary_shown = false; transfer = (begun_with_room storage tr).transfer }) refl (ap (λ (i : ℕ). i + 1) f.0)
-      (room-seq storage tr ∙ goes-new storage 1 (place program.orb []) tr c) refl (absorbs-none program.orb no_part k.absorbed (f.1 z))
-      (wired-holds side k.number m HandClosed HandClosed AnyGive AnyGive AnyData AnyData downs ups u one path (λ x y. y) (λ i bytes y. y) (λ i l y. y) tt f.2)
-  begins-goes r p t program tried (Err check) c e n z =
-      let f = over-facts s.begun mode n in
-      let one : Option (OnPath Down) = (came_of (letting_go r.hold r.hold.phase)).sent in
-      Over (e ∙ n) f.0 f.1 (absorbs-none program.orb (with_acts no_part (first_acts storage program.orb)) k.absorbed (f.1 z))
-      (wired-holds side k.number m HandClosed HandClosed AnyGive AnyGive AnyData AnyData downs ups u one path (λ x y. y) (λ i bytes y. y) (λ i l y. y)
-      (sent-hold k.number m AnyGive one (letting-mutters r.hold r.hold.phase)) f.2)
+  -- from the beginning, or from where it was suspended
+  abbrev from : Orb → ℕ → Part → Story
+  from orb earlier part = record k { orb = orb; earlier = earlier; now = part }
 
-  waiting-goes : (r : SubchannelState) (p t q c : ℕ) (waiting : Option Program) → r.begun ≡ s.begun → s.begun ≡ None → k.sent ≡ 0 →
-      Goes (taking.begin_waiting storage r p t waiting) (stories.accepted_at storage (hold.On t q c) waiting k)
-  waiting-goes r p t q c None e n z = quiet r.begun None e tt
-  waiting-goes r p t q c (Some program) e n z = begins-goes r p t program (first_command storage program.orb).tried (first_command storage program.orb).came refl e n z
+  let_go-goes : (x : SubchannelState) (orb : Orb) (earlier : ℕ) (part : Part) (acts : List Act) → x.begun ≡ None → s.begun ≡ None → k.sent ≡ 0 →
+      Goes (taking.let_go x) (record (from orb earlier part) { now = with_acts part acts })
+  let_go-goes x orb earlier part acts e n z =
+      let f = over-facts s.begun mode n in
+      let one : Option (OnPath Down) = (came_of (letting_go x.hold x.hold.phase)).sent in
+      Over e f.0 f.1 (absorbs-none orb (with_acts part acts) k.absorbed (f.1 z))
+      (wired-holds side k.number m HandClosed HandClosed AnyGive AnyGive AnyData AnyData downs ups u one path (λ x y. y) (λ i bytes y. y) (λ i l y. y)
+      (sent-hold k.number m AnyGive one (letting-mutters x.hold x.hold.phase)) f.2)
+
+  begins-goes : (r : SubchannelState) (p t : ℕ) (st : Standing) (walk : Place) (c : Came) (orb : Orb) (earlier : ℕ) (part : Part) → (first_command storage st.walk).came ≡ c → r.begun ≡ s.begun →
+      s.begun ≡ None → k.sent ≡ 0 →
+      Goes (taking.beginning storage r p t st walk c) (stories.goes_on c (first_acts storage st.walk) (from orb earlier part))
+  begins-goes r p t st walk (came.Begins tr) orb earlier part c e n z =
+      let f = over-facts s.begun mode n in
+      let x : Transfer = (begun_with_room storage tr).transfer in
+      let b : Begun = record { program = st.program; primary_shown = false; transfer = x } in
+      let one : Option (OnPath Down) = Some (record { path = p; signal = down.Command t x.command x.code (begun_with_room storage tr).room }) in
+      let new : Story = stories.goes_on (came.Begins tr) (first_acts storage st.walk) (from orb earlier part) in
+      let made : Mode side (Some b) new (with_any_sent downs one) (taken ups path) u =
+      Waits b refl (ap (λ (i : ℕ). i + 1) f.0) (room-seq storage tr ∙ goes-new storage 1 st.walk tr c) refl (absorbs-none orb part k.absorbed (f.1 z))
+      (wired-holds side k.number m HandClosed HandClosed AnyGive AnyGive AnyData AnyData downs ups u one path (λ x y. y) (λ i bytes y. y) (λ i l y. y) tt f.2) in
+      interrupted-mode side (taking.taking_over r st.program x) b new (with_any_sent downs one) (taken ups path) u refl made
+  begins-goes r p t st walk came.Suspends orb earlier part c e n z =
+      let_go-goes (taking.suspending r st.program walk st.count) orb earlier part (first_acts storage st.walk) (suspending-workless r st.program walk st.count).begun n z
+  begins-goes r p t st walk (came.Stops check) orb earlier part c e n z =
+      let_go-goes (with_cause r (cause.FetchFault walk.tried check st.count)) orb earlier part (first_acts storage st.walk) (fault-begun r r.begun refl) n z
+
+  again-goes : (r : SubchannelState) (p t start : ℕ) (suspended : Option Standing) → r.begun ≡ s.begun → s.begun ≡ None → k.sent ≡ 0 →
+      Goes (taking.begin_standing storage r p t (taking.suspended_as suspended start)) (stories.again_as storage suspended start k)
+  again-goes r p t start None e n z = quiet r.begun None e tt
+  again-goes r p t start (Some st) e n z = by (st.program.start == start)
+    where
+      by : (b : Bool) → Goes (taking.begin_standing storage r p t (if b then Some st else None)) (if b then stories.begins_again storage st k else k)
+      by true =
+          begins-goes r p t st (first_command storage st.walk).walk (first_command storage st.walk).came k.orb (length (commands k.orb k.now.acts)) (stories.past_part k.now) refl e n z
+      by false = quiet r.begun None e tt
+
+  standing-goes : (r : SubchannelState) (p t start : ℕ) (waiting : Option Program) (suspended : Option Standing) → r.begun ≡ s.begun → s.begun ≡ None → k.sent ≡ 0 →
+      Goes (taking.begin_standing storage r p t (taking.standing_as waiting suspended start)) (stories.begins_as storage waiting suspended start k)
+  standing-goes r p t start None suspended e n z = again-goes r p t start suspended e n z
+  standing-goes r p t start (Some program) suspended e n z = by (program.start == start)
+    where
+      by : (b : Bool) → Goes (taking.begin_standing storage r p t (if b then Some (from_start program) else taking.suspended_as suspended start))
+          (if b then stories.begins_anew storage program k else stories.again_as storage suspended start k)
+      by true =
+          let st : Standing = from_start program in
+          begins-goes r p t st (first_command storage st.walk).walk (first_command storage st.walk).came program.orb 0 no_part refl e n z
+      by false = again-goes r p t start suspended e n z
 
   begun-goes : (h : HoldState) (t p : ℕ) (may : Bool) → s.begun ≡ None → k.sent ≡ 0 →
       Goes (taking.accept storage s (Some (hold_table.begun h t p may))) (stories.accepted storage s (Some (hold_table.begun h t p may)) k)
   begun-goes h t p true n z =
-      waiting-goes (record s { hold = record h { phase = hold.On t p 0; seen = 0; first_path = Some p }; pmcw = taking.with_path s.pmcw p }) p t p 0 s.waiting refl n z
-  begun-goes h t p false n z = quiet s.begun (Some (record { path = p; signal = down.Release t })) refl tt
+      standing-goes (record s { hold = record h { phase = hold.On t p 0; seen = 0; first_path = Some p }; pmcw = taking.with_path s.pmcw p }) p t s.offered s.waiting s.suspended refl n z
+  begun-goes h t p false n z =
+      let x : SubchannelState = record s { hold = record h { phase = hold.Letting t p; seen = 0; first_path = Some p }; pmcw = taking.with_path s.pmcw p } in
+      quiet (taking.halt_done x).begun (Some (record { path = p; signal = down.Release t })) (halt-begun x n ∙ sym n) tt
 
-  accepts-goes : (h : HoldState) (phase : HoldPhase) (t : ℕ) (may : Bool) → IsPhase phase s.drawn s.begun k.sent →
+  accepts-goes : (h : HoldState) (phase : HoldPhase) (t : ℕ) (may : Bool) → IsPhase phase k.number s.begun k.sent →
       Goes (taking.accept storage s (hold_table.accepted h phase t may)) (stories.accepted storage s (hold_table.accepted h phase t may) k)
   accepts-goes h hold.Free t may i = quiet s.begun None refl tt
   accepts-goes h (hold.Offer v p) t may i = by (t == v)
@@ -174,9 +190,9 @@ module _ (laws : AreLaws) (accesses : AreAccesses) (storage : Contents) (side : 
   abbrev Front : (ℕ → Load → Type 0) → Up → Type 0
   Front R x = IsTelling k.number m R (IsClosed side k.number u) x
 
-  data-front : (R : ℕ → Load → Type 0) (b : Begun) (t c n seq : ℕ) (l : Load) → s.begun ≡ Some b → t ≡ s.drawn → n ≡ b.transfer.command → Front R (up.Data t c n seq l) → (n ≤ m) × (n ≡ m → R seq l) × (n ≡ k.sent)
+  data-front : (R : ℕ → Load → Type 0) (b : Begun) (t c n seq : ℕ) (l : Load) → s.begun ≡ Some b → t ≡ k.number → n ≡ b.transfer.command → Front R (up.Data t c n seq l) → (n ≤ m) × (n ≡ m → R seq l) × (n ≡ k.sent)
   data-front R b t c n seq l e z i f =
-      let g = f.1 (z ∙ sym held.number) in
+      let g = f.1 z in
       (g.0, g.1, i ∙ (at-work b e).1)
 
   abbrev with_now : Part → Story
@@ -192,13 +208,16 @@ module _ (laws : AreLaws) (accesses : AreAccesses) (storage : Contents) (side : 
   reads-goes b p t n seq x now same l out z w =
       let y : Transfer = (with_room x.storage x.transfer).transfer in
       let code : y.code ≡ b.transfer.code = (located-same x.storage x.transfer).0 ∙ same.0 in
-      Reads (record b { transfer = y }) refl l (ap is_outward code ∙ out) z
-      (now-wires HandPlain HandPlain NoGive NoGive AnyData AnyData (Some (record { path = p; signal = down.Took t n seq (with_room x.storage x.transfer).room })) (λ h r. r) (λ i bytes r. r) (λ i r q. q) tt w)
+      let c : Begun = record b { transfer = y } in
+      let one : Option (OnPath Down) = Some (record { path = p; signal = down.Took t n seq (with_room x.storage x.transfer).room }) in
+      let made : Mode side (Some c) (record k { now = now }) (with_any_sent downs one) (taken ups path) u =
+      Reads c refl l (ap is_outward code ∙ out) z (now-wires HandPlain HandPlain NoGive NoGive AnyData AnyData one (λ h r. r) (λ i bytes r. r) (λ i r q. q) tt w) in
+      interrupted-mode side (taking.with_transfer s b y) c (record k { now = now }) (with_any_sent downs one) (taken ups path) u refl made
 
   -- a write
-  given-signal : (w : View) (t c n seq : ℕ) (bytes : List ℕ) → t ≡ s.drawn → n ≤ m → seq ≡ w.seq → (bytes ≡ []) ⊎ IsGood w bytes →
+  given-signal : (w : View) (t c n seq : ℕ) (bytes : List ℕ) → t ≡ k.number → n ≤ m → seq ≡ w.seq → (bytes ≡ []) ⊎ IsGood w bytes →
       IsGiving k.number m (IsGive w) (down.Give t c n (seq + 1) bytes)
-  given-signal w t c n seq bytes z l q g = (let e : t ≡ k.number = z ∙ sym held.number in omega (arith, e), λ e. (l, λ i. (omega (arith, q), λ j. g)))
+  given-signal w t c n seq bytes z l q g = (omega (arith, z), λ e. (l, λ i. (omega (arith, q), λ j. g)))
 
   same-hand : (c d : ℕ) (v w : View) (lead after : Option ℕ) → d ≡ c → ((x : AtHand) → flows.Hand v lead x → flows.Hand w after x) → (h : Option AtHand) → HandFlow c v lead h → HandFlow d w after h
   same-hand c d v w lead after e f None r = tt
@@ -220,7 +239,14 @@ module _ (laws : AreLaws) (accesses : AreAccesses) (storage : Contents) (side : 
     code : x.transfer.code ≡ b.transfer.code
     code = (next_given-same storage (absorbed storage b.transfer seq (load_length l))).0 ∙ (absorbed-same storage b.transfer seq (load_length l)).0
 
-    writes-goes : (p t c n : ℕ) (lead : Option ℕ) → s.begun ≡ Some b → t ≡ s.drawn → n ≤ m → length k.taken ≡ k.sent → is_outward b.transfer.code ≡ true →
+    given : (p t c n : ℕ) →
+        Mode side (Some (record b { transfer = x.transfer })) (with_now now) (with_any_sent downs (Some (record { path = p; signal = down.Give t c n (seq + 1) x.bytes }))) (taken ups path) u →
+        Goes (taking.give_next storage s b p t c n seq (load_length l)) (with_now now)
+    given p t c n g =
+        interrupted-mode side (taking.with_transfer s b x.transfer) (record b { transfer = x.transfer }) (with_now now) (with_any_sent downs (Some (record { path = p; signal = down.Give t c n (seq + 1) x.bytes })))
+        (taken ups path) u refl g
+
+    writes-goes : (p t c n : ℕ) (lead : Option ℕ) → s.begun ≡ Some b → t ≡ k.number → n ≤ m → length k.taken ≡ k.sent → is_outward b.transfer.code ≡ true →
         (seq ≡ b.transfer.sequence) ⊎ (seq ≡ b.transfer.sequence + 1) → IsData (view_of b.transfer k.now) lead seq l → Flow (view_of b.transfer k.now) k.absorbed lead →
         IsWired side k.number m (HandFlow b.transfer.code (view_of b.transfer k.now) lead) (IsGive (view_of b.transfer k.now)) (IsData (view_of b.transfer k.now) lead) downs ups u →
         Goes (taking.give_next storage s b p t c n seq (load_length l)) (with_now (gives storage b.transfer seq (load_length l) k.now))
@@ -238,21 +264,21 @@ module _ (laws : AreLaws) (accesses : AreAccesses) (storage : Contents) (side : 
             let flow : Flow v k.absorbed (Some j) = subst (Flow v k.absorbed) ahead f in
             let all : min j (room b.transfer.moving) ≡ j = least j (room b.transfer.moving) flow.within in
             let moved : w.moved ≡ v.moved ++ each_below v.next j = a.0.moved ∙ ap (λ (i : ℕ). v.moved ++ each_below v.next i) all in
-            Writes (record b { transfer = x.transfer }) refl taken-all outward None (answered-flow v w k.absorbed j a.0.copied moved flow)
+            given p t c n (Writes (record b { transfer = x.transfer }) refl taken-all outward None (answered-flow v w k.absorbed j a.0.copied moved flow)
             (now-wires (HandFlow b.transfer.code v lead) (HandFlow x.transfer.code w None) (IsGive v) (IsGive w) (IsData v lead) (IsData w None) (Some (record { path = p; signal = down.Give t c n (seq + 1) x.bytes }))
             (same-hand b.transfer.code x.transfer.code v w lead None code (λ h r. answered-hand v w j h a.0.seq (subst (λ (i : Option ℕ). flows.Hand v i h) ahead r)))
-            (λ i bytes r. answered-give v w i bytes a.0.seq r) (λ i r q. answered-data v w lead i r a.0.seq q) (given-signal w t c n seq x.bytes z le (is ∙ sym a.0.seq) a.1) wired)
+            (λ i bytes r. answered-give v w i bytes a.0.seq r) (λ i r q. answered-data v w lead i r a.0.seq q) (given-signal w t c n seq x.bytes z le (is ∙ sym a.0.seq) a.1) wired))
         by false y =
             let not : seq ≡ b.transfer.sequence + 1 → ⊥ = eqb-false seq (b.transfer.sequence + 1) y in
             let is : seq ≡ b.transfer.sequence = elim at [ inl h ↦ h | inr h ↦ absurd (not h) ] in
             let a = repeats-view accesses storage b.transfer seq (load_length l) k.now y in
-            Writes (record b { transfer = x.transfer }) refl taken-all outward lead (located-flow v w k.absorbed lead a.located f)
+            given p t c n (Writes (record b { transfer = x.transfer }) refl taken-all outward lead (located-flow v w k.absorbed lead a.located f)
             (now-wires (HandFlow b.transfer.code v lead) (HandFlow x.transfer.code w lead) (IsGive v) (IsGive w) (IsData v lead) (IsData w lead) (Some (record { path = p; signal = down.Give t c n (seq + 1) x.bytes }))
             (same-hand b.transfer.code x.transfer.code v w lead lead code (λ h r. located-hand v w lead h a.located r)) (λ i bytes r. located-give v w i bytes a.located r)
-            (λ i r q. located-data v w lead i r a.located q) (given-signal w t c n seq x.bytes z le (is ∙ sym a.located.seq) a.good) wired)
+            (λ i r q. located-data v w lead i r a.located q) (given-signal w t c n seq x.bytes z le (is ∙ sym a.located.seq) a.good) wired))
 
   -- by the direction
-  moves-goes : (b : Begun) (p t c n seq : ℕ) (l : Load) → s.begun ≡ Some b → t ≡ s.drawn → n ≡ b.transfer.command → (seq ≡ b.transfer.sequence) ⊎ (seq ≡ b.transfer.sequence + 1) →
+  moves-goes : (b : Begun) (p t c n seq : ℕ) (l : Load) → s.begun ≡ Some b → t ≡ k.number → n ≡ b.transfer.command → (seq ≡ b.transfer.sequence) ⊎ (seq ≡ b.transfer.sequence + 1) →
       ((P : Option AtHand → Type 0) (Q : ℕ → List ℕ → Type 0) (R : ℕ → Load → Type 0) → IsWired side k.number m P Q R downs ups u → Front R (up.Data t c n seq l)) →
       Goes (taking.move_bytes storage s b p t c n seq l).step (stories.moves storage b.transfer seq l k)
   moves-goes b p t c n seq l e z i at f = by mode
@@ -280,19 +306,8 @@ module _ (laws : AreLaws) (accesses : AreAccesses) (storage : Contents) (side : 
           (if x then with_now (gives storage b.transfer seq (load_length l) k.now) else with_now (takes_in storage b.transfer seq (bytes_of l) k.now))) (sym out)
           (writes-goes b seq l p t c n lead e z r.0 g out at (r.1 (r.2 ∙ sym g)) y' w')
 
-  current-facts : (t : Transfer) (n seq : ℕ) (x : Bool) → (is_current t n seq && x) ≡ true → (n ≡ t.command) × ((seq ≡ t.sequence) ⊎ (seq ≡ t.sequence + 1))
-  current-facts t n seq x e =
-      let a = and_parts (is_current t n seq) x e in
-      let b = and_parts (n == t.command) ((seq == t.sequence) || (seq == t.sequence + 1)) a.0 in
-      (eqb-true n t.command b.0, either (seq == t.sequence) (seq == t.sequence + 1) refl refl b.1)
-    where
-      either : (p q : Bool) → (seq == t.sequence) ≡ p → (seq == t.sequence + 1) ≡ q → (p || q) ≡ true → (seq ≡ t.sequence) ⊎ (seq ≡ t.sequence + 1)
-      either true q f g h = inl (eqb-true seq t.sequence f)
-      either false true f g h = inr (eqb-true seq (t.sequence + 1) g)
-      either false false f g h = absurd (cc h)
-
   module _ (p t c n seq : ℕ) (l : Load) (front : (P : Option AtHand → Type 0) (Q : ℕ → List ℕ → Type 0) (R : ℕ → Load → Type 0) → IsWired side k.number m P Q R downs ups u → Front R (up.Data t c n seq l)) where
-    answers-goes : (begun : Option Begun) → s.begun ≡ begun → t ≡ s.drawn → Goes (taking.move_data storage s begun p t c n seq l).step (stories.answers storage begun n seq l k)
+    answers-goes : (begun : Option Begun) → s.begun ≡ begun → t ≡ k.number → Goes (taking.move_data storage s begun p t c n seq l).step (stories.answers storage begun n seq l k)
     answers-goes None e z = quiet s.begun None refl tt
     answers-goes (Some b) e z = by (is_answered b.transfer n seq) refl
       where
@@ -308,29 +323,8 @@ module _ (laws : AreLaws) (accesses : AreAccesses) (storage : Contents) (side : 
       where
         by : (x : Bool) → is_connected s.hold.phase p t c ≡ x →
             Goes (if x then taking.move_data storage s s.begun p t c n seq l else taking.meets storage (taking.ignoring s)).step (if x then stories.answers storage s.begun n seq l k else k)
-        by true x = answers-goes s.begun refl (connected-number s.hold.phase s.drawn s.begun k.sent p t c held.phase x)
+        by true x = answers-goes s.begun refl (connected-number s.hold.phase k.number s.begun k.sent p t c held.phase x)
         by false x = quiet s.begun None refl tt
-
-  -- End: what was absorbed is of the command that ends
-  flow-begins : (t : Transfer) (lead : Option ℕ) → Tied k.orb k.now.acts k.now.moved t → flows.IsLead (view_of t k.now) lead → IsBeginning (flows.lead_places (view_of t k.now) lead) (places_of k.orb k.now.acts)
-  flow-begins t None i l = spot-begins k.orb (reaches k.orb k.now.acts) t k.now.moved i.spot
-  flow-begins t (Some j) i l =
-      let within : room t.moving ≤ t.moving.left = min-le_left t.moving.left 256 in
-      spot-begins k.orb (reaches k.orb k.now.acts) (with_moved t j) (k.now.moved ++ each_below (next_place t.moving) j)
-      (with_moved-tied laws k.orb k.now.acts k.now.moved t j (let h : j ≤ room t.moving = l in omega (arith, h, within)) i).spot
-
-  pub flow-absorbs : (t : Transfer) (lead : Option ℕ) → Tied k.orb k.now.acts k.now.moved t → Flow (view_of t k.now) k.absorbed lead → AbsorbsInOrder k.orb k.now k.absorbed
-  flow-absorbs t lead i f =
-      (f.chunks, f.firsts, f.bytes, subst (λ (xs : List (Option ℕ)). IsBeginning xs (places_of k.orb k.now.acts)) (sym f.places) (flow-begins t lead i f.within))
-
-  -- the same places
-  absorbs-on : (after : Part) → after.copied ≡ k.now.copied → reaches k.orb after.acts ≡ reaches k.orb k.now.acts → AbsorbsInOrder k.orb k.now k.absorbed → AbsorbsInOrder k.orb after k.absorbed
-  absorbs-on after c r a = (
-    a.0,
-    subst (λ (xs : List Chunk). All (IsFirstOf xs) a.0) (sym c) a.1,
-    a.2,
-    subst (λ (xs : List Reach). IsBeginning (flat_map (λ (x : Chunk). x.places) a.0) (places (block (kind_of k.orb)) xs)) (sym r) a.3,
-  )
 
   -- the device's command is over
   pub record IsOver (b : Begun) : Type 0 where
@@ -344,7 +338,7 @@ module _ (laws : AreLaws) (accesses : AreAccesses) (storage : Contents) (side : 
       let l : IsLast (codes_of k) k.sent b.transfer = (held-needs (Some k) s held).begun b e in
       absurd (omega (arith, l.count, l.at, z))
 
-  is-over : (b : Begun) (t n : ℕ) (status : DeviceStatus) (more : Bool) → s.begun ≡ Some b → t ≡ s.drawn → n ≡ b.transfer.command →
+  is-over : (b : Begun) (t n : ℕ) (status : DeviceStatus) (more : Bool) → s.begun ≡ Some b → t ≡ k.number → n ≡ b.transfer.command →
       ((P : Option AtHand → Type 0) (Q : ℕ → List ℕ → Type 0) (R : ℕ → Load → Type 0) → IsWired side k.number m P Q R downs ups u → Front R (up.End t n status more)) → IsOver b
   is-over b t n status more e z i f = by mode
     where
@@ -352,7 +346,7 @@ module _ (laws : AreLaws) (accesses : AreAccesses) (storage : Contents) (side : 
       at = i ∙ (at-work b e).1
 
       number : t ≡ k.number
-      number = z ∙ sym held.number
+      number = z
 
       by : Mode side s.begun k downs ups u → IsOver b
       by (Waits d h g q y a w) = let r = (f HandClosed AnyGive AnyData w).1 number in absurd (omega (arith, r.0, at, g))
@@ -370,44 +364,68 @@ module _ (laws : AreLaws) (accesses : AreAccesses) (storage : Contents) (side : 
           let r = (f (HandFlow d.transfer.code (view_of d.transfer k.now) lead) (IsGive (view_of d.transfer k.now)) (IsData (view_of d.transfer k.now) lead) w).1 number in
           record {
             taken_all = g;
-            absorbs = flow-absorbs b.transfer lead (at-work b e).0.tied (subst (λ (x : Begun). Flow (view_of x.transfer k.now) k.absorbed lead) same y);
+            absorbs = flow-absorbs laws k b.transfer lead (at-work b e).0.tied (subst (λ (x : Begun). Flow (view_of x.transfer k.now) k.absorbed lead) same y);
             some = none-sent b e;
             wires = λ one x. closed-holds (HandFlow d.transfer.code (view_of d.transfer k.now) lead) (IsGive (view_of d.transfer k.now)) (IsData (view_of d.transfer k.now) lead) one (r.1 (at ∙ sym g)) x w;
           }
 
   -- the transfer is marked
-  marked : (b c : Begun) (one : Option (OnPath Down)) → s.begun ≡ Some b → view_of c.transfer k.now ≡ view_of b.transfer k.now → c.transfer.code ≡ b.transfer.code → c.transfer.sequence ≡ b.transfer.sequence →
-      IfSome one (λ d. IsOfHold d.signal) → Mode side (Some c) k (with_any_sent downs one) (taken ups path) u
-  marked b c one e v z q h = by (quiet s.begun one refl h)
-    where
-      by : Mode side s.begun k (with_any_sent downs one) (taken ups path) u → Mode side (Some c) k (with_any_sent downs one) (taken ups path) u
-      by (Waits d i g r y a w) = let same : d ≡ b = cc (sym i ∙ e) in Waits c refl g (q ∙ (ap (λ (x : Begun). x.transfer.sequence) (sym same) ∙ r)) y a w
-      by (Over i g r a w) = absurd (cc (sym e ∙ i))
-      by (Reads d i g o r w) = let same : d ≡ b = cc (sym i ∙ e) in Reads c refl g (ap is_outward z ∙ (ap (λ (x : Begun). is_outward x.transfer.code) (sym same) ∙ o)) r w
-      by (Writes d i g o lead f w) =
-          let same : d ≡ b = cc (sym i ∙ e) in
-          let views : view_of d.transfer k.now ≡ view_of c.transfer k.now = ap (λ (x : Begun). view_of x.transfer k.now) same ∙ sym v in
-          let codes : d.transfer.code ≡ c.transfer.code = ap (λ (x : Begun). x.transfer.code) same ∙ sym z in
-          let P : View → ℕ → Type 0 = λ x y. IsWired side k.number m (HandFlow y x lead) (IsGive x) (IsData x lead) (with_any_sent downs one) (taken ups path) u in
-          Writes c refl g (ap is_outward (sym codes) ∙ o) lead (subst (λ (x : View). Flow x k.absorbed lead) views f)
-          (subst (λ (x : View). P x c.transfer.code) views (subst (λ (y : ℕ). P (view_of d.transfer k.now) y) codes w))
+  marked : (b c : Begun) (begun : Option Begun) (one : Option (OnPath Down)) → s.begun ≡ Some b → begun ≡ Some c → IsUninterrupted b c → IfSome one (λ d. IsOfHold d.signal) →
+      Mode side begun k (with_any_sent downs one) (taken ups path) u
+  marked b c begun one e g i h =
+      subst (λ (x : Option Begun). Mode side x k (with_any_sent downs one) (taken ups path) u) (sym g)
+      (mode-marked side b c k (with_any_sent downs one) (taken ups path) u i
+      (subst (λ (x : Option Begun). Mode side x k (with_any_sent downs one) (taken ups path) u) e (quiet s.begun one refl h)))
 
-  -- the next command
-  chains-goes : (b : Begun) (p t tried : ℕ) (status : DeviceStatus) (came : Result Transfer Check) → (next_command storage b.transfer (has_status_modifier status)).came ≡ came → s.begun ≡ Some b → IsOver b →
+  -- the next command, or the program is suspended or over
+  next-over : (b : Begun) (x : SubchannelState) (acts : List Act) → x.begun ≡ None → IsOver b → reaches k.orb (acts ++ k.now.acts) ≡ reaches k.orb k.now.acts →
+      Goes (taking.let_go x) (record k { now = with_acts k.now acts })
+  next-over b x acts e o r =
+      let one : Option (OnPath Down) = (came_of (letting_go x.hold x.hold.phase)).sent in
+      Over e o.taken_all o.some (absorbs-on laws k (with_acts k.now acts) refl r o.absorbs) (o.wires one (sent-hold k.number m AnyGive one (letting-mutters x.hold x.hold.phase)))
+
+  chains-goes : (b : Begun) (p t : ℕ) (walk : Place) (status : DeviceStatus) (c : Came) → (next_command storage b.transfer (has_status_modifier status)).walk ≡ walk →
+      (next_command storage b.transfer (has_status_modifier status)).came ≡ c → s.begun ≡ Some b → IsOver b →
       b.transfer.moving.ccw.chain_data ≡ false → is_some b.transfer.fault ≡ false →
-      Goes (taking.chaining storage s (with_end b) p t tried came) (stories.goes_on came (next_acts storage b.transfer (has_status_modifier status)) k)
-  chains-goes b p t tried status (Ok tr) c e o d f =
-      let x : Transfer = (begun_with_room storage tr).transfer in
-      let one : Option (OnPath Down) = Some (record { path = p; signal = down.Command t x.command x.code (begun_with_room storage tr).room }) in
-      Waits (record (with_end b) { transfer = x }) refl (ap (λ (i : ℕ). i + 1) o.taken_all)
-      (room-seq storage tr ∙ goes-new storage (b.transfer.command + 1) (after_end b.transfer.walk (record { goes_on = true; modifier = has_status_modifier status })) tr c) refl o.absorbs (o.wires one tt)
-  chains-goes b p t tried status (Err check) c e o d f =
-      let one : Option (OnPath Down) = (came_of (letting_go s.hold s.hold.phase)).sent in
-      let acts : List Act = next_acts storage b.transfer (has_status_modifier status) in
-      let went : WentOn laws storage k.orb (End (record { goes_on = true; modifier = has_status_modifier status }) ∷ k.now.acts) (acts ++ k.now.acts) (b.transfer.command + 1) (Err check) =
-      subst (λ (r : Result Transfer Check). WentOn laws storage k.orb (End (record { goes_on = true; modifier = has_status_modifier status }) ∷ k.now.acts) (acts ++ k.now.acts) (b.transfer.command + 1) r) c
-      (next-went laws accesses storage k.orb k.now b.transfer (has_status_modifier status) (at-work b e).0.tied d f) in
-      Over refl o.taken_all o.some (absorbs-on (with_acts k.now acts) refl went.1 o.absorbs) (o.wires one (sent-hold k.number m AnyGive one (letting-mutters s.hold s.hold.phase)))
+      Goes (taking.chaining storage s (with_end b) p t walk c) (stories.goes_on c (next_acts storage b.transfer (has_status_modifier status)) k)
+  chains-goes b p t walk status c at is e o d f = by c is
+    where
+      acts : List Act
+      acts = next_acts storage b.transfer (has_status_modifier status)
+
+      went : WentOn k.earlier laws storage k.orb (End (record { goes_on = true; modifier = has_status_modifier status }) ∷ k.now.acts) (acts ++ k.now.acts) (b.transfer.command + 1)
+          (next_command storage b.transfer (has_status_modifier status)).walk (next_command storage b.transfer (has_status_modifier status)).came
+      went = next-went laws accesses k.earlier storage k.orb k.now b.transfer (has_status_modifier status) (at-work b e).0.tied d f
+
+      Went : Came → Type 0
+      Went c =
+          WentOn k.earlier laws storage k.orb (End (record { goes_on = true; modifier = has_status_modifier status }) ∷ k.now.acts) (acts ++ k.now.acts) (b.transfer.command + 1)
+          (next_command storage b.transfer (has_status_modifier status)).walk c
+
+      by : (c : Came) → (next_command storage b.transfer (has_status_modifier status)).came ≡ c → Goes (taking.chaining storage s (with_end b) p t walk c) (stories.goes_on c acts k)
+      by (came.Begins tr) c =
+          let x : Transfer = (begun_with_room storage tr).transfer in
+          let n : Begun = record (with_end b) { transfer = x } in
+          let one : Option (OnPath Down) = Some (record { path = p; signal = down.Command t x.command x.code (begun_with_room storage tr).room }) in
+          let new : Story = stories.goes_on (came.Begins tr) acts k in
+          let made : Mode side (Some n) new (with_any_sent downs one) (taken ups path) u =
+          Waits n refl (ap (λ (i : ℕ). i + 1) o.taken_all)
+          (room-seq storage tr ∙ goes-new storage (b.transfer.command + 1) (after_end b.transfer.walk (record { goes_on = true; modifier = has_status_modifier status })) tr c) refl o.absorbs (o.wires one tt) in
+          interrupted-mode side (taking.with_transfer s (with_end b) x) n new (with_any_sent downs one) (taken ups path) u refl made
+      by came.Suspends c =
+          next-over b (taking.suspending (record s { dedicated = None }) (with_end b).program walk (residual (with_end b).transfer.moving)) acts
+          (suspending-workless (record s { dedicated = None }) (with_end b).program walk (residual (with_end b).transfer.moving)).begun o (subst Went c went).1
+      by (came.Stops check) c =
+          next-over b (with_cause (record s { dedicated = None }) (cause.FetchFault walk.tried check (residual (with_end b).transfer.moving))) acts
+          (fault-begun (record s { dedicated = None }) s.begun refl) o (subst Went c went).1
+
+  end-begun : (b : Begun) (p : ℕ) (status : DeviceStatus) (more last : Bool) → is_last_end status ≡ last →
+      (taking.end_shown_at s b p status more).begun ≡ (if last then None else Some (has_shown b))
+  end-begun b p status more last e = ap (λ (x : Bool). (causes.after_end s b x).begun) e ∙ by last
+    where
+      by : (x : Bool) → (causes.after_end s b x).begun ≡ (if x then None else Some (has_shown b))
+      by true = refl
+      by false = refl
 
   ends-by : (b : Begun) (p t : ℕ) (status : DeviceStatus) (more : Bool) (x y : Bool) → chains_command s.scsw b status more ≡ x → s.begun ≡ Some b → IsOver b →
       Goes
@@ -417,19 +435,22 @@ module _ (laws : AreLaws) (accesses : AreAccesses) (storage : Contents) (side : 
       (if x && y then stories.goes_on (next_command storage b.transfer (has_status_modifier status)).came (next_acts storage b.transfer (has_status_modifier status)) k else k)
   ends-by b p t status more true true c e o =
       let f = chains-facts laws accesses s.scsw b status more c in
-      chains-goes b p t (next_command storage b.transfer (has_status_modifier status)).tried status (next_command storage b.transfer (has_status_modifier status)).came refl e o f.0 f.1
-  ends-by b p t status more true false c e o = marked b (with_end b) None e refl refl refl tt
-  ends-by b p t status more false y c e o = stops (is_last_end status)
+      chains-goes b p t (next_command storage b.transfer (has_status_modifier status)).walk status (next_command storage b.transfer (has_status_modifier status)).came refl refl e o f.0 f.1
+  ends-by b p t status more true false c e o = marked b (with_end b) (Some (with_end b)) None e refl (record { code = refl; command = refl; sequence = refl; moving = refl }) tt
+  ends-by b p t status more false y c e o = stops (is_last_end status) refl
     where
-      stops : (last : Bool) → Goes (if last then taking.ended s b p status more else taking.channel_ended s b p status more) k
-      stops true =
-          let one : Option (OnPath Down) = (came_of (letting_go s.hold s.hold.phase)).sent in
-          Over refl o.taken_all o.some o.absorbs (o.wires one (sent-hold k.number m AnyGive one (letting-mutters s.hold s.hold.phase)))
-      stops false = marked b (has_shown b) None e refl refl refl tt
+      x : SubchannelState
+      x = taking.end_shown_at s b p status more
+
+      stops : (last : Bool) → is_last_end status ≡ last → Goes (if last then taking.let_go x else taking.quietly x) k
+      stops true l =
+          let one : Option (OnPath Down) = (came_of (letting_go x.hold x.hold.phase)).sent in
+          Over (end-begun b p status more true l) o.taken_all o.some o.absorbs (o.wires one (sent-hold k.number m AnyGive one (letting-mutters x.hold x.hold.phase)))
+      stops false l = marked b (has_shown b) x.begun None e (end-begun b p status more false l) (record { code = refl; command = refl; sequence = refl; moving = refl }) tt
 
   module _ (p t n : ℕ) (status : DeviceStatus) (more : Bool)
       (front : (P : Option AtHand → Type 0) (Q : ℕ → List ℕ → Type 0) (R : ℕ → Load → Type 0) → IsWired side k.number m P Q R downs ups u → Front R (up.End t n status more)) where
-    ended-goes : (begun : Option Begun) → s.begun ≡ begun → t ≡ s.drawn → Goes (taking.end_of storage s begun p t n status more) (stories.ends storage s begun n status more k)
+    ended-goes : (begun : Option Begun) → s.begun ≡ begun → t ≡ k.number → Goes (taking.end_of storage s begun p t n status more) (stories.ends storage s begun n status more k)
     ended-goes None e z = quiet s.begun None refl tt
     ended-goes (Some b) e z = by (n == b.transfer.command) refl
       where
@@ -443,19 +464,24 @@ module _ (laws : AreLaws) (accesses : AreAccesses) (storage : Contents) (side : 
       where
         by : (x : Bool) → is_on s.hold.phase t ≡ x →
             Goes (if x then taking.end_of storage s s.begun p t n status more else taking.ignoring s) (if x then stories.ends storage s s.begun n status more k else k)
-        by true x = ended-goes s.begun refl (on-number s.hold.phase s.drawn s.begun k.sent t held.phase x)
+        by true x = ended-goes s.begun refl (on-number s.hold.phase k.number s.begun k.sent t held.phase x)
         by false x = quiet s.begun None refl tt
+
+  reset-goes : (step : Option HoldStep) → Mutters step → Goes (taking.reset_taken s step) k
+  reset-goes None h = quiet s.begun None refl tt
+  reset-goes (Some step) h =
+      quiet (taking.clear_done (record s { hold = step.state })).begun (came_of (Some step)).sent (clear-begun (record s { hold = step.state })) h
 
   -- any signal
   pub mode-meets : (x : Up) → ((P : Option AtHand → Type 0) (Q : ℕ → List ℕ → Type 0) (R : ℕ → Load → Type 0) → IsWired side k.number m P Q R downs ups u → Front R x) →
       Goes (takes_up storage s path x).step (meets storage s path x k)
-  mode-meets (up.Accept t) f = accepts-goes s.hold s.hold.phase t (waits_as s.waiting s.offered) held.phase
+  mode-meets (up.Accept t) f = accepts-goes s.hold s.hold.phase t (goes_ahead s) held.phase
   mode-meets (up.Data t c n seq l) f = data-goes path t c n seq l f
   mode-meets (up.End t n status more) f = end-goes path t n status more f
   mode-meets (up.Busy t) f = by_hold-goes (found_busy s.hold s.hold.phase t) (busy-mutters s.hold s.hold.phase t)
   mode-meets (up.Leave t c) f = by_hold-goes (left s.hold s.hold.phase t c) (left-mutters s.hold s.hold.phase t c)
   mode-meets (up.Back t c) f = by_hold-goes (asked_back s.hold s.hold.phase path t c false) (back-mutters s.hold s.hold.phase path t c false)
   mode-meets (up.Released t) f = by_hold-goes (released s.hold s.hold.phase t) (released-mutters s.hold s.hold.phase t)
-  mode-meets (up.Cleared r) f = by_hold-goes (cleared s.hold s.hold.phase r) (cleared-mutters s.hold s.hold.phase r)
+  mode-meets (up.Cleared r) f = reset-goes (cleared s.hold s.hold.phase r) (cleared-mutters s.hold s.hold.phase r)
   mode-meets (up.Notice b) f = by_hold-goes (noticed s.hold b) (noticed-mutters s.hold b)
   mode-meets (up.Attn a status) f = by_hold-goes (attended s.hold s.hold.phase path a false) (attended-mutters s.hold s.hold.phase path a false)

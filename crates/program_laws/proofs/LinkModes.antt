@@ -30,7 +30,7 @@ use Rattle.program_laws.proofs.UnitFlows.{View, Hand, Flow, IsGive, IsData, begi
 use Rattle.program_laws.proofs.LinkViews.{view_of}
 use Rattle.program_laws.proofs.UnitHands.{StaysAnswered, TakesGive}
 use Rattle.program_laws.proofs.LinkWires.{HandClosed, IsWired, IsNoNext, IsAnswered, wired-takes, wired-next}
-use Rattle.program_laws.proofs.LinkOrders.{IsLast}
+use Rattle.program_laws.proofs.LinkNeeds.{IsLast}
 
 abbrev pub AnyGive : ℕ → List ℕ → Type 0
 AnyGive s bytes = Unit {0}
@@ -130,22 +130,22 @@ last-code codes sent n code t l k e =
     let same : (t.code ∷ l.before) ≡ (code ∷ k.mid) = ends-same [] k.later (t.code ∷ l.before) (code ∷ k.mid) list long in
     sym (cc same)
 
-module _ (side : Side) (k : Story) (downs : List (List Down)) (ups : List (List Up)) (u : UnitState) (path : ℕ) (o : IsOrdered side k.number k.sent (codes_of k) k.taken downs u) where
+module _ (side : Side) (drawn : ℕ) (k : Story) (downs : List (List Down)) (ups : List (List Up)) (u : UnitState) (path : ℕ) (o : IsOrdered side drawn k.number k.sent (codes_of k) k.taken downs u) where
   abbrev After : Option Begun → Down → Type 0
   After begun d =
       ModeOf side begun (taken_at (reply.Down d (came_of (unit_takes u side path d true)).taken (came_of (unit_takes u side path d true)).sent) (Some k)) (taken downs path)
       (with_any_sent ups (came_of (unit_takes u side path d true)).sent) (unit_after u (unit_takes u side path d true))
 
-  carried-down : (begun : Option Begun) (d : Down) → slice_get (queue downs path) 0 ≡ Some d → IsDown k.number k.sent (codes_of k) d → IsAnswered side k.number u path d →
+  carried-down : (begun : Option Begun) (d : Down) → slice_get (queue downs path) 0 ≡ Some d → IsDown drawn k.number k.sent (codes_of k) d → IsAnswered side k.number u path d →
       Mode side begun k downs ups u → After begun d
   carried-down begun d e i n m =
       subst
       (λ (x : Option Story). ModeOf side begun x (taken downs path) (with_any_sent ups (came_of (unit_takes u side path d true)).sent) (unit_after u (unit_takes u side path d true)))
       (sym (story-same d (came_of (unit_takes u side path d true)).taken (came_of (unit_takes u side path d true)).sent k n))
       (mode-carried side begun k downs (taken downs path) ups (with_any_sent ups (came_of (unit_takes u side path d true)).sent) u (unit_after u (unit_takes u side path d true))
-      (λ P Q R f w. wired-takes side k.number (length k.taken) k.sent (codes_of k) P Q R downs ups u path d e i f.none f.answered f.gives o.kept.fresh o.kept.last n w) m)
+      (λ P Q R f w. wired-takes side drawn k.number (length k.taken) k.sent (codes_of k) P Q R downs ups u path d e i f.none f.answered f.gives o.kept.fresh o.kept.last n w) m)
 
-  full-answered : (t n code room : ℕ) → IsDown k.number k.sent (codes_of k) (down.Command t n code room) → length k.taken ≡ k.sent → (fresh owner next : Bool) → fresh ≡ false →
+  full-answered : (t n code room : ℕ) → IsDown drawn k.number k.sent (codes_of k) (down.Command t n code room) → length k.taken ≡ k.sent → (fresh owner next : Bool) → fresh ≡ false →
       is_owner u.own side t ≡ owner → (n == u.last_command + 1) ≡ next → t ≡ k.number → (came_of (command_step u path n code room fresh owner next)).taken ≡ false
   full-answered t n code room i f true owner next z a b e = absurd (cc z)
   full-answered t n code room i f false true true z a b e =
@@ -156,7 +156,7 @@ module _ (side : Side) (k : Story) (downs : List (List Down)) (ups : List (List 
   full-answered t n code room i f false true false z a b e = refl
   full-answered t n code room i f false false next z a b e = refl
 
-  all-answered : (d : Down) → IsDown k.number k.sent (codes_of k) d → length k.taken ≡ k.sent → IsAnswered side k.number u path d
+  all-answered : (d : Down) → IsDown drawn k.number k.sent (codes_of k) d → length k.taken ≡ k.sent → IsAnswered side k.number u path d
   all-answered (down.Select t) i f = tt
   all-answered (down.Command t n code room) i f = full-answered t n code room i f (side_of u side).fresh (is_owner u.own side t) (n == u.last_command + 1) o.kept.fresh refl refl
   all-answered (down.Grant t c) i f = tt
@@ -201,7 +201,7 @@ module _ (side : Side) (k : Story) (downs : List (List Down)) (ups : List (List 
         (sym (eq-eqb t k.number e)) m
 
     waits-by : (b : Begun) → begun ≡ Some b → IsLast (codes_of k) k.sent b.transfer → length k.taken + 1 ≡ k.sent → b.transfer.sequence ≡ 0 → k.now.moved ≡ [] →
-        slice_get (queue downs path) 0 ≡ Some (down.Command t n code room) → IsDown k.number k.sent (codes_of k) (down.Command t n code room) →
+        slice_get (queue downs path) 0 ≡ Some (down.Command t n code room) → IsDown drawn k.number k.sent (codes_of k) (down.Command t n code room) →
         IsWired side k.number (length k.taken) HandClosed AnyGive AnyData downs ups u → Mode side begun k downs ups u → After begun (down.Command t n code room)
     waits-by b e last l s m q i w mode =
         by (side_of u side).fresh (is_owner u.own side t) (n == u.last_command + 1) (t == k.number) refl refl refl refl
@@ -242,7 +242,7 @@ module _ (side : Side) (k : Story) (downs : List (List Down)) (ups : List (List 
 
   -- any signal
   mode-next : (begun : Option Begun) (d : Down) → ((b : Begun) → begun ≡ Some b → IsLast (codes_of k) k.sent b.transfer) → slice_get (queue downs path) 0 ≡ Some d →
-      IsDown k.number k.sent (codes_of k) d → Mode side begun k downs ups u → (b : Begun) → begun ≡ Some b → length k.taken + 1 ≡ k.sent → b.transfer.sequence ≡ 0 → k.now.moved ≡ [] →
+      IsDown drawn k.number k.sent (codes_of k) d → Mode side begun k downs ups u → (b : Begun) → begun ≡ Some b → length k.taken + 1 ≡ k.sent → b.transfer.sequence ≡ 0 → k.now.moved ≡ [] →
       IsWired side k.number (length k.taken) HandClosed AnyGive AnyData downs ups u → After begun d
   mode-next begun (down.Select t) last q i m b e l s z w = carried-down begun (down.Select t) q i tt m
   mode-next begun (down.Command t n code room) last q i m b e l s z w = waits-by begun t n code room b e (last b e) l s z q i w m
@@ -252,11 +252,11 @@ module _ (side : Side) (k : Story) (downs : List (List Down)) (ups : List (List 
   mode-next begun (down.Give t c n y bytes) last q i m b e l s z w = carried-down begun (down.Give t c n y bytes) q i tt m
   mode-next begun (down.Halt t) last q i m b e l s z w = carried-down begun (down.Halt t) q i tt m
   mode-next begun (down.Release t) last q i m b e l s z w = carried-down begun (down.Release t) q i tt m
-  mode-next begun (down.Reset r y) last q i m b e l s z w = absurd i
+  mode-next begun (down.Reset r y) last q i m b e l s z w = carried-down begun (down.Reset r y) q i tt m
   mode-next begun (down.Got a) last q i m b e l s z w = carried-down begun (down.Got a) q i tt m
 
   pub mode-down : (begun : Option Begun) (d : Down) → ((b : Begun) → begun ≡ Some b → IsLast (codes_of k) k.sent b.transfer) → slice_get (queue downs path) 0 ≡ Some d →
-      IsDown k.number k.sent (codes_of k) d → Mode side begun k downs ups u → After begun d
+      IsDown drawn k.number k.sent (codes_of k) d → Mode side begun k downs ups u → After begun d
   mode-down begun d last q i (Waits b e n s m a w) = mode-next begun d last q i (Waits b e n s m a w) b e n s m w
   mode-down begun d last q i (Over e n z a w) = carried-down begun d q i (all-answered d i n) (Over e n z a w)
   mode-down begun d last q i (Reads b e n y z w) = carried-down begun d q i (all-answered d i n) (Reads b e n y z w)

@@ -1,5 +1,5 @@
 -- The commands that a device takes are those of the program, in order: what a step at one place keeps of this.
-use Rattle.std.proofs.Common.{◌≡◌, refl, sym, ◌∙◌, ap, subst, ℕ, ◌+◌, ◌<◌, ◌≤◌, Bool, true, false, ◌==◌, nat_lt, Option, None, Some, Result, Ok, Err, List, [], ◌∷◌, length, map, inl, inr, arith}
+use Rattle.std.proofs.Common.{◌≡◌, refl, sym, ◌∙◌, ap, subst, ℕ, ◌+◌, ◌≤◌, Bool, true, false, ◌==◌, nat_lt, Option, None, Some, Result, Ok, Err, List, [], ◌∷◌, length, map, inl, inr, arith}
 use Rattle.std.specs.Prelude.{if◌then◌else◌, slice_get, IfOk, IfSome}
 use Rattle.storage_keys.specs.Storage.{Contents}
 use Rattle.chan_model.specs.declared.fault.Fault.{Fault}
@@ -22,81 +22,32 @@ use Rattle.chan_model.specs.Sides.{same_side}
 use Rattle.chan_model.specs.UnitTable as unit_table
 use Rattle.chan_model.specs.UnitTable.{UnitStep, unit_takes, unit_after}
 use Rattle.chan_model.specs.UnitReports.{unit_reports}
-use Rattle.transfer.specs.declared.Transfer.{Transfer}
 use Rattle.wires.specs.Queues.{queue, taken}
-use Rattle.machine_model.specs.declared.state.Begun.{Begun}
 use Rattle.machine_model.specs.declared.state.Chosen.{Chosen}
-use Rattle.machine_model.specs.declared.state.Chosen.TheVariants.{Idle, Over, Offers}
+use Rattle.machine_model.specs.declared.state.Chosen.TheVariants.{Idle, Resets, Clears, Halts, Ends, Over, Offers}
+use Rattle.machine_model.specs.declared.cause.Cause.TheVariants as cause
 use Rattle.machine_model.specs.declared.state.Program.{Program}
 use Rattle.machine_model.specs.declared.state.Subchannel.{Subchannel}
 use Rattle.machine_model.specs.declared.state.SubchannelState.{SubchannelState}
 use Rattle.channel_config.specs.declared.parts.SubchannelSetup.{SubchannelSetup}
-use Rattle.machine_model.specs.Instructions.{started, tested}
-use Rattle.machine_model.specs.Choosing.{is_any, allowed_paths, chosen, chosen_for, chosen_free, idle_or_over}
+use Rattle.machine_model.specs.Instructions.{started}
+use Rattle.machine_model.specs.Functions.{resumed, halted, cleared, cancelled, tested_wholly}
+use Rattle.machine_model.specs.Choosing.{chosen}
 use Rattle.machine_model.specs.Taking.{takes_up}
 use Rattle.machine_model.specs.Steps.{with_state, SubTurn, UpTurn, DownTurn, with_any_sent, is_full, finds_full, choose_sub, up_front, up_sub, down_front, down_sub, report_taken}
 use Rattle.program_laws.specs.Stories.{Story, offered, offered_for, chosen_at, meets, met_with, met_at, taken_at, absorbs, reported, reported_at}
-use Rattle.program_laws.proofs.Turns.{Happening, Stays, Starts_with_orb, Is_tested, Is_modified, Is_chosen, Meets, Sinks, Is_reported, Other_sinks, Other_reported, if-ok}
+use Rattle.program_laws.proofs.Turns.{Happening, Stays, Starts_with_orb, Is_tested, Is_resumed, Is_halted, Is_cleared, Is_cancelled, Is_modified, Is_chosen, Meets, Sinks, Is_reported, Other_sinks, Other_reported, if-ok}
 use Rattle.channel_program.specs.Programs.{Command, commands, code}
-use Rattle.program_laws.proofs.Ties.{HasCode}
-use Rattle.program_laws.proofs.Holds.{IsPhase, HasWork, HeldBy}
-use Rattle.std.proofs.lemmas.Bool.{eqb-true}
+use Rattle.program_laws.proofs.Caused.{cause-kept, tested-kept, halted-kept}
+use Rattle.program_laws.proofs.Holds.{IsUnheld, IsUntold}
 use Rattle.std.proofs.lemmas.List.{length-map}
 use Rattle.program_laws.proofs.UnitSides.{IsStillStep, other-still, report-still}
-use Rattle.program_laws.proofs.UnitOrders.{IsDown, AreOn, IsOrdered, on-taken, on-first, hold-sends, hold-begins, hold-offers, ordered-still, took_after, unit-takes}
-use Rattle.program_laws.proofs.UnitGrowth.{codes_of, IsUnbegun, IsGrown, meets-grown}
+use Rattle.program_laws.proofs.UnitOrders.{IsDown, AreOn, IsOrdered, on-taken, on-first, hold-sends, hold-begins, hold-offers, hold-draws, ordered-still, took_after, unit-takes}
+use Rattle.program_laws.proofs.LinkNeeds.{IsLast, IsNeeded, Needs, reset-needs}
+use Rattle.program_laws.proofs.LinkDrawn.{up-drawn}
+use Rattle.program_laws.proofs.LinkChosen.{IsFound, IsFitting, chosen-fits}
+use Rattle.program_laws.proofs.UnitGrowth.{later_codes, later-none, codes_of, IsGrown, meets-grown}
 use Rattle.program_laws.proofs.LinkSent.{IsOf, IsAtWork, up-sends}
-
--- the command at work is the last of the codes, and the last that was sent
-pub record IsLast (codes : List ℕ) (sent : ℕ) (t : Transfer) : Type 0 where
-  pub before : List ℕ
-  pub list : codes ≡ t.code ∷ before
-  pub count : length before + 1 ≡ t.command
-  pub at : t.command ≡ sent
-
--- what is to be known of a subchannel and the story of its program
-pub record IsNeeded (k : Story) (s : SubchannelState) : Type 0 where
-  pub number : k.number ≡ s.drawn
-  pub on : (t : ℕ) → is_on s.hold.phase t ≡ true → t ≡ k.number
-  pub unbegun : IsUnbegun s.hold.phase k
-  pub begun : (b : Begun) → s.begun ≡ Some b → IsLast (codes_of k) k.sent b.transfer
-
-abbrev pub Needs : Option Story → SubchannelState → Type 0
-Needs None s = s.hold.phase ≡ hold.Free
-Needs (Some k) s = IsNeeded k s
-
--- what a subchannel keeps of its program tells this
-pub on-number : (phase : HoldPhase) (n : ℕ) (b : Option Begun) (sent : ℕ) (t : ℕ) → IsPhase phase n b sent → is_on phase t ≡ true → t ≡ n
-on-number hold.Free n b sent t k e = absurd (cc e)
-on-number (hold.Offer u p) n b sent t k e = absurd (cc e)
-on-number (hold.On u p c) n b sent t k e = eqb-true t u e ∙ k
-on-number (hold.Away u) n b sent t k e = absurd (cc e)
-on-number (hold.Letting u p) n b sent t k e = absurd (cc e)
-on-number (hold.Reset r) n b sent t k e = absurd (cc e)
-
-last-coded : (cs : List Command) (sent : ℕ) (t : Transfer) → HasCode cs t.code → length cs ≡ t.command → t.command ≡ sent → IsLast (map code cs) sent t
-last-coded [] sent t c n m = absurd c
-last-coded (x ∷ cs) sent t c n m = record {
-  before = map code cs;
-  list = ap (λ (y : ℕ). y ∷ map code cs) c;
-  count = (let l : length (map code cs) ≡ length cs = length-map cs code in omega (arith, l, n));
-  at = m;
-}
-
-work-last : (b : Option Begun) (c : Begun) (k : Story) → HasWork b k → b ≡ Some c → IsLast (codes_of k) k.sent c.transfer
-work-last None c k w e = absurd (cc e)
-work-last (Some b) c k w e =
-    let same : b ≡ c = cc e in
-    subst (λ (x : Begun). IsLast (codes_of k) k.sent x.transfer) same (last-coded (commands k.orb k.now.acts) k.sent b.transfer w.0.tied.coded w.0.tied.number w.1)
-
-pub held-needs : (k : Option Story) (s : SubchannelState) → HeldBy s k → Needs k s
-held-needs None s h = h.phase
-held-needs (Some k) s h = record {
-  number = h.number;
-  on = λ t e. on-number s.hold.phase s.drawn s.begun k.sent t h.phase e ∙ sym h.number;
-  unbegun = λ t p e. (subst (λ (x : HoldPhase). IsPhase x s.drawn s.begun k.sent) e h.phase).2;
-  begun = λ b e. work-last s.begun b k h.work e;
-}
 
 -- the orders between the story and a unit
 abbrev pub number_of : Option Story → ℕ
@@ -115,15 +66,15 @@ abbrev pub took_of : Option Story → List ℕ
 took_of None = []
 took_of (Some k) = k.taken
 
-abbrev pub IsLinked : Side → List (List Down) → Option Story → UnitState → Type 0
-IsLinked side wires k u = IsOrdered side (number_of k) (sent_of k) (all_codes k) (took_of k) wires u
+abbrev pub IsLinked : Side → ℕ → List (List Down) → Option Story → UnitState → Type 0
+IsLinked side drawn wires k u = IsOrdered side drawn (number_of k) (sent_of k) (all_codes k) (took_of k) wires u
 
 abbrev pub AtUnit : (UnitState → Type 0) → Option UnitState → Type 0
 AtUnit P None = ⊥
 AtUnit P (Some u) = P u
 
 -- what is sent as a signal is met is of the codes then
-down-of : (k : Story) (s : SubchannelState) (d : Down) → IsNeeded k s → IsOf s d → IsDown k.number k.sent (codes_of k) d
+down-of : (k : Story) (s : SubchannelState) (d : Down) → IsNeeded k s → IsOf s d → IsDown s.drawn k.number k.sent (codes_of k) d
 down-of k s (down.Select t) n h = absurd h
 down-of k s (down.Command t m code room) n h =
     let w : IsAtWork s t m code = h in
@@ -144,298 +95,345 @@ down-of k s (down.Release t) n h = tt
 down-of k s (down.Reset r b) n h = absurd h
 down-of k s (down.Got a) n h = tt
 
--- a hold that is free sends no Command
-down-free : (s : SubchannelState) (d : Down) → s.hold.phase ≡ hold.Free → IsOf s d → IsDown 0 0 [] d
-down-free s (down.Select t) f h = absurd h
-down-free s (down.Command t m code room) f h =
-    let w : IsAtWork s t m code = h in absurd (cc (ap (λ (x : HoldPhase). is_on x t) (sym f) ∙ w.on))
-down-free s (down.Grant t c) f h = tt
-down-free s (down.Refuse t c) f h = tt
-down-free s (down.Took t m q room) f h = tt
-down-free s (down.Give t c m q bytes) f h = tt
-down-free s (down.Halt t) f h = tt
-down-free s (down.Release t) f h = tt
-down-free s (down.Reset r b) f h = absurd h
-down-free s (down.Got a) f h = tt
+-- where nothing was offered no program is connected, and no Command is sent
+unheld-on : (phase : HoldPhase) (drawn t : ℕ) → IsUnheld phase drawn → is_on phase t ≡ true → ⊥
+unheld-on hold.Free drawn t u e = absurd (cc e)
+unheld-on (hold.Offer v p) drawn t u e = absurd u
+unheld-on (hold.On v p c) drawn t u e = absurd u
+unheld-on (hold.Away v) drawn t u e = absurd u
+unheld-on (hold.Letting v p) drawn t u e = absurd u
+unheld-on (hold.Reset r) drawn t u e = absurd (cc e)
+
+down-untold : (s : SubchannelState) (d : Down) → IsUntold s → IsOf s d → IsDown s.drawn 0 0 [] d
+down-untold s (down.Select t) f h = absurd h
+down-untold s (down.Command t m code room) f h =
+    let w : IsAtWork s t m code = h in absurd (unheld-on s.hold.phase s.drawn t f.phase w.on)
+down-untold s (down.Grant t c) f h = tt
+down-untold s (down.Refuse t c) f h = tt
+down-untold s (down.Took t m q room) f h = tt
+down-untold s (down.Give t c m q bytes) f h = tt
+down-untold s (down.Halt t) f h = tt
+down-untold s (down.Release t) f h = tt
+down-untold s (down.Reset r b) f h = absurd h
+down-untold s (down.Got a) f h = tt
 
 if-some : (P Q : OnPath Down → Type 0) (one : Option (OnPath Down)) → ((x : OnPath Down) → P x → Q x) → IfSome one P → IfSome one Q
 if-some P Q None f h = tt
 if-some P Q (Some x) f h = f x h
 
 -- Choose
-abbrev pub IsWaiting : Option Program → Chosen → Type 0
-IsWaiting waiting Idle = Unit {0}
-IsWaiting waiting Over = Unit {0}
-IsWaiting waiting (Offers program path) = waiting ≡ Some program
+pub number-drawn : (k : Option Story) (s : SubchannelState) → Needs k s → number_of k ≤ s.drawn
+number-drawn None s n = omega arith
+number-drawn (Some k) s n = n.number
 
-over-waits : (waiting : Option Program) (any : Bool) → IsWaiting waiting (idle_or_over any)
-over-waits waiting true = tt
-over-waits waiting false = tt
+-- something is sent that isn't of a program's commands
+same-linked : (side : Side) (drawn path : ℕ) (d : Down) (wires : List (List Down)) (k : Option Story) (u : UnitState) → IsDown drawn (number_of k) (sent_of k) (all_codes k) d →
+    IsLinked side drawn wires k u → IsLinked side drawn (with_any_sent wires (Some (record { path = path; signal = d }))) k u
+same-linked side drawn path d wires k u h l =
+    hold-sends side drawn (number_of k) (sent_of k) (sent_of k) (all_codes k) [] (took_of k) wires u (Some (record { path = path; signal = d })) l (omega arith) h
 
-free-waits : (program : Program) (any : Bool) (choice : Option ℕ) → IsWaiting (Some program) (chosen_free program any choice)
-free-waits program any (Some path) = refl
-free-waits program any None = over-waits (Some program) any
+offer-linked : (side : Side) (drawn path : ℕ) (wires : List (List Down)) (k : Option Story) (u : UnitState) → number_of k ≤ drawn → IsLinked side drawn wires k u →
+    IsOrdered side (drawn + 1) (drawn + 1) 0 [] [] (with_any_sent wires (Some (record { path = path; signal = down.Select (drawn + 1) }))) u
+offer-linked side drawn path wires k u le l =
+    hold-offers side drawn (number_of k) (sent_of k) (drawn + 1) (all_codes k) (took_of k) wires u path le (omega arith) l
 
-pub chosen-waits : (phase : HoldPhase) (waiting : Option Program) (any : Bool) (choice : Option ℕ) → IsWaiting waiting (chosen_for phase waiting any choice)
-chosen-waits phase None any choice = tt
-chosen-waits hold.Free (Some program) any choice = free-waits program any choice
-chosen-waits (hold.Offer t p) (Some program) any choice = tt
-chosen-waits (hold.On t p c) (Some program) any choice = tt
-chosen-waits (hold.Away t) (Some program) any choice = tt
-chosen-waits (hold.Letting t p) (Some program) any choice = tt
-chosen-waits (hold.Reset r) (Some program) any choice = over-waits (Some program) any
+offered-linked : (sub : Subchannel) (path : ℕ) (program : Program) (resumes : Bool) (k : Option Story) (u : UnitState) → IsFound sub.state.waiting sub.state.suspended resumes program →
+    Needs k sub.state → IsLinked sub.setup.side sub.state.drawn sub.wires.down k u →
+    IsLinked sub.setup.side (sub.state.drawn + 1) (with_any_sent sub.wires.down (Some (record { path = path; signal = down.Select (sub.state.drawn + 1) })))
+    (chosen_at (Some sub) (reply.Offered (sub.state.drawn + 1) path resumes) k) u
+offered-linked sub path program false k u w n l =
+    let t : ℕ = sub.state.drawn + 1 in
+    let P : Option Story → Type 0 = λ x. IsLinked sub.setup.side t (with_any_sent sub.wires.down (Some (record { path = path; signal = down.Select t }))) x u in
+    let made : P (Some (offered t program.orb)) = offer-linked sub.setup.side sub.state.drawn path sub.wires.down k u (number-drawn k sub.state n) l in
+    subst (λ (x : Option Program). P (offered_for x t k)) (sym w) made
+offered-linked sub path program true None u w n l = absurd (cc (sym n.suspended ∙ w.1))
+offered-linked sub path program true (Some k) u w n l =
+    let t : ℕ = sub.state.drawn + 1 in
+    let wires : List (List Down) = with_any_sent sub.wires.down (Some (record { path = path; signal = down.Select t })) in
+    let cs : List Command = commands k.orb k.now.acts in
+    let none : later_codes (length cs) (map code cs) ≡ [] =
+    ap (λ (i : ℕ). later_codes i (map code cs)) (sym (length-map cs code)) ∙ later-none (map code cs) in
+    subst (λ (xs : List ℕ). IsOrdered sub.setup.side t t 0 xs [] wires u) (sym none) (offer-linked sub.setup.side sub.state.drawn path sub.wires.down (Some k) u n.number l)
 
-pub below-next : (k : Option Story) (s : SubchannelState) → Needs k s → number_of k < s.drawn + 1
-below-next None s n = omega arith
-below-next (Some k) s n = omega (arith, n.number)
-
-offered-linked : (sub : Subchannel) (path : ℕ) (k : Option Story) (u : UnitState) (waiting : Option Program) (program : Program) → sub.state.waiting ≡ waiting → waiting ≡ Some program →
-    Needs k sub.state → IsLinked sub.setup.side sub.wires.down k u →
-    IsLinked sub.setup.side (with_any_sent sub.wires.down (Some (record { path = path; signal = down.Select (sub.state.drawn + 1) })))
-    (chosen_at (Some sub) (reply.Offered (sub.state.drawn + 1) path false) k) u
-offered-linked sub path k u waiting program e f n l =
-    let made : IsLinked sub.setup.side (with_any_sent sub.wires.down (Some (record { path = path; signal = down.Select (sub.state.drawn + 1) })))
-    (Some (offered (sub.state.drawn + 1) program.orb)) u =
-    hold-offers sub.setup.side (number_of k) (sent_of k) (sub.state.drawn + 1) (all_codes k) (took_of k) sub.wires.down u path (below-next k sub.state n) l in
-    subst (λ (w : Option Program). IsLinked sub.setup.side (with_any_sent sub.wires.down (Some (record { path = path; signal = down.Select (sub.state.drawn + 1) })))
-    (offered_for w (sub.state.drawn + 1) k) u) (sym (e ∙ f)) made
-
-choose-linked : (sub : Subchannel) (c : Chosen) (k : Option Story) (u : UnitState) → IsWaiting sub.state.waiting c → Needs k sub.state → IsLinked sub.setup.side sub.wires.down k u →
-    IfOk (choose_sub sub c) (λ t. IsLinked sub.setup.side t.sub.wires.down (chosen_at (Some sub) t.reply k) u)
+-- whatever is chosen
+choose-linked : (sub : Subchannel) (c : Chosen) (k : Option Story) (u : UnitState) → IsFitting sub.state c → Needs k sub.state →
+    IsLinked sub.setup.side sub.state.drawn sub.wires.down k u →
+    IfOk (choose_sub sub c) (λ t. IsLinked sub.setup.side t.sub.state.drawn t.sub.wires.down (chosen_at (Some sub) t.reply k) u)
 choose-linked sub Idle k u w n l = l
-choose-linked sub Over k u w n l = l
-choose-linked sub (Offers program path) k u w n l =
-    if-ok (λ t. IsLinked sub.setup.side t.sub.wires.down (chosen_at (Some sub) t.reply k) u) (is_full sub.wires.down path) (Err fault.WireFull) _ tt
-    (offered-linked sub path k u sub.state.waiting program refl w n l)
+choose-linked sub (Resets r path) k u w n l =
+    if-ok (λ t. IsLinked sub.setup.side t.sub.state.drawn t.sub.wires.down (chosen_at (Some sub) t.reply k) u) (is_full sub.wires.down path) (Err fault.WireFull) _ tt
+    (same-linked sub.setup.side sub.state.drawn path (down.Reset r sub.state.hold.known) sub.wires.down k u (reset-needs k sub.state r w n) l)
+choose-linked sub Clears k u w n l = l
+choose-linked sub (Halts t path) k u w n l =
+    if-ok (λ t. IsLinked sub.setup.side t.sub.state.drawn t.sub.wires.down (chosen_at (Some sub) t.reply k) u) (is_full sub.wires.down path) (Err fault.WireFull) _ tt
+    (same-linked sub.setup.side sub.state.drawn path (down.Halt t) sub.wires.down k u tt l)
+choose-linked sub Ends k u w n l = l
+choose-linked sub Over k u w n l =
+    subst (λ (i : ℕ). IsLinked sub.setup.side i sub.wires.down k u) (sym (cause-kept sub.state cause.NoPath).drawn) l
+choose-linked sub (Offers c path) k u w n l =
+    if-ok (λ t. IsLinked sub.setup.side t.sub.state.drawn t.sub.wires.down (chosen_at (Some sub) t.reply k) u) (is_full sub.wires.down path) (Err fault.WireFull) _ tt
+    (offered-linked sub path c.program c.resumes k u w.1 n l)
 
 -- Up
-met-linked : (storage : Contents) (sub : Subchannel) (path : ℕ) (x : Up) (k : Option Story) (u : UnitState) → Needs k sub.state →
-    Needs (met_with storage sub.state path (Some x) k) (takes_up storage sub.state path x).step.state → IsLinked sub.setup.side sub.wires.down k u →
-    IsLinked sub.setup.side (with_any_sent sub.wires.down (takes_up storage sub.state path x).step.came.sent) (met_with storage sub.state path (Some x) k) u
-met-linked storage sub path x None u n m l =
-    hold-sends sub.setup.side 0 0 0 [] [] [] sub.wires.down u (takes_up storage sub.state path x).step.came.sent l (omega arith)
-    (if-some (λ d. IsOf (takes_up storage sub.state path x).step.state d.signal) (λ d. IsDown 0 0 [] d.signal) (takes_up storage sub.state path x).step.came.sent
-    (λ d h. down-free (takes_up storage sub.state path x).step.state d.signal m h) (up-sends storage sub.state path x))
-met-linked storage sub path x (Some k) u n m l =
+met-linked : (storage : Contents) (sub : Subchannel) (path : ℕ) (x : Up) (k : Option Story) (u : UnitState) (drawn : ℕ) →
+    drawn ≡ (takes_up storage sub.state path x).step.state.drawn → Needs k sub.state →
+    Needs (met_with storage sub.state path (Some x) k) (takes_up storage sub.state path x).step.state → IsLinked sub.setup.side drawn sub.wires.down k u →
+    IsLinked sub.setup.side drawn (with_any_sent sub.wires.down (takes_up storage sub.state path x).step.came.sent) (met_with storage sub.state path (Some x) k) u
+met-linked storage sub path x None u drawn same n m l =
+    hold-sends sub.setup.side drawn 0 0 0 [] [] [] sub.wires.down u (takes_up storage sub.state path x).step.came.sent l (omega arith)
+    (if-some (λ d. IsOf (takes_up storage sub.state path x).step.state d.signal) (λ d. IsDown drawn 0 0 [] d.signal) (takes_up storage sub.state path x).step.came.sent
+    (λ d h. subst (λ (i : ℕ). IsDown i 0 0 [] d.signal) (sym same) (down-untold (takes_up storage sub.state path x).step.state d.signal m h)) (up-sends storage sub.state path x))
+met-linked storage sub path x (Some k) u drawn same n m l =
     let new : Story = meets storage sub.state path x k in
     let s : SubchannelState = (takes_up storage sub.state path x).step.state in
     let one : Option (OnPath Down) = (takes_up storage sub.state path x).step.came.sent in
     let g : IsGrown k new = meets-grown storage sub.state path x k n.unbegun in
-    let sends : IfSome one (λ d. IsDown new.number new.sent (codes_of new) d.signal) =
-    if-some (λ d. IsOf s d.signal) (λ d. IsDown new.number new.sent (codes_of new) d.signal) one (λ d h. down-of new s d.signal m h) (up-sends storage sub.state path x) in
-    let P : ℕ → List ℕ → Type 0 = λ i c. IfSome one (λ d. IsDown i new.sent c d.signal) in
-    let Q : ℕ → List ℕ → List ℕ → Type 0 = λ i c t. IsOrdered sub.setup.side i new.sent c t (with_any_sent sub.wires.down one) u in
+    let sends : IfSome one (λ d. IsDown drawn new.number new.sent (codes_of new) d.signal) =
+    if-some (λ d. IsOf s d.signal) (λ d. IsDown drawn new.number new.sent (codes_of new) d.signal) one
+    (λ d h. subst (λ (i : ℕ). IsDown i new.number new.sent (codes_of new) d.signal) (sym same) (down-of new s d.signal m h)) (up-sends storage sub.state path x) in
+    let P : ℕ → List ℕ → Type 0 = λ i c. IfSome one (λ d. IsDown drawn i new.sent c d.signal) in
+    let Q : ℕ → List ℕ → List ℕ → Type 0 = λ i c t. IsOrdered sub.setup.side drawn i new.sent c t (with_any_sent sub.wires.down one) u in
     let sends' : P k.number (codes_of new) = subst (λ (i : ℕ). P i (codes_of new)) g.number sends in
     let made : Q k.number (codes_of new) k.taken = elim g.codes [
       | inl a ↦
           subst (λ (c : List ℕ). Q k.number c k.taken) (sym a.1)
-          (hold-sends sub.setup.side k.number k.sent new.sent (codes_of k) a.0 k.taken sub.wires.down u one l g.sent (subst (λ (c : List ℕ). P k.number c) a.1 sends'))
+          (hold-sends sub.setup.side drawn k.number k.sent new.sent (codes_of k) a.0 k.taken sub.wires.down u one l g.sent (subst (λ (c : List ℕ). P k.number c) a.1 sends'))
       | inr z ↦
-          hold-begins sub.setup.side k.number new.sent (codes_of k) (codes_of new) k.taken sub.wires.down u one
-          (subst (λ (i : ℕ). IsOrdered sub.setup.side k.number i (codes_of k) k.taken sub.wires.down u) z l) sends'
+          hold-begins sub.setup.side drawn k.number new.sent (codes_of k) (codes_of new) k.taken sub.wires.down u one
+          (subst (λ (i : ℕ). IsOrdered sub.setup.side drawn k.number i (codes_of k) k.taken sub.wires.down u) z l) sends'
     ] in
     subst (λ (t : List ℕ). Q new.number (codes_of new) t) (sym g.taken) (subst (λ (i : ℕ). Q i (codes_of new) k.taken) (sym g.number) made)
 
 abbrev IsMet : Subchannel → Option Story → UnitState → UpTurn → Type 0
-IsMet sub k u t = Needs k t.sub.state → IsLinked sub.setup.side t.sub.wires.down k u
+IsMet sub k u t = Needs k t.sub.state → IsLinked sub.setup.side t.sub.state.drawn t.sub.wires.down k u
+
+signal-linked : (storage : Contents) (sub : Subchannel) (path : ℕ) (x : Up) (k : Option Story) (u : UnitState) → Needs k sub.state →
+    Needs (met_with storage sub.state path (Some x) k) (takes_up storage sub.state path x).step.state → IsLinked sub.setup.side sub.state.drawn sub.wires.down k u →
+    IsLinked sub.setup.side (takes_up storage sub.state path x).step.state.drawn (with_any_sent sub.wires.down (takes_up storage sub.state path x).step.came.sent)
+    (met_with storage sub.state path (Some x) k) u
+signal-linked storage sub path x k u n m l =
+    met-linked storage sub path x k u (takes_up storage sub.state path x).step.state.drawn refl n m
+    (subst (λ (i : ℕ). IsLinked sub.setup.side i sub.wires.down k u) (sym (up-drawn storage sub.state path x)) l)
 
 up_front-linked : (storage : Contents) (sub : Subchannel) (path : ℕ) (front : Option Up) (k : Option Story) (u : UnitState) → Needs k sub.state →
-    IsLinked sub.setup.side sub.wires.down k u → IfOk (up_front storage sub path front) (IsMet sub (met_with storage sub.state path front k) u)
+    IsLinked sub.setup.side sub.state.drawn sub.wires.down k u → IfOk (up_front storage sub path front) (IsMet sub (met_with storage sub.state path front k) u)
 up_front-linked storage sub path None k u n l = tt
 up_front-linked storage sub path (Some x) k u n l =
     if-ok (IsMet sub (met_with storage sub.state path (Some x) k) u) (finds_full sub.wires.down (takes_up storage sub.state path x).step.came.sent) (Err fault.WireFull) _ tt
-    (λ m. met-linked storage sub path x k u n m l)
+    (λ m. signal-linked storage sub path x k u n m l)
 
 up-linked : (storage : Contents) (sub : Subchannel) (path : ℕ) (k : Option Story) (u : UnitState) → Needs k sub.state →
-    IsLinked sub.setup.side sub.wires.down k u → IfOk (up_sub storage sub path) (IsMet sub (met_at storage (Some sub) path k) u)
+    IsLinked sub.setup.side sub.state.drawn sub.wires.down k u → IfOk (up_sub storage sub path) (IsMet sub (met_at storage (Some sub) path k) u)
 up-linked storage sub path k u n l =
     if-ok (IsMet sub (met_at storage (Some sub) path k) u) (nat_lt path (length sub.setup.paths)) (up_front storage sub path (slice_get (queue sub.wires.up path) 0)) (Err fault.NoSuchPath)
     (up_front-linked storage sub path (slice_get (queue sub.wires.up path) 0) k u n l) tt
 
 -- Down
-took-story : (side : Side) (wires : List (List Down)) (v : UnitState) (d : Down) (came : Bool) (sent : Option (OnPath Up)) (k : Option Story) →
-    IsOrdered side (number_of k) (sent_of k) (all_codes k) (took_after (number_of k) came d (took_of k)) wires v → IsLinked side wires (taken_at (reply.Down d came sent) k) v
-took-story side wires v d false sent k o = o
-took-story side wires v (down.Select t) true sent None o = o
-took-story side wires v (down.Command t n code room) true sent None o = none (t == 0) o
+took-story : (side : Side) (drawn : ℕ) (wires : List (List Down)) (v : UnitState) (d : Down) (came : Bool) (sent : Option (OnPath Up)) (k : Option Story) →
+    IsOrdered side drawn (number_of k) (sent_of k) (all_codes k) (took_after (number_of k) came d (took_of k)) wires v → IsLinked side drawn wires (taken_at (reply.Down d came sent) k) v
+took-story side drawn wires v d false sent k o = o
+took-story side drawn wires v (down.Select t) true sent None o = o
+took-story side drawn wires v (down.Command t n code room) true sent None o = none (t == 0) o
   where
-    none : (b : Bool) → IsOrdered side 0 0 [] (if b then code ∷ [] else []) wires v → IsOrdered side 0 0 [] [] wires v
+    none : (b : Bool) → IsOrdered side drawn 0 0 [] (if b then code ∷ [] else []) wires v → IsOrdered side drawn 0 0 [] [] wires v
     none true o = absurd (let z : length (code ∷ []) ≤ 0 = o.most in omega (arith, z))
     none false o = o
-took-story side wires v (down.Grant t c) true sent None o = o
-took-story side wires v (down.Refuse t c) true sent None o = o
-took-story side wires v (down.Took t n s room) true sent None o = o
-took-story side wires v (down.Give t c n s bytes) true sent None o = o
-took-story side wires v (down.Halt t) true sent None o = o
-took-story side wires v (down.Release t) true sent None o = o
-took-story side wires v (down.Reset r b) true sent None o = o
-took-story side wires v (down.Got a) true sent None o = o
-took-story side wires v (down.Select t) true sent (Some k) o = o
-took-story side wires v (down.Command t n code room) true sent (Some k) o = some (t == k.number) o
+took-story side drawn wires v (down.Grant t c) true sent None o = o
+took-story side drawn wires v (down.Refuse t c) true sent None o = o
+took-story side drawn wires v (down.Took t n s room) true sent None o = o
+took-story side drawn wires v (down.Give t c n s bytes) true sent None o = o
+took-story side drawn wires v (down.Halt t) true sent None o = o
+took-story side drawn wires v (down.Release t) true sent None o = o
+took-story side drawn wires v (down.Reset r b) true sent None o = o
+took-story side drawn wires v (down.Got a) true sent None o = o
+took-story side drawn wires v (down.Select t) true sent (Some k) o = o
+took-story side drawn wires v (down.Command t n code room) true sent (Some k) o = some (t == k.number) o
   where
-    some : (b : Bool) → IsOrdered side k.number k.sent (codes_of k) (if b then code ∷ k.taken else k.taken) wires v →
-        IsLinked side wires (Some (if b then record k { taken = code ∷ k.taken; absorbed = [] } else k)) v
+    some : (b : Bool) → IsOrdered side drawn k.number k.sent (codes_of k) (if b then code ∷ k.taken else k.taken) wires v →
+        IsLinked side drawn wires (Some (if b then record k { taken = code ∷ k.taken; absorbed = [] } else k)) v
     some true o = o
     some false o = o
-took-story side wires v (down.Grant t c) true sent (Some k) o = o
-took-story side wires v (down.Refuse t c) true sent (Some k) o = o
-took-story side wires v (down.Took t n s room) true sent (Some k) o = o
-took-story side wires v (down.Give t c n s bytes) true sent (Some k) o = o
-took-story side wires v (down.Halt t) true sent (Some k) o = o
-took-story side wires v (down.Release t) true sent (Some k) o = o
-took-story side wires v (down.Reset r b) true sent (Some k) o = o
-took-story side wires v (down.Got a) true sent (Some k) o = o
+took-story side drawn wires v (down.Grant t c) true sent (Some k) o = o
+took-story side drawn wires v (down.Refuse t c) true sent (Some k) o = o
+took-story side drawn wires v (down.Took t n s room) true sent (Some k) o = o
+took-story side drawn wires v (down.Give t c n s bytes) true sent (Some k) o = o
+took-story side drawn wires v (down.Halt t) true sent (Some k) o = o
+took-story side drawn wires v (down.Release t) true sent (Some k) o = o
+took-story side drawn wires v (down.Reset r b) true sent (Some k) o = o
+took-story side drawn wires v (down.Got a) true sent (Some k) o = o
 
-with-wires : (side : Side) (number sent : ℕ) (codes took : List ℕ) (wires after : List (List Down)) (u : UnitState) → AreOn (IsDown number sent codes) after →
-    IsOrdered side number sent codes took wires u → IsOrdered side number sent codes took after u
-with-wires side number sent codes took wires after u a k = record { later = k.later; order = k.order; most = k.most; downs = a; kept = k.kept }
+with-wires : (side : Side) (drawn number sent : ℕ) (codes took : List ℕ) (wires after : List (List Down)) (u : UnitState) → AreOn (IsDown drawn number sent codes) after →
+    IsOrdered side drawn number sent codes took wires u → IsOrdered side drawn number sent codes took after u
+with-wires side drawn number sent codes took wires after u a k = record { later = k.later; order = k.order; most = k.most; downs = a; kept = k.kept }
 
-down_front-linked : (sub : Subchannel) (path : ℕ) (u : UnitState) (front : Option Down) (k : Option Story) → slice_get (queue sub.wires.down path) 0 ≡ front →
-    IsLinked sub.setup.side sub.wires.down k u → IfOk (down_front sub path u front) (λ t. IsLinked sub.setup.side t.sub.wires.down (taken_at t.reply k) t.«unit»)
-down_front-linked sub path u None k e l = tt
-down_front-linked sub path u (Some d) k e l =
+down_front-linked : (sub : Subchannel) (path : ℕ) (u : UnitState) (front : Option Down) (k : Option Story) → slice_get (queue sub.wires.down path) 0 ≡ front → Needs k sub.state →
+    IsLinked sub.setup.side sub.state.drawn sub.wires.down k u → IfOk (down_front sub path u front) (λ t. IsLinked sub.setup.side t.sub.state.drawn t.sub.wires.down (taken_at t.reply k) t.«unit»)
+down_front-linked sub path u None k e n l = tt
+down_front-linked sub path u (Some d) k e n l =
     let step : Option UnitStep = unit_takes u sub.setup.side path d true in
-    if-ok (λ t. IsLinked sub.setup.side t.sub.wires.down (taken_at t.reply k) t.«unit») (finds_full sub.wires.up (unit_table.came_of step).sent) (Err fault.WireFull) _ tt
-    (took-story sub.setup.side (taken sub.wires.down path) (unit_after u step) d (unit_table.came_of step).taken (unit_table.came_of step).sent k
-    (with-wires sub.setup.side (number_of k) (sent_of k) (all_codes k) _ sub.wires.down (taken sub.wires.down path) (unit_after u step)
-    (on-taken (IsDown (number_of k) (sent_of k) (all_codes k)) sub.wires.down path l.downs)
-    (unit-takes sub.setup.side (number_of k) (sent_of k) (all_codes k) (took_of k) sub.wires.down u path d
-    (on-first (IsDown (number_of k) (sent_of k) (all_codes k)) sub.wires.down path d l.downs e) l)))
+    if-ok (λ t. IsLinked sub.setup.side t.sub.state.drawn t.sub.wires.down (taken_at t.reply k) t.«unit») (finds_full sub.wires.up (unit_table.came_of step).sent) (Err fault.WireFull) _ tt
+    (took-story sub.setup.side sub.state.drawn (taken sub.wires.down path) (unit_after u step) d (unit_table.came_of step).taken (unit_table.came_of step).sent k
+    (with-wires sub.setup.side sub.state.drawn (number_of k) (sent_of k) (all_codes k) _ sub.wires.down (taken sub.wires.down path) (unit_after u step)
+    (on-taken (IsDown sub.state.drawn (number_of k) (sent_of k) (all_codes k)) sub.wires.down path l.downs)
+    (unit-takes sub.setup.side sub.state.drawn (number_of k) (sent_of k) (all_codes k) (took_of k) sub.wires.down u path d (number-drawn k sub.state n)
+    (on-first (IsDown sub.state.drawn (number_of k) (sent_of k) (all_codes k)) sub.wires.down path d l.downs e) l)))
 
-down-linked : (sub : Subchannel) (path : ℕ) (u : UnitState) (k : Option Story) → IsLinked sub.setup.side sub.wires.down k u →
-    IfOk (down_sub sub path u) (λ t. IsLinked sub.setup.side t.sub.wires.down (taken_at t.reply k) t.«unit»)
-down-linked sub path u k l =
-    if-ok (λ t. IsLinked sub.setup.side t.sub.wires.down (taken_at t.reply k) t.«unit») (nat_lt path (length sub.setup.paths))
+down-linked : (sub : Subchannel) (path : ℕ) (u : UnitState) (k : Option Story) → Needs k sub.state → IsLinked sub.setup.side sub.state.drawn sub.wires.down k u →
+    IfOk (down_sub sub path u) (λ t. IsLinked sub.setup.side t.sub.state.drawn t.sub.wires.down (taken_at t.reply k) t.«unit»)
+down-linked sub path u k n l =
+    if-ok (λ t. IsLinked sub.setup.side t.sub.state.drawn t.sub.wires.down (taken_at t.reply k) t.«unit») (nat_lt path (length sub.setup.paths))
     (down_front sub path u (slice_get (queue sub.wires.down path) 0)) (Err fault.NoSuchPath)
-    (down_front-linked sub path u (slice_get (queue sub.wires.down path) 0) k refl l) tt
+    (down_front-linked sub path u (slice_get (queue sub.wires.down path) 0) k refl n l) tt
 
 -- what leaves the side still
-still-linked : (side : Side) (wires : List (List Down)) (k : Option Story) (u : UnitState) (step : Option UnitStep) → IsStillStep side u step → IsLinked side wires k u →
-    IsLinked side wires k (unit_after u step)
-still-linked side wires k u step s l = ordered-still side (number_of k) (sent_of k) (all_codes k) (took_of k) wires u (unit_after u step) s l
+still-linked : (side : Side) (drawn : ℕ) (wires : List (List Down)) (k : Option Story) (u : UnitState) (step : Option UnitStep) → IsStillStep side u step → IsLinked side drawn wires k u →
+    IsLinked side drawn wires k (unit_after u step)
+still-linked side drawn wires k u step s l = ordered-still side drawn (number_of k) (sent_of k) (all_codes k) (took_of k) wires u (unit_after u step) s l
 
 -- Report
-absorbs-same : (side : Side) (wires : List (List Down)) (v : UnitState) (k : Story) (count : ℕ) (x : Option AtHand) → IsLinked side wires (Some k) v →
-    IsLinked side wires (Some (absorbs count x k)) v
-absorbs-same side wires v k count None l = l
-absorbs-same side wires v k count (Some x) l = by x.given
+absorbs-same : (side : Side) (drawn : ℕ) (wires : List (List Down)) (v : UnitState) (k : Story) (count : ℕ) (x : Option AtHand) → IsLinked side drawn wires (Some k) v →
+    IsLinked side drawn wires (Some (absorbs count x k)) v
+absorbs-same side drawn wires v k count None l = l
+absorbs-same side drawn wires v k count (Some x) l = by x.given
   where
-    by : (g : Option (List ℕ)) → IsLinked side wires (Some (absorbs count (Some (record x { given = g })) k)) v
+    by : (g : Option (List ℕ)) → IsLinked side drawn wires (Some (absorbs count (Some (record x { given = g })) k)) v
     by None = l
     by (Some bytes) = l
 
-reported-if : (side : Side) (wires : List (List Down)) (v : UnitState) (k new : Story) (b : Bool) → IsLinked side wires (Some k) v → IsLinked side wires (Some new) v →
-    IsLinked side wires (Some (if b then new else k)) v
-reported-if side wires v k new true l m = m
-reported-if side wires v k new false l m = l
+reported-if : (side : Side) (drawn : ℕ) (wires : List (List Down)) (v : UnitState) (k new : Story) (b : Bool) → IsLinked side drawn wires (Some k) v → IsLinked side drawn wires (Some new) v →
+    IsLinked side drawn wires (Some (if b then new else k)) v
+reported-if side drawn wires v k new true l m = m
+reported-if side drawn wires v k new false l m = l
 
-reported-same : (side : Side) (wires : List (List Down)) (v u : UnitState) (report : Report) (a : DeviceAnswer) (k : Story) → IsLinked side wires (Some k) v →
-    IsLinked side wires (Some (reported u report a k)) v
-reported-same side wires v u report answer.Begins k l = l
-reported-same side wires v u report (answer.Absorbed count) k l =
-    reported-if side wires v k (absorbs count u.at_hand k) (report.number == k.number) l (absorbs-same side wires v k count u.at_hand l)
-reported-same side wires v u report (answer.Supplied bytes) k l = l
-reported-same side wires v u report answer.Again k l = l
-reported-same side wires v u report (answer.Ended status more) k l = l
+reported-same : (side : Side) (drawn : ℕ) (wires : List (List Down)) (v u : UnitState) (report : Report) (a : DeviceAnswer) (k : Story) → IsLinked side drawn wires (Some k) v →
+    IsLinked side drawn wires (Some (reported u report a k)) v
+reported-same side drawn wires v u report answer.Begins k l = l
+reported-same side drawn wires v u report (answer.Absorbed count) k l =
+    reported-if side drawn wires v k (absorbs count u.at_hand k) (report.number == k.number) l (absorbs-same side drawn wires v k count u.at_hand l)
+reported-same side drawn wires v u report (answer.Supplied bytes) k l = l
+reported-same side drawn wires v u report answer.Again k l = l
+reported-same side drawn wires v u report (answer.Ended status more) k l = l
 
-reported-linked : (side : Side) (wires : List (List Down)) (v u : UnitState) (report : Report) (k : Option Story) → IsLinked side wires k v →
-    IsLinked side wires (reported_at (Some u) report k) v
-reported-linked side wires v u report None l = l
-reported-linked side wires v u report (Some k) l = reported-same side wires v u report report.answer k l
+reported-linked : (side : Side) (drawn : ℕ) (wires : List (List Down)) (v u : UnitState) (report : Report) (k : Option Story) → IsLinked side drawn wires k v →
+    IsLinked side drawn wires (reported_at (Some u) report k) v
+reported-linked side drawn wires v u report None l = l
+reported-linked side drawn wires v u report (Some k) l = reported-same side drawn wires v u report report.answer k l
 
 report-linked : (sub : Subchannel) (u : UnitState) (report : Report) (k : Option Story) (step : Option UnitStep) → unit_reports u report ≡ step →
-    IsLinked sub.setup.side sub.wires.down k u →
-    IfOk (report_taken sub step) (λ t. IsLinked sub.setup.side t.sub.wires.down (reported_at (Some u) report k) t.«unit»)
+    IsLinked sub.setup.side sub.state.drawn sub.wires.down k u →
+    IfOk (report_taken sub step) (λ t. IsLinked sub.setup.side t.sub.state.drawn t.sub.wires.down (reported_at (Some u) report k) t.«unit»)
 report-linked sub u report k None e l = tt
 report-linked sub u report k (Some step) e l =
-    if-ok (λ t. IsLinked sub.setup.side t.sub.wires.down (reported_at (Some u) report k) t.«unit») (finds_full sub.wires.up step.sent) (Err fault.WireFull) _ tt
-    (reported-linked sub.setup.side sub.wires.down step.state u report k
-    (still-linked sub.setup.side sub.wires.down k u (Some step) (subst (IsStillStep sub.setup.side u) e (report-still sub.setup.side u report)) l))
+    if-ok (λ t. IsLinked sub.setup.side t.sub.state.drawn t.sub.wires.down (reported_at (Some u) report k) t.«unit») (finds_full sub.wires.up step.sent) (Err fault.WireFull) _ tt
+    (reported-linked sub.setup.side sub.state.drawn sub.wires.down step.state u report k
+    (still-linked sub.setup.side sub.state.drawn sub.wires.down k u (Some step) (subst (IsStillStep sub.setup.side u) e (report-still sub.setup.side u report)) l))
 
 -- the other side of the unit
 other-down_front : (sub other : Subchannel) (path : ℕ) (u : UnitState) (front : Option Down) (k : Option Story) → same_side other.setup.side sub.setup.side ≡ false →
-    IsLinked sub.setup.side sub.wires.down k u → IfOk (down_front other path u front) (λ t. IsLinked sub.setup.side sub.wires.down k t.«unit»)
+    IsLinked sub.setup.side sub.state.drawn sub.wires.down k u → IfOk (down_front other path u front) (λ t. IsLinked sub.setup.side sub.state.drawn sub.wires.down k t.«unit»)
 other-down_front sub other path u None k e l = tt
 other-down_front sub other path u (Some d) k e l =
     let step : Option UnitStep = unit_takes u other.setup.side path d true in
-    if-ok (λ t. IsLinked sub.setup.side sub.wires.down k t.«unit») (finds_full other.wires.up (unit_table.came_of step).sent) (Err fault.WireFull) _ tt
-    (still-linked sub.setup.side sub.wires.down k u step (other-still sub.setup.side u other.setup.side path d true e) l)
+    if-ok (λ t. IsLinked sub.setup.side sub.state.drawn sub.wires.down k t.«unit») (finds_full other.wires.up (unit_table.came_of step).sent) (Err fault.WireFull) _ tt
+    (still-linked sub.setup.side sub.state.drawn sub.wires.down k u step (other-still sub.setup.side u other.setup.side path d true e) l)
 
 other-down : (sub other : Subchannel) (path : ℕ) (u : UnitState) (k : Option Story) → same_side other.setup.side sub.setup.side ≡ false →
-    IsLinked sub.setup.side sub.wires.down k u → IfOk (down_sub other path u) (λ t. IsLinked sub.setup.side sub.wires.down k t.«unit»)
+    IsLinked sub.setup.side sub.state.drawn sub.wires.down k u → IfOk (down_sub other path u) (λ t. IsLinked sub.setup.side sub.state.drawn sub.wires.down k t.«unit»)
 other-down sub other path u k e l =
-    if-ok (λ t. IsLinked sub.setup.side sub.wires.down k t.«unit») (nat_lt path (length other.setup.paths))
+    if-ok (λ t. IsLinked sub.setup.side sub.state.drawn sub.wires.down k t.«unit») (nat_lt path (length other.setup.paths))
     (down_front other path u (slice_get (queue other.wires.down path) 0)) (Err fault.NoSuchPath)
     (other-down_front sub other path u (slice_get (queue other.wires.down path) 0) k e l) tt
 
 other-report : (sub other : Subchannel) (u : UnitState) (report : Report) (k : Option Story) (step : Option UnitStep) → unit_reports u report ≡ step →
-    IsLinked sub.setup.side sub.wires.down k u → IfOk (report_taken other step) (λ t. IsLinked sub.setup.side sub.wires.down k t.«unit»)
+    IsLinked sub.setup.side sub.state.drawn sub.wires.down k u → IfOk (report_taken other step) (λ t. IsLinked sub.setup.side sub.state.drawn sub.wires.down k t.«unit»)
 other-report sub other u report k None e l = tt
 other-report sub other u report k (Some step) e l =
-    if-ok (λ t. IsLinked sub.setup.side sub.wires.down k t.«unit») (finds_full other.wires.up step.sent) (Err fault.WireFull) _ tt
-    (still-linked sub.setup.side sub.wires.down k u (Some step) (subst (IsStillStep sub.setup.side u) e (report-still sub.setup.side u report)) l)
+    if-ok (λ t. IsLinked sub.setup.side sub.state.drawn sub.wires.down k t.«unit») (finds_full other.wires.up step.sent) (Err fault.WireFull) _ tt
+    (still-linked sub.setup.side sub.state.drawn sub.wires.down k u (Some step) (subst (IsStillStep sub.setup.side u) e (report-still sub.setup.side u report)) l)
 
 -- a step at the place
-at-same : (side j : Side) (wires after : List (List Down)) (k m : Option Story) (u v : Option UnitState) → j ≡ side → after ≡ wires → m ≡ k → v ≡ u →
-    AtUnit (IsLinked side wires k) u → AtUnit (IsLinked j after m) v
-at-same side j wires after k m u v a b c d l =
-    subst (λ (x : Side). AtUnit (IsLinked x after m) v) (sym a)
-    (subst (λ (x : List (List Down)). AtUnit (IsLinked side x m) v) (sym b)
-    (subst (λ (x : Option Story). AtUnit (IsLinked side wires x) v) (sym c)
-    (subst (λ (x : Option UnitState). AtUnit (IsLinked side wires k) x) (sym d) l)))
+at-same : (side j : Side) (drawn later : ℕ) (wires after : List (List Down)) (k m : Option Story) (u v : Option UnitState) → j ≡ side → later ≡ drawn → after ≡ wires → m ≡ k → v ≡ u →
+    AtUnit (IsLinked side drawn wires k) u → AtUnit (IsLinked j later after m) v
+at-same side j drawn later wires after k m u v a z b c d l =
+    subst (λ (x : Side). AtUnit (IsLinked x later after m) v) (sym a)
+    (subst (λ (x : ℕ). AtUnit (IsLinked side x after m) v) (sym z)
+    (subst (λ (x : List (List Down)). AtUnit (IsLinked side drawn x m) v) (sym b)
+    (subst (λ (x : Option Story). AtUnit (IsLinked side drawn wires x) v) (sym c)
+    (subst (λ (x : Option UnitState). AtUnit (IsLinked side drawn wires k) x) (sym d) l))))
 
 side-of : (new old : Subchannel) → new.setup ≡ old.setup → new.setup.side ≡ old.setup.side
 side-of new old e = ap (λ (x : SubchannelSetup). x.side) e
+
+drawn-of : (x y : Subchannel) → x ≡ y → x.state.drawn ≡ y.state.drawn
+drawn-of x y e = ap (λ (z : Subchannel). z.state.drawn) e
 
 down-of-sub : (x y : Subchannel) → x ≡ y → x.wires.down ≡ y.wires.down
 down-of-sub x y e = ap (λ (z : Subchannel). z.wires.down) e
 
 chosen-at : (sub : Subchannel) (choice : Option ℕ) (k : Option Story) (u : Option UnitState) (t : SubTurn) → choose_sub sub (chosen sub choice) ≡ Ok t → Needs k sub.state →
-    AtUnit (IsLinked sub.setup.side sub.wires.down k) u → AtUnit (IsLinked sub.setup.side t.sub.wires.down (chosen_at (Some sub) t.reply k)) u
+    AtUnit (IsLinked sub.setup.side sub.state.drawn sub.wires.down k) u → AtUnit (IsLinked sub.setup.side t.sub.state.drawn t.sub.wires.down (chosen_at (Some sub) t.reply k)) u
 chosen-at sub choice k None t e n l = absurd l
 chosen-at sub choice k (Some u) t e n l =
-    subst (λ (r : Result SubTurn Fault). IfOk r (λ t. IsLinked sub.setup.side t.sub.wires.down (chosen_at (Some sub) t.reply k) u)) e
-    (choose-linked sub (chosen sub choice) k u (chosen-waits sub.state.hold.phase sub.state.waiting (is_any (allowed_paths sub)) choice) n l)
+    subst (λ (r : Result SubTurn Fault). IfOk r (λ t. IsLinked sub.setup.side t.sub.state.drawn t.sub.wires.down (chosen_at (Some sub) t.reply k) u)) e
+    (choose-linked sub (chosen sub choice) k u (chosen-fits sub choice) n l)
 
 met-at : (storage : Contents) (sub : Subchannel) (path : ℕ) (k : Option Story) (u : Option UnitState) (t : UpTurn) → up_sub storage sub path ≡ Ok t → Needs k sub.state →
-    Needs (met_at storage (Some sub) path k) t.sub.state → AtUnit (IsLinked sub.setup.side sub.wires.down k) u →
-    AtUnit (IsLinked sub.setup.side t.sub.wires.down (met_at storage (Some sub) path k)) u
+    Needs (met_at storage (Some sub) path k) t.sub.state → AtUnit (IsLinked sub.setup.side sub.state.drawn sub.wires.down k) u →
+    AtUnit (IsLinked sub.setup.side t.sub.state.drawn t.sub.wires.down (met_at storage (Some sub) path k)) u
 met-at storage sub path k None t e n m l = absurd l
 met-at storage sub path k (Some u) t e n m l =
     (subst (λ (r : Result UpTurn Fault). IfOk r (IsMet sub (met_at storage (Some sub) path k) u)) e (up-linked storage sub path k u n l)) m
 
+draws-linked : (side : Side) (drawn : ℕ) (wires : List (List Down)) (k : Option Story) (u : Option UnitState) → AtUnit (IsLinked side drawn wires k) u → AtUnit (IsLinked side (drawn + 1) wires k) u
+draws-linked side drawn wires k None l = absurd l
+draws-linked side drawn wires k (Some u) l = hold-draws side drawn (drawn + 1) (number_of k) (sent_of k) (all_codes k) (took_of k) wires u (omega arith) l
+
 pub happens-linked : (storage : Contents) (old new : Subchannel) (u v : Option UnitState) (f : Option Story → Option Story) → Happening storage old new u v f → new.setup ≡ old.setup →
     (k : Option Story) → Needs k old.state → Needs (f k) new.state →
-    AtUnit (IsLinked old.setup.side old.wires.down k) u → AtUnit (IsLinked new.setup.side new.wires.down (f k)) v
+    AtUnit (IsLinked old.setup.side old.state.drawn old.wires.down k) u → AtUnit (IsLinked new.setup.side new.state.drawn new.wires.down (f k)) v
 happens-linked storage old new u v f (Stays e w s) i k n m l =
-    at-same old.setup.side new.setup.side old.wires.down new.wires.down k (f k) u v (side-of new old i) (down-of-sub new old e) (s k) w l
+    at-same old.setup.side new.setup.side old.state.drawn new.state.drawn old.wires.down new.wires.down k (f k) u v (side-of new old i) (drawn-of new old e) (down-of-sub new old e) (s k) w l
 happens-linked storage old new u v f (Starts_with_orb orb e w s) i k n m l =
-    at-same old.setup.side new.setup.side old.wires.down new.wires.down k (f k) u v (side-of new old i) (down-of-sub new (with_state old (started old.state orb)) e) (s k) w l
+    at-same old.setup.side new.setup.side old.state.drawn new.state.drawn old.wires.down new.wires.down k (f k) u v (side-of new old i) (drawn-of new (with_state old (started old.state orb)) e) (down-of-sub new (with_state old (started old.state orb)) e) (s k) w l
 happens-linked storage old new u v f (Is_tested e w s) i k n m l =
-    at-same old.setup.side new.setup.side old.wires.down new.wires.down k (f k) u v (side-of new old i) (down-of-sub new (with_state old (tested old.state)) e) (s k) w l
+    at-same old.setup.side new.setup.side old.state.drawn new.state.drawn old.wires.down new.wires.down k (f k) u v (side-of new old i)
+    (drawn-of new (with_state old (tested_wholly old.state)) e ∙ (tested-kept old.state).drawn) (down-of-sub new (with_state old (tested_wholly old.state)) e) (s k) w l
+happens-linked storage old new u v f (Is_resumed e w s) i k n m l =
+    at-same old.setup.side new.setup.side old.state.drawn new.state.drawn old.wires.down new.wires.down k (f k) u v (side-of new old i)
+    (drawn-of new (with_state old (resumed old.state)) e) (down-of-sub new (with_state old (resumed old.state)) e) (s k) w l
+happens-linked storage old new u v f (Is_halted e w s) i k n m l =
+    at-same old.setup.side new.setup.side old.state.drawn new.state.drawn old.wires.down new.wires.down k (f k) u v (side-of new old i)
+    (drawn-of new (with_state old (halted old.state)) e ∙ (halted-kept old.state).drawn) (down-of-sub new (with_state old (halted old.state)) e) (s k) w l
+happens-linked storage old new u v f (Is_cleared e w s) i k n m l =
+    at-same old.setup.side new.setup.side (old.state.drawn + 1) new.state.drawn old.wires.down new.wires.down k (f k) u v (side-of new old i)
+    (drawn-of new (with_state old (cleared old.state)) e) (down-of-sub new (with_state old (cleared old.state)) e) (s k) w
+    (draws-linked old.setup.side old.state.drawn old.wires.down k u l)
+happens-linked storage old new u v f (Is_cancelled e w s) i k n m l =
+    at-same old.setup.side new.setup.side old.state.drawn new.state.drawn old.wires.down new.wires.down k (f k) u v (side-of new old i)
+    (drawn-of new (with_state old (cancelled old.state)) e) (down-of-sub new (with_state old (cancelled old.state)) e) (s k) w l
 happens-linked storage old new u v f (Is_modified pmcw e w s) i k n m l =
-    at-same old.setup.side new.setup.side old.wires.down new.wires.down k (f k) u v (side-of new old i)
+    at-same old.setup.side new.setup.side old.state.drawn new.state.drawn old.wires.down new.wires.down k (f k) u v (side-of new old i) (drawn-of new (with_state old (record old.state { pmcw = pmcw })) e)
     (down-of-sub new (with_state old (record old.state { pmcw = pmcw })) e) (s k) w l
 happens-linked storage old new u v f (Is_chosen choice t c e w s) i k n m l =
-    at-same old.setup.side new.setup.side t.sub.wires.down new.wires.down (chosen_at (Some old) t.reply k) (f k) u v (side-of new old i) (down-of-sub new t.sub e) (s k) w
+    at-same old.setup.side new.setup.side t.sub.state.drawn new.state.drawn t.sub.wires.down new.wires.down (chosen_at (Some old) t.reply k) (f k) u v (side-of new old i) (drawn-of new t.sub e) (down-of-sub new t.sub e) (s k) w
     (chosen-at old choice k u t c n l)
 happens-linked storage old new u v f (Meets path t c e w s) i k n m l =
-    at-same old.setup.side new.setup.side t.sub.wires.down new.wires.down (met_at storage (Some old) path k) (f k) u v (side-of new old i) (down-of-sub new t.sub e) (s k) w
+    at-same old.setup.side new.setup.side t.sub.state.drawn new.state.drawn t.sub.wires.down new.wires.down (met_at storage (Some old) path k) (f k) u v (side-of new old i) (drawn-of new t.sub e) (down-of-sub new t.sub e) (s k) w
     (met-at storage old path k u t c n
     (subst (λ (x : Subchannel). Needs (met_at storage (Some old) path k) x.state) e (subst (λ (x : Option Story). Needs x new.state) (s k) m)) l)
 happens-linked storage old new u v f (Sinks path x t is c e w s) i k n m l =
-    at-same old.setup.side new.setup.side t.sub.wires.down new.wires.down (taken_at t.reply k) (f k) (Some t.«unit») v (side-of new old i) (down-of-sub new t.sub e) (s k) w
-    (subst (λ (r : Result DownTurn Fault). IfOk r (λ t. IsLinked old.setup.side t.sub.wires.down (taken_at t.reply k) t.«unit»)) c
-    (down-linked old path x k (subst (AtUnit (IsLinked old.setup.side old.wires.down k)) is l)))
+    at-same old.setup.side new.setup.side t.sub.state.drawn new.state.drawn t.sub.wires.down new.wires.down (taken_at t.reply k) (f k) (Some t.«unit») v (side-of new old i) (drawn-of new t.sub e) (down-of-sub new t.sub e) (s k) w
+    (subst (λ (r : Result DownTurn Fault). IfOk r (λ t. IsLinked old.setup.side t.sub.state.drawn t.sub.wires.down (taken_at t.reply k) t.«unit»)) c
+    (down-linked old path x k n (subst (AtUnit (IsLinked old.setup.side old.state.drawn old.wires.down k)) is l)))
 happens-linked storage old new u v f (Is_reported report x t is same c e w s) i k n m l =
-    at-same old.setup.side new.setup.side t.sub.wires.down new.wires.down (reported_at (Some x) report k) (f k) (Some t.«unit») v (side-of new old i) (down-of-sub new t.sub e) (s k) w
-    (subst (λ (r : Result DownTurn Fault). IfOk r (λ t. IsLinked old.setup.side t.sub.wires.down (reported_at (Some x) report k) t.«unit»)) c
-    (report-linked old x report k (unit_reports x report) refl (subst (AtUnit (IsLinked old.setup.side old.wires.down k)) is l)))
+    at-same old.setup.side new.setup.side t.sub.state.drawn new.state.drawn t.sub.wires.down new.wires.down (reported_at (Some x) report k) (f k) (Some t.«unit») v (side-of new old i) (drawn-of new t.sub e) (down-of-sub new t.sub e) (s k) w
+    (subst (λ (r : Result DownTurn Fault). IfOk r (λ t. IsLinked old.setup.side t.sub.state.drawn t.sub.wires.down (reported_at (Some x) report k) t.«unit»)) c
+    (report-linked old x report k (unit_reports x report) refl (subst (AtUnit (IsLinked old.setup.side old.state.drawn old.wires.down k)) is l)))
 happens-linked storage old new u v f (Other_sinks other path x t apart is c e w s) i k n m l =
-    at-same old.setup.side new.setup.side old.wires.down new.wires.down k (f k) (Some t.«unit») v (side-of new old i) (down-of-sub new old e) (s k) w
-    (subst (λ (r : Result DownTurn Fault). IfOk r (λ t. IsLinked old.setup.side old.wires.down k t.«unit»)) c
-    (other-down old other path x k apart (subst (AtUnit (IsLinked old.setup.side old.wires.down k)) is l)))
+    at-same old.setup.side new.setup.side old.state.drawn new.state.drawn old.wires.down new.wires.down k (f k) (Some t.«unit») v (side-of new old i) (drawn-of new old e) (down-of-sub new old e) (s k) w
+    (subst (λ (r : Result DownTurn Fault). IfOk r (λ t. IsLinked old.setup.side old.state.drawn old.wires.down k t.«unit»)) c
+    (other-down old other path x k apart (subst (AtUnit (IsLinked old.setup.side old.state.drawn old.wires.down k)) is l)))
 happens-linked storage old new u v f (Other_reported other report x t apart is same c e w s) i k n m l =
-    at-same old.setup.side new.setup.side old.wires.down new.wires.down k (f k) (Some t.«unit») v (side-of new old i) (down-of-sub new old e) (s k) w
-    (subst (λ (r : Result DownTurn Fault). IfOk r (λ t. IsLinked old.setup.side old.wires.down k t.«unit»)) c
-    (other-report old other x report k (unit_reports x report) refl (subst (AtUnit (IsLinked old.setup.side old.wires.down k)) is l)))
+    at-same old.setup.side new.setup.side old.state.drawn new.state.drawn old.wires.down new.wires.down k (f k) (Some t.«unit») v (side-of new old i) (drawn-of new old e) (down-of-sub new old e) (s k) w
+    (subst (λ (r : Result DownTurn Fault). IfOk r (λ t. IsLinked old.setup.side old.state.drawn old.wires.down k t.«unit»)) c
+    (other-report old other x report k (unit_reports x report) refl (subst (AtUnit (IsLinked old.setup.side old.state.drawn old.wires.down k)) is l)))

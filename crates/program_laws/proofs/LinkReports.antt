@@ -247,10 +247,10 @@ report-owner side u report y s t =
     ap (λ (o : Own). is_owner o side report.number) t.own
     ∙ subst (λ (z : Side). is_owner (own.Owned z report.number (On t.path t.connection)) side report.number ≡ true) (sym at) (is-owner-self side report.number t.path t.connection)
 
-pub mode-reports : (side : Side) (begun : Option Begun) (k : Story) (downs : List (List Down)) (ups : List (List Up)) (u : UnitState) (report : Report) (y : UnitStep) →
-    same_side side report.side ≡ true → IsNumbered side k.number k.taken u → IsReportTaken u report y → Mode side begun k downs ups u →
+pub mode-reports : (side : Side) (drawn : ℕ) (begun : Option Begun) (k : Story) (downs : List (List Down)) (ups : List (List Up)) (u : UnitState) (report : Report) (y : UnitStep) →
+    same_side side report.side ≡ true → IsNumbered side drawn k.number k.taken u → IsReportTaken u report y → Mode side begun k downs ups u →
     Mode side begun (reported u report report.answer k) downs (with_any_sent ups y.sent) y.state
-mode-reports side begun k downs ups u report y s n t mode = by (report.number == k.number) refl
+mode-reports side drawn begun k downs ups u report y s n t mode = by (report.number == k.number) refl
   where
     owns : is_owner u.own side report.number ≡ true
     owns = report-owner side u report y s t
@@ -263,7 +263,7 @@ mode-reports side begun k downs ups u report y s n t mode = by (report.number ==
         let other : report.number ≡ k.number → ⊥ = λ z. absurd (cc (sym (eq-eqb report.number k.number z) ∙ e)) in
         let none : is_owner y.state.own side k.number ≡ true → ⊥ =
         λ z. other (one-number u.own side report.number k.number owns (ap (λ (o : Own). is_owner o side k.number) (sym (told-own u t.path report.number t.connection t.hand report.answer y t.told)) ∙ z)) in
-        let le : report.number ≤ k.number = omega (arith, n.owned report.number owns, n.floor) in
+        let le : report.number ≤ k.number = n.named report.number owns in
         subst (λ (r : Story). Mode side begun r downs (with_any_sent ups y.sent) y.state) (sym (reported-other u report report.answer k e))
         (mode-carried side begun k downs downs ups (with_any_sent ups y.sent) u y.state
         (λ P Q R f w. wired-tells side k.number (length k.taken) P P Q R R downs ups u y.state y.sent (λ z. absurd (none z)) (λ i l r. r) (λ z o. absurd (none o))

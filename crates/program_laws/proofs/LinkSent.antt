@@ -1,5 +1,5 @@
 -- What a subchannel sends down as it meets a signal: a Command is the one at work, under the number of its connection.
-use Rattle.std.proofs.Common.{◌≡◌, refl, ◌∙◌, ap, ℕ, Bool, true, false, ◌==◌, ◌&&◌, nat_lt, Option, None, Some, Result, Ok, Err}
+use Rattle.std.proofs.Common.{◌≡◌, refl, sym, ◌∙◌, ap, ℕ, Bool, true, false, ◌==◌, ◌&&◌, nat_lt, Option, None, Some}
 use Rattle.std.specs.Prelude.{if◌then◌else◌, IfSome}
 use Rattle.std.proofs.lemmas.Bool.{eq-eqb}
 use Rattle.scsw_irb.specs.declared.status.DeviceStatus.{DeviceStatus}
@@ -17,16 +17,19 @@ use Rattle.chan_model.specs.declared.signal.Up.TheVariants as up
 use Rattle.chan_model.specs.HoldTable as hold_table
 use Rattle.chan_model.specs.HoldTable.{HoldStep, refusing, granting, begun, accepted, left, asked_back, found_busy, released, cleared, noticed, attended, hold_takes, hold_after, came_of, is_connected, is_on, letting_go}
 use Rattle.chan_model.specs.UnitReports.{is_last_end, is_outward, has_device_end}
-use Rattle.channel_program.specs.declared.check.Check.{Check}
-use Rattle.transfer.specs.declared.Transfer.{Transfer}
-use Rattle.transfer.specs.Commands.{first_command, next_command}
+use Rattle.channel_program.specs.Walks.{Place}
+use Rattle.transfer.specs.declared.Came.{Came}
+use Rattle.transfer.specs.declared.Came.TheVariants as came
+use Rattle.transfer.specs.declared.Roomy.{Roomy}
+use Rattle.transfer.specs.Commands.{first_command, next_command, begun_with_room}
 use Rattle.transfer.specs.Chunks.{is_answered}
 use Rattle.machine_model.specs.declared.state.Begun.{Begun}
-use Rattle.machine_model.specs.declared.state.Program.{Program}
+use Rattle.machine_model.specs.declared.state.Standing.{Standing}
 use Rattle.machine_model.specs.declared.state.SubchannelState.{SubchannelState}
 use Rattle.machine_model.specs.declared.state.UpStep.{UpStep}
 use Rattle.machine_model.specs.Statuses.{has_status_modifier, chains_command}
-use Rattle.machine_model.specs.Taking.{Met, ignoring, by_hold, let_go, waits_as, with_path, beginning, begin_waiting, accepted_by, accept, move_bytes, move_data, take_data, with_end, chaining, goes_on, stops_at, command_ended, end_of, end_command, takes_up}
+use Rattle.machine_model.specs.Taking.{Met, ignoring, by_hold, let_go, goes_ahead, standing, with_path, taking_over, moving_on, reset_taken, halt_done, clear_done, beginning, begin_standing, accepted_by, accept, move_bytes, move_data, take_data, with_end, chaining, goes_on, stops_at, command_ended, end_of, end_command, takes_up}
+use Rattle.program_laws.proofs.Caused.{IsInterrupted, interrupted-work}
 
 -- a Command is of the transfer at work
 pub record IsAtWork (s : SubchannelState) (t n code : ℕ) : Type 0 where
@@ -183,15 +186,29 @@ let_go-sends : (s : SubchannelState) → Sends (let_go s)
 let_go-sends s = muttered (let_go s).state (came_of (letting_go s.hold s.hold.phase)).sent (letting-mutters s.hold s.hold.phase)
 
 -- Accept
-beginning-sends : (storage : Contents) (s : SubchannelState) (p t : ℕ) (program : Program) (tried : ℕ) (r : Result Transfer Check) → is_on s.hold.phase t ≡ true →
-    Sends (beginning storage s p t program tried r)
-beginning-sends storage s p t program tried (Ok transfer) e = record { begun = _; is = refl; command = refl; same_code = refl; on = e }
-beginning-sends storage s p t program tried (Err check) e = let_go-sends _
+-- a command that begins is the one at work
+work-sends : (s x : SubchannelState) (b : Begun) (t : ℕ) → IsInterrupted s x b → is_on s.hold.phase t ≡ true → IsAtWork x t b.transfer.command b.transfer.code
+work-sends s x b t i e = record {
+  begun = i.begun;
+  is = i.is;
+  command = sym i.same.command;
+  same_code = sym i.same.code;
+  on = ap (λ (h : HoldState). is_on h.phase t) i.kept.hold ∙ e;
+}
 
-waiting-sends : (storage : Contents) (s : SubchannelState) (p t : ℕ) (waiting : Option Program) → is_on s.hold.phase t ≡ true → Sends (begin_waiting storage s p t waiting)
-waiting-sends storage s p t None e = tt
-waiting-sends storage s p t (Some program) e =
-    beginning-sends storage s p t program (first_command storage program.orb).tried (first_command storage program.orb).came e
+beginning-sends : (storage : Contents) (s : SubchannelState) (p t : ℕ) (st : Standing) (walk : Place) (r : Came) → is_on s.hold.phase t ≡ true →
+    Sends (beginning storage s p t st walk r)
+beginning-sends storage s p t st walk (came.Begins transfer) e =
+    let next : SubchannelState = taking_over s st.program (begun_with_room storage transfer).transfer in
+    let b : Begun = record { program = st.program; primary_shown = false; transfer = (begun_with_room storage transfer).transfer } in
+    work-sends next _ b t (interrupted-work next b refl) e
+beginning-sends storage s p t st walk came.Suspends e = let_go-sends _
+beginning-sends storage s p t st walk (came.Stops check) e = let_go-sends _
+
+standing-sends : (storage : Contents) (s : SubchannelState) (p t : ℕ) (st : Option Standing) → is_on s.hold.phase t ≡ true → Sends (begin_standing storage s p t st)
+standing-sends storage s p t None e = tt
+standing-sends storage s p t (Some st) e =
+    beginning-sends storage s p t st (first_command storage st.walk).walk (first_command storage st.walk).came e
 
 is-self : (t p c : ℕ) → is_on (hold.On t p c) t ≡ true
 is-self t p c = eq-eqb t t refl
@@ -199,8 +216,8 @@ is-self t p c = eq-eqb t t refl
 accepted_by-sends : (storage : Contents) (s : SubchannelState) (phase : HoldPhase) (came : Taken Down) → s.hold.phase ≡ phase → IfSome came.sent (λ x. IsOfHold x.signal) →
     Sends (accepted_by storage s phase came)
 accepted_by-sends storage s (hold.On t p c) came e m =
-    waiting-sends storage (record s { pmcw = with_path s.pmcw p }) p t s.waiting (ap (λ (x : HoldPhase). is_on x t) e ∙ is-self t p c)
-accepted_by-sends storage s (hold.Letting t p) came e m = muttered (record s { pmcw = with_path s.pmcw p }) came.sent m
+    standing-sends storage (record s { pmcw = with_path s.pmcw p }) p t (standing s) (ap (λ (x : HoldPhase). is_on x t) e ∙ is-self t p c)
+accepted_by-sends storage s (hold.Letting t p) came e m = muttered (halt_done (record s { pmcw = with_path s.pmcw p })) came.sent m
 accepted_by-sends storage s hold.Free came e m = muttered s came.sent m
 accepted_by-sends storage s (hold.Offer t p) came e m = muttered s came.sent m
 accepted_by-sends storage s (hold.Away t) came e m = muttered s came.sent m
@@ -222,15 +239,20 @@ take_data-sends : (storage : Contents) (s : SubchannelState) (p t c n q : ℕ) (
 take_data-sends storage s p t c n q load = if-met (is_connected s.hold.phase p t c) _ _ (move_data-sends storage s s.begun p t c n q load) tt
 
 -- End
-chaining-sends : (storage : Contents) (s : SubchannelState) (b : Begun) (p t tried : ℕ) (r : Result Transfer Check) → is_on s.hold.phase t ≡ true →
-    Sends (chaining storage s b p t tried r)
-chaining-sends storage s b p t tried (Ok transfer) e = record { begun = _; is = refl; command = refl; same_code = refl; on = e }
-chaining-sends storage s b p t tried (Err check) e = let_go-sends _
+chaining-sends : (storage : Contents) (s : SubchannelState) (b : Begun) (p t : ℕ) (walk : Place) (r : Came) → is_on s.hold.phase t ≡ true →
+    Sends (chaining storage s b p t walk r)
+chaining-sends storage s b p t walk (came.Begins transfer) e =
+    let x : Roomy = begun_with_room storage transfer in
+    let c : Begun = record b { transfer = x.transfer } in
+    let next : SubchannelState = record s { begun = Some c; dedicated = None } in
+    work-sends next (moving_on s b x.transfer) c t (interrupted-work next c refl) e
+chaining-sends storage s b p t walk came.Suspends e = let_go-sends _
+chaining-sends storage s b p t walk (came.Stops check) e = let_go-sends _
 
 goes_on-sends : (storage : Contents) (s : SubchannelState) (b : Begun) (p t : ℕ) (status : DeviceStatus) → is_on s.hold.phase t ≡ true → Sends (goes_on storage s b p t status)
 goes_on-sends storage s b p t status e =
     if-sends (has_device_end status) _ _
-    (chaining-sends storage s b p t (next_command storage b.transfer (has_status_modifier status)).tried (next_command storage b.transfer (has_status_modifier status)).came e) tt
+    (chaining-sends storage s b p t (next_command storage b.transfer (has_status_modifier status)).walk (next_command storage b.transfer (has_status_modifier status)).came e) tt
 
 stops_at-sends : (s : SubchannelState) (b : Begun) (p : ℕ) (status : DeviceStatus) (more : Bool) → Sends (stops_at s b p status more)
 stops_at-sends s b p status more = if-sends (is_last_end status) _ _ (let_go-sends _) tt
@@ -252,14 +274,18 @@ end_command-sends storage s p t n status more = by (is_on s.hold.phase t) refl
     by true e = end_of-sends storage s s.begun p t n status more e
     by false e = tt
 
+reset-sends : (s : SubchannelState) (step : Option HoldStep) → Mutters step → Sends (reset_taken s step)
+reset-sends s None m = tt
+reset-sends s (Some step) m = muttered (clear_done (record s { hold = step.state })) (came_of (Some step)).sent m
+
 pub up-sends : (storage : Contents) (s : SubchannelState) (p : ℕ) (x : Up) → Sends (takes_up storage s p x).step
-up-sends storage s p (up.Accept t) = accept-sends storage s (accepted s.hold s.hold.phase t (waits_as s.waiting s.offered)) (accepted-mutters s.hold s.hold.phase t (waits_as s.waiting s.offered))
+up-sends storage s p (up.Accept t) = accept-sends storage s (accepted s.hold s.hold.phase t (goes_ahead s)) (accepted-mutters s.hold s.hold.phase t (goes_ahead s))
 up-sends storage s p (up.Data t c n q load) = take_data-sends storage s p t c n q load
 up-sends storage s p (up.End t n status more) = end_command-sends storage s p t n status more
 up-sends storage s p (up.Busy t) = by_hold-sends s (found_busy s.hold s.hold.phase t) (busy-mutters s.hold s.hold.phase t)
 up-sends storage s p (up.Leave t c) = by_hold-sends s (left s.hold s.hold.phase t c) (left-mutters s.hold s.hold.phase t c)
 up-sends storage s p (up.Back t c) = by_hold-sends s (asked_back s.hold s.hold.phase p t c false) (back-mutters s.hold s.hold.phase p t c false)
 up-sends storage s p (up.Released t) = by_hold-sends s (released s.hold s.hold.phase t) (released-mutters s.hold s.hold.phase t)
-up-sends storage s p (up.Cleared r) = by_hold-sends s (cleared s.hold s.hold.phase r) (cleared-mutters s.hold s.hold.phase r)
+up-sends storage s p (up.Cleared r) = reset-sends s (cleared s.hold s.hold.phase r) (cleared-mutters s.hold s.hold.phase r)
 up-sends storage s p (up.Notice b) = by_hold-sends s (noticed s.hold b) (noticed-mutters s.hold b)
 up-sends storage s p (up.Attn a status) = by_hold-sends s (attended s.hold s.hold.phase p a false) (attended-mutters s.hold s.hold.phase p a false)

@@ -1,13 +1,11 @@
 -- How a subchannel's doings change what is to be known of the bytes of a write.
-use Rattle.std.proofs.Common.{◌≡◌, refl, sym, ◌∙◌, ap, subst, ℕ, zero, suc, ◌+◌, ◌≤◌, Bool, true, false, ◌==◌, length, Option, None, Some, Result, Ok, Err, List, [], ◌∷◌, ◌++◌, inl, inr, arith}
+use Rattle.std.proofs.Common.{◌≡◌, refl, sym, ◌∙◌, ap, subst, ℕ, zero, suc, ◌+◌, ◌≤◌, Bool, true, false, ◌==◌, ◌&&◌, ◌||◌, length, Option, None, Some, Result, Ok, Err, List, [], ◌∷◌, ◌++◌, inl, inr, arith}
 use Rattle.std.specs.Prelude.{◌⊎◌, min, nat_lt, is_some, if◌then◌else◌, Contains}
 use Rattle.std.proofs.lemmas.Bool.{eqb-true, and_parts}
 use Rattle.std.proofs.Math.Nat.{min-le_left}
-use Rattle.ccw_codec.specs.declared.Ccw.{Ccw}
 use Rattle.ccw_codec.specs.Command.{class_of}
 use Rattle.storage_keys.specs.Storage.{Contents}
 use Rattle.channel_program.specs.declared.check.Check.{Check}
-use Rattle.channel_program.specs.declared.check.Check.TheVariants.{Program}
 use Rattle.channel_program.specs.declared.Advance.{Advance}
 use Rattle.channel_program.specs.declared.Advance.TheVariants as advance
 use Rattle.channel_program.specs.Acts.{Chunk}
@@ -16,9 +14,10 @@ use Rattle.idaw.specs.Places.{each_below}
 use Rattle.data_move.specs.Moving.{Moving, next_place, needs_word, room}
 use Rattle.data_move.specs.Accesses as access
 use Rattle.transfer.specs.declared.Transfer.{Transfer}
+use Rattle.transfer.specs.declared.Came.TheVariants as came
 use Rattle.transfer.specs.declared.Given.{Given}
-use Rattle.transfer.specs.Commands.{data_of, command_of, begins, goes_to, located, with_located, with_room, begun_with_room, brings, has_stopped}
-use Rattle.transfer.specs.Chunks.{chains_data, chained_to, chained, with_moved, moved_on, with_answer, absorbed, given_of, given_from, next_given}
+use Rattle.transfer.specs.Commands.{command_of, begins, goes_to, located, with_located, with_room, begun_with_room, brings, has_stopped}
+use Rattle.transfer.specs.Chunks.{is_current, chains_data, chained_to, chained, with_moved, moved_on, with_answer, absorbed, given_of, given_from, next_given}
 use Rattle.program_laws.specs.Doings as doing
 use Rattle.program_laws.specs.Doings.{Part, with_acts, with_places, with_copy, copying, located_acts, chunk_of, chained_acts, answered, gives}
 use Rattle.program_laws.proofs.Accesses.{AreAccesses, copied-room}
@@ -28,13 +27,8 @@ abbrev pub view_of : Transfer → Part → View
 view_of t p = record { seq = t.sequence; next = next_place t.moving; room = room t.moving; moved = p.moved; copied = p.copied }
 
 -- the number of the last chunk stays
-chained-if : (t : Transfer) (walk : Place) (ccw : Ccw) (b : Bool) →
-    (if b then record t { walk = walk; fault = Some Program } else record t { walk = walk; moving = data_of walk t.code ccw }).sequence ≡ t.sequence
-chained-if t walk ccw true = refl
-chained-if t walk ccw false = refl
-
 chained_to-seq : (t : Transfer) (walk : Place) (a : Option Advance) → (chained_to t walk a).sequence ≡ t.sequence
-chained_to-seq t walk (Some (advance.Takes ccw)) = chained-if t walk ccw ccw.program_controlled
+chained_to-seq t walk (Some (advance.Takes ccw)) = refl
 chained_to-seq t walk (Some advance.Suspends) = refl
 chained_to-seq t walk (Some (advance.Stops check)) = refl
 chained_to-seq t walk None = refl
@@ -193,17 +187,13 @@ module _ (accesses : AreAccesses) where
       (sym e) (next-given storage t p)
 
 -- a command that begins has moved nothing
-taken-new : (walk : Place) (n : ℕ) (ccw : Ccw) (b : Bool) (t : Transfer) → (if b then Err Program else Ok (command_of walk n ccw)) ≡ Ok t → t.sequence ≡ 0
-taken-new walk n ccw true t e = absurd (cc e)
-taken-new walk n ccw false t e = let same : command_of walk n ccw ≡ t = cc e in ap (λ (x : Transfer). x.sequence) (sym same)
-
-begins-new : (walk : Place) (n : ℕ) (a : Option Advance) (t : Transfer) → begins walk n a ≡ Ok t → t.sequence ≡ 0
-begins-new walk n (Some (advance.Takes ccw)) t e = taken-new walk n ccw ccw.program_controlled t e
+begins-new : (walk : Place) (n : ℕ) (a : Option Advance) (t : Transfer) → begins walk n a ≡ came.Begins t → t.sequence ≡ 0
+begins-new walk n (Some (advance.Takes ccw)) t e = let same : command_of walk n ccw ≡ t = cc e in ap (λ (x : Transfer). x.sequence) (sym same)
 begins-new walk n (Some advance.Suspends) t e = absurd (cc e)
 begins-new walk n (Some (advance.Stops check)) t e = absurd (cc e)
 begins-new walk n None t e = absurd (cc e)
 
-pub goes-new : (storage : Contents) (n : ℕ) (old : Place) (t : Transfer) → (goes_to storage n old).came ≡ Ok t → t.sequence ≡ 0
+pub goes-new : (storage : Contents) (n : ℕ) (old : Place) (t : Transfer) → (goes_to storage n old).came ≡ came.Begins t → t.sequence ≡ 0
 goes-new storage n old t e = begins-new (after_acts old (advance_acts storage old)) n (advance_of old (advance_acts storage old)) t e
 
 with_located-seq : (t : Transfer) (r : Result Moving Check) → (with_located t r).sequence ≡ t.sequence
@@ -220,3 +210,15 @@ room-if storage t false = refl
 
 pub room-seq : (storage : Contents) (t : Transfer) → (begun_with_room storage t).transfer.sequence ≡ t.sequence
 room-seq storage t = room-if storage t (brings (class_of t.code))
+
+-- a Data that is answered is of the command at work, of its last chunk or the next
+pub current-facts : (t : Transfer) (n seq : ℕ) (x : Bool) → (is_current t n seq && x) ≡ true → (n ≡ t.command) × ((seq ≡ t.sequence) ⊎ (seq ≡ t.sequence + 1))
+current-facts t n seq x e =
+    let a = and_parts (is_current t n seq) x e in
+    let b = and_parts (n == t.command) ((seq == t.sequence) || (seq == t.sequence + 1)) a.0 in
+    (eqb-true n t.command b.0, either (seq == t.sequence) (seq == t.sequence + 1) refl refl b.1)
+  where
+    either : (p q : Bool) → (seq == t.sequence) ≡ p → (seq == t.sequence + 1) ≡ q → (p || q) ≡ true → (seq ≡ t.sequence) ⊎ (seq ≡ t.sequence + 1)
+    either true q f g h = inl (eqb-true seq t.sequence f)
+    either false true f g h = inr (eqb-true seq (t.sequence + 1) g)
+    either false false f g h = absurd (cc h)

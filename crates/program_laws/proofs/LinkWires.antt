@@ -15,6 +15,7 @@ use Rattle.chan_model.specs.declared.unit_state.UnitState.{UnitState}
 use Rattle.chan_model.specs.UnitTable.{came_of, side_of, is_owner, unit_takes, unit_after}
 use Rattle.wires.specs.Queues.{queue, taken}
 use Rattle.machine_model.specs.Steps.{with_any_sent}
+use Rattle.program_laws.proofs.LinkSent.{IsOfHold}
 use Rattle.program_laws.proofs.UnitOrders.{AreOn, IsDown, IsNumbered, on-taken, on-sent, on-first, on-weaker}
 use Rattle.program_laws.proofs.UnitHands.{IsCalm, IsEasy, easy-calm, IsHeld, calm-held, select-held, StaysAnswered, took-held, TakesGive, give-held, command-held, IsQuiet, takes-quiet}
 
@@ -118,17 +119,22 @@ wired-holds side number m P W Q X R Y downs ups u one path f g h s k = record {
       (telling-other number m number m R Y (IsClosed side number u) (IsClosed side number u) (λ t n s l. same-command number m t n (R s l) (Y s l) (h s l)) (λ t n x. x)) k.tells);
 }
 
+-- the subsystem sends something of itself
+pub wired-sends : (side : Side) (number m : ℕ) (P : Option AtHand → Type 0) (Q : ℕ → List ℕ → Type 0) (R : ℕ → Load → Type 0) (downs : List (List Down)) (ups : List (List Up)) (u : UnitState)
+    (one : Option (OnPath Down)) → IfSome one (λ d. IsGiving number m Q d.signal) → IsWired side number m P Q R downs ups u → IsWired side number m P Q R (with_any_sent downs one) ups u
+wired-sends side number m P Q R downs ups u one s k = record { hand = k.hand; gives = on-sent (IsGiving number m Q) downs one k.gives s; tells = k.tells }
+
 -- a greater number is drawn
-pub wired-offers : (side : Side) (number after m : ℕ) (took : List ℕ) (P W : Option AtHand → Type 0) (Q X : ℕ → List ℕ → Type 0) (R Y : ℕ → Load → Type 0) (downs : List (List Down)) (ups : List (List Up))
-    (u : UnitState) (path : ℕ) → number < after → IsNumbered side number took u → IsWired side number m P Q R downs ups u →
+pub wired-offers : (side : Side) (drawn number after m : ℕ) (took : List ℕ) (P W : Option AtHand → Type 0) (Q X : ℕ → List ℕ → Type 0) (R Y : ℕ → Load → Type 0) (downs : List (List Down)) (ups : List (List Up))
+    (u : UnitState) (path : ℕ) → number ≤ drawn → drawn < after → IsNumbered side drawn number took u → IsWired side number m P Q R downs ups u →
     IsWired side after 0 W X Y (with_any_sent downs (Some (record { path = path; signal = down.Select after }))) ups u
-wired-offers side number after m took P W Q X R Y downs ups u path l n k = record {
-  hand = λ o. absurd (omega (arith, n.owned after o, n.floor, l));
+wired-offers side drawn number after m took P W Q X R Y downs ups u path le lt n k = record {
+  hand = λ o. absurd (omega (arith, n.named after o, le, lt));
   gives = on-sent (IsGiving after 0 X) downs (Some (record { path = path; signal = down.Select after }))
-      (on-weaker (IsGiving number m Q) (IsGiving after 0 X) downs (giving-other number m after 0 Q X (λ t i s bytes. next-program number after m 0 t i (Q s bytes) (X s bytes) l)) k.gives) tt;
+      (on-weaker (IsGiving number m Q) (IsGiving after 0 X) downs (giving-other number m after 0 Q X (λ t i s bytes. next-program number after m 0 t i (Q s bytes) (X s bytes) (omega (arith, le, lt)))) k.gives) tt;
   tells = on-weaker (IsTelling number m R (IsClosed side number u)) (IsTelling after 0 Y (IsClosed side after u)) ups
-      (telling-other number m after 0 R Y (IsClosed side number u) (IsClosed side after u) (λ t i s x. next-program number after m 0 t i (R s x) (Y s x) l)
-      (λ t i. next-program number after m 0 t i (IsClosed side number u) (IsClosed side after u) l)) k.tells;
+      (telling-other number m after 0 R Y (IsClosed side number u) (IsClosed side after u) (λ t i s x. next-program number after m 0 t i (R s x) (Y s x) (omega (arith, le, lt)))
+      (λ t i. next-program number after m 0 t i (IsClosed side number u) (IsClosed side after u) (omega (arith, le, lt)))) k.tells;
 }
 
 -- the unit is calm
@@ -177,9 +183,9 @@ easy-held : (side : Side) (number : ℕ) (P : Option AtHand → Type 0) (u : Uni
     IsHeld side number P (unit_after u (unit_takes u side p d true))
 easy-held side number P u p d m h = calm-held side number P u (unit_after u (unit_takes u side p d true)) (easy-calm side u side p d m) h
 
-module _ (side : Side) (number m sent : ℕ) (codes : List ℕ) (P : Option AtHand → Type 0) (Q : ℕ → List ℕ → Type 0) where
+module _ (side : Side) (drawn number m sent : ℕ) (codes : List ℕ) (P : Option AtHand → Type 0) (Q : ℕ → List ℕ → Type 0) where
   down-held : (u : UnitState) (p : ℕ) (d : Down) → P None → StaysAnswered P → ((s : ℕ) (bytes : List ℕ) → Q s bytes → TakesGive P s bytes) → (side_of u side).fresh ≡ false →
-      (is_owner u.own side number ≡ true → u.last_command ≡ m) → IsGiving number m Q d → IsDown number sent codes d → IsAnswered side number u p d → IsHeld side number P u →
+      (is_owner u.own side number ≡ true → u.last_command ≡ m) → IsGiving number m Q d → IsDown drawn number sent codes d → IsAnswered side number u p d → IsHeld side number P u →
       IsHeld side number P (unit_after u (unit_takes u side p d true))
   down-held u p (down.Select t) z a g f l q i n h = select-held side number P u p t z h
   down-held u p (down.Command t c code room) z a g f l q i n h = command-held side number P u p t c code room h n f
@@ -189,22 +195,22 @@ module _ (side : Side) (number m sent : ℕ) (codes : List ℕ) (P : Option AtHa
   down-held u p (down.Give t c e s bytes) z a g f l q i n h = give-held side number P u p t c e s bytes (λ j w o. g s bytes ((q.1 j).1 (w ∙ l o))) h
   down-held u p (down.Halt t) z a g f l q i n h = easy-held side number P u p (down.Halt t) tt h
   down-held u p (down.Release t) z a g f l q i n h = easy-held side number P u p (down.Release t) tt h
-  down-held u p (down.Reset v w) z a g f l q i n h = absurd i
+  down-held u p (down.Reset v w) z a g f l q i n h = easy-held side number P u p (down.Reset v w) tt h
   down-held u p (down.Got t) z a g f l q i n h = easy-held side number P u p (down.Got t) tt h
 
-pub wired-takes : (side : Side) (number m sent : ℕ) (codes : List ℕ) (P : Option AtHand → Type 0) (Q : ℕ → List ℕ → Type 0) (R : ℕ → Load → Type 0) (downs : List (List Down)) (ups : List (List Up))
-    (u : UnitState) (path : ℕ) (d : Down) → slice_get (queue downs path) 0 ≡ Some d → IsDown number sent codes d → P None → StaysAnswered P →
+pub wired-takes : (side : Side) (drawn number m sent : ℕ) (codes : List ℕ) (P : Option AtHand → Type 0) (Q : ℕ → List ℕ → Type 0) (R : ℕ → Load → Type 0) (downs : List (List Down)) (ups : List (List Up))
+    (u : UnitState) (path : ℕ) (d : Down) → slice_get (queue downs path) 0 ≡ Some d → IsDown drawn number sent codes d → P None → StaysAnswered P →
     ((s : ℕ) (bytes : List ℕ) → Q s bytes → TakesGive P s bytes) → (side_of u side).fresh ≡ false → (is_owner u.own side number ≡ true → u.last_command ≡ m) →
     IsAnswered side number u path d → IsWired side number m P Q R downs ups u →
     IsWired side number m P Q R (taken downs path) (with_any_sent ups (came_of (unit_takes u side path d true)).sent) (unit_after u (unit_takes u side path d true))
-wired-takes side number m sent codes P Q R downs ups u path d e i z a g f l n k =
+wired-takes side drawn number m sent codes P Q R downs ups u path d e i z a g f l n k =
     let v : UnitState = unit_after u (unit_takes u side path d true) in
     let one : Option (OnPath Up) = (came_of (unit_takes u side path d true)).sent in
     let q : IsGiving number m Q d = on-first (IsGiving number m Q) downs path d k.gives e in
     let closes : IsClosed side number u → IsClosed side number v =
-    λ c. down-held side number m sent codes HandClosed Q u path d tt closed-answered (λ s bytes x. closed-gives s bytes) f l q i n c in
+    λ c. down-held side drawn number m sent codes HandClosed Q u path d tt closed-answered (λ s bytes x. closed-gives s bytes) f l q i n c in
     record {
-      hand = down-held side number m sent codes P Q u path d z a g f l q i n k.hand;
+      hand = down-held side drawn number m sent codes P Q u path d z a g f l q i n k.hand;
       gives = on-taken (IsGiving number m Q) downs path k.gives;
       tells = on-sent (IsTelling number m R (IsClosed side number v)) ups one
           (on-weaker (IsTelling number m R (IsClosed side number u)) (IsTelling number m R (IsClosed side number v)) ups
@@ -241,3 +247,20 @@ wired-tells side number m P W Q R Y downs ups u v one w h c s k = record {
 pub first-tells : (side : Side) (number m : ℕ) (P : Option AtHand → Type 0) (Q : ℕ → List ℕ → Type 0) (R : ℕ → Load → Type 0) (downs : List (List Down)) (ups : List (List Up)) (u : UnitState)
     (path : ℕ) (x : Up) → slice_get (queue ups path) 0 ≡ Some x → IsWired side number m P Q R downs ups u → IsTelling number m R (IsClosed side number u) x
 first-tells side number m P Q R downs ups u path x e k = on-first (IsTelling number m R (IsClosed side number u)) ups path x k.tells e
+
+-- the signals of the hold alone give nothing
+giving-hold : (number m : ℕ) (Q : ℕ → List ℕ → Type 0) (d : Down) → IsOfHold d → IsGiving number m Q d
+giving-hold number m Q (down.Select t) h = absurd h
+giving-hold number m Q (down.Command t n code room) h = absurd h
+giving-hold number m Q (down.Grant t c) h = tt
+giving-hold number m Q (down.Refuse t c) h = tt
+giving-hold number m Q (down.Took t n s room) h = absurd h
+giving-hold number m Q (down.Give t c n s bytes) h = absurd h
+giving-hold number m Q (down.Halt t) h = tt
+giving-hold number m Q (down.Release t) h = tt
+giving-hold number m Q (down.Reset r b) h = absurd h
+giving-hold number m Q (down.Got a) h = tt
+
+pub sent-hold : (number m : ℕ) (Q : ℕ → List ℕ → Type 0) (one : Option (OnPath Down)) → IfSome one (λ d. IsOfHold d.signal) → IfSome one (λ d. IsGiving number m Q d.signal)
+sent-hold number m Q None h = tt
+sent-hold number m Q (Some d) h = giving-hold number m Q d.signal h

@@ -5,11 +5,9 @@ use Rattle.std.proofs.lemmas.List.{length-take}
 use Rattle.std.proofs.lemmas.List.Elements.{All-nil, All-cons}
 use Rattle.std.proofs.Math.Nat.{min-le_left, min-le_right}
 use Rattle.orb_block.specs.declared.Orb.{Orb}
-use Rattle.ccw_codec.specs.declared.Ccw.{Ccw}
 use Rattle.ccw_codec.specs.Command.{class_of}
 use Rattle.storage_keys.specs.Storage.{Contents}
 use Rattle.channel_program.specs.declared.check.Check.{Check}
-use Rattle.channel_program.specs.declared.check.Check.TheVariants.{Program}
 use Rattle.channel_program.specs.declared.Advance.{Advance}
 use Rattle.channel_program.specs.declared.Advance.TheVariants as advance
 use Rattle.channel_program.specs.Acts.{Act}
@@ -19,11 +17,14 @@ use Rattle.idaw.specs.Places.{each_below}
 use Rattle.data_move.specs.Moving.{Moving, next_place, room, needs_word}
 use Rattle.data_move.specs.Accesses as access
 use Rattle.transfer.specs.declared.Transfer.{Transfer}
-use Rattle.transfer.specs.Commands.{goes_to, located, with_located, begun_with_room, with_room, brings, has_stopped, data_of}
-use Rattle.transfer.specs.Chunks.{chains_data, chained_to, chained, with_moved, moved_on, with_answer, absorbed, given_of, given_from, next_given, brought_by, brought_in, brought, fitting}
+use Rattle.transfer.specs.declared.Beginning.{Beginning}
+use Rattle.transfer.specs.declared.Came.{Came}
+use Rattle.transfer.specs.declared.Came.TheVariants as came
+use Rattle.transfer.specs.Commands.{goes_to, located, with_located, begun_with_room, with_room, brings, has_stopped}
+use Rattle.transfer.specs.Chunks.{chains_data, chained_to, chained, with_moved, moved_on, with_answer, absorbed, given_bytes, given_of, given_from, next_given, brought_by, brought_in, brought, fitting}
 use Rattle.program_laws.specs.Reaches.{reaches}
 use Rattle.program_laws.specs.Doings as doing
-use Rattle.program_laws.specs.Doings.{Part, Arrival, no_part, with_acts, with_places, with_copy, copying, located_acts, room_acts, goes_acts, first_acts, next_acts, chunk_of, chained_acts, answered, giving, gives, with_arrival, storing, arriving, takes_in}
+use Rattle.program_laws.specs.Doings.{Part, Arrival, with_acts, with_places, with_copy, located_acts, room_acts, goes_acts, chunk_of, chained_acts, answered, giving, gives, with_arrival, storing, arriving, takes_in}
 use Rattle.program_laws.specs.Claims.{IsStored, places_arrived, IsBeginning, places_of}
 use Rattle.program_laws.proofs.Lists.{length-each_below}
 use Rattle.program_laws.proofs.Accesses.{AreAccesses, IsStore, stored-bytes}
@@ -37,13 +38,8 @@ IsSame t u = (u.code ≡ t.code) × (u.command ≡ t.command)
 same-trans : (t u v : Transfer) → IsSame t u → IsSame u v → IsSame t v
 same-trans t u v a b = (b.0 ∙ a.0, b.1 ∙ a.1)
 
-chained_to-if : (t : Transfer) (walk : Place) (ccw : Ccw) (b : Bool) →
-    IsSame t (if b then record t { walk = walk; fault = Some Program } else record t { walk = walk; moving = data_of walk t.code ccw })
-chained_to-if t walk ccw true = (refl, refl)
-chained_to-if t walk ccw false = (refl, refl)
-
 chained_to-same : (t : Transfer) (walk : Place) (a : Option Advance) → IsSame t (chained_to t walk a)
-chained_to-same t walk (Some (advance.Takes ccw)) = chained_to-if t walk ccw ccw.program_controlled
+chained_to-same t walk (Some (advance.Takes ccw)) = (refl, refl)
 chained_to-same t walk (Some advance.Suspends) = (refl, refl)
 chained_to-same t walk (Some (advance.Stops check)) = (refl, refl)
 chained_to-same t walk None = (refl, refl)
@@ -90,7 +86,7 @@ given_of-same : (t : Transfer) (r : Result (List ℕ) Check) → IsSame t (given
 given_of-same t (Ok bytes) = (refl, refl)
 given_of-same t (Err check) = (refl, refl)
 
-given-if : (t : Transfer) (r : Result (List ℕ) Check) (b : Bool) → IsSame t (if b then record { transfer = record t { offered = 0 }; bytes = [] } else given_of t r).transfer
+given-if : (t : Transfer) (r : Result (List ℕ) Check) (b : Bool) → IsSame t (if b then given_bytes t [] else given_of t r).transfer
 given-if t r true = (refl, refl)
 given-if t r false = given_of-same t r
 
@@ -134,29 +130,6 @@ pub record IsDone (orb : Orb) (p : Part) : Type 0 where
   pub arrived : All IsStored p.arrived
   pub arrives : IsBeginning (places_arrived p.arrived) (places_of orb p.acts)
 
--- what is done, and what is kept of the transfer
-pub record IsAtWork (orb : Orb) (p : Part) (t : Transfer) (d : Bool) : Type 0 where
-  pub tied : Tied orb p.acts p.moved t
-  pub arrived : HasArrived p d
-
-pub done-of : (orb : Orb) (p : Part) (t : Transfer) (d : Bool) → IsAtWork orb p t d → IsDone orb p
-done-of orb p t true k =
-    let none : p.arrived ≡ [] = k.arrived in
-    record {
-      program = k.tied.program;
-      moves = spot-begins orb (reaches orb p.acts) t p.moved k.tied.spot;
-      arrived = subst (λ (xs : List Arrival). All IsStored xs) (sym none) (All-nil IsStored);
-      arrives = subst (λ (xs : List Arrival). IsBeginning (places_arrived xs) (places_of orb p.acts)) (sym none) (places_of orb p.acts, refl);
-    }
-done-of orb p t false k =
-    let same : places_arrived p.arrived ≡ p.moved = k.arrived.1 in
-    record {
-      program = k.tied.program;
-      moves = spot-begins orb (reaches orb p.acts) t p.moved k.tied.spot;
-      arrived = k.arrived.0;
-      arrives = subst (λ (xs : List (Option ℕ)). IsBeginning xs (places_of orb p.acts)) (sym same) (spot-begins orb (reaches orb p.acts) t p.moved k.tied.spot);
-    }
-
 room-left : (t : Transfer) (n : ℕ) → min n (room t.moving) ≤ t.moving.left
 room-left t n =
     let f : min n (room t.moving) ≤ room t.moving = min-le_right n (room t.moving) in
@@ -170,147 +143,177 @@ moved_on-parts : (storage : Contents) (t : Transfer) (n : ℕ) (p : Part) (b : B
 moved_on-parts storage t n p true = (refl, refl)
 moved_on-parts storage t n p false = (refl, refl)
 
-module _ (laws : AreLaws) where
-  moved_on-out : (storage : Contents) (orb : Orb) (p : Part) (t : Transfer) (n : ℕ) → n ≤ t.moving.left → IsAtWork orb p t true →
-      IsAtWork orb (doing.moved_on storage t n p) (moved_on storage t n) true
-  moved_on-out storage orb p t n l k = record {
-    tied = moved_on-tied laws storage orb p t n l k.tied;
-    arrived = (moved_on-parts storage t n p (chains_data (with_moved t n) n)).1 ∙ k.arrived;
-  }
+-- so many commands were sent under earlier numbers
+module _ (earlier : ℕ) where
+  -- what is done, and what is kept of the transfer
+  pub record IsAtWork (orb : Orb) (p : Part) (t : Transfer) (d : Bool) : Type 0 where
+    pub tied : Tied earlier orb p.acts p.moved t
+    pub arrived : HasArrived p d
 
-  -- a Data of a command that takes bytes to the device
-  answer-tied : (orb : Orb) (p : Part) (t : Transfer) (s count : ℕ) → IsAtWork orb p t true → IsAtWork orb p (with_answer t s count) true
-  answer-tied orb p t s count k = record {
-    tied = changed orb p.acts p.moved t (with_answer t s count) refl refl refl refl (λ e. e) (λ e. e) k.tied;
-    arrived = k.arrived;
-  }
+  pub done-of : (orb : Orb) (p : Part) (t : Transfer) (d : Bool) → IsAtWork orb p t d → IsDone orb p
+  done-of orb p t true k =
+      let none : p.arrived ≡ [] = k.arrived in
+      record {
+        program = k.tied.program;
+        moves = spot-begins orb (reaches orb p.acts) t p.moved k.tied.spot;
+        arrived = subst (λ (xs : List Arrival). All IsStored xs) (sym none) (All-nil IsStored);
+        arrives = subst (λ (xs : List Arrival). IsBeginning (places_arrived xs) (places_of orb p.acts)) (sym none) (places_of orb p.acts, refl);
+      }
+  done-of orb p t false k =
+      let same : places_arrived p.arrived ≡ p.moved = k.arrived.1 in
+      record {
+        program = k.tied.program;
+        moves = spot-begins orb (reaches orb p.acts) t p.moved k.tied.spot;
+        arrived = k.arrived.0;
+        arrives = subst (λ (xs : List (Option ℕ)). IsBeginning xs (places_of orb p.acts)) (sym same) (spot-begins orb (reaches orb p.acts) t p.moved k.tied.spot);
+      }
 
-  answer-by : (storage : Contents) (orb : Orb) (p : Part) (t : Transfer) (s count : ℕ) (b : Bool) → IsAtWork orb p t true →
-      IsAtWork orb (if b then doing.moved_on storage (with_answer t s count) (min count (room t.moving)) p else p)
-      (if b then moved_on storage (with_answer t s count) (min count (room t.moving)) else t) true
-  answer-by storage orb p t s count true k = moved_on-out storage orb p (with_answer t s count) (min count (room t.moving)) (room-left t count) (answer-tied orb p t s count k)
-  answer-by storage orb p t s count false k = k
+  module _ (laws : AreLaws) where
+    moved_on-out : (storage : Contents) (orb : Orb) (p : Part) (t : Transfer) (n : ℕ) → n ≤ t.moving.left → IsAtWork orb p t true →
+        IsAtWork orb (doing.moved_on storage t n p) (moved_on storage t n) true
+    moved_on-out storage orb p t n l k = record {
+      tied = moved_on-tied laws earlier storage orb p t n l k.tied;
+      arrived = (moved_on-parts storage t n p (chains_data (with_moved t n) n)).1 ∙ k.arrived;
+    }
 
-  located-work : (storage : Contents) (orb : Orb) (p : Part) (t : Transfer) (d : Bool) → IsAtWork orb p t d →
-      IsAtWork orb (with_acts p (located_acts storage t)) (located storage t) d
-  located-work storage orb p t true k = record { tied = located-tied laws storage orb p.acts p.moved t k.tied; arrived = k.arrived }
-  located-work storage orb p t false k = record { tied = located-tied laws storage orb p.acts p.moved t k.tied; arrived = k.arrived }
-
-  given-by : (storage : Contents) (orb : Orb) (p : Part) (t : Transfer) (r : Result (List ℕ) Check) → IsAtWork orb p t true →
-      IsAtWork orb (with_copy storage t r p) (given_of t r).transfer true
-  given-by storage orb p t (Ok bytes) k = record {
-    tied = changed orb p.acts p.moved t (given_of t (Ok bytes)).transfer refl refl refl refl (λ e. e) (λ e. e) k.tied;
-    arrived = k.arrived;
-  }
-  given-by storage orb p t (Err check) k = record {
-    tied = changed orb p.acts p.moved t (given_of t (Err check)).transfer refl refl refl refl (λ e. absurd (cc e)) (λ e. refl) k.tied;
-    arrived = k.arrived;
-  }
-
-  copy-by : (storage : Contents) (orb : Orb) (p : Part) (t : Transfer) (r : Result (List ℕ) Check) (b : Bool) → IsAtWork orb p t true →
-      IsAtWork orb (if b then p else with_copy storage t r p) (if b then record { transfer = record t { offered = 0 }; bytes = [] } else given_of t r).transfer true
-  copy-by storage orb p t r true k = record {
-    tied = changed orb p.acts p.moved t (record t { offered = 0 }) refl refl refl refl (λ e. e) (λ e. e) k.tied;
-    arrived = k.arrived;
-  }
-  copy-by storage orb p t r false k = given-by storage orb p t r k
-
-  giving-work : (storage : Contents) (orb : Orb) (p : Part) (t : Transfer) → IsAtWork orb p t true → IsAtWork orb (giving storage t p) (next_given storage t).transfer true
-  giving-work storage orb p t k =
-      let u : Transfer = located storage t in
-      copy-by storage orb (with_acts p (located_acts storage t)) u (access.copied storage u.walk.orb.key u.moving) (has_stopped u) (located-work storage orb p t true k)
-
-  pub gives-work : (storage : Contents) (orb : Orb) (p : Part) (t : Transfer) (s count : ℕ) → IsAtWork orb p t true →
-      IsAtWork orb (gives storage t s count p) (next_given storage (absorbed storage t s count)).transfer true
-  gives-work storage orb p t s count k =
-      giving-work storage orb (answered storage t s count p) (absorbed storage t s count) (answer-by storage orb p t s count (s == t.sequence + 1) k)
-
-  -- a Data of a command that brings bytes in
-  module _ (accesses : AreAccesses) where
-    arrival-stored : (storage after : Contents) (t : Transfer) (bytes : List ℕ) → access.stored storage t.walk.orb.key t.moving bytes ≡ Ok after →
-        IsStored (record { former = storage.bytes; chunk = chunk_of after t.moving bytes })
-    arrival-stored storage after t bytes e =
-        let k : IsStore accesses storage after t.moving bytes = stored-bytes accesses storage after t.walk.orb.key t.moving bytes e in
-        record { whole = length-each_below (next_place t.moving) (length bytes); stands = k.stands; others = k.others }
-
-    arrival-by : (storage : Contents) (orb : Orb) (p : Part) (t : Transfer) (bytes : List ℕ) (r : Result Contents Check) → access.stored storage t.walk.orb.key t.moving bytes ≡ r →
-        length bytes ≤ t.moving.left → IsAtWork orb p t false →
-        IsAtWork orb (with_arrival storage t bytes r p) (brought_by storage t (length bytes) r).transfer false
-    arrival-by storage orb p t bytes (Ok after) e l k =
-        let a : Arrival = record { former = storage.bytes; chunk = chunk_of after t.moving bytes } in
-        let q : Part = record p { arrived = a ∷ p.arrived } in
-        let parts : (_ : (doing.moved_on after t (length bytes) q).moved ≡ p.moved ++ each_below (next_place t.moving) (length bytes))
-        × ((doing.moved_on after t (length bytes) q).arrived ≡ a ∷ p.arrived) =
-        moved_on-parts after t (length bytes) q (chains_data (with_moved t (length bytes)) (length bytes)) in
-        record {
-          tied = moved_on-tied laws after orb q t (length bytes) l k.tied;
-          arrived = (
-            subst (λ (xs : List Arrival). All IsStored xs) (sym parts.1) (All-cons IsStored a p.arrived (arrival-stored storage after t bytes e) k.arrived.0),
-            ap places_arrived parts.1 ∙ ap (λ (xs : List (Option ℕ)). xs ++ each_below (next_place t.moving) (length bytes)) k.arrived.1 ∙ sym parts.0,
-          );
-        }
-    arrival-by storage orb p t bytes (Err check) e l k = record {
-      tied = changed orb p.acts p.moved t (record t { fault = Some check }) refl refl refl refl (λ z. absurd (cc z)) (λ z. refl) k.tied;
+    -- a Data of a command that takes bytes to the device
+    answer-tied : (orb : Orb) (p : Part) (t : Transfer) (s count : ℕ) → IsAtWork orb p t true → IsAtWork orb p (with_answer t s count) true
+    answer-tied orb p t s count k = record {
+      tied = changed earlier orb p.acts p.moved t (with_answer t s count) refl refl refl refl (λ e. e) (λ e. e) k.tied;
       arrived = k.arrived;
     }
 
-    store-by : (storage : Contents) (orb : Orb) (p : Part) (t : Transfer) (bytes : List ℕ) (b : Bool) → length bytes ≤ t.moving.left → IsAtWork orb p t false →
-        IsAtWork orb (if b then p else with_arrival storage t bytes (access.stored storage t.walk.orb.key t.moving bytes) p)
-        (if b then record { transfer = t; storage = storage } else brought_by storage t (length bytes) (access.stored storage t.walk.orb.key t.moving bytes)).transfer false
-    store-by storage orb p t bytes true l k = k
-    store-by storage orb p t bytes false l k = arrival-by storage orb p t bytes (access.stored storage t.walk.orb.key t.moving bytes) refl l k
+    answer-by : (storage : Contents) (orb : Orb) (p : Part) (t : Transfer) (s count : ℕ) (b : Bool) → IsAtWork orb p t true →
+        IsAtWork orb (if b then doing.moved_on storage (with_answer t s count) (min count (room t.moving)) p else p)
+        (if b then moved_on storage (with_answer t s count) (min count (room t.moving)) else t) true
+    answer-by storage orb p t s count true k = moved_on-out storage orb p (with_answer t s count) (min count (room t.moving)) (room-left t count) (answer-tied orb p t s count k)
+    answer-by storage orb p t s count false k = k
 
-    fitting-left : (t : Transfer) (bytes : List ℕ) → length (fitting t bytes) ≤ t.moving.left
-    fitting-left t bytes =
-        let e : length (take (room t.moving) bytes) ≡ min (room t.moving) (length bytes) = length-take (room t.moving) bytes in
-        let f : min (room t.moving) (length bytes) ≤ room t.moving = min-le_left (room t.moving) (length bytes) in
-        let g : room t.moving ≤ t.moving.left = min-le_left t.moving.left 256 in
-        omega (arith, e, f, g)
+    located-work : (storage : Contents) (orb : Orb) (p : Part) (t : Transfer) (d : Bool) → IsAtWork orb p t d →
+        IsAtWork orb (with_acts p (located_acts storage t)) (located storage t) d
+    located-work storage orb p t true k = record { tied = located-tied earlier laws storage orb p.acts p.moved t k.tied; arrived = k.arrived }
+    located-work storage orb p t false k = record { tied = located-tied earlier laws storage orb p.acts p.moved t k.tied; arrived = k.arrived }
 
-    bring-by : (storage : Contents) (orb : Orb) (p : Part) (t : Transfer) (s : ℕ) (bytes : List ℕ) (b : Bool) → IsAtWork orb p t false →
-        IsAtWork orb (if b then storing storage (record t { sequence = s }) (fitting t bytes) p else p)
-        (if b then brought_in storage (record t { sequence = s }) (fitting t bytes) else record { transfer = t; storage = storage }).transfer false
-    bring-by storage orb p t s bytes true k =
-        store-by storage orb p (record t { sequence = s }) (fitting t bytes) (is_some t.fault) (fitting-left t bytes)
-        (record { tied = changed orb p.acts p.moved t (record t { sequence = s }) refl refl refl refl (λ e. e) (λ e. e) k.tied; arrived = k.arrived })
-    bring-by storage orb p t s bytes false k = k
+    given-by : (storage : Contents) (orb : Orb) (p : Part) (t : Transfer) (r : Result (List ℕ) Check) → IsAtWork orb p t true →
+        IsAtWork orb (with_copy storage t r p) (given_of t r).transfer true
+    given-by storage orb p t (Ok bytes) k = record {
+      tied = changed earlier orb p.acts p.moved t (given_of t (Ok bytes)).transfer refl refl refl refl (λ e. e) (λ e. e) k.tied;
+      arrived = k.arrived;
+    }
+    given-by storage orb p t (Err check) k = record {
+      tied = changed earlier orb p.acts p.moved t (given_of t (Err check)).transfer refl refl refl refl (λ e. absurd (cc e)) (λ e. refl) k.tied;
+      arrived = k.arrived;
+    }
 
-    pub takes_in-work : (storage : Contents) (orb : Orb) (p : Part) (t : Transfer) (s : ℕ) (bytes : List ℕ) → IsAtWork orb p t false →
-        IsAtWork orb (takes_in storage t s bytes p) (with_room (brought storage t s bytes).storage (brought storage t s bytes).transfer).transfer false
-    takes_in-work storage orb p t s bytes k =
-        located-work (brought storage t s bytes).storage orb (arriving storage t s bytes p) (brought storage t s bytes).transfer false
-        (bring-by storage orb p t s bytes (s == t.sequence + 1) k)
+    copy-by : (storage : Contents) (orb : Orb) (p : Part) (t : Transfer) (r : Result (List ℕ) Check) (b : Bool) → IsAtWork orb p t true →
+        IsAtWork orb (if b then p else with_copy storage t r p) (if b then given_bytes t [] else given_of t r).transfer true
+    copy-by storage orb p t r true k = record {
+      tied = changed earlier orb p.acts p.moved t (record t { offered = 0 }) refl refl refl refl (λ e. e) (λ e. e) k.tied;
+      arrived = k.arrived;
+    }
+    copy-by storage orb p t r false k = given-by storage orb p t r k
 
-  -- a command begins from these acts, or can't
-  abbrev pub WentOn : Contents → Orb → List Act → List Act → ℕ → Result Transfer Check → Type 0
-  WentOn storage orb before acts n (Ok t) =
-      Tied orb acts [] (begun_with_room storage t).transfer × (t.command ≡ n) × ((c : Command) × (commands orb acts ≡ c ∷ commands orb before) × (code c ≡ t.code))
-  WentOn storage orb before acts n (Err check) =
-      IsProgram orb acts × (reaches orb acts ≡ reaches orb before) × ((more : List Command) × (commands orb acts ≡ more ++ commands orb before))
+    giving-work : (storage : Contents) (orb : Orb) (p : Part) (t : Transfer) → IsAtWork orb p t true → IsAtWork orb (giving storage t p) (next_given storage t).transfer true
+    giving-work storage orb p t k =
+        let u : Transfer = located storage t in
+        copy-by storage orb (with_acts p (located_acts storage t)) u (access.copied storage u.walk.orb.key u.moving) (has_stopped u) (located-work storage orb p t true k)
 
-  located-commands : (storage : Contents) (orb : Orb) (acts : List Act) (t : Transfer) (b c : Bool) (w : Result ℕ Check) →
-      commands orb ((if b then [] else (if c then doing.act_of_word w else [])) ++ acts) ≡ commands orb acts
-  located-commands storage orb acts t true c w = refl
-  located-commands storage orb acts t false false w = refl
-  located-commands storage orb acts t false true (Ok word) = refl
-  located-commands storage orb acts t false true (Err check) = refl
+    pub gives-work : (storage : Contents) (orb : Orb) (p : Part) (t : Transfer) (s count : ℕ) → IsAtWork orb p t true →
+        IsAtWork orb (gives storage t s count p) (next_given storage (absorbed storage t s count)).transfer true
+    gives-work storage orb p t s count k =
+        giving-work storage orb (answered storage t s count p) (absorbed storage t s count) (answer-by storage orb p t s count (s == t.sequence + 1) k)
 
-  room-commands : (storage : Contents) (orb : Orb) (acts : List Act) (t : Transfer) (b : Bool) →
-      commands orb ((if b then located_acts storage t else []) ++ acts) ≡ commands orb acts
-  room-commands storage orb acts t true =
-      located-commands storage orb acts t (is_some t.fault) (needs_word t.moving) (access.word_fetched storage t.walk.orb.key t.moving)
-  room-commands storage orb acts t false = refl
+    -- a Data of a command that brings bytes in
+    module _ (accesses : AreAccesses) where
+      arrival-stored : (storage after : Contents) (t : Transfer) (bytes : List ℕ) → access.stored storage t.walk.orb.key t.moving bytes ≡ Ok after →
+          IsStored (record { former = storage.bytes; chunk = chunk_of after t.moving bytes })
+      arrival-stored storage after t bytes e =
+          let k : IsStore accesses storage after t.moving bytes = stored-bytes accesses storage after t.walk.orb.key t.moving bytes e in
+          record { whole = length-each_below (next_place t.moving) (length bytes); stands = k.stands; others = k.others }
 
-  went-by : (storage : Contents) (orb : Orb) (before acts : List Act) (n : ℕ) (came : Result Transfer Check) → Begins laws orb before acts n came →
-      WentOn storage orb before (room_acts storage came ++ acts) n came
-  went-by storage orb before acts n (Ok t) k =
-      (room-tied laws storage orb acts t k.0, k.1, (k.2.0, room-commands storage orb acts t (brings (class_of t.code)) ∙ k.2.1, k.2.2))
-  went-by storage orb before acts n (Err check) k = k
+      arrival-by : (storage : Contents) (orb : Orb) (p : Part) (t : Transfer) (bytes : List ℕ) (r : Result Contents Check) → access.stored storage t.walk.orb.key t.moving bytes ≡ r →
+          length bytes ≤ t.moving.left → IsAtWork orb p t false →
+          IsAtWork orb (with_arrival storage t bytes r p) (brought_by storage t (length bytes) r).transfer false
+      arrival-by storage orb p t bytes (Ok after) e l k =
+          let a : Arrival = record { former = storage.bytes; chunk = chunk_of after t.moving bytes } in
+          let q : Part = record p { arrived = a ∷ p.arrived } in
+          let parts : (_ : (doing.moved_on after t (length bytes) q).moved ≡ p.moved ++ each_below (next_place t.moving) (length bytes))
+          × ((doing.moved_on after t (length bytes) q).arrived ≡ a ∷ p.arrived) =
+          moved_on-parts after t (length bytes) q (chains_data (with_moved t (length bytes)) (length bytes)) in
+          record {
+            tied = moved_on-tied laws earlier after orb q t (length bytes) l k.tied;
+            arrived = (
+              subst (λ (xs : List Arrival). All IsStored xs) (sym parts.1) (All-cons IsStored a p.arrived (arrival-stored storage after t bytes e) k.arrived.0),
+              ap places_arrived parts.1 ∙ ap (λ (xs : List (Option ℕ)). xs ++ each_below (next_place t.moving) (length bytes)) k.arrived.1 ∙ sym parts.0,
+            );
+          }
+      arrival-by storage orb p t bytes (Err check) e l k = record {
+        tied = changed earlier orb p.acts p.moved t (record t { fault = Some check }) refl refl refl refl (λ z. absurd (cc z)) (λ z. refl) k.tied;
+        arrived = k.arrived;
+      }
 
-  pub goes-on : (storage : Contents) (orb : Orb) (before : List Act) (n : ℕ) → (role_of orb before).chained ≡ false → length (commands orb before) + 1 ≡ n →
-      IsProgram orb before → WentOn storage orb before (goes_acts storage n (place orb before) ++ before) n (goes_to storage n (place orb before)).came
-  goes-on storage orb before n c l p =
-      let old : Place = place orb before in
-      let came : Result Transfer Check = (goes_to storage n old).came in
-      subst (λ (xs : List Act). WentOn storage orb before xs n came) (sym (append_assoc (room_acts storage came) (advance_acts storage old) before))
-      (went-by storage orb before (advance_acts storage old ++ before) n came (goes-begins laws storage orb before n c l p))
+      store-by : (storage : Contents) (orb : Orb) (p : Part) (t : Transfer) (bytes : List ℕ) (b : Bool) → length bytes ≤ t.moving.left → IsAtWork orb p t false →
+          IsAtWork orb (if b then p else with_arrival storage t bytes (access.stored storage t.walk.orb.key t.moving bytes) p)
+          (if b then record { transfer = t; storage = storage } else brought_by storage t (length bytes) (access.stored storage t.walk.orb.key t.moving bytes)).transfer false
+      store-by storage orb p t bytes true l k = k
+      store-by storage orb p t bytes false l k = arrival-by storage orb p t bytes (access.stored storage t.walk.orb.key t.moving bytes) refl l k
+
+      fitting-left : (t : Transfer) (bytes : List ℕ) → length (fitting t bytes) ≤ t.moving.left
+      fitting-left t bytes =
+          let e : length (take (room t.moving) bytes) ≡ min (room t.moving) (length bytes) = length-take (room t.moving) bytes in
+          let f : min (room t.moving) (length bytes) ≤ room t.moving = min-le_left (room t.moving) (length bytes) in
+          let g : room t.moving ≤ t.moving.left = min-le_left t.moving.left 256 in
+          omega (arith, e, f, g)
+
+      bring-by : (storage : Contents) (orb : Orb) (p : Part) (t : Transfer) (s : ℕ) (bytes : List ℕ) (b : Bool) → IsAtWork orb p t false →
+          IsAtWork orb (if b then storing storage (record t { sequence = s }) (fitting t bytes) p else p)
+          (if b then brought_in storage (record t { sequence = s }) (fitting t bytes) else record { transfer = t; storage = storage }).transfer false
+      bring-by storage orb p t s bytes true k =
+          store-by storage orb p (record t { sequence = s }) (fitting t bytes) (is_some t.fault) (fitting-left t bytes)
+          (record { tied = changed earlier orb p.acts p.moved t (record t { sequence = s }) refl refl refl refl (λ e. e) (λ e. e) k.tied; arrived = k.arrived })
+      bring-by storage orb p t s bytes false k = k
+
+      pub takes_in-work : (storage : Contents) (orb : Orb) (p : Part) (t : Transfer) (s : ℕ) (bytes : List ℕ) → IsAtWork orb p t false →
+          IsAtWork orb (takes_in storage t s bytes p) (with_room (brought storage t s bytes).storage (brought storage t s bytes).transfer).transfer false
+      takes_in-work storage orb p t s bytes k =
+          located-work (brought storage t s bytes).storage orb (arriving storage t s bytes p) (brought storage t s bytes).transfer false
+          (bring-by storage orb p t s bytes (s == t.sequence + 1) k)
+
+    -- a command begins from these acts, or can't, or the program is suspended
+    abbrev pub WentOn : Contents → Orb → List Act → List Act → ℕ → Place → Came → Type 0
+    WentOn storage orb before acts n walk (came.Begins t) =
+        Tied earlier orb acts [] (begun_with_room storage t).transfer × (t.command ≡ n) × ((c : Command) × (commands orb acts ≡ c ∷ commands orb before) × (code c ≡ t.code))
+    WentOn storage orb before acts n walk came.Suspends =
+        IsProgram orb acts × (reaches orb acts ≡ reaches orb before) × (commands orb acts ≡ commands orb before) × ((role_of orb acts).chained ≡ false) × (walk ≡ place orb acts)
+    WentOn storage orb before acts n walk (came.Stops check) =
+        IsProgram orb acts × (reaches orb acts ≡ reaches orb before) × (commands orb acts ≡ commands orb before)
+
+    located-commands : (storage : Contents) (orb : Orb) (acts : List Act) (t : Transfer) (b c : Bool) (w : Result ℕ Check) →
+        commands orb ((if b then [] else (if c then doing.act_of_word w else [])) ++ acts) ≡ commands orb acts
+    located-commands storage orb acts t true c w = refl
+    located-commands storage orb acts t false false w = refl
+    located-commands storage orb acts t false true (Ok word) = refl
+    located-commands storage orb acts t false true (Err check) = refl
+
+    room-commands : (storage : Contents) (orb : Orb) (acts : List Act) (t : Transfer) (b : Bool) →
+        commands orb ((if b then located_acts storage t else []) ++ acts) ≡ commands orb acts
+    room-commands storage orb acts t true =
+        located-commands storage orb acts t (is_some t.fault) (needs_word t.moving) (access.word_fetched storage t.walk.orb.key t.moving)
+    room-commands storage orb acts t false = refl
+
+    went-by : (storage : Contents) (orb : Orb) (before acts : List Act) (n : ℕ) (walk : Place) (c : Came) → walk ≡ place orb acts → Begins earlier laws orb before acts n c →
+        WentOn storage orb before (room_acts storage c ++ acts) n walk c
+    went-by storage orb before acts n walk (came.Begins t) w k =
+        (room-tied earlier laws storage orb acts t k.0, k.1, (k.2.0, room-commands storage orb acts t (brings (class_of t.code)) ∙ k.2.1, k.2.2))
+    went-by storage orb before acts n walk came.Suspends w k = (k.0, k.1, k.2, k.3, w)
+    went-by storage orb before acts n walk (came.Stops check) w k = k
+
+    pub goes-on : (storage : Contents) (orb : Orb) (before : List Act) (n : ℕ) → (role_of orb before).chained ≡ false → length (commands orb before) + 1 ≡ earlier + n →
+        IsProgram orb before →
+        WentOn storage orb before (goes_acts storage n (place orb before) ++ before) n (goes_to storage n (place orb before)).walk (goes_to storage n (place orb before)).came
+    goes-on storage orb before n c l p =
+        let old : Place = place orb before in
+        let next : Beginning = goes_to storage n old in
+        subst (λ (xs : List Act). WentOn storage orb before xs n next.walk next.came) (sym (append_assoc (room_acts storage next.came) (advance_acts storage old) before))
+        (went-by storage orb before (advance_acts storage old ++ before) n next.walk next.came (laws.leads orb before (advance_acts storage old))
+        (goes-begins earlier laws storage orb before n c l p))

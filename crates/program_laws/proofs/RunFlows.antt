@@ -1,6 +1,6 @@
 -- After each run of a lawful set-up what a device absorbed for its command are the first bytes of chunks that were copied
 -- for it, side by side from the first place on.
-use Rattle.std.proofs.Common.{◌≡◌, refl, sym, ap, subst, ℕ, ◌+◌, Bool, true, false, ◌==◌, length, Option, None, Some, Result, Ok, List, arith}
+use Rattle.std.proofs.Common.{◌≡◌, refl, sym, ap, subst, ℕ, ◌+◌, Bool, true, false, ◌==◌, length, Option, None, Some, Result, Ok, List, inl, inr, arith}
 use Rattle.std.specs.Prelude.{if◌then◌else◌, slice_get, IfOk}
 use Rattle.std.proofs.lemmas.Bool.{eq-eqb, eqb-true}
 use Rattle.storage_keys.specs.Storage.{Contents}
@@ -10,6 +10,8 @@ use Rattle.channel_config.specs.declared.parts.SubchannelSetup.{SubchannelSetup}
 use Rattle.chan_model.specs.declared.fault.Fault.{Fault}
 use Rattle.chan_model.specs.declared.names.Side.{Side}
 use Rattle.chan_model.specs.declared.reply.Entry.{Entry}
+use Rattle.chan_model.specs.declared.signal.Down.{Down}
+use Rattle.chan_model.specs.declared.signal.Up.{Up}
 use Rattle.chan_model.specs.declared.unit_state.UnitState.{UnitState}
 use Rattle.chan_model.specs.UnitTable.{idle_unit}
 use Rattle.chan_model.specs.UnitReports.{unit_reports}
@@ -17,21 +19,25 @@ use Rattle.wires.specs.Queues.{no_queues}
 use Rattle.machine_model.specs.declared.state.Begun.{Begun}
 use Rattle.machine_model.specs.declared.state.Subchannel.{Subchannel}
 use Rattle.machine_model.specs.declared.state.SubchannelState.{SubchannelState}
-use Rattle.machine_model.specs.Choosing.{is_any, allowed_paths, chosen}
-use Rattle.machine_model.specs.Instructions.{started, tested}
+use Rattle.machine_model.specs.Choosing.{chosen}
+use Rattle.machine_model.specs.Functions.{resumed, halted, cleared, cancelled, tested_wholly}
+use Rattle.machine_model.specs.Instructions.{started}
 use Rattle.machine_model.specs.State.{State, opening_of, opened}
 use Rattle.machine_model.specs.Steps.{with_state, SubTurn, UpTurn, DownTurn, choose_sub, up_sub, Run, Opened, Stepped}
 use Rattle.program_laws.specs.Stories.{Story, chosen_at, met_at, taken_at, reported_at, story, story_after}
 use Rattle.program_laws.specs.Claims.{AbsorbsInOrder, part_of}
-use Rattle.program_laws.proofs.Turns.{Happening, Stays, Starts_with_orb, Is_tested, Is_modified, Is_chosen, Meets, Sinks, Is_reported, Other_sinks, Other_reported, step-happens}
+use Rattle.program_laws.proofs.Turns.{Happening, Stays, Starts_with_orb, Is_tested, Is_resumed, Is_halted, Is_cleared, Is_cancelled, Is_modified, Is_chosen, Meets, Sinks, Is_reported, Other_sinks, Other_reported, step-happens}
 use Rattle.program_laws.proofs.Ties.{AreLaws}
 use Rattle.program_laws.proofs.Accesses.{AreAccesses}
 use Rattle.program_laws.proofs.Holds.{HasWork, HeldBy}
 use Rattle.program_laws.proofs.UnitHands.{IsCalm}
-use Rattle.program_laws.proofs.LinkOrders.{AtUnit, IsLinked, chosen-waits, held-needs}
+use Rattle.program_laws.proofs.LinkNeeds.{held-needs}
+use Rattle.program_laws.proofs.LinkChosen.{chosen-fits}
+use Rattle.program_laws.proofs.LinkOrders.{AtUnit, IsLinked}
+use Rattle.program_laws.proofs.Caused.{tested-begun, halted-begun}
 use Rattle.program_laws.proofs.LinkWires.{HandClosed, IsGiving, IsTelling, IsClosed, IsWired}
-use Rattle.program_laws.proofs.LinkModes.{AnyGive, AnyData, ModeOf, Waits, Over, Reads, Writes, absorbs-none}
-use Rattle.program_laws.proofs.LinkMeets.{flow-absorbs}
+use Rattle.program_laws.proofs.LinkModes.{AnyGive, AnyData, Mode, Waits, Over, Reads, Writes, absorbs-none}
+use Rattle.program_laws.proofs.LinkCourses.{Course, CourseOf, Follows, Cut, over-course, flow-absorbs}
 use Rattle.program_laws.proofs.LinkFlows.{AtSub, choose-flows, up-flows, down-flows, report-flows, calm-flows, other-down, other-told}
 use Rattle.program_laws.proofs.RunSides.{map-get, run-one-sided}
 use Rattle.program_laws.proofs.RunOrders.{AllNeeds, on-none, unit-there, idle-there, run-linked}
@@ -48,18 +54,31 @@ flows-as side new x k m u v a b c d l =
     (subst (λ (y : Option UnitState). Flows side x k y) (sym d) l)))
 
 chosen-flows : (sub : Subchannel) (choice : Option ℕ) (k : Option Story) (u : Option UnitState) (t : SubTurn) → choose_sub sub (chosen sub choice) ≡ Ok t → HeldBy sub.state k →
-    HeldBy t.sub.state (chosen_at (Some sub) t.reply k) → AtUnit (IsLinked sub.setup.side sub.wires.down k) u → Flows sub.setup.side sub k u →
+    HeldBy t.sub.state (chosen_at (Some sub) t.reply k) → AtUnit (IsLinked sub.setup.side sub.state.drawn sub.wires.down k) u → Flows sub.setup.side sub k u →
     Flows sub.setup.side t.sub (chosen_at (Some sub) t.reply k) u
 chosen-flows sub choice k None t e h i l a = absurd l
 chosen-flows sub choice k (Some u) t e h i l a =
     (subst (λ (r : Result SubTurn Fault). IfOk r (λ t. HeldBy t.sub.state (chosen_at (Some sub) t.reply k) → AtSub sub.setup.side t.sub (chosen_at (Some sub) t.reply k) u)) e
-    (choose-flows sub (chosen sub choice) k u (chosen-waits sub.state.hold.phase sub.state.waiting (is_any (allowed_paths sub)) choice) h l a)) i
+    (choose-flows sub (chosen sub choice) k u (chosen-fits sub choice) h l a)) i
 
 -- a state with the same program at work
 state-flows : (sub : Subchannel) (x : SubchannelState) (k : Option Story) (u : Option UnitState) → x.begun ≡ sub.state.begun → Flows sub.setup.side sub k u →
     Flows sub.setup.side (with_state sub x) k u
 state-flows sub x k u e a =
-    subst (λ (b : Option Begun). AtUnit (λ v. ModeOf sub.setup.side b k sub.wires.down sub.wires.up v) u) (sym e) a
+    subst (λ (b : Option Begun). AtUnit (λ v. CourseOf sub.setup.side b k sub.wires.down sub.wires.up v) u) (sym e) a
+
+over-flows : (sub : Subchannel) (x : SubchannelState) (k : Option Story) (u : Option UnitState) → HeldBy sub.state k → x.begun ≡ None → Flows sub.setup.side sub k u →
+    Flows sub.setup.side (with_state sub x) k u
+over-flows sub x k None h e a = absurd a
+over-flows sub x k (Some u) h e a =
+    subst (λ (b : Option Begun). CourseOf sub.setup.side b k sub.wires.down sub.wires.up u) (sym e) (over-course sub.setup.side sub.state k sub.wires.down sub.wires.up u h a)
+
+tested-flows : (sub : Subchannel) (k : Option Story) (u : Option UnitState) → HeldBy sub.state k → Flows sub.setup.side sub k u → Flows sub.setup.side (with_state sub (tested_wholly sub.state)) k u
+tested-flows sub k u h a =
+    elim (tested-begun sub.state) [
+      | inl e ↦ state-flows sub (tested_wholly sub.state) k u e a
+      | inr e ↦ over-flows sub (tested_wholly sub.state) k u h e a
+    ]
 
 module _ (laws : AreLaws) (accesses : AreAccesses) where
   met-flows : (storage : Contents) (sub : Subchannel) (path : ℕ) (k : Option Story) (u : Option UnitState) (t : UpTurn) → up_sub storage sub path ≡ Ok t → HeldBy sub.state k →
@@ -69,14 +88,22 @@ module _ (laws : AreLaws) (accesses : AreAccesses) where
       subst (λ (r : Result UpTurn Fault). IfOk r (λ t. AtSub sub.setup.side t.sub (met_at storage (Some sub) path k) u)) e (up-flows laws accesses storage sub path k u h a)
 
   happens-flows : (storage : Contents) (old new : Subchannel) (u v : Option UnitState) (f : Option Story → Option Story) → Happening storage old new u v f → new.setup ≡ old.setup →
-      (k : Option Story) → HeldBy old.state k → HeldBy new.state (f k) → AtUnit (IsLinked old.setup.side old.wires.down k) u → Flows old.setup.side old k u →
+      (k : Option Story) → HeldBy old.state k → HeldBy new.state (f k) → AtUnit (IsLinked old.setup.side old.state.drawn old.wires.down k) u → Flows old.setup.side old k u →
       Flows new.setup.side new (f k) v
   happens-flows storage old new u v f (Stays e w s) i k n m l a = flows-as old.setup.side new old k (f k) u v (ap (λ (x : SubchannelSetup). x.side) i) e (s k) w a
   happens-flows storage old new u v f (Starts_with_orb orb e w s) i k n m l a =
       flows-as old.setup.side new (with_state old (started old.state orb)) k (f k) u v (ap (λ (x : SubchannelSetup). x.side) i) e (s k) w
       (state-flows old (started old.state orb) k u refl a)
   happens-flows storage old new u v f (Is_tested e w s) i k n m l a =
-      flows-as old.setup.side new (with_state old (tested old.state)) k (f k) u v (ap (λ (x : SubchannelSetup). x.side) i) e (s k) w (state-flows old (tested old.state) k u refl a)
+      flows-as old.setup.side new (with_state old (tested_wholly old.state)) k (f k) u v (ap (λ (x : SubchannelSetup). x.side) i) e (s k) w (tested-flows old k u n a)
+  happens-flows storage old new u v f (Is_resumed e w s) i k n m l a =
+      flows-as old.setup.side new (with_state old (resumed old.state)) k (f k) u v (ap (λ (x : SubchannelSetup). x.side) i) e (s k) w (state-flows old (resumed old.state) k u refl a)
+  happens-flows storage old new u v f (Is_halted e w s) i k n m l a =
+      flows-as old.setup.side new (with_state old (halted old.state)) k (f k) u v (ap (λ (x : SubchannelSetup). x.side) i) e (s k) w (state-flows old (halted old.state) k u (halted-begun old.state) a)
+  happens-flows storage old new u v f (Is_cleared e w s) i k n m l a =
+      flows-as old.setup.side new (with_state old (cleared old.state)) k (f k) u v (ap (λ (x : SubchannelSetup). x.side) i) e (s k) w (over-flows old (cleared old.state) k u n refl a)
+  happens-flows storage old new u v f (Is_cancelled e w s) i k n m l a =
+      flows-as old.setup.side new (with_state old (cancelled old.state)) k (f k) u v (ap (λ (x : SubchannelSetup). x.side) i) e (s k) w (state-flows old (cancelled old.state) k u refl a)
   happens-flows storage old new u v f (Is_modified pmcw e w s) i k n m l a =
       flows-as old.setup.side new (with_state old (record old.state { pmcw = pmcw })) k (f k) u v (ap (λ (x : SubchannelSetup). x.side) i) e (s k) w
       (state-flows old (record old.state { pmcw = pmcw }) k u refl a)
@@ -89,11 +116,11 @@ module _ (laws : AreLaws) (accesses : AreAccesses) where
   happens-flows storage old new u v f (Sinks path x t is c e w s) i k n m l a =
       flows-as old.setup.side new t.sub (taken_at t.reply k) (f k) (Some t.«unit») v (ap (λ (x : SubchannelSetup). x.side) i) e (s k) w
       (subst (λ (r : Result DownTurn Fault). IfOk r (λ t. AtSub old.setup.side t.sub (taken_at t.reply k) t.«unit»)) c
-      (down-flows old path x k n (subst (AtUnit (IsLinked old.setup.side old.wires.down k)) is l) (subst (Flows old.setup.side old k) is a)))
+      (down-flows old path x k n (subst (AtUnit (IsLinked old.setup.side old.state.drawn old.wires.down k)) is l) (subst (Flows old.setup.side old k) is a)))
   happens-flows storage old new u v f (Is_reported report x t is same c e w s) i k n m l a =
       flows-as old.setup.side new t.sub (reported_at (Some x) report k) (f k) (Some t.«unit») v (ap (λ (x : SubchannelSetup). x.side) i) e (s k) w
       (subst (λ (r : Result DownTurn Fault). IfOk r (λ t. AtSub old.setup.side t.sub (reported_at (Some x) report k) t.«unit»)) c
-      (report-flows old x report k (unit_reports x report) refl same (subst (AtUnit (IsLinked old.setup.side old.wires.down k)) is l) (subst (Flows old.setup.side old k) is a)))
+      (report-flows old x report k (unit_reports x report) refl same (subst (AtUnit (IsLinked old.setup.side old.state.drawn old.wires.down k)) is l) (subst (Flows old.setup.side old k) is a)))
   happens-flows storage old new u v f (Other_sinks other path x t apart is c e w s) i k n m l a =
       flows-as old.setup.side new old k (f k) (Some t.«unit») v (ap (λ (x : SubchannelSetup). x.side) i) e (s k) w
       (calm-flows old.setup.side old k x t.«unit»
@@ -154,22 +181,27 @@ module _ (laws : AreLaws) (accesses : AreAccesses) where
       by true f = absurd (let g : n ≡ m = eqb-true n m f in omega (arith, e, g))
       by false f = refl
 
-  mode-absorbs : (storage : Contents) (sub : Subchannel) (k : Story) (u : UnitState) → HeldBy sub.state (Some k) → AtSub sub.setup.side sub (Some k) u → AbsorbsInOrder k.orb (part_of k) k.absorbed
-  mode-absorbs storage sub k u h (Waits b e n q y a w) = part-before k (length k.taken == k.sent) (not-same (length k.taken) k.sent n) a
-  mode-absorbs storage sub k u h (Over e n z a w) = part-now k (length k.taken == k.sent) (eq-eqb (length k.taken) k.sent n) a
-  mode-absorbs storage sub k u h (Reads b e n o z w) =
+  mode-absorbs : (side : Side) (begun : Option Begun) (k : Story) (downs : List (List Down)) (ups : List (List Up)) (u : UnitState) → HasWork begun k → Mode side begun k downs ups u →
+      AbsorbsInOrder k.orb (part_of k) k.absorbed
+  mode-absorbs side begun k downs ups u h (Waits b e n q y a w) = part-before k (length k.taken == k.sent) (not-same (length k.taken) k.sent n) a
+  mode-absorbs side begun k downs ups u h (Over e n z a w) = part-now k (length k.taken == k.sent) (eq-eqb (length k.taken) k.sent n) a
+  mode-absorbs side begun k downs ups u h (Reads b e n o z w) =
       part-now k (length k.taken == k.sent) (eq-eqb (length k.taken) k.sent n) (absorbs-none k.orb k.now k.absorbed z)
-  mode-absorbs storage sub k u h (Writes b e n o lead f w) =
-      let work : HasWork (Some b) k = subst (λ (x : Option Begun). HasWork x k) e h.work in
-      part-now k (length k.taken == k.sent) (eq-eqb (length k.taken) k.sent n)
-      (flow-absorbs laws accesses storage sub.setup.side sub.state k sub.wires.down sub.wires.up u 0 h (Writes b e n o lead f w) b.transfer lead work.0.tied f)
+  mode-absorbs side begun k downs ups u h (Writes b e n o lead f w) =
+      let work : HasWork (Some b) k = subst (λ (x : Option Begun). HasWork x k) e h in
+      part-now k (length k.taken == k.sent) (eq-eqb (length k.taken) k.sent n) (flow-absorbs laws k b.transfer lead work.0.tied f)
 
-  unit-absorbs : (storage : Contents) (sub : Subchannel) (k : Story) (u : Option UnitState) → HeldBy sub.state (Some k) → Flows sub.setup.side sub (Some k) u → AbsorbsInOrder k.orb (part_of k) k.absorbed
-  unit-absorbs storage sub k None h a = absurd a
-  unit-absorbs storage sub k (Some u) h a = mode-absorbs storage sub k u h a
+  course-absorbs : (side : Side) (begun : Option Begun) (k : Story) (downs : List (List Down)) (ups : List (List Up)) (u : UnitState) → HasWork begun k → Course side begun k downs ups u →
+      AbsorbsInOrder k.orb (part_of k) k.absorbed
+  course-absorbs side begun k downs ups u h (Follows m) = mode-absorbs side begun k downs ups u h m
+  course-absorbs side begun k downs ups u h (Cut e b w m) = mode-absorbs side (Some b) k downs ups u w m
+
+  unit-absorbs : (sub : Subchannel) (k : Story) (u : Option UnitState) → HeldBy sub.state (Some k) → Flows sub.setup.side sub (Some k) u → AbsorbsInOrder k.orb (part_of k) k.absorbed
+  unit-absorbs sub k None h a = absurd a
+  unit-absorbs sub k (Some u) h a = course-absorbs sub.setup.side sub.state.begun k sub.wires.down sub.wires.up u h.work a
 
   pub run-absorbs : (setup : Setup) → IsLawful setup → AllHeld setup → (h : List Entry) (s : State) (run : Run (opening_of setup) h s) (place : ℕ) (sub : Subchannel) (k : Story) →
       slice_get s.subs place ≡ Some sub → story place (opening_of setup) h s run ≡ Some k → AbsorbsInOrder k.orb (part_of k) k.absorbed
   run-absorbs setup lawful held h s run place sub k at e =
-      unit-absorbs s.storage sub k (slice_get s.units sub.setup.«unit») (subst (λ (x : Option Story). HeldBy sub.state x) e (held h s run place sub at))
+      unit-absorbs sub k (slice_get s.units sub.setup.«unit») (subst (λ (x : Option Story). HeldBy sub.state x) e (held h s run place sub at))
       (subst (λ (x : Option Story). Flows sub.setup.side sub x (slice_get s.units sub.setup.«unit»)) e (run-flows setup lawful held h s run place sub at))

@@ -1,7 +1,7 @@
 -- After each run of a lawful set-up the commands that a device took are those of the program, in order.
 use Rattle.std.proofs.Common.{◌≡◌, refl, sym, ◌∙◌, ap, subst, ℕ, ◌<◌, zero, suc, Option, None, Some, List, [], ◌∷◌, length, map, arith}
 use Rattle.std.specs.Prelude.{slice_get, option_map, replicate, reverse, All}
-use Rattle.std.proofs.lemmas.List.{reverse-append}
+use Rattle.std.proofs.lemmas.List.{reverse-append, reverse-reverse}
 use Rattle.std.proofs.lemmas.List.Elements.{All-nil}
 use Rattle.std.proofs.lemmas.Option.{slice_get-map, slice_get_within, get_or_from_slice_get}
 use Rattle.chan_model.specs.declared.names.Side.{Side}
@@ -19,10 +19,11 @@ use Rattle.machine_model.specs.declared.state.Subchannel.{Subchannel}
 use Rattle.machine_model.specs.State.{State, opening_of, opened, idle_of}
 use Rattle.machine_model.specs.Steps.{Run, Opened, Stepped}
 use Rattle.program_laws.specs.Stories.{Story, story, story_after}
-use Rattle.program_laws.specs.Claims.{TakesInOrder}
+use Rattle.program_laws.specs.Claims.{codes, TakesInOrder}
 use Rattle.program_laws.proofs.Turns.{step-happens}
 use Rattle.program_laws.proofs.UnitOrders.{IsDown, AreOn, IsOrdered}
-use Rattle.program_laws.proofs.LinkOrders.{Needs, IsLinked, AtUnit, happens-linked}
+use Rattle.program_laws.proofs.LinkNeeds.{Needs}
+use Rattle.program_laws.proofs.LinkOrders.{IsLinked, AtUnit, happens-linked}
 use Rattle.program_laws.proofs.RunSides.{map-get, run-one-sided}
 
 -- what is to be known of each subchannel after each run
@@ -39,20 +40,20 @@ no-signal (suc n) (suc p) = no-signal n p
 pub on-none : {A : Type 0} (P : A → Type 0) (n : ℕ) → AreOn P (replicate n [])
 on-none {A} P n p = subst (λ (xs : List A). All P xs) (sym (no-signal n p)) (All-nil P)
 
-opens-ordered : (side : Side) → IsOrdered side 0 0 [] [] no_queues.down idle_unit
+opens-ordered : (side : Side) → IsOrdered side 0 0 0 [] [] no_queues.down idle_unit
 opens-ordered First = record {
   later = [];
   order = refl;
   most = omega arith;
-  downs = on-none (IsDown 0 0 []) 8;
-  kept = record { fresh = refl; floor = omega arith; new = λ l. refl; owned = λ t e. absurd (cc e); last = λ e. absurd (cc e) };
+  downs = on-none (IsDown 0 0 0 []) 8;
+  kept = record { fresh = refl; floor = omega arith; new = λ l. refl; owned = λ t e. absurd (cc e); named = λ t e. absurd (cc e); last = λ e. absurd (cc e) };
 }
 opens-ordered Second = record {
   later = [];
   order = refl;
   most = omega arith;
-  downs = on-none (IsDown 0 0 []) 8;
-  kept = record { fresh = refl; floor = omega arith; new = λ l. refl; owned = λ t e. absurd (cc e); last = λ e. absurd (cc e) };
+  downs = on-none (IsDown 0 0 0 []) 8;
+  kept = record { fresh = refl; floor = omega arith; new = λ l. refl; owned = λ t e. absurd (cc e); named = λ t e. absurd (cc e); last = λ e. absurd (cc e) };
 }
 
 has-element : {A : Type 0} (xs : List A) (i : ℕ) → i < length xs → (x : A) × (slice_get xs i ≡ Some x)
@@ -72,30 +73,31 @@ pub idle-there : (kinds : List UnitKind) (i : ℕ) (kind : UnitKind) → slice_g
 idle-there kinds i kind e = slice_get-map idle_of kinds i ∙ ap (λ (o : Option UnitKind). option_map idle_of o) e
 
 opens-linked : (setup : Setup) → IsLawful setup → (place : ℕ) (sub : Subchannel) → slice_get (map opened setup.subchannels) place ≡ Some sub →
-    AtUnit (IsLinked sub.setup.side sub.wires.down None) (slice_get (map idle_of setup.units) sub.setup.«unit»)
+    AtUnit (IsLinked sub.setup.side sub.state.drawn sub.wires.down None) (slice_get (map idle_of setup.units) sub.setup.«unit»)
 opens-linked setup lawful place sub e =
     let a : (s : SubchannelSetup) × (slice_get setup.subchannels place ≡ Some s) × (opened s ≡ sub) = map-get opened setup.subchannels place sub e in
     let kind : (kind : UnitKind) × (slice_get setup.units a.0.«unit» ≡ Some kind) = unit-there setup lawful place a.0 a.1 in
-    subst (λ (x : Subchannel). AtUnit (IsLinked x.setup.side x.wires.down None) (slice_get (map idle_of setup.units) x.setup.«unit»)) a.2
-    (subst (AtUnit (IsLinked a.0.side no_queues.down None)) (sym (idle-there setup.units a.0.«unit» kind.0 kind.1)) (opens-ordered a.0.side))
+    subst (λ (x : Subchannel). AtUnit (IsLinked x.setup.side x.state.drawn x.wires.down None) (slice_get (map idle_of setup.units) x.setup.«unit»)) a.2
+    (subst (AtUnit (IsLinked a.0.side 0 no_queues.down None)) (sym (idle-there setup.units a.0.«unit» kind.0 kind.1)) (opens-ordered a.0.side))
 
 -- after a run
 pub run-linked : (setup : Setup) → IsLawful setup → AllNeeds setup → (h : List Entry) (s : State) (run : Run (opening_of setup) h s) (place : ℕ) (sub : Subchannel) →
-    slice_get s.subs place ≡ Some sub → AtUnit (IsLinked sub.setup.side sub.wires.down (story place (opening_of setup) h s run)) (slice_get s.units sub.setup.«unit»)
+    slice_get s.subs place ≡ Some sub → AtUnit (IsLinked sub.setup.side sub.state.drawn sub.wires.down (story place (opening_of setup) h s run)) (slice_get s.units sub.setup.«unit»)
 run-linked setup lawful needs _ _ Opened place sub e = opens-linked setup lawful place sub e
 run-linked setup lawful needs _ _ (Stepped h old e r new run step) place sub at =
     let a = step-happens old (run-one-sided setup lawful h old run) place e r new step sub at in
-    subst (λ (x : SubchannelSetup). AtUnit (IsLinked sub.setup.side sub.wires.down (story_after place old e r (story place (opening_of setup) h old run))) (slice_get new.units x.«unit»)) (sym a.2)
+    subst (λ (x : SubchannelSetup). AtUnit (IsLinked sub.setup.side sub.state.drawn sub.wires.down (story_after place old e r (story place (opening_of setup) h old run))) (slice_get new.units x.«unit»)) (sym a.2)
     (happens-linked old.storage a.0 sub (slice_get old.units a.0.setup.«unit») (slice_get new.units a.0.setup.«unit») (story_after place old e r) a.3 a.2
     (story place (opening_of setup) h old run) (needs h old run place a.0 a.1) (needs _ new (Stepped h old e r new run step) place sub at)
     (run-linked setup lawful needs h old run place a.0 a.1))
 
-linked-takes : (side : Side) (wires : List (List Down)) (k : Story) (u : Option UnitState) → AtUnit (IsLinked side wires (Some k)) u → TakesInOrder k
-linked-takes side wires k None l = absurd l
-linked-takes side wires k (Some u) l = (reverse l.later, sym (reverse-append l.later k.taken) ∙ ap reverse (sym l.order))
+linked-takes : (side : Side) (drawn : ℕ) (wires : List (List Down)) (k : Story) (u : Option UnitState) → AtUnit (IsLinked side drawn wires (Some k)) u → TakesInOrder k
+linked-takes side drawn wires k None l = absurd l
+linked-takes side drawn wires k (Some u) l =
+    (reverse l.later, sym (reverse-append l.later k.taken) ∙ ap reverse (sym l.order) ∙ reverse-reverse (codes k.earlier k.orb k.now.acts))
 
 pub run-takes : (setup : Setup) → IsLawful setup → AllNeeds setup → (h : List Entry) (s : State) (run : Run (opening_of setup) h s) (place : ℕ) (sub : Subchannel) (k : Story) →
     slice_get s.subs place ≡ Some sub → story place (opening_of setup) h s run ≡ Some k → TakesInOrder k
 run-takes setup lawful needs h s run place sub k at e =
-    linked-takes sub.setup.side sub.wires.down k (slice_get s.units sub.setup.«unit»)
-    (subst (λ (x : Option Story). AtUnit (IsLinked sub.setup.side sub.wires.down x) (slice_get s.units sub.setup.«unit»)) e (run-linked setup lawful needs h s run place sub at))
+    linked-takes sub.setup.side sub.state.drawn sub.wires.down k (slice_get s.units sub.setup.«unit»)
+    (subst (λ (x : Option Story). AtUnit (IsLinked sub.setup.side sub.state.drawn sub.wires.down x) (slice_get s.units sub.setup.«unit»)) e (run-linked setup lawful needs h s run place sub at))

@@ -24,6 +24,8 @@ use Rattle.data_move.specs.Moving as movement
 use Rattle.data_move.specs.Moving.{Moving, begun, with_piece, moved, next_place, needs_word, residual, uses_list, room, IsAt, MayFetch}
 use Rattle.data_move.specs.Accesses as access
 use Rattle.transfer.specs.declared.Transfer.{Transfer}
+use Rattle.transfer.specs.declared.Came.{Came}
+use Rattle.transfer.specs.declared.Came.TheVariants as came
 use Rattle.transfer.specs.Commands.{is_skipped, command_of, begins, goes_to, with_located, located, begun_with_room, with_room, brings}
 use Rattle.ccw_codec.specs.Command.{class_of}
 use Rattle.transfer.specs.Chunks.{with_moved}
@@ -64,16 +66,6 @@ IsMovedTo orb [] t ps = ⊥
 IsMovedTo orb (r ∷ rs) t ps =
     (IsAt r t.moving ⊎ IsStuck r t) × (ps ≡ places (block (kind_of orb)) rs ++ each_below (place_of (block (kind_of orb)) r) t.moving.done)
 
-pub record Tied (orb : Orb) (acts : List Act) (ps : List (Option ℕ)) (t : Transfer) : Type 0 where
-  pub walk : t.walk ≡ place orb acts
-  pub program : IsProgram orb acts
-  pub stands : is_some t.fault ≡ false → next orb acts ≡ None
-  pub chained : is_some t.fault ≡ false → (role_of orb acts).chained ≡ t.moving.ccw.chain_data
-  pub coded : HasCode (commands orb acts) t.code
-  pub kind : t.moving.kind ≡ kind_of orb
-  pub spot : IsMovedTo orb (reaches orb acts) t ps
-  pub number : length (commands orb acts) ≡ t.command
-
 -- a change of what isn't told of
 pub spot-changed : (orb : Orb) (rs : List Reach) (t u : Transfer) (ps : List (Option ℕ)) → u.moving ≡ t.moving → (is_some t.fault ≡ true → is_some u.fault ≡ true) →
     IsMovedTo orb rs t ps → IsMovedTo orb rs u ps
@@ -91,22 +83,6 @@ spot-changed orb (r ∷ rs) t u ps m f k = (
   ],
   k.1 ∙ ap (λ (x : Moving). places (block (kind_of orb)) rs ++ each_below (place_of (block (kind_of orb)) r) x.done) (sym m),
 )
-
-pub changed : (orb : Orb) (acts : List Act) (ps : List (Option ℕ)) (t u : Transfer) → u.walk ≡ t.walk → u.moving ≡ t.moving → u.code ≡ t.code → u.command ≡ t.command →
-    (is_some u.fault ≡ false → is_some t.fault ≡ false) → (is_some t.fault ≡ true → is_some u.fault ≡ true) → Tied orb acts ps t → Tied orb acts ps u
-changed orb acts ps t u w m c n f g k = record {
-  walk = w ∙ k.walk;
-  program = k.program;
-  stands = λ e. k.stands (f e);
-  chained = λ e. k.chained (f e) ∙ ap (λ (x : Moving). x.ccw.chain_data) (sym m);
-  coded = subst (λ (x : ℕ). HasCode (commands orb acts) x) (sym c) k.coded;
-  kind = ap (λ (x : Moving). x.kind) m ∙ k.kind;
-  spot = spot-changed orb (reaches orb acts) t u ps m g k.spot;
-  number = k.number ∙ sym n;
-}
-
-faulted : (orb : Orb) (acts : List Act) (ps : List (Option ℕ)) (t : Transfer) (check : Check) → Tied orb acts ps t → Tied orb acts ps (record t { fault = Some check })
-faulted orb acts ps t check k = changed orb acts ps t (record t { fault = Some check }) refl refl refl refl (λ e. absurd (cc e)) (λ e. refl) k
 
 -- how many bytes there are
 lists-within : (b : Bool) (r : Reach) (m : Moving) → uses_list m ≡ b → IsAt r m → m.done + m.left ≤ m.ccw.count
@@ -147,233 +123,253 @@ spot-counts orb (r ∷ rs) t ps k =
     let same : t.moving.ccw.count ≡ r.ccw.count = ap (λ (x : Ccw). x.count) (ccw-of r t k.0) in
     omega (arith, e, f, g, h, same)
 
-module _ (laws : AreLaws) where
-  -- a command begins, or can't
-  abbrev pub Begins : Orb → List Act → List Act → ℕ → Result Transfer Check → Type 0
-  Begins orb before acts n (Ok t) =
-      Tied orb acts [] t × (t.command ≡ n) × ((c : Command) × (commands orb acts ≡ c ∷ commands orb before) × (code c ≡ t.code))
-  Begins orb before acts n (Err check) =
-      IsProgram orb acts × (reaches orb acts ≡ reaches orb before) × ((more : List Command) × (commands orb acts ≡ more ++ commands orb before))
+-- so many commands were sent under earlier numbers
+module _ (earlier : ℕ) where
+  pub record Tied (orb : Orb) (acts : List Act) (ps : List (Option ℕ)) (t : Transfer) : Type 0 where
+    pub walk : t.walk ≡ place orb acts
+    pub program : IsProgram orb acts
+    pub stands : is_some t.fault ≡ false → next orb acts ≡ None
+    pub chained : is_some t.fault ≡ false → (role_of orb acts).chained ≡ t.moving.ccw.chain_data
+    pub coded : HasCode (commands orb acts) t.code
+    pub kind : t.moving.kind ≡ kind_of orb
+    pub spot : IsMovedTo orb (reaches orb acts) t ps
+    pub number : length (commands orb acts) ≡ earlier + t.command
 
-  taken-begins : (orb : Orb) (before acts : List Act) (walk : Place) (n : ℕ) (ccw : Ccw) (b : Bool) → ccw.program_controlled ≡ b → walk ≡ place orb acts →
-      (role_of orb before).chained ≡ false → length (commands orb before) + 1 ≡ n → IsProgram orb acts →
-      commands orb acts ≡ commands_after (role_of orb before).chained (commands orb before) (Takes ccw) →
-      reaches orb acts ≡ reaches_after (role_of orb before).chained (commands orb before) (reaches orb before) (Takes ccw) → next orb acts ≡ None →
-      (role_of orb acts).chained ≡ ccw.chain_data → Begins orb before acts n (if b then Err Program else Ok (command_of walk n ccw))
-  taken-begins orb before acts walk n ccw true e w c l p f g h i = (
-    p,
-    g ∙ ap (λ (x : Bool). if x then reaches orb before else reaches_with (role_of orb before).chained (commands orb before) (reaches orb before) ccw) e,
-    (
-      record { first = ccw; more = [] } ∷ [],
-      f ∙ ap (λ (x : Bool). if x then join_last (commands orb before) ccw else record { first = ccw; more = [] } ∷ commands orb before) c,
-    ),
-  )
-  taken-begins orb before acts walk n ccw false e w c l p f g h i =
-      let cs : List Command = commands orb before in
-      let commanded : commands orb acts ≡ record { first = ccw; more = [] } ∷ cs =
-      f ∙ ap (λ (x : Bool). if x then join_last cs ccw else record { first = ccw; more = [] } ∷ cs) c in
-      let reached : reaches orb acts ≡ reach ccw.command ccw ∷ [] =
-      g ∙ ap (λ (x : Bool). if x then reaches orb before else reaches_with (role_of orb before).chained cs (reaches orb before) ccw) e
-      ∙ ap (λ (x : Bool). reaches_with x cs (reaches orb before) ccw) c in (
-        record {
-          walk = w;
-          program = p;
-          stands = λ z. h;
-          chained = λ z. i;
-          coded = subst (λ (xs : List Command). HasCode xs ccw.command) (sym commanded) refl;
-          kind = ap (λ (x : Place). kind_of x.orb) w;
-          spot =
-              subst (λ (rs : List Reach). IsMovedTo orb rs (command_of walk n ccw) []) (sym reached)
-              (inl (laws.begins (kind_of walk.orb) ccw (is_skipped ccw.command ccw)), refl);
-          number = ap length commanded ∙ (let z : suc (length cs) ≡ length cs + 1 = omega arith in z) ∙ l;
-        },
-        refl,
-        (record { first = ccw; more = [] }, commanded, refl),
-      )
-
-  advance-begins : (orb : Orb) (before acts : List Act) (walk : Place) (n : ℕ) (a : Option Advance) → walk ≡ place orb acts → (role_of orb before).chained ≡ false →
-      length (commands orb before) + 1 ≡ n → IsProgram orb acts →
-      Went (role_of orb before).chained (commands orb before) (commands orb acts) (reaches orb before) (reaches orb acts) (next orb acts) (role_of orb acts) a →
-      Begins orb before acts n (begins walk n a)
-  advance-begins orb before acts walk n (Some (advance.Takes ccw)) w c l p k =
-      taken-begins orb before acts walk n ccw ccw.program_controlled refl w c l p k.0 k.1 k.2 k.3
-  advance-begins orb before acts walk n (Some advance.Suspends) w c l p k = (p, k.1, ([], k.0))
-  advance-begins orb before acts walk n (Some (advance.Stops check)) w c l p k = (p, k.1, ([], k.0))
-  advance-begins orb before acts walk n None w c l p k = (p, k.1, ([], k.0))
-
-  pub goes-begins : (storage : Contents) (orb : Orb) (before : List Act) (n : ℕ) → (role_of orb before).chained ≡ false → length (commands orb before) + 1 ≡ n →
-      IsProgram orb before → Begins orb before (advance_acts storage (place orb before) ++ before) n (goes_to storage n (place orb before)).came
-  goes-begins storage orb before n c l p =
-      let old : Place = place orb before in
-      advance-begins orb before (advance_acts storage old ++ before) (after_acts old (advance_acts storage old)) n (advance_of old (advance_acts storage old))
-      (laws.leads orb before (advance_acts storage old)) c l (laws.goes storage orb before p) (advance-went storage orb before)
-
-  -- a word of an indirect list
-  needed-left : (m : Moving) → needs_word m ≡ true → m.left ≡ 0
-  needed-left m e = eqb-true m.left 0 (and_parts (m.left == 0) (nat_lt m.done m.ccw.count) e).0
-
-  needed-more : (m : Moving) → needs_word m ≡ true → m.done < m.ccw.count
-  needed-more m e = ltb-true m.done m.ccw.count (and_parts (m.left == 0) (nat_lt m.done m.ccw.count) e).1
-
-  list-used : (b : Bool) (r : Reach) (m : Moving) → uses_list m ≡ b → IsAt r m → needs_word m ≡ true → uses_list m ≡ true
-  list-used true r m e a n = e
-  list-used false r m e a n =
-      let f : m.done + m.left ≡ m.ccw.count = a.whole e in
-      let g : m.left ≡ 0 = needed-left m n in
-      let h : m.done < m.ccw.count = needed-more m n in
-      absurd (omega (arith, f, g, h))
-
-  right-word : (l f d o : Bool) → (if l then Some LeftmostBit else if not f && not d then Some OffBlock else if o then Some OutsideStorage else None) ≡ None →
-      (f ≡ true) ⊎ (d ≡ true)
-  right-word true f d o e = absurd (cc e)
-  right-word false true d o e = inl refl
-  right-word false false true o e = inr refl
-  right-word false false false o e = absurd (cc e)
-
-  may-fetch : (r : Reach) (m : Moving) (word size : ℕ) → IsAt r m → needs_word m ≡ true → word_fault m.kind (m.words == 0) word size ≡ None → MayFetch m word
-  may-fetch r m word size a n e = record {
-    list = list-used (uses_list m) r m refl a n;
-    needed = n;
-    begins =
-        elim (right-word (has_leftmost_bit m.kind word) (m.words == 0) (word % block m.kind == 0) (is_outside m.kind word size) e) [
-          | inl x ↦ inl (eqb-true m.words 0 x)
-          | inr x ↦ inr (eqb-true (word % block m.kind) 0 x)
-        ];
+  pub changed : (orb : Orb) (acts : List Act) (ps : List (Option ℕ)) (t u : Transfer) → u.walk ≡ t.walk → u.moving ≡ t.moving → u.code ≡ t.code → u.command ≡ t.command →
+      (is_some u.fault ≡ false → is_some t.fault ≡ false) → (is_some t.fault ≡ true → is_some u.fault ≡ true) → Tied orb acts ps t → Tied orb acts ps u
+  changed orb acts ps t u w m c n f g k = record {
+    walk = w ∙ k.walk;
+    program = k.program;
+    stands = λ e. k.stands (f e);
+    chained = λ e. k.chained (f e) ∙ ap (λ (x : Moving). x.ccw.chain_data) (sym m);
+    coded = subst (λ (x : ℕ). HasCode (commands orb acts) x) (sym c) k.coded;
+    kind = ap (λ (x : Moving). x.kind) m ∙ k.kind;
+    spot = spot-changed orb (reaches orb acts) t u ps m g k.spot;
+    number = k.number ∙ ap (λ (x : ℕ). earlier + x) (sym n);
   }
 
-  same-places : (orb : Orb) (r : Reach) (m : Moving) (word : ℕ) → m.kind ≡ kind_of orb → IsAt r m → needs_word m ≡ true →
-      each_below (place_of (block (kind_of orb)) r) m.done ≡ each_below (place_of (block (kind_of orb)) (with_word r word)) m.done
-  same-places orb r m word e a n =
-      subst (λ (x : ListKind). each_below (place_of (block x) r) m.done ≡ each_below (place_of (block x) (with_word r word)) m.done) e
-      (sym (laws.stays r m word a (list-used (uses_list m) r m refl a n)))
+  faulted : (orb : Orb) (acts : List Act) (ps : List (Option ℕ)) (t : Transfer) (check : Check) → Tied orb acts ps t → Tied orb acts ps (record t { fault = Some check })
+  faulted orb acts ps t check k = changed orb acts ps t (record t { fault = Some check }) refl refl refl refl (λ e. absurd (cc e)) (λ e. refl) k
 
-  wrong-spot : (orb : Orb) (rs : List Reach) (t : Transfer) (ps : List (Option ℕ)) (word : ℕ) → t.moving.kind ≡ kind_of orb → is_some t.fault ≡ false →
-      needs_word t.moving ≡ true → IsMovedTo orb rs t ps → IsMovedTo orb (word_after rs word) (record t { fault = Some Program }) ps
-  wrong-spot orb [] t ps word e f n k = k
-  wrong-spot orb (r ∷ rs) t ps word e f n k =
-      elim k.0 [
-        | inl a ↦ (
-          inr (record {
-            ccw = a.ccw;
-            left = needed-left t.moving n;
-            within = done-within r t (inl a);
-            fault = refl;
-          }),
-          k.1 ∙ ap (λ (xs : List (Option ℕ)). places (block (kind_of orb)) rs ++ xs) (same-places orb r t.moving word e a n),
+  module _ (laws : AreLaws) where
+    -- a command begins, or can't, or the program is suspended where one may begin
+    abbrev pub Begins : Orb → List Act → List Act → ℕ → Came → Type 0
+    Begins orb before acts n (came.Begins t) =
+        Tied orb acts [] t × (t.command ≡ n) × ((c : Command) × (commands orb acts ≡ c ∷ commands orb before) × (code c ≡ t.code))
+    Begins orb before acts n came.Suspends =
+        IsProgram orb acts × (reaches orb acts ≡ reaches orb before) × (commands orb acts ≡ commands orb before) × ((role_of orb acts).chained ≡ false)
+    Begins orb before acts n (came.Stops check) =
+        IsProgram orb acts × (reaches orb acts ≡ reaches orb before) × (commands orb acts ≡ commands orb before)
+
+    taken-begins : (orb : Orb) (before acts : List Act) (walk : Place) (n : ℕ) (ccw : Ccw) → walk ≡ place orb acts →
+        (role_of orb before).chained ≡ false → length (commands orb before) + 1 ≡ earlier + n → IsProgram orb acts →
+        commands orb acts ≡ commands_after (role_of orb before).chained (commands orb before) (Takes ccw) →
+        reaches orb acts ≡ reaches_after (role_of orb before).chained (commands orb before) (reaches orb before) (Takes ccw) → next orb acts ≡ None →
+        (role_of orb acts).chained ≡ ccw.chain_data → Begins orb before acts n (came.Begins (command_of walk n ccw))
+    taken-begins orb before acts walk n ccw w c l p f g h i =
+        let cs : List Command = commands orb before in
+        let commanded : commands orb acts ≡ record { first = ccw; more = [] } ∷ cs =
+        f ∙ ap (λ (x : Bool). if x then join_last cs ccw else record { first = ccw; more = [] } ∷ cs) c in
+        let reached : reaches orb acts ≡ reach ccw.command ccw ∷ [] =
+        g ∙ ap (λ (x : Bool). reaches_with x cs (reaches orb before) ccw) c in (
+          record {
+            walk = w;
+            program = p;
+            stands = λ z. h;
+            chained = λ z. i;
+            coded = subst (λ (xs : List Command). HasCode xs ccw.command) (sym commanded) refl;
+            kind = ap (λ (x : Place). kind_of x.orb) w;
+            spot =
+                subst (λ (rs : List Reach). IsMovedTo orb rs (command_of walk n ccw) []) (sym reached)
+                (inl (laws.begins (kind_of walk.orb) ccw (is_skipped ccw.command ccw)), refl);
+            number = ap length commanded ∙ (let z : suc (length cs) ≡ length cs + 1 = omega arith in z) ∙ l;
+          },
+          refl,
+          (record { first = ccw; more = [] }, commanded, refl),
         )
-        | inr a ↦ absurd (cc (sym a.fault ∙ f))
-      ]
 
-  right-spot : (orb : Orb) (rs : List Reach) (t : Transfer) (ps : List (Option ℕ)) (word size : ℕ) → t.moving.kind ≡ kind_of orb → is_some t.fault ≡ false →
-      needs_word t.moving ≡ true → word_fault t.moving.kind (t.moving.words == 0) word size ≡ None → IsMovedTo orb rs t ps →
-      IsMovedTo orb (word_after rs word) (record t { moving = with_piece t.moving word }) ps
-  right-spot orb [] t ps word size e f n w k = k
-  right-spot orb (r ∷ rs) t ps word size e f n w k =
-      elim k.0 [
-        | inl a ↦ (
-          inl (laws.word r t.moving word a (may-fetch r t.moving word size a n w)),
-          k.1 ∙ ap (λ (xs : List (Option ℕ)). places (block (kind_of orb)) rs ++ xs) (same-places orb r t.moving word e a n),
-        )
-        | inr a ↦ absurd (cc (sym a.fault ∙ f))
-      ]
+    advance-begins : (orb : Orb) (before acts : List Act) (walk : Place) (n : ℕ) (a : Option Advance) → walk ≡ place orb acts → (role_of orb before).chained ≡ false →
+        length (commands orb before) + 1 ≡ earlier + n → IsProgram orb acts →
+        Went (role_of orb before).chained (commands orb before) (commands orb acts) (reaches orb before) (reaches orb acts) (next orb acts) (role_of orb acts) a →
+        Begins orb before acts n (begins walk n a)
+    advance-begins orb before acts walk n (Some (advance.Takes ccw)) w c l p k = taken-begins orb before acts walk n ccw w c l p k.0 k.1 k.2 k.3
+    advance-begins orb before acts walk n (Some advance.Suspends) w c l p k = (p, k.1, k.0, k.2 ∙ c)
+    advance-begins orb before acts walk n (Some (advance.Stops check)) w c l p k = (p, k.1, k.0)
+    advance-begins orb before acts walk n None w c l p k = (p, k.1, k.0)
 
-  right-tied : (orb : Orb) (acts : List Act) (ps : List (Option ℕ)) (t : Transfer) (word size : ℕ) (w : Option WordFault) →
-      word_fault t.moving.kind (t.moving.words == 0) word size ≡ w → is_some t.fault ≡ false → needs_word t.moving ≡ true → Tied orb acts ps t →
-      Tied orb (Word word ∷ acts) ps (with_located t (access.where_right w (with_piece t.moving word)))
-  right-tied orb acts ps t word size None e f n k = record {
-    walk = k.walk;
-    program = k.program;
-    stands = k.stands;
-    chained = k.chained;
-    coded = k.coded;
-    kind = k.kind;
-    spot = right-spot orb (reaches orb acts) t ps word size k.kind f n e k.spot;
-    number = k.number;
-  }
-  right-tied orb acts ps t word size (Some fault) e f n k = record {
-    walk = k.walk;
-    program = k.program;
-    stands = λ z. absurd (cc z);
-    chained = λ z. absurd (cc z);
-    coded = k.coded;
-    kind = k.kind;
-    spot = wrong-spot orb (reaches orb acts) t ps word k.kind f n k.spot;
-    number = k.number;
-  }
+    pub goes-begins : (storage : Contents) (orb : Orb) (before : List Act) (n : ℕ) → (role_of orb before).chained ≡ false → length (commands orb before) + 1 ≡ earlier + n →
+        IsProgram orb before → Begins orb before (advance_acts storage (place orb before) ++ before) n (goes_to storage n (place orb before)).came
+    goes-begins storage orb before n c l p =
+        let old : Place = place orb before in
+        advance-begins orb before (advance_acts storage old ++ before) (after_acts old (advance_acts storage old)) n (advance_of old (advance_acts storage old))
+        (laws.leads orb before (advance_acts storage old)) c l (laws.goes storage orb before p) (advance-went storage orb before)
 
-  word-tied : (orb : Orb) (acts : List Act) (ps : List (Option ℕ)) (t : Transfer) (size : ℕ) (w : Result ℕ Check) → is_some t.fault ≡ false →
-      needs_word t.moving ≡ true → Tied orb acts ps t → Tied orb (act_of_word w ++ acts) ps (with_located t (access.piece_begun t.moving size w))
-  word-tied orb acts ps t size (Ok word) f n k = right-tied orb acts ps t word size (word_fault t.moving.kind (t.moving.words == 0) word size) refl f n k
-  word-tied orb acts ps t size (Err check) f n k = faulted orb acts ps t check k
+    -- a word of an indirect list
+    needed-left : (m : Moving) → needs_word m ≡ true → m.left ≡ 0
+    needed-left m e = eqb-true m.left 0 (and_parts (m.left == 0) (nat_lt m.done m.ccw.count) e).0
 
-  need-tied : (storage : Contents) (orb : Orb) (acts : List Act) (ps : List (Option ℕ)) (t : Transfer) (b : Bool) → needs_word t.moving ≡ b → is_some t.fault ≡ false →
-      Tied orb acts ps t →
-      Tied orb ((if b then act_of_word (access.word_fetched storage t.walk.orb.key t.moving) else []) ++ acts) ps
-      (with_located t (if b then access.piece_begun t.moving (length storage.bytes) (access.word_fetched storage t.walk.orb.key t.moving) else Ok t.moving))
-  need-tied storage orb acts ps t true n f k = word-tied orb acts ps t (length storage.bytes) (access.word_fetched storage t.walk.orb.key t.moving) f n k
-  need-tied storage orb acts ps t false n f k = k
+    needed-more : (m : Moving) → needs_word m ≡ true → m.done < m.ccw.count
+    needed-more m e = ltb-true m.done m.ccw.count (and_parts (m.left == 0) (nat_lt m.done m.ccw.count) e).1
 
-  fault-tied : (storage : Contents) (orb : Orb) (acts : List Act) (ps : List (Option ℕ)) (t : Transfer) (b : Bool) → is_some t.fault ≡ b → Tied orb acts ps t →
-      Tied orb ((if b then [] else word_acts storage t.walk.orb.key t.moving) ++ acts) ps
-      (if b then t else with_located t (access.located storage t.walk.orb.key t.moving))
-  fault-tied storage orb acts ps t true f k = k
-  fault-tied storage orb acts ps t false f k = need-tied storage orb acts ps t (needs_word t.moving) refl f k
+    list-used : (b : Bool) (r : Reach) (m : Moving) → uses_list m ≡ b → IsAt r m → needs_word m ≡ true → uses_list m ≡ true
+    list-used true r m e a n = e
+    list-used false r m e a n =
+        let f : m.done + m.left ≡ m.ccw.count = a.whole e in
+        let g : m.left ≡ 0 = needed-left m n in
+        let h : m.done < m.ccw.count = needed-more m n in
+        absurd (omega (arith, f, g, h))
 
-  pub located-tied : (storage : Contents) (orb : Orb) (acts : List Act) (ps : List (Option ℕ)) (t : Transfer) → Tied orb acts ps t →
-      Tied orb (located_acts storage t ++ acts) ps (located storage t)
-  located-tied storage orb acts ps t k = fault-tied storage orb acts ps t (is_some t.fault) refl k
+    right-word : (l f d o : Bool) → (if l then Some LeftmostBit else if not f && not d then Some OffBlock else if o then Some OutsideStorage else None) ≡ None →
+        (f ≡ true) ⊎ (d ≡ true)
+    right-word true f d o e = absurd (cc e)
+    right-word false true d o e = inl refl
+    right-word false false true o e = inr refl
+    right-word false false false o e = absurd (cc e)
 
-  -- so it is where the command begins
-  room-by : (storage : Contents) (orb : Orb) (acts : List Act) (t : Transfer) (b : Bool) → Tied orb acts [] t →
-      Tied orb ((if b then located_acts storage t else []) ++ acts) [] (if b then with_room storage t else record { transfer = t; room = 0 }).transfer
-  room-by storage orb acts t true k = located-tied storage orb acts [] t k
-  room-by storage orb acts t false k = k
+    may-fetch : (r : Reach) (m : Moving) (word size : ℕ) → IsAt r m → needs_word m ≡ true → word_fault m.kind (m.words == 0) word size ≡ None → MayFetch m word
+    may-fetch r m word size a n e = record {
+      list = list-used (uses_list m) r m refl a n;
+      needed = n;
+      begins =
+          elim (right-word (has_leftmost_bit m.kind word) (m.words == 0) (word % block m.kind == 0) (is_outside m.kind word size) e) [
+            | inl x ↦ inl (eqb-true m.words 0 x)
+            | inr x ↦ inr (eqb-true (word % block m.kind) 0 x)
+          ];
+    }
 
-  pub room-tied : (storage : Contents) (orb : Orb) (acts : List Act) (t : Transfer) → Tied orb acts [] t →
-      Tied orb (room_acts storage (Ok t) ++ acts) [] (begun_with_room storage t).transfer
-  room-tied storage orb acts t k = room-by storage orb acts t (brings (class_of t.code)) k
+    same-places : (orb : Orb) (r : Reach) (m : Moving) (word : ℕ) → m.kind ≡ kind_of orb → IsAt r m → needs_word m ≡ true →
+        each_below (place_of (block (kind_of orb)) r) m.done ≡ each_below (place_of (block (kind_of orb)) (with_word r word)) m.done
+    same-places orb r m word e a n =
+        subst (λ (x : ListKind). each_below (place_of (block x) r) m.done ≡ each_below (place_of (block x) (with_word r word)) m.done) e
+        (sym (laws.stays r m word a (list-used (uses_list m) r m refl a n)))
 
-  -- bytes are moved
-  moved-spot : (orb : Orb) (rs : List Reach) (t : Transfer) (ps : List (Option ℕ)) (n : ℕ) → t.moving.kind ≡ kind_of orb → n ≤ t.moving.left → IsMovedTo orb rs t ps →
-      IsMovedTo orb rs (with_moved t n) (ps ++ each_below (next_place t.moving) n)
-  moved-spot orb [] t ps n e l k = absurd k
-  moved-spot orb (r ∷ rs) t ps n e l k =
-      let b : ℕ = block (kind_of orb) in
-      let m : Moving = t.moving in
-      elim k.0 [
-        | inl a ↦
-            let more : each_below (place_of b r) m.done ++ each_below (next_place m) n ≡ each_below (place_of b r) (m.done + n) =
-            subst (λ (x : ListKind). each_below (place_of (block x) r) m.done ++ each_below (next_place m) n ≡ each_below (place_of (block x) r) (m.done + n)) e
-            (laws.places r m n a l) in (
-              inl (laws.moved r m n a l),
-              ap (λ (xs : List (Option ℕ)). xs ++ each_below (next_place m) n) k.1
-                  ∙ append_assoc (places b rs) (each_below (place_of b r) m.done) (each_below (next_place m) n)
-                  ∙ ap (λ (xs : List (Option ℕ)). places b rs ++ xs) more,
-            )
-        | inr a ↦
-            let z : n ≡ 0 = let h : m.left ≡ 0 = a.left in omega (arith, l, h) in
-            let left : m.left - n ≡ 0 = let h : m.left ≡ 0 = a.left in omega (arith, h) in
-            let done : m.done + n ≡ m.done = omega (arith, z) in (
-              inr (record {
-                ccw = a.ccw;
-                left = left;
-                within = subst (λ (x : ℕ). x ≤ r.ccw.count) (sym done) a.within;
-                fault = a.fault;
-              }),
-              ap (λ (x : ℕ). ps ++ each_below (next_place m) x) z ∙ append-nil ps ∙ k.1
-                  ∙ ap (λ (x : ℕ). places b rs ++ each_below (place_of b r) x) (sym done),
-            )
-      ]
+    wrong-spot : (orb : Orb) (rs : List Reach) (t : Transfer) (ps : List (Option ℕ)) (word : ℕ) → t.moving.kind ≡ kind_of orb → is_some t.fault ≡ false →
+        needs_word t.moving ≡ true → IsMovedTo orb rs t ps → IsMovedTo orb (word_after rs word) (record t { fault = Some Program }) ps
+    wrong-spot orb [] t ps word e f n k = k
+    wrong-spot orb (r ∷ rs) t ps word e f n k =
+        elim k.0 [
+          | inl a ↦ (
+            inr (record {
+              ccw = a.ccw;
+              left = needed-left t.moving n;
+              within = done-within r t (inl a);
+              fault = refl;
+            }),
+            k.1 ∙ ap (λ (xs : List (Option ℕ)). places (block (kind_of orb)) rs ++ xs) (same-places orb r t.moving word e a n),
+          )
+          | inr a ↦ absurd (cc (sym a.fault ∙ f))
+        ]
 
-  pub with_moved-tied : (orb : Orb) (acts : List Act) (ps : List (Option ℕ)) (t : Transfer) (n : ℕ) → n ≤ t.moving.left → Tied orb acts ps t →
-      Tied orb acts (ps ++ each_below (next_place t.moving) n) (with_moved t n)
-  with_moved-tied orb acts ps t n l k = record {
-    walk = k.walk;
-    program = k.program;
-    stands = k.stands;
-    chained = k.chained;
-    coded = k.coded;
-    kind = k.kind;
-    spot = moved-spot orb (reaches orb acts) t ps n k.kind l k.spot;
-    number = k.number;
-  }
+    right-spot : (orb : Orb) (rs : List Reach) (t : Transfer) (ps : List (Option ℕ)) (word size : ℕ) → t.moving.kind ≡ kind_of orb → is_some t.fault ≡ false →
+        needs_word t.moving ≡ true → word_fault t.moving.kind (t.moving.words == 0) word size ≡ None → IsMovedTo orb rs t ps →
+        IsMovedTo orb (word_after rs word) (record t { moving = with_piece t.moving word }) ps
+    right-spot orb [] t ps word size e f n w k = k
+    right-spot orb (r ∷ rs) t ps word size e f n w k =
+        elim k.0 [
+          | inl a ↦ (
+            inl (laws.word r t.moving word a (may-fetch r t.moving word size a n w)),
+            k.1 ∙ ap (λ (xs : List (Option ℕ)). places (block (kind_of orb)) rs ++ xs) (same-places orb r t.moving word e a n),
+          )
+          | inr a ↦ absurd (cc (sym a.fault ∙ f))
+        ]
+
+    right-tied : (orb : Orb) (acts : List Act) (ps : List (Option ℕ)) (t : Transfer) (word size : ℕ) (w : Option WordFault) →
+        word_fault t.moving.kind (t.moving.words == 0) word size ≡ w → is_some t.fault ≡ false → needs_word t.moving ≡ true → Tied orb acts ps t →
+        Tied orb (Word word ∷ acts) ps (with_located t (access.where_right w (with_piece t.moving word)))
+    right-tied orb acts ps t word size None e f n k = record {
+      walk = k.walk;
+      program = k.program;
+      stands = k.stands;
+      chained = k.chained;
+      coded = k.coded;
+      kind = k.kind;
+      spot = right-spot orb (reaches orb acts) t ps word size k.kind f n e k.spot;
+      number = k.number;
+    }
+    right-tied orb acts ps t word size (Some fault) e f n k = record {
+      walk = k.walk;
+      program = k.program;
+      stands = λ z. absurd (cc z);
+      chained = λ z. absurd (cc z);
+      coded = k.coded;
+      kind = k.kind;
+      spot = wrong-spot orb (reaches orb acts) t ps word k.kind f n k.spot;
+      number = k.number;
+    }
+
+    word-tied : (orb : Orb) (acts : List Act) (ps : List (Option ℕ)) (t : Transfer) (size : ℕ) (w : Result ℕ Check) → is_some t.fault ≡ false →
+        needs_word t.moving ≡ true → Tied orb acts ps t → Tied orb (act_of_word w ++ acts) ps (with_located t (access.piece_begun t.moving size w))
+    word-tied orb acts ps t size (Ok word) f n k = right-tied orb acts ps t word size (word_fault t.moving.kind (t.moving.words == 0) word size) refl f n k
+    word-tied orb acts ps t size (Err check) f n k = faulted orb acts ps t check k
+
+    need-tied : (storage : Contents) (orb : Orb) (acts : List Act) (ps : List (Option ℕ)) (t : Transfer) (b : Bool) → needs_word t.moving ≡ b → is_some t.fault ≡ false →
+        Tied orb acts ps t →
+        Tied orb ((if b then act_of_word (access.word_fetched storage t.walk.orb.key t.moving) else []) ++ acts) ps
+        (with_located t (if b then access.piece_begun t.moving (length storage.bytes) (access.word_fetched storage t.walk.orb.key t.moving) else Ok t.moving))
+    need-tied storage orb acts ps t true n f k = word-tied orb acts ps t (length storage.bytes) (access.word_fetched storage t.walk.orb.key t.moving) f n k
+    need-tied storage orb acts ps t false n f k = k
+
+    fault-tied : (storage : Contents) (orb : Orb) (acts : List Act) (ps : List (Option ℕ)) (t : Transfer) (b : Bool) → is_some t.fault ≡ b → Tied orb acts ps t →
+        Tied orb ((if b then [] else word_acts storage t.walk.orb.key t.moving) ++ acts) ps
+        (if b then t else with_located t (access.located storage t.walk.orb.key t.moving))
+    fault-tied storage orb acts ps t true f k = k
+    fault-tied storage orb acts ps t false f k = need-tied storage orb acts ps t (needs_word t.moving) refl f k
+
+    pub located-tied : (storage : Contents) (orb : Orb) (acts : List Act) (ps : List (Option ℕ)) (t : Transfer) → Tied orb acts ps t →
+        Tied orb (located_acts storage t ++ acts) ps (located storage t)
+    located-tied storage orb acts ps t k = fault-tied storage orb acts ps t (is_some t.fault) refl k
+
+    -- so it is where the command begins
+    room-by : (storage : Contents) (orb : Orb) (acts : List Act) (t : Transfer) (b : Bool) → Tied orb acts [] t →
+        Tied orb ((if b then located_acts storage t else []) ++ acts) [] (if b then with_room storage t else record { transfer = t; room = 0 }).transfer
+    room-by storage orb acts t true k = located-tied storage orb acts [] t k
+    room-by storage orb acts t false k = k
+
+    pub room-tied : (storage : Contents) (orb : Orb) (acts : List Act) (t : Transfer) → Tied orb acts [] t →
+        Tied orb (room_acts storage (came.Begins t) ++ acts) [] (begun_with_room storage t).transfer
+    room-tied storage orb acts t k = room-by storage orb acts t (brings (class_of t.code)) k
+
+    -- bytes are moved
+    moved-spot : (orb : Orb) (rs : List Reach) (t : Transfer) (ps : List (Option ℕ)) (n : ℕ) → t.moving.kind ≡ kind_of orb → n ≤ t.moving.left → IsMovedTo orb rs t ps →
+        IsMovedTo orb rs (with_moved t n) (ps ++ each_below (next_place t.moving) n)
+    moved-spot orb [] t ps n e l k = absurd k
+    moved-spot orb (r ∷ rs) t ps n e l k =
+        let b : ℕ = block (kind_of orb) in
+        let m : Moving = t.moving in
+        elim k.0 [
+          | inl a ↦
+              let more : each_below (place_of b r) m.done ++ each_below (next_place m) n ≡ each_below (place_of b r) (m.done + n) =
+              subst (λ (x : ListKind). each_below (place_of (block x) r) m.done ++ each_below (next_place m) n ≡ each_below (place_of (block x) r) (m.done + n)) e
+              (laws.places r m n a l) in (
+                inl (laws.moved r m n a l),
+                ap (λ (xs : List (Option ℕ)). xs ++ each_below (next_place m) n) k.1
+                    ∙ append_assoc (places b rs) (each_below (place_of b r) m.done) (each_below (next_place m) n)
+                    ∙ ap (λ (xs : List (Option ℕ)). places b rs ++ xs) more,
+              )
+          | inr a ↦
+              let z : n ≡ 0 = let h : m.left ≡ 0 = a.left in omega (arith, l, h) in
+              let left : m.left - n ≡ 0 = let h : m.left ≡ 0 = a.left in omega (arith, h) in
+              let done : m.done + n ≡ m.done = omega (arith, z) in (
+                inr (record {
+                  ccw = a.ccw;
+                  left = left;
+                  within = subst (λ (x : ℕ). x ≤ r.ccw.count) (sym done) a.within;
+                  fault = a.fault;
+                }),
+                ap (λ (x : ℕ). ps ++ each_below (next_place m) x) z ∙ append-nil ps ∙ k.1
+                    ∙ ap (λ (x : ℕ). places b rs ++ each_below (place_of b r) x) (sym done),
+              )
+        ]
+
+    pub with_moved-tied : (orb : Orb) (acts : List Act) (ps : List (Option ℕ)) (t : Transfer) (n : ℕ) → n ≤ t.moving.left → Tied orb acts ps t →
+        Tied orb acts (ps ++ each_below (next_place t.moving) n) (with_moved t n)
+    with_moved-tied orb acts ps t n l k = record {
+      walk = k.walk;
+      program = k.program;
+      stands = k.stands;
+      chained = k.chained;
+      coded = k.coded;
+      kind = k.kind;
+      spot = moved-spot orb (reaches orb acts) t ps n k.kind l k.spot;
+      number = k.number;
+    }

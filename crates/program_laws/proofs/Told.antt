@@ -1,5 +1,5 @@
 -- What is told of the program of each subchannel, after each run.
-use Rattle.std.proofs.Common.{◌≡◌, subst, ℕ, ◌+◌, Option, None, Some, List, length}
+use Rattle.std.proofs.Common.{◌≡◌, subst, ◌+◌, Option, None, Some, List, length}
 use Rattle.chan_model.specs.declared.reply.Entry.{Entry}
 use Rattle.channel_config.specs.Lawful.{IsLawful}
 use Rattle.channel_config.specs.Setup.{Setup}
@@ -16,7 +16,7 @@ use Rattle.program_laws.proofs.Accesses.{AreAccesses}
 use Rattle.program_laws.proofs.Parts.{IsDone}
 use Rattle.program_laws.proofs.Holds.{HasWork, done-held}
 use Rattle.program_laws.proofs.Copies.{copied-part}
-use Rattle.program_laws.proofs.LinkOrders.{held-needs}
+use Rattle.program_laws.proofs.LinkNeeds.{held-needs}
 use Rattle.program_laws.proofs.RunOrders.{AllNeeds, run-takes}
 use Rattle.program_laws.proofs.Choices.{IsKept, KeptBy, kept-held, run-held}
 use Rattle.program_laws.proofs.RunFlows.{AllHeld, run-absorbs}

@@ -1,7 +1,7 @@
 -- What a step does at one place: to the subchannel, to its unit, and to the story.
-use Rattle.std.proofs.Common.{◌≡◌, ◌≢◌, refl, sym, ◌∙◌, ap, subst, ℕ, ◌+◌, ◌==◌, zero, suc, Bool, true, false, Option, None, Some, Result, Ok, Err, List, [], ◌∷◌, length, inl, inr, arith}
-use Rattle.std.specs.Prelude.{◌⊎◌, slice_get, slice_set, if◌then◌else◌, nat_lt, IfOk}
-use Rattle.std.proofs.lemmas.Bool.{eq-eqb, eqb-true, and_parts}
+use Rattle.std.proofs.Common.{◌≡◌, ◌≢◌, refl, sym, ◌∙◌, ap, subst, ℕ, ◌+◌, ◌==◌, Bool, true, false, Option, None, Some, Result, Ok, Err, List, length, inl, inr}
+use Rattle.std.specs.Prelude.{slice_get, slice_set, if◌then◌else◌, nat_lt, IfOk}
+use Rattle.std.proofs.lemmas.Bool.{eqb-true, and_parts}
 use Rattle.orb_block.specs.declared.Orb.{Orb}
 use Rattle.schib_block.specs.declared.pmcw.Pmcw as block
 use Rattle.storage_keys.specs.declared.StorageFault.{StorageFault}
@@ -14,29 +14,34 @@ use Rattle.chan_model.specs.declared.event.Event.TheVariants as event
 use Rattle.chan_model.specs.declared.event.Instruction.{Instruction}
 use Rattle.chan_model.specs.declared.event.Instruction.TheVariants as instruction
 use Rattle.chan_model.specs.declared.reply.Reply.{Reply}
+use Rattle.chan_model.specs.declared.reply.Reply.TheVariants as reply
 use Rattle.chan_model.specs.declared.reply.ConditionCode.{ConditionCode}
 use Rattle.chan_model.specs.declared.reply.ConditionCode.TheVariants as code
 use Rattle.chan_model.specs.declared.report.Report.{Report}
 use Rattle.chan_model.specs.declared.signal.Down.{Down}
+use Rattle.chan_model.specs.declared.signal.Down.TheVariants as down
 use Rattle.chan_model.specs.declared.signal.Up.{Up}
 use Rattle.chan_model.specs.declared.unit_state.UnitState.{UnitState}
-use Rattle.chan_model.specs.ConditionCodes.{ssch_code, msch_code}
+use Rattle.chan_model.specs.ConditionCodes.{ssch_code, msch_code, rsch_code, hsch_code, csch_code, xsch_code}
 use Rattle.chan_model.specs.Sides.{same_side}
 use Rattle.chan_model.specs.UnitTable as unit_table
 use Rattle.chan_model.specs.UnitTable.{UnitStep, unit_takes}
 use Rattle.chan_model.specs.UnitReports.{unit_reports}
 use Rattle.wires.specs.Queues.{queue}
 use Rattle.machine_model.specs.declared.state.Chosen.{Chosen}
-use Rattle.machine_model.specs.declared.state.Chosen.TheVariants.{Idle, Over, Offers}
+use Rattle.machine_model.specs.declared.state.Chosen.TheVariants.{Idle, Resets, Clears, Halts, Ends, Over, Offers}
 use Rattle.machine_model.specs.declared.state.Pmcw.{Pmcw}
 use Rattle.machine_model.specs.declared.state.Subchannel.{Subchannel}
-use Rattle.machine_model.specs.State.{State, place_of, place_in, first_place, one_later, sub_at, with_sub, with_unit}
-use Rattle.machine_model.specs.Instructions.{condition_of, started, tested}
+use Rattle.machine_model.specs.declared.state.SubchannelState.{SubchannelState}
+use Rattle.machine_model.specs.State.{State, place_of, place_in, sub_at, with_sub, with_unit, reaches, reached_in}
+use Rattle.machine_model.specs.Instructions.{condition_of, started}
+use Rattle.machine_model.specs.Functions.{resumed, halted, cleared, cancelled, tested_wholly}
 use Rattle.machine_model.specs.Choosing.{chosen}
 use Rattle.machine_model.specs.Taking.{takes_up}
 use Rattle.machine_model.specs.SubchannelBlocks.{pmcw_of, schib_of, enabling, enabling_schib}
-use Rattle.machine_model.specs.Steps.{Outcome, SubTurn, UpTurn, DownTurn, with_state, at_sub, at_storage, at_unit, start_with, start_at, Starts, Starts_with, test_with, test_sub, test_code_of, tests, store_at, stores, modify_with, modify_at, Modifies_by, Modifies, Enables_with, Enables, Executes_at, Executes_on, choose_sub, Chooses, is_full, finds_full, up_front, up_sub, up_at, down_front, down_sub, down_unit, down_at, report_taken, report_sub, report_to, report_at, reaches, reached_in, storage_turn, show_turn_of, does, with_irb, with_schib, with_enabling, Steps, Step}
+use Rattle.machine_model.specs.Steps.{Outcome, SubTurn, UpTurn, DownTurn, with_state, at_sub, at_storage, at_unit, start_with, start_at, Starts, Starts_with, test_with, test_sub, test_code_of, tests, store_at, stores, modify_with, modify_at, Modifies_by, Modifies, Enables_with, Enables, Executes_at, Executes_on, send_sub, choose_sub, Chooses, resume_sub, halt_sub, clear_sub, cancel_sub, function_sub, function_at, is_full, finds_full, up_front, up_sub, up_at, down_front, down_sub, down_unit, down_at, report_taken, report_sub, report_to, report_at, storage_turn, show_turn_of, does, with_irb, with_schib, with_enabling, Steps, Step}
 use Rattle.program_laws.specs.Stories.{Story, is_place, chosen_at, met_at, taken_at, reported_at, story_after}
+use Rattle.program_laws.proofs.TurnPlaces.{set-get, get-set, get-other, first-passes, same-or-not}
 
 -- no two subchannels reach the same side of a unit
 abbrev pub IsOneSided : State → Type 0
@@ -48,7 +53,11 @@ pub data Happening (storage : Contents) (old new : Subchannel) (u v : Option Uni
   Stays : new ≡ old → v ≡ u → ((k : Option Story) → f k ≡ k) → Happening storage old new u v f
   -- instructions
   Starts_with_orb : (orb : Orb) → new ≡ with_state old (started old.state orb) → v ≡ u → ((k : Option Story) → f k ≡ k) → Happening storage old new u v f
-  Is_tested : new ≡ with_state old (tested old.state) → v ≡ u → ((k : Option Story) → f k ≡ k) → Happening storage old new u v f
+  Is_tested : new ≡ with_state old (tested_wholly old.state) → v ≡ u → ((k : Option Story) → f k ≡ k) → Happening storage old new u v f
+  Is_resumed : new ≡ with_state old (resumed old.state) → v ≡ u → ((k : Option Story) → f k ≡ k) → Happening storage old new u v f
+  Is_halted : new ≡ with_state old (halted old.state) → v ≡ u → ((k : Option Story) → f k ≡ k) → Happening storage old new u v f
+  Is_cleared : new ≡ with_state old (cleared old.state) → v ≡ u → ((k : Option Story) → f k ≡ k) → Happening storage old new u v f
+  Is_cancelled : new ≡ with_state old (cancelled old.state) → v ≡ u → ((k : Option Story) → f k ≡ k) → Happening storage old new u v f
   Is_modified : (pmcw : Pmcw) → new ≡ with_state old (record old.state { pmcw = pmcw }) → v ≡ u → ((k : Option Story) → f k ≡ k) → Happening storage old new u v f
   -- the subsystem chooses a path
   Is_chosen : (choice : Option ℕ) (t : SubTurn) → choose_sub old (chosen old choice) ≡ Ok t → new ≡ t.sub → v ≡ u →
@@ -69,64 +78,22 @@ pub data Happening (storage : Contents) (old new : Subchannel) (u v : Option Uni
       same_side other.setup.side report.side ≡ true → report_sub other x report ≡ Ok t → new ≡ old → v ≡ Some t.«unit» → ((k : Option Story) → f k ≡ k) →
       Happening storage old new u v f
 
--- an element of a list in which one was set
-pub set-get : {A : Type 0} (xs : List A) (k : ℕ) (y : A) (i : ℕ) (x : A) → slice_get (slice_set xs k y) i ≡ Some x →
-    ((i ≡ k) × (x ≡ y)) ⊎ ((i ≢ k) × (slice_get xs i ≡ Some x))
-set-get [] k y i x e = absurd (cc e)
-set-get (z ∷ xs) zero y zero x e = inl (refl, cc e)
-set-get (z ∷ xs) zero y (suc i) x e = inr (λ h. absurd (omega (arith, h)), e)
-set-get (z ∷ xs) (suc k) y zero x e = inr (λ h. absurd (omega (arith, h)), e)
-set-get (z ∷ xs) (suc k) y (suc i) x e =
-    elim (set-get xs k y i x e) [
-      | inl p ↦ inl (ap suc p.0, p.1)
-      | inr p ↦ inr (λ h. p.0 (omega (arith, h)), p.1)
-    ]
-
-pub get-set : {A : Type 0} (xs : List A) (k : ℕ) (x y : A) → slice_get xs k ≡ Some x → slice_get (slice_set xs k y) k ≡ Some y
-get-set [] k x y e = absurd (cc e)
-get-set (z ∷ xs) zero x y e = refl
-get-set (z ∷ xs) (suc k) x y e = get-set xs k x y e
-
-pub get-other : {A : Type 0} (xs : List A) (k : ℕ) (y : A) (i : ℕ) → i ≢ k → slice_get (slice_set xs k y) i ≡ slice_get xs i
-get-other [] k y i n = refl
-get-other (z ∷ xs) zero y zero n = absurd (n refl)
-get-other (z ∷ xs) zero y (suc i) n = refl
-get-other (z ∷ xs) (suc k) y zero n = refl
-get-other (z ∷ xs) (suc k) y (suc i) n = get-other xs k y i (λ h. n (ap suc h))
-
--- the subchannel at the first place that passes a test passes it
-first-cases : (b : Bool) (o : Option ℕ) (place : ℕ) → (if b then Some 0 else one_later o) ≡ Some place →
-    ((b ≡ true) × (place ≡ zero)) ⊎ ((i : ℕ) × (o ≡ Some i) × (place ≡ suc i))
-first-cases true o place e = let z : 0 ≡ place = cc e in inl (refl, omega (arith, z))
-first-cases false None place e = absurd (cc e)
-first-cases false (Some i) place e = let z : i + 1 ≡ place = cc e in inr (i, refl, omega (arith, z))
-
-first-passes : (test : Subchannel → Bool) (subs : List Subchannel) (place : ℕ) (sub : Subchannel) → first_place test subs ≡ Some place →
-    slice_get subs place ≡ Some sub → test sub ≡ true
-first-passes test [] place sub e there = absurd (cc e)
-first-passes test (x ∷ xs) place sub e there =
-    elim (first-cases (test x) (first_place test xs) place e) [
-      | inl h ↦ let same : x ≡ sub = cc (subst (λ (k : ℕ). slice_get (x ∷ xs) k ≡ Some sub) h.1 there) in sym (ap test same) ∙ h.0
-      | inr h ↦ first-passes test xs h.0 sub h.1 (subst (λ (k : ℕ). slice_get (x ∷ xs) k ≡ Some sub) h.2 there)
-    ]
-
--- two numbers are the same or not
-pub same-or-not : (i k : ℕ) → ((i ≡ k) × ((i == k) ≡ true)) ⊎ ((i ≢ k) × ((i == k) ≡ false))
-same-or-not i k = by (i == k) refl
-  where
-    by : (b : Bool) → (i == k) ≡ b → ((i ≡ k) × ((i == k) ≡ true)) ⊎ ((i ≢ k) × ((i == k) ≡ false))
-    by true e = inl (eqb-true i k e, e)
-    by false e = inr (λ h. absurd (cc (sym (eq-eqb i k h) ∙ e)), e)
-
 pub if-ok : {A : Type 0} (P : A → Type 0) (b : Bool) (x y : Result A Fault) → IfOk x P → IfOk y P → IfOk (if b then x else y) P
 if-ok P true x y e f = e
 if-ok P false x y e f = f
 
 -- no event changes how a subchannel is set up
+send-setup : (sub : Subchannel) (state : SubchannelState) (path : ℕ) (signal : Down) (r : Reply) → IfOk (send_sub sub state path signal r) (λ t. t.sub.setup ≡ sub.setup)
+send-setup sub state path signal r = if-ok (λ t. t.sub.setup ≡ sub.setup) (is_full sub.wires.down path) _ _ tt refl
+
 choose-setup : (sub : Subchannel) (c : Chosen) → IfOk (choose_sub sub c) (λ t. t.sub.setup ≡ sub.setup)
 choose-setup sub Idle = refl
+choose-setup sub (Resets r path) = send-setup sub _ path (down.Reset r sub.state.hold.known) (reply.ResetSent r path)
+choose-setup sub Clears = refl
+choose-setup sub (Halts t path) = send-setup sub _ path (down.Halt t) (reply.HaltSent t path)
+choose-setup sub Ends = refl
 choose-setup sub Over = refl
-choose-setup sub (Offers program path) = if-ok (λ t. t.sub.setup ≡ sub.setup) (is_full sub.wires.down path) _ _ tt refl
+choose-setup sub (Offers c path) = send-setup sub _ path (down.Select (sub.state.drawn + 1)) (reply.Offered (sub.state.drawn + 1) path c.resumes)
 
 up_front-setup : (storage : Contents) (sub : Subchannel) (path : ℕ) (front : Option Up) → IfOk (up_front storage sub path front) (λ t. t.sub.setup ≡ sub.setup)
 up_front-setup storage sub path None = tt
@@ -200,7 +167,37 @@ module _ (s : State) (one : IsOneSided s) (place : ℕ) where
   modifies storage at sub given code.Two e = sets storage at sub _ e refl (Stays refl refl (λ k. refl))
   modifies storage at sub given code.Three e = sets storage at sub _ e refl (Stays refl refl (λ k. refl))
 
+  resumes : (at : ℕ) (sub : Subchannel) (c : ConditionCode) → slice_get s.subs at ≡ Some sub → At (with_sub s at (function_sub sub c (resumed sub.state)).sub) (λ k. k)
+  resumes at sub code.Zero e = sets s.storage at sub _ e refl (Is_resumed refl refl (λ k. refl))
+  resumes at sub code.One e = sets s.storage at sub _ e refl (Stays refl refl (λ k. refl))
+  resumes at sub code.Two e = sets s.storage at sub _ e refl (Stays refl refl (λ k. refl))
+  resumes at sub code.Three e = sets s.storage at sub _ e refl (Stays refl refl (λ k. refl))
+
+  halts : (at : ℕ) (sub : Subchannel) (c : ConditionCode) → slice_get s.subs at ≡ Some sub → At (with_sub s at (function_sub sub c (halted sub.state)).sub) (λ k. k)
+  halts at sub code.Zero e = sets s.storage at sub _ e refl (Is_halted refl refl (λ k. refl))
+  halts at sub code.One e = sets s.storage at sub _ e refl (Stays refl refl (λ k. refl))
+  halts at sub code.Two e = sets s.storage at sub _ e refl (Stays refl refl (λ k. refl))
+  halts at sub code.Three e = sets s.storage at sub _ e refl (Stays refl refl (λ k. refl))
+
+  clears : (at : ℕ) (sub : Subchannel) (c : ConditionCode) → slice_get s.subs at ≡ Some sub → At (with_sub s at (function_sub sub c (cleared sub.state)).sub) (λ k. k)
+  clears at sub code.Zero e = sets s.storage at sub _ e refl (Is_cleared refl refl (λ k. refl))
+  clears at sub code.One e = sets s.storage at sub _ e refl (Stays refl refl (λ k. refl))
+  clears at sub code.Two e = sets s.storage at sub _ e refl (Stays refl refl (λ k. refl))
+  clears at sub code.Three e = sets s.storage at sub _ e refl (Stays refl refl (λ k. refl))
+
+  cancels : (at : ℕ) (sub : Subchannel) (c : ConditionCode) → slice_get s.subs at ≡ Some sub → At (with_sub s at (function_sub sub c (cancelled sub.state)).sub) (λ k. k)
+  cancels at sub code.Zero e = sets s.storage at sub _ e refl (Is_cancelled refl refl (λ k. refl))
+  cancels at sub code.One e = sets s.storage at sub _ e refl (Stays refl refl (λ k. refl))
+  cancels at sub code.Two e = sets s.storage at sub _ e refl (Stays refl refl (λ k. refl))
+  cancels at sub code.Three e = sets s.storage at sub _ e refl (Stays refl refl (λ k. refl))
+
   -- the instructions
+  function-turns : (p : Option ℕ) (q : Option Subchannel) (turn : Subchannel → SubTurn) → sub_at s.subs p ≡ q →
+      ((at : ℕ) (sub : Subchannel) → slice_get s.subs at ≡ Some sub → At (with_sub s at (turn sub).sub) (λ k. k)) → AllAt keeps (function_at s p q turn)
+  function-turns None q turn e f = stays s.storage (λ k. k) (λ k. refl)
+  function-turns (Some at) None turn e f = stays s.storage (λ k. k) (λ k. refl)
+  function-turns (Some at) (Some sub) turn e f = f at sub e
+
   start-turns : (p : Option ℕ) (q : Option Subchannel) (orb : Orb) → sub_at s.subs p ≡ q → AllAt keeps (start_at s p q orb)
   start-turns None q orb e = stays s.storage (λ k. k) (λ k. refl)
   start-turns (Some at) None orb e = stays s.storage (λ k. k) (λ k. refl)
@@ -275,6 +272,10 @@ module _ (s : State) (one : IsOneSided s) (place : ℕ) where
   executes-turn cpu (instruction.Msch word address) p q o e w = modifies-turn p q (operand_at s.storage cpu address 52 4) o e w
   executes-turn cpu (instruction.Enable word subclass multipath) p q o e w =
       enables-turn cpu p q subclass multipath (operand_at s.storage cpu 0xF00 52 4) o e w
+  executes-turn cpu (instruction.Rsch word) p q o e w = subst (AllAt keeps) (sym w) (function-turns p q resume_sub e (λ at sub f. resumes at sub (rsch_code (condition_of sub.state)) f))
+  executes-turn cpu (instruction.Hsch word) p q o e w = subst (AllAt keeps) (sym w) (function-turns p q halt_sub e (λ at sub f. halts at sub (hsch_code (condition_of sub.state)) f))
+  executes-turn cpu (instruction.Csch word) p q o e w = subst (AllAt keeps) (sym w) (function-turns p q clear_sub e (λ at sub f. clears at sub (csch_code (condition_of sub.state)) f))
+  executes-turn cpu (instruction.Xsch word) p q o e w = subst (AllAt keeps) (sym w) (function-turns p q cancel_sub e (λ at sub f. cancels at sub (xsch_code (condition_of sub.state)) f))
 
   executes_on-turn : (cpu : ℕ) (i : Instruction) (x : Option SubchannelId) (o : Outcome) → Executes_on s cpu i x o → AllAt keeps o
   executes_on-turn cpu i None o w = subst (AllAt keeps) (sym w) tt

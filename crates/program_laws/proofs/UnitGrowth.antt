@@ -1,6 +1,8 @@
 -- What a subchannel does for its program with a signal only adds to the codes of its commands.
-use Rattle.std.proofs.Common.{◌≡◌, refl, sym, ◌∙◌, ap, ℕ, ◌+◌, ◌≤◌, Bool, true, false, ◌==◌, ◌&&◌, Option, None, Some, Result, Ok, Err, List, [], ◌∷◌, ◌++◌, length, map, append_assoc, inl, inr, arith}
-use Rattle.std.specs.Prelude.{◌⊎◌, if◌then◌else◌, is_some}
+use Rattle.std.proofs.Common.{◌≡◌, refl, sym, ◌∙◌, ap, ℕ, ◌+◌, ◌-◌, ◌≤◌, Bool, true, false, ◌==◌, ◌&&◌, Option, None, Some, Result, Ok, Err, List, [], ◌∷◌, ◌++◌, length, map, append_assoc, inl, inr, arith}
+use Rattle.std.specs.Prelude.{◌⊎◌, if◌then◌else◌, is_some, reverse, drop}
+use Rattle.std.proofs.lemmas.Bool.{cases_lt}
+use Rattle.std.proofs.lemmas.List.{append-nil, length-reverse, length-drop, reverse-reverse, reverse-append, drop_all, drop-append-le}
 use Rattle.orb_block.specs.declared.Orb.{Orb}
 use Rattle.ccw_codec.specs.declared.Ccw.{Ccw}
 use Rattle.scsw_irb.specs.declared.status.DeviceStatus.{DeviceStatus}
@@ -11,7 +13,7 @@ use Rattle.chan_model.specs.declared.hold_state.HoldState.{HoldState}
 use Rattle.chan_model.specs.declared.signal.Load.{Load}
 use Rattle.chan_model.specs.declared.signal.Up.{Up}
 use Rattle.chan_model.specs.declared.signal.Up.TheVariants as up
-use Rattle.chan_model.specs.HoldTable.{HoldStep, hold_takes, hold_after, came_of, is_connected, is_on}
+use Rattle.chan_model.specs.HoldTable.{HoldStep, hold_after, came_of, is_connected, is_on}
 use Rattle.chan_model.specs.HoldTable as hold_table
 use Rattle.chan_model.specs.Loads.{load_length}
 use Rattle.chan_model.specs.UnitReports.{is_outward, has_device_end}
@@ -21,20 +23,45 @@ use Rattle.channel_program.specs.declared.Reading.TheVariants.{Transfers, Takes,
 use Rattle.channel_program.specs.Acts.{Act, Block, Unfetched, Used_up, End, Connected, Took, Word, Moved}
 use Rattle.channel_program.specs.Blocks.{reads}
 use Rattle.channel_program.specs.Programs.{Command, join_last, commands_after, commands, code, role_of}
+use Rattle.channel_program.specs.Walks.{Place, place}
 use Rattle.transfer.specs.declared.Transfer.{Transfer}
+use Rattle.transfer.specs.declared.Came.{Came}
+use Rattle.transfer.specs.declared.Came.TheVariants as came
 use Rattle.transfer.specs.Commands.{first_command, next_command, located, has_stopped}
 use Rattle.transfer.specs.Chunks.{with_moved, chains_data, with_answer, absorbed, fitting, brought, is_answered}
 use Rattle.machine_model.specs.declared.state.Begun.{Begun}
 use Rattle.machine_model.specs.declared.state.Program.{Program}
+use Rattle.machine_model.specs.declared.state.Standing.{Standing}
 use Rattle.machine_model.specs.declared.state.SubchannelState.{SubchannelState}
 use Rattle.machine_model.specs.Statuses.{has_status_modifier, chains_command}
-use Rattle.machine_model.specs.Taking.{waits_as, bytes_of}
+use Rattle.machine_model.specs.Taking.{goes_ahead, bytes_of}
 use Rattle.program_laws.specs.Doings.{Part, no_part, with_acts, with_places, moved_on, answered, with_copy, copying, giving, gives, with_arrival, storing, arriving, takes_in, located_acts, chained_acts, chunk_of, first_acts, next_acts}
-use Rattle.program_laws.specs.Stories.{Story, goes_on, begins, accepted_at, accepted, moves, answers, chains, ends, meets}
+use Rattle.program_laws.specs.Stories.{Story, past_part, goes_on, begins, begins_anew, begins_again, again_as, begins_as, accepted_at, accepted, moves, answers, chains, ends, meets}
 
--- the codes of the commands, the latest first
+-- the codes of the commands after the earlier ones, the latest first
+abbrev pub later_codes : ℕ → List ℕ → List ℕ
+later_codes earlier cs = reverse (drop earlier (reverse cs))
+
 abbrev pub codes_of : Story → List ℕ
-codes_of k = map code (commands k.orb k.now.acts)
+codes_of k = later_codes k.earlier (map code (commands k.orb k.now.acts))
+
+pub later-length : (earlier : ℕ) (cs : List ℕ) → length (later_codes earlier cs) ≡ length cs - earlier
+later-length earlier cs = length-reverse (drop earlier (reverse cs)) ∙ length-drop earlier (reverse cs) ∙ ap (λ (n : ℕ). n - earlier) (length-reverse cs)
+
+pub later-none : (cs : List ℕ) → later_codes (length cs) cs ≡ []
+later-none cs = let e : length (reverse cs) ≤ length cs = let f : length (reverse cs) ≡ length cs = length-reverse cs in omega (arith, f) in ap (λ (xs : List ℕ). reverse xs) (drop_all (length cs) (reverse cs) e)
+
+later-more : (earlier : ℕ) (more cs : List ℕ) → earlier ≤ length cs → later_codes earlier (more ++ cs) ≡ more ++ later_codes earlier cs
+later-more earlier more cs l =
+    let f : length (reverse cs) ≡ length cs = length-reverse cs in
+    let within : earlier ≤ length (reverse cs) = omega (arith, l, f) in
+    ap (λ (xs : List ℕ). reverse (drop earlier xs)) (reverse-append more cs)
+    ∙ ap (λ (xs : List ℕ). reverse xs) (drop-append-le earlier (reverse cs) (reverse more) within)
+    ∙ reverse-append (drop earlier (reverse cs)) (reverse more)
+    ∙ ap (λ (xs : List ℕ). xs ++ later_codes earlier cs) (reverse-reverse more)
+
+pub later-first : (earlier c : ℕ) (cs : List ℕ) → earlier ≤ length cs → later_codes earlier (c ∷ cs) ≡ c ∷ later_codes earlier cs
+later-first earlier c cs l = later-more earlier (c ∷ []) cs l
 
 -- one more act adds a code, or none
 joined-codes : (cs : List Command) (ccw : Ccw) → map code (join_last cs ccw) ≡ map code cs
@@ -69,6 +96,20 @@ acts-add orb (Connected number ∷ acts) before = acts-add orb acts before
 acts-add orb (Took number c ∷ acts) before = acts-add orb acts before
 acts-add orb (Word word ∷ acts) before = acts-add orb acts before
 acts-add orb (Moved chunk ∷ acts) before = acts-add orb acts before
+
+later-adds : (earlier : ℕ) (xs ys : List ℕ) → Adds xs ys → Adds (later_codes earlier xs) (later_codes earlier ys)
+later-adds earlier xs ys a =
+    elim (cases_lt (length xs) earlier) [
+      | inl l ↦
+          let f : length (reverse xs) ≡ length xs = length-reverse xs in
+          let none : later_codes earlier xs ≡ [] = ap (λ (cs : List ℕ). reverse cs) (drop_all earlier (reverse xs) (omega (arith, l, f))) in
+          (later_codes earlier ys, sym (append-nil (later_codes earlier ys)) ∙ ap (λ (cs : List ℕ). later_codes earlier ys ++ cs) (sym none))
+      | inr l ↦ (a.0, ap (λ (cs : List ℕ). later_codes earlier cs) a.1 ∙ later-more earlier a.0 xs l)
+    ]
+
+codes-add : (k : Story) (acts : List Act) → Adds (codes_of k) (later_codes k.earlier (map code (commands k.orb (acts ++ k.now.acts))))
+codes-add k acts =
+    later-adds k.earlier (map code (commands k.orb k.now.acts)) (map code (commands k.orb (acts ++ k.now.acts))) (acts-add k.orb acts k.now.acts)
 
 -- parts whose acts grew
 abbrev pub IsOn : Part → Part → Type 0
@@ -140,40 +181,54 @@ if-grown k false x y e f = f
 
 now-grown : (k : Story) (now : Part) → IsOn k.now now → IsGrown k (record k { now = now })
 now-grown k now a =
-    let c : Adds (codes_of k) (map code (commands k.orb (a.0 ++ k.now.acts))) = acts-add k.orb a.0 k.now.acts in
+    let c : Adds (codes_of k) (later_codes k.earlier (map code (commands k.orb (a.0 ++ k.now.acts)))) = codes-add k a.0 in
     record {
       number = refl;
       taken = refl;
       absorbed = refl;
       sent = omega arith;
-      codes = inl (c.0, ap (λ (l : List Act). map code (commands k.orb l)) a.1 ∙ c.1);
+      codes = inl (c.0, ap (λ (l : List Act). later_codes k.earlier (map code (commands k.orb l))) a.1 ∙ c.1);
     }
 
-goes_on-grown : (came : Result Transfer Check) (acts : List Act) (k : Story) → IsGrown k (goes_on came acts k)
-goes_on-grown (Ok t) acts k =
-    let c : Adds (codes_of k) (map code (commands k.orb (acts ++ k.now.acts))) = acts-add k.orb acts k.now.acts in
-    record { number = refl; taken = refl; absorbed = refl; sent = omega arith; codes = inl (c.0, c.1) }
-goes_on-grown (Err check) acts k = now-grown k (with_acts k.now acts) (acts, refl)
+goes_on-grown : (c : Came) (acts : List Act) (k : Story) → IsGrown k (goes_on c acts k)
+goes_on-grown (came.Begins t) acts k = record { number = refl; taken = refl; absorbed = refl; sent = omega arith; codes = inl (codes-add k acts) }
+goes_on-grown came.Suspends acts k = now-grown k (with_acts k.now acts) (acts, refl)
+goes_on-grown (came.Stops check) acts k = now-grown k (with_acts k.now acts) (acts, refl)
 
 -- where none was sent
-begins-grown : (storage : Contents) (program : Program) (k : Story) → k.sent ≡ 0 → IsGrown k (begins storage program k)
-begins-grown storage program k e = by (first_command storage program.orb).came
+begins-grown : (storage : Contents) (walk : Place) (k new : Story) → k.sent ≡ 0 → new.number ≡ k.number → new.taken ≡ k.taken → new.absorbed ≡ k.absorbed →
+    IsGrown k (begins storage walk new)
+begins-grown storage walk k new e f g h = by (first_command storage walk).came
   where
-    by : (came : Result Transfer Check) → IsGrown k (goes_on came (first_acts storage program.orb) (record k { orb = program.orb; now = no_part }))
-    by (Ok t) = record { number = refl; taken = refl; absorbed = refl; sent = omega arith; codes = inr e }
-    by (Err check) = record { number = refl; taken = refl; absorbed = refl; sent = omega arith; codes = inr e }
+    by : (c : Came) → IsGrown k (goes_on c (first_acts storage walk) new)
+    by (came.Begins t) = record { number = f; taken = g; absorbed = h; sent = omega (arith, e); codes = inr e }
+    by came.Suspends = record { number = f; taken = g; absorbed = h; sent = omega (arith, e); codes = inr e }
+    by (came.Stops check) = record { number = f; taken = g; absorbed = h; sent = omega (arith, e); codes = inr e }
 
-accepted_at-grown : (storage : Contents) (phase : HoldPhase) (waiting : Option Program) (k : Story) → k.sent ≡ 0 → IsGrown k (accepted_at storage phase waiting k)
-accepted_at-grown storage (hold.On t p c) (Some program) k e = begins-grown storage program k e
-accepted_at-grown storage (hold.On t p c) None k e = same-grown k
-accepted_at-grown storage hold.Free waiting k e = same-grown k
-accepted_at-grown storage (hold.Offer t p) waiting k e = same-grown k
-accepted_at-grown storage (hold.Away t) waiting k e = same-grown k
-accepted_at-grown storage (hold.Letting t p) waiting k e = same-grown k
-accepted_at-grown storage (hold.Reset r) waiting k e = same-grown k
+again-grown : (storage : Contents) (suspended : Option Standing) (start : ℕ) (k : Story) → k.sent ≡ 0 → IsGrown k (again_as storage suspended start k)
+again-grown storage None start k e = same-grown k
+again-grown storage (Some st) start k e =
+    if-grown k (st.program.start == start) (begins_again storage st k) k
+    (begins-grown storage st.walk k (record k { earlier = length (commands k.orb k.now.acts); now = past_part k.now }) e refl refl refl) (same-grown k)
+
+begins_as-grown : (storage : Contents) (waiting : Option Program) (suspended : Option Standing) (start : ℕ) (k : Story) → k.sent ≡ 0 →
+    IsGrown k (begins_as storage waiting suspended start k)
+begins_as-grown storage None suspended start k e = again-grown storage suspended start k e
+begins_as-grown storage (Some program) suspended start k e =
+    if-grown k (program.start == start) (begins_anew storage program k) (again_as storage suspended start k)
+    (begins-grown storage (place program.orb []) k (record k { orb = program.orb; earlier = 0; now = no_part }) e refl refl refl)
+    (again-grown storage suspended start k e)
+
+accepted_at-grown : (storage : Contents) (phase : HoldPhase) (s : SubchannelState) (k : Story) → k.sent ≡ 0 → IsGrown k (accepted_at storage phase s k)
+accepted_at-grown storage (hold.On t p c) s k e = begins_as-grown storage s.waiting s.suspended s.offered k e
+accepted_at-grown storage hold.Free s k e = same-grown k
+accepted_at-grown storage (hold.Offer t p) s k e = same-grown k
+accepted_at-grown storage (hold.Away t) s k e = same-grown k
+accepted_at-grown storage (hold.Letting t p) s k e = same-grown k
+accepted_at-grown storage (hold.Reset r) s k e = same-grown k
 
 accepted-grown : (storage : Contents) (s : SubchannelState) (step : Option HoldStep) (k : Story) → k.sent ≡ 0 → IsGrown k (accepted storage s step k)
-accepted-grown storage s step k e = if-grown k (came_of step).taken _ k (accepted_at-grown storage (hold_after s.hold step).phase s.waiting k e) (same-grown k)
+accepted-grown storage s step k e = if-grown k (came_of step).taken _ k (accepted_at-grown storage (hold_after s.hold step).phase s k e) (same-grown k)
 
 -- Accept is taken at an offer alone
 abbrev pub IsUnbegun : HoldPhase → Story → Type 0
@@ -207,7 +262,7 @@ ends-grown storage s None n status more k = same-grown k
 ends-grown storage s (Some b) n status more k = if-grown k (n == b.transfer.command) _ k (chains-grown storage s b status more k) (same-grown k)
 
 pub meets-grown : (storage : Contents) (s : SubchannelState) (p : ℕ) (x : Up) (k : Story) → IsUnbegun s.hold.phase k → IsGrown k (meets storage s p x k)
-meets-grown storage s p (up.Accept t) k e = accept-grown storage s s.hold s.hold.phase t (waits_as s.waiting s.offered) k e
+meets-grown storage s p (up.Accept t) k e = accept-grown storage s s.hold s.hold.phase t (goes_ahead s) k e
 meets-grown storage s p (up.Data t c n seq load) k e = if-grown k (is_connected s.hold.phase p t c) _ k (answers-grown storage s.begun n seq load k) (same-grown k)
 meets-grown storage s p (up.End t n status more) k e = if-grown k (is_on s.hold.phase t) _ k (ends-grown storage s s.begun n status more k) (same-grown k)
 meets-grown storage s p (up.Busy t) k e = same-grown k

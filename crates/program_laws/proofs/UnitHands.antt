@@ -77,6 +77,13 @@ forgetting-calm side u None k a = calm side u
 forgetting-calm side u (Some x) k a =
     if-calm side u (same_side x.side k && (a == x.number)) _ None (calm-own side u (record u { attention = None }) refl refl) (calm side u)
 
+calm-then : (side : Side) (u v w : UnitState) → IsCalm side u v → IsCalm side v w → IsCalm side u w
+calm-then side u v w a b t e = let f = b t e in let g = a t f.0 in (g.0, f.1 ∙ g.1)
+
+freed-where : (side : Side) (u : UnitState) (c : Bool) → IsCalm side u (if c then freed u else u)
+freed-where side u true = calm-idle side u (freed u) refl
+freed-where side u false = calm side u
+
 abbrev pub IsEasy : Down → Type 0
 IsEasy (down.Select t) = ⊥
 IsEasy (down.Command t n code room) = ⊥
@@ -86,7 +93,7 @@ IsEasy (down.Took t n s room) = ⊥
 IsEasy (down.Give t c n s bytes) = ⊥
 IsEasy (down.Halt t) = Unit {0}
 IsEasy (down.Release t) = Unit {0}
-IsEasy (down.Reset r b) = ⊥
+IsEasy (down.Reset r b) = Unit {0}
 IsEasy (down.Got a) = Unit {0}
 
 fresh-calm : (side : Side) (u : UnitState) (k : Side) (p : ℕ) (step : Option UnitStep) → IsCalmStep side u step → IsCalmStep side u (if (side_of u k).fresh then telling u p else step)
@@ -102,7 +109,9 @@ easy-calm side u k p (down.Give t c n s bytes) m = absurd m
 easy-calm side u k p (down.Halt t) m =
     fresh-calm side u k p _ (if-calm side u (is_owner u.own k t && not u.halted) _ None (calm-own side u (record u { halted = true }) refl refl) (calm side u))
 easy-calm side u k p (down.Release t) m = fresh-calm side u k p _ (if-calm side u (is_owner u.own k t) _ None (calm-idle side u (freed u) refl) (calm side u))
-easy-calm side u k p (down.Reset r b) m = absurd m
+easy-calm side u k p (down.Reset r b) m =
+    if-calm side u (resets u k r b) _ _ (calm-then side u (without_side u k) (reset_side u k r) (freed-where side u (owns u.own k)) (calm-side side k (without_side u k) _))
+    (fresh-calm side u k p None (calm side u))
 easy-calm side u k p (down.Got a) m = fresh-calm side u k p _ (forgetting-calm side u u.attention k a)
 
 -- what a program that holds the device does is no matter of the other side
@@ -151,13 +160,6 @@ selected-calm : (side : Side) (u : UnitState) (o : Own) (k : Side) (p t : ℕ) �
 selected-calm side u own.Idle k p t e = λ n f. absurd (other-owner side k t n (On p 0) e f)
 selected-calm side u (own.Owned j v place) k p t e = calm-side side k u _
 
-calm-then : (side : Side) (u v w : UnitState) → IsCalm side u v → IsCalm side v w → IsCalm side u w
-calm-then side u v w a b t e = let f = b t e in let g = a t f.0 in (g.0, f.1 ∙ g.1)
-
-freed-where : (side : Side) (u : UnitState) (c : Bool) → IsCalm side u (if c then freed u else u)
-freed-where side u true = calm-idle side u (freed u) refl
-freed-where side u false = calm side u
-
 pub other-calm : (side : Side) (u : UnitState) (k : Side) (p : ℕ) (d : Down) → same_side k side ≡ false → IsCalmStep side u (unit_takes u k p d true)
 other-calm side u k p (down.Select t) e = fresh-calm side u k p _ (if-calm side u (nat_lt (side_of u k).floor t) _ None (selected-calm side u u.own k p t e) (calm side u))
 other-calm side u k p (down.Command t n code room) e =
@@ -171,9 +173,7 @@ other-calm side u k p (down.Give t c n s bytes) e =
     fresh-calm side u k p _ (given-other side k u t c n s bytes (is_owner_on u.own k t c) (n == u.last_command) e refl)
 other-calm side u k p (down.Halt t) e = easy-calm side u k p (down.Halt t) tt
 other-calm side u k p (down.Release t) e = easy-calm side u k p (down.Release t) tt
-other-calm side u k p (down.Reset r b) e =
-    if-calm side u (resets u k r b) _ _ (calm-then side u (without_side u k) (reset_side u k r) (freed-where side u (owns u.own k)) (calm-side side k (without_side u k) _))
-    (fresh-calm side u k p None (calm side u))
+other-calm side u k p (down.Reset r b) e = easy-calm side u k p (down.Reset r b) tt
 other-calm side u k p (down.Got a) e = easy-calm side u k p (down.Got a) tt
 
 -- what holds of the command at hand of a program

@@ -1,5 +1,5 @@
 -- The commands that a unit takes of one side, in the order of the program that was offered last.
-use Rattle.std.proofs.Common.{◌≡◌, refl, sym, ◌∙◌, ap, subst, ℕ, zero, suc, ◌+◌, ◌≤◌, ◌<◌, Bool, true, false, ◌==◌, ◌&&◌, nat_lt, length, Option, None, Some, List, [], ◌∷◌, ◌++◌, append_assoc, length-append, arith}
+use Rattle.std.proofs.Common.{◌≡◌, refl, sym, ◌∙◌, ap, subst, ℕ, zero, suc, ◌+◌, ◌≤◌, ◌<◌, Bool, true, false, ◌==◌, ◌&&◌, ◌||◌, nat_lt, length, Option, None, Some, List, [], ◌∷◌, ◌++◌, append_assoc, length-append, arith}
 use Rattle.std.specs.Prelude.{if◌then◌else◌, drop, slice_get, slice_set, All, IfSome}
 use Rattle.std.proofs.lemmas.Bool.{eqb-true, eq-eqb, ltb-true, and_parts}
 use Rattle.std.proofs.lemmas.List.{append-nil}
@@ -10,6 +10,7 @@ use Rattle.chan_model.specs.declared.names.Side.TheVariants.{First, Second}
 use Rattle.chan_model.specs.declared.signal.Down.{Down}
 use Rattle.chan_model.specs.declared.signal.Down.TheVariants as down
 use Rattle.chan_model.specs.declared.signal.OnPath.{OnPath}
+use Rattle.chan_model.specs.declared.signal.Up.TheVariants as up
 use Rattle.chan_model.specs.declared.unit_state.AtHand.{AtHand}
 use Rattle.chan_model.specs.declared.unit_state.Own.{Own}
 use Rattle.chan_model.specs.declared.unit_state.Own.TheVariants as own
@@ -18,10 +19,10 @@ use Rattle.chan_model.specs.declared.unit_state.Place.TheVariants.{On}
 use Rattle.chan_model.specs.declared.unit_state.SideState.{SideState}
 use Rattle.chan_model.specs.declared.unit_state.UnitState.{UnitState}
 use Rattle.chan_model.specs.Sides.{same_side}
-use Rattle.chan_model.specs.UnitTable.{UnitStep, came_of, changes, new_command, side_of, with_side, is_owner, held, raised, selected, telling, unit_works, unit_takes, unit_after}
+use Rattle.chan_model.specs.UnitTable.{UnitStep, came_of, changes, sends, new_command, side_of, with_side, owns, is_owner, freed, held, raised, selected, without_side, reset_side, telling, unit_works, unit_takes, unit_after}
 use Rattle.wires.specs.Queues.{queue, taken}
 use Rattle.machine_model.specs.Steps.{with_any_sent}
-use Rattle.program_laws.proofs.UnitSides.{same-sides, IsStill, IsMild, mild-still}
+use Rattle.program_laws.proofs.UnitSides.{same-sides, side-own, IsStill, IsMild, mild-still}
 
 -- the n-th of the codes, of which the latest stands first
 pub record IsNth (codes : List ℕ) (n code : ℕ) : Type 0 where
@@ -30,39 +31,41 @@ pub record IsNth (codes : List ℕ) (n code : ℕ) : Type 0 where
   pub list : codes ≡ later ++ (code ∷ mid)
   pub count : length mid + 1 ≡ n
 
--- a signal to the unit: its program's number is at most the last that was drawn, and a Command of this one is of the codes
+-- a signal to the unit: its program's number is at most that of the last offer, the number of a Reset at most the last that
+-- was drawn, and a Command of this program is of the codes
 abbrev pub IsCommanded : ℕ → ℕ → List ℕ → ℕ → ℕ → ℕ → Type 0
 IsCommanded number sent codes t n code = (t ≤ number) × (t ≡ number → (n ≤ sent) × IsNth codes n code)
 
-abbrev pub IsDown : ℕ → ℕ → List ℕ → Down → Type 0
-IsDown number sent codes (down.Select t) = t ≤ number
-IsDown number sent codes (down.Command t n code room) = IsCommanded number sent codes t n code
-IsDown number sent codes (down.Grant t c) = Unit {0}
-IsDown number sent codes (down.Refuse t c) = Unit {0}
-IsDown number sent codes (down.Took t n s room) = Unit {0}
-IsDown number sent codes (down.Give t c n s bytes) = Unit {0}
-IsDown number sent codes (down.Halt t) = Unit {0}
-IsDown number sent codes (down.Release t) = Unit {0}
-IsDown number sent codes (down.Reset r b) = ⊥
-IsDown number sent codes (down.Got a) = Unit {0}
+abbrev pub IsDown : ℕ → ℕ → ℕ → List ℕ → Down → Type 0
+IsDown drawn number sent codes (down.Select t) = t ≤ number
+IsDown drawn number sent codes (down.Command t n code room) = IsCommanded number sent codes t n code
+IsDown drawn number sent codes (down.Grant t c) = Unit {0}
+IsDown drawn number sent codes (down.Refuse t c) = Unit {0}
+IsDown drawn number sent codes (down.Took t n s room) = Unit {0}
+IsDown drawn number sent codes (down.Give t c n s bytes) = Unit {0}
+IsDown drawn number sent codes (down.Halt t) = Unit {0}
+IsDown drawn number sent codes (down.Release t) = Unit {0}
+IsDown drawn number sent codes (down.Reset r b) = r ≤ drawn
+IsDown drawn number sent codes (down.Got a) = Unit {0}
 
 abbrev pub AreOn : {A : Type 0} → (A → Type 0) → List (List A) → Type 0
 AreOn P queues = (p : ℕ) → All P (queue queues p)
 
--- what a unit keeps of a side whose last number is this, and how many commands of it it took
-pub record IsNumbered (side : Side) (number : ℕ) (took : List ℕ) (u : UnitState) : Type 0 where
+-- what a unit keeps of a side whose last offer has this number, and how many commands of it it took
+pub record IsNumbered (side : Side) (drawn number : ℕ) (took : List ℕ) (u : UnitState) : Type 0 where
   pub fresh : (side_of u side).fresh ≡ false
-  pub floor : (side_of u side).floor ≤ number
+  pub floor : (side_of u side).floor ≤ drawn
   pub new : (side_of u side).floor < number → took ≡ []
   pub owned : (t : ℕ) → is_owner u.own side t ≡ true → t ≤ (side_of u side).floor
+  pub named : (t : ℕ) → is_owner u.own side t ≡ true → t ≤ number
   pub last : is_owner u.own side number ≡ true → u.last_command ≡ length took
 
-pub record IsOrdered (side : Side) (number sent : ℕ) (codes took : List ℕ) (wires : List (List Down)) (u : UnitState) : Type 0 where
+pub record IsOrdered (side : Side) (drawn number sent : ℕ) (codes took : List ℕ) (wires : List (List Down)) (u : UnitState) : Type 0 where
   pub later : List ℕ
   pub order : codes ≡ later ++ took
   pub most : length took ≤ sent
-  pub downs : AreOn (IsDown number sent codes) wires
-  pub kept : IsNumbered side number took u
+  pub downs : AreOn (IsDown drawn number sent codes) wires
+  pub kept : IsNumbered side drawn number took u
 
 -- queues
 queue-set : {A : Type 0} (P : A → Type 0) (queues : List (List A)) (k : ℕ) (xs : List A) → AreOn P queues → All P xs → AreOn P (slice_set queues k xs)
@@ -94,103 +97,128 @@ nth-more more codes n code k = record {
   count = k.count;
 }
 
-down-more : (number sent after : ℕ) (more codes : List ℕ) (d : Down) → sent ≤ after → IsDown number sent codes d → IsDown number after (more ++ codes) d
-down-more number sent after more codes (down.Select t) le h = h
-down-more number sent after more codes (down.Command t n code room) le h = (h.0, λ e. let k = h.1 e in (omega (arith, k.0, le), nth-more more codes n code k.1))
-down-more number sent after more codes (down.Grant t c) le h = tt
-down-more number sent after more codes (down.Refuse t c) le h = tt
-down-more number sent after more codes (down.Took t n s room) le h = tt
-down-more number sent after more codes (down.Give t c n s bytes) le h = tt
-down-more number sent after more codes (down.Halt t) le h = tt
-down-more number sent after more codes (down.Release t) le h = tt
-down-more number sent after more codes (down.Reset r b) le h = h
-down-more number sent after more codes (down.Got a) le h = tt
+down-more : (drawn number sent after : ℕ) (more codes : List ℕ) (d : Down) → sent ≤ after → IsDown drawn number sent codes d → IsDown drawn number after (more ++ codes) d
+down-more drawn number sent after more codes (down.Select t) le h = h
+down-more drawn number sent after more codes (down.Command t n code room) le h = (h.0, λ e. let k = h.1 e in (omega (arith, k.0, le), nth-more more codes n code k.1))
+down-more drawn number sent after more codes (down.Grant t c) le h = tt
+down-more drawn number sent after more codes (down.Refuse t c) le h = tt
+down-more drawn number sent after more codes (down.Took t n s room) le h = tt
+down-more drawn number sent after more codes (down.Give t c n s bytes) le h = tt
+down-more drawn number sent after more codes (down.Halt t) le h = tt
+down-more drawn number sent after more codes (down.Release t) le h = tt
+down-more drawn number sent after more codes (down.Reset r b) le h = h
+down-more drawn number sent after more codes (down.Got a) le h = tt
 
 -- the hold sends something, or nothing, as the codes grow or stay
-pub hold-sends : (side : Side) (number sent after : ℕ) (codes more took : List ℕ) (wires : List (List Down)) (u : UnitState) (one : Option (OnPath Down)) →
-    IsOrdered side number sent codes took wires u → sent ≤ after → IfSome one (λ x. IsDown number after (more ++ codes) x.signal) →
-    IsOrdered side number after (more ++ codes) took (with_any_sent wires one) u
-hold-sends side number sent after codes more took wires u one k le h = record {
+pub hold-sends : (side : Side) (drawn number sent after : ℕ) (codes more took : List ℕ) (wires : List (List Down)) (u : UnitState) (one : Option (OnPath Down)) →
+    IsOrdered side drawn number sent codes took wires u → sent ≤ after → IfSome one (λ x. IsDown drawn number after (more ++ codes) x.signal) →
+    IsOrdered side drawn number after (more ++ codes) took (with_any_sent wires one) u
+hold-sends side drawn number sent after codes more took wires u one k le h = record {
   later = more ++ k.later;
   order = ap (λ xs. more ++ xs) k.order ∙ sym (append_assoc more k.later took);
   most = omega (arith, le, k.most);
-  downs = on-sent (IsDown number after (more ++ codes)) wires one
-      (on-weaker (IsDown number sent codes) (IsDown number after (more ++ codes)) wires (λ d h. down-more number sent after more codes d le h) k.downs) h;
+  downs = on-sent (IsDown drawn number after (more ++ codes)) wires one
+      (on-weaker (IsDown drawn number sent codes) (IsDown drawn number after (more ++ codes)) wires (λ d h. down-more drawn number sent after more codes d le h) k.downs) h;
   kept = k.kept;
 }
 
 -- before the first Command there is none on the wires, and the codes may be any
-down-first : (number after : ℕ) (codes news : List ℕ) (d : Down) → IsDown number 0 codes d → IsDown number after news d
-down-first number after codes news (down.Select t) h = h
-down-first number after codes news (down.Command t n code room) h = (h.0, λ e. let k = h.1 e in absurd (omega (arith, k.0, k.1.count)))
-down-first number after codes news (down.Grant t c) h = tt
-down-first number after codes news (down.Refuse t c) h = tt
-down-first number after codes news (down.Took t n s room) h = tt
-down-first number after codes news (down.Give t c n s bytes) h = tt
-down-first number after codes news (down.Halt t) h = tt
-down-first number after codes news (down.Release t) h = tt
-down-first number after codes news (down.Reset r b) h = h
-down-first number after codes news (down.Got a) h = tt
+down-first : (drawn number after : ℕ) (codes news : List ℕ) (d : Down) → IsDown drawn number 0 codes d → IsDown drawn number after news d
+down-first drawn number after codes news (down.Select t) h = h
+down-first drawn number after codes news (down.Command t n code room) h = (h.0, λ e. let k = h.1 e in absurd (omega (arith, k.0, k.1.count)))
+down-first drawn number after codes news (down.Grant t c) h = tt
+down-first drawn number after codes news (down.Refuse t c) h = tt
+down-first drawn number after codes news (down.Took t n s room) h = tt
+down-first drawn number after codes news (down.Give t c n s bytes) h = tt
+down-first drawn number after codes news (down.Halt t) h = tt
+down-first drawn number after codes news (down.Release t) h = tt
+down-first drawn number after codes news (down.Reset r b) h = h
+down-first drawn number after codes news (down.Got a) h = tt
 
 none-took : (took : List ℕ) → length took ≤ 0 → took ≡ []
 none-took [] le = refl
 none-took (x ∷ xs) le = absurd (omega (arith, le))
 
-pub hold-begins : (side : Side) (number after : ℕ) (codes news took : List ℕ) (wires : List (List Down)) (u : UnitState) (one : Option (OnPath Down)) →
-    IsOrdered side number 0 codes took wires u → IfSome one (λ x. IsDown number after news x.signal) → IsOrdered side number after news took (with_any_sent wires one) u
-hold-begins side number after codes news took wires u one k h = record {
+pub hold-begins : (side : Side) (drawn number after : ℕ) (codes news took : List ℕ) (wires : List (List Down)) (u : UnitState) (one : Option (OnPath Down)) →
+    IsOrdered side drawn number 0 codes took wires u → IfSome one (λ x. IsDown drawn number after news x.signal) → IsOrdered side drawn number after news took (with_any_sent wires one) u
+hold-begins side drawn number after codes news took wires u one k h = record {
   later = news;
   order = sym (append-nil news) ∙ ap (λ xs. news ++ xs) (sym (none-took took k.most));
   most = let le : length took ≤ 0 = k.most in omega (arith, le);
-  downs = on-sent (IsDown number after news) wires one
-      (on-weaker (IsDown number 0 codes) (IsDown number after news) wires (λ d h. down-first number after codes news d h) k.downs) h;
+  downs = on-sent (IsDown drawn number after news) wires one
+      (on-weaker (IsDown drawn number 0 codes) (IsDown drawn number after news) wires (λ d h. down-first drawn number after codes news d h) k.downs) h;
   kept = k.kept;
 }
 
 -- a greater number is drawn
-down-new : (number sent after : ℕ) (codes : List ℕ) (d : Down) → number < after → IsDown number sent codes d → IsDown after 0 [] d
-down-new number sent after codes (down.Select t) lt h = omega (arith, h, lt)
-down-new number sent after codes (down.Command t n code room) lt h = (omega (arith, h.0, lt), λ e. absurd (omega (arith, h.0, e, lt)))
-down-new number sent after codes (down.Grant t c) lt h = tt
-down-new number sent after codes (down.Refuse t c) lt h = tt
-down-new number sent after codes (down.Took t n s room) lt h = tt
-down-new number sent after codes (down.Give t c n s bytes) lt h = tt
-down-new number sent after codes (down.Halt t) lt h = tt
-down-new number sent after codes (down.Release t) lt h = tt
-down-new number sent after codes (down.Reset r b) lt h = h
-down-new number sent after codes (down.Got a) lt h = tt
+down-new : (drawn number sent after : ℕ) (codes : List ℕ) (d : Down) → number ≤ drawn → drawn < after → IsDown drawn number sent codes d → IsDown after after 0 [] d
+down-new drawn number sent after codes (down.Select t) le lt h = omega (arith, h, le, lt)
+down-new drawn number sent after codes (down.Command t n code room) le lt h = (omega (arith, h.0, le, lt), λ e. absurd (omega (arith, h.0, e, le, lt)))
+down-new drawn number sent after codes (down.Grant t c) le lt h = tt
+down-new drawn number sent after codes (down.Refuse t c) le lt h = tt
+down-new drawn number sent after codes (down.Took t n s room) le lt h = tt
+down-new drawn number sent after codes (down.Give t c n s bytes) le lt h = tt
+down-new drawn number sent after codes (down.Halt t) le lt h = tt
+down-new drawn number sent after codes (down.Release t) le lt h = tt
+down-new drawn number sent after codes (down.Reset r b) le lt h = omega (arith, h, lt)
+down-new drawn number sent after codes (down.Got a) le lt h = tt
 
-pub hold-offers : (side : Side) (number sent after : ℕ) (codes took : List ℕ) (wires : List (List Down)) (u : UnitState) (path : ℕ) → number < after →
-    IsOrdered side number sent codes took wires u → IsOrdered side after 0 [] [] (with_any_sent wires (Some (record { path = path; signal = down.Select after }))) u
-hold-offers side number sent after codes took wires u path lt k = record {
+pub hold-offers : (side : Side) (drawn number sent after : ℕ) (codes took : List ℕ) (wires : List (List Down)) (u : UnitState) (path : ℕ) → number ≤ drawn → drawn < after →
+    IsOrdered side drawn number sent codes took wires u → IsOrdered side after after 0 [] [] (with_any_sent wires (Some (record { path = path; signal = down.Select after }))) u
+hold-offers side drawn number sent after codes took wires u path le lt k = record {
   later = [];
   order = refl;
   most = omega arith;
-  downs = on-sent (IsDown after 0 []) wires (Some (record { path = path; signal = down.Select after }))
-      (on-weaker (IsDown number sent codes) (IsDown after 0 []) wires (λ d h. down-new number sent after codes d lt h) k.downs) (omega arith);
+  downs = on-sent (IsDown after after 0 []) wires (Some (record { path = path; signal = down.Select after }))
+      (on-weaker (IsDown drawn number sent codes) (IsDown after after 0 []) wires (λ d h. down-new drawn number sent after codes d le lt h) k.downs) (omega arith);
   kept = record {
     fresh = k.kept.fresh;
     floor = omega (arith, k.kept.floor, lt);
     new = λ l. refl;
     owned = k.kept.owned;
-    last = λ e. absurd (omega (arith, k.kept.owned after e, k.kept.floor, lt));
+    named = λ t e. omega (arith, k.kept.named t e, le, lt);
+    last = λ e. absurd (omega (arith, k.kept.named after e, le, lt));
   };
 }
 
+-- a number is drawn for a Reset
+down-drawn : (drawn later number sent : ℕ) (codes : List ℕ) (d : Down) → drawn ≤ later → IsDown drawn number sent codes d → IsDown later number sent codes d
+down-drawn drawn later number sent codes (down.Select t) le h = h
+down-drawn drawn later number sent codes (down.Command t n code room) le h = h
+down-drawn drawn later number sent codes (down.Grant t c) le h = tt
+down-drawn drawn later number sent codes (down.Refuse t c) le h = tt
+down-drawn drawn later number sent codes (down.Took t n s room) le h = tt
+down-drawn drawn later number sent codes (down.Give t c n s bytes) le h = tt
+down-drawn drawn later number sent codes (down.Halt t) le h = tt
+down-drawn drawn later number sent codes (down.Release t) le h = tt
+down-drawn drawn later number sent codes (down.Reset r b) le h = omega (arith, h, le)
+down-drawn drawn later number sent codes (down.Got a) le h = tt
+
+pub hold-draws : (side : Side) (drawn later number sent : ℕ) (codes took : List ℕ) (wires : List (List Down)) (u : UnitState) → drawn ≤ later →
+    IsOrdered side drawn number sent codes took wires u → IsOrdered side later number sent codes took wires u
+hold-draws side drawn later number sent codes took wires u le k = record {
+  later = k.later;
+  order = k.order;
+  most = k.most;
+  downs = on-weaker (IsDown drawn number sent codes) (IsDown later number sent codes) wires (λ d h. down-drawn drawn later number sent codes d le h) k.downs;
+  kept = record { fresh = k.kept.fresh; floor = omega (arith, k.kept.floor, le); new = k.kept.new; owned = k.kept.owned; named = k.kept.named; last = k.kept.last };
+}
+
 -- the unit is still
-pub numbered-still : (side : Side) (number : ℕ) (took : List ℕ) (u v : UnitState) → IsStill side u v → IsNumbered side number took u → IsNumbered side number took v
-numbered-still side number took u v s k = record {
+pub numbered-still : (side : Side) (drawn number : ℕ) (took : List ℕ) (u v : UnitState) → IsStill side u v → IsNumbered side drawn number took u → IsNumbered side drawn number took v
+numbered-still side drawn number took u v s k = record {
   fresh = ap (λ (x : SideState). x.fresh) s.side_state ∙ k.fresh;
-  floor = subst (λ (x : SideState). x.floor ≤ number) (sym s.side_state) k.floor;
+  floor = subst (λ (x : SideState). x.floor ≤ drawn) (sym s.side_state) k.floor;
   new = subst (λ (x : SideState). x.floor < number → took ≡ []) (sym s.side_state) k.new;
   owned = λ t e. subst (λ (x : SideState). t ≤ x.floor) (sym s.side_state) (k.owned t (s.owner t e).0);
+  named = λ t e. k.named t (s.owner t e).0;
   last = λ e. let f = s.owner number e in f.1 ∙ k.last f.0;
 }
 
-pub ordered-still : (side : Side) (number sent : ℕ) (codes took : List ℕ) (wires : List (List Down)) (u v : UnitState) → IsStill side u v →
-    IsOrdered side number sent codes took wires u → IsOrdered side number sent codes took wires v
-ordered-still side number sent codes took wires u v s k =
-    record { later = k.later; order = k.order; most = k.most; downs = k.downs; kept = numbered-still side number took u v s k.kept }
+pub ordered-still : (side : Side) (drawn number sent : ℕ) (codes took : List ℕ) (wires : List (List Down)) (u v : UnitState) → IsStill side u v →
+    IsOrdered side drawn number sent codes took wires u → IsOrdered side drawn number sent codes took wires v
+ordered-still side drawn number sent codes took wires u v s k =
+    record { later = k.later; order = k.order; most = k.most; downs = k.downs; kept = numbered-still side drawn number took u v s k.kept }
 
 -- Select
 same-owner : (side : Side) (t n : ℕ) (place : Place) → is_owner (own.Owned side t place) side n ≡ true → n ≡ t
@@ -214,37 +242,39 @@ held-side First u t p = refl
 held-side Second u t p = refl
 
 -- the floor is raised, and the owner stays
-raised-numbered : (side : Side) (number : ℕ) (took : List ℕ) (u : UnitState) (t : ℕ) → t ≤ number → (side_of u side).floor < t → IsNumbered side number took u →
-    IsNumbered side number took (raised u side t)
-raised-numbered side number took u t le lt k = record {
+raised-numbered : (side : Side) (drawn number : ℕ) (took : List ℕ) (u : UnitState) (t : ℕ) → number ≤ drawn → t ≤ number → (side_of u side).floor < t → IsNumbered side drawn number took u →
+    IsNumbered side drawn number took (raised u side t)
+raised-numbered side drawn number took u t most le lt k = record {
   fresh = ap (λ (x : SideState). x.fresh) (here-side side u (record (side_of u side) { floor = t })) ∙ k.fresh;
-  floor = subst (λ (x : SideState). x.floor ≤ number) (sym (here-side side u (record (side_of u side) { floor = t }))) le;
+  floor = subst (λ (x : SideState). x.floor ≤ drawn) (sym (here-side side u (record (side_of u side) { floor = t }))) (omega (arith, le, most));
   new = λ l. k.new (omega (arith, le, lt));
   owned = λ n e. subst (λ (x : SideState). n ≤ x.floor) (sym (here-side side u (record (side_of u side) { floor = t })))
       (omega (arith, lt, k.owned n (ap (λ (x : Own). is_owner x side n) (sym (raised-own side u t)) ∙ e)));
+  named = λ n e. k.named n (ap (λ (x : Own). is_owner x side n) (sym (raised-own side u t)) ∙ e);
   last = λ e. raised-last side u t ∙ k.last (ap (λ (x : Own). is_owner x side number) (sym (raised-own side u t)) ∙ e);
 }
 
-held-numbered : (side : Side) (number : ℕ) (took : List ℕ) (u : UnitState) (t p : ℕ) → t ≤ number → (side_of u side).floor < t → IsNumbered side number took u →
-    IsNumbered side number took (held (raised u side t) side t p)
-held-numbered side number took u t p le lt k = record {
+held-numbered : (side : Side) (drawn number : ℕ) (took : List ℕ) (u : UnitState) (t p : ℕ) → number ≤ drawn → t ≤ number → (side_of u side).floor < t → IsNumbered side drawn number took u →
+    IsNumbered side drawn number took (held (raised u side t) side t p)
+held-numbered side drawn number took u t p most le lt k = record {
   fresh = ap (λ (x : SideState). x.fresh) (held-side side u t p) ∙ k.fresh;
-  floor = subst (λ (x : SideState). x.floor ≤ number) (sym (held-side side u t p)) le;
+  floor = subst (λ (x : SideState). x.floor ≤ drawn) (sym (held-side side u t p)) (omega (arith, le, most));
   new = λ l. k.new (omega (arith, le, lt));
   owned = λ n e. subst (λ (x : SideState). n ≤ x.floor) (sym (held-side side u t p)) (let s : n ≡ t = same-owner side t n (On p 0) e in omega (arith, s));
+  named = λ n e. let s : n ≡ t = same-owner side t n (On p 0) e in omega (arith, s, le);
   last = λ e. let s : number ≡ t = same-owner side t number (On p 0) e in sym (ap length (k.new (omega (arith, lt, s))));
 }
 
-selected-numbered : (side : Side) (number : ℕ) (took : List ℕ) (u : UnitState) (o : Own) (p t : ℕ) (may : Bool) → t ≤ number → (side_of u side).floor < t →
-    IsNumbered side number took u → IsNumbered side number took (unit_after u (selected (raised u side t) o side p t may))
-selected-numbered side number took u own.Idle p t true le lt k = held-numbered side number took u t p le lt k
-selected-numbered side number took u own.Idle p t false le lt k = raised-numbered side number took u t le lt k
-selected-numbered side number took u (own.Owned j v place) p t may le lt k = raised-numbered side number took u t le lt k
+selected-numbered : (side : Side) (drawn number : ℕ) (took : List ℕ) (u : UnitState) (o : Own) (p t : ℕ) (may : Bool) → number ≤ drawn → t ≤ number → (side_of u side).floor < t →
+    IsNumbered side drawn number took u → IsNumbered side drawn number took (unit_after u (selected (raised u side t) o side p t may))
+selected-numbered side drawn number took u own.Idle p t true most le lt k = held-numbered side drawn number took u t p most le lt k
+selected-numbered side drawn number took u own.Idle p t false most le lt k = raised-numbered side drawn number took u t most le lt k
+selected-numbered side drawn number took u (own.Owned j v place) p t may most le lt k = raised-numbered side drawn number took u t most le lt k
 
-select-numbered : (side : Side) (number : ℕ) (took : List ℕ) (u : UnitState) (p t : ℕ) (may : Bool) (c : Bool) → nat_lt (side_of u side).floor t ≡ c → t ≤ number →
-    IsNumbered side number took u → IsNumbered side number took (unit_after u (if c then selected (raised u side t) u.own side p t may else None))
-select-numbered side number took u p t may true e le k = selected-numbered side number took u u.own p t may le (ltb-true (side_of u side).floor t e) k
-select-numbered side number took u p t may false e le k = k
+select-numbered : (side : Side) (drawn number : ℕ) (took : List ℕ) (u : UnitState) (p t : ℕ) (may : Bool) (c : Bool) → nat_lt (side_of u side).floor t ≡ c → number ≤ drawn → t ≤ number →
+    IsNumbered side drawn number took u → IsNumbered side drawn number took (unit_after u (if c then selected (raised u side t) u.own side p t may else None))
+select-numbered side drawn number took u p t may true e most le k = selected-numbered side drawn number took u u.own p t may most le (ltb-true (side_of u side).floor t e) k
+select-numbered side drawn number took u p t may false e most le k = k
 
 -- Command: the next of the codes
 pub ends-same : (xs ys p q : List ℕ) → xs ++ p ≡ ys ++ q → length p ≡ length q → p ≡ q
@@ -274,10 +304,10 @@ one-number (own.Owned k v place) side t n e f =
     let b : (n == v) ≡ true = (and_parts (same_side k side) (n == v) f).1 in
     eqb-true t v a ∙ sym (eqb-true n v b)
 
-commanded-here : (side : Side) (number sent : ℕ) (codes took : List ℕ) (wires : List (List Down)) (u : UnitState) (t n code : ℕ) (x : Option AtHand) (same : Bool) →
+commanded-here : (side : Side) (drawn number sent : ℕ) (codes took : List ℕ) (wires : List (List Down)) (u : UnitState) (t n code : ℕ) (x : Option AtHand) (same : Bool) →
     (t == number) ≡ same → is_owner u.own side t ≡ true → n ≡ u.last_command + 1 → IsCommanded number sent codes t n code →
-    IsOrdered side number sent codes took wires u → IsOrdered side number sent codes (if same then code ∷ took else took) wires (next_commanded u n x)
-commanded-here side number sent codes took wires u t n code x true e o m h k =
+    IsOrdered side drawn number sent codes took wires u → IsOrdered side drawn number sent codes (if same then code ∷ took else took) wires (next_commanded u n x)
+commanded-here side drawn number sent codes took wires u t n code x true e o m h k =
     let here : t ≡ number = eqb-true t number e in
     let mine : is_owner u.own side number ≡ true = subst (λ (i : ℕ). is_owner u.own side i ≡ true) here o in
     let last : u.last_command ≡ length took = k.kept.last mine in
@@ -292,13 +322,14 @@ commanded-here side number sent codes took wires u t n code x true e o m h k =
       downs = k.downs;
       kept = record {
         fresh = ap (λ (s : SideState). s.fresh) (same-sides side u (next_commanded u n x) refl refl) ∙ k.kept.fresh;
-        floor = subst (λ (s : SideState). s.floor ≤ number) (sym (same-sides side u (next_commanded u n x) refl refl)) k.kept.floor;
+        floor = subst (λ (s : SideState). s.floor ≤ drawn) (sym (same-sides side u (next_commanded u n x) refl refl)) k.kept.floor;
         new = λ l. absurd (let l : (side_of u side).floor < number = subst (λ (s : SideState). s.floor < number) (same-sides side u (next_commanded u n x) refl refl) l in omega (arith, l, le));
         owned = λ i f. subst (λ (s : SideState). i ≤ s.floor) (sym (same-sides side u (next_commanded u n x) refl refl)) (k.kept.owned i f);
+        named = k.kept.named;
         last = λ f. omega (arith, next);
       };
     }
-commanded-here side number sent codes took wires u t n code x false e o m h k =
+commanded-here side drawn number sent codes took wires u t n code x false e o m h k =
     record {
       later = k.later;
       order = k.order;
@@ -306,9 +337,10 @@ commanded-here side number sent codes took wires u t n code x false e o m h k =
       downs = k.downs;
       kept = record {
         fresh = ap (λ (s : SideState). s.fresh) (same-sides side u (next_commanded u n x) refl refl) ∙ k.kept.fresh;
-        floor = subst (λ (s : SideState). s.floor ≤ number) (sym (same-sides side u (next_commanded u n x) refl refl)) k.kept.floor;
+        floor = subst (λ (s : SideState). s.floor ≤ drawn) (sym (same-sides side u (next_commanded u n x) refl refl)) k.kept.floor;
         new = subst (λ (s : SideState). s.floor < number → took ≡ []) (sym (same-sides side u (next_commanded u n x) refl refl)) k.kept.new;
         owned = λ i f. subst (λ (s : SideState). i ≤ s.floor) (sym (same-sides side u (next_commanded u n x) refl refl)) (k.kept.owned i f);
+        named = k.kept.named;
         last = λ f. absurd (let same : t ≡ number = one-number u.own side t number o f in let y : (t == number) ≡ true = eq-eqb t number same in cc);
       };
     }
@@ -319,22 +351,22 @@ took_after number true (down.Command t n code room) took = if t == number then c
 took_after number true d took = took
 took_after number false d took = took
 
-abbrev pub IsTaken : Side → ℕ → ℕ → List ℕ → List ℕ → List (List Down) → UnitState → Down → Option UnitStep → Type 0
-IsTaken side number sent codes took wires u d step = IsOrdered side number sent codes (took_after number (came_of step).taken d took) wires (unit_after u step)
+abbrev pub IsTaken : Side → ℕ → ℕ → ℕ → List ℕ → List ℕ → List (List Down) → UnitState → Down → Option UnitStep → Type 0
+IsTaken side drawn number sent codes took wires u d step = IsOrdered side drawn number sent codes (took_after number (came_of step).taken d took) wires (unit_after u step)
 
-commanded-if : (side : Side) (number sent : ℕ) (codes took : List ℕ) (wires : List (List Down)) (u : UnitState) (t n code room : ℕ) (x : Option AtHand) (owner next : Bool) →
-    is_owner u.own side t ≡ owner → (n == u.last_command + 1) ≡ next → IsCommanded number sent codes t n code → IsOrdered side number sent codes took wires u →
-    IsTaken side number sent codes took wires u (down.Command t n code room) (if owner && next then changes (next_commanded u n x) else None)
-commanded-if side number sent codes took wires u t n code room x true true o e h k =
-    commanded-here side number sent codes took wires u t n code x (t == number) refl o (eqb-true n (u.last_command + 1) e) h k
-commanded-if side number sent codes took wires u t n code room x true false o e h k = k
-commanded-if side number sent codes took wires u t n code room x false next o e h k = k
+commanded-if : (side : Side) (drawn number sent : ℕ) (codes took : List ℕ) (wires : List (List Down)) (u : UnitState) (t n code room : ℕ) (x : Option AtHand) (owner next : Bool) →
+    is_owner u.own side t ≡ owner → (n == u.last_command + 1) ≡ next → IsCommanded number sent codes t n code → IsOrdered side drawn number sent codes took wires u →
+    IsTaken side drawn number sent codes took wires u (down.Command t n code room) (if owner && next then changes (next_commanded u n x) else None)
+commanded-if side drawn number sent codes took wires u t n code room x true true o e h k =
+    commanded-here side drawn number sent codes took wires u t n code x (t == number) refl o (eqb-true n (u.last_command + 1) e) h k
+commanded-if side drawn number sent codes took wires u t n code room x true false o e h k = k
+commanded-if side drawn number sent codes took wires u t n code room x false next o e h k = k
 
 -- a side is never fresh
-old-side : (side : Side) (number sent : ℕ) (codes took : List ℕ) (wires : List (List Down)) (u : UnitState) (p : ℕ) (d : Down) (step : Option UnitStep) (fresh : Bool) → fresh ≡ false →
-    IsTaken side number sent codes took wires u d step → IsTaken side number sent codes took wires u d (if fresh then telling u p else step)
-old-side side number sent codes took wires u p d step true e k = absurd (cc e)
-old-side side number sent codes took wires u p d step false e k = k
+old-side : (side : Side) (drawn number sent : ℕ) (codes took : List ℕ) (wires : List (List Down)) (u : UnitState) (p : ℕ) (d : Down) (step : Option UnitStep) (fresh : Bool) → fresh ≡ false →
+    IsTaken side drawn number sent codes took wires u d step → IsTaken side drawn number sent codes took wires u d (if fresh then telling u p else step)
+old-side side drawn number sent codes took wires u p d step true e k = absurd (cc e)
+old-side side drawn number sent codes took wires u p d step false e k = k
 
 mild-took : (number : ℕ) (b : Bool) (d : Down) (took : List ℕ) → IsMild d → took_after number b d took ≡ took
 mild-took number true (down.Select t) took m = absurd m
@@ -353,33 +385,75 @@ select-took : (number : ℕ) (b : Bool) (t : ℕ) (took : List ℕ) → took_aft
 select-took number true t took = refl
 select-took number false t took = refl
 
-mild-taken : (side : Side) (number sent : ℕ) (codes took : List ℕ) (wires : List (List Down)) (u : UnitState) (p : ℕ) (d : Down) → IsMild d →
-    IsOrdered side number sent codes took wires u → IsTaken side number sent codes took wires u d (unit_takes u side p d true)
-mild-taken side number sent codes took wires u p d m k =
-    subst (λ (l : List ℕ). IsOrdered side number sent codes l wires (unit_after u (unit_takes u side p d true)))
+mild-taken : (side : Side) (drawn number sent : ℕ) (codes took : List ℕ) (wires : List (List Down)) (u : UnitState) (p : ℕ) (d : Down) → IsMild d →
+    IsOrdered side drawn number sent codes took wires u → IsTaken side drawn number sent codes took wires u d (unit_takes u side p d true)
+mild-taken side drawn number sent codes took wires u p d m k =
+    subst (λ (l : List ℕ). IsOrdered side drawn number sent codes l wires (unit_after u (unit_takes u side p d true)))
     (sym (mild-took number (came_of (unit_takes u side p d true)).taken d took m))
-    (ordered-still side number sent codes took wires u (unit_after u (unit_takes u side p d true)) (mild-still side u side p d true m) k)
+    (ordered-still side drawn number sent codes took wires u (unit_after u (unit_takes u side p d true)) (mild-still side u side p d true m) k)
 
-selected-taken : (side : Side) (number sent : ℕ) (codes took : List ℕ) (wires : List (List Down)) (u : UnitState) (t : ℕ) (step : Option UnitStep) →
-    IsNumbered side number took (unit_after u step) → IsOrdered side number sent codes took wires u → IsTaken side number sent codes took wires u (down.Select t) step
-selected-taken side number sent codes took wires u t step n k =
-    subst (λ (l : List ℕ). IsOrdered side number sent codes l wires (unit_after u step)) (sym (select-took number (came_of step).taken t took))
+selected-taken : (side : Side) (drawn number sent : ℕ) (codes took : List ℕ) (wires : List (List Down)) (u : UnitState) (t : ℕ) (step : Option UnitStep) →
+    IsNumbered side drawn number took (unit_after u step) → IsOrdered side drawn number sent codes took wires u → IsTaken side drawn number sent codes took wires u (down.Select t) step
+selected-taken side drawn number sent codes took wires u t step n k =
+    subst (λ (l : List ℕ). IsOrdered side drawn number sent codes l wires (unit_after u step)) (sym (select-took number (came_of step).taken t took))
     (record { later = k.later; order = k.order; most = k.most; downs = k.downs; kept = n })
 
-pub unit-takes : (side : Side) (number sent : ℕ) (codes took : List ℕ) (wires : List (List Down)) (u : UnitState) (p : ℕ) (d : Down) → IsDown number sent codes d →
-    IsOrdered side number sent codes took wires u → IsTaken side number sent codes took wires u d (unit_takes u side p d true)
-unit-takes side number sent codes took wires u p (down.Select t) h k =
-    old-side side number sent codes took wires u p (down.Select t) (unit_works u side p (down.Select t) true) (side_of u side).fresh k.kept.fresh
-    (selected-taken side number sent codes took wires u t (unit_works u side p (down.Select t) true)
-    (select-numbered side number took u p t true (nat_lt (side_of u side).floor t) refl h k.kept) k)
-unit-takes side number sent codes took wires u p (down.Command t n code room) h k =
-    old-side side number sent codes took wires u p (down.Command t n code room) (unit_works u side p (down.Command t n code room) true) (side_of u side).fresh k.kept.fresh
-    (commanded-if side number sent codes took wires u t n code room (Some (new_command code room)) (is_owner u.own side t) (n == u.last_command + 1) refl refl h k)
-unit-takes side number sent codes took wires u p (down.Grant t c) h k = mild-taken side number sent codes took wires u p (down.Grant t c) tt k
-unit-takes side number sent codes took wires u p (down.Refuse t c) h k = mild-taken side number sent codes took wires u p (down.Refuse t c) tt k
-unit-takes side number sent codes took wires u p (down.Took t n s room) h k = mild-taken side number sent codes took wires u p (down.Took t n s room) tt k
-unit-takes side number sent codes took wires u p (down.Give t c n s bytes) h k = mild-taken side number sent codes took wires u p (down.Give t c n s bytes) tt k
-unit-takes side number sent codes took wires u p (down.Halt t) h k = mild-taken side number sent codes took wires u p (down.Halt t) tt k
-unit-takes side number sent codes took wires u p (down.Release t) h k = mild-taken side number sent codes took wires u p (down.Release t) tt k
-unit-takes side number sent codes took wires u p (down.Reset r b) h k = absurd h
-unit-takes side number sent codes took wires u p (down.Got a) h k = mild-taken side number sent codes took wires u p (down.Got a) tt k
+-- Reset: no program of its side holds the device
+unowned : (o : Own) (side : Side) (t : ℕ) → owns o side ≡ false → is_owner o side t ≡ true → ⊥
+unowned own.Idle side t e f = absurd (cc f)
+unowned (own.Owned k v place) side t e f = absurd (cc (sym e ∙ (and_parts (same_side k side) (t == v) f).0))
+
+freed-unowned : (side : Side) (u : UnitState) (c : Bool) (t : ℕ) → owns u.own side ≡ c → is_owner (if c then freed u else u).own side t ≡ true → ⊥
+freed-unowned side u true t e f = absurd (cc f)
+freed-unowned side u false t e f = unowned u.own side t e f
+
+reset-unowned : (side : Side) (u : UnitState) (r t : ℕ) → is_owner (reset_side u side r).own side t ≡ true → ⊥
+reset-unowned side u r t e =
+    freed-unowned side u (owns u.own side) t refl (ap (λ (x : Own). is_owner x side t) (sym (side-own side (without_side u side) (record { floor = r; fresh = false }))) ∙ e)
+
+reset-numbered : (side : Side) (drawn number : ℕ) (took : List ℕ) (u : UnitState) (r : ℕ) → r ≤ drawn → (side_of u side).floor < r → IsNumbered side drawn number took u →
+    IsNumbered side drawn number took (reset_side u side r)
+reset-numbered side drawn number took u r le lt k =
+    let at : side_of (reset_side u side r) side ≡ record { floor = r; fresh = false } = here-side side (without_side u side) (record { floor = r; fresh = false }) in
+    record {
+      fresh = ap (λ (x : SideState). x.fresh) at;
+      floor = subst (λ (x : SideState). x.floor ≤ drawn) (sym at) le;
+      new = subst (λ (x : SideState). x.floor < number → took ≡ []) (sym at) (λ l. k.new (omega (arith, l, lt)));
+      owned = λ t e. absurd (reset-unowned side u r t e);
+      named = λ t e. absurd (reset-unowned side u r t e);
+      last = λ e. absurd (reset-unowned side u r number e);
+    }
+
+reset-by : (side : Side) (drawn number sent : ℕ) (codes took : List ℕ) (wires : List (List Down)) (u : UnitState) (p r b : ℕ) (count fresh above : Bool) → (b == u.restarts) ≡ count →
+    fresh ≡ false → nat_lt (side_of u side).floor r ≡ above → r ≤ drawn → IsOrdered side drawn number sent codes took wires u →
+    IsTaken side drawn number sent codes took wires u (down.Reset r b)
+    (if count && (fresh || above) then sends (reset_side u side r) p (up.Cleared r) else (if fresh then telling u p else None))
+reset-by side drawn number sent codes took wires u p r b count true above c f a le k = absurd (cc f)
+reset-by side drawn number sent codes took wires u p r b true false true c f a le k = record {
+  later = k.later;
+  order = k.order;
+  most = k.most;
+  downs = k.downs;
+  kept = reset-numbered side drawn number took u r le (ltb-true (side_of u side).floor r a) k.kept;
+}
+reset-by side drawn number sent codes took wires u p r b true false false c f a le k = k
+reset-by side drawn number sent codes took wires u p r b false false above c f a le k = k
+
+pub unit-takes : (side : Side) (drawn number sent : ℕ) (codes took : List ℕ) (wires : List (List Down)) (u : UnitState) (p : ℕ) (d : Down) → number ≤ drawn → IsDown drawn number sent codes d →
+    IsOrdered side drawn number sent codes took wires u → IsTaken side drawn number sent codes took wires u d (unit_takes u side p d true)
+unit-takes side drawn number sent codes took wires u p (down.Select t) most h k =
+    old-side side drawn number sent codes took wires u p (down.Select t) (unit_works u side p (down.Select t) true) (side_of u side).fresh k.kept.fresh
+    (selected-taken side drawn number sent codes took wires u t (unit_works u side p (down.Select t) true)
+    (select-numbered side drawn number took u p t true (nat_lt (side_of u side).floor t) refl most h k.kept) k)
+unit-takes side drawn number sent codes took wires u p (down.Command t n code room) most h k =
+    old-side side drawn number sent codes took wires u p (down.Command t n code room) (unit_works u side p (down.Command t n code room) true) (side_of u side).fresh k.kept.fresh
+    (commanded-if side drawn number sent codes took wires u t n code room (Some (new_command code room)) (is_owner u.own side t) (n == u.last_command + 1) refl refl h k)
+unit-takes side drawn number sent codes took wires u p (down.Grant t c) most h k = mild-taken side drawn number sent codes took wires u p (down.Grant t c) tt k
+unit-takes side drawn number sent codes took wires u p (down.Refuse t c) most h k = mild-taken side drawn number sent codes took wires u p (down.Refuse t c) tt k
+unit-takes side drawn number sent codes took wires u p (down.Took t n s room) most h k = mild-taken side drawn number sent codes took wires u p (down.Took t n s room) tt k
+unit-takes side drawn number sent codes took wires u p (down.Give t c n s bytes) most h k = mild-taken side drawn number sent codes took wires u p (down.Give t c n s bytes) tt k
+unit-takes side drawn number sent codes took wires u p (down.Halt t) most h k = mild-taken side drawn number sent codes took wires u p (down.Halt t) tt k
+unit-takes side drawn number sent codes took wires u p (down.Release t) most h k = mild-taken side drawn number sent codes took wires u p (down.Release t) tt k
+unit-takes side drawn number sent codes took wires u p (down.Reset r b) most h k =
+    reset-by side drawn number sent codes took wires u p r b (b == u.restarts) (side_of u side).fresh (nat_lt (side_of u side).floor r) refl k.kept.fresh refl h k
+unit-takes side drawn number sent codes took wires u p (down.Got a) most h k = mild-taken side drawn number sent codes took wires u p (down.Got a) tt k

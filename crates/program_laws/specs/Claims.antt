@@ -1,5 +1,5 @@
 -- What is claimed of the program that a subchannel offered last (SA22-7832, chapter 15).
-use Rattle.std.specs.Prelude.{Bool, ◌≡◌, ◌⊎◌, ℕ, ◌+◌, ◌==◌, Option, None, Some, List, [], ◌∷◌, ◌++◌, length, map, reverse, take, slice_get, if◌then◌else◌, All, Contains}
+use Rattle.std.specs.Prelude.{Bool, ◌≡◌, ◌⊎◌, ℕ, ◌+◌, ◌==◌, Option, None, Some, List, [], ◌∷◌, ◌++◌, length, map, reverse, take, drop, slice_get, if◌then◌else◌, All, Contains}
 use Rattle.std.specs.List.{flat_map}
 use Rattle.chan_model.specs.declared.reply.Entry.{Entry}
 use Rattle.channel_config.specs.Lawful.{IsLawful}
@@ -31,13 +31,14 @@ IsBeginning {A} xs ys = (rest : List A) × (xs ++ rest ≡ ys)
 abbrev pub places_of : Orb → List Act → List (Option ℕ)
 places_of orb acts = places (block (kind_of orb)) (reaches orb acts)
 
--- the codes of the commands of a program, the first first
-abbrev pub codes : Orb → List Act → List ℕ
-codes orb acts = reverse (map code (commands orb acts))
+-- the codes of the commands of a program after the first so many, the first first
+abbrev pub codes : ℕ → Orb → List Act → List ℕ
+codes earlier orb acts = drop earlier (reverse (map code (commands orb acts)))
 
--- the commands that the device took are consecutive commands of the program, each once, from the first on
+-- the commands that the device took under this number are consecutive commands of the program, each once, from the first on,
+-- or from the first after those that were sent before it was suspended
 abbrev pub TakesInOrder : Story → Type 0
-TakesInOrder k = IsBeginning (reverse k.taken) (codes k.orb k.now.acts)
+TakesInOrder k = IsBeginning (reverse k.taken) (codes k.earlier k.orb k.now.acts)
 
 -- a chunk has the bytes at its places, as storage stood when it was copied
 abbrev pub IsCopied : Chunk → Type 0

@@ -1,17 +1,18 @@
 -- What is done for a program, act by act, as the subsystem begins its commands and moves their bytes (SA22-7832, chapter
 -- 15). The acts of a list stand the latest first.
 use Rattle.std.specs.Prelude.{ℕ, ◌+◌, ◌==◌, Bool, true, min, if◌then◌else◌, Option, is_some, List, [], ◌∷◌, ◌++◌, length, Result, Ok, Err}
-use Rattle.orb_block.specs.declared.Orb.{Orb}
 use Rattle.ccw_codec.specs.Command.{class_of}
 use Rattle.storage_keys.specs.Storage.{Contents}
 use Rattle.channel_program.specs.declared.check.Check.{Check}
 use Rattle.channel_program.specs.declared.Ended.{Ended}
 use Rattle.channel_program.specs.Acts.{Act, Chunk, Used_up, End, Word}
-use Rattle.channel_program.specs.Walks.{Place, place, after_used_up, after_end, advance_acts}
+use Rattle.channel_program.specs.Walks.{Place, after_used_up, after_end, advance_acts}
 use Rattle.idaw.specs.Places.{each_below}
 use Rattle.data_move.specs.Moving.{Moving, needs_word, next_place, room}
 use Rattle.data_move.specs.Accesses as access
 use Rattle.transfer.specs.declared.Transfer.{Transfer}
+use Rattle.transfer.specs.declared.Came.{Came}
+use Rattle.transfer.specs.declared.Came.TheVariants.{Begins, Suspends, Stops}
 use Rattle.transfer.specs.Commands.{goes_to, located, has_stopped, brings}
 use Rattle.transfer.specs.Chunks.{Brought, with_moved, chains_data, with_answer, absorbed, fitting, brought}
 
@@ -27,15 +28,16 @@ abbrev pub located_acts : Contents → Transfer → List Act
 located_acts storage t = if is_some t.fault then [] else word_acts storage t.walk.orb.key t.moving
 
 -- a command begins from a place: its blocks, and the word of a read that is told at once how many bytes may come
-abbrev pub room_acts : Contents → Result Transfer Check → List Act
-room_acts storage (Ok t) = if brings (class_of t.code) then located_acts storage t else []
-room_acts storage (Err check) = []
+abbrev pub room_acts : Contents → Came → List Act
+room_acts storage (Begins t) = if brings (class_of t.code) then located_acts storage t else []
+room_acts storage Suspends = []
+room_acts storage (Stops check) = []
 
 abbrev pub goes_acts : Contents → ℕ → Place → List Act
 goes_acts storage n old = room_acts storage (goes_to storage n old).came ++ advance_acts storage old
 
-abbrev pub first_acts : Contents → Orb → List Act
-first_acts storage orb = goes_acts storage 1 (place orb [])
+abbrev pub first_acts : Contents → Place → List Act
+first_acts storage walk = goes_acts storage 1 walk
 
 abbrev pub next_acts : Contents → Transfer → Bool → List Act
 next_acts storage t modifier =

@@ -1,5 +1,5 @@
 -- The data of the command at work, block by block (SA22-7832, chapter 15).
-use Rattle.std.specs.Prelude.{ℕ, ◌+◌, Bool, true, false, if◌then◌else◌, List, [], ◌∷◌}
+use Rattle.std.specs.Prelude.{ℕ, ◌+◌, Bool, true, false, List, [], ◌∷◌}
 use Rattle.orb_block.specs.declared.Orb.{Orb}
 use Rattle.ccw_codec.specs.declared.Ccw.{Ccw}
 use Rattle.channel_program.specs.declared.Reading.{Reading}
@@ -23,9 +23,8 @@ abbrev pub reaches_with : Bool → List Command → List Reach → Ccw → List 
 reaches_with true cs rs ccw = chained_reach cs rs ccw
 reaches_with false cs rs ccw = reach ccw.command ccw ∷ []
 
--- an interruption by the program is not served yet: its block is a program check, and moves nothing (own)
 abbrev pub reaches_after : Bool → List Command → List Reach → Reading → List Reach
-reaches_after chained cs rs (Takes ccw) = if ccw.program_controlled then rs else reaches_with chained cs rs ccw
+reaches_after chained cs rs (Takes ccw) = reaches_with chained cs rs ccw
 reaches_after chained cs rs reading = rs
 
 abbrev pub word_after : List Reach → ℕ → List Reach

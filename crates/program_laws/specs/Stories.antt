@@ -1,5 +1,5 @@
 -- What was done for the program that a subchannel offered last: a function of the run (SA22-7832, chapter 15).
-use Rattle.std.specs.Prelude.{ℕ, ◌+◌, ◌==◌, ◌&&◌, Bool, true, false, if◌then◌else◌, Option, None, Some, List, [], ◌∷◌, ◌++◌, take, slice_get, Result, Ok, Err}
+use Rattle.std.specs.Prelude.{ℕ, ◌+◌, ◌==◌, ◌&&◌, Bool, true, false, if◌then◌else◌, Option, None, Some, List, [], ◌∷◌, ◌++◌, length, take, slice_get}
 use Rattle.orb_block.specs.declared.Orb.{Orb}
 use Rattle.scsw_irb.specs.declared.status.DeviceStatus.{DeviceStatus}
 use Rattle.storage_keys.specs.Storage.{Contents}
@@ -23,63 +23,97 @@ use Rattle.chan_model.specs.declared.unit_state.UnitState.{UnitState}
 use Rattle.chan_model.specs.HoldTable.{HoldStep, hold_takes, hold_after, came_of, is_connected, is_on}
 use Rattle.chan_model.specs.Loads.{load_length}
 use Rattle.chan_model.specs.UnitReports.{is_outward, has_device_end}
-use Rattle.channel_program.specs.declared.check.Check.{Check}
 use Rattle.channel_program.specs.Acts.{Act}
+use Rattle.channel_program.specs.Programs.{commands}
+use Rattle.channel_program.specs.Walks.{Place, place}
 use Rattle.transfer.specs.declared.Transfer.{Transfer}
+use Rattle.transfer.specs.declared.Came.{Came}
+use Rattle.transfer.specs.declared.Came.TheVariants as came
 use Rattle.transfer.specs.Commands.{first_command, next_command}
 use Rattle.transfer.specs.Chunks.{is_answered}
 use Rattle.wires.specs.Queues.{first_of}
 use Rattle.machine_model.specs.declared.state.Begun.{Begun}
 use Rattle.machine_model.specs.declared.state.Program.{Program}
+use Rattle.machine_model.specs.declared.state.Standing.{Standing}
 use Rattle.machine_model.specs.declared.state.Subchannel.{Subchannel}
 use Rattle.machine_model.specs.declared.state.SubchannelState.{SubchannelState}
-use Rattle.machine_model.specs.State.{State, place_of}
+use Rattle.machine_model.specs.State.{State, place_of, reached_in}
 use Rattle.machine_model.specs.Statuses.{has_status_modifier, chains_command}
-use Rattle.machine_model.specs.Taking.{waits_as, bytes_of}
-use Rattle.machine_model.specs.Steps.{Run, Opened, Stepped, reached_in}
+use Rattle.machine_model.specs.Taking.{goes_ahead, bytes_of}
+use Rattle.machine_model.specs.Steps.{Run, Opened, Stepped}
 use Rattle.program_laws.specs.Doings.{Part, no_part, with_acts, first_acts, next_acts, gives, takes_in}
 
 -- what was done for the program that was offered under this number
 pub record Story : Type 0 where
   pub number : ℕ
   pub orb : Orb
-  -- how many commands were sent, and what was done as far as the last of them, and as far as the one before
+  -- how many of its commands were sent under earlier numbers, before it was suspended
+  pub earlier : ℕ
+  -- how many commands were sent under this number, and what was done as far as the last of them, and as far as the one
+  -- before
   pub sent : ℕ
   pub now : Part
   pub before : Part
-  -- the codes of the commands that the device took, the latest first
+  -- the codes of the commands that the device took under this number, the latest first
   pub taken : List ℕ
   -- the bytes that it absorbed for the last one, in order
   pub absorbed : List ℕ
 
--- Choose: a program is offered
+-- Choose: a program is offered from its beginning, or from where it was suspended
 abbrev pub offered : ℕ → Orb → Story
-offered t orb = record { number = t; orb = orb; sent = 0; now = no_part; before = no_part; taken = []; absorbed = [] }
+offered t orb = record { number = t; orb = orb; earlier = 0; sent = 0; now = no_part; before = no_part; taken = []; absorbed = [] }
+
+-- what was done before
+abbrev pub past_part : Part → Part
+past_part p = record no_part { acts = p.acts }
+
+abbrev pub resumed : ℕ → Story → Story
+resumed t k = record (offered t k.orb) { earlier = length (commands k.orb k.now.acts); now = past_part k.now }
+
+abbrev pub resumed_for : ℕ → Option Story → Option Story
+resumed_for t None = None
+resumed_for t (Some k) = Some (resumed t k)
 
 abbrev pub offered_for : Option Program → ℕ → Option Story → Option Story
 offered_for None t k = k
 offered_for (Some program) t k = Some (offered t program.orb)
 
 abbrev pub chosen_at : Option Subchannel → Reply → Option Story → Option Story
-chosen_at (Some sub) (reply.Offered t p resumed) k = offered_for sub.state.waiting t k
+chosen_at (Some sub) (reply.Offered t p false) k = offered_for sub.state.waiting t k
+chosen_at (Some sub) (reply.Offered t p true) k = resumed_for t k
 chosen_at sub r k = k
 
--- a command begins, or can't
-abbrev pub goes_on : Result Transfer Check → List Act → Story → Story
-goes_on (Ok t) acts k = record k { sent = k.sent + 1; now = record no_part { acts = acts ++ k.now.acts }; before = k.now }
-goes_on (Err check) acts k = record k { now = with_acts k.now acts }
+-- a command begins, or can't, or the program is suspended
+abbrev pub goes_on : Came → List Act → Story → Story
+goes_on (came.Begins t) acts k = record k { sent = k.sent + 1; now = record no_part { acts = acts ++ k.now.acts }; before = k.now }
+goes_on came.Suspends acts k = record k { now = with_acts k.now acts }
+goes_on (came.Stops check) acts k = record k { now = with_acts k.now acts }
 
--- Accept: the first
-abbrev pub begins : Contents → Program → Story → Story
-begins storage program k =
-    goes_on (first_command storage program.orb).came (first_acts storage program.orb) (record k { orb = program.orb; now = no_part })
+-- Accept: the first of a program that waited, or of one that was suspended the next
+abbrev pub begins : Contents → Place → Story → Story
+begins storage walk k = goes_on (first_command storage walk).came (first_acts storage walk) k
 
-abbrev pub accepted_at : Contents → HoldPhase → Option Program → Story → Story
-accepted_at storage (hold.On t p c) (Some program) k = begins storage program k
-accepted_at storage phase waiting k = k
+abbrev pub begins_anew : Contents → Program → Story → Story
+begins_anew storage program k = begins storage (place program.orb []) (record k { orb = program.orb; earlier = 0; now = no_part })
+
+abbrev pub begins_again : Contents → Standing → Story → Story
+begins_again storage st k = begins storage st.walk (record k { earlier = length (commands k.orb k.now.acts); now = past_part k.now })
+
+abbrev pub again_as : Contents → Option Standing → ℕ → Story → Story
+again_as storage None start k = k
+again_as storage (Some st) start k = if st.program.start == start then begins_again storage st k else k
+
+abbrev pub begins_as : Contents → Option Program → Option Standing → ℕ → Story → Story
+begins_as storage None suspended start k = again_as storage suspended start k
+begins_as storage (Some program) suspended start k =
+    if program.start == start then begins_anew storage program k else again_as storage suspended start k
+
+abbrev pub accepted_at : Contents → HoldPhase → SubchannelState → Story → Story
+accepted_at storage (hold.On t p c) s k = begins_as storage s.waiting s.suspended s.offered k
+accepted_at storage phase s k = k
 
 abbrev pub accepted : Contents → SubchannelState → Option HoldStep → Story → Story
-accepted storage s step k = if (came_of step).taken then accepted_at storage (hold_after s.hold step).phase s.waiting k else k
+accepted storage s step k = if (came_of step).taken then accepted_at storage (hold_after s.hold step).phase s k else k
 
 -- Data: bytes are moved
 abbrev pub moves : Contents → Transfer → ℕ → Load → Story → Story
@@ -104,7 +138,7 @@ ends storage s (Some b) n status more k = if n == b.transfer.command then chains
 
 -- what the subchannel does for its program with a signal
 abbrev pub meets : Contents → SubchannelState → ℕ → Up → Story → Story
-meets storage s p (up.Accept t) k = accepted storage s (hold_takes s.hold p (up.Accept t) (waits_as s.waiting s.offered)) k
+meets storage s p (up.Accept t) k = accepted storage s (hold_takes s.hold p (up.Accept t) (goes_ahead s)) k
 meets storage s p (up.Data t c n seq load) k = if is_connected s.hold.phase p t c then answers storage s.begun n seq load k else k
 meets storage s p (up.End t n status more) k = if is_on s.hold.phase t then ends storage s s.begun n status more k else k
 meets storage s p signal k = k

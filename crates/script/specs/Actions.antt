@@ -2,7 +2,7 @@
 use Rattle.std.specs.Prelude.{ℕ, ◌%◌, ◌==◌, ◌&&◌, nat_le, List, [], ◌∷◌, Option, Some, None, Result, Ok, Err, codes, if◌then◌else◌}
 use Rattle.std.specs.Str.{bytes_eq}
 use Rattle.chan_model.specs.declared.event.Instruction.{Instruction}
-use Rattle.chan_model.specs.declared.event.Instruction.TheVariants.{Ssch, Tsch, Stsch, Msch, Enable}
+use Rattle.chan_model.specs.declared.event.Instruction.TheVariants.{Ssch, Tsch, Stsch, Msch, Rsch, Hsch, Csch, Xsch, Enable}
 use Rattle.chan_model.specs.declared.event.Event.TheVariants as event
 use Rattle.storage_keys.specs.Storage.{key_of_byte}
 use Rattle.storage_keys.specs.declared.key.Key.{Key}
@@ -38,6 +38,22 @@ stsch_row ws = with_operand Stsch (operand_row ws)
 abbrev pub msch_row : List (List ℕ) → Result Instruction ℕ
 msch_row ws = with_operand Msch (operand_row ws)
 
+-- `rsch SUBCHANNEL`
+abbrev pub rsch_row : List (List ℕ) → Result Instruction ℕ
+rsch_row = with_one (λ s. and_then (subchannel s) (λ s. Some (Rsch s)))
+
+-- `hsch SUBCHANNEL`
+abbrev pub hsch_row : List (List ℕ) → Result Instruction ℕ
+hsch_row = with_one (λ s. and_then (subchannel s) (λ s. Some (Hsch s)))
+
+-- `csch SUBCHANNEL`
+abbrev pub csch_row : List (List ℕ) → Result Instruction ℕ
+csch_row = with_one (λ s. and_then (subchannel s) (λ s. Some (Csch s)))
+
+-- `xsch SUBCHANNEL`
+abbrev pub xsch_row : List (List ℕ) → Result Instruction ℕ
+xsch_row = with_one (λ s. and_then (subchannel s) (λ s. Some (Xsch s)))
+
 -- the table of the instructions
 abbrev pub instruction_row : List ℕ → List (List ℕ) → Option (Result Instruction ℕ)
 instruction_row w ws = if bytes_eq w (codes "enable") then Some (enable_row ws)
@@ -45,7 +61,11 @@ instruction_row w ws = if bytes_eq w (codes "enable") then Some (enable_row ws)
     else (if bytes_eq w (codes "tsch") then Some (tsch_row ws)
     else (if bytes_eq w (codes "stsch") then Some (stsch_row ws)
     else (if bytes_eq w (codes "msch") then Some (msch_row ws)
-    else None))))
+    else (if bytes_eq w (codes "rsch") then Some (rsch_row ws)
+    else (if bytes_eq w (codes "hsch") then Some (hsch_row ws)
+    else (if bytes_eq w (codes "csch") then Some (csch_row ws)
+    else (if bytes_eq w (codes "xsch") then Some (xsch_row ws)
+    else None))))))))
 
 -- a CPU executes what the words say; rule 3 where there is no such CPU
 abbrev pub on_cpu : Option ℕ → Result Instruction ℕ → Result Action ℕ

@@ -75,6 +75,38 @@ fn msch_row(words: &[&[u8]]) -> Result<Instruction, u8>
     })
 }
 
+fn rsch_row(words: &[&[u8]]) -> Result<Instruction, u8>
+    ensures { result ≡ spec.rsch_row (map (λ w. w.now) words.now) }
+{
+    let word = one(words).ok_or(2)?;
+    let subchannel = subchannel(word).ok_or(3)?;
+    Ok(Instruction::Rsch { subchannel })
+}
+
+fn hsch_row(words: &[&[u8]]) -> Result<Instruction, u8>
+    ensures { result ≡ spec.hsch_row (map (λ w. w.now) words.now) }
+{
+    let word = one(words).ok_or(2)?;
+    let subchannel = subchannel(word).ok_or(3)?;
+    Ok(Instruction::Hsch { subchannel })
+}
+
+fn csch_row(words: &[&[u8]]) -> Result<Instruction, u8>
+    ensures { result ≡ spec.csch_row (map (λ w. w.now) words.now) }
+{
+    let word = one(words).ok_or(2)?;
+    let subchannel = subchannel(word).ok_or(3)?;
+    Ok(Instruction::Csch { subchannel })
+}
+
+fn xsch_row(words: &[&[u8]]) -> Result<Instruction, u8>
+    ensures { result ≡ spec.xsch_row (map (λ w. w.now) words.now) }
+{
+    let word = one(words).ok_or(2)?;
+    let subchannel = subchannel(word).ok_or(3)?;
+    Ok(Instruction::Xsch { subchannel })
+}
+
 /// The instruction that a line's words ask for, where its first word names one.
 fn instruction_row(word: &[u8], words: &[&[u8]]) -> Option<Result<Instruction, u8>>
     ensures { result ≡ spec.instruction_row word.now (map (λ w. w.now) words.now) }
@@ -93,6 +125,18 @@ fn instruction_row(word: &[u8], words: &[&[u8]]) -> Option<Result<Instruction, u
     }
     if word == b"msch".as_slice() {
         return Some(msch_row(words));
+    }
+    if word == b"rsch".as_slice() {
+        return Some(rsch_row(words));
+    }
+    if word == b"hsch".as_slice() {
+        return Some(hsch_row(words));
+    }
+    if word == b"csch".as_slice() {
+        return Some(csch_row(words));
+    }
+    if word == b"xsch".as_slice() {
+        return Some(xsch_row(words));
     }
     None
 }

@@ -19,7 +19,48 @@ const RIGHT: &[u8] =
     b"# a machine\n\nstorage 10\nsets 2\npath 10\npath fF\nunit 0 block\nsub 0 0100 0 10 FF\nsub 00030000 0101 0 10\nput 500 c1C2\nenable 0 7 1\ncpu f enable 30000 0 0\nssch 0001 500\ncpu 1 ssch 00001 500\ntsch 0 600\nchoose 0\n#\nup 0 1\ndown 0 12345678\ndev 3FF\nglance 3";
 
 const INSTRUCTIONS: &[u8] =
-    b"storage 10\nkey 2FFF 1e\nprefix f 4000\nshow 10FFE 40\nshow 0 1\nstsch 0 700\ncpu 2 msch 10001 704";
+    b"storage 10\nkey 2FFF 1e\nprefix f 4000\nshow 10FFE 40\nshow 0 1\nstsch 0 700\ncpu 2 msch 10001 704\nrsch 0\ncpu 2 hsch 0\ncsch 30001\nxsch 0003";
+
+/// What an instruction is: its name, and its numbers in order, the CPU's first.
+fn shown_instruction(cpu: u32, instruction: &Instruction) -> (&[u8], [u32; 4]) {
+    match instruction {
+        Instruction::Ssch {
+            subchannel,
+            address,
+        } => (b"ssch", [cpu, *subchannel, *address, 0]),
+        Instruction::Tsch {
+            subchannel,
+            address,
+        } => (b"tsch", [cpu, *subchannel, *address, 0]),
+        Instruction::Stsch {
+            subchannel,
+            address,
+        } => (b"stsch", [cpu, *subchannel, *address, 0]),
+        Instruction::Msch {
+            subchannel,
+            address,
+        } => (b"msch", [cpu, *subchannel, *address, 0]),
+        Instruction::Rsch { subchannel } => (b"rsch", [cpu, *subchannel, 0, 0]),
+        Instruction::Hsch { subchannel } => (b"hsch", [cpu, *subchannel, 0, 0]),
+        Instruction::Csch { subchannel } => (b"csch", [cpu, *subchannel, 0, 0]),
+        Instruction::Xsch { subchannel } => (b"xsch", [cpu, *subchannel, 0, 0]),
+        Instruction::Enable {
+            subchannel,
+            subclass,
+            multipath,
+        } => {
+            (
+                b"enable",
+                [
+                    cpu,
+                    *subchannel,
+                    u32::from(*subclass),
+                    u32::from(*multipath),
+                ],
+            )
+        }
+    }
+}
 
 /// What an action is: its kind, and its numbers in order.
 fn shown(action: &Action) -> (&[u8], [u32; 4]) {
@@ -46,40 +87,7 @@ fn shown(action: &Action) -> (&[u8], [u32; 4]) {
             (b"show", [*address, length.get() as u32, 0, 0])
         }
         Action::Event(Event::Execute { cpu, instruction }) => {
-            let cpu = u32::from(cpu.number());
-            match instruction {
-                Instruction::Ssch {
-                    subchannel,
-                    address,
-                } => (b"ssch", [cpu, *subchannel, *address, 0]),
-                Instruction::Tsch {
-                    subchannel,
-                    address,
-                } => (b"tsch", [cpu, *subchannel, *address, 0]),
-                Instruction::Stsch {
-                    subchannel,
-                    address,
-                } => (b"stsch", [cpu, *subchannel, *address, 0]),
-                Instruction::Msch {
-                    subchannel,
-                    address,
-                } => (b"msch", [cpu, *subchannel, *address, 0]),
-                Instruction::Enable {
-                    subchannel,
-                    subclass,
-                    multipath,
-                } => {
-                    (
-                        b"enable",
-                        [
-                            cpu,
-                            *subchannel,
-                            u32::from(*subclass),
-                            u32::from(*multipath),
-                        ],
-                    )
-                }
-            }
+            shown_instruction(u32::from(cpu.number()), instruction)
         }
         Action::Event(Event::Choose { subchannel }) => (b"choose", [*subchannel, 0, 0, 0]),
         Action::Event(Event::Up { subchannel, path }) => (b"up", [*subchannel, *path, 0, 0]),
@@ -126,14 +134,18 @@ fn a_right_script_is_read(rt: HostRuntime) {
 }
 
 #[test]
-fn storage_lines_are_read(rt: HostRuntime) {
-    let wanted: [(u64, &[u8], [u32; 4]); 6] = [
+fn storage_lines_and_instructions_are_read(rt: HostRuntime) {
+    let wanted: [(u64, &[u8], [u32; 4]); 10] = [
         (2, b"key", [0x2FFF, 0x1E, 0, 0]),
         (3, b"prefix", [0xF, 0x4000, 0, 0]),
         (4, b"show", [0x1_0FFE, 0x40, 0, 0]),
         (5, b"show", [0, 1, 0, 0]),
         (6, b"stsch", [0, 0x1_0000, 0x700, 0]),
         (7, b"msch", [2, 0x1_0001, 0x704, 0]),
+        (8, b"rsch", [0, 0x1_0000, 0, 0]),
+        (9, b"hsch", [2, 0x1_0000, 0, 0]),
+        (10, b"csch", [0, 0x3_0001, 0, 0]),
+        (11, b"xsch", [0, 0x1_0003, 0, 0]),
     ];
     match Script::read(rt.alloc(), INSTRUCTIONS) {
         Ok(script) => {
@@ -343,17 +355,37 @@ fn replies_are_shown(rt: HostRuntime) -> Result<(), AllocError> {
         reply_text(&mut out, reply)?;
         assert_eq!(rt; out.as_slice(), *text);
     }
-    if let Some(path) = Path::new(7) {
+    Ok(())
+}
+
+#[test]
+fn replies_with_a_path_are_shown(rt: HostRuntime) -> Result<(), AllocError> {
+    let (Some(first), Some(last)) = (Path::new(0), Path::new(7)) else {
+        assert!(rt; false, "the paths are in range");
+        return Ok(());
+    };
+    let offered = Reply::Offered {
+        number: 3,
+        path: last,
+        resumed: false,
+    };
+    let reset = Reply::ResetSent {
+        number: 4,
+        path: first,
+    };
+    let halt = Reply::HaltSent {
+        number: 5,
+        path: last,
+    };
+    let rows: [(Reply, &[u8]); 3] = [
+        (offered, b"offer 7"),
+        (reset, b"reset 0"),
+        (halt, b"halt 7"),
+    ];
+    for (reply, text) in &rows {
         let mut out = Vec::new(rt.alloc());
-        reply_text(
-            &mut out,
-            &Reply::Offered {
-                number: 3,
-                path,
-                resumed: false,
-            },
-        )?;
-        assert_eq!(rt; out.as_slice(), b"offer 7".as_slice());
+        reply_text(&mut out, reply)?;
+        assert_eq!(rt; out.as_slice(), *text);
     }
     Ok(())
 }

@@ -153,6 +153,14 @@ pub fn reply_text(out: &mut Vec<u8>, reply: &Reply) -> Result<(), AllocError>
             out.extend_from_slice(b"offer ")?;
             push_decimal(out, path.index() as u64)
         }
+        Reply::ResetSent { path, .. } => {
+            out.extend_from_slice(b"reset ")?;
+            push_decimal(out, path.index() as u64)
+        }
+        Reply::HaltSent { path, .. } => {
+            out.extend_from_slice(b"halt ")?;
+            push_decimal(out, path.index() as u64)
+        }
         Reply::Pending => out.extend_from_slice(b"status"),
         Reply::Idle => out.extend_from_slice(b"idle"),
         Reply::Up { signal, taken, .. } => {

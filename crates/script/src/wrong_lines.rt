@@ -3,7 +3,7 @@
 use crate::{Script, ScriptBad};
 use std::alloc::AllocError;
 
-const WRONG: [(&[u8], u64, u8); 60] = [
+const WRONG: [(&[u8], u64, u8); 74] = [
     (b"", 1, 6),
     (b"\n\n# nothing\n", 1, 6),
     (b"\n#\xFF\n", 1, 6),
@@ -52,6 +52,20 @@ const WRONG: [(&[u8], u64, u8); 60] = [
     (b"storage 10\nstsch 0 x\n", 2, 3),
     (b"storage 10\nmsch 0 500 0\n", 2, 2),
     (b"storage 10\nmsch x 500\n", 2, 3),
+    (b"storage 10\nrsch\n", 2, 2),
+    (b"storage 10\nrsch 0 500\n", 2, 2),
+    (b"storage 10\nrsch x\n", 2, 3),
+    (b"storage 10\nhsch\n", 2, 2),
+    (b"storage 10\nhsch 0 500\n", 2, 2),
+    (b"storage 10\nhsch 123456789\n", 2, 3),
+    (b"storage 10\ncsch\n", 2, 2),
+    (b"storage 10\ncsch 0 500\n", 2, 2),
+    (b"storage 10\ncsch 0x1\n", 2, 3),
+    (b"storage 10\nxsch\n", 2, 2),
+    (b"storage 10\nxsch 0 500\n", 2, 2),
+    (b"storage 10\nxsch G\n", 2, 3),
+    (b"storage 10\ncpu 2 hsch\n", 2, 2),
+    (b"storage 10\ncpu 10 csch 0\n", 2, 3),
     (b"storage 10\nput 500 C1\npath 10\n", 3, 4),
     (b"storage 10\nput 500 C1\nstorage 10\n", 3, 4),
     (b"storage 10\nstorage 10\n", 2, 5),

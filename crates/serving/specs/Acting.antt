@@ -17,7 +17,7 @@ use Rattle.device_models.specs.declared.any_device.AnyDevice.{AnyDevice}
 use Rattle.machine_model.specs.State.{Past, opening_of, unit_turn_of, sub_of, serials_in}
 use Rattle.machine_model.specs.Steps.{Step, IsRefused}
 use Rattle.machine_model.specs.declared.state.UnitTurn.{UnitTurn}
-use Rattle.machine_model.specs.declared.state.UnitTurn.TheVariants.{Takes, Works, Rests}
+use Rattle.machine_model.specs.declared.state.UnitTurn.TheVariants.{Takes, Works, Away, Rests}
 use Rattle.scsw_irb.specs.declared.serials.Serials.{Serials}
 use Rattle.script.specs.declared.Action.{Action}
 use Rattle.script.specs.declared.Action.TheVariants as action
@@ -92,7 +92,8 @@ abbrev pub turn_by : List AnyDevice → ℕ → Option (Option Report) → Optio
 turn_by devices place None turn = refused devices fault.NoSuchUnit
 turn_by devices place (Some kept) None = refused devices fault.NoSuchUnit
 turn_by devices place (Some (Some report)) (Some turn) = hands devices report
-turn_by devices place (Some None) (Some Takes) = refused devices fault.NotNow
+turn_by devices place (Some None) (Some (Takes id path)) = refused devices fault.NotNow
+turn_by devices place (Some None) (Some (Away path)) = refused devices fault.NotNow
 turn_by devices place (Some None) (Some Rests) = refused devices fault.NotNow
 turn_by devices place (Some None) (Some (Works w)) = worked devices place w
 

@@ -57,8 +57,8 @@ impl Installation {
 
     /// Performs an action. A turn of a device hands in the report that is kept for its unit, else the one of the unit's next
     /// work. It is refused NoSuchUnit where the unit is not configured, and NotNow where no report is kept and a signal waits
-    /// for the unit or it has nothing to do. A look at serials is refused NoSuchSubchannel where the subchannel is not
-    /// configured.
+    /// for the unit, its program may ask for a path, or it has nothing to do. A look at serials is refused NoSuchSubchannel
+    /// where the subchannel is not configured.
     pub fn act(&mut self, action: &Action) -> Result<Told, Fault>
         ensures { Acts self.old action.now result self.new }
     {
@@ -102,7 +102,7 @@ impl Installation {
         }
         match turn {
             UnitTurn::Works(work) => worked(&mut self.devices, unit, work),
-            UnitTurn::Takes | UnitTurn::Rests => Err(Fault::NotNow),
+            UnitTurn::Takes { .. } | UnitTurn::Away { .. } | UnitTurn::Rests => Err(Fault::NotNow),
         }
     }
 

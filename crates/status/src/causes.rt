@@ -1,9 +1,10 @@
 //! What each cause of status shows, and which programs are over with it (SA22-7832, chapter 16; own).
 
 ghost use Rattle.std.specs.Prelude.{◌≡◌, ◌<◌, ◌^◌};
+ghost use Rattle.chan_model.specs.Status as chan_spec;
 ghost use Rattle.chan_model.specs.UnitReports as report_spec;
 ghost use Rattle.machine_model.specs.Causes as spec;
-ghost use Rattle.machine_model.specs.Taking as taking_spec;
+ghost use Rattle.machine_model.specs.Statuses as status_spec;
 
 use crate::shown::{
     channel_end_shown, conditions, earlier_end_shown, fetch_fault_shown, last_end_shown,
@@ -30,40 +31,41 @@ fn plain_shown(command_address: u32, count: u16) -> Shown
     }
 }
 
-/// The program of which a status speaks, where it was begun.
-fn spoken_of(state: &SubchannelState) -> Option<Begun>
-    ensures { result ≡ spec.spoken_of state.now.waiting state.now.begun }
-{
-    match state.waiting {
-        None => state.begun,
-        Some(_) => None,
-    }
-}
-
+/// The address of the program of which a status speaks.
 fn address_shown(state: &SubchannelState) -> u32
     ensures { result ≡ spec.address_shown state.now }
 {
-    match spoken_of(state) {
-        None => state.scsw.command_address,
-        Some(begun) => begun.transfer.walk.tried(),
+    if state.waiting.is_some() {
+        return state.scsw.command_address;
+    }
+    match (state.begun, state.suspended) {
+        (Some(begun), _) => begun.transfer.walk.tried(),
+        (None, Some(standing)) => standing.walk.tried(),
+        (None, None) => state.scsw.command_address,
     }
 }
 
+/// Its count.
 fn count_shown(state: &SubchannelState) -> u16
     ensures { result ≡ spec.count_shown state.now }
 {
-    match spoken_of(state) {
-        None => state.scsw.count,
-        Some(begun) => begun.transfer.moving.residual(),
+    if state.waiting.is_some() {
+        return state.scsw.count;
+    }
+    match (state.begun, state.suspended) {
+        (Some(begun), _) => begun.transfer.moving.residual(),
+        (None, Some(standing)) => standing.count,
+        (None, None) => state.scsw.count,
     }
 }
 
-fn was_shown(begun: Option<Begun>) -> bool
-    ensures { result ≡ spec.was_shown begun }
+/// Whether it showed its primary status.
+fn was_shown(state: &SubchannelState) -> bool
+    ensures { result ≡ spec.was_shown state.now.waiting state.now.begun }
 {
-    match begun {
-        None => false,
-        Some(begun) => begun.primary_shown,
+    match (state.waiting, state.begun) {
+        (None, Some(begun)) => begun.primary_shown,
+        _ => false,
     }
 }
 
@@ -75,14 +77,14 @@ pub fn is_last_end(status: DeviceStatus) -> bool
 }
 
 /// The last End of a program, or of an earlier one while a start waits.
-pub fn last_shown(
+fn last_shown(
     scsw: Scsw,
     begun: &Begun,
     waiting: Option<Program>,
     status: DeviceStatus,
     more: bool,
 ) -> Shown
-    ensures { result ≡ taking_spec.last_shown scsw begun.now waiting status more }
+    ensures { result ≡ status_spec.last_shown scsw begun.now waiting status more }
 {
     match waiting {
         None => last_end_shown(scsw, begun, status, more),
@@ -133,7 +135,7 @@ fn path_missing_shown(state: &SubchannelState) -> Shown
 fn interface_shown(state: &SubchannelState) -> Shown
     ensures { result ≡ spec.interface_shown state.now }
 {
-    let primary = shows_primary(state.scsw.functions, was_shown(spoken_of(state)));
+    let primary = shows_primary(state.scsw.functions, was_shown(state));
     Shown {
         conditions: conditions(true, primary, true),
         subchannel: SubchannelStatus::INTERFACE_CONTROL_CHECK,
@@ -199,6 +201,7 @@ pub(crate) fn shown_of(state: &SubchannelState, cause: &Cause) -> Shown
     }
 }
 
+/// The program that was begun is over, or where none was the one that was to be.
 fn without_begun(state: &SubchannelState) -> SubchannelState
     ensures { result ≡ spec.without_begun state.now.begun state.now }
 {
@@ -207,10 +210,12 @@ fn without_begun(state: &SubchannelState) -> SubchannelState
         next.begun = None;
     } else {
         next.waiting = None;
+        next.suspended = None;
     }
     next
 }
 
+/// The program that waits is over, or where none waits the suspended one.
 fn without_waiting(state: &SubchannelState) -> SubchannelState
     ensures { result ≡ spec.without_waiting state.now.waiting state.now }
 {
@@ -218,14 +223,14 @@ fn without_waiting(state: &SubchannelState) -> SubchannelState
     if next.waiting.is_some() {
         next.waiting = None;
     } else {
-        next.begun = None;
+        next.suspended = None;
     }
     next
 }
 
 /// A program that showed its primary status with channel end alone: nothing is chained to its command.
-pub fn has_shown(begun: &Begun) -> Begun
-    ensures { result ≡ taking_spec.has_shown begun.now }
+fn has_shown(begun: &Begun) -> Begun
+    ensures { result ≡ status_spec.has_shown begun.now }
 {
     let mut next = *begun;
     next.primary_shown = true;
@@ -248,6 +253,7 @@ fn after_end(state: &SubchannelState, begun: &Begun, last: bool) -> SubchannelSt
 fn programs_left(state: &SubchannelState, cause: &Cause) -> SubchannelState
     ensures state { result ≡ spec.programs_left state.now cause.now }
     ensures counts { result.serials ≡ state.now.serials }
+    ensures enabled { result.pmcw.enabled ≡ state.now.pmcw.enabled }
 {
     match cause {
         Cause::End { begun, status, .. } => after_end(state, begun, is_last_end(*status)),
@@ -280,15 +286,12 @@ fn without_intermediate(scsw: Scsw) -> Scsw
 }
 
 /// The status word that the status of a cause joins.
-fn joined_where(enabled: bool, scsw: Scsw, cause: &Cause) -> Scsw
-    ensures { result ≡ spec.joined_where enabled scsw cause.now }
+fn joined_by(enabled: bool, scsw: Scsw, cause: &Cause) -> Scsw
+    ensures { result ≡ spec.joined_by enabled scsw cause.now }
 {
-    if !enabled {
-        return scsw;
-    }
     match cause {
-        Cause::ClearDone => clear_scsw(),
-        Cause::HaltDone => without_intermediate(scsw),
+        Cause::ClearDone if enabled => clear_scsw(),
+        Cause::HaltDone if enabled => without_intermediate(scsw),
         _ => scsw,
     }
 }
@@ -296,9 +299,10 @@ fn joined_where(enabled: bool, scsw: Scsw, cause: &Cause) -> Scsw
 /// The subchannel after a cause of status.
 pub(crate) fn with_cause(state: &SubchannelState, cause: &Cause) -> SubchannelState
     requires { state.now.serials.made < 2 ^ 63 }
-    ensures { result ≡ spec.with_cause state.now cause.now }
+    ensures state { result ≡ spec.with_cause state.now cause.now }
+    ensures made { result.serials ≡ chan_spec.serials_made state.now.pmcw.enabled state.now.serials }
 {
     let mut next = programs_left(state, cause);
-    next.scsw = joined_where(state.pmcw.enabled, state.scsw, cause);
+    next.scsw = joined_by(state.pmcw.enabled, state.scsw, cause);
     with_status(next, shown_of(state, cause))
 }

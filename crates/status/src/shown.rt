@@ -12,7 +12,7 @@ use scsw_irb::serials::Serials;
 use scsw_irb::status::{DeviceStatus, SubchannelStatus};
 
 /// The subchannel after a status is made pending. One that is not enabled gets none, but its activity changes.
-pub fn with_status(state: SubchannelState, shown: Shown) -> SubchannelState
+pub(crate) fn with_status(state: SubchannelState, shown: Shown) -> SubchannelState
     requires { state.serials.made < 2 ^ 63 }
     ensures { result ≡ spec.with_status state shown }
 {
@@ -108,7 +108,7 @@ pub(crate) fn conditions(alert: bool, primary: bool, secondary: bool) -> StatusC
 }
 
 /// A start found no path.
-pub fn no_path_shown(scsw: Scsw) -> Shown
+pub(crate) fn no_path_shown(scsw: Scsw) -> Shown
     ensures { result ≡ spec.no_path_shown scsw }
 {
     Shown {
@@ -123,7 +123,7 @@ pub fn no_path_shown(scsw: Scsw) -> Shown
 }
 
 /// A command could not be fetched, or may not take control.
-pub fn fetch_fault_shown(tried: u32, check: Check, count: u16) -> Shown
+pub(crate) fn fetch_fault_shown(tried: u32, check: Check, count: u16) -> Shown
     ensures { result ≡ spec.fetch_fault_shown tried check count }
 {
     Shown {
@@ -237,7 +237,12 @@ pub(crate) fn shows_primary(functions: FunctionControl, shown_before: bool) -> b
 }
 
 /// Channel end alone: the device works on.
-pub fn channel_end_shown(scsw: Scsw, begun: &Begun, status: DeviceStatus, more: bool) -> Shown
+pub(crate) fn channel_end_shown(
+    scsw: Scsw,
+    begun: &Begun,
+    status: DeviceStatus,
+    more: bool,
+) -> Shown
     ensures { result ≡ spec.channel_end_shown scsw begun.now status more }
 {
     Shown {
@@ -259,7 +264,7 @@ pub fn channel_end_shown(scsw: Scsw, begun: &Begun, status: DeviceStatus, more: 
 }
 
 /// The last End of a program.
-pub fn last_end_shown(scsw: Scsw, begun: &Begun, status: DeviceStatus, more: bool) -> Shown
+pub(crate) fn last_end_shown(scsw: Scsw, begun: &Begun, status: DeviceStatus, more: bool) -> Shown
     ensures { result ≡ spec.last_end_shown scsw begun.now status more }
 {
     Shown {
@@ -278,7 +283,12 @@ pub fn last_end_shown(scsw: Scsw, begun: &Begun, status: DeviceStatus, more: boo
 }
 
 /// The last End of an earlier program while a start waits.
-pub fn earlier_end_shown(scsw: Scsw, begun: &Begun, status: DeviceStatus, more: bool) -> Shown
+pub(crate) fn earlier_end_shown(
+    scsw: Scsw,
+    begun: &Begun,
+    status: DeviceStatus,
+    more: bool,
+) -> Shown
     ensures { result ≡ spec.earlier_end_shown scsw begun.now status more }
 {
     Shown {

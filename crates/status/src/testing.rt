@@ -68,7 +68,7 @@ fn tested_scsw(scsw: Scsw) -> Scsw
 }
 
 /// The status word and the counts after TEST SUBCHANNEL with code 0.
-pub fn tested(state: SubchannelState) -> SubchannelState
+pub(crate) fn tested(state: SubchannelState) -> SubchannelState
     ensures { result ≡ spec.tested state }
 {
     SubchannelState {
@@ -94,6 +94,7 @@ pub(crate) fn without_programs(state: SubchannelState) -> SubchannelState
     SubchannelState {
         waiting: None,
         begun: None,
+        suspended: None,
         ..state
     }
 }

@@ -4,17 +4,19 @@ use crate::causes::{shown_of, with_cause};
 use crate::shown::chains_command;
 use crate::testing::{tested, tested_wholly};
 use crate::{law, make_pending, tsch};
+use ccw_walk::Walk;
 use chan_model::hold_state::{HoldPhase, HoldState};
 use chan_model::reply::ConditionCode;
 use channel_program::check::Check;
 use machine_model::cause::Cause;
-use machine_model::state::{Begun, Pmcw, Program, SubchannelState};
+use machine_model::state::{Begun, Pmcw, Program, Standing, SubchannelState};
 use orb_block::Orb;
 use scsw_irb::scsw::Scsw;
 use scsw_irb::serials::Serials;
 use scsw_irb::status::DeviceStatus;
 use std::alloc::Global;
 use storage_keys::Storage;
+use transfer::Came;
 use transfer::chunks::{absorbed, next_given};
 use transfer::commands::first_command;
 
@@ -40,6 +42,7 @@ fn subchannel(words: [u32; 3]) -> SubchannelState {
         starts: 2,
         waiting: None,
         begun: None,
+        suspended: None,
         hold: HoldState {
             phase: HoldPhase::Free,
             seen: 0,
@@ -75,7 +78,9 @@ fn begun_by(alloc: Global, code: u8, flags: u8) -> Option<Begun> {
     storage
         .put(0x1000, &[code, flags, 0, 4, 0, 0, 0x20, 0])
         .ok()?;
-    let transfer = first_command(&storage, program.orb).came.ok()?;
+    let Came::Begins(transfer) = first_command(&storage, Walk::start(program.orb)).came else {
+        return None;
+    };
     Some(Begun {
         program,
         primary_shown: false,
@@ -126,6 +131,7 @@ fn shows(state: &SubchannelState, cause: Cause, words: [u32; 3]) -> bool {
                 && next.serials.made == 9
                 && next.waiting.is_none()
                 && next.begun.is_none()
+                && next.suspended.is_none()
         }
     }
 }
@@ -134,6 +140,19 @@ fn shows(state: &SubchannelState, cause: Cause, words: [u32; 3]) -> bool {
 fn waiting(words: [u32; 3]) -> SubchannelState {
     SubchannelState {
         waiting: program(),
+        ..subchannel(words)
+    }
+}
+
+/// The subchannel with a program that is suspended before its first block, and showed a count of 4.
+fn with_suspended(words: [u32; 3]) -> SubchannelState {
+    let suspended = program().map(|program| Standing {
+        program,
+        walk: Walk::start(program.orb),
+        count: 4,
+    });
+    SubchannelState {
+        suspended,
         ..subchannel(words)
     }
 }
@@ -244,6 +263,28 @@ fn a_fault_at_a_block_and_no_path(rt: HostRuntime) {
     assert!(rt; shows(&start, Cause::NoPath, [0x0380_4017, 0x1000, 0]));
     let lost = waiting([0x0081_4400, 0x1000, 0]);
     assert!(rt; shows(&lost, Cause::NoPath, [0x0381_4017, 0x1000, 0]));
+}
+
+#[test]
+fn a_suspended_program_shows_its_own_words(rt: HostRuntime) {
+    let resumed = with_suspended([0x0880_4820, 0x2008, 0]);
+    assert!(rt; resumed.suspended.is_some());
+    assert!(rt; shows(&resumed, Cause::NoPath, [0x0B80_4017, 0x1000, 0x0000_0004]));
+    assert!(rt;
+        shows(
+            &resumed,
+            Cause::InterfaceControlCheck,
+            [0x0880_4017, 0x1000, 0x0002_0004]
+        )
+    );
+    let check = Cause::FetchFault {
+        tried: 0x1008,
+        check: Check::Program,
+        count: 4,
+    };
+    assert!(rt; shows(&resumed, check, [0x0880_4017, 0x1008, 0x0020_0004]));
+    let halted = with_suspended([0x0880_6229, 0x2008, 0]);
+    assert!(rt; shows(&halted, Cause::HaltDone, [0x0880_6001, 0x1000, 0x0000_0004]));
 }
 
 #[test]
@@ -388,14 +429,14 @@ fn intermediate_status_is_tested(rt: HostRuntime) {
     assert!(rt; tsch(&mut suspended) == ConditionCode::Zero);
     assert!(rt; is_same_words(&suspended, [0x0880_4020, 0x1008, 0]));
     assert!(rt; suspended.waiting.is_some());
-    let mut halted = pending([0x0880_6229, 0x1008, 0]);
+    let mut halted = SubchannelState {
+        suspended: with_suspended([0; 3]).suspended,
+        ..pending([0x0880_6229, 0x1008, 0])
+    };
     assert!(rt; is_same_words(&tested(halted), [0x0880_0000, 0x1008, 0]));
     assert!(rt; tested_wholly(halted).waiting.is_none());
     assert!(rt; tsch(&mut halted) == ConditionCode::Zero);
     assert!(rt; is_same_words(&halted, [0x0880_0000, 0x1008, 0]));
-    assert!(rt; halted.waiting.is_none() && halted.begun.is_none());
-    law::ends();
-    law::faults();
-    law::no_path();
+    assert!(rt; halted.waiting.is_none() && halted.suspended.is_none());
     law::counts();
 }

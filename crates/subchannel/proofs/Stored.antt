@@ -11,7 +11,7 @@ use Rattle.chan_model.specs.UnitReports.{is_outward}
 use Rattle.machine_model.specs.declared.state.Begun.{Begun}
 use Rattle.machine_model.specs.declared.state.SubchannelState.{SubchannelState}
 use Rattle.machine_model.specs.Steps.{is_full, finds_full}
-use Rattle.machine_model.specs.Taking.{Met, meets, ignoring, move_bytes, move_data, take_data, takes_up}
+use Rattle.machine_model.specs.Taking.{Met, meets, ignoring, move_data, takes_up}
 use Rattle.transfer.specs.Chunks.{is_answered}
 use Rattle.subchannel.specs.Storing.{brings_bytes, stores}
 

@@ -1,13 +1,26 @@
 //! What may come of a signal.
 
-ghost use Rattle.std.specs.Prelude.{◌≡◌, false};
+ghost use Rattle.std.specs.Prelude.{◌≡◌, ◌<◌, ◌^◌, false};
 ghost use Rattle.chan_model.specs.HoldTable.{hold_takes};
+ghost use Rattle.machine_model.specs.Causes as cause_spec;
 ghost use Rattle.machine_model.specs.Taking as spec;
 
 use chan_model::names::Path;
 use chan_model::signal::{Down, OnPath, Taken, Up};
 use hold::Hold;
+use machine_model::cause::Cause;
 use machine_model::state::{SubchannelState, UpStep};
+use status::make_pending;
+
+/// The subchannel after a cause of status.
+pub(crate) fn with_cause(state: &SubchannelState, cause: &Cause) -> SubchannelState
+    requires { state.now.serials.made < 2 ^ 63 }
+    ensures { result ≡ cause_spec.with_cause state.now cause.now }
+{
+    let mut next = *state;
+    make_pending(&mut next, cause);
+    next
+}
 
 pub(crate) fn ignoring(state: &SubchannelState) -> UpStep
     ensures { result ≡ spec.ignoring state.now }

@@ -1,146 +1,192 @@
 //! What the subsystem does of itself for a subchannel (own).
 
-ghost use Rattle.std.specs.Prelude.{◌≡◌, ◌<◌, ◌^◌};
+ghost use Rattle.std.specs.Prelude.{◌≡◌, ◌<◌, ◌^◌, IfSome};
 ghost use Rattle.machine_model.specs.Choosing as spec;
 ghost use Rattle.chan_model.specs.declared.hold_state.HoldPhase.TheVariants as phase;
+ghost use Rattle.chan_model.specs.declared.hold_state.HoldState as hold_state;
 
-use chan_model::hold_state::HoldPhase;
+use crate::paths::{allowed_paths, installed_paths, is_any, return_paths, usable_paths};
+use chan_model::hold_state::{HoldPhase, HoldState};
 use chan_model::names::Path;
 use chan_model::paths::PathSet;
 use hold::Hold;
-use machine_model::state::{Chosen, Program, Subchannel, SubchannelState};
-use status::shown::{no_path_shown, with_status};
+use machine_model::state::{Candidate, Chosen, Program, Standing, Subchannel, SubchannelState};
+use scsw_irb::scsw::Scsw;
 
-fn keeps_dedicated(dedicated: Option<Path>, path: usize) -> bool
-    ensures { result ≡ spec.keeps_dedicated dedicated path }
+/// The number of a Reset that was not sent yet.
+fn unsent_reset(hold: &HoldState) -> Option<u64>
+    ensures number { result ≡ spec.unsent_reset hold.now }
+    ensures due { IfSome result (λ r. hold.now.phase ≡ phase.Reset r) }
 {
-    match dedicated {
-        None => true,
-        Some(allegiance) => allegiance.index() == path,
+    match (hold.phase, hold.reset_path) {
+        (HoldPhase::Reset { number }, None) => Some(number),
+        _ => None,
     }
 }
 
-/// Whether a path may be used: it is installed, logically available, and that of a dedicated allegiance where one stands.
-fn is_allowed(sub: &Subchannel, path: usize) -> bool
-    requires { path < 8 }
-    ensures { result ≡ spec.is_allowed sub.now path }
+fn is_away(phase: HoldPhase) -> bool
+    ensures { result ≡ spec.is_away phase }
 {
-    path < sub.setup.paths.as_slice().len()
-        && sub.state.pmcw.logical[path]
-        && keeps_dedicated(sub.state.dedicated, path)
+    matches!(phase, HoldPhase::Away { .. })
 }
 
-/// Whether the subchannel engages the engine of a channel path.
-fn engages(chpid: u8, sub: &Subchannel) -> bool
-    ensures { result ≡ spec.engages chpid sub.now }
+fn paths_unreset(subs: &[Subchannel], sub: &Subchannel) -> PathSet
+    ensures { result ≡ spec.paths_unreset subs.now sub.now }
 {
-    match Hold::of(sub.state.hold).engaged_path() {
-        None => false,
-        Some(path) => match sub.setup.paths.as_slice().get(path.index()) {
-            None => false,
-            Some(engaged) => *engaged == chpid,
-        },
+    if sub.state.scsw.activity.halt_pending && is_away(sub.state.hold.phase) {
+        return_paths(sub)
+    } else {
+        usable_paths(subs, sub)
     }
 }
 
-/// Whether some subchannel does.
-fn is_engaged(subs: &[Subchannel], chpid: u8) -> bool
-    ensures { result ≡ spec.any_engages subs.now chpid }
+/// The paths of which one is chosen: for a Reset each that is installed, for a Halt of a program that is away those by which
+/// it may come back, and otherwise those that may be used and whose engines are free.
+pub fn paths_to_choose(subs: &[Subchannel], sub: &Subchannel) -> PathSet
+    ensures { result ≡ spec.paths_to_choose subs.now sub.now }
 {
-    for sub in subs {
-        if engages(chpid, sub) {
-            return true;
-        }
-    }
-    false
-}
-
-fn is_usable(subs: &[Subchannel], sub: &Subchannel, path: usize) -> bool
-    requires { path < 8 }
-    ensures { result ≡ spec.is_usable subs.now sub.now path }
-{
-    if !is_allowed(sub, path) {
-        return false;
-    }
-    match sub.setup.paths.as_slice().get(path) {
-        None => true,
-        Some(chpid) => !is_engaged(subs, *chpid),
+    match unsent_reset(&sub.state.hold) {
+        None => paths_unreset(subs, sub),
+        Some(_) => installed_paths(sub),
     }
 }
 
-/// The paths that may be used.
-pub fn allowed_paths(sub: &Subchannel) -> PathSet
-    ensures { result ≡ spec.allowed_paths sub.now }
+fn resuming(resume: bool, suspended: Option<Standing>) -> Option<Candidate>
+    ensures { result ≡ spec.resuming resume suspended }
 {
-    [
-        is_allowed(sub, 0),
-        is_allowed(sub, 1),
-        is_allowed(sub, 2),
-        is_allowed(sub, 3),
-        is_allowed(sub, 4),
-        is_allowed(sub, 5),
-        is_allowed(sub, 6),
-        is_allowed(sub, 7),
-    ]
+    match suspended {
+        Some(standing) if resume => Some(Candidate {
+            program: standing.program,
+            resumes: true,
+        }),
+        _ => None,
+    }
 }
 
-/// The paths that may be used and whose engines are free.
-pub fn usable_paths(subs: &[Subchannel], sub: &Subchannel) -> PathSet
-    ensures { result ≡ spec.usable_paths subs.now sub.now }
+/// The program that is to be offered.
+fn candidate(state: &SubchannelState) -> Option<Candidate>
+    ensures { result ≡ spec.candidate state.now }
 {
-    [
-        is_usable(subs, sub, 0),
-        is_usable(subs, sub, 1),
-        is_usable(subs, sub, 2),
-        is_usable(subs, sub, 3),
-        is_usable(subs, sub, 4),
-        is_usable(subs, sub, 5),
-        is_usable(subs, sub, 6),
-        is_usable(subs, sub, 7),
-    ]
-}
-
-fn is_any(set: &PathSet) -> bool
-    ensures { result ≡ spec.is_any set.now }
-{
-    let [a, b, c, d, e, f, g, h] = *set;
-    a || b || c || d || e || f || g || h
+    match state.waiting {
+        Some(program) if state.scsw.activity.start_pending => Some(Candidate {
+            program,
+            resumes: false,
+        }),
+        _ => resuming(state.scsw.activity.resume_pending, state.suspended),
+    }
 }
 
 fn idle_or_over(any: bool) -> Chosen
-    ensures { result ≡ spec.idle_or_over any }
+    ensures chosen { result ≡ spec.idle_or_over any }
+    ensures fits { (h : hold_state.HoldState) → spec.IsFitFor result h }
 {
     if any { Chosen::Idle } else { Chosen::Over }
 }
 
-fn chosen_at(phase: HoldPhase, program: Program, any: bool, choice: Option<Path>) -> Chosen
-    ensures chosen { result ≡ spec.chosen_at phase program any choice }
-    ensures free { spec.IsFreeToOffer result phase }
+fn chosen_at(hold: &HoldState, candidate: Candidate, any: bool, choice: Option<Path>) -> Chosen
+    ensures chosen { result ≡ spec.chosen_at hold.now.phase candidate any choice }
+    ensures fits { spec.IsFitFor result hold.now }
 {
-    match phase {
-        HoldPhase::Free => match choice {
-            Some(path) => Chosen::Offers { program, path },
-            None => idle_or_over(any),
-        },
-        HoldPhase::Reset { .. } => idle_or_over(any),
+    match (hold.phase, choice) {
+        (HoldPhase::Free, Some(path)) => Chosen::Offers { candidate, path },
+        (HoldPhase::Free | HoldPhase::Reset { .. }, _) => idle_or_over(any),
         _ => Chosen::Idle,
     }
 }
 
-/// What is done, where this path was chosen of the usable ones.
+fn chosen_for(
+    hold: &HoldState,
+    candidate: Option<Candidate>,
+    any: bool,
+    choice: Option<Path>,
+) -> Chosen
+    ensures chosen { result ≡ spec.chosen_for hold.now.phase candidate any choice }
+    ensures fits { spec.IsFitFor result hold.now }
+{
+    match candidate {
+        None => Chosen::Idle,
+        Some(candidate) => chosen_at(hold, candidate, any, choice),
+    }
+}
+
+/// What is done where a halt is pending.
+fn chosen_halt(hold: &HoldState, choice: Option<Path>) -> Chosen
+    ensures chosen { result ≡ spec.chosen_halt hold.now.phase choice }
+    ensures fits { spec.IsFitFor result hold.now }
+{
+    match hold.phase {
+        HoldPhase::Offer { .. } => Chosen::Idle,
+        HoldPhase::On { number, path, .. } => Chosen::Halts { number, path },
+        HoldPhase::Away { number } => match choice {
+            None => Chosen::Idle,
+            Some(path) => Chosen::Halts { number, path },
+        },
+        HoldPhase::Free | HoldPhase::Letting { .. } | HoldPhase::Reset { .. } => Chosen::Ends,
+    }
+}
+
+fn chosen_unreset(sub: &Subchannel, choice: Option<Path>) -> Chosen
+    ensures chosen { result ≡ spec.chosen_unreset sub.now choice }
+    ensures fits { spec.IsFitFor result sub.now.state.hold }
+{
+    if sub.state.scsw.activity.halt_pending {
+        return chosen_halt(&sub.state.hold, choice);
+    }
+    let any = is_any(&allowed_paths(sub));
+    chosen_for(&sub.state.hold, candidate(&sub.state), any, choice)
+}
+
+/// What is done where a Reset is due and there is no path for it.
+fn chosen_without_path(sub: &Subchannel) -> Chosen
+    ensures chosen { result ≡ spec.chosen_without_path sub.now }
+    ensures fits { spec.IsFitFor result sub.now.state.hold }
+{
+    if sub.state.scsw.activity.clear_pending {
+        Chosen::Clears
+    } else {
+        chosen_unreset(sub, None)
+    }
+}
+
+/// What is done, where this path was chosen of those of `paths_to_choose`.
 pub fn chosen(sub: &Subchannel, choice: Option<Path>) -> Chosen
     ensures chosen { result ≡ spec.chosen sub.now choice }
-    ensures free { spec.IsFreeToOffer result sub.now.state.hold.phase }
+    ensures fits { spec.IsFitFor result sub.now.state.hold }
 {
-    match sub.state.waiting {
-        None => Chosen::Idle,
-        Some(program) => chosen_at(
-            sub.state.hold.phase,
-            program,
-            is_any(&allowed_paths(sub)),
-            choice,
-        ),
+    match (unsent_reset(&sub.state.hold), choice) {
+        (None, _) => chosen_unreset(sub, choice),
+        (Some(_), None) => chosen_without_path(sub),
+        (Some(number), Some(path)) => Chosen::Resets { number, path },
     }
+}
+
+/// The subchannel after its Reset is sent on a path.
+pub fn reset_sent(state: &SubchannelState, path: Path) -> SubchannelState
+    ensures { result ≡ spec.reset_sent state.now path }
+{
+    let mut hold = Hold::of(state.hold);
+    let _ = hold.send_reset(path);
+    let mut next = *state;
+    next.hold = hold.state();
+    next.last_path = Some(path);
+    next
+}
+
+fn halt_sent_scsw(scsw: Scsw) -> Scsw
+    ensures { result ≡ spec.halt_sent_scsw scsw }
+{
+    let mut next = scsw;
+    next.activity.halt_pending = false;
+    next
+}
+
+/// The subchannel after its program is told of a halt: it is no longer pending.
+pub fn halt_sent(state: &SubchannelState) -> SubchannelState
+    ensures { result ≡ spec.halt_sent state.now }
+{
+    let mut next = *state;
+    next.scsw = halt_sent_scsw(state.scsw);
+    next
 }
 
 /// The subchannel after its program is offered on a path.
@@ -157,14 +203,4 @@ pub fn offered(state: &SubchannelState, program: &Program, path: Path) -> Subcha
     next.offered = program.start;
     next.last_path = Some(path);
     next
-}
-
-/// The subchannel after its program found no path.
-pub fn without_path(state: &SubchannelState) -> SubchannelState
-    requires { state.now.serials.made < 2 ^ 63 }
-    ensures { result ≡ spec.without_path state.now }
-{
-    let mut next = *state;
-    next.waiting = None;
-    with_status(next, no_path_shown(state.scsw))
 }

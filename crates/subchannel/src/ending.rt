@@ -4,19 +4,20 @@ ghost use Rattle.std.specs.Prelude.{◌≡◌, ◌<◌, ◌^◌};
 ghost use Rattle.machine_model.specs.Taking as spec;
 ghost use Rattle.transfer.specs.Commands as transfer_spec;
 
-use crate::answers::{ignoring, let_go, quietly, sending};
-use crate::moving::with_transfer;
+use crate::answers::{ignoring, let_go, quietly, sending, with_cause};
+use crate::intermediate::suspending;
+use crate::moving::moving_on;
 use chan_model::names::Path;
 use chan_model::signal::Down;
-use channel_program::check::Check;
 use hold::Hold;
+use machine_model::cause::Cause;
 use machine_model::state::{Begun, SubchannelState, UpStep};
 use scsw_irb::status::DeviceStatus;
-use status::causes::{has_shown, is_last_end, last_shown};
-use status::shown::{chains_command, channel_end_shown, fetch_fault_shown, with_status};
+use status::causes::is_last_end;
+use status::shown::chains_command;
 use storage_keys::Storage;
-use transfer::Roomy;
 use transfer::commands::{begun_with_room, next_command};
+use transfer::{Came, Roomy};
 
 fn dedicated_after(status: DeviceStatus, path: Path) -> Option<Path>
     ensures { result ≡ spec.dedicated_after status path }
@@ -39,6 +40,7 @@ fn sends_next(
     number: u64,
     command: Roomy,
 ) -> UpStep
+    requires { state.now.serials.made < 2 ^ 63 }
     ensures { result ≡ spec.sends_next state.now begun.now path number command }
 {
     let transfer = command.transfer;
@@ -46,7 +48,7 @@ fn sends_next(
     let place = transfer.command;
     let code = transfer.code;
     sending(
-        with_transfer(state, begun, transfer),
+        moving_on(state, begun, transfer),
         path,
         Down::Command {
             number,
@@ -57,15 +59,13 @@ fn sends_next(
     )
 }
 
-fn chain_fault(state: &SubchannelState, begun: &Begun, tried: u32, check: Check) -> UpStep
-    requires { state.now.serials.made < 2 ^ 63 }
-    ensures { result ≡ spec.chain_fault state.now begun.now tried check }
+/// The subchannel once no allegiance is dedicated.
+fn undedicated(state: &SubchannelState) -> SubchannelState
+    ensures { result ≡ record state.now { dedicated = None } }
 {
     let mut next = *state;
-    next.begun = None;
     next.dedicated = None;
-    let count = begun.transfer.moving.residual();
-    let_go(with_status(next, fetch_fault_shown(tried, check, count)))
+    next
 }
 
 fn chain(
@@ -81,12 +81,24 @@ fn chain(
     ensures { result ≡ spec.chain_with storage.now state.now begun.now path number (transfer_spec.next_command storage.now begun.now.transfer modifier) }
 {
     let next = next_command(storage, &begun.transfer, modifier);
+    let count = begun.transfer.moving.residual();
     match next.came {
-        Ok(transfer) => {
+        Came::Begins(transfer) => {
             let command = begun_with_room(storage, &transfer);
             sends_next(state, begun, path, number, command)
         }
-        Err(check) => chain_fault(state, begun, next.tried, check),
+        Came::Suspends => let_go(suspending(&undedicated(state), begun.program, next.walk, count)),
+        Came::Stops(check) => {
+            let tried = next.walk.tried();
+            let_go(with_cause(
+                &undedicated(state),
+                &Cause::FetchFault {
+                    tried,
+                    check,
+                    count,
+                },
+            ))
+        }
     }
 }
 
@@ -111,38 +123,24 @@ fn goes_on(
     quietly(next)
 }
 
-fn channel_ended(
+fn end_shown_at(
     state: &SubchannelState,
     begun: &Begun,
     path: Path,
     status: DeviceStatus,
     more: bool,
-) -> UpStep
+) -> SubchannelState
     requires { state.now.serials.made < 2 ^ 63 }
-    ensures { result ≡ spec.channel_ended state.now begun.now path status more }
+    ensures { result ≡ spec.end_shown_at state.now begun.now path status more }
 {
-    let mut next = *state;
-    next.begun = Some(has_shown(begun));
+    let cause = Cause::End {
+        begun: *begun,
+        status,
+        more,
+    };
+    let mut next = with_cause(state, &cause);
     next.dedicated = dedicated_after(status, path);
-    quietly(with_status(next, channel_end_shown(state.scsw, begun, status, more)))
-}
-
-fn ended(
-    state: &SubchannelState,
-    begun: &Begun,
-    path: Path,
-    status: DeviceStatus,
-    more: bool,
-) -> UpStep
-    requires { state.now.serials.made < 2 ^ 63 }
-    ensures { result ≡ spec.ended state.now begun.now path status more }
-{
-    let shown = last_shown(state.scsw, begun, state.waiting, status, more);
-    let mut next = *state;
-    next.begun = None;
-    next.waiting = None;
-    next.dedicated = dedicated_after(status, path);
-    let_go(with_status(next, shown))
+    next
 }
 
 fn stops_at(
@@ -155,10 +153,11 @@ fn stops_at(
     requires { state.now.serials.made < 2 ^ 63 }
     ensures { result ≡ spec.stops_at state.now begun.now path status more }
 {
+    let next = end_shown_at(state, begun, path, status, more);
     if is_last_end(status) {
-        ended(state, begun, path, status, more)
+        let_go(next)
     } else {
-        channel_ended(state, begun, path, status, more)
+        quietly(next)
     }
 }
 

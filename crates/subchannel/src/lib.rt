@@ -1,10 +1,11 @@
-//! One subchannel: what instructions, choosing and signals do to it.
+//! One subchannel: what choosing and signals do to it.
 #![tactic(auto)]
 
 mod accepting;
 mod answers;
 pub mod choosing;
 mod ending;
-pub mod instructions;
+mod intermediate;
 pub mod moving;
+mod paths;
 pub mod taking;

@@ -9,6 +9,7 @@ ghost use Rattle.subchannel.specs.Storing as storing;
 ghost use Rattle.transfer.specs.Chunks as chunk_spec;
 
 use crate::answers::{ignoring, sending};
+use crate::intermediate::interrupted;
 use chan_model::names::Path;
 use chan_model::signal::{Down, Load, Up};
 use hold::Hold;
@@ -27,17 +28,25 @@ pub struct DataNumbers {
     pub sequence: u64,
 }
 
-pub(crate) fn with_transfer(
-    state: &SubchannelState,
-    begun: &Begun,
-    transfer: Transfer,
-) -> SubchannelState
+fn with_transfer(state: &SubchannelState, begun: &Begun, transfer: Transfer) -> SubchannelState
     ensures { result ≡ spec.with_transfer state.now begun.now transfer }
 {
     let mut next = *state;
     next.begun = Some(Begun { transfer, ..*begun });
     next.dedicated = None;
     next
+}
+
+/// The subchannel with its transfer a chunk or a command further; a block that took control may ask for an interruption.
+pub(crate) fn moving_on(
+    state: &SubchannelState,
+    begun: &Begun,
+    transfer: Transfer,
+) -> SubchannelState
+    requires { state.now.serials.made < 2 ^ 63 }
+    ensures { result ≡ spec.moving_on state.now begun.now transfer }
+{
+    interrupted(&with_transfer(state, begun, transfer))
 }
 
 fn giving(
@@ -47,12 +56,13 @@ fn giving(
     numbers: DataNumbers,
     given: Given,
 ) -> UpStep
-    requires { numbers.sequence < 2 ^ 63 }
+    requires made { state.now.serials.made < 2 ^ 63 }
+    requires sequence { numbers.sequence < 2 ^ 63 }
     ensures { result ≡ spec.giving state.now begun.now path numbers.number numbers.connection numbers.command numbers.sequence given }
 {
     let Given { transfer, bytes } = given;
     sending(
-        with_transfer(state, begun, transfer),
+        moving_on(state, begun, transfer),
         path,
         Down::Give {
             number: numbers.number,
@@ -72,6 +82,7 @@ fn give_next(
     numbers: DataNumbers,
     count: usize,
 ) -> UpStep
+    requires made { state.now.serials.made < 2 ^ 63 }
     requires sequence { numbers.sequence < 2 ^ 63 }
     requires below { begun.now.transfer.sequence < 2 ^ 63 }
     ensures { result ≡ spec.give_next storage.now state.now begun.now path numbers.number numbers.connection numbers.command numbers.sequence count }
@@ -87,11 +98,12 @@ fn answering(
     numbers: DataNumbers,
     next: Roomy,
 ) -> UpStep
+    requires { state.now.serials.made < 2 ^ 63 }
     ensures { result ≡ spec.answering state.now begun.now path numbers.number numbers.command numbers.sequence next }
 {
     let Roomy { transfer, room } = next;
     sending(
-        with_transfer(state, begun, transfer),
+        moving_on(state, begun, transfer),
         path,
         Down::Took {
             number: numbers.number,
@@ -120,7 +132,8 @@ fn take_in(
     numbers: DataNumbers,
     load: &Load,
 ) -> UpStep
-    requires { begun.now.transfer.sequence < 2 ^ 63 }
+    requires made { state.now.serials.made < 2 ^ 63 }
+    requires below { begun.now.transfer.sequence < 2 ^ 63 }
     ensures { spec.meets storage.new result ≡ spec.take_in state.now begun.now path numbers.number numbers.command numbers.sequence (chunk_spec.brought storage.old begun.now.transfer numbers.sequence (spec.bytes_of load.now)) }
 {
     let taken = brought(storage, &begun.transfer, numbers.sequence, bytes_of(load));
@@ -136,6 +149,7 @@ fn move_bytes(
     numbers: DataNumbers,
     load: &Load,
 ) -> UpStep
+    requires made { state.now.serials.made < 2 ^ 63 }
     requires sequence { numbers.sequence < 2 ^ 63 }
     requires below { begun.now.transfer.sequence < 2 ^ 63 }
     ensures { spec.meets storage.new result ≡ spec.move_bytes storage.old state.now begun.now path numbers.number numbers.connection numbers.command numbers.sequence load.now }
@@ -155,7 +169,8 @@ pub(crate) fn take_data(
     numbers: DataNumbers,
     load: &Load,
 ) -> UpStep
-    requires { spec.IsBelow state.now.begun }
+    requires made { state.now.serials.made < 2 ^ 63 }
+    requires below { spec.IsBelow state.now.begun }
     ensures { spec.meets storage.new result ≡ spec.take_data storage.old state.now path numbers.number numbers.connection numbers.command numbers.sequence load.now }
 {
     if !Hold::of(state.hold).is_connected(path, numbers.number, numbers.connection) {

@@ -2,18 +2,49 @@
 
 ghost use Rattle.std.specs.Prelude.{◌≡◌, ◌<◌, ◌^◌, true, false, List};
 ghost use Rattle.chan_model.specs.declared.signal.Down.{Down};
+ghost use Rattle.chan_model.specs.HoldTable.{hold_takes};
 ghost use Rattle.machine_model.specs.Steps.{finds_full, is_full};
 ghost use Rattle.subchannel.specs.Storing.{stores};
 ghost use Rattle.machine_model.specs.Taking as spec;
 
 use crate::accepting::accept;
-use crate::answers::by_hold;
+use crate::answers::{by_hold, ignoring, with_cause};
 use crate::ending::end_command;
 use crate::moving::{DataNumbers, take_data};
 use chan_model::names::Path;
 use chan_model::signal::Up;
+use hold::Hold;
+use machine_model::cause::Cause;
 use machine_model::state::{SubchannelState, UpStep};
 use storage_keys::Storage;
+
+/// Where a clear is pending, it is performed.
+fn clear_done(state: &SubchannelState) -> SubchannelState
+    requires { state.now.serials.made < 2 ^ 63 }
+    ensures { result ≡ spec.clear_done state.now }
+{
+    if state.scsw.activity.clear_pending {
+        with_cause(state, &Cause::ClearDone)
+    } else {
+        *state
+    }
+}
+
+/// Cleared: the device was reset.
+fn reset_taken(state: &SubchannelState, path: Path, signal: &Up) -> UpStep
+    requires { state.now.serials.made < 2 ^ 63 }
+    ensures { result ≡ spec.reset_taken state.now (hold_takes state.now.hold path signal.now false) }
+{
+    let mut hold = Hold::of(state.hold);
+    let came = hold.take(path, signal, false);
+    if !came.taken {
+        return ignoring(state);
+    }
+    let mut next = *state;
+    next.hold = hold.state();
+    let state = clear_done(&next);
+    UpStep { state, came }
+}
 
 /// The subchannel after a signal, and what came of the signal. The bytes of a read are stored.
 pub fn takes_up(storage: &mut Storage, state: &SubchannelState, path: Path, signal: &Up) -> UpStep
@@ -47,6 +78,7 @@ pub fn takes_up(storage: &mut Storage, state: &SubchannelState, path: Path, sign
             status,
             more,
         } => end_command(storage, state, path, *number, *command, *status, *more),
+        Up::Cleared { .. } => reset_taken(state, path, signal),
         _ => by_hold(state, path, signal),
     }
 }

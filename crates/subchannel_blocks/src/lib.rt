@@ -5,7 +5,7 @@
 ghost use Rattle.std.specs.Prelude.{◌≡◌, ◌<◌, ◌≤◌, ◌^◌, ◌+◌, ◌-◌, nat_lt, slice_index};
 ghost use Rattle.schib_block.specs.Modify.{IsAllowed};
 ghost use Rattle.machine_model.specs.SubchannelBlocks as spec;
-ghost use Rattle.machine_model.specs.Choosing.{each_path};
+ghost use Rattle.allegiance.specs.PathUse.{each_path};
 
 use chan_model::paths::{PathSet, mask_of_path, mask_of_paths};
 use functions::effects::placed;

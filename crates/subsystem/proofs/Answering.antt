@@ -8,7 +8,8 @@ use Rattle.chan_model.specs.declared.fault.Fault.TheVariants.{NoMemory}
 use Rattle.chan_model.specs.declared.reply.Entry.{Entry}
 use Rattle.chan_model.specs.declared.reply.Reply.{Reply}
 use Rattle.machine_model.specs.State.{State, Past}
-use Rattle.machine_model.specs.Steps.{Step, IsRefused, Performs, Answered, HasAnswered, accepted}
+use Rattle.machine_model.specs.Steps.{Step, IsRefused, Performs}
+use Rattle.machine_model.specs.Answering.{Answered, HasAnswered, accepted}
 
 answered-more : (old middle new : State) (events : List Event) (answers : List (Result Reply Fault)) (e : Event) (a : Result Reply Fault) →
     Answered old events answers middle → Performs middle e a new → Answered old (events ++ e ∷ []) (answers ++ a ∷ []) new

@@ -1,6 +1,6 @@
 mod FirstPlaces
 mod Lifting
-mod Modifying
 mod Pasts
 mod Stopping
 mod Answering
+mod Cycles

@@ -1,15 +1,11 @@
 -- What an event does at one subchannel, as what it does to the whole.
-use Rattle.std.proofs.Common.{◌≡◌, sym, ◌∙◌, ap, subst, ℕ, ◌<◌, zero, suc, Option, Some, Result, Ok, Err, List, [], ◌∷◌, length, slice_index_or, arith, inr}
+use Rattle.std.proofs.Common.{◌≡◌, sym, ◌∙◌, ap, subst, ℕ, ◌<◌, zero, suc, Option, None, Some, Result, Ok, Err, List, [], ◌∷◌, length, slice_index_or, arith}
 use Rattle.std.specs.Prelude.{slice_get, slice_set}
 use Rattle.std.proofs.lemmas.List.{set-get_or}
-use Rattle.zbits.specs.Layout.{image_of}
-use Rattle.orb_block.specs.declared.Orb.{Orb}
-use Rattle.orb_block.specs.OrbTable.{tables}
-use Rattle.storage_keys.specs.declared.StorageFault.{StorageFault}
-use Rattle.storage_keys.specs.Storage.{Contents, operand_at}
+use Rattle.storage_keys.specs.Storage.{Contents}
 use Rattle.channel_config.specs.declared.names.SubchannelId.{SubchannelId}
 use Rattle.channel_config.specs.SubchannelWords.{subchannel_named}
-use Rattle.chan_model.specs.declared.event.Instruction.TheVariants as instruction
+use Rattle.chan_model.specs.declared.event.Instruction.{Instruction}
 use Rattle.chan_model.specs.declared.fault.Fault.{Fault}
 use Rattle.chan_model.specs.declared.event.Event.{Event}
 use Rattle.chan_model.specs.declared.event.Event.TheVariants as event
@@ -18,9 +14,10 @@ use Rattle.chan_model.specs.declared.report.Report.{Report}
 use Rattle.chan_model.specs.declared.unit_state.UnitState.{UnitState}
 use Rattle.path_select.specs.Choice.{IsChoice}
 use Rattle.machine_model.specs.declared.state.Subchannel.{Subchannel}
-use Rattle.machine_model.specs.State.{State, place_of, place_in, sub_at, with_sub, with_unit}
-use Rattle.machine_model.specs.Choosing.{chosen, usable_paths}
-use Rattle.machine_model.specs.Steps.{Outcome, SubTurn, UpTurn, DownTurn, Steps, Performs, Gives, GivesSub, GivesStorage, GivesBoth, Chooses, does, at_sub, at_storage, at_unit, up_at, up_sub, down_at, down_unit, down_sub, choose_sub, report_at, report_to, report_sub, reached_in, Executes_on, Starts, start_at}
+use Rattle.machine_model.specs.State.{State, place_of, place_in, sub_at, with_sub, with_unit, reached_in}
+use Rattle.machine_model.specs.Choosing.{chosen, paths_to_choose}
+use Rattle.machine_model.specs.Steps.{Outcome, SubTurn, UpTurn, DownTurn, Steps, Performs, Gives, GivesSub, GivesStorage, GivesBoth, Chooses, does, at_sub, at_storage, at_unit, up_at, up_sub, down_at, down_unit, down_sub, choose_sub, report_at, report_to, report_sub, Executes_at, Executes_on, word_of}
+use Rattle.io_step.specs.Executing.{Executed, Executed_absent}
 
 -- an element that stands at a place
 pub at_place : {A : Type 0} (xs : List A) (i : ℕ) (x d : A) → i < length xs → x ≡ slice_index_or xs i d → slice_get xs i ≡ Some x
@@ -80,7 +77,7 @@ up-performs s word path place sub new d after r at within there g =
     (lifted_storage s place sub new d after outcome r there g)
 
 pub choose-performs : (s : State) (word place : ℕ) (sub new d : Subchannel) (choice : Option ℕ) (r : Result Reply Fault) → place_of s word ≡ Some place →
-    place < length s.subs → sub ≡ slice_index_or s.subs place d → IsChoice (usable_paths s.subs sub) choice →
+    place < length s.subs → sub ≡ slice_index_or s.subs place d → IsChoice (paths_to_choose s.subs sub) choice →
     GivesSub sub (choose_sub sub (chosen sub choice)) r new → Performs s (event.Choose word) r (with_sub s place new)
 choose-performs s word place sub new d choice r at within there chose g =
     let outcome = choose_sub sub (chosen sub choice) in
@@ -128,9 +125,39 @@ down-performs-at s word path place k sub new d u v w r same at within there insi
     subst (λ (j : ℕ). j < length s.units → u ≡ slice_index_or s.units j w → Performs s (event.Down word path) r (with_unit (with_sub s place new) j v)) same
     (λ inside' here'. down-performs s word path place sub new d u v w r at within there inside' here' g) inside here
 
-pub start-executes : (s : State) (cpu word address : ℕ) (id : SubchannelId) (image : List ℕ) (orb : Orb) (r : Outcome) →
-    subchannel_named s.sets word ≡ Some id → operand_at s.storage cpu address 12 4 ≡ Ok image → image ≡ image_of (tables orb) →
-    r ≡ start_at s (place_in id s.subs) (sub_at s.subs (place_in id s.subs)) orb → Steps s (event.Execute cpu (instruction.Ssch word address)) r
-start-executes s cpu word address id image orb r at fetched found e =
-    subst (λ (x : Option SubchannelId). Executes_on s cpu (instruction.Ssch word address) x r) (sym at)
-    (subst (λ (x : Result (List ℕ) StorageFault). Starts s (place_in id s.subs) (sub_at s.subs (place_in id s.subs)) x r) (sym fetched) (inr (orb, found, e)))
+executed : (s : State) (cpu place : ℕ) (i : Instruction) (sub new d : Subchannel) (after : Contents) (r : Result Reply Fault) →
+    slice_get s.subs place ≡ Some sub → sub ≡ slice_index_or s.subs place d → ((o : Outcome) → Executes_at s cpu i (Some place) (Some sub) o → Steps s (event.Execute cpu i) o) →
+    Executed s.storage sub cpu i r after new → Performs s (event.Execute cpu i) r (with_sub (record s { storage = after }) place new)
+executed s cpu place i sub new d after (Ok reply) at there lift g = lift (does reply (with_sub (record s { storage = after }) place new)) (g s place at)
+executed s cpu place i sub new d after (Err f) at there lift g = (
+  lift (Err f) (g.0 s place at),
+  ap (λ (subs : List Subchannel). record s { storage = after; subs = subs }) (set_back s.subs place sub new d there g.1.0)
+      ∙ ap (λ (storage : Contents). record s { storage = storage }) g.1.1,
+)
+
+executed-absent : (s : State) (cpu : ℕ) (i : Instruction) (after : Contents) (r : Result Reply Fault) →
+    ((o : Outcome) → Executes_at s cpu i None None o → Steps s (event.Execute cpu i) o) → Executed_absent s.storage cpu i r after →
+    Performs s (event.Execute cpu i) r (record s { storage = after })
+executed-absent s cpu i after (Ok reply) lift g = lift (does reply (record s { storage = after })) (g s)
+executed-absent s cpu i after (Err f) lift g = (lift (Err f) (g.0 s), ap (λ (storage : Contents). record s { storage = storage }) g.1)
+
+-- an instruction on a subchannel that is provided, and on one that is not
+pub executes : (s : State) (cpu place : ℕ) (i : Instruction) (id : SubchannelId) (sub new d : Subchannel) (after : Contents) (r : Result Reply Fault) →
+    subchannel_named s.sets (word_of i) ≡ Some id → place_in id s.subs ≡ Some place → place < length s.subs → sub ≡ slice_index_or s.subs place d →
+    Executed s.storage sub cpu i r after new → Performs s (event.Execute cpu i) r (with_sub (record s { storage = after }) place new)
+executes s cpu place i id sub new d after r named placed within there g =
+    let at : slice_get s.subs place ≡ Some sub = at_place s.subs place sub d within there in
+    let lift : (o : Outcome) → Executes_at s cpu i (Some place) (Some sub) o → Steps s (event.Execute cpu i) o =
+    λ o e. subst (λ (x : Option SubchannelId). Executes_on s cpu i x o) (sym named)
+    (subst (λ (p : Option ℕ). Executes_at s cpu i p (sub_at s.subs p) o) (sym placed)
+    (subst (λ (q : Option Subchannel). Executes_at s cpu i (Some place) q o) (sym at) e)) in
+    executed s cpu place i sub new d after r at there lift g
+
+pub executes-absent : (s : State) (cpu : ℕ) (i : Instruction) (id : SubchannelId) (after : Contents) (r : Result Reply Fault) →
+    subchannel_named s.sets (word_of i) ≡ Some id → place_in id s.subs ≡ None → Executed_absent s.storage cpu i r after →
+    Performs s (event.Execute cpu i) r (record s { storage = after })
+executes-absent s cpu i id after r named placed g =
+    let lift : (o : Outcome) → Executes_at s cpu i None None o → Steps s (event.Execute cpu i) o =
+    λ o e. subst (λ (x : Option SubchannelId). Executes_on s cpu i x o) (sym named)
+    (subst (λ (p : Option ℕ). Executes_at s cpu i p (sub_at s.subs p) o) (sym placed) e) in
+    executed-absent s cpu i after r lift g

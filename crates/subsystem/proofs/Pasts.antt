@@ -6,6 +6,7 @@ use Rattle.chan_model.specs.declared.event.Event.{Event}
 use Rattle.chan_model.specs.declared.reply.Entry.{Entry}
 use Rattle.chan_model.specs.declared.reply.Reply.{Reply}
 use Rattle.machine_laws.specs.Agreeing.{AllAgree}
+use Rattle.machine_laws.specs.Beginnings.{IsBegunOnce}
 use Rattle.program_laws.specs.Claims.{AllTold, HasTold}
 use Rattle.machine_laws.specs.Claims.{IsClearedOnce}
 use Rattle.machine_model.specs.State.{State, opening_of}
@@ -32,6 +33,11 @@ pub past-cleared : KeepsSets → ((setup : Setup) (h : List Entry) (s : State) �
     (h : List Entry) (s : State) → HasRun h s → IsClearedOnce s.sets h
 past-cleared keeps rises h s run =
     subst (λ (n : ℕ). IsClearedOnce n h) (sym (sets-kept keeps run.0 h s run.2)) (rises run.0 h s run.2)
+
+pub past-begun : KeepsSets → ((setup : Setup) (h : List Entry) (s : State) → IsLawful setup → Run (opening_of setup) h s → IsBegunOnce (set_count setup) h) →
+    (h : List Entry) (s : State) → HasRun h s → IsBegunOnce s.sets h
+past-begun keeps once h s run =
+    subst (λ (n : ℕ). IsBegunOnce n h) (sym (sets-kept keeps run.0 h s run.2)) (once run.0 h s run.1 run.2)
 
 pub past-agrees : ((setup : Setup) (h : List Entry) (s : State) → IsLawful setup → Run (opening_of setup) h s → AllAgree s) →
     (h : List Entry) (s : State) → HasRun h s → AllAgree s

@@ -8,3 +8,4 @@ pub mod subsystem;
 #[cfg(test)]
 mod tests;
 mod turns;
+mod unit_turns;

@@ -1,14 +1,11 @@
 //! Where a subchannel stands among all.
 
 ghost use Rattle.std.specs.Prelude.{◌≡◌, ◌<◌, IfSome, length};
-ghost use Rattle.std.specs.List.{list_any};
 ghost use Rattle.machine_model.specs.State as state_spec;
-ghost use Rattle.machine_model.specs.Steps as spec;
 
-use chan_model::names::{Path, Side};
+use chan_model::names::Side;
 use channel_config::names::SubchannelId;
 use machine_model::state::Subchannel;
-use wires::Wires;
 
 fn is_named(id: SubchannelId, sub: &Subchannel) -> bool
     ensures { result ≡ state_spec.is_named id sub.now }
@@ -30,14 +27,14 @@ pub fn place_in(id: SubchannelId, subs: &[Subchannel]) -> Option<usize>
 }
 
 fn reaches(unit: usize, side: Side, sub: &Subchannel) -> bool
-    ensures { result ≡ spec.reaches «unit» side sub.now }
+    ensures { result ≡ state_spec.reaches «unit» side sub.now }
 {
     usize::from(sub.setup.unit) == unit && sub.setup.side.same(side)
 }
 
 /// The place of the subchannel that reaches this side of a unit.
 pub fn reached_in(unit: usize, side: Side, subs: &[Subchannel]) -> Option<usize>
-    ensures place { result ≡ spec.reached_in «unit» side subs.now }
+    ensures place { result ≡ state_spec.reached_in «unit» side subs.now }
     ensures bound { IfSome result (λ place. place < length subs.now) }
 {
     for (place, sub) in subs.iter().enumerate() {
@@ -46,46 +43,4 @@ pub fn reached_in(unit: usize, side: Side, subs: &[Subchannel]) -> Option<usize>
         }
     }
     None
-}
-
-/// Whether a signal waits on some wire down of a subchannel.
-fn any_down(wires: &Wires) -> bool
-    ensures { result ≡ state_spec.any_down wires.now.down }
-{
-    has_signal(wires, 0)
-        || has_signal(wires, 1)
-        || has_signal(wires, 2)
-        || has_signal(wires, 3)
-        || has_signal(wires, 4)
-        || has_signal(wires, 5)
-        || has_signal(wires, 6)
-        || has_signal(wires, 7)
-}
-
-fn has_signal(wires: &Wires, index: u32) -> bool
-    requires { index < 8 }
-    ensures { result ≡ state_spec.has_signal wires.now.down index }
-{
-    match Path::new(index) {
-        None => false,
-        Some(path) => wires.front_down(path).is_some(),
-    }
-}
-
-fn awaits(unit: usize, sub: &Subchannel) -> bool
-    ensures { result ≡ state_spec.awaits «unit» sub.now }
-{
-    usize::from(sub.setup.unit) == unit && any_down(&sub.wires)
-}
-
-/// Whether a signal waits on some wire down to a unit.
-pub fn is_awaited(unit: usize, subs: &[Subchannel]) -> bool
-    ensures { result ≡ list_any (state_spec.awaits «unit») subs.now }
-{
-    for sub in subs {
-        if awaits(unit, sub) {
-            return true;
-        }
-    }
-    false
 }

@@ -3,13 +3,15 @@
 ghost use Rattle.std.specs.Prelude.{◌≡◌, ◌≢◌, ◌⊎◌, ◌+◌, ◌<◌, ◌≤◌, Err, ◌++◌, ◌∷◌, [], ℕ, IfOk, IfErr, OnErr, OnOk, All, length, map, vec_len, vec_capacity, option_map};
 ghost use Rattle.chan_model.specs.declared.fault.Fault.TheVariants as fault_spec;
 ghost use Rattle.machine_model.specs.State as state_spec;
-ghost use Rattle.machine_model.specs.Steps.{Step, IsRefused, HasRun, HasAnswered, HasBegun};
+ghost use Rattle.machine_model.specs.Steps.{Step, IsRefused, HasRun};
+ghost use Rattle.machine_model.specs.Answering.{HasAnswered, HasBegun};
 ghost use Rattle.std.specs.Bool.{OnTrue, OnFalse};
 ghost use Rattle.machine_model.specs.Bounds.{IsRoomy, IsUnitRoomy};
 ghost use Rattle.channel_config.specs.Lawful.{IsLawful};
 ghost use Rattle.machine_laws.specs.Agreeing.{AllAgree};
 ghost use Rattle.program_laws.specs.Claims.{HasTold};
 ghost use Rattle.machine_laws.specs.Claims.{IsClearedOnce};
+ghost use Rattle.machine_laws.specs.Beginnings.{IsBegunOnce};
 
 use crate::history::History;
 use crate::machine::Machine;
@@ -19,7 +21,7 @@ use chan_model::reply::{Entry, Reply};
 use channel_config::config::Config;
 use channel_config::parts::{SubchannelSetup, UnitKind};
 use hold::Hold;
-use machine_laws::{agreements, numbers, serials, steps};
+use machine_laws::{agreements, beginnings, numbers, serials, steps};
 use machine_model::state::{Pmcw, Subchannel, SubchannelState, UnitTurn};
 use path_select::PathChoice;
 use program_laws::programs;
@@ -113,6 +115,8 @@ impl<P: PathChoice + Drop> Subsystem<P> {
         ensures replays { HasRun self.new.history self.new.state }
         // Of two TEST SUBCHANNEL of one subchannel that answered 0, the later carries a strictly greater count of statuses made.
         ensures cleared_once { IsClearedOnce self.new.state.sets self.new.history }
+        // Each start begins at most one program at its device.
+        ensures begun_once { IsBegunOnce self.new.state.sets self.new.history }
         // Each subchannel and its unit agree on the program that holds the device, or a reset is due; by one path.
         ensures agree { AllAgree self.new.state }
         // What is told of the program that each subchannel offered last: its blocks, its commands and its bytes.
@@ -135,16 +139,18 @@ impl<P: PathChoice + Drop> Subsystem<P> {
         Ok(answers)
     }
 
-    /// The history replays to the state, each status is cleared once, subchannels and units agree, and what is told of the
-    /// programs holds.
+    /// The history replays to the state, each status is cleared once, each start begins one program at most, subchannels and
+    /// units agree, and what is told of the programs holds.
     fn recalls(&self)
         ensures replays { HasRun self.now.history self.now.state }
         ensures cleared_once { IsClearedOnce self.now.state.sets self.now.history }
+        ensures begun_once { IsBegunOnce self.now.state.sets self.now.history }
         ensures agree { AllAgree self.now.state }
         ensures told { HasTold self.now.history self.now.state }
     {
         steps();
         serials();
+        beginnings();
         agreements();
         programs();
         let _ = &self.history;
@@ -155,6 +161,7 @@ impl<P: PathChoice + Drop> Subsystem<P> {
         ensures history { result ≡ self.now.history }
         ensures replays { HasRun self.now.history self.now.state }
         ensures cleared_once { IsClearedOnce self.now.state.sets self.now.history }
+        ensures begun_once { IsBegunOnce self.now.state.sets self.now.history }
         ensures agree { AllAgree self.now.state }
         ensures told { HasTold self.now.history self.now.state }
     {
@@ -245,6 +252,7 @@ fn opening_subchannel() -> SubchannelState
         starts: 0,
         waiting: None,
         begun: None,
+        suspended: None,
         hold: Hold::new().state(),
         offered: 0,
         last_path: None,

@@ -3,140 +3,105 @@
 ghost use Rattle.std.specs.Prelude.{◌≡◌, ◌<◌, ◌^◌, true, false, length};
 ghost use Rattle.machine_model.specs.Steps as spec;
 ghost use Rattle.machine_model.specs.Choosing as choosing_spec;
+ghost use Rattle.machine_model.specs.declared.state.Chosen.TheVariants as chosen_spec;
 ghost use Rattle.machine_model.specs.Bounds.{IsRoomy, IsUnitRoomy};
 ghost use Rattle.chan_model.specs.UnitReports as reports_spec;
 ghost use Rattle.chan_model.specs.UnitTable as unit_spec;
 ghost use Rattle.wires.specs.Queues.{queue};
-ghost use Rattle.schib_block.specs.Modify.{IsAllowed};
 
 use chan_model::fault::Fault;
 use chan_model::names::{Path, Side};
-use chan_model::paths::mask_of_path;
-use chan_model::reply::{Answer, ConditionCode, Reply};
+use chan_model::reply::Reply;
 use chan_model::report::{Report, ReportPath};
 use chan_model::signal::{Down, OnPath, Taken, Up};
-use machine_model::state::{Chosen, Program, Subchannel, SubchannelState, UpStep};
-use orb_block::Orb;
-use schib_block::pmcw::Pmcw;
-use scsw_irb::irb::Irb;
+use machine_model::cause::Cause;
+use machine_model::state::{Candidate, Chosen, Subchannel, SubchannelState, UpStep};
+use status::make_pending;
 use storage_keys::Storage;
-use subchannel::choosing::{offered, without_path};
-use subchannel::instructions::{condition_of, msch_code, ssch_code, started, tested, tsch_code};
+use subchannel::choosing::{halt_sent, offered, reset_sent};
 use subchannel::moving::stores;
 use subchannel::taking::takes_up;
-use subchannel_blocks::modified_state;
 use unit::Unit;
 use wires::Wires;
 
-/// START SUBCHANNEL with an allowed ORB.
-pub fn start_sub(sub: &mut Subchannel, orb: Orb) -> Reply
-    requires { IsRoomy sub.old }
-    ensures { spec.start_sub sub.old orb ≡ spec.leaves result sub.new }
-{
-    let serials = sub.state.serials;
-    match ssch_code(condition_of(sub.state)) {
-        ConditionCode::Zero => {
-            sub.state = started(sub.state, orb);
-            Reply::Code(Answer::Zero(serials))
-        }
-        ConditionCode::One => Reply::Code(Answer::One(serials)),
-        ConditionCode::Two => Reply::Code(Answer::Two),
-        ConditionCode::Three => Reply::Code(Answer::Three),
-    }
-}
-
-/// TEST SUBCHANNEL, but for the IRB.
-pub fn test_with(sub: &mut Subchannel, code: ConditionCode) -> Reply
-    ensures { spec.test_with sub.old code ≡ spec.leaves result sub.new }
-{
-    let serials = sub.state.serials;
-    let scsw = sub.state.scsw;
-    match code {
-        ConditionCode::Zero => {
-            sub.state = tested(sub.state);
-            Reply::Status {
-                answer: Answer::Zero(sub.state.serials),
-                scsw,
-            }
-        }
-        ConditionCode::One => Reply::Status {
-            answer: Answer::One(serials),
-            scsw,
-        },
-        ConditionCode::Two => Reply::Code(Answer::Two),
-        ConditionCode::Three => Reply::Code(Answer::Three),
-    }
-}
-
-/// The interruption-response block of a subchannel.
-pub fn irb_of(state: &SubchannelState) -> Irb
-    ensures { result ≡ spec.irb_of state.now }
-{
-    Irb {
-        scsw: state.scsw,
-        last_path_used: mask_of_path(state.pmcw.last_used),
-    }
-}
-
-/// Whether TEST SUBCHANNEL stores an interruption-response block.
-pub fn stores_irb(code: ConditionCode) -> bool
-    ensures { result ≡ spec.stores_irb code }
-{
-    match code {
-        ConditionCode::Zero | ConditionCode::One => true,
-        ConditionCode::Two | ConditionCode::Three => false,
-    }
-}
-
-/// MODIFY SUBCHANNEL with a word that it allows.
-pub fn modify_sub(sub: &mut Subchannel, given: &Pmcw) -> Reply
-    requires { IsAllowed given.now }
-    ensures { spec.modify_sub sub.old given.now ≡ spec.leaves result sub.new }
-{
-    let serials = sub.state.serials;
-    match msch_code(condition_of(sub.state)) {
-        ConditionCode::Zero => {
-            sub.state = modified_state(sub, given);
-            Reply::Code(Answer::Zero(serials))
-        }
-        ConditionCode::One => Reply::Code(Answer::One(serials)),
-        ConditionCode::Two => Reply::Code(Answer::Two),
-        ConditionCode::Three => Reply::Code(Answer::Three),
-    }
-}
-
-/// The program is offered on a path.
-fn offer_sub(sub: &mut Subchannel, program: &Program, path: Path) -> Result<Reply, Fault>
-    requires roomy { IsRoomy sub.old }
-    requires free { choosing_spec.IsFree sub.old.state.hold.phase }
-    ensures { spec.GivesSub sub.old (spec.offer_sub sub.old program.now path) result sub.new }
+/// A signal is sent down a path, with which the subchannel comes to this state.
+fn send_sub(
+    sub: &mut Subchannel,
+    state: SubchannelState,
+    path: Path,
+    signal: Down,
+    reply: Reply,
+) -> Result<Reply, Fault>
+    ensures { spec.GivesSub sub.old (spec.send_sub sub.old state path signal reply) result sub.new }
 {
     if sub.wires.down_is_full(path) {
         return Err(Fault::WireFull);
     }
+    sub.state = state;
+    sub.wires.send_down(path, signal);
+    Ok(reply)
+}
+
+/// The Reset that is due is sent on a path.
+fn reset_sub(sub: &mut Subchannel, number: u64, path: Path) -> Result<Reply, Fault>
+    ensures { spec.GivesSub sub.old (spec.choose_sub sub.old (chosen_spec.Resets number path)) result sub.new }
+{
+    let signal = Down::Reset {
+        number,
+        restarts: sub.state.hold.known,
+    };
+    let state = reset_sent(&sub.state, path);
+    send_sub(sub, state, path, signal, Reply::ResetSent { number, path })
+}
+
+/// A Halt is sent on a path.
+fn halt_on(sub: &mut Subchannel, number: u64, path: Path) -> Result<Reply, Fault>
+    ensures { spec.GivesSub sub.old (spec.choose_sub sub.old (chosen_spec.Halts number path)) result sub.new }
+{
+    let state = halt_sent(&sub.state);
+    let signal = Down::Halt { number };
+    send_sub(sub, state, path, signal, Reply::HaltSent { number, path })
+}
+
+/// A program is offered on a path.
+fn offer_sub(sub: &mut Subchannel, candidate: Candidate, path: Path) -> Result<Reply, Fault>
+    requires roomy { IsRoomy sub.old }
+    requires free { choosing_spec.IsFitFor (chosen_spec.Offers candidate path) sub.old.state.hold }
+    ensures { spec.GivesSub sub.old (spec.choose_sub sub.old (chosen_spec.Offers candidate path)) result sub.new }
+{
     let number = sub.state.drawn + 1;
-    sub.state = offered(&sub.state, program, path);
-    sub.wires.send_down(path, Down::Select { number });
-    Ok(Reply::Offered {
+    let state = offered(&sub.state, &candidate.program, path);
+    let reply = Reply::Offered {
         number,
         path,
-        resumed: false,
-    })
+        resumed: candidate.resumes,
+    };
+    send_sub(sub, state, path, Down::Select { number }, reply)
+}
+
+/// A status is made pending.
+fn pend_sub(sub: &mut Subchannel, cause: &Cause) -> Result<Reply, Fault>
+    requires { IsRoomy sub.old }
+    ensures { spec.GivesSub sub.old (spec.pend_sub sub.old cause.now) result sub.new }
+{
+    make_pending(&mut sub.state, cause);
+    Ok(Reply::Pending)
 }
 
 /// The subsystem does what was chosen.
 pub fn choose_sub(sub: &mut Subchannel, chosen: Chosen) -> Result<Reply, Fault>
     requires roomy { IsRoomy sub.old }
-    requires free { choosing_spec.IsFreeToOffer chosen sub.old.state.hold.phase }
+    requires fits { choosing_spec.IsFitFor chosen sub.old.state.hold }
     ensures { spec.GivesSub sub.old (spec.choose_sub sub.old chosen) result sub.new }
 {
     match chosen {
         Chosen::Idle => Ok(Reply::Idle),
-        Chosen::Over => {
-            sub.state = without_path(&sub.state);
-            Ok(Reply::Pending)
-        }
-        Chosen::Offers { program, path } => offer_sub(sub, &program, path),
+        Chosen::Resets { number, path } => reset_sub(sub, number, path),
+        Chosen::Clears => pend_sub(sub, &Cause::ClearDone),
+        Chosen::Halts { number, path } => halt_on(sub, number, path),
+        Chosen::Ends => pend_sub(sub, &Cause::HaltDone),
+        Chosen::Over => pend_sub(sub, &Cause::NoPath),
+        Chosen::Offers { candidate, path } => offer_sub(sub, candidate, path),
     }
 }
 

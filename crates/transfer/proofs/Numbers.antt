@@ -1,35 +1,29 @@
 -- The numbers of a command stay as its bytes move.
 use Rattle.std.proofs.Common.{◌≡◌, refl, ◌∙◌, ℕ, ◌+◌, ◌==◌, Bool, true, false, Option, None, Some, Result, Ok, Err, List, [], length, arith}
-use Rattle.std.specs.Prelude.{if◌then◌else◌, IfOk, is_some, min}
+use Rattle.std.specs.Prelude.{if◌then◌else◌, is_some, min}
 use Rattle.std.proofs.lemmas.Bool.{eqb-true}
-use Rattle.orb_block.specs.declared.Orb.{Orb}
-use Rattle.ccw_codec.specs.declared.Ccw.{Ccw}
 use Rattle.ccw_codec.specs.Command.{class_of}
 use Rattle.storage_keys.specs.Storage.{Contents}
 use Rattle.channel_program.specs.declared.check.Check.{Check}
 use Rattle.channel_program.specs.declared.Advance.{Advance}
 use Rattle.channel_program.specs.declared.Advance.TheVariants.{Takes, Suspends, Stops}
-use Rattle.channel_program.specs.Walks.{Place, place, after_acts, after_used_up, after_end, advance_acts, advance_of}
+use Rattle.channel_program.specs.Walks.{Place, after_acts, after_used_up, advance_acts, advance_of}
 use Rattle.data_move.specs.Moving as movement
 use Rattle.data_move.specs.Moving.{Moving}
 use Rattle.data_move.specs.Accesses as access
 use Rattle.transfer.specs.declared.Transfer.{Transfer}
-use Rattle.transfer.specs.Commands.{command_of, begins, goes_to, with_located, located, with_room, brings, begun_with_room, has_stopped}
+use Rattle.transfer.specs.Commands.{begins, goes_to, with_located, located, with_room, brings, begun_with_room, has_stopped}
 use Rattle.transfer.specs.Chunks.{Brought, brings_none, chains_data, chained_to, chained, with_moved, moved_on, with_answer, absorbed, given_bytes, given_of, given_from, next_given, brought_by, fitting, brought_in, brought}
-use Rattle.transfer.specs.Numbers.{IsSame, IsLater, IsNew}
+use Rattle.transfer.specs.Numbers.{IsSame, IsLater, IsNew, IfBegins}
 
 -- how a command begins
-if-new : (n : ℕ) (b : Bool) (t : Transfer) (c : Check) → IsNew n t → IfOk (if b then Err c else Ok t) (IsNew n)
-if-new n true t c k = tt
-if-new n false t c k = k
-
-begins-new : (walk : Place) (n : ℕ) (a : Option Advance) → IfOk (begins walk n a) (IsNew n)
+begins-new : (walk : Place) (n : ℕ) (a : Option Advance) → IfBegins (begins walk n a) (IsNew n)
 begins-new walk n None = tt
-begins-new walk n (Some (Takes ccw)) = if-new n ccw.program_controlled (command_of walk n ccw) _ (record { command = refl; sequence = refl })
+begins-new walk n (Some (Takes ccw)) = record { command = refl; sequence = refl }
 begins-new walk n (Some Suspends) = tt
 begins-new walk n (Some (Stops check)) = tt
 
-pub goes_to-new : (storage : Contents) (n : ℕ) (old : Place) → IfOk (goes_to storage n old).came (IsNew n)
+pub goes_to-new : (storage : Contents) (n : ℕ) (old : Place) → IfBegins (goes_to storage n old).came (IsNew n)
 goes_to-new storage n old = begins-new (after_acts old (advance_acts storage old)) n (advance_of old (advance_acts storage old))
 
 -- a room is told, or a chunk given
@@ -74,8 +68,7 @@ given-same storage t =
 -- bytes are moved
 chained_to-same : (t : Transfer) (walk : Place) (a : Option Advance) → IsSame t (chained_to t walk a)
 chained_to-same t walk None = same t
-chained_to-same t walk (Some (Takes ccw)) =
-    if-same t ccw.program_controlled _ _ (record { command = refl; sequence = refl }) (record { command = refl; sequence = refl })
+chained_to-same t walk (Some (Takes ccw)) = record { command = refl; sequence = refl }
 chained_to-same t walk (Some Suspends) = record { command = refl; sequence = refl }
 chained_to-same t walk (Some (Stops check)) = record { command = refl; sequence = refl }
 

@@ -1,6 +1,5 @@
 -- How the bytes of a command move, chunk by chunk (SA22-7832, chapter 15; own).
-use Rattle.std.specs.Prelude.{ℕ, ◌+◌, Bool, true, false, not, ◌==◌, ◌&&◌, ◌||◌, nat_lt, min, if◌then◌else◌, Option, None, Some, is_some, is_none, List, [], length, take, Result, Ok, Err}
-use Rattle.ccw_codec.specs.declared.Ccw.{Ccw}
+use Rattle.std.specs.Prelude.{ℕ, ◌+◌, Bool, not, ◌==◌, ◌&&◌, ◌||◌, nat_lt, min, if◌then◌else◌, Option, None, Some, is_some, is_none, List, [], length, take, Result, Ok, Err}
 use Rattle.storage_keys.specs.Storage.{Contents}
 use Rattle.chan_model.specs.UnitReports.{is_outward}
 use Rattle.channel_program.specs.declared.check.Check.{Check}
@@ -15,14 +14,12 @@ use Rattle.transfer.specs.declared.Given.{Given}
 use Rattle.transfer.specs.Commands.{data_of, has_stopped, located}
 
 -- Data chaining: as soon as the count is used up the next block takes control, with its own data; a check is a fault of
--- the transfer. An interruption by the program is not served yet: a program check (own)
+-- the transfer, and so is a suspension
 abbrev pub chains_data : Transfer → ℕ → Bool
 chains_data t n = not (n == 0) && ((movement.residual t.moving == 0) && (t.moving.ccw.chain_data && is_none t.fault))
 
 abbrev pub chained_to : Transfer → Place → Option Advance → Transfer
-chained_to t walk (Some (Takes ccw)) =
-    if ccw.program_controlled then record t { walk = walk; fault = Some Program }
-    else record t { walk = walk; moving = data_of walk t.code ccw }
+chained_to t walk (Some (Takes ccw)) = record t { walk = walk; moving = data_of walk t.code ccw; interrupts = ccw.program_controlled }
 chained_to t walk (Some Suspends) = record t { walk = walk; fault = Some Program }
 chained_to t walk (Some (Stops check)) = record t { walk = walk; fault = Some check }
 chained_to t walk None = t

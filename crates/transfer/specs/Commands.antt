@@ -1,6 +1,5 @@
 -- How a command of a channel program begins (SA22-7832, chapter 15).
-use Rattle.std.specs.Prelude.{ℕ, ◌+◌, Bool, true, false, not, ◌&&◌, ◌||◌, if◌then◌else◌, Option, None, Some, is_some, List, [], Result, Ok, Err}
-use Rattle.orb_block.specs.declared.Orb.{Orb}
+use Rattle.std.specs.Prelude.{ℕ, ◌+◌, Bool, true, false, not, ◌&&◌, ◌||◌, if◌then◌else◌, Option, None, Some, is_some, Result, Ok, Err}
 use Rattle.ccw_codec.specs.declared.Ccw.{Ccw}
 use Rattle.ccw_codec.specs.declared.Class.{Class}
 use Rattle.ccw_codec.specs.declared.Class.TheVariants as class
@@ -11,12 +10,14 @@ use Rattle.channel_program.specs.declared.check.Check.{Check}
 use Rattle.channel_program.specs.declared.check.Check.TheVariants.{Program}
 use Rattle.channel_program.specs.declared.Advance.{Advance}
 use Rattle.channel_program.specs.declared.Advance.TheVariants.{Takes, Suspends, Stops}
-use Rattle.channel_program.specs.Walks.{Place, place, after_acts, after_end, advance_acts, advance_of}
+use Rattle.channel_program.specs.Walks.{Place, after_acts, after_end, advance_acts, advance_of}
 use Rattle.idaw.specs.Lists.{kind_of}
 use Rattle.data_move.specs.Moving as movement
 use Rattle.data_move.specs.Moving.{Moving}
 use Rattle.data_move.specs.Accesses as access
 use Rattle.transfer.specs.declared.Transfer.{Transfer}
+use Rattle.transfer.specs.declared.Came.{Came}
+use Rattle.transfer.specs.declared.Came.TheVariants as came
 use Rattle.transfer.specs.declared.Beginning.{Beginning}
 use Rattle.transfer.specs.declared.Roomy.{Roomy}
 
@@ -34,6 +35,7 @@ command_of walk n ccw = record {
   code = ccw.command;
   walk = walk;
   moving = data_of walk ccw.command ccw;
+  interrupts = ccw.program_controlled;
   sequence = 0;
   offered = 0;
   stopped = false;
@@ -42,15 +44,15 @@ command_of walk n ccw = record {
   unchained = false;
 }
 
--- interruptions by the program and suspension are not served yet: a program check (own)
-abbrev pub begins : Place → ℕ → Option Advance → Result Transfer Check
-begins walk n (Some (Takes ccw)) = if ccw.program_controlled then Err Program else Ok (command_of walk n ccw)
-begins walk n (Some Suspends) = Err Program
-begins walk n (Some (Stops check)) = Err check
-begins walk n None = Err Program
+-- a program whose next block takes control begins a command; it is suspended, or ends with a check
+abbrev pub begins : Place → ℕ → Option Advance → Came
+begins walk n (Some (Takes ccw)) = came.Begins (command_of walk n ccw)
+begins walk n (Some Suspends) = came.Suspends
+begins walk n (Some (Stops check)) = came.Stops check
+begins walk n None = came.Stops Program
 
 abbrev pub beginning_of : Place → ℕ → Option Advance → Beginning
-beginning_of walk n advance = record { tried = walk.tried; came = begins walk n advance }
+beginning_of walk n advance = record { walk = walk; came = begins walk n advance }
 
 -- the command that a program goes on to from a place
 abbrev pub goes_to : Contents → ℕ → Place → Beginning
@@ -58,9 +60,10 @@ goes_to storage n old =
     let acts = advance_acts storage old in
     beginning_of (after_acts old acts) n (advance_of old acts)
 
--- the first command of a program, and the next after one that ended, with status modifier or without
-abbrev pub first_command : Contents → Orb → Beginning
-first_command storage orb = goes_to storage 1 (place orb [])
+-- the first command of a program from where it stands: at its beginning, or where it was suspended; and the next after one
+-- that ended, with status modifier or without
+abbrev pub first_command : Contents → Place → Beginning
+first_command storage walk = goes_to storage 1 walk
 
 abbrev pub next_command : Contents → Transfer → Bool → Beginning
 next_command storage t modifier = goes_to storage (t.command + 1) (after_end t.walk (record { goes_on = true; modifier = modifier }))

@@ -25,13 +25,10 @@ fn chained_to(transfer: &Transfer, walk: Walk, advance: Option<Advance>) -> Tran
 {
     let mut next = *transfer;
     match advance {
-        Some(Advance::Takes(ccw)) if ccw.program_controlled => {
-            next.walk = walk;
-            next.fault = Some(Check::Program);
-        }
         Some(Advance::Takes(ccw)) => {
             next.walk = walk;
             next.moving = data_of(&walk, transfer.code, ccw);
+            next.interrupts = ccw.program_controlled;
         }
         Some(Advance::Suspends) => {
             next.walk = walk;

@@ -4,7 +4,7 @@ ghost use Rattle.std.specs.Prelude.{◌≡◌, ◌<◌, ◌≤◌, ◌^◌};
 ghost use Rattle.chan_model.specs.UnitReports.{is_outward as is_outward_code};
 ghost use Rattle.transfer.specs.Commands as spec;
 
-use crate::{Beginning, Roomy, Transfer};
+use crate::{Beginning, Came, Roomy, Transfer};
 use ccw_codec::command::class;
 use ccw_codec::{Ccw, Class};
 use ccw_walk::Walk;
@@ -12,7 +12,6 @@ use channel_program::check::Check;
 use channel_program::{Advance, Ended};
 use data_move::moving::Move;
 use idaw::ListKind;
-use orb_block::Orb;
 use storage_keys::Storage;
 
 /// Whether a command moves bytes to the device.
@@ -42,6 +41,7 @@ fn command_of(walk: Walk, command: u64, ccw: Ccw) -> Transfer
         code: ccw.command,
         walk,
         moving: data_of(&walk, ccw.command, ccw),
+        interrupts: ccw.program_controlled,
         sequence: 0,
         offered: 0,
         stopped: false,
@@ -51,15 +51,14 @@ fn command_of(walk: Walk, command: u64, ccw: Ccw) -> Transfer
     }
 }
 
-fn begins(walk: Walk, command: u64, advance: Option<Advance>) -> Result<Transfer, Check>
+fn begins(walk: Walk, command: u64, advance: Option<Advance>) -> Came
     ensures { result ≡ spec.begins walk command advance }
 {
     match advance {
-        Some(Advance::Takes(ccw)) if ccw.program_controlled => Err(Check::Program),
-        Some(Advance::Takes(ccw)) => Ok(command_of(walk, command, ccw)),
-        Some(Advance::Suspends) => Err(Check::Program),
-        Some(Advance::Stops(check)) => Err(check),
-        None => Err(Check::Program),
+        Some(Advance::Takes(ccw)) => Came::Begins(command_of(walk, command, ccw)),
+        Some(Advance::Suspends) => Came::Suspends,
+        Some(Advance::Stops(check)) => Came::Stops(check),
+        None => Came::Stops(Check::Program),
     }
 }
 
@@ -69,16 +68,16 @@ fn goes_to(storage: &Storage, command: u64, walk: Walk) -> Beginning
     let mut walk = walk;
     let advance = walk.advance(storage);
     Beginning {
-        tried: walk.tried(),
+        walk,
         came: begins(walk, command, advance),
     }
 }
 
-/// The first command of a program.
-pub fn first_command(storage: &Storage, orb: Orb) -> Beginning
-    ensures { result ≡ spec.first_command storage.now orb }
+/// The first command of a program from where it stands: at its beginning, or where it was suspended.
+pub fn first_command(storage: &Storage, walk: Walk) -> Beginning
+    ensures { result ≡ spec.first_command storage.now walk }
 {
-    goes_to(storage, 1, Walk::start(orb))
+    goes_to(storage, 1, walk)
 }
 
 /// The command that is chained to one that ended, with status modifier or without.

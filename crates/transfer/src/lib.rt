@@ -23,6 +23,8 @@ pub struct Transfer {
     pub walk: Walk,
     /// The data of the block that took control last.
     pub moving: Move,
+    /// That block asks for an interruption by the program, which is not made yet.
+    pub interrupts: bool,
     /// The number of the last chunk.
     pub sequence: u64,
     /// How many bytes were given last.
@@ -37,13 +39,23 @@ pub struct Transfer {
     pub unchained: bool,
 }
 
+/// What a program comes to as its next block is fetched.
+#[derive(Clone, Copy)]
+pub enum Came {
+    /// A command begins.
+    Begins(Transfer),
+    /// The program is suspended.
+    Suspends,
+    /// The program ends with a check.
+    Stops(Check),
+}
+
 /// A command that is to begin.
 #[derive(Clone, Copy)]
 pub struct Beginning {
-    /// The address past the last block whose fetch was tried.
-    pub tried: u32,
-    /// The command, or the check that its program ends with.
-    pub came: Result<Transfer, Check>,
+    /// Where the program stands then.
+    pub walk: Walk,
+    pub came: Came,
 }
 
 /// A command with the room that its device is told of: how many bytes of a read may come, at most 256.

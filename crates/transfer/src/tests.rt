@@ -3,7 +3,8 @@
 use crate::chunks::{absorbed, brought, is_answered, next_given};
 use crate::commands::{begun_with_room, first_command, next_command, with_room};
 use crate::law::command_numbers;
-use crate::{Beginning, Transfer};
+use crate::{Beginning, Came, Transfer};
+use ccw_walk::Walk;
 use channel_program::check::Check;
 use orb_block::Orb;
 use std::alloc::Global;
@@ -20,11 +21,14 @@ fn storage_of(alloc: Global, program: &[u8]) -> Option<Storage> {
 /// The first command of a program of format 1 at 1000, with access key 0.
 fn first(storage: &Storage) -> Option<Beginning> {
     let orb = Orb::read(&[0, 0, 0, 0, 0, 0x80, 0xFF, 0, 0, 0, 0x10, 0]).ok()?;
-    Some(first_command(storage, orb))
+    Some(first_command(storage, Walk::start(orb)))
 }
 
 fn began(storage: &Storage) -> Option<Transfer> {
-    first(storage)?.came.ok()
+    match first(storage)?.came {
+        Came::Begins(transfer) => Some(transfer),
+        _ => None,
+    }
 }
 
 fn is_met(transfer: &Transfer, command: u64, sequence: u64) -> bool {
@@ -63,8 +67,8 @@ fn followed_by(storage: &Storage, transfer: &Transfer, modifier: bool) -> Option
         return None;
     }
     match next_command(storage, transfer, modifier).came {
-        Ok(next) => Some((next.command, next.code)),
-        Err(_) => None,
+        Came::Begins(next) => Some((next.command, next.code)),
+        _ => None,
     }
 }
 
@@ -155,7 +159,6 @@ fn the_next_command_follows(rt: HostRuntime) {
 fn what_a_program_may_not_begin_with(rt: HostRuntime) {
     for program in [
         [8, 0, 0, 0, 0, 0, 0x10, 0x10],
-        [1, 0x28, 0, 4, 0, 0, 0x20, 0],
         [1, 0x22, 0, 4, 0, 0, 0x20, 0],
     ] {
         let Some(storage) = storage_of(rt.alloc(), &program) else {
@@ -164,7 +167,33 @@ fn what_a_program_may_not_begin_with(rt: HostRuntime) {
         let Some(found) = first(&storage) else {
             return assert!(rt; false, "the block is allowed");
         };
-        assert_eq!(rt; found.tried, 0x1008);
-        assert_eq!(rt; found.came.err(), Some(Check::Program));
+        assert_eq!(rt; found.walk.tried(), 0x1008);
+        assert!(rt; matches!(found.came, Came::Stops(Check::Program)));
     }
+}
+
+#[test]
+fn a_block_that_asks_for_an_interruption_takes_control(rt: HostRuntime) {
+    let program = [1, 0x28, 0, 4, 0, 0, 0x20, 0];
+    let Some(storage) = storage_of(rt.alloc(), &program) else {
+        return assert!(rt; false, "no memory");
+    };
+    let Some(transfer) = began(&storage) else {
+        return assert!(rt; false, "the program is right");
+    };
+    assert!(rt; transfer.interrupts);
+}
+
+#[test]
+fn a_program_that_may_be_suspended_is(rt: HostRuntime) {
+    let program = [1, 0x22, 0, 4, 0, 0, 0x20, 0];
+    let Some(storage) = storage_of(rt.alloc(), &program) else {
+        return assert!(rt; false, "no memory");
+    };
+    let Ok(orb) = Orb::read(&[0, 0, 0, 0, 0x08, 0x80, 0xFF, 0, 0, 0, 0x10, 0]) else {
+        return assert!(rt; false, "the block is allowed");
+    };
+    let found = first_command(&storage, Walk::start(orb));
+    assert!(rt; matches!(found.came, Came::Suspends));
+    assert_eq!(rt; found.walk.next(), Some(0x1000));
 }

@@ -1,12 +1,16 @@
 use Rattle.machine_model.specs.State.{opening_of}
+use Rattle.machine_laws.proofs.Growth.{AreLaws}
 use Rattle.machine_laws.proofs.Prefixes.{run-first}
 use Rattle.machine_laws.proofs.RunAgrees.{run-agrees}
 use Rattle.machine_laws.proofs.agreements.Goals as goal
 
 pub returns-clause-agree : goal.returns-clause-agree
-returns-clause-agree c = run-agrees c.agreement.ensures.opens c.agreement.ensures.keeps c.agreement.ensures.means
+returns-clause-agree c =
+    let laws : AreLaws = record { keeps = c.agreement.ensures.keeps; means = c.agreement.ensures.means; busy = c.passing.ensures.busy; stays = c.passing.ensures.stays } in
+    run-agrees c.agreement.ensures.opens laws
 
 pub returns-clause-each : goal.returns-clause-each
 returns-clause-each c = λ setup h later s lawful run.
+    let laws : AreLaws = record { keeps = c.agreement.ensures.keeps; means = c.agreement.ensures.means; busy = c.passing.ensures.busy; stays = c.passing.ensures.stays } in
     let first = run-first (opening_of setup) h later s run in
-    (first.0, first.1, run-agrees c.agreement.ensures.opens c.agreement.ensures.keeps c.agreement.ensures.means setup h first.0 lawful first.1)
+    (first.0, first.1, run-agrees c.agreement.ensures.opens laws setup h first.0 lawful first.1)

@@ -11,10 +11,10 @@ use Rattle.machine_model.specs.declared.cause.Cause.TheVariants as cause
 use Rattle.machine_model.specs.declared.state.Begun.{Begun}
 use Rattle.machine_model.specs.declared.state.Program.{Program}
 use Rattle.machine_model.specs.declared.state.SubchannelState.{SubchannelState}
-use Rattle.machine_model.specs.Causes.{programs_left, without_begun, without_waiting, joined_by, joined_where, shown_of}
+use Rattle.machine_model.specs.Causes.{programs_left, without_begun, without_waiting, joined_by, shown_of}
 use Rattle.machine_model.specs.Functions.{without_programs, ends_suspended}
 use Rattle.machine_model.specs.Instructions.{tested}
-use Rattle.machine_model.specs.Taking.{has_shown}
+use Rattle.machine_model.specs.Statuses.{has_shown}
 use Rattle.functions.specs.Counted.{IsCounted}
 use Rattle.status.proofs.law.counts.Goals as goal
 
@@ -52,18 +52,29 @@ joined-pending : (b : Bool) (x y : Scsw) → x.status.pending ≡ true → y.sta
 joined-pending true x y e f = e
 joined-pending false x y e f = f
 
+unjoined : (scsw : Scsw) (c : Cause) → (joined_by false scsw c).status.pending ≡ scsw.status.pending
+unjoined scsw (cause.End b status more) = refl
+unjoined scsw (cause.FetchFault tried check count) = refl
+unjoined scsw cause.Attention = refl
+unjoined scsw cause.NoPath = refl
+unjoined scsw cause.InterfaceControlCheck = refl
+unjoined scsw (cause.Interruption tried count) = refl
+unjoined scsw (cause.Suspension tried count) = refl
+unjoined scsw cause.ClearDone = refl
+unjoined scsw cause.HaltDone = refl
+
 made : (e : Bool) (scsw : Scsw) (x : Serials) (c : Cause) (shown : Shown) → Counted scsw x →
-    Counted (scsw_made e (joined_where e scsw c) shown) (serials_made e x)
+    Counted (scsw_made e (joined_by e scsw c) shown) (serials_made e x)
 made true scsw x c shown k =
     let o : x.cleared ≤ x.made = k.0 in
-    (omega (arith, o), joined-pending (joined_by scsw c).status.pending _ _ refl refl ∙ sym (lt-ltb x.cleared (x.made + 1) (omega (arith, o))))
-made false scsw x c shown k = k
+    (omega (arith, o), joined-pending (joined_by true scsw c).status.pending _ _ refl refl ∙ sym (lt-ltb x.cleared (x.made + 1) (omega (arith, o))))
+made false scsw x c shown k = (k.0, unjoined scsw c ∙ k.1)
 
 made-after : (s : SubchannelState) (c : Cause) (shown : Shown) (e : Bool) (x : Serials) → s.pmcw.enabled ≡ e → s.serials ≡ x → IsCounted s →
-    Counted (scsw_made e (joined_where s.pmcw.enabled s.scsw c) shown) (serials_made e x)
+    Counted (scsw_made e (joined_by s.pmcw.enabled s.scsw c) shown) (serials_made e x)
 made-after s c shown e x f g k =
-    subst (λ v. Counted (scsw_made v (joined_where s.pmcw.enabled s.scsw c) shown) (serials_made v x)) f
-    (subst (λ v. Counted (scsw_made s.pmcw.enabled (joined_where s.pmcw.enabled s.scsw c) shown) (serials_made s.pmcw.enabled v)) g
+    subst (λ v. Counted (scsw_made v (joined_by s.pmcw.enabled s.scsw c) shown) (serials_made v x)) f
+    (subst (λ v. Counted (scsw_made s.pmcw.enabled (joined_by s.pmcw.enabled s.scsw c) shown) (serials_made s.pmcw.enabled v)) g
     (made s.pmcw.enabled s.scsw s.serials c shown k))
 
 pub returns-clause-made : goal.returns-clause-made

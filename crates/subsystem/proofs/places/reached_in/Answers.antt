@@ -1,6 +1,6 @@
 use Rattle.std.proofs.Common.{◌≡◌, ℕ, ◌+◌, suc, None, take, sym, ◌∙◌, subst, arith}
 use Rattle.machine_model.specs.State.{first_place}
-use Rattle.machine_model.specs.Steps.{reaches}
+use Rattle.machine_model.specs.State.{reaches}
 use Rattle.subsystem.proofs.FirstPlaces.{first_place-at, first_place-more}
 use Rattle.subsystem.proofs.places.reached_in.Goals as goal
 

@@ -1,6 +1,6 @@
 use Rattle.std.proofs.Common.{◌≡◌, None, take}
 use Rattle.machine_model.specs.State.{first_place}
-use Rattle.machine_model.specs.Steps.{reaches}
+use Rattle.machine_model.specs.State.{reaches}
 use Rattle.subsystem.proofs.places.reached_in.Given as goal
 
 -- none of the subchannels so far passes

@@ -1,10 +1,10 @@
-use Rattle.std.specs.Prelude.{◌+◌, [], true}
-use Rattle.channel_program.specs.Walks.{place, after_end}
+use Rattle.std.specs.Prelude.{◌+◌, true}
+use Rattle.channel_program.specs.Walks.{after_end}
 use Rattle.transfer.proofs.Numbers.{goes_to-new, begun-same, located-same, given-same, absorbed-later, brought-later}
 use Rattle.transfer.proofs.law.command_numbers.Goals as goal
 
 pub returns-clause-first : goal.returns-clause-first
-returns-clause-first c = λ storage orb. goes_to-new storage 1 (place orb [])
+returns-clause-first c = λ storage walk. goes_to-new storage 1 walk
 
 pub returns-clause-next : goal.returns-clause-next
 returns-clause-next c = λ storage t modifier. goes_to-new storage (t.command + 1) (after_end t.walk (record { goes_on = true; modifier = modifier }))

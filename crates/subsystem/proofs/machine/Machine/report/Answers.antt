@@ -1,8 +1,8 @@
 use Rattle.std.proofs.Common.{◌≡◌, ◌<◌, ap, sym, ◌∙◌, subst, Some, length, List, arith}
 use Rattle.chan_model.specs.declared.event.Event.TheVariants as event
 use Rattle.machine_model.specs.declared.state.Subchannel.{Subchannel}
-use Rattle.machine_model.specs.State.{State, with_sub, with_unit}
-use Rattle.machine_model.specs.Steps.{Performs, reached_in}
+use Rattle.machine_model.specs.State.{State, reached_in, with_sub, with_unit}
+use Rattle.machine_model.specs.Steps.{Performs}
 use Rattle.subsystem.specs.contracts.machine.Machine.{the_view}
 use Rattle.subsystem.proofs.Lifting.{report-performs}
 use Rattle.subsystem.proofs.machine.Machine.report.Goals as goal

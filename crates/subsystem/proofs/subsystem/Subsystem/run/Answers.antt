@@ -11,6 +11,7 @@ loop-event-preserved g c = record {
   room = omega (arith, c.loop-event.invariant.room, c.add.ensures.capacity, length-append c.loop-event.answers.items (c.step-answer.result ∷ []), ap length c.add.ensures.items);
   replays = c.recalls-in-loop-event.ensures.replays;
   cleared_once = c.recalls-in-loop-event.ensures.cleared_once;
+  begun_once = c.recalls-in-loop-event.ensures.begun_once;
   agree = c.recalls-in-loop-event.ensures.agree;
   told = c.recalls-in-loop-event.ensures.told;
 }

@@ -1,7 +1,9 @@
 use Rattle.std.proofs.Common.{◌+◌, ◌≤◌, length, take, vec_len, vec_capacity}
-use Rattle.machine_model.specs.Steps.{HasAnswered, HasRun}
+use Rattle.machine_model.specs.Answering.{HasAnswered}
+use Rattle.machine_model.specs.Steps.{HasRun}
 use Rattle.machine_laws.specs.Agreeing.{AllAgree}
 use Rattle.program_laws.specs.Claims.{HasTold}
+use Rattle.machine_laws.specs.Beginnings.{IsBegunOnce}
 use Rattle.machine_laws.specs.Claims.{IsClearedOnce}
 use Rattle.subsystem.proofs.subsystem.Subsystem.run.Given as goal
 
@@ -11,6 +13,7 @@ invariant-loop-event g l = record {
   room : vec_len l.answers + length l.events ≤ vec_capacity l.answers + l.event-index;
   replays : HasRun l.self.history l.self.state;
   cleared_once : IsClearedOnce l.self.state.sets l.self.history;
+  begun_once : IsBegunOnce l.self.state.sets l.self.history;
   agree : AllAgree l.self.state;
   told : HasTold l.self.history l.self.state;
 }

@@ -1,0 +1,2 @@
+mod Engaged
+mod Executions

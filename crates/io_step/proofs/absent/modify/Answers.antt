@@ -1,0 +1,19 @@
+use Rattle.std.proofs.Common.{refl, None}
+use Rattle.storage_keys.specs.Storage.{operand_at}
+use Rattle.chan_model.specs.declared.reply.Answer.TheVariants as answer
+use Rattle.chan_model.specs.declared.reply.Reply.TheVariants as reply
+use Rattle.machine_model.specs.Steps.{does}
+use Rattle.io_step.specs.Executing.{with_storage}
+use Rattle.io_step.proofs.Executions.{modifies, modifies-not}
+use Rattle.io_step.proofs.absent.modify.Goals as goal
+
+pub returns-in-Ok : goal.returns-in-Ok
+returns-in-Ok c = λ word s.
+    modifies (with_storage s c.args.storage.now) None None (operand_at c.args.storage.now c.args.cpu c.args.address 52 4) c.in-Ok.field-0
+    (does (reply.Code answer.Three) (with_storage s c.args.storage.now)) c.in-Ok.ensures.word refl
+
+pub returns-in-Err : goal.returns-in-Err
+returns-in-Err c = λ word. (
+  λ s. modifies-not (with_storage s c.args.storage.now) None None (operand_at c.args.storage.now c.args.cpu c.args.address 52 4) c.in-Err.fault c.in-Err.ensures.word,
+  refl,
+)

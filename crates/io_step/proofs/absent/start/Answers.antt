@@ -1,0 +1,13 @@
+use Rattle.std.proofs.Common.{refl, None}
+use Rattle.storage_keys.specs.Storage.{operand_at}
+use Rattle.chan_model.specs.declared.reply.Answer.TheVariants as answer
+use Rattle.chan_model.specs.declared.reply.Reply.TheVariants as reply
+use Rattle.machine_model.specs.Steps.{does}
+use Rattle.io_step.specs.Executing.{with_storage}
+use Rattle.io_step.proofs.Executions.{starts}
+use Rattle.io_step.proofs.absent.start.Goals as goal
+
+pub returns-in-Ok : goal.returns-in-Ok
+returns-in-Ok c = λ word s.
+    starts (with_storage s c.args.storage.now) None None (operand_at c.args.storage.now c.args.cpu c.args.address 12 4) c.in-Ok.field-0
+    (does (reply.Code answer.Three) (with_storage s c.args.storage.now)) c.in-Ok.ensures refl

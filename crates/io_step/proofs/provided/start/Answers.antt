@@ -1,0 +1,13 @@
+use Rattle.std.proofs.Common.{ap, sym, Some}
+use Rattle.storage_keys.specs.Storage.{operand_at}
+use Rattle.machine_model.specs.State.{with_sub}
+use Rattle.machine_model.specs.Steps.{does, at_place}
+use Rattle.io_step.specs.Executing.{with_storage}
+use Rattle.io_step.proofs.Executions.{starts}
+use Rattle.io_step.proofs.provided.start.Goals as goal
+
+pub returns-in-Ok : goal.returns-in-Ok
+returns-in-Ok c = λ word s place there.
+    let now = with_storage s c.args.storage.now in
+    starts now (Some place) (Some c.args.sub.now) (operand_at c.args.storage.now c.args.cpu c.args.address 12 4) c.in-Ok.orb
+    (does c.start_sub.result (with_sub now place c.start_sub.new.sub)) c.in-Ok.ensures (sym (ap (at_place now place) c.start_sub.ensures))

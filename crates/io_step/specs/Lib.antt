@@ -1,0 +1,4 @@
+pub mod Operands
+pub mod Executing
+pub mod Others
+pub mod Performing

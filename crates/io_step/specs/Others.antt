@@ -1,0 +1,109 @@
+-- The instructions that name no subchannel (SA22-7832, chapter 14).
+use Rattle.std.specs.Prelude.{ℕ, ◌+◌, ◌*◌, ◌==◌, Bool, false, if◌then◌else◌, List, [], ◌∷◌, map, slice_index_or, take, Option, None, Some, Result, Ok, Err}
+use Rattle.std.specs.List.{range_with_len}
+use Rattle.zbits.specs.Bits.{field_of}
+use Rattle.zbits.specs.Layout.{word_of}
+use Rattle.zbits.specs.Words.{bytes_of_words}
+use Rattle.scsw_irb.specs.declared.code.IntCode.{IntCode}
+use Rattle.scsw_irb.specs.declared.crw.Crw.{Crw}
+use Rattle.scsw_irb.specs.CodeTable.{code_tables}
+use Rattle.scsw_irb.specs.CrwTable.{crw_table}
+use Rattle.storage_keys.specs.declared.StorageFault.{StorageFault}
+use Rattle.storage_keys.specs.Storage.{Contents, operand_check, operand_stored}
+use Rattle.chan_model.specs.declared.fault.Fault.{Fault}
+use Rattle.chan_model.specs.declared.fault.Fault.TheVariants as fault
+use Rattle.chan_model.specs.declared.reply.ConditionCode.{ConditionCode}
+use Rattle.chan_model.specs.ConditionCodes.{rchp_code}
+use Rattle.chan_model.specs.PathSets.{mask_of_paths}
+use Rattle.interruptions.specs.Requests as requests
+use Rattle.channel_reports.specs.Queue as reports
+
+-- what an act comes to where its operand was tested
+abbrev pub where_stored : {A : Type 0} → Result (Unit {0}) StorageFault → A → Result A Fault
+where_stored (Ok u) done = Ok done
+where_stored (Err f) done = Err (fault.Storage f)
+
+-- TEST PENDING INTERRUPTION: two words at the address, which is on a word boundary; with address 0 three words at real 184.
+-- They are tested even where nothing will be stored.
+abbrev pub code_place : ℕ → ℕ
+code_place address = if address == 0 then 184 else address
+
+abbrev pub code_size : ℕ → ℕ
+code_size address = if address == 0 then 12 else 8
+
+abbrev pub code_check : Contents → ℕ → ℕ → Result (Unit {0}) StorageFault
+code_check storage cpu address = operand_check storage cpu (code_place address) (code_size address) 4
+
+-- the subsystem-identification word and the parameter; at 188 and beyond the interruption-identification word too
+abbrev pub code_words : ℕ → IntCode → List ℕ
+code_words address code = if address == 0 then map word_of (code_tables code) else take 2 (map word_of (code_tables code))
+
+-- nothing is stored with code 0
+abbrev pub code_stored : Contents → ℕ → ℕ → Option IntCode → Contents
+code_stored storage cpu address None = storage
+code_stored storage cpu address (Some code) = operand_stored storage cpu (code_place address) (bytes_of_words (code_words address code))
+
+pub record TpiTurn : Type 0 where
+  pub found : Option IntCode
+  pub storage : Contents
+  pub requests : requests.Waiting
+
+abbrev pub tpi_done : Contents → requests.Waiting → ℕ → ℕ → Option IntCode → TpiTurn
+tpi_done storage waiting cpu address found =
+    record { found = found; storage = code_stored storage cpu address found; requests = requests.after_answer waiting found }
+
+abbrev pub tpi_turn : Contents → requests.Waiting → ℕ → ℕ → ℕ → Result TpiTurn Fault
+tpi_turn storage waiting cpu mask address =
+    where_stored (code_check storage cpu address) (tpi_done storage waiting cpu address (requests.answer waiting mask))
+
+-- STORE CHANNEL REPORT WORD: the word of the oldest report, or zero with code 1
+abbrev pub report_word : Option Crw → ℕ
+report_word None = 0
+report_word (Some crw) = word_of (crw_table crw)
+
+pub record StcrwTurn : Type 0 where
+  pub report : Option Crw
+  pub storage : Contents
+  pub reports : reports.Waiting
+
+abbrev pub stcrw_done : Contents → reports.Waiting → ℕ → ℕ → StcrwTurn
+stcrw_done storage waiting cpu address = record {
+  report = reports.oldest waiting;
+  storage = operand_stored storage cpu address (bytes_of_words (report_word (reports.oldest waiting) ∷ []));
+  reports = reports.without_oldest waiting;
+}
+
+abbrev pub stcrw_turn : Contents → reports.Waiting → ℕ → ℕ → Result StcrwTurn Fault
+stcrw_turn storage waiting cpu address = where_stored (operand_check storage cpu address 4 4) (stcrw_done storage waiting cpu address)
+
+-- RESET CHANNEL PATH: of general register 1 bits 0 to 23 are zero, and bits 24 to 31 name the path
+abbrev pub is_up : List Bool → ℕ → Bool
+is_up up path = slice_index_or up path false
+
+pub record RchpTurn : Type 0 where
+  pub code : ConditionCode
+  pub reports : reports.Waiting
+
+abbrev pub rchp_of : reports.Waiting → List Bool → ℕ → RchpTurn
+rchp_of waiting up path =
+    record { code = rchp_code (is_up up path) (reports.is_asked waiting path); reports = reports.with_rchp waiting path (is_up up path) }
+
+abbrev pub rchp_turn : reports.Waiting → List Bool → ℕ → Result RchpTurn Fault
+rchp_turn waiting up path = if field_of path 0 23 == 0 then Ok (rchp_of waiting up (field_of path 24 31)) else Err fault.Operand
+
+-- STORE CHANNEL PATH STATUS: 32 bytes on a boundary of 32; bit n is one where the channel path n is engaged
+abbrev pub eight_from : List Bool → ℕ → List Bool
+eight_from engaged first =
+    slice_index_or engaged first false ∷ slice_index_or engaged (first + 1) false ∷ slice_index_or engaged (first + 2) false
+    ∷ slice_index_or engaged (first + 3) false ∷ slice_index_or engaged (first + 4) false ∷ slice_index_or engaged (first + 5) false
+    ∷ slice_index_or engaged (first + 6) false ∷ slice_index_or engaged (first + 7) false ∷ []
+
+abbrev pub engaged_byte : List Bool → ℕ → ℕ
+engaged_byte engaged place = mask_of_paths (eight_from engaged (8 * place))
+
+unfoldable pub engaged_bytes : List Bool → ℕ → List ℕ
+engaged_bytes engaged count = map (engaged_byte engaged) (range_with_len 0 count)
+
+abbrev pub stcps_turn : Contents → List Bool → ℕ → ℕ → Result Contents Fault
+stcps_turn storage engaged cpu address =
+    where_stored (operand_check storage cpu address 32 32) (operand_stored storage cpu address (engaged_bytes engaged 32))

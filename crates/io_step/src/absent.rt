@@ -1,0 +1,102 @@
+//! An instruction on a subchannel that is not provided: its operand is tested, then the condition code is 3.
+
+ghost use Rattle.std.specs.Prelude.{◌≡◌, ◌≤◌, ◌+◌, ℕ, length};
+ghost use Rattle.io_step.specs.Executing as spec;
+ghost use Rattle.chan_model.specs.declared.event.Instruction.TheVariants as instruction_spec;
+
+use crate::operands::{orb_at, word_at};
+use chan_model::event::Instruction;
+use chan_model::fault::Fault;
+use chan_model::names::Cpu;
+use chan_model::reply::{Answer, Reply};
+use schib_block::pmcw::Pmcw;
+use storage_keys::Storage;
+use subchannel_blocks::enabling_word;
+use zbits::{be_bytes, be_words};
+
+/// The real address of the block that enabling modifies from.
+const ENABLE_BLOCK: u32 = 0xF00;
+
+/// The real address of the second word of that block.
+const ENABLE_WORD: u32 = 0xF04;
+
+fn start(storage: &Storage, cpu: Cpu, address: u32) -> Result<Reply, Fault>
+    ensures { (word : ℕ) → spec.Executed_absent storage.now cpu (instruction_spec.Ssch word address) result storage.now }
+{
+    match orb_at(storage, cpu, address) {
+        Ok(_) => Ok(Reply::Code(Answer::Three)),
+        Err(fault) => Err(fault),
+    }
+}
+
+fn test(storage: &Storage, cpu: Cpu, address: u32) -> Result<Reply, Fault>
+    ensures { (word : ℕ) → spec.Executed_absent storage.now cpu (instruction_spec.Tsch word address) result storage.now }
+{
+    match storage.check_operand(cpu.number(), address, 64, 4) {
+        Ok(()) => Ok(Reply::Code(Answer::Three)),
+        Err(fault) => Err(Fault::Storage(fault)),
+    }
+}
+
+fn store(storage: &Storage, cpu: Cpu, address: u32) -> Result<Reply, Fault>
+    ensures { (word : ℕ) → spec.Executed_absent storage.now cpu (instruction_spec.Stsch word address) result storage.now }
+{
+    match storage.check_operand(cpu.number(), address, 52, 4) {
+        Ok(()) => Ok(Reply::Code(Answer::Three)),
+        Err(fault) => Err(Fault::Storage(fault)),
+    }
+}
+
+fn modify(storage: &Storage, cpu: Cpu, address: u32) -> Result<Reply, Fault>
+    ensures { (word : ℕ) → spec.Executed_absent storage.now cpu (instruction_spec.Msch word address) result storage.now }
+{
+    match word_at(storage, cpu, address) {
+        Ok(_) => Ok(Reply::Code(Answer::Three)),
+        Err(fault) => Err(fault),
+    }
+}
+
+/// The bits are placed in the block that stands there, where MODIFY SUBCHANNEL takes it.
+fn enable(storage: &mut Storage, cpu: Cpu, subclass: u8, multipath: bool) -> Result<Reply, Fault>
+    ensures { (word : ℕ) → spec.Executed_absent storage.old cpu (instruction_spec.Enable word subclass multipath) result storage.new }
+{
+    if let Err(fault) = storage.check_operand(cpu.number(), ENABLE_BLOCK, 52, 4) {
+        return Err(Fault::Storage(fault));
+    }
+    let image = match storage.operand::<52>(cpu.number(), ENABLE_BLOCK, 4) {
+        Ok(image) => image,
+        Err(fault) => return Err(Fault::Storage(fault)),
+    };
+    if !Pmcw::of_schib(&image).is_allowed() {
+        return Err(Fault::Operand);
+    }
+    let words = be_words::<13>(&image);
+    let placed = be_bytes::<4>(&[enabling_word(words[1], subclass, multipath)]);
+    storage.store_operand(cpu.number(), ENABLE_WORD, &placed);
+    Ok(Reply::Code(Answer::Three))
+}
+
+/// Executes an instruction on a subchannel that is not provided. A refusal changes nothing.
+pub fn execute_absent(
+    storage: &mut Storage,
+    cpu: Cpu,
+    instruction: Instruction,
+) -> Result<Reply, Fault>
+    ensures { spec.Executed_absent storage.old cpu instruction result storage.new }
+{
+    match instruction {
+        Instruction::Ssch { address, .. } => start(storage, cpu, address),
+        Instruction::Tsch { address, .. } => test(storage, cpu, address),
+        Instruction::Stsch { address, .. } => store(storage, cpu, address),
+        Instruction::Msch { address, .. } => modify(storage, cpu, address),
+        Instruction::Enable {
+            subclass,
+            multipath,
+            ..
+        } => enable(storage, cpu, subclass, multipath),
+        Instruction::Rsch { .. }
+        | Instruction::Hsch { .. }
+        | Instruction::Csch { .. }
+        | Instruction::Xsch { .. } => Ok(Reply::Code(Answer::Three)),
+    }
+}

@@ -1,0 +1,165 @@
+//! The instructions that name no subchannel.
+
+ghost use Rattle.std.specs.Prelude.{◌≡◌, ◌≤◌, ◌<◌, ◌+◌, ◌*◌, Ok, Err, IfOk, IfErr, OnErr, OnOk, Some, length};
+ghost use Rattle.io_step.specs.Others as spec;
+
+use chan_model::fault::Fault;
+use chan_model::names::Cpu;
+use chan_model::paths::mask_of_paths;
+use chan_model::reply::ConditionCode;
+use channel_reports::Reports;
+use interruptions::Pending;
+use scsw_irb::code::IntCode;
+use scsw_irb::crw::Crw;
+use storage_keys::{Storage, StorageFault};
+use zbits::{be_bytes, field};
+
+/// The real address of the I/O-interruption code.
+const CODE: u32 = 184;
+
+/// For each channel-path identifier, whether the channel path is in the set.
+pub type PathTable = [bool; 256];
+
+/// Whether the interruption code may be stored at an address.
+fn check_code(storage: &Storage, cpu: Cpu, address: u32) -> Result<(), StorageFault>
+    ensures checked { result ≡ spec.code_check storage.now cpu address }
+    ensures inside { OnOk result (spec.code_place address + spec.code_size address ≤ length storage.now.bytes) }
+{
+    if address == 0 {
+        storage.check_operand(cpu.number(), CODE, 12, 4)
+    } else {
+        storage.check_operand(cpu.number(), address, 8, 4)
+    }
+}
+
+/// The interruption code is stored at an address.
+fn store_code(storage: &mut Storage, cpu: Cpu, address: u32, code: IntCode)
+    requires inside { spec.code_place address + spec.code_size address ≤ length storage.old.bytes }
+    ensures { storage.new ≡ spec.code_stored storage.old cpu address (Some code) }
+{
+    let [identification, parameter, interruption] = code.words();
+    if address == 0 {
+        let image = be_bytes::<12>(&[identification, parameter, interruption]);
+        storage.store_operand(cpu.number(), CODE, &image);
+    } else {
+        let image = be_bytes::<8>(&[identification, parameter]);
+        storage.store_operand(cpu.number(), address, &image);
+    }
+}
+
+/// TEST PENDING INTERRUPTION with a mask of subclasses, the byte of control register 6: hexadecimal 80 is subclass 0. Two words
+/// at the address, which must be on a word boundary, or three at real 184 where it is 0, must be in storage even where nothing
+/// is stored. None, code 0, where no enabled request waits; otherwise the request is stored and taken out, code 1.
+pub fn tpi(
+    storage: &mut Storage,
+    pending: &mut Pending,
+    cpu: Cpu,
+    mask: u8,
+    address: u32,
+) -> Result<Option<IntCode>, Fault>
+    ensures done { IfOk result (λ found. spec.tpi_turn storage.old pending.old cpu mask address ≡ Ok (record { found = found; storage = storage.new; requests = pending.new })) }
+    ensures refused { IfErr result (λ f. spec.tpi_turn storage.old pending.old cpu mask address ≡ Err f) }
+    ensures storage_kept { OnErr result (storage.new ≡ storage.old) }
+    ensures pending_kept { OnErr result (pending.new ≡ pending.old) }
+{
+    if let Err(fault) = check_code(storage, cpu, address) {
+        return Err(Fault::Storage(fault));
+    }
+    let found = pending.tpi(mask);
+    if let Some(code) = found {
+        store_code(storage, cpu, address, code);
+    }
+    Ok(found)
+}
+
+fn report_word(report: Option<Crw>) -> u32
+    ensures { result ≡ spec.report_word report }
+{
+    match report {
+        None => 0,
+        Some(crw) => crw.word(),
+    }
+}
+
+/// STORE CHANNEL REPORT WORD at an address on a word boundary: the oldest report is taken out. None, code 1, where none waits,
+/// and then zero is stored.
+pub fn stcrw(
+    storage: &mut Storage,
+    reports: &mut Reports,
+    cpu: Cpu,
+    address: u32,
+) -> Result<Option<Crw>, Fault>
+    ensures done { IfOk result (λ report. spec.stcrw_turn storage.old reports.old cpu address ≡ Ok (record { report = report; storage = storage.new; reports = reports.new })) }
+    ensures refused { IfErr result (λ f. spec.stcrw_turn storage.old reports.old cpu address ≡ Err f) }
+    ensures storage_kept { OnErr result (storage.new ≡ storage.old) }
+    ensures reports_kept { OnErr result (reports.new ≡ reports.old) }
+{
+    if let Err(fault) = storage.check_operand(cpu.number(), address, 4, 4) {
+        return Err(Fault::Storage(fault));
+    }
+    let report = reports.stcrw();
+    let image = be_bytes::<4>(&[report_word(report)]);
+    storage.store_operand(cpu.number(), address, &image);
+    Ok(report)
+}
+
+/// RESET CHANNEL PATH of the path that the last byte of general register 1 names; its other bits must be zero. `up` has the
+/// channel paths that are configured and not down.
+pub fn rchp(reports: &mut Reports, up: &PathTable, path: u32) -> Result<ConditionCode, Fault>
+    ensures done { IfOk result (λ code. spec.rchp_turn reports.old up.now path ≡ Ok (record { code = code; reports = reports.new })) }
+    ensures refused { IfErr result (λ f. spec.rchp_turn reports.old up.now path ≡ Err f) }
+    ensures kept { OnErr result (reports.new ≡ reports.old) }
+{
+    if field(path, 0, 23) != 0 {
+        return Err(Fault::Operand);
+    }
+    let named = field(path, 24, 31) as u8;
+    Ok(reports.rchp(named, up[usize::from(named)]))
+}
+
+/// Eight channel paths, the first leftmost.
+fn engaged_byte(engaged: &PathTable, place: usize) -> u8
+    requires { place < 32 }
+    ensures { result ≡ spec.engaged_byte engaged.now place }
+{
+    let first = 8 * place;
+    mask_of_paths([
+        engaged[first],
+        engaged[first + 1],
+        engaged[first + 2],
+        engaged[first + 3],
+        engaged[first + 4],
+        engaged[first + 5],
+        engaged[first + 6],
+        engaged[first + 7],
+    ])
+}
+
+fn engaged_bytes(engaged: &PathTable) -> [u8; 32]
+    ensures { result ≡ spec.engaged_bytes engaged.now 32 }
+{
+    let mut image = [0; 32];
+    for place in 0..32 {
+        image[place] = engaged_byte(engaged, place);
+    }
+    image
+}
+
+/// STORE CHANNEL PATH STATUS at an address on a boundary of 32 bytes. `engaged` has the channel paths whose bit is one.
+pub fn stcps(
+    storage: &mut Storage,
+    engaged: &PathTable,
+    cpu: Cpu,
+    address: u32,
+) -> Result<(), Fault>
+    ensures done { OnOk result (spec.stcps_turn storage.old engaged.now cpu address ≡ Ok storage.new) }
+    ensures refused { IfErr result (λ f. spec.stcps_turn storage.old engaged.now cpu address ≡ Err f) }
+    ensures kept { OnErr result (storage.new ≡ storage.old) }
+{
+    if let Err(fault) = storage.check_operand(cpu.number(), address, 32, 32) {
+        return Err(Fault::Storage(fault));
+    }
+    let image = engaged_bytes(engaged);
+    storage.store_operand(cpu.number(), address, &image);
+    Ok(())
+}

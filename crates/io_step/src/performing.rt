@@ -1,0 +1,158 @@
+//! Any I/O instruction, on all that it is lent.
+
+ghost use Rattle.std.specs.Prelude.{◌≡◌, IfOk, IfSome, OnErr, None, Some};
+ghost use Rattle.machine_model.specs.Bounds.{IsRoomy};
+ghost use Rattle.io_step.specs.Executing.{Executed};
+ghost use Rattle.io_step.specs.Performing as spec;
+
+use crate::absent::execute_absent;
+use crate::instruction::{ChannelPaths, Done, IoInstruction, reply_code};
+use crate::others::{rchp, stcps, stcrw, tpi};
+use crate::provided::execute;
+use chan_model::event::Instruction;
+use chan_model::fault::Fault;
+use chan_model::names::Cpu;
+use chan_model::reply::{ConditionCode, Reply};
+use channel_reports::Reports;
+use interruptions::Pending;
+use machine_model::state::Subchannel;
+use storage_keys::Storage;
+
+/// Whether an instruction that set this code drops the request of its subchannel.
+fn drops(instruction: Instruction, code: Option<ConditionCode>) -> bool
+    ensures { result ≡ spec.drops instruction code }
+{
+    match instruction {
+        Instruction::Tsch { .. } => {
+            matches!(code, Some(ConditionCode::Zero | ConditionCode::One))
+        }
+        Instruction::Csch { .. } => matches!(code, Some(ConditionCode::Zero)),
+        Instruction::Ssch { .. }
+        | Instruction::Stsch { .. }
+        | Instruction::Msch { .. }
+        | Instruction::Rsch { .. }
+        | Instruction::Hsch { .. }
+        | Instruction::Xsch { .. }
+        | Instruction::Enable { .. } => false,
+    }
+}
+
+/// An instruction on a subchannel that is provided, and what it leaves of the requests.
+fn execute_dropping(
+    storage: &mut Storage,
+    sub: &mut Subchannel,
+    pending: &mut Pending,
+    cpu: Cpu,
+    instruction: Instruction,
+) -> Result<Reply, Fault>
+    requires { IsRoomy sub.old }
+    ensures executed { Executed storage.old sub.old cpu instruction result storage.new sub.new }
+    ensures requests { IfOk result (λ r. pending.new ≡ spec.requests_left pending.old sub.old instruction r) }
+    ensures kept { OnErr result (pending.new ≡ pending.old) }
+{
+    let id = sub.setup.id;
+    let reply = match execute(storage, sub, cpu, instruction) {
+        Ok(reply) => reply,
+        Err(fault) => return Err(fault),
+    };
+    if drops(instruction, reply_code(&reply)) {
+        pending.drop_request(id.set, id.number);
+    }
+    Ok(reply)
+}
+
+/// Performs an I/O instruction; the subchannel that it names, where it names one, is provided. A refusal changes nothing.
+pub fn perform_provided(
+    storage: &mut Storage,
+    sub: &mut Subchannel,
+    pending: &mut Pending,
+    reports: &mut Reports,
+    paths: &ChannelPaths,
+    cpu: Cpu,
+    instruction: IoInstruction,
+) -> Result<Done, Fault>
+    requires { IsRoomy sub.old }
+    ensures { spec.Performed (spec.lent storage.old (Some sub.old) pending.old reports.old) paths.now cpu instruction result (spec.lent storage.new (Some sub.new) pending.new reports.new) }
+{
+    match instruction {
+        IoInstruction::Subchannel(instruction) => {
+            match execute_dropping(storage, sub, pending, cpu, instruction) {
+                Ok(reply) => Ok(Done::Machine(reply)),
+                Err(fault) => Err(fault),
+            }
+        }
+        IoInstruction::Tpi { mask, address } => match tpi(storage, pending, cpu, mask, address) {
+            Ok(found) => Ok(Done::Interruption(found)),
+            Err(fault) => Err(fault),
+        },
+        IoInstruction::Rchp { path } => match rchp(reports, &paths.up, path) {
+            Ok(code) => Ok(Done::PathReset(code)),
+            Err(fault) => Err(fault),
+        },
+        IoInstruction::Stcrw { address } => match stcrw(storage, reports, cpu, address) {
+            Ok(report) => Ok(Done::Report(report)),
+            Err(fault) => Err(fault),
+        },
+        IoInstruction::Stcps { address } => match stcps(storage, &paths.engaged, cpu, address) {
+            Ok(()) => Ok(Done::Paths),
+            Err(fault) => Err(fault),
+        },
+    }
+}
+
+/// Performs an I/O instruction; the subchannel that it names, where it names one, is not provided. A refusal changes nothing.
+pub fn perform_absent(
+    storage: &mut Storage,
+    pending: &mut Pending,
+    reports: &mut Reports,
+    paths: &ChannelPaths,
+    cpu: Cpu,
+    instruction: IoInstruction,
+) -> Result<Done, Fault>
+    ensures { spec.Performed (spec.lent storage.old None pending.old reports.old) paths.now cpu instruction result (spec.lent storage.new None pending.new reports.new) }
+{
+    match instruction {
+        IoInstruction::Subchannel(instruction) => {
+            match execute_absent(storage, cpu, instruction) {
+                Ok(reply) => Ok(Done::Machine(reply)),
+                Err(fault) => Err(fault),
+            }
+        }
+        IoInstruction::Tpi { mask, address } => match tpi(storage, pending, cpu, mask, address) {
+            Ok(found) => Ok(Done::Interruption(found)),
+            Err(fault) => Err(fault),
+        },
+        IoInstruction::Rchp { path } => match rchp(reports, &paths.up, path) {
+            Ok(code) => Ok(Done::PathReset(code)),
+            Err(fault) => Err(fault),
+        },
+        IoInstruction::Stcrw { address } => match stcrw(storage, reports, cpu, address) {
+            Ok(report) => Ok(Done::Report(report)),
+            Err(fault) => Err(fault),
+        },
+        IoInstruction::Stcps { address } => match stcps(storage, &paths.engaged, cpu, address) {
+            Ok(()) => Ok(Done::Paths),
+            Err(fault) => Err(fault),
+        },
+    }
+}
+
+/// Performs an I/O instruction; the subchannel that it names, where it names one, is `sub`, or is not provided. A refusal
+/// changes nothing.
+pub fn perform(
+    storage: &mut Storage,
+    sub: Option<&mut Subchannel>,
+    pending: &mut Pending,
+    reports: &mut Reports,
+    paths: &ChannelPaths,
+    cpu: Cpu,
+    instruction: IoInstruction,
+) -> Result<Done, Fault>
+    requires { IfSome (spec.sub_lent sub) (λ s. IsRoomy s) }
+    ensures { spec.Performed (spec.lent storage.old (spec.sub_lent sub.entry) pending.old reports.old) paths.now cpu instruction result (spec.lent storage.new (spec.sub_left sub.exit) pending.new reports.new) }
+{
+    match sub {
+        Some(sub) => perform_provided(storage, sub, pending, reports, paths, cpu, instruction),
+        None => perform_absent(storage, pending, reports, paths, cpu, instruction),
+    }
+}

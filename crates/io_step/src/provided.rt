@@ -1,0 +1,124 @@
+//! An instruction on a subchannel that is provided.
+
+ghost use Rattle.std.specs.Prelude.{◌≡◌, ◌≤◌, ◌+◌, ℕ, length};
+ghost use Rattle.io_step.specs.Executing as spec;
+ghost use Rattle.machine_model.specs.State.{State};
+ghost use Rattle.machine_model.specs.Steps as steps;
+ghost use Rattle.machine_model.specs.Bounds.{IsRoomy};
+ghost use Rattle.chan_model.specs.declared.event.Instruction.TheVariants as instruction_spec;
+
+use crate::operands::{orb_at, word_at};
+use crate::turns::{
+    cancel_sub, clear_sub, halt_sub, irb_of, modify_sub, resume_sub, start_sub, stores_irb,
+    test_code_of, test_sub,
+};
+use chan_model::event::Instruction;
+use chan_model::fault::Fault;
+use chan_model::names::Cpu;
+use chan_model::reply::{Answer, Reply};
+use machine_model::state::Subchannel;
+use storage_keys::Storage;
+use subchannel_blocks::{enabling_schib, schib_of};
+
+/// The real address of the block that enabling stores and modifies from.
+const ENABLE_BLOCK: u32 = 0xF00;
+
+fn start(storage: &Storage, sub: &mut Subchannel, cpu: Cpu, address: u32) -> Result<Reply, Fault>
+    requires { IsRoomy sub.old }
+    ensures { (word : ℕ) → spec.Executed storage.now sub.old cpu (instruction_spec.Ssch word address) result storage.now sub.new }
+{
+    match orb_at(storage, cpu, address) {
+        Ok(orb) => Ok(start_sub(sub, orb)),
+        Err(fault) => Err(fault),
+    }
+}
+
+/// The interruption-response block is stored where TEST SUBCHANNEL stores one.
+fn store_irb(storage: &mut Storage, sub: &Subchannel, cpu: Cpu, address: u32)
+    requires inside { address + 64 ≤ length storage.old.bytes }
+    ensures { (s : State) → spec.with_storage s storage.new ≡ steps.with_irb (spec.with_storage s storage.old) cpu address sub.now (steps.stores_irb (steps.test_code_of sub.now)) }
+{
+    if stores_irb(test_code_of(sub)) {
+        let image = irb_of(&sub.state).write();
+        storage.store_operand(cpu.number(), address, &image);
+    }
+}
+
+fn test(storage: &mut Storage, sub: &mut Subchannel, cpu: Cpu, address: u32) -> Result<Reply, Fault>
+    ensures { (word : ℕ) → spec.Executed storage.old sub.old cpu (instruction_spec.Tsch word address) result storage.new sub.new }
+{
+    if let Err(fault) = storage.check_operand(cpu.number(), address, 64, 4) {
+        return Err(Fault::Storage(fault));
+    }
+    store_irb(storage, sub, cpu, address);
+    Ok(test_sub(sub))
+}
+
+fn store(storage: &mut Storage, sub: &Subchannel, cpu: Cpu, address: u32) -> Result<Reply, Fault>
+    ensures { (word : ℕ) → spec.Executed storage.old sub.now cpu (instruction_spec.Stsch word address) result storage.new sub.now }
+{
+    if let Err(fault) = storage.check_operand(cpu.number(), address, 52, 4) {
+        return Err(Fault::Storage(fault));
+    }
+    let image = schib_of(sub).write();
+    storage.store_operand(cpu.number(), address, &image);
+    Ok(Reply::Status {
+        answer: Answer::Zero(sub.state.serials),
+        scsw: sub.state.scsw,
+    })
+}
+
+fn modify(storage: &Storage, sub: &mut Subchannel, cpu: Cpu, address: u32) -> Result<Reply, Fault>
+    ensures { (word : ℕ) → spec.Executed storage.now sub.old cpu (instruction_spec.Msch word address) result storage.now sub.new }
+{
+    match word_at(storage, cpu, address) {
+        Ok(given) => Ok(modify_sub(sub, &given)),
+        Err(fault) => Err(fault),
+    }
+}
+
+fn enable(
+    storage: &mut Storage,
+    sub: &mut Subchannel,
+    cpu: Cpu,
+    subclass: u8,
+    multipath: bool,
+) -> Result<Reply, Fault>
+    ensures { (word : ℕ) → spec.Executed storage.old sub.old cpu (instruction_spec.Enable word subclass multipath) result storage.new sub.new }
+{
+    if let Err(fault) = storage.check_operand(cpu.number(), ENABLE_BLOCK, 52, 4) {
+        return Err(Fault::Storage(fault));
+    }
+    let schib = enabling_schib(sub, subclass, multipath);
+    storage.store_operand(cpu.number(), ENABLE_BLOCK, &schib.write());
+    Ok(modify_sub(sub, &schib.pmcw))
+}
+
+/// Executes an instruction on a subchannel that is provided: what it answers, and what is left of storage and of the subchannel,
+/// is what the machine's definitions give for every machine that has both. A refusal changes nothing. That general register 1
+/// names this subchannel is the caller's test, and so are the interruption requests.
+pub fn execute(
+    storage: &mut Storage,
+    sub: &mut Subchannel,
+    cpu: Cpu,
+    instruction: Instruction,
+) -> Result<Reply, Fault>
+    requires { IsRoomy sub.old }
+    ensures { spec.Executed storage.old sub.old cpu instruction result storage.new sub.new }
+{
+    match instruction {
+        Instruction::Ssch { address, .. } => start(storage, sub, cpu, address),
+        Instruction::Tsch { address, .. } => test(storage, sub, cpu, address),
+        Instruction::Stsch { address, .. } => store(storage, sub, cpu, address),
+        Instruction::Msch { address, .. } => modify(storage, sub, cpu, address),
+        Instruction::Enable {
+            subclass,
+            multipath,
+            ..
+        } => enable(storage, sub, cpu, subclass, multipath),
+        Instruction::Rsch { .. } => Ok(resume_sub(sub)),
+        Instruction::Hsch { .. } => Ok(halt_sub(sub)),
+        Instruction::Csch { .. } => Ok(clear_sub(sub)),
+        Instruction::Xsch { .. } => Ok(cancel_sub(sub)),
+    }
+}

@@ -1,0 +1,396 @@
+-- What waits at a subchannel, after it took a signal that came up.
+use Rattle.std.proofs.Common.{◌≡◌, refl, sym, ◌∙◌, ap, subst, ℕ, Bool, true, false, not, ◌==◌, Option, None, Some, is_some, inl, inr}
+use Rattle.std.specs.Prelude.{◌&&◌, nat_lt, if◌then◌else◌}
+use Rattle.std.proofs.lemmas.Bool.{eqb-true, eq-eqb, and_parts}
+use Rattle.storage_keys.specs.Storage.{Contents}
+use Rattle.scsw_irb.specs.declared.status.DeviceStatus.{DeviceStatus}
+use Rattle.chan_model.specs.declared.hold_state.HoldPhase.{HoldPhase}
+use Rattle.chan_model.specs.declared.hold_state.HoldPhase.TheVariants as hold
+use Rattle.chan_model.specs.declared.hold_state.HoldState.{HoldState}
+use Rattle.chan_model.specs.declared.signal.Load.{Load}
+use Rattle.chan_model.specs.declared.signal.Up.{Up}
+use Rattle.chan_model.specs.declared.signal.Up.TheVariants as up
+use Rattle.chan_model.specs.HoldTable.{HoldStep, begun, found_busy, left, asked_back, released, cleared, noticed, attended, hold_takes, hold_after, is_connected, is_on}
+use Rattle.chan_model.specs.Loads.{load_length}
+use Rattle.chan_model.specs.ResetCauses.{is_held}
+use Rattle.chan_model.specs.UnitReports.{is_last_end, is_outward, has_device_end}
+use Rattle.channel_program.specs.Walks.{Place}
+use Rattle.data_move.specs.Moving.{residual}
+use Rattle.transfer.specs.declared.Came.{Came}
+use Rattle.transfer.specs.declared.Came.TheVariants as came
+use Rattle.transfer.specs.declared.Transfer.{Transfer}
+use Rattle.transfer.specs.Commands.{first_command, next_command, begun_with_room, with_room}
+use Rattle.transfer.specs.Chunks.{absorbed, next_given, brought, is_answered}
+use Rattle.machine_model.specs.declared.cause.Cause.TheVariants as cause
+use Rattle.machine_model.specs.declared.state.Begun.{Begun}
+use Rattle.machine_model.specs.declared.state.Program.{Program}
+use Rattle.machine_model.specs.declared.state.Standing.{Standing}
+use Rattle.machine_model.specs.declared.state.SubchannelState.{SubchannelState}
+use Rattle.machine_model.specs.declared.state.UpStep.{UpStep}
+use Rattle.scsw_irb.specs.declared.scsw.Scsw.{Scsw}
+use Rattle.machine_model.specs.Causes.{with_cause}
+use Rattle.machine_model.specs.Statuses.{has_status_modifier, chains_command}
+use Rattle.machine_model.specs.Taking.{Met, meets, ignoring, quietly, let_go, by_hold, without_interruption, interrupted_by, from_start, suspended_as, standing_as, standing, goes_ahead, with_path, taking_over, suspended_alone, standing_still, suspending, beginning, begin_standing, halt_done, accept, with_transfer, moving_on, give_next, take_in, bytes_of, move_bytes, move_data, with_end, chaining, chain_with, goes_on, end_shown_at, stops_at, command_ended, end_of, reset_taken, takes_up}
+use Rattle.machine_laws.proofs.Waits.{WaitsAs, IsBegunHeld, Waits, Turned, IsCalm, kept, cause-calm, fault-begun, fault-waiting, end-held, end-begun, not-begun, none-held, held-by, held-on, let-offer, moved-as, calm-as, calm-turned, same-turned, if-turned}
+
+-- an offer stays, and so does what is held
+record IsStill (h : HoldState) (step : Option HoldStep) : Type 0 where
+  pub offer : (t p : ℕ) → h.phase ≡ hold.Offer t p → (hold_after h step).phase ≡ hold.Offer t p
+  pub held : is_held h.phase ≡ true → is_held (hold_after h step).phase ≡ true
+
+no-step : (h : HoldState) → IsStill h None
+no-step h = record { offer = λ t p e. e; held = λ e. e }
+
+same-phase : (h : HoldState) (step : HoldStep) → step.state.phase ≡ h.phase → IsStill h (Some step)
+same-phase h step s = record { offer = λ t p e. s ∙ e; held = λ e. ap is_held s ∙ e }
+
+-- from a phase that is no offer
+other-phase : (h : HoldState) (phase : HoldPhase) (step : HoldStep) → h.phase ≡ phase → ((t p : ℕ) → phase ≡ hold.Offer t p → ⊥) →
+    (is_held phase ≡ true → is_held step.state.phase ≡ true) → IsStill h (Some step)
+other-phase h phase step e n f = record { offer = λ t p g. absurd (n t p (sym e ∙ g)); held = λ g. f (ap is_held (sym e) ∙ g) }
+
+if-still : (h : HoldState) (b : Bool) (x y : Option HoldStep) → IsStill h x → IsStill h y → IsStill h (if b then x else y)
+if-still h true x y e f = e
+if-still h false x y e f = f
+
+left-still : (h : HoldState) (phase : HoldPhase) (u d : ℕ) → h.phase ≡ phase → IsStill h (left h phase u d)
+left-still h hold.Free u d e = no-step h
+left-still h (hold.Offer t p) u d e = no-step h
+left-still h (hold.On t p c) u d e = if-still h ((u == t) && (d == c)) _ None (other-phase h (hold.On t p c) _ e (λ v q g. absurd (cc g)) (λ g. refl)) (no-step h)
+left-still h (hold.Away t) u d e = no-step h
+left-still h (hold.Letting t p) u d e = no-step h
+left-still h (hold.Reset r) u d e = no-step h
+
+back-still : (h : HoldState) (phase : HoldPhase) (p u c : ℕ) (may : Bool) → h.phase ≡ phase → IsStill h (asked_back h phase p u c may)
+back-still h hold.Free p u c may e = no-step h
+back-still h (hold.Offer t q) p u c may e = no-step h
+back-still h (hold.On t q d) p u c may e = if-still h ((u == t) && nat_lt h.seen c) _ None (same-phase h _ refl) (no-step h)
+back-still h (hold.Away t) p u c may e =
+    if-still h ((u == t) && nat_lt h.seen c) (if may then Some _ else Some _) None
+    (if-still h may (Some _) (Some _) (other-phase h (hold.Away t) _ e (λ v q g. absurd (cc g)) (λ g. refl)) (same-phase h _ refl)) (no-step h)
+back-still h (hold.Letting t q) p u c may e = no-step h
+back-still h (hold.Reset r) p u c may e = no-step h
+
+released-still : (h : HoldState) (phase : HoldPhase) (u : ℕ) → h.phase ≡ phase → IsStill h (released h phase u)
+released-still h hold.Free u e = no-step h
+released-still h (hold.Offer t p) u e = no-step h
+released-still h (hold.On t p c) u e = no-step h
+released-still h (hold.Away t) u e = no-step h
+released-still h (hold.Letting t p) u e = if-still h (u == t) _ None (other-phase h (hold.Letting t p) _ e (λ v q g. absurd (cc g)) (λ g. absurd (cc g))) (no-step h)
+released-still h (hold.Reset r) u e = no-step h
+
+cleared-still : (h : HoldState) (phase : HoldPhase) (u : ℕ) → h.phase ≡ phase → IsStill h (cleared h phase u)
+cleared-still h hold.Free u e = no-step h
+cleared-still h (hold.Offer t p) u e = no-step h
+cleared-still h (hold.On t p c) u e = no-step h
+cleared-still h (hold.Away t) u e = no-step h
+cleared-still h (hold.Letting t p) u e = no-step h
+cleared-still h (hold.Reset r) u e = if-still h (u == r) _ None (other-phase h (hold.Reset r) _ e (λ v q g. absurd (cc g)) (λ g. absurd (cc g))) (no-step h)
+
+noticed-still : (h : HoldState) (b : ℕ) → IsStill h (noticed h b)
+noticed-still h b = if-still h (nat_lt h.known b) _ None (same-phase h _ refl) (no-step h)
+
+attended-still : (h : HoldState) (phase : HoldPhase) (p a : ℕ) (may : Bool) → h.phase ≡ phase → IsStill h (attended h phase p a may)
+attended-still h hold.Free p a may e = if-still h may _ None (same-phase h _ refl) (no-step h)
+attended-still h (hold.Offer t q) p a may e = no-step h
+attended-still h (hold.On t q c) p a may e = no-step h
+attended-still h (hold.Away t) p a may e = no-step h
+attended-still h (hold.Letting t q) p a may e = no-step h
+attended-still h (hold.Reset r) p a may e = no-step h
+
+-- a program that was suspended is neither begun nor waits
+abbrev IsBare : SubchannelState → Type 0
+IsBare s = (s.waiting ≡ None) × (s.begun ≡ None)
+
+if-bare : (b : Bool) (x y : SubchannelState) → IsBare x → IsBare y → IsBare (if b then x else y)
+if-bare true x y e f = e
+if-bare false x y e f = f
+
+suspending-bare : (s : SubchannelState) (program : Program) (walk : Place) (count : ℕ) → IsBare (suspending s program walk count)
+suspending-bare s program walk count =
+    if-bare program.orb.suppress_suspended
+    (record (standing_still s program walk count) { scsw = suspended_alone s.scsw }) (with_cause (standing_still s program walk count) (cause.Suspension walk.tried count))
+    (refl, refl) (refl, refl)
+
+-- numbers that stay
+record IsNumbered (s x : SubchannelState) : Type 0 where
+  pub starts : x.starts ≡ s.starts
+  pub drawn : x.drawn ≡ s.drawn
+
+if-numbered : (s : SubchannelState) (b : Bool) (x y : SubchannelState) → IsNumbered s x → IsNumbered s y → IsNumbered s (if b then x else y)
+if-numbered s true x y e f = e
+if-numbered s false x y e f = f
+
+suspending-numbered : (s : SubchannelState) (program : Program) (walk : Place) (count : ℕ) → IsNumbered s (suspending s program walk count)
+suspending-numbered s program walk count =
+    if-numbered s program.orb.suppress_suspended
+    (record (standing_still s program walk count) { scsw = suspended_alone s.scsw }) (with_cause (standing_still s program walk count) (cause.Suspension walk.tried count))
+    (record { starts = refl; drawn = refl }) (record { starts = refl; drawn = refl })
+
+-- the program that was offered goes ahead where no halt is pending
+goes-on : (program : Program) (suspended : Option Standing) (start : ℕ) (halt : Bool) → program.start ≡ start → halt ≡ false →
+    (is_some (standing_as (Some program) suspended start) && not halt) ≡ true
+goes-on program suspended start halt e f =
+    ap (λ (h : Bool). is_some (standing_as (Some program) suspended start) && not h) f
+    ∙ ap (λ (same : Bool). is_some (if same then Some (from_start program) else suspended_as suspended start) && not false) (eq-eqb program.start start e)
+
+module _ (A : Type 0) (B : ℕ → Type 0) where
+  -- neither begun nor waiting, whatever the hold is
+  bare-turned : (s x y : SubchannelState) → IsBare x → IsNumbered s x → y.waiting ≡ x.waiting → y.begun ≡ x.begun → y.starts ≡ x.starts → y.drawn ≡ x.drawn → Turned A B s y
+  bare-turned s x y b n w g a d =
+      record {
+        starts = a ∙ n.starts;
+        drawn = d ∙ n.drawn;
+        waits = record {
+          waiting = subst (λ (p : Option Program). WaitsAs A B y p) (sym (w ∙ b.0)) tt;
+          begun = none-held y.begun y.hold.phase (g ∙ b.1);
+        };
+      }
+
+  let-bare : (s x : SubchannelState) → IsBare x → IsNumbered s x → Turned A B s (let_go x).state
+  let-bare s x b n = bare-turned s x (let_go x).state b n refl refl refl refl
+
+  let-turned : (s x : SubchannelState) → IsCalm s x → x.begun ≡ None → WaitsAs A B s s.waiting → Turned A B s (let_go x).state
+  let-turned s x c n k =
+      record {
+        starts = c.starts;
+        drawn = c.drawn;
+        waits = record {
+          waiting = moved-as A B x (let_go x).state refl refl (λ t p e. let-offer x.hold x.hold.phase t p refl e) x.waiting (calm-as A B s x c k);
+          begun = none-held x.begun (let_go x).state.hold.phase n;
+        };
+      }
+
+  if-step : (s : SubchannelState) (b : Bool) (x y : UpStep) → (b ≡ true → Turned A B s x.state) → (b ≡ false → Turned A B s y.state) →
+      Turned A B s (if b then x else y).state
+  if-step s true x y e f = e refl
+  if-step s false x y e f = f refl
+
+  if-met : (s : SubchannelState) (b : Bool) (x y : Met) → Turned A B s x.step.state → Turned A B s y.step.state → Turned A B s (if b then x else y).step.state
+  if-met s true x y e f = e
+  if-met s false x y e f = f
+
+  -- the hold alone takes it
+  still-turned : (s : SubchannelState) (step : Option HoldStep) → IsStill s.hold step → Waits A B s → Turned A B s (by_hold s step).state
+  still-turned s step h k =
+      record {
+        starts = refl;
+        drawn = refl;
+        waits = record {
+          waiting = moved-as A B s (by_hold s step).state refl refl h.offer s.waiting k.waiting;
+          begun = held-on s.begun s.hold.phase (hold_after s.hold step).phase h.held k.begun;
+        };
+      }
+
+  reset-turned : (s : SubchannelState) (step : Option HoldStep) → Turned A B s (by_hold s step).state → Turned A B s (reset_taken s step).state
+  reset-turned s None k = k
+  reset-turned s (Some step) k =
+      if-turned A B s s.scsw.activity.clear_pending (with_cause (record s { hold = step.state }) cause.ClearDone) (record s { hold = step.state })
+      (λ e.
+      let t : Turned A B (record s { hold = step.state }) (with_cause (record s { hold = step.state }) cause.ClearDone) =
+      calm-turned A B (record s { hold = step.state }) (with_cause (record s { hold = step.state }) cause.ClearDone)
+      (cause-calm (record s { hold = step.state }) cause.ClearDone) k.waits.waiting k.waits.begun in
+      record { starts = t.starts; drawn = t.drawn; waits = t.waits })
+      (λ e. k)
+
+  -- a command takes control
+  interrupted-turned : (s t : SubchannelState) (b : Begun) → IsCalm s t → WaitsAs A B s s.waiting → is_held t.hold.phase ≡ true → t.begun ≡ Some b → Turned A B s (interrupted_by t b)
+  interrupted-turned s t b c k h e =
+      if-turned A B s b.transfer.interrupts
+      (with_cause (record t { begun = Some (without_interruption b) }) (cause.Interruption b.transfer.walk.tried (residual b.transfer.moving))) t
+      (λ i. calm-turned A B s _ (record { starts = c.starts; drawn = c.drawn; offered = c.offered; waiting = c.waiting; hold = c.hold }) k h)
+      (λ i. calm-turned A B s t c k (subst (λ (x : Option Begun). IsBegunHeld x t.hold.phase) (sym e) h))
+
+  moving-turned : (s : SubchannelState) (b : Begun) (t : Transfer) → WaitsAs A B s s.waiting → is_held s.hold.phase ≡ true → Turned A B s (moving_on s b t)
+  moving-turned s b t k h =
+      interrupted-turned s (with_transfer s b t) (record b { transfer = t }) (kept s (with_transfer s b t) refl refl refl refl refl) k h refl
+
+  -- Accept
+  begins-turned : (storage : Contents) (s : SubchannelState) (p t : ℕ) (st : Standing) (walk : Place) (r : Came) → s.begun ≡ None → is_held s.hold.phase ≡ true →
+      Turned A B s (beginning storage s p t st walk r).state
+  begins-turned storage s p t st walk (came.Begins transfer) n h =
+      let next = taking_over s st.program (begun_with_room storage transfer).transfer in
+      let over : Turned A B next (interrupted_by next _) =
+      interrupted-turned next next (record { program = st.program; primary_shown = false; transfer = (begun_with_room storage transfer).transfer })
+      (kept next next refl refl refl refl refl) tt h refl in
+      record { starts = over.starts; drawn = over.drawn; waits = over.waits }
+  begins-turned storage s p t st walk came.Suspends n h =
+      let-bare s (suspending s st.program walk st.count) (suspending-bare s st.program walk st.count) (suspending-numbered s st.program walk st.count)
+  begins-turned storage s p t st walk (came.Stops check) n h =
+      let x = with_cause s (cause.FetchFault walk.tried check st.count) in
+      let c : IsCalm s x = cause-calm s (cause.FetchFault walk.tried check st.count) in
+      let-bare s x (fault-waiting s s.begun n, fault-begun s s.begun refl) (record { starts = c.starts; drawn = c.drawn })
+
+  standing-turned : (storage : Contents) (s : SubchannelState) (p t : ℕ) (st : Option Standing) → is_some st ≡ true → s.begun ≡ None → is_held s.hold.phase ≡ true →
+      Turned A B s (begin_standing storage s p t st).state
+  standing-turned storage s p t None e n h = absurd (cc e)
+  standing-turned storage s p t (Some st) e n h = begins-turned storage s p t st (first_command storage st.walk).walk (first_command storage st.walk).came n h
+
+  -- the program is let go as it is accepted: it is not that of the latest start, or a halt is pending
+  refused-as : (s x : SubchannelState) (w : Option Program) → x.starts ≡ s.starts → s.waiting ≡ w → s.scsw.activity.halt_pending ≡ false → goes_ahead s ≡ false →
+      WaitsAs A B s w → WaitsAs A B x w
+  refused-as s x None a e f g k = tt
+  refused-as s x (Some program) a e f g k =
+      record {
+        start = k.start ∙ sym a;
+        spent = elim k.spent [
+          | inl b ↦ inl b
+          | inr b ↦
+              let ahead : goes_ahead s ≡ true =
+              ap (λ (q : Option Program). is_some (standing_as q s.suspended s.offered) && not s.scsw.activity.halt_pending) e
+              ∙ goes-on program s.suspended s.offered s.scsw.activity.halt_pending (k.start ∙ sym b.offered) f in
+              absurd (cc (sym ahead ∙ g))
+        ];
+      }
+
+  letting-turned : (s x : SubchannelState) → x.starts ≡ s.starts → x.drawn ≡ s.drawn → x.waiting ≡ s.waiting → x.begun ≡ None → x.scsw ≡ s.scsw → goes_ahead s ≡ false → WaitsAs A B s s.waiting →
+      Turned A B s (halt_done x)
+  letting-turned s x a d w n same g k =
+      if-turned A B s x.scsw.activity.halt_pending (with_cause x cause.HaltDone) x
+      (λ e. record { starts = a; drawn = d; waits = record { waiting = tt; begun = tt } })
+      (λ e. record {
+        starts = a;
+        drawn = d;
+        waits = record {
+          waiting = subst (λ (q : Option Program). WaitsAs A B x q) (sym w)
+              (refused-as s x s.waiting a refl (ap (λ (c : Scsw). c.activity.halt_pending) (sym same) ∙ e) g k);
+          begun = none-held x.begun x.hold.phase n;
+        };
+      })
+
+  offered-turned : (storage : Contents) (s : SubchannelState) (h : HoldState) (t q u : ℕ) (may same : Bool) → goes_ahead s ≡ may →
+      Waits A B (record s { hold = record h { phase = hold.Offer t q } }) →
+      Turned A B (record s { hold = record h { phase = hold.Offer t q } })
+      (accept storage (record s { hold = record h { phase = hold.Offer t q } }) (if same then Some (begun (record h { phase = hold.Offer t q }) t q may) else None)).state
+  offered-turned storage s h t q u may false g k = same-turned A B _ k
+  offered-turned storage s h t q u true true g k =
+      let both : (is_some (standing s) ≡ true) × (not s.scsw.activity.halt_pending ≡ true) = and_parts (is_some (standing s)) (not s.scsw.activity.halt_pending) g in
+      let x : Turned A B _ _ =
+      standing-turned storage (record s { hold = record h { phase = hold.On t q 0; seen = 0; first_path = Some q }; pmcw = with_path s.pmcw q }) q t (standing s) both.0
+      (not-begun s.begun (hold.Offer t q) refl k.begun) refl in
+      record { starts = x.starts; drawn = x.drawn; waits = x.waits }
+  offered-turned storage s h t q u false true g k =
+      letting-turned (record s { hold = record h { phase = hold.Offer t q } })
+      (record s { hold = record h { phase = hold.Letting t q; seen = 0; first_path = Some q }; pmcw = with_path s.pmcw q })
+      refl refl refl (not-begun s.begun (hold.Offer t q) refl k.begun) refl g k.waiting
+
+  accept-turned : (storage : Contents) (s : SubchannelState) (h : HoldState) (phase : HoldPhase) (p u : ℕ) (may : Bool) → goes_ahead s ≡ may →
+      Waits A B (record s { hold = record h { phase = phase } }) →
+      Turned A B (record s { hold = record h { phase = phase } })
+      (accept storage (record s { hold = record h { phase = phase } }) (hold_takes (record h { phase = phase }) p (up.Accept u) may)).state
+  accept-turned storage s h hold.Free p u may g k = same-turned A B _ k
+  accept-turned storage s h (hold.Offer t q) p u may g k = offered-turned storage s h t q u may (u == t) g k
+  accept-turned storage s h (hold.On t q d) p u may g k = same-turned A B _ k
+  accept-turned storage s h (hold.Away t) p u may g k = same-turned A B _ k
+  accept-turned storage s h (hold.Letting t q) p u may g k = same-turned A B _ k
+  accept-turned storage s h (hold.Reset r) p u may g k = same-turned A B _ k
+
+  -- Busy: the program waits again, and will not begin under that number
+  freed-as : (s x : SubchannelState) (h : HoldState) (t q : ℕ) (w : Option Program) → x.starts ≡ s.starts → s.hold ≡ record h { phase = hold.Offer t q } → (B t → A) →
+      WaitsAs A B s w → WaitsAs A B x w
+  freed-as s x h t q None a e f k = tt
+  freed-as s x h t q (Some program) a e f k =
+      record {
+        start = k.start ∙ sym a;
+        spent = elim k.spent [
+          | inl b ↦ inl b
+          | inr b ↦
+              let at : hold.Offer t q ≡ hold.Offer b.number b.path = ap (λ (g : HoldState). g.phase) (sym e) ∙ b.phase in
+              let same : b.number ≡ t = cc at in
+              inl (f (subst B same b.but))
+        ];
+      }
+
+  busy-if : (s : SubchannelState) (h : HoldState) (t q u : ℕ) (same : Bool) → (u == t) ≡ same → (B u → A) → Waits A B (record s { hold = record h { phase = hold.Offer t q } }) →
+      Turned A B (record s { hold = record h { phase = hold.Offer t q } })
+      (by_hold (record s { hold = record h { phase = hold.Offer t q } }) (if same then Some (record { state = record h { phase = hold.Free }; sent = None }) else None)).state
+  busy-if s h t q u false e f k = same-turned A B _ k
+  busy-if s h t q u true e f k =
+      record {
+        starts = refl;
+        drawn = refl;
+        waits = record {
+          waiting = freed-as (record s { hold = record h { phase = hold.Offer t q } }) (record s { hold = record h { phase = hold.Free } }) h t q s.waiting refl refl
+              (λ b. f (subst B (sym (eqb-true u t e)) b)) k.waiting;
+          begun = none-held s.begun hold.Free (not-begun s.begun (hold.Offer t q) refl k.begun);
+        };
+      }
+
+  busy-turned : (s : SubchannelState) (h : HoldState) (phase : HoldPhase) (u : ℕ) → (B u → A) → Waits A B (record s { hold = record h { phase = phase } }) →
+      Turned A B (record s { hold = record h { phase = phase } })
+      (by_hold (record s { hold = record h { phase = phase } }) (found_busy (record h { phase = phase }) phase u)).state
+  busy-turned s h hold.Free u f k = same-turned A B _ k
+  busy-turned s h (hold.Offer t q) u f k = busy-if s h t q u (u == t) refl f k
+  busy-turned s h (hold.On t q d) u f k = same-turned A B _ k
+  busy-turned s h (hold.Away t) u f k = same-turned A B _ k
+  busy-turned s h (hold.Letting t q) u f k = same-turned A B _ k
+  busy-turned s h (hold.Reset r) u f k = same-turned A B _ k
+
+  -- Data
+  move-turned : (storage : Contents) (s : SubchannelState) (b : Option Begun) (p t c n seq : ℕ) (load : Load) → s.begun ≡ b → Waits A B s →
+      Turned A B s (move_data storage s b p t c n seq load).step.state
+  move-turned storage s None p t c n seq load e k = same-turned A B s k
+  move-turned storage s (Some b) p t c n seq load e k =
+      let held : is_held s.hold.phase ≡ true = held-by s.begun b s.hold.phase e k.begun in
+      if-met s (is_answered b.transfer n seq) (move_bytes storage s b p t c n seq load) (meets storage (ignoring s))
+      (if-met s (is_outward b.transfer.code) (meets storage (give_next storage s b p t c n seq (load_length load))) (take_in s b p t n seq (brought storage b.transfer seq (bytes_of load)))
+      (moving-turned s b (next_given storage (absorbed storage b.transfer seq (load_length load))).transfer k.waiting held)
+      (moving-turned s b (with_room (brought storage b.transfer seq (bytes_of load)).storage (brought storage b.transfer seq (bytes_of load)).transfer).transfer k.waiting held))
+      (same-turned A B s k)
+
+  -- End
+  chaining-turned : (storage : Contents) (s : SubchannelState) (b : Begun) (p t : ℕ) (walk : Place) (r : Came) → is_held s.hold.phase ≡ true →
+      WaitsAs A B s s.waiting → Turned A B s (chaining storage s b p t walk r).state
+  chaining-turned storage s b p t walk (came.Begins transfer) h k = moving-turned s b (begun_with_room storage transfer).transfer k h
+  chaining-turned storage s b p t walk came.Suspends h k =
+      let x = suspending (record s { dedicated = None }) b.program walk (residual b.transfer.moving) in
+      let n : IsNumbered (record s { dedicated = None }) x = suspending-numbered (record s { dedicated = None }) b.program walk (residual b.transfer.moving) in
+      let-bare s x (suspending-bare (record s { dedicated = None }) b.program walk (residual b.transfer.moving)) (record { starts = n.starts; drawn = n.drawn })
+  chaining-turned storage s b p t walk (came.Stops check) h k =
+      let x = with_cause (record s { dedicated = None }) (cause.FetchFault walk.tried check (residual b.transfer.moving)) in
+      let c : IsCalm (record s { dedicated = None }) x = cause-calm (record s { dedicated = None }) (cause.FetchFault walk.tried check (residual b.transfer.moving)) in
+      let-turned s x (record { starts = c.starts; drawn = c.drawn; offered = c.offered; waiting = c.waiting; hold = c.hold })
+      (fault-begun (record s { dedicated = None }) s.begun refl) k
+
+  stops-turned : (s : SubchannelState) (b : Begun) (p : ℕ) (status : DeviceStatus) (more : Bool) → is_held s.hold.phase ≡ true → WaitsAs A B s s.waiting →
+      Turned A B s (stops_at s b p status more).state
+  stops-turned s b p status more h k =
+      let x = end_shown_at s b p status more in
+      let c : IsCalm s (with_cause s (cause.End b status more)) = cause-calm s (cause.End b status more) in
+      let calm : IsCalm s x = record { starts = c.starts; drawn = c.drawn; offered = c.offered; waiting = c.waiting; hold = c.hold } in
+      if-step s (is_last_end status) (let_go x) (quietly x)
+      (λ e. let-turned s x calm (end-begun s b (is_last_end status) e) k)
+      (λ e. calm-turned A B s x calm k
+      (subst (λ (g : HoldState). IsBegunHeld x.begun g.phase) (sym c.hold) (end-held s b (is_last_end status) s.hold.phase h)))
+
+  end_of-turned : (storage : Contents) (s : SubchannelState) (b : Option Begun) (p t n : ℕ) (status : DeviceStatus) (more : Bool) → s.begun ≡ b → Waits A B s →
+      Turned A B s (end_of storage s b p t n status more).state
+  end_of-turned storage s None p t n status more e k = same-turned A B s k
+  end_of-turned storage s (Some b) p t n status more e k =
+      let held : is_held s.hold.phase ≡ true = held-by s.begun b s.hold.phase e k.begun in
+      if-step s (n == b.transfer.command) (command_ended storage s b p t status more) (ignoring s)
+      (λ c. if-step s (chains_command s.scsw b status more) (goes_on storage s (with_end b) p t status) (stops_at s b p status more)
+      (λ d. if-step s (has_device_end status) (chain_with storage s (with_end b) p t (next_command storage (with_end b).transfer (has_status_modifier status)))
+      (quietly (record s { begun = Some (with_end b); dedicated = None }))
+      (λ f. chaining-turned storage s (with_end b) p t (next_command storage (with_end b).transfer (has_status_modifier status)).walk
+      (next_command storage (with_end b).transfer (has_status_modifier status)).came held k.waiting)
+      (λ f. calm-turned A B s _ (kept s _ refl refl refl refl refl) k.waiting held))
+      (λ d. stops-turned s b p status more held k.waiting))
+      (λ c. same-turned A B s k)
+
+  pub takes-turned : (storage : Contents) (s : SubchannelState) (p : ℕ) (x : Up) → ((u : ℕ) → x ≡ up.Busy u → B u → A) → Waits A B s → Turned A B s (takes_up storage s p x).step.state
+  takes-turned storage s p (up.Accept t) f k = accept-turned storage s s.hold s.hold.phase p t (goes_ahead s) refl k
+  takes-turned storage s p (up.Busy t) f k = busy-turned s s.hold s.hold.phase t (f t refl) k
+  takes-turned storage s p (up.Leave t c) f k = still-turned s (left s.hold s.hold.phase t c) (left-still s.hold s.hold.phase t c refl) k
+  takes-turned storage s p (up.Back t c) f k = still-turned s (asked_back s.hold s.hold.phase p t c false) (back-still s.hold s.hold.phase p t c false refl) k
+  takes-turned storage s p (up.Data t c n seq load) f k =
+      if-met s (is_connected s.hold.phase p t c) (move_data storage s s.begun p t c n seq load) (meets storage (ignoring s))
+      (move-turned storage s s.begun p t c n seq load refl k) (same-turned A B s k)
+  takes-turned storage s p (up.End t n status more) f k =
+      if-step s (is_on s.hold.phase t) (end_of storage s s.begun p t n status more) (ignoring s)
+      (λ e. end_of-turned storage s s.begun p t n status more refl k) (λ e. same-turned A B s k)
+  takes-turned storage s p (up.Released t) f k = still-turned s (released s.hold s.hold.phase t) (released-still s.hold s.hold.phase t refl) k
+  takes-turned storage s p (up.Cleared r) f k =
+      reset-turned s (cleared s.hold s.hold.phase r) (still-turned s (cleared s.hold s.hold.phase r) (cleared-still s.hold s.hold.phase r refl) k)
+  takes-turned storage s p (up.Notice b) f k = still-turned s (noticed s.hold b) (noticed-still s.hold b) k
+  takes-turned storage s p (up.Attn a status) f k = still-turned s (attended s.hold s.hold.phase p a false) (attended-still s.hold s.hold.phase p a false refl) k

@@ -1,0 +1,150 @@
+-- What a cause of status keeps of a subchannel, and the command at work after its block's interruption.
+use Rattle.std.proofs.Common.{◌≡◌, refl, ℕ, Bool, true, false, Option, None, Some, inl, inr}
+use Rattle.std.specs.Prelude.{◌⊎◌, if◌then◌else◌}
+use Rattle.chan_model.specs.UnitReports.{is_last_end}
+use Rattle.channel_program.specs.Walks.{Place}
+use Rattle.data_move.specs.Moving.{residual}
+use Rattle.machine_model.specs.declared.cause.Cause.{Cause}
+use Rattle.machine_model.specs.declared.cause.Cause.TheVariants as cause
+use Rattle.machine_model.specs.declared.state.Begun.{Begun}
+use Rattle.machine_model.specs.declared.state.Program.{Program}
+use Rattle.machine_model.specs.declared.state.SubchannelState.{SubchannelState}
+use Rattle.machine_model.specs.Causes.{with_cause, without_begun, without_waiting, after_end, programs_left}
+use Rattle.machine_model.specs.Functions.{without_programs, halting, drops_status, dropped, halted, ends_suspended, tested_wholly}
+use Rattle.machine_model.specs.Instructions.{tested}
+use Rattle.machine_model.specs.Taking.{without_interruption, interrupted, standing_still, suspended_alone, suspending, halt_done, clear_done}
+
+-- the hold, and the numbers that were drawn
+pub record IsHoldKept (s x : SubchannelState) : Type 0 where
+  pub hold : x.hold ≡ s.hold
+  pub drawn : x.drawn ≡ s.drawn
+
+same-kept : (s : SubchannelState) → IsHoldKept s s
+same-kept s = record { hold = refl; drawn = refl }
+
+end-kept : (s : SubchannelState) (b : Begun) (last : Bool) → IsHoldKept s (after_end s b last)
+end-kept s b true = record { hold = refl; drawn = refl }
+end-kept s b false = record { hold = refl; drawn = refl }
+
+begun-kept : (s : SubchannelState) (b : Option Begun) → IsHoldKept s (without_begun b s)
+begun-kept s None = record { hold = refl; drawn = refl }
+begun-kept s (Some b) = record { hold = refl; drawn = refl }
+
+waiting-kept : (s : SubchannelState) (p : Option Program) → IsHoldKept s (without_waiting p s)
+waiting-kept s None = record { hold = refl; drawn = refl }
+waiting-kept s (Some p) = record { hold = refl; drawn = refl }
+
+programs-kept : (s : SubchannelState) (c : Cause) → IsHoldKept s (programs_left s c)
+programs-kept s (cause.End b status more) = end-kept s b (is_last_end status)
+programs-kept s (cause.FetchFault tried check count) = begun-kept s s.begun
+programs-kept s cause.Attention = record { hold = refl; drawn = refl }
+programs-kept s cause.NoPath = waiting-kept s s.waiting
+programs-kept s cause.InterfaceControlCheck = record { hold = refl; drawn = refl }
+programs-kept s (cause.Interruption tried count) = same-kept s
+programs-kept s (cause.Suspension tried count) = same-kept s
+programs-kept s cause.ClearDone = same-kept s
+programs-kept s cause.HaltDone = record { hold = refl; drawn = refl }
+
+pub cause-kept : (s : SubchannelState) (c : Cause) → IsHoldKept s (with_cause s c)
+cause-kept s c = let k : IsHoldKept s (programs_left s c) = programs-kept s c in record { hold = k.hold; drawn = k.drawn }
+
+-- a path that is missing leaves the program at work
+pub path-begun : (s : SubchannelState) (p : Option Program) → (without_waiting p s).begun ≡ s.begun
+path-begun s None = refl
+path-begun s (Some p) = refl
+
+-- a check ends the program at work, or the one that was to begin
+pub fault-begun : (s : SubchannelState) (b : Option Begun) → s.begun ≡ b → (without_begun b s).begun ≡ None
+fault-begun s None e = e
+fault-begun s (Some b) e = refl
+
+-- the command at work is as it was, but for its interruption
+pub record IsUninterrupted (b c : Begun) : Type 0 where
+  pub code : c.transfer.code ≡ b.transfer.code
+  pub command : c.transfer.command ≡ b.transfer.command
+  pub sequence : c.transfer.sequence ≡ b.transfer.sequence
+  pub moving : c.transfer.moving ≡ b.transfer.moving
+
+pub record IsInterrupted (s x : SubchannelState) (b : Begun) : Type 0 where
+  pub begun : Begun
+  pub is : x.begun ≡ Some begun
+  pub same : IsUninterrupted b begun
+  pub kept : IsHoldKept s x
+
+pub interrupted-work : (s : SubchannelState) (b : Begun) → s.begun ≡ Some b → IsInterrupted s (interrupted s (Some b)) b
+interrupted-work s b e = by b.transfer.interrupts
+  where
+    by : (c : Bool) → IsInterrupted s (if c then with_cause (record s { begun = Some (without_interruption b) }) (cause.Interruption b.transfer.walk.tried (residual b.transfer.moving)) else s) b
+    by true = record { begun = without_interruption b; is = refl; same = record { code = refl; command = refl; sequence = refl; moving = refl }; kept = record { hold = refl; drawn = refl } }
+    by false = record { begun = b; is = e; same = record { code = refl; command = refl; sequence = refl; moving = refl }; kept = same-kept s }
+
+-- a program that is suspended
+pub record IsWorkless (s x : SubchannelState) : Type 0 where
+  pub begun : x.begun ≡ None
+  pub kept : IsHoldKept s x
+
+pub suspending-workless : (s : SubchannelState) (program : Program) (walk : Place) (count : ℕ) → IsWorkless s (suspending s program walk count)
+suspending-workless s program walk count = by program.orb.suppress_suspended
+  where
+    by : (c : Bool) → IsWorkless s (if c then record (standing_still s program walk count) { scsw = suspended_alone s.scsw } else with_cause (standing_still s program walk count) (cause.Suspension walk.tried count))
+    by true = record { begun = refl; kept = record { hold = refl; drawn = refl } }
+    by false = record { begun = refl; kept = record { hold = refl; drawn = refl } }
+
+-- a halt that is performed ends all programs, and a clear that is performed leaves what there is
+pub halt-kept : (s : SubchannelState) → IsHoldKept s (halt_done s)
+halt-kept s = by s.scsw.activity.halt_pending
+  where
+    by : (c : Bool) → IsHoldKept s (if c then with_cause s cause.HaltDone else s)
+    by true = cause-kept s cause.HaltDone
+    by false = same-kept s
+
+pub halt-begun : (s : SubchannelState) → s.begun ≡ None → (halt_done s).begun ≡ None
+halt-begun s e = by s.scsw.activity.halt_pending
+  where
+    by : (c : Bool) → (if c then with_cause s cause.HaltDone else s).begun ≡ None
+    by true = refl
+    by false = e
+
+pub clear-kept : (s : SubchannelState) → IsHoldKept s (clear_done s)
+clear-kept s = by s.scsw.activity.clear_pending
+  where
+    by : (c : Bool) → IsHoldKept s (if c then with_cause s cause.ClearDone else s)
+    by true = cause-kept s cause.ClearDone
+    by false = same-kept s
+
+pub clear-begun : (s : SubchannelState) → (clear_done s).begun ≡ s.begun
+clear-begun s = by s.scsw.activity.clear_pending
+  where
+    by : (c : Bool) → (if c then with_cause s cause.ClearDone else s).begun ≡ s.begun
+    by true = refl
+    by false = refl
+
+-- TEST and HALT
+pub tested-kept : (s : SubchannelState) → IsHoldKept s (tested_wholly s)
+tested-kept s = by (ends_suspended s.scsw)
+  where
+    by : (c : Bool) → IsHoldKept s (if c then without_programs (tested s) else tested s)
+    by true = record { hold = refl; drawn = refl }
+    by false = record { hold = refl; drawn = refl }
+
+pub halted-kept : (s : SubchannelState) → IsHoldKept s (halted s)
+halted-kept s = by (drops_status s.scsw)
+  where
+    by : (c : Bool) → IsHoldKept s (if c then dropped (halting s) else halting s)
+    by true = record { hold = refl; drawn = refl }
+    by false = record { hold = refl; drawn = refl }
+
+-- the program at work stays, or is over
+pub tested-begun : (s : SubchannelState) → ((tested_wholly s).begun ≡ s.begun) ⊎ ((tested_wholly s).begun ≡ None)
+tested-begun s = by (ends_suspended s.scsw)
+  where
+    by : (c : Bool) → ((if c then without_programs (tested s) else tested s).begun ≡ s.begun) ⊎ ((if c then without_programs (tested s) else tested s).begun ≡ None)
+    by true = inr refl
+    by false = inl refl
+
+pub halted-begun : (s : SubchannelState) → (halted s).begun ≡ s.begun
+halted-begun s = by (drops_status s.scsw)
+  where
+    by : (c : Bool) → (if c then dropped (halting s) else halting s).begun ≡ s.begun
+    by true = refl
+    by false = refl

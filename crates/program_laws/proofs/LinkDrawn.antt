@@ -1,0 +1,111 @@
+-- A signal draws no number.
+use Rattle.std.proofs.Common.{◌≡◌, refl, ℕ, Bool, true, false, ◌==◌, Option, None, Some}
+use Rattle.std.specs.Prelude.{if◌then◌else◌}
+use Rattle.scsw_irb.specs.declared.status.DeviceStatus.{DeviceStatus}
+use Rattle.storage_keys.specs.Storage.{Contents}
+use Rattle.chan_model.specs.declared.hold_state.HoldPhase.{HoldPhase}
+use Rattle.chan_model.specs.declared.hold_state.HoldPhase.TheVariants as hold
+use Rattle.chan_model.specs.declared.signal.Down.{Down}
+use Rattle.chan_model.specs.declared.signal.Load.{Load}
+use Rattle.chan_model.specs.declared.signal.Taken.{Taken}
+use Rattle.chan_model.specs.declared.signal.Up.{Up}
+use Rattle.chan_model.specs.declared.signal.Up.TheVariants as up
+use Rattle.chan_model.specs.HoldTable.{HoldStep, hold_takes, hold_after, came_of, is_connected, is_on}
+use Rattle.chan_model.specs.UnitReports.{is_last_end, is_outward, has_device_end}
+use Rattle.channel_program.specs.Walks.{Place}
+use Rattle.data_move.specs.Moving.{residual}
+use Rattle.transfer.specs.declared.Came.{Came}
+use Rattle.transfer.specs.declared.Came.TheVariants as came
+use Rattle.transfer.specs.declared.Transfer.{Transfer}
+use Rattle.transfer.specs.Commands.{first_command, next_command, begun_with_room}
+use Rattle.transfer.specs.Chunks.{is_answered}
+use Rattle.machine_model.specs.declared.cause.Cause.TheVariants as cause
+use Rattle.machine_model.specs.declared.state.Begun.{Begun}
+use Rattle.machine_model.specs.declared.state.Standing.{Standing}
+use Rattle.machine_model.specs.declared.state.SubchannelState.{SubchannelState}
+use Rattle.machine_model.specs.declared.state.UpStep.{UpStep}
+use Rattle.machine_model.specs.Statuses.{has_status_modifier, chains_command}
+use Rattle.machine_model.specs.Taking.{Met, goes_ahead, standing, with_path, taking_over, moving_on, reset_taken, beginning, begin_standing, accepted_by, accept, move_bytes, move_data, with_end, chaining, goes_on, stops_at, end_of, takes_up}
+use Rattle.program_laws.proofs.Caused.{cause-kept, interrupted-work, suspending-workless, halt-kept, clear-kept}
+
+module _ (storage : Contents) where
+  abbrev IsSame : SubchannelState → UpStep → Type 0
+  IsSame s step = step.state.drawn ≡ s.drawn
+
+  if-same : (s : SubchannelState) (c : Bool) (x y : UpStep) → IsSame s x → IsSame s y → IsSame s (if c then x else y)
+  if-same s true x y e f = e
+  if-same s false x y e f = f
+
+  if-met : (s : SubchannelState) (c : Bool) (x y : Met) → IsSame s x.step → IsSame s y.step → IsSame s (if c then x else y).step
+  if-met s true x y e f = e
+  if-met s false x y e f = f
+
+  -- Accept
+  beginning-same : (s : SubchannelState) (p t : ℕ) (st : Standing) (walk : Place) (r : Came) → IsSame s (beginning storage s p t st walk r)
+  beginning-same s p t st walk (came.Begins transfer) = (interrupted-work (taking_over s st.program (begun_with_room storage transfer).transfer) _ refl).kept.drawn
+  beginning-same s p t st walk came.Suspends = (suspending-workless s st.program walk st.count).kept.drawn
+  beginning-same s p t st walk (came.Stops check) = (cause-kept s (cause.FetchFault walk.tried check st.count)).drawn
+
+  standing-same : (s : SubchannelState) (p t : ℕ) (st : Option Standing) → IsSame s (begin_standing storage s p t st)
+  standing-same s p t None = refl
+  standing-same s p t (Some st) = beginning-same s p t st (first_command storage st.walk).walk (first_command storage st.walk).came
+
+  accepted_by-same : (s : SubchannelState) (phase : HoldPhase) (taken : Taken Down) → IsSame s (accepted_by storage s phase taken)
+  accepted_by-same s (hold.On t p c) taken = standing-same (record s { pmcw = with_path s.pmcw p }) p t (standing s)
+  accepted_by-same s (hold.Letting t p) taken = (halt-kept (record s { pmcw = with_path s.pmcw p })).drawn
+  accepted_by-same s hold.Free taken = refl
+  accepted_by-same s (hold.Offer t p) taken = refl
+  accepted_by-same s (hold.Away t) taken = refl
+  accepted_by-same s (hold.Reset r) taken = refl
+
+  accept-same : (s : SubchannelState) (step : Option HoldStep) → IsSame s (accept storage s step)
+  accept-same s step =
+      if-same s (came_of step).taken _ _ (accepted_by-same (record s { hold = hold_after s.hold step }) (hold_after s.hold step).phase (came_of step)) refl
+
+  -- Data
+  moving-same : (s : SubchannelState) (b : Begun) (t : Transfer) → (moving_on s b t).drawn ≡ s.drawn
+  moving-same s b t = (interrupted-work (record s { begun = Some (record b { transfer = t }); dedicated = None }) (record b { transfer = t }) refl).kept.drawn
+
+  move_bytes-same : (s : SubchannelState) (b : Begun) (p t c n q : ℕ) (load : Load) → IsSame s (move_bytes storage s b p t c n q load).step
+  move_bytes-same s b p t c n q load = if-met s (is_outward b.transfer.code) _ _ (moving-same s b _) (moving-same s b _)
+
+  move_data-same : (s : SubchannelState) (b : Option Begun) (p t c n q : ℕ) (load : Load) → IsSame s (move_data storage s b p t c n q load).step
+  move_data-same s None p t c n q load = refl
+  move_data-same s (Some b) p t c n q load = if-met s (is_answered b.transfer n q) _ _ (move_bytes-same s b p t c n q load) refl
+
+  -- End
+  chaining-same : (s : SubchannelState) (b : Begun) (p t : ℕ) (walk : Place) (r : Came) → IsSame s (chaining storage s b p t walk r)
+  chaining-same s b p t walk (came.Begins transfer) = moving-same s b (begun_with_room storage transfer).transfer
+  chaining-same s b p t walk came.Suspends = (suspending-workless (record s { dedicated = None }) b.program walk (residual b.transfer.moving)).kept.drawn
+  chaining-same s b p t walk (came.Stops check) = (cause-kept (record s { dedicated = None }) (cause.FetchFault walk.tried check (residual b.transfer.moving))).drawn
+
+  goes_on-same : (s : SubchannelState) (b : Begun) (p t : ℕ) (status : DeviceStatus) → IsSame s (goes_on storage s b p t status)
+  goes_on-same s b p t status =
+      if-same s (has_device_end status) _ _
+      (chaining-same s b p t (next_command storage b.transfer (has_status_modifier status)).walk (next_command storage b.transfer (has_status_modifier status)).came) refl
+
+  stops_at-same : (s : SubchannelState) (b : Begun) (p : ℕ) (status : DeviceStatus) (more : Bool) → IsSame s (stops_at s b p status more)
+  stops_at-same s b p status more = if-same s (is_last_end status) _ _ (cause-kept s (cause.End b status more)).drawn (cause-kept s (cause.End b status more)).drawn
+
+  end_of-same : (s : SubchannelState) (b : Option Begun) (p t n : ℕ) (status : DeviceStatus) (more : Bool) → IsSame s (end_of storage s b p t n status more)
+  end_of-same s None p t n status more = refl
+  end_of-same s (Some b) p t n status more =
+      if-same s (n == b.transfer.command) _ _
+      (if-same s (chains_command s.scsw b status more) _ _ (goes_on-same s (with_end b) p t status) (stops_at-same s b p status more)) refl
+
+  -- Cleared
+  reset-same : (s : SubchannelState) (step : Option HoldStep) → IsSame s (reset_taken s step)
+  reset-same s None = refl
+  reset-same s (Some step) = (clear-kept (record s { hold = step.state })).drawn
+
+  pub up-drawn : (s : SubchannelState) (p : ℕ) (x : Up) → IsSame s (takes_up storage s p x).step
+  up-drawn s p (up.Accept t) = accept-same s (hold_takes s.hold p (up.Accept t) (goes_ahead s))
+  up-drawn s p (up.Data t c n q load) = if-met s (is_connected s.hold.phase p t c) _ _ (move_data-same s s.begun p t c n q load) refl
+  up-drawn s p (up.End t n status more) = if-same s (is_on s.hold.phase t) _ _ (end_of-same s s.begun p t n status more) refl
+  up-drawn s p (up.Busy t) = refl
+  up-drawn s p (up.Leave t c) = refl
+  up-drawn s p (up.Back t c) = refl
+  up-drawn s p (up.Released t) = refl
+  up-drawn s p (up.Cleared r) = reset-same s (hold_takes s.hold p (up.Cleared r) false)
+  up-drawn s p (up.Notice b) = refl
+  up-drawn s p (up.Attn a status) = refl

@@ -1,0 +1,71 @@
+-- Where no program is at work or offered, a signal is a matter of the hold alone.
+use Rattle.std.proofs.Common.{◌≡◌, refl, ℕ, Bool, true, false, Option, None, Some}
+use Rattle.std.specs.Prelude.{if◌then◌else◌, IfSome}
+use Rattle.scsw_irb.specs.declared.status.DeviceStatus.{DeviceStatus}
+use Rattle.storage_keys.specs.Storage.{Contents}
+use Rattle.chan_model.specs.declared.hold_state.HoldPhase.{HoldPhase}
+use Rattle.chan_model.specs.declared.hold_state.HoldPhase.TheVariants as hold
+use Rattle.chan_model.specs.declared.signal.Load.{Load}
+use Rattle.chan_model.specs.declared.signal.Up.{Up}
+use Rattle.chan_model.specs.declared.signal.Up.TheVariants as up
+use Rattle.chan_model.specs.HoldTable as hold_table
+use Rattle.chan_model.specs.HoldTable.{HoldStep, came_of, is_connected, is_on, left, asked_back, found_busy, released, cleared, noticed, attended}
+use Rattle.machine_model.specs.declared.state.Begun.{Begun}
+use Rattle.machine_model.specs.declared.state.SubchannelState.{SubchannelState}
+use Rattle.machine_model.specs.declared.state.UpStep.{UpStep}
+use Rattle.machine_model.specs.Taking as taking
+use Rattle.machine_model.specs.Taking.{goes_ahead, takes_up}
+use Rattle.program_laws.specs.Stories as stories
+use Rattle.program_laws.specs.Stories.{Story, meets}
+use Rattle.program_laws.proofs.Caused.{clear-begun}
+use Rattle.program_laws.proofs.LinkSent.{IsOfHold, Mutters, busy-mutters, left-mutters, back-mutters, released-mutters, cleared-mutters, attended-mutters, noticed-mutters}
+
+-- the hold alone sends, no program begins or ends, and the story stays
+pub record IsIdle (s : SubchannelState) (step : UpStep) (f : Story → Story) : Type 0 where
+  pub begun : step.state.begun ≡ s.begun
+  pub sends : IfSome step.came.sent (λ d. IsOfHold d.signal)
+  pub same : (k : Story) → f k ≡ k
+
+abbrev pub IsNoOffer : HoldPhase → Type 0
+IsNoOffer phase = (t p : ℕ) → phase ≡ hold.Offer t p → ⊥
+
+module _ (storage : Contents) (s : SubchannelState) (none : s.begun ≡ None) where
+  by_hold-idle : (step : Option HoldStep) → Mutters step → IsIdle s (taking.by_hold s step) (λ k. k)
+  by_hold-idle step m = record { begun = refl; sends = m; same = λ k. refl }
+
+  accept-idle : (phase : HoldPhase) (t : ℕ) (may : Bool) → IsNoOffer phase →
+      IsIdle s (taking.accept storage s (hold_table.accepted s.hold phase t may)) (stories.accepted storage s (hold_table.accepted s.hold phase t may))
+  accept-idle hold.Free t may n = record { begun = refl; sends = tt; same = λ k. refl }
+  accept-idle (hold.Offer v p) t may n = absurd (n v p refl)
+  accept-idle (hold.On v p c) t may n = record { begun = refl; sends = tt; same = λ k. refl }
+  accept-idle (hold.Away v) t may n = record { begun = refl; sends = tt; same = λ k. refl }
+  accept-idle (hold.Letting v p) t may n = record { begun = refl; sends = tt; same = λ k. refl }
+  accept-idle (hold.Reset r) t may n = record { begun = refl; sends = tt; same = λ k. refl }
+
+  data-idle : (p t c n q : ℕ) (l : Load) (x : Bool) (b : Option Begun) → b ≡ None →
+      IsIdle s (if x then taking.move_data storage s b p t c n q l else taking.meets storage (taking.ignoring s)).step (λ k. if x then stories.answers storage b n q l k else k)
+  data-idle p t c n q l true None e = record { begun = refl; sends = tt; same = λ k. refl }
+  data-idle p t c n q l true (Some b) e = absurd (cc e)
+  data-idle p t c n q l false b e = record { begun = refl; sends = tt; same = λ k. refl }
+
+  end-idle : (p t n : ℕ) (status : DeviceStatus) (more : Bool) (x : Bool) (b : Option Begun) → b ≡ None →
+      IsIdle s (if x then taking.end_of storage s b p t n status more else taking.ignoring s) (λ k. if x then stories.ends storage s b n status more k else k)
+  end-idle p t n status more true None e = record { begun = refl; sends = tt; same = λ k. refl }
+  end-idle p t n status more true (Some b) e = absurd (cc e)
+  end-idle p t n status more false b e = record { begun = refl; sends = tt; same = λ k. refl }
+
+  reset-idle : (step : Option HoldStep) → Mutters step → IsIdle s (taking.reset_taken s step) (λ k. k)
+  reset-idle None m = record { begun = refl; sends = tt; same = λ k. refl }
+  reset-idle (Some step) m = record { begun = clear-begun (record s { hold = step.state }); sends = m; same = λ k. refl }
+
+  pub idle-meets : IsNoOffer s.hold.phase → (p : ℕ) (x : Up) → IsIdle s (takes_up storage s p x).step (meets storage s p x)
+  idle-meets n p (up.Accept t) = accept-idle s.hold.phase t (goes_ahead s) n
+  idle-meets n p (up.Data t c i q l) = data-idle p t c i q l (is_connected s.hold.phase p t c) s.begun none
+  idle-meets n p (up.End t i status more) = end-idle p t i status more (is_on s.hold.phase t) s.begun none
+  idle-meets n p (up.Busy t) = by_hold-idle (found_busy s.hold s.hold.phase t) (busy-mutters s.hold s.hold.phase t)
+  idle-meets n p (up.Leave t c) = by_hold-idle (left s.hold s.hold.phase t c) (left-mutters s.hold s.hold.phase t c)
+  idle-meets n p (up.Back t c) = by_hold-idle (asked_back s.hold s.hold.phase p t c false) (back-mutters s.hold s.hold.phase p t c false)
+  idle-meets n p (up.Released t) = by_hold-idle (released s.hold s.hold.phase t) (released-mutters s.hold s.hold.phase t)
+  idle-meets n p (up.Cleared r) = reset-idle (cleared s.hold s.hold.phase r) (cleared-mutters s.hold s.hold.phase r)
+  idle-meets n p (up.Notice b) = by_hold-idle (noticed s.hold b) (noticed-mutters s.hold b)
+  idle-meets n p (up.Attn a status) = by_hold-idle (attended s.hold s.hold.phase p a false) (attended-mutters s.hold s.hold.phase p a false)

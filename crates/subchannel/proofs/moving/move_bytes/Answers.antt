@@ -1,0 +1,19 @@
+use Rattle.std.proofs.Common.{◌≡◌, refl, sym, ◌∙◌, ap, ℕ, Bool, true, false}
+use Rattle.std.specs.Prelude.{if◌then◌else◌}
+use Rattle.machine_model.specs.Taking.{Met, meets, give_next, take_in, bytes_of}
+use Rattle.transfer.specs.Chunks.{brought}
+use Rattle.subchannel.proofs.moving.move_bytes.Goals as goal
+
+pick : (outward : Bool) (x y : Met) → outward ≡ true → x ≡ (if outward then x else y)
+pick true x y e = refl
+pick false x y e = absurd (cc e)
+
+pub returns-then-is_outward : goal.returns-then-is_outward
+returns-then-is_outward c =
+    let storage = c.args.storage.now in
+    let s = c.args.state.now in
+    let b = c.args.begun.now in
+    let x = c.args.numbers in
+    let outward : ℕ → Met = λ count. meets storage (give_next storage s b c.args.path x.number x.connection x.command x.sequence count) in
+    let inward : Met = take_in s b c.args.path x.number x.command x.sequence (brought storage b.transfer x.sequence (bytes_of c.args.load.now)) in
+    ap (λ step. meets storage step) c.give_next.ensures ∙ ap outward c.len.ensures ∙ pick _ _ inward (sym c.if-is_outward.ensures)

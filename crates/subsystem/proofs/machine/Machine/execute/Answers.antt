@@ -1,0 +1,33 @@
+use Rattle.std.proofs.Common.{◌≡◌, ◌<◌, ap, sym, ◌∙◌, subst, None, Some, List, length}
+use Rattle.channel_config.specs.SubchannelWords.{subchannel_named}
+use Rattle.chan_model.specs.declared.event.Event.TheVariants as event
+use Rattle.machine_model.specs.declared.state.Subchannel.{Subchannel}
+use Rattle.machine_model.specs.State.{State, place_in, with_sub}
+use Rattle.machine_model.specs.Steps.{Performs, word_of}
+use Rattle.subsystem.specs.contracts.machine.Machine.{the_view}
+use Rattle.subsystem.proofs.Lifting.{executes, executes-absent}
+use Rattle.subsystem.proofs.machine.Machine.execute.Goals as goal
+
+pub returns-in_default-place_in : goal.returns-in_default-place_in
+returns-in_default-place_in c =
+    let old = the_view c.self.inside in
+    let named : subchannel_named old.sets (word_of c.args.instruction) ≡ Some c.in-Some.id =
+    ap (subchannel_named old.sets) (sym c.word_of.ensures) ∙ (sym c.subchannel_named.ensures.value ∙ c.in-Some.is) in
+    let placed : place_in c.in-Some.id old.subs ≡ None =
+    ap (place_in c.in-Some.id) (sym c.as_slice.ensures.value) ∙ (sym c.place_in.ensures.place ∙ c.in_default-place_in.is) in
+    subst (λ (s : State). Performs s (event.Execute c.args.cpu c.args.instruction) c.execute_absent.result (record old { storage = c.execute_absent.new.storage })) c.self.view_is
+    (executes-absent old c.args.cpu c.args.instruction c.in-Some.id c.execute_absent.new.storage c.execute_absent.result named placed c.execute_absent.ensures)
+
+pub returns : goal.returns
+returns c =
+    let old = the_view c.self.inside in
+    let subs : c.as_slice.result.now ≡ old.subs = c.as_slice.ensures.value in
+    let named : subchannel_named old.sets (word_of c.args.instruction) ≡ Some c.in-Some.id =
+    ap (subchannel_named old.sets) (sym c.word_of.ensures) ∙ (sym c.subchannel_named.ensures.value ∙ c.in-Some.is) in
+    let placed : place_in c.in-Some.id old.subs ≡ Some c.in-Some-place_in.place =
+    ap (place_in c.in-Some.id) (sym subs) ∙ (sym c.place_in.ensures.place ∙ c.in-Some-place_in.is) in
+    let within : c.in-Some-place_in.place < length old.subs = subst (λ (xs : List Subchannel). c.in-Some-place_in.place < length xs) subs c.in-Some-place_in.ensures.bound in
+    subst (λ (s : State). Performs s (event.Execute c.args.cpu c.args.instruction) c.execute.result
+    (with_sub (record old { storage = c.execute.new.storage }) c.in-Some-place_in.place c.execute.new.sub)) c.self.view_is
+    (executes old c.args.cpu c.in-Some-place_in.place c.args.instruction c.in-Some.id c.index_mut-sub.result.now c.execute.new.sub c.index_mut-sub.result.now c.execute.new.storage c.execute.result
+    named placed within c.index_mut-sub.ensures.value c.execute.ensures)

@@ -1,0 +1,122 @@
+//! What a unit is to do next.
+
+ghost use Rattle.std.specs.Prelude.{◌≡◌, ◌<◌, MatchOption, None, Some};
+ghost use Rattle.machine_model.specs.State as state_spec;
+ghost use Rattle.machine_model.specs.State.{State};
+
+use crate::places::reached_in;
+use chan_model::names::{Path, Side};
+use chan_model::unit_state::{Own, Place};
+use machine_model::state::{Subchannel, UnitTurn};
+use unit::Unit;
+use wires::Wires;
+
+fn has_signal(wires: &Wires, index: u32) -> bool
+    requires { index < 8 }
+    ensures { result ≡ state_spec.has_signal wires.now.down index }
+{
+    match Path::new(index) {
+        None => false,
+        Some(path) => wires.front_down(path).is_some(),
+    }
+}
+
+/// The lowest path on whose wire down a signal waits.
+fn signal_path(wires: &Wires) -> Option<u32>
+    ensures { result ≡ state_spec.signal_path wires.now.down }
+{
+    if has_signal(wires, 0) {
+        Some(0)
+    } else if has_signal(wires, 1) {
+        Some(1)
+    } else if has_signal(wires, 2) {
+        Some(2)
+    } else if has_signal(wires, 3) {
+        Some(3)
+    } else if has_signal(wires, 4) {
+        Some(4)
+    } else if has_signal(wires, 5) {
+        Some(5)
+    } else if has_signal(wires, 6) {
+        Some(6)
+    } else if has_signal(wires, 7) {
+        Some(7)
+    } else {
+        None
+    }
+}
+
+/// The subchannel that reaches this side of a unit.
+fn reached_sub(unit: usize, side: Side, subs: &[Subchannel]) -> Option<&Subchannel>
+    ensures { MatchOption result (state_spec.reached_sub «unit» side subs.now ≡ None) (λ sub. state_spec.reached_sub «unit» side subs.now ≡ Some sub.now) }
+{
+    let place = reached_in(unit, side, subs)?;
+    subs.get(place)
+}
+
+/// The signal that waits for a side of a unit, as what the unit is to do.
+fn taken_from(unit: usize, side: Side, subs: &[Subchannel]) -> Option<UnitTurn>
+    ensures { result ≡ state_spec.takes_from (state_spec.reached_sub «unit» side subs.now) }
+{
+    let sub = reached_sub(unit, side, subs)?;
+    let path = signal_path(&sub.wires)?;
+    Some(UnitTurn::Takes {
+        subchannel: sub.setup.id,
+        path,
+    })
+}
+
+/// The first of the paths below `paths`, in cyclic order of 8 from this one.
+fn cyclic_path(paths: usize, from: u64) -> Option<u32>
+    ensures { result ≡ state_spec.cyclic_path paths 8 from }
+{
+    let mut next = (from % 8) as u32;
+    for _ in 0..8u32 {
+        if (next as usize) < paths {
+            return Some(next);
+        }
+        next = (next + 1) % 8;
+    }
+    None
+}
+
+/// The path that a program of this side may ask for, whose last connection had this number.
+fn away_path(unit: usize, side: Side, connection: u64, subs: &[Subchannel]) -> Option<u32>
+    ensures { result ≡ state_spec.away_path (state_spec.reached_sub «unit» side subs.now) connection }
+{
+    let sub = reached_sub(unit, side, subs)?;
+    cyclic_path(sub.setup.paths.as_slice().len(), connection)
+}
+
+/// What a unit without a signal and without work is to do.
+fn turn_of_own(unit: usize, own: Own, subs: &[Subchannel]) -> UnitTurn
+    ensures { result ≡ state_spec.turn_of_own subs.now «unit» own }
+{
+    match own {
+        Own::Owned {
+            side,
+            place: Place::Away { connection },
+            ..
+        } => UnitTurn::Away {
+            path: away_path(unit, side, connection, subs),
+        },
+        _ => UnitTurn::Rests,
+    }
+}
+
+/// What a unit is to do next: it takes the signal that waits, of its first side before its second; else does what its program
+/// asks for; else its program may ask for a path.
+pub fn turn_of_unit(number: usize, unit: &Unit, subs: &[Subchannel]) -> UnitTurn
+    ensures { (s : State) → s.subs ≡ subs.now → state_spec.turn_of_unit s number (Some «unit».now) ≡ Some result }
+{
+    if let Some(turn) = taken_from(number, Side::First, subs) {
+        return turn;
+    }
+    if let Some(turn) = taken_from(number, Side::Second, subs) {
+        return turn;
+    }
+    match unit.work() {
+        Some(work) => UnitTurn::Works(work),
+        None => turn_of_own(number, unit.own(), subs),
+    }
+}
