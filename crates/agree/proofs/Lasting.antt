@@ -59,14 +59,15 @@ pub well-sound : Means → (w : WorldState) → IsWell w → AreSound w
 well-sound means w well side = means (links_of w) side well.good
 
 -- the same of a call that does as a turn says
-pub given-well : {A : Type 0} → Keeps → Ends → (w : WorldState) (e : WorldEvent) (new : WorldState) (r : Result A Fault) → IsWell w → Gives w (world_turn w e) r new → IsWell new
-given-well keeps ends w e new (Ok done) well given = (done-lasts keeps ends w e new well given).0
-given-well keeps ends w e new (Err f) well given = subst (λ (x : WorldState). IsWell x) (sym given.0) well
+pub given-well : {A : Type 0} → Keeps → Ends → (w : WorldState) (e : WorldEvent) (new : WorldState) (r : Result A Fault) (reason : Type 0) → IsWell w →
+    Gives w (world_turn w e) reason r new → IsWell new
+given-well keeps ends w e new (Ok done) reason well given = (done-lasts keeps ends w e new well given).0
+given-well keeps ends w e new (Err f) reason well given = subst (λ (x : WorldState). IsWell x) (sym given.0) well
 
-pub given-ends : {A : Type 0} → Keeps → Ends → (w : WorldState) (e : WorldEvent) (new : WorldState) (r : Result A Fault) → IsWell w → Gives w (world_turn w e) r new →
-    OnOk r (EndsByEvent w e new)
-given-ends keeps ends w e new (Ok done) well given = (done-lasts keeps ends w e new well given).1
-given-ends keeps ends w e new (Err f) well given = tt
+pub given-ends : {A : Type 0} → Keeps → Ends → (w : WorldState) (e : WorldEvent) (new : WorldState) (r : Result A Fault) (reason : Type 0) → IsWell w →
+    Gives w (world_turn w e) reason r new → OnOk r (EndsByEvent w e new)
+given-ends keeps ends w e new (Ok done) reason well given = (done-lasts keeps ends w e new well given).1
+given-ends keeps ends w e new (Err f) reason well given = tt
 
 -- one event more
 worlds-push : (w : WorldState) (es : List WorldEvent) (e : WorldEvent) → worlds_after w (es ++ e ∷ []) ≡ world_after (worlds_after w es) e

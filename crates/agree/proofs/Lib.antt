@@ -4,3 +4,4 @@ pub mod Making
 pub mod Raising
 pub mod Numbers
 pub mod Lasting
+pub mod Wanting

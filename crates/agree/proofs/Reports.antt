@@ -1,8 +1,7 @@
 -- What a report does: it leaves all but the command at hand, whose last number rises by at most one.
-use Rattle.std.proofs.Common.{◌≡◌, ◌≤◌, ℕ, ◌+◌, refl, sym, ap, ◌∙◌, Bool, true, false, not, Option, None, Some, List, ◌⊎◌, inr, arith}
-use Rattle.std.specs.Prelude.{if◌then◌else◌, nat_le, ◌==◌, ◌&&◌, Err, length}
+use Rattle.std.proofs.Common.{◌≤◌, ℕ, ◌+◌, Bool, true, false, Option, None, Some, List, arith}
+use Rattle.std.specs.Prelude.{if◌then◌else◌, nat_le, ◌==◌, ◌&&◌, length}
 use Rattle.scsw_irb.specs.declared.status.DeviceStatus.{DeviceStatus}
-use Rattle.chan_model.specs.declared.fault.Fault.TheVariants.{NotNow, NoMemory}
 use Rattle.chan_model.specs.declared.signal.Load.{Load}
 use Rattle.chan_model.specs.declared.signal.OnPath.{OnPath}
 use Rattle.chan_model.specs.declared.signal.Up.{Up}
@@ -18,12 +17,9 @@ use Rattle.chan_model.specs.declared.unit_state.Progress.TheVariants as progress
 use Rattle.chan_model.specs.declared.unit_state.AtHand.{AtHand}
 use Rattle.chan_model.specs.declared.unit_state.UnitState.{UnitState}
 use Rattle.chan_model.specs.Sides.{same_side}
-use Rattle.chan_model.specs.UnitTable.{UnitStep, unit_after, came_of}
-use Rattle.chan_model.specs.UnitReports.{unit_reports, report_of, report_on, answer_taken, begun, absorbed, supplied, sent_again, end_sent, may_end, is_outward, is_to_supply, most_of}
+use Rattle.chan_model.specs.UnitTable.{UnitStep}
+use Rattle.chan_model.specs.UnitReports.{unit_reports, report_of, report_on, answer_taken, begun, absorbed, supplied, sent_again, end_sent, may_end, shown_end, is_outward, is_to_supply, most_of}
 use Rattle.unit.specs.UnitWords.{last_sequence}
-use Rattle.agreement_laws.specs.Moving.{Reports}
-use Rattle.agree.specs.State.{LineState}
-use Rattle.agree.specs.Lines.{both, acts_for, stepping}
 
 -- what holds of none, and of each step to another state of the command at hand, holds of what a unit does with a report
 module _ (P : Option UnitStep → Type 0) (u : UnitState) (none : P None)
@@ -50,9 +46,9 @@ module _ (P : Option UnitStep → Type 0) (u : UnitState) (none : P None)
   at_end p t x b status more le = by_if b (end_sent u p t x status more) None (by _ _ (omega arith)) none
 
   at_answer : (p t c : ℕ) (x : AtHand) (at : Progress) (answer : DeviceAnswer) → x.sequence ≤ last_sequence u.at_hand → P (answer_taken u p t c x at answer)
-  at_answer p t c x progress.New (Ended status more) le = at_end p t x (may_end u.halted x progress.New status more) status more le
-  at_answer p t c x progress.Working (Ended status more) le = at_end p t x (may_end u.halted x progress.Working status more) status more le
-  at_answer p t c x progress.ChannelEnded (Ended status more) le = at_end p t x (may_end u.halted x progress.ChannelEnded status more) status more le
+  at_answer p t c x progress.New (Ended status more) le = at_end p t x (may_end u.halted x progress.New status more) (shown_end progress.New status) more le
+  at_answer p t c x progress.Working (Ended status more) le = at_end p t x (may_end u.halted x progress.Working status more) (shown_end progress.Working status) more le
+  at_answer p t c x progress.ChannelEnded (Ended status more) le = at_end p t x (may_end u.halted x progress.ChannelEnded status more) (shown_end progress.ChannelEnded status) more le
   at_answer p t c x progress.Ended (Ended status more) le = none
   at_answer p t c x progress.New Begins le = at_begin p t c x le
   at_answer p t c x progress.Working Begins le = none

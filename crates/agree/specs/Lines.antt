@@ -47,7 +47,9 @@ told l sent = record l { link = record l.link { ups = with_sent l.up l.link.ups 
 abbrev pub LineTurn : Type 0
 LineTurn = Result LineState Fault
 
--- Choose: an offer where nothing holds the device; the Reset where there is one to send
+-- Choose: an offer where nothing holds the device; the Reset where there is one to send. A subsystem sends a Reset while it
+-- is unsent; here one that was sent may be sent again. So this world allows more than a subsystem does, and what is promised
+-- of every list of events holds of those that a subsystem makes.
 abbrev pub chosen : LineState → HoldPhase → ℕ → Bool → LineTurn
 chosen l Free p single = Ok (acts l (Offers p single))
 chosen l (Reset r) p single = Ok (acts l (Sends_reset p))
@@ -125,7 +127,8 @@ met b side (Some x) place keep may =
 abbrev pub meets : UnitLine → Side → ℕ → Bool → Bool → Result UnitLine Fault
 meets b side place keep may = met b side (slice_get b.line.link.downs place) place keep may
 
--- A call does as a turn says. Where it is refused, for that or for want of memory, all is as before.
-abbrev pub Gives : {A S : Type 0} → S → Result S Fault → Result A Fault → S → Type 0
-Gives old turn (Ok done) new = turn ≡ Ok new
-Gives old turn (Err f) new = (new ≡ old) × ((f ≡ NoMemory) ⊎ (turn ≡ Err f))
+-- A call does as a turn says. Where it is refused, for that or for want of memory, all is as before; for want of memory it
+-- is refused for a reason alone, as that a list is full.
+abbrev pub Gives : {A S : Type 0} → S → Result S Fault → Type 0 → Result A Fault → S → Type 0
+Gives old turn reason (Ok done) new = turn ≡ Ok new
+Gives old turn reason (Err f) new = (new ≡ old) × (((f ≡ NoMemory) × reason) ⊎ (turn ≡ Err f))

@@ -5,6 +5,7 @@ mod told;
 
 ghost use Rattle.std.specs.Prelude.{◌≡◌, ◌≤◌, ◌^◌, Ok, length};
 ghost use Rattle.agree.specs.Lines as spec;
+ghost use Rattle.agree.specs.Rooms as room_spec;
 ghost use Rattle.agree.specs.State as state_spec;
 ghost use Rattle.agreement_laws.specs.Moving as moving;
 
@@ -30,17 +31,18 @@ pub struct Line {
 }
 
 impl Model for Line {
-    ghost use Rattle.agree.specs.State.{LineState};
+    ghost use Rattle.std.specs.Prelude.{◌-◌, vec_len, vec_capacity};
+    ghost use Rattle.agree.specs.Rooms.{LineAndRoom};
 
-    ghost Value = { LineState };
+    ghost Value = { LineAndRoom };
 
-    ghost view = { λ l. record { link = record { drawn = l.drawn; hold = l.hold; downs = l.downs.items; ups = l.ups.items; accepted = l.accepted.items }; up = l.up } };
+    ghost view = { λ l. record { line = record { link = record { drawn = l.drawn; hold = l.hold; downs = l.downs.items; ups = l.ups.items; accepted = l.accepted.items }; up = l.up }; room = record { downs = vec_capacity l.downs - vec_len l.downs; ups = vec_capacity l.ups - vec_len l.ups; accepted = vec_capacity l.accepted - vec_len l.accepted } } };
 }
 
 impl Line {
     /// Nothing has happened, and every path is up.
     pub fn new(alloc: Global) -> Self
-        ensures { result ≡ state_spec.opening_line }
+        ensures { result ≡ record { line = state_spec.opening_line; room = room_spec.no_line_room } }
     {
         Line {
             drawn: 0,
@@ -54,35 +56,36 @@ impl Line {
 
     /// The state of the hold.
     pub fn hold(&self) -> HoldState
-        ensures { result ≡ self.now.link.hold }
+        ensures { result ≡ self.now.line.link.hold }
     {
         self.hold.state()
     }
 
     /// How many signals may still arrive at the unit.
     pub fn downs_len(&self) -> usize
-        ensures { result ≡ length self.now.link.downs }
+        ensures { result ≡ length self.now.line.link.downs }
     {
         self.downs.len()
     }
 
     /// How many signals may still arrive at the hold.
     pub fn ups_len(&self) -> usize
-        ensures { result ≡ length self.now.link.ups }
+        ensures { result ≡ length self.now.line.link.ups }
     {
         self.ups.len()
     }
 
     /// The numbers that the unit accepted, in their order.
     pub fn accepted(&self) -> &[u64]
-        ensures { result.now ≡ self.now.link.accepted }
+        ensures { result.now ≡ self.now.line.link.accepted }
     {
         self.accepted.as_slice()
     }
 
     /// Keeps what the hold did, and sends what it sent.
     fn keep(&mut self, drawn: u64, hold: Hold, sent: Option<OnPath<Down>>) -> Result<(), Fault>
-        ensures { spec.Gives self.old (Ok (spec.acted self.old (record { drawn = drawn; hold = hold; sent = sent }))) result self.new }
+        ensures gives { spec.Gives self.old.line (Ok (spec.acted self.old.line (record { drawn = drawn; hold = hold; sent = sent }))) (room_spec.IsFullDown self.new.room) result self.new.line }
+        ensures room { room_spec.LineTakes result self.old.room self.new.room }
     {
         if let Some(signal) = sent {
             post(&mut self.downs, &self.up, signal)?;
@@ -94,8 +97,9 @@ impl Line {
 
     /// Offers a program on a path, or sends the Reset on it.
     pub fn choose(&mut self, path: Path, single_path: bool) -> Result<(), Fault>
-        requires { self.old.link.drawn ≤ 2 ^ 62 }
-        ensures { spec.Gives self.old (spec.chosen self.old self.old.link.hold.phase path single_path) result self.new }
+        requires { self.old.line.link.drawn ≤ 2 ^ 62 }
+        ensures gives { spec.Gives self.old.line (spec.chosen self.old.line self.old.line.link.hold.phase path single_path) (room_spec.IsFullDown self.new.room) result self.new.line }
+        ensures room { room_spec.LineTakes result self.old.room self.new.room }
     {
         let mut hold = self.hold;
         match hold.state().phase {
@@ -114,7 +118,8 @@ impl Line {
 
     /// Lets the device go.
     pub fn let_go(&mut self) -> Result<(), Fault>
-        ensures { spec.Gives self.old (spec.let_go self.old self.old.link.hold.phase) result self.new }
+        ensures gives { spec.Gives self.old.line (spec.let_go self.old.line self.old.line.link.hold.phase) (room_spec.IsFullDown self.new.room) result self.new.line }
+        ensures room { room_spec.LineTakes result self.old.room self.new.room }
     {
         let mut hold = self.hold;
         match hold.state().phase {
@@ -128,8 +133,9 @@ impl Line {
 
     /// The hold is reset.
     pub fn clear(&mut self)
-        requires { self.old.link.drawn ≤ 2 ^ 62 }
-        ensures { self.new ≡ spec.acts self.old moving.Is_reset }
+        requires { self.old.line.link.drawn ≤ 2 ^ 62 }
+        ensures line { self.new.line ≡ spec.acts self.old.line moving.Is_reset }
+        ensures room { room_spec.LineLoses 0 self.old.room self.new.room }
     {
         self.drawn += 1;
         self.hold.reset(self.drawn);
@@ -137,8 +143,9 @@ impl Line {
 
     /// The hold takes the signal at a place.
     pub fn hear(&mut self, place: usize, keep: bool, may: bool) -> Result<(), Fault>
-        requires { self.old.link.drawn ≤ 2 ^ 62 }
-        ensures { spec.Gives self.old (spec.hears self.old place keep may) result self.new }
+        requires { self.old.line.link.drawn ≤ 2 ^ 62 }
+        ensures gives { spec.Gives self.old.line (spec.hears self.old.line place keep may) (room_spec.IsFullDown self.new.room) result self.new.line }
+        ensures room { room_spec.LineTakes result self.old.room self.new.room }
     {
         if place >= self.ups.len() {
             return Err(Fault::NotSent);
@@ -155,7 +162,8 @@ impl Line {
 
     /// The signal to the unit at a place vanishes.
     pub fn lose_down(&mut self, place: usize) -> Result<(), Fault>
-        ensures { spec.Gives self.old (spec.loses_down self.old place) result self.new }
+        ensures gives { spec.Gives self.old.line (spec.loses_down self.old.line place) ⊥ result self.new.line }
+        ensures room { room_spec.LineTakes result self.old.room self.new.room }
     {
         if place >= self.downs.len() {
             return Err(Fault::NotSent);
@@ -166,7 +174,8 @@ impl Line {
 
     /// The signal from the unit at a place vanishes.
     pub fn lose_up(&mut self, place: usize) -> Result<(), Fault>
-        ensures { spec.Gives self.old (spec.loses_up self.old place) result self.new }
+        ensures gives { spec.Gives self.old.line (spec.loses_up self.old.line place) ⊥ result self.new.line }
+        ensures room { room_spec.LineTakes result self.old.room self.new.room }
     {
         if place >= self.ups.len() {
             return Err(Fault::NotSent);
@@ -177,8 +186,9 @@ impl Line {
 
     /// All signals on a path vanish, and the hold loses it.
     fn cut(&mut self, path: Path)
-        requires { self.old.link.drawn ≤ 2 ^ 62 }
-        ensures { self.new ≡ spec.cut self.old path }
+        requires { self.old.line.link.drawn ≤ 2 ^ 62 }
+        ensures line { self.new.line ≡ spec.cut self.old.line path }
+        ensures room { room_spec.LineLoses 0 self.old.room self.new.room }
     {
         cut_downs(&mut self.downs, path);
         cut_ups(&mut self.ups, path);
@@ -190,8 +200,9 @@ impl Line {
 
     /// A path goes down.
     pub fn path_down(&mut self, path: Path) -> Result<(), Fault>
-        requires { self.old.link.drawn ≤ 2 ^ 62 }
-        ensures { spec.Gives self.old (spec.goes_down self.old path) result self.new }
+        requires { self.old.line.link.drawn ≤ 2 ^ 62 }
+        ensures gives { spec.Gives self.old.line (spec.goes_down self.old.line path) ⊥ result self.new.line }
+        ensures room { room_spec.LineTakes result self.old.room self.new.room }
     {
         if !is_up(&self.up, path) {
             return Err(Fault::NotNow);
@@ -203,7 +214,8 @@ impl Line {
 
     /// A path comes up.
     pub fn path_up(&mut self, path: Path) -> Result<(), Fault>
-        ensures { spec.Gives self.old (spec.comes_up self.old path) result self.new }
+        ensures gives { spec.Gives self.old.line (spec.comes_up self.old.line path) ⊥ result self.new.line }
+        ensures room { room_spec.LineTakes result self.old.room self.new.room }
     {
         if is_up(&self.up, path) {
             return Err(Fault::NotNow);
@@ -214,8 +226,9 @@ impl Line {
 
     /// A path is reset.
     pub fn path_reset(&mut self, path: Path) -> Result<(), Fault>
-        requires { self.old.link.drawn ≤ 2 ^ 62 }
-        ensures { spec.Gives self.old (spec.is_cut self.old path) result self.new }
+        requires { self.old.line.link.drawn ≤ 2 ^ 62 }
+        ensures gives { spec.Gives self.old.line (spec.is_cut self.old.line path) ⊥ result self.new.line }
+        ensures room { room_spec.LineTakes result self.old.room self.new.room }
     {
         if !is_up(&self.up, path) {
             return Err(Fault::NotNow);

@@ -3,6 +3,7 @@
 ghost use Rattle.std.specs.Prelude.{◌≡◌, ◌<◌, ◌^◌, Ok, length};
 ghost use Rattle.agree.specs.Bounds.{IsWithin};
 ghost use Rattle.agree.specs.Lines.{Gives};
+ghost use Rattle.agree.specs.Rooms.{IsFullFor, Loses, Takes, no_room};
 ghost use Rattle.agree.specs.State as state_spec;
 ghost use Rattle.agree.specs.Turns as spec;
 ghost use Rattle.agree.specs.declared.event.WorldEvent.TheVariants as event_spec;
@@ -28,17 +29,17 @@ pub struct Parts {
 }
 
 impl Model for Parts {
-    ghost use Rattle.agree.specs.State.{WorldState};
+    ghost use Rattle.agree.specs.Rooms.{WorldAndRoom};
 
-    ghost Value = { WorldState };
+    ghost Value = { WorldAndRoom };
 
-    ghost view = { λ p. record { «unit» = p.unit; first = p.first; second = p.second; steps = p.steps } };
+    ghost view = { λ p. record { world = record { «unit» = p.unit; first = p.first.line; second = p.second.line; steps = p.steps }; room = record { first = p.first.room; second = p.second.room } } };
 }
 
 impl Parts {
     /// Nothing has happened, and every path is up.
     pub fn new(alloc: Global) -> Self
-        ensures { result ≡ state_spec.opening_world }
+        ensures { result ≡ record { world = state_spec.opening_world; room = no_room } }
     {
         Parts {
             unit: Unit::new(),
@@ -50,28 +51,29 @@ impl Parts {
 
     /// How many steps were made.
     pub fn steps(&self) -> u64
-        ensures { result ≡ self.now.steps }
+        ensures { result ≡ self.now.world.steps }
     {
         self.steps
     }
 
     /// Sets how many steps were made.
     pub fn count(&mut self, steps: u64)
-        ensures { self.new ≡ record self.old { steps = steps } }
+        ensures world { self.new.world ≡ record self.old.world { steps = steps } }
+        ensures room { self.new.room ≡ self.old.room }
     {
         self.steps = steps;
     }
 
     /// Whom the device is held by.
     pub fn own(&self) -> Own
-        ensures { result ≡ self.now.unit.own }
+        ensures { result ≡ self.now.world.unit.own }
     {
         self.unit.own()
     }
 
     /// One side.
     pub fn line(&self, side: Side) -> &Line
-        ensures { result.now ≡ state_spec.line_of self.now side }
+        ensures line { result.now.line ≡ state_spec.line_of self.now.world side }
     {
         match side {
             Side::First => &self.first,
@@ -80,8 +82,9 @@ impl Parts {
     }
 
     fn choose(&mut self, side: Side, path: u8, single_path: bool) -> Result<(), Fault>
-        requires { IsWithin (2 ^ 62) self.old }
-        ensures { Gives self.old (spec.turn_of self.old (event_spec.Choose side path single_path)) result self.new }
+        requires { IsWithin (2 ^ 62) self.old.world }
+        ensures gives { Gives self.old.world (spec.turn_of self.old.world (event_spec.Choose side path single_path)) (IsFullFor self.old.world self.new.room (event_spec.Choose side path single_path)) result self.new.world }
+        ensures room { Takes result self.old.room self.new.room }
     {
         let path = path_named(path)?;
         match side {
@@ -91,7 +94,8 @@ impl Parts {
     }
 
     fn down(&mut self, side: Side, place: usize, keep: bool, may: bool) -> Result<(), Fault>
-        ensures { Gives self.old (spec.turn_of self.old (event_spec.Down side place keep may)) result self.new }
+        ensures gives { Gives self.old.world (spec.turn_of self.old.world (event_spec.Down side place keep may)) (IsFullFor self.old.world self.new.room (event_spec.Down side place keep may)) result self.new.world }
+        ensures room { Takes result self.old.room self.new.room }
     {
         match side {
             Side::First => self.first.meet(&mut self.unit, side, place, keep, may),
@@ -100,8 +104,9 @@ impl Parts {
     }
 
     fn up(&mut self, side: Side, place: usize, keep: bool, may: bool) -> Result<(), Fault>
-        requires { IsWithin (2 ^ 62) self.old }
-        ensures { Gives self.old (spec.turn_of self.old (event_spec.Up side place keep may)) result self.new }
+        requires { IsWithin (2 ^ 62) self.old.world }
+        ensures gives { Gives self.old.world (spec.turn_of self.old.world (event_spec.Up side place keep may)) (IsFullFor self.old.world self.new.room (event_spec.Up side place keep may)) result self.new.world }
+        ensures room { Takes result self.old.room self.new.room }
     {
         match side {
             Side::First => self.first.hear(place, keep, may),
@@ -110,7 +115,8 @@ impl Parts {
     }
 
     fn lose_down(&mut self, side: Side, place: usize) -> Result<(), Fault>
-        ensures { Gives self.old (spec.turn_of self.old (event_spec.LoseDown side place)) result self.new }
+        ensures gives { Gives self.old.world (spec.turn_of self.old.world (event_spec.LoseDown side place)) (IsFullFor self.old.world self.new.room (event_spec.LoseDown side place)) result self.new.world }
+        ensures room { Takes result self.old.room self.new.room }
     {
         match side {
             Side::First => self.first.lose_down(place),
@@ -119,7 +125,8 @@ impl Parts {
     }
 
     fn lose_up(&mut self, side: Side, place: usize) -> Result<(), Fault>
-        ensures { Gives self.old (spec.turn_of self.old (event_spec.LoseUp side place)) result self.new }
+        ensures gives { Gives self.old.world (spec.turn_of self.old.world (event_spec.LoseUp side place)) (IsFullFor self.old.world self.new.room (event_spec.LoseUp side place)) result self.new.world }
+        ensures room { Takes result self.old.room self.new.room }
     {
         match side {
             Side::First => self.first.lose_up(place),
@@ -128,8 +135,9 @@ impl Parts {
     }
 
     fn path_down(&mut self, side: Side, path: u8) -> Result<(), Fault>
-        requires { IsWithin (2 ^ 62) self.old }
-        ensures { Gives self.old (spec.turn_of self.old (event_spec.PathDown side path)) result self.new }
+        requires { IsWithin (2 ^ 62) self.old.world }
+        ensures gives { Gives self.old.world (spec.turn_of self.old.world (event_spec.PathDown side path)) (IsFullFor self.old.world self.new.room (event_spec.PathDown side path)) result self.new.world }
+        ensures room { Takes result self.old.room self.new.room }
     {
         let path = path_named(path)?;
         match side {
@@ -139,7 +147,8 @@ impl Parts {
     }
 
     fn path_up(&mut self, side: Side, path: u8) -> Result<(), Fault>
-        ensures { Gives self.old (spec.turn_of self.old (event_spec.PathUp side path)) result self.new }
+        ensures gives { Gives self.old.world (spec.turn_of self.old.world (event_spec.PathUp side path)) (IsFullFor self.old.world self.new.room (event_spec.PathUp side path)) result self.new.world }
+        ensures room { Takes result self.old.room self.new.room }
     {
         let path = path_named(path)?;
         match side {
@@ -149,8 +158,9 @@ impl Parts {
     }
 
     fn path_reset(&mut self, side: Side, path: u8) -> Result<(), Fault>
-        requires { IsWithin (2 ^ 62) self.old }
-        ensures { Gives self.old (spec.turn_of self.old (event_spec.PathReset side path)) result self.new }
+        requires { IsWithin (2 ^ 62) self.old.world }
+        ensures gives { Gives self.old.world (spec.turn_of self.old.world (event_spec.PathReset side path)) (IsFullFor self.old.world self.new.room (event_spec.PathReset side path)) result self.new.world }
+        ensures room { Takes result self.old.room self.new.room }
     {
         let path = path_named(path)?;
         match side {
@@ -160,7 +170,8 @@ impl Parts {
     }
 
     fn let_go(&mut self, side: Side) -> Result<(), Fault>
-        ensures { Gives self.old (spec.turn_of self.old (event_spec.LetGo side)) result self.new }
+        ensures gives { Gives self.old.world (spec.turn_of self.old.world (event_spec.LetGo side)) (IsFullFor self.old.world self.new.room (event_spec.LetGo side)) result self.new.world }
+        ensures room { Takes result self.old.room self.new.room }
     {
         match side {
             Side::First => self.first.let_go(),
@@ -169,8 +180,9 @@ impl Parts {
     }
 
     fn clear(&mut self, side: Side)
-        requires { IsWithin (2 ^ 62) self.old }
-        ensures { spec.turn_of self.old (event_spec.Clear side) ≡ Ok self.new }
+        requires { IsWithin (2 ^ 62) self.old.world }
+        ensures does { spec.turn_of self.old.world (event_spec.Clear side) ≡ Ok self.new.world }
+        ensures room { Loses 0 self.old.room self.new.room }
     {
         match side {
             Side::First => self.first.clear(),
@@ -179,15 +191,17 @@ impl Parts {
     }
 
     fn subsystem_reset(&mut self)
-        requires { IsWithin (2 ^ 62) self.old }
-        ensures { spec.turn_of self.old event_spec.SubsystemReset ≡ Ok self.new }
+        requires { IsWithin (2 ^ 62) self.old.world }
+        ensures does { spec.turn_of self.old.world event_spec.SubsystemReset ≡ Ok self.new.world }
+        ensures room { Loses 0 self.old.room self.new.room }
     {
         self.first.clear();
         self.second.clear();
     }
 
     fn leave(&mut self) -> Result<(), Fault>
-        ensures { Gives self.old (spec.turn_of self.old event_spec.Leave) result self.new }
+        ensures gives { Gives self.old.world (spec.turn_of self.old.world event_spec.Leave) (IsFullFor self.old.world self.new.room event_spec.Leave) result self.new.world }
+        ensures room { Takes result self.old.room self.new.room }
     {
         match self.unit.own() {
             Own::Idle => Err(Fault::NotNow),
@@ -203,8 +217,9 @@ impl Parts {
     }
 
     fn ask(&mut self, path: u8) -> Result<(), Fault>
-        requires { IsWithin (2 ^ 62) self.old }
-        ensures { Gives self.old (spec.turn_of self.old (event_spec.Ask path)) result self.new }
+        requires { IsWithin (2 ^ 62) self.old.world }
+        ensures gives { Gives self.old.world (spec.turn_of self.old.world (event_spec.Ask path)) (IsFullFor self.old.world self.new.room (event_spec.Ask path)) result self.new.world }
+        ensures room { Takes result self.old.room self.new.room }
     {
         let path = path_named(path)?;
         match self.unit.own() {
@@ -221,8 +236,9 @@ impl Parts {
     }
 
     fn attention(&mut self, side: Side, path: u8) -> Result<(), Fault>
-        requires { IsWithin (2 ^ 62) self.old }
-        ensures { Gives self.old (spec.turn_of self.old (event_spec.Attention side path)) result self.new }
+        requires { IsWithin (2 ^ 62) self.old.world }
+        ensures gives { Gives self.old.world (spec.turn_of self.old.world (event_spec.Attention side path)) (IsFullFor self.old.world self.new.room (event_spec.Attention side path)) result self.new.world }
+        ensures room { Takes result self.old.room self.new.room }
     {
         let path = path_named(path)?;
         match side {
@@ -232,7 +248,8 @@ impl Parts {
     }
 
     fn notice(&mut self, side: Side, path: u8) -> Result<(), Fault>
-        ensures { Gives self.old (spec.turn_of self.old (event_spec.Notice side path)) result self.new }
+        ensures gives { Gives self.old.world (spec.turn_of self.old.world (event_spec.Notice side path)) (IsFullFor self.old.world self.new.room (event_spec.Notice side path)) result self.new.world }
+        ensures room { Takes result self.old.room self.new.room }
     {
         let path = path_named(path)?;
         match side {
@@ -242,15 +259,17 @@ impl Parts {
     }
 
     fn restart(&mut self)
-        requires { IsWithin (2 ^ 62) self.old }
-        ensures { spec.turn_of self.old event_spec.Restart ≡ Ok self.new }
+        requires { IsWithin (2 ^ 62) self.old.world }
+        ensures does { spec.turn_of self.old.world event_spec.Restart ≡ Ok self.new.world }
+        ensures room { Loses 0 self.old.room self.new.room }
     {
         self.unit.restart();
     }
 
     fn report(&mut self, report: &Report) -> Result<(), Fault>
-        requires { IsWithin (2 ^ 62) self.old }
-        ensures { Gives self.old (spec.turn_of self.old (event_spec.Report report.now)) result self.new }
+        requires { IsWithin (2 ^ 62) self.old.world }
+        ensures gives { Gives self.old.world (spec.turn_of self.old.world (event_spec.Report report.now)) (IsFullFor self.old.world self.new.room (event_spec.Report report.now)) result self.new.world }
+        ensures room { Takes result self.old.room self.new.room }
     {
         match self.unit.own() {
             Own::Idle => Err(Fault::NotNow),
@@ -267,8 +286,9 @@ impl Parts {
 
     /// One event, which is not counted.
     pub fn perform(&mut self, event: &WorldEvent) -> Result<(), Fault>
-        requires { IsWithin (2 ^ 62) self.old }
-        ensures { Gives self.old (spec.turn_of self.old event.now) result self.new }
+        requires { IsWithin (2 ^ 62) self.old.world }
+        ensures gives { Gives self.old.world (spec.turn_of self.old.world event.now) (IsFullFor self.old.world self.new.room event.now) result self.new.world }
+        ensures room { Takes result self.old.room self.new.room }
     {
         match event {
             WorldEvent::Choose {

@@ -278,3 +278,16 @@ fn a_run_passes_over_what_is_refused(rt: HostRuntime) {
     assert!(rt; is_held_by(&world, side, 5, 0));
     assert_eq!(rt; world.accepted(side), [1].as_slice());
 }
+
+#[test]
+fn more_than_a_thousand_signals_are_kept(rt: HostRuntime) {
+    let mut world = World::new(rt.alloc());
+    let side = Side::First;
+    let attention = WorldEvent::Attention { side, path: 1 };
+    for _ in 0..1500 {
+        assert!(rt; world.step(&attention).is_ok());
+    }
+    assert_eq!(rt; world.ups_len(side), 1500);
+    assert_eq!(rt; world.ups_len(Side::Second), 0);
+    assert!(rt; world.run(&[WorldEvent::Restart, attention]).is_ok());
+}

@@ -1,10 +1,11 @@
 //! A unit and both of its sides, which agree after each event.
 
-ghost use Rattle.std.specs.Prelude.{◌≡◌, ℕ, List, ◌<◌, ◌⊎◌, OnOk, OnErr, IfErr, Some, None, length, take};
+ghost use Rattle.std.specs.Prelude.{◌≡◌, ℕ, List, ◌⊎◌, Err, OnOk, OnErr, IfErr, Some, None, length, take};
 ghost use Rattle.chan_model.specs.declared.fault.Fault.TheVariants as fault_spec;
 ghost use Rattle.agree.specs.Bounds.{IsWell};
 ghost use Rattle.agree.specs.Lines.{Gives};
 ghost use Rattle.agree.specs.Promises.{AreSound, EndsByEvent, EachEnds};
+ghost use Rattle.agree.specs.Rooms.{HasEnded, IsAsBefore, IsFullFor, IsSpent, Loses, Takes, no_room};
 ghost use Rattle.agree.specs.State as state_spec;
 ghost use Rattle.agree.specs.declared.event.WorldEvent.{WorldEvent};
 ghost use Rattle.agree.specs.Turns as spec;
@@ -26,20 +27,20 @@ pub struct World {
 }
 
 impl Model for World {
-    ghost use Rattle.agree.specs.State.{WorldState};
+    ghost use Rattle.agree.specs.Rooms.{WorldAndRoom};
     ghost use Rattle.agree.specs.Bounds.{IsWell};
 
-    ghost Value = { WorldState };
+    ghost Value = { WorldAndRoom };
 
     ghost view = { λ w. w.parts };
 
-    ghost invariant = { λ w. IsWell w.parts };
+    ghost invariant = { λ w. IsWell w.parts.world };
 }
 
 impl World {
     /// Nothing has happened, and every path is up.
     pub fn new(alloc: Global) -> Self
-        ensures { result ≡ state_spec.opening_world }
+        ensures { result ≡ record { world = state_spec.opening_world; room = no_room } }
     {
         agreement();
         World {
@@ -49,47 +50,51 @@ impl World {
 
     /// The state of the hold of a side.
     pub fn hold(&self, side: Side) -> HoldState
-        ensures { result ≡ (state_spec.line_of self.now side).link.hold }
+        ensures { result ≡ (state_spec.line_of self.now.world side).link.hold }
     {
         self.parts.line(side).hold()
     }
 
     /// Whom the device is held by.
     pub fn own(&self) -> Own
-        ensures { result ≡ self.now.unit.own }
+        ensures { result ≡ self.now.world.unit.own }
     {
         self.parts.own()
     }
 
     /// The numbers that the unit accepted of a side, in their order.
     pub fn accepted(&self, side: Side) -> &[u64]
-        ensures { result.now ≡ (state_spec.line_of self.now side).link.accepted }
+        ensures { result.now ≡ (state_spec.line_of self.now.world side).link.accepted }
     {
         self.parts.line(side).accepted()
     }
 
     /// How many signals of a side may still arrive at the unit.
     pub fn downs_len(&self, side: Side) -> usize
-        ensures { result ≡ length (state_spec.line_of self.now side).link.downs }
+        ensures { result ≡ length (state_spec.line_of self.now.world side).link.downs }
     {
         self.parts.line(side).downs_len()
     }
 
     /// How many signals of a side may still arrive at the hold.
     pub fn ups_len(&self, side: Side) -> usize
-        ensures { result ≡ length (state_spec.line_of self.now side).link.ups }
+        ensures { result ≡ length (state_spec.line_of self.now.world side).link.ups }
     {
         self.parts.line(side).ups_len()
     }
 
-    /// One event. It is refused `NoMemory` also where there is no memory for what it may send; a refusal changes nothing.
+    /// One event. It is refused `NoMemory` only where the steps are used up, or a list that it may add to has no room and
+    /// can't grow; a refusal changes nothing.
     pub fn step(&mut self, event: &WorldEvent) -> Result<(), Fault>
-        ensures done { OnOk result (self.new ≡ spec.world_after self.old event.now) }
-        ensures accepted { OnOk result (spec.refusal_of self.old event.now ≡ None) }
-        ensures refused { OnErr result (self.new ≡ self.old) }
-        ensures refusal { IfErr result (λ f. (f ≡ fault_spec.NoMemory) ⊎ (spec.refusal_of self.old event.now ≡ Some f)) }
-        ensures sound { AreSound self.new }
-        ensures ends { OnOk result (EndsByEvent self.old event.now self.new) }
+        ensures done { OnOk result (self.new.world ≡ spec.world_after self.old.world event.now) }
+        ensures accepted { OnOk result (spec.refusal_of self.old.world event.now ≡ None) }
+        ensures room { Takes result self.old.room self.new.room }
+        ensures refused { OnErr result (IsAsBefore self.old self.new) }
+        ensures refusal { IfErr result (λ f. (f ≡ fault_spec.NoMemory) ⊎ (spec.refusal_of self.old.world event.now ≡ Some f)) }
+        // No room after it, so none before it: the refused event takes none.
+        ensures spent { result ≡ Err fault_spec.NoMemory → IsSpent self.new event.now }
+        ensures sound { AreSound self.new.world }
+        ensures ends { OnOk result (EndsByEvent self.old.world event.now self.new.world) }
     {
         agreement();
         resets();
@@ -98,9 +103,11 @@ impl World {
 
     /// One event, where it is accepted. Want of memory alone is refused.
     fn pass(&mut self, event: &WorldEvent) -> Result<(), Fault>
-        ensures done { OnOk result (self.new ≡ spec.world_after self.old event.now) }
-        ensures refused { OnErr result (self.new ≡ self.old) }
+        ensures done { OnOk result (self.new.world ≡ spec.world_after self.old.world event.now) }
+        ensures room { Takes result self.old.room self.new.room }
+        ensures refused { OnErr result (IsAsBefore self.old self.new) }
         ensures refusal { IfErr result (λ f. f ≡ fault_spec.NoMemory) }
+        ensures spent { OnErr result (IsSpent self.new event.now) }
     {
         match self.step(event) {
             Err(Fault::NoMemory) => Err(Fault::NoMemory),
@@ -111,13 +118,14 @@ impl World {
     /// The events in order, but for those that are refused. Want of memory alone ends a run, and what was done before it
     /// stays.
     pub fn run(&mut self, events: &[WorldEvent]) -> Result<(), Fault>
-        ensures ran { OnOk result (self.new ≡ spec.worlds_after self.old events.now) }
-        ensures ended { OnErr result ((i : ℕ) × (i < length events.now) × (self.new ≡ spec.worlds_after self.old (take i events.now))) }
+        ensures ran { OnOk result (self.new.world ≡ spec.worlds_after self.old.world events.now) }
+        ensures ended { OnErr result (HasEnded self.old events.now self.new) }
         ensures fault { IfErr result (λ f. f ≡ fault_spec.NoMemory) }
-        ensures sound_now { AreSound self.new }
+        ensures room { Loses (length events.now) self.old.room self.new.room }
+        ensures sound_now { AreSound self.new.world }
         // What holds after the whole list holds after each beginning of it.
-        ensures sound { (i : ℕ) → AreSound (spec.worlds_after self.old (take i events.now)) }
-        ensures ends { EachEnds self.old events.now }
+        ensures sound { (i : ℕ) → AreSound (spec.worlds_after self.old.world (take i events.now)) }
+        ensures ends { EachEnds self.old.world events.now }
     {
         self.is_sound();
         for event in events {
@@ -129,9 +137,9 @@ impl World {
 
     /// What is claimed holds now, and after every list of events from now on.
     fn is_sound(&self)
-        ensures now { AreSound self.now }
-        ensures later { (events : List WorldEvent) → AreSound (spec.worlds_after self.now events) }
-        ensures ends { (events : List WorldEvent) → EachEnds self.now events }
+        ensures now { AreSound self.now.world }
+        ensures later { (events : List WorldEvent) → AreSound (spec.worlds_after self.now.world events) }
+        ensures ends { (events : List WorldEvent) → EachEnds self.now.world events }
     {
         agreement();
         resets();
@@ -141,8 +149,9 @@ impl World {
 
 /// One event, with nothing known of how the sides go together.
 fn step_parts(parts: &mut Parts, event: &WorldEvent) -> Result<(), Fault>
-    requires { IsWell parts.old }
-    ensures { Gives parts.old (spec.world_turn parts.old event.now) result parts.new }
+    requires { IsWell parts.old.world }
+    ensures gives { Gives parts.old.world (spec.world_turn parts.old.world event.now) (IsFullFor parts.old.world parts.new.room event.now) result parts.new.world }
+    ensures room { Takes result parts.old.room parts.new.room }
 {
     let steps = parts.steps();
     if steps >= (1 << 62) - 1 {

@@ -7,3 +7,4 @@ mod UnitSteps
 mod Clearing
 mod Meaning
 mod StepKeeps
+mod Above

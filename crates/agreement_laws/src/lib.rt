@@ -2,9 +2,12 @@
 //! theorems over the definitions alone.
 #![tactic(auto)]
 
-ghost use Rattle.std.specs.Prelude.{◌≡◌, ℕ, Contains};
+ghost use Rattle.std.specs.Prelude.{◌≡◌, ◌<◌, ℕ, true, Contains};
 ghost use Rattle.chan_model.specs.declared.names.Side.{Side};
 ghost use Rattle.chan_model.specs.declared.signal.OnPath.{OnPath};
+ghost use Rattle.chan_model.specs.UnitTable.{side_of};
+ghost use Rattle.chan_model.specs.UnitTable as unit_table;
+ghost use Rattle.chan_model.specs.declared.signal.Down.TheVariants as down;
 ghost use Rattle.chan_model.specs.declared.signal.Up.{Up};
 ghost use Rattle.chan_model.specs.declared.signal.Up.TheVariants as up;
 ghost use Rattle.agreement_laws.specs.Links.{Links, link_of, opening};
@@ -29,4 +32,10 @@ pub fn resets()
 pub fn passing()
     ensures busy { (w : Links) (side : Side) (x : OnPath Up) (t : ℕ) → IsGood w → Contains (link_of w side).ups x → x.signal ≡ up.Busy t → IsPassed w side t }
     ensures stays { (old : Links) (cause : Cause) (new : Links) (side : Side) (t : ℕ) → IsGood old → Step old cause new → IsPassed old side t → IsPassed new side t }
+{}
+
+/// A Reset that may arrive, and that the unit would take, is above the floor of its side.
+pub fn rising()
+    ensures { (w : Links) (side : Side) (p : ℕ) (r : ℕ) (b : ℕ) → IsGood w → Contains (link_of w side).downs (record { path = p; signal = down.Reset r b }) →
+        unit_table.resets w.«unit» side r b ≡ true → (side_of w.«unit» side).floor < r }
 {}

@@ -1,5 +1,6 @@
 -- What a unit asks of its device, and what it does with the device's answer (own).
 use Rattle.std.specs.Prelude.{ℕ, ◌+◌, ◌%◌, Bool, false, not, ◌==◌, ◌&&◌, ◌||◌, nat_lt, nat_le, if◌then◌else◌, Option, None, Some, is_none, List, length}
+use Rattle.std.specs.Int.RustNames.{bit_and}
 use Rattle.scsw_irb.specs.Status.{has}
 use Rattle.scsw_irb.specs.declared.status.DeviceStatus.{DeviceStatus}
 use Rattle.chan_model.specs.declared.names.Side.{Side}
@@ -31,6 +32,9 @@ use Rattle.chan_model.specs.UnitTable.{UnitStep, changes, sends}
 -- the bits of a device status (SA22-7832, chapter 16)
 abbrev pub has_channel_end : DeviceStatus → Bool
 has_channel_end status = has status.0 0x08
+
+abbrev pub without_channel_end : DeviceStatus → DeviceStatus
+without_channel_end status = record { 0 = bit_and status.0 0xF7 }
 
 abbrev pub has_device_end : DeviceStatus → Bool
 has_device_end status = has status.0 0x04
@@ -69,12 +73,12 @@ has_moved_all x = is_over x && is_settled x
 abbrev pub is_to_supply : AtHand → Bool
 is_to_supply x = not (is_outward x.code || is_over x) && is_settled x
 
--- when a command may end with this status: at once, or where it is halted before it began; after its bytes or a halt,
--- with device end; after its channel end, with device end alone
+-- when a command may end with this status: at once, or where it is halted before it began; after its bytes, a halt or its
+-- channel end, with device end
 abbrev pub may_end : Bool → AtHand → Progress → DeviceStatus → Bool → Bool
 may_end halted x progress.New status more = not more && (is_initial status || (halted && (status.0 == 0x0C)))
 may_end halted x progress.Working status more = (halted || has_moved_all x) && has_device_end status
-may_end halted x progress.ChannelEnded status more = has_device_end status && not (has_channel_end status)
+may_end halted x progress.ChannelEnded status more = has_device_end status
 may_end halted x progress.Ended status more = false
 
 -- the Data of the last chunk of a command
@@ -109,6 +113,13 @@ abbrev pub sent_again : UnitState → ℕ → ℕ → ℕ → AtHand → Option 
 sent_again u p t c x None = None
 sent_again u p t c x (Some load) = if x.again then data_sent u p t c (record x { again = false }) load else None
 
+-- what an End shows of the status that the device gave: channel end that was sent already is left out of the later status
+abbrev pub shown_end : Progress → DeviceStatus → DeviceStatus
+shown_end progress.New status = status
+shown_end progress.Working status = status
+shown_end progress.ChannelEnded status = without_channel_end status
+shown_end progress.Ended status = status
+
 abbrev pub after_end : DeviceStatus → Progress
 after_end status = if is_last_end status then progress.Ended else progress.ChannelEnded
 
@@ -118,7 +129,7 @@ end_sent u p t x status more =
 
 -- an answer of the device, at each progress of the command at hand
 abbrev pub answer_taken : UnitState → ℕ → ℕ → ℕ → AtHand → Progress → DeviceAnswer → Option UnitStep
-answer_taken u p t c x at (Ended status more) = if may_end u.halted x at status more then end_sent u p t x status more else None
+answer_taken u p t c x at (Ended status more) = if may_end u.halted x at status more then end_sent u p t x (shown_end at status) more else None
 answer_taken u p t c x progress.New Begins = begun u p t c x
 answer_taken u p t c x progress.Working (Absorbed count) = absorbed u p t c x x.given count
 answer_taken u p t c x progress.Working (Supplied bytes) = supplied u p t c x bytes

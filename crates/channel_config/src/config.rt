@@ -1,16 +1,18 @@
 //! The configuration of a machine.
 
-ghost use Rattle.std.specs.Prelude.{◌≡◌, ◌==◌, ◌≤◌, ◌<◌, length, true, Some, None, IfSome, unwrap_or, if◌then◌else◌};
+ghost use Rattle.std.specs.Prelude.{◌≡◌, ◌≢◌, ◌==◌, ◌≤◌, ◌<◌, length, true, Some, None, Err, IfSome, OnOk, unwrap_or, if◌then◌else◌};
 ghost use Rattle.std.specs.List.{list_all};
 ghost use Rattle.channel_config.specs.Setup as spec;
 ghost use Rattle.channel_config.specs.Refusing.{Configures};
 ghost use Rattle.channel_config.specs.Numbers.{AreSmall};
+ghost use Rattle.channel_config.specs.declared.config.ConfigFault.TheVariants as config_fault;
 
 use crate::names::{SubchannelId, subchannel_named};
 use crate::parts::{ChpidList, SubchannelSetup, UnitKind};
 use chan_model::names::Side;
-use std::alloc::{AllocFailed, Global};
+use std::alloc::{AllocError, Global};
 use std::marker::Model;
+use supply::{Given, Supply, push};
 
 /// Why a line of a configuration is refused.
 #[derive(Clone, Copy, Debug, PartialEq, Eq)]
@@ -21,18 +23,19 @@ pub enum ConfigFault {
     Rule(u8),
 }
 
-impl<T: Drop> From<AllocFailed<T>> for ConfigFault {
+impl From<AllocError> for ConfigFault {
     ghost use Rattle.std.specs.Prelude.{◌≡◌};
     ghost use Rattle.channel_config.specs.declared.config.ConfigFault.TheVariants.{NoMemory};
 
     ghost from_gives = { λ _ fault. fault ≡ NoMemory };
 
-    fn from(_: AllocFailed<T>) -> Self {
+    fn from(_: AllocError) -> Self {
         ConfigFault::NoMemory
     }
 }
 
-/// The configuration of a machine, made line by line. A line that is refused changes nothing.
+/// The configuration of a machine, made line by line. A line that is refused changes nothing; want of memory is
+/// answered only where a supply refused a growth.
 #[derive(Drop)]
 pub struct Config {
     blocks: Option<u32>,
@@ -72,7 +75,8 @@ impl Config {
 
     /// The size of storage, in blocks of 4,096 bytes. Rule 1: it is given twice, or is not 10 to 1000 (hexadecimal).
     pub fn storage(&mut self, blocks: u32) -> Result<(), ConfigFault>
-        ensures { Configures self.old self.new result (spec.with_storage self.old blocks) }
+        ensures does { Configures self.old self.new result (spec.with_storage self.old blocks) }
+        ensures never { result ≢ Err config_fault.NoMemory }
     {
         if self.blocks.is_some() || blocks < 0x10 || blocks > 0x1000 {
             return Err(ConfigFault::Rule(1));
@@ -83,7 +87,8 @@ impl Config {
 
     /// How many sets of subchannels there are. Rule 8: it is given twice, or after a subchannel, or is not 1 to 4.
     pub fn sets(&mut self, sets: u32) -> Result<(), ConfigFault>
-        ensures { Configures self.old self.new result (spec.with_sets self.old sets) }
+        ensures does { Configures self.old self.new result (spec.with_sets self.old sets) }
+        ensures never { result ≢ Err config_fault.NoMemory }
     {
         if self.sets.is_some() || !self.subchannels.is_empty() || sets < 1 || sets > 4 {
             return Err(ConfigFault::Rule(8));
@@ -92,34 +97,52 @@ impl Config {
         Ok(())
     }
 
-    /// One channel path more, by its identifier. Rule 2: it is given twice, or is above FF (hexadecimal).
+    /// The same as `path_with`, in what room the allocator has.
     pub fn path(&mut self, chpid: u32) -> Result<(), ConfigFault>
         ensures { Configures self.old self.new result (spec.with_path self.old chpid) }
+    {
+        self.path_with(&mut Given { refused: false }, chpid)
+    }
+
+    /// One channel path more, by its identifier. Rule 2: it is given twice, or is above FF (hexadecimal).
+    pub fn path_with<S: Supply>(&mut self, supply: &mut S, chpid: u32) -> Result<(), ConfigFault>
+        ensures does { Configures self.old self.new result (spec.with_path self.old chpid) }
+        ensures given { OnOk result (S.refused supply.new ≡ S.refused supply.old) }
+        ensures memory { result ≡ Err config_fault.NoMemory → S.refused supply.new ≡ true }
     {
         if chpid > 0xFF || has_chpid(&self.paths, chpid) {
             return Err(ConfigFault::Rule(2));
         }
-        self.paths.push(chpid as u8)?;
+        push(supply, &mut self.paths, chpid as u8)?;
         Ok(())
     }
 
-    /// One unit more. Rule 3: its number is not the next, or is above 3FF (hexadecimal).
+    /// The same as `unit_with`, in what room the allocator has.
     pub fn unit(&mut self, number: u32, kind: UnitKind) -> Result<(), ConfigFault>
         ensures { Configures self.old self.new result (spec.with_unit self.old number kind) }
+    {
+        self.unit_with(&mut Given { refused: false }, number, kind)
+    }
+
+    /// One unit more. Rule 3: its number is not the next, or is above 3FF (hexadecimal).
+    pub fn unit_with<S: Supply>(
+        &mut self,
+        supply: &mut S,
+        number: u32,
+        kind: UnitKind,
+    ) -> Result<(), ConfigFault>
+        ensures does { Configures self.old self.new result (spec.with_unit self.old number kind) }
+        ensures given { OnOk result (S.refused supply.new ≡ S.refused supply.old) }
+        ensures memory { result ≡ Err config_fault.NoMemory → S.refused supply.new ≡ true }
     {
         if number as usize != self.units.len() || number > 0x3FF {
             return Err(ConfigFault::Rule(3));
         }
-        self.units.push(kind)?;
+        push(supply, &mut self.units, kind)?;
         Ok(())
     }
 
-    /// One subchannel more, with its device number, its unit and its channel paths by path index. `word` is the
-    /// subsystem-identification word that names it (SA22-7832, chapter 13).
-    ///
-    /// Rule 7: the word names no subchannel of a set that there is, or not the next of its set, or one above FF
-    /// (hexadecimal), or the device number is above FFFF. Rule 4: the unit is unknown, or two subchannels use it already.
-    /// Rule 5: a path is unknown or given twice, or there are none or more than eight.
+    /// The same as `subchannel_with`, in what room the allocator has.
     pub fn subchannel(
         &mut self,
         word: u32,
@@ -128,6 +151,27 @@ impl Config {
         paths: &[u32],
     ) -> Result<(), ConfigFault>
         ensures { Configures self.old self.new result (spec.with_subchannel self.old word device unit paths.now) }
+    {
+        self.subchannel_with(&mut Given { refused: false }, word, device, unit, paths)
+    }
+
+    /// One subchannel more, with its device number, its unit and its channel paths by path index. `word` is the
+    /// subsystem-identification word that names it (SA22-7832, chapter 13).
+    ///
+    /// Rule 7: the word names no subchannel of a set that there is, or not the next of its set, or one above FF
+    /// (hexadecimal), or the device number is above FFFF. Rule 4: the unit is unknown, or two subchannels use it already.
+    /// Rule 5: a path is unknown or given twice, or there are none or more than eight.
+    pub fn subchannel_with<S: Supply>(
+        &mut self,
+        supply: &mut S,
+        word: u32,
+        device: u32,
+        unit: u32,
+        paths: &[u32],
+    ) -> Result<(), ConfigFault>
+        ensures does { Configures self.old self.new result (spec.with_subchannel self.old word device unit paths.now) }
+        ensures given { OnOk result (S.refused supply.new ≡ S.refused supply.old) }
+        ensures memory { result ≡ Err config_fault.NoMemory → S.refused supply.new ≡ true }
     {
         if device > 0xFFFF {
             return Err(ConfigFault::Rule(7));
@@ -148,7 +192,7 @@ impl Config {
             side,
             paths,
         };
-        self.subchannels.push(setup)?;
+        push(supply, &mut self.subchannels, setup)?;
         Ok(())
     }
 

@@ -4,6 +4,7 @@ use crate::config::{Config, ConfigFault};
 use crate::names::{SubchannelId, subchannel_named};
 use crate::parts::UnitKind;
 use chan_model::names::Side;
+use supply::{Given, Refusing, Supply};
 
 #[test]
 fn words_name_subchannels(rt: HostRuntime) {
@@ -113,5 +114,35 @@ fn subchannels_use_what_there_is(rt: HostRuntime) {
             assert_eq!(rt; second.paths.as_slice(), [0x18, 0x10].as_slice());
         }
         others => assert_eq!(rt; others.len(), 2),
+    }
+}
+
+/// A path, a unit and a subchannel.
+fn fill<S: Supply>(config: &mut Config, supply: &mut S) -> Result<(), ConfigFault> {
+    config.path_with(supply, 0x10)?;
+    config.unit_with(supply, 0, UnitKind::Block)?;
+    config.subchannel_with(supply, 0x1_0000, 0x100, 0, &[0x10])
+}
+
+#[test]
+fn each_growth_is_refused_in_turn(rt: HostRuntime) {
+    for left in 0..5 {
+        let mut config = Config::new(rt.alloc());
+        let mut supply = Refusing {
+            left,
+            refused: false,
+        };
+        let wanted = if left < 3 {
+            Err(ConfigFault::NoMemory)
+        } else {
+            Ok(())
+        };
+        assert_eq!(rt; fill(&mut config, &mut supply), wanted);
+        assert_eq!(rt; supply.refused, left < 3);
+        assert_eq!(rt; config.paths().len(), usize::from(left > 0));
+        assert_eq!(rt; config.units().len(), usize::from(left > 1));
+        assert_eq!(rt; config.subchannels().len(), usize::from(left > 2));
+        let mut again = Config::new(rt.alloc());
+        assert_eq!(rt; fill(&mut again, &mut Given { refused: false }), Ok(()));
     }
 }

@@ -17,40 +17,39 @@ mod tests;
 use command_words::{Refused, Wanted, command_of};
 use serving::{check_script, serve_script};
 use std::alloc::Global;
-use std::io::{Read, Write};
 use std::process::ExitCode;
 use std::{env, io};
-use streams::put_all;
+use streams::{Heard, Sink, Source, Watched};
 
 /// Serves the program's words, its own name being the first of them, and answers the exit status. Words that name no command
 /// write a text, which is help where they ask for it, and end with 2 before anything is read; with 1, and no text, where there
 /// is no memory for it.
 ///
 /// 0: all was done. 1: an event was refused, or memory or the writer failed. 2: a bad line, bad words, or the reader failed.
-pub fn serve<'a, R: Read, W: Write>(
+pub fn serve<'a, R: Source, S: Sink>(
     alloc: Global,
     words: &'a [&'a str],
     reader: &mut R,
-    writer: &mut W,
+    sink: &mut S,
 ) -> u8
-    ensures served { IsServed (map (λ w. w.now) words.now) (R.remaining reader.old) (W.contents writer.old) (W.contents writer.new) result }
-    ensures unread { IsTrue (is_none (plain (map (λ w. w.now) words.now))) → R.remaining reader.new ≡ R.remaining reader.old }
+    ensures served { IsServed (map (λ w. w.now) words.now) (R.left reader.old) (S.seen sink.old) (S.seen sink.new) result }
+    ensures unread { IsTrue (is_none (plain (map (λ w. w.now) words.now))) → R.left reader.new ≡ R.left reader.old }
 {
     match command_of(alloc, words) {
-        Ok(Wanted::Run) => serve_script(alloc, reader, writer).status(),
-        Ok(Wanted::Check) => check_script(alloc, reader, writer).status(),
-        Err(refused) => show(refused, writer),
+        Ok(Wanted::Run) => serve_script(alloc, reader, sink).status(),
+        Ok(Wanted::Check) => check_script(alloc, reader, sink).status(),
+        Err(refused) => show(refused, sink),
     }
 }
 
 /// Shows the text for words that name no command.
-fn show<W: Write>(refused: Refused, writer: &mut W) -> u8
-    ensures { Shows refused (W.contents writer.old) (W.contents writer.new) result }
+fn show<S: Sink>(refused: Refused, sink: &mut S) -> u8
+    ensures { Shows refused (S.seen sink.old) (S.seen sink.new) result }
 {
     match refused {
         Refused::NoMemory => 1,
         Refused::Text(text) => {
-            let _ = put_all(writer, text.as_str().as_bytes());
+            let _ = sink.put(text.as_str().as_bytes());
             2
         }
     }
@@ -65,8 +64,8 @@ fn main(rt: HostRuntime) -> io::Result<ExitCode> {
     for word in owned.iter() {
         words.push(word.as_str())?;
     }
-    let mut reader = rt.reader();
-    let mut writer = io::writer(&rt);
-    let status = serve(rt.alloc(), words.as_slice(), &mut reader, &mut writer);
+    let mut reader = Heard::new(rt.reader());
+    let mut sink = Watched::new(io::writer(&rt));
+    let status = serve(rt.alloc(), words.as_slice(), &mut reader, &mut sink);
     Ok(ExitCode::from(status))
 }

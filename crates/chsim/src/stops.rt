@@ -128,10 +128,10 @@ fn endless(rt: &HostRuntime, turns: u32, more: &[u8]) -> Vec<u8> {
 #[test]
 fn a_program_without_end_is_cleared(rt: HostRuntime) {
     let clear: &[u8] = b"down 0 0\ncsch 0\nchoose 0\ndown 0 0\nup 0 0\ntsch 0 600\n";
-    let text = endless(&rt, 10_000, clear);
+    let text = endless(&rt, 13_200, clear);
     let (out, status) = served(&rt, "run", text.as_slice());
     let printed: &[u8] =
-        b"50014 took end\n50015 took command\n50016 cc 0\n50017 reset 0\n50018 took reset\n50019 took cleared\n50020 cc 0 00001001 00000000 00000000\n";
+        b"66014 took end\n66015 took command\n66016 cc 0\n66017 reset 0\n66018 took reset\n66019 took cleared\n66020 cc 0 00001001 00000000 00000000\n";
     assert!(rt; out.as_slice().ends_with(printed));
     assert_eq!(rt; status, 0);
 }

@@ -2,6 +2,9 @@
 
 use crate::memory::{Short, Slow};
 use crate::serve;
+use serving::{Ending, serve_script_with};
+use streams::{Heard, Watched};
+use supply::Refusing;
 
 /// One write of four bytes, from START SUBCHANNEL to TEST SUBCHANNEL.
 const WRITE: &[u8] =
@@ -78,10 +81,10 @@ pub fn joined(rt: &HostRuntime, first: &[u8], more: &[u8]) -> Vec<u8> {
 
 /// The output and the exit status of a command over a text.
 pub fn served(rt: &HostRuntime, word: &str, text: &[u8]) -> (Vec<u8>, u8) {
-    let mut reader = text;
-    let mut out = Vec::new(rt.alloc());
-    let status = serve(rt.alloc(), &["chsim", word], &mut reader, &mut out);
-    (out, status)
+    let mut reader = Heard::new(text);
+    let mut sink = Watched::new(Vec::new(rt.alloc()));
+    let status = serve(rt.alloc(), &["chsim", word], &mut reader, &mut sink);
+    (sink.writer, status)
 }
 
 #[test]
@@ -159,15 +162,16 @@ fn a_device_without_work_is_refused(rt: HostRuntime) {
 #[test]
 fn a_text_that_is_not_read_is_not_served(rt: HostRuntime) {
     for fails_at in 0..60u64 {
-        let mut reader = Slow {
+        let mut reader = Heard::new(Slow {
             rest: WRITE,
             most: 10,
             calls: 0,
             fails_at,
-        };
-        let mut out = Vec::new(rt.alloc());
-        let status = serve(rt.alloc(), &["chsim", "run"], &mut reader, &mut out);
-        if fails_at == 0 || fails_at > reader.calls {
+        });
+        let mut sink = Watched::new(Vec::new(rt.alloc()));
+        let status = serve(rt.alloc(), &["chsim", "run"], &mut reader, &mut sink);
+        let out = sink.writer;
+        if fails_at == 0 || fails_at > reader.reader.calls {
             assert_eq!(rt; out.as_slice(), WRITTEN);
             assert_eq!(rt; status, 0);
         } else {
@@ -180,14 +184,15 @@ fn a_text_that_is_not_read_is_not_served(rt: HostRuntime) {
 #[test]
 fn nothing_is_performed_after_a_write_fails(rt: HostRuntime) {
     for fails_at in 0..120u64 {
-        let mut reader = WRITE;
-        let mut out = Short {
+        let mut reader = Heard::new(WRITE);
+        let mut sink = Watched::new(Short {
             text: Vec::new(rt.alloc()),
             most: 3,
             calls: 0,
             fails_at,
-        };
-        let status = serve(rt.alloc(), &["chsim", "run"], &mut reader, &mut out);
+        });
+        let status = serve(rt.alloc(), &["chsim", "run"], &mut reader, &mut sink);
+        let out = sink.writer;
         assert!(rt; WRITTEN.starts_with(out.text.as_slice()));
         if fails_at == 0 || fails_at > out.calls {
             assert_eq!(rt; out.text.as_slice(), WRITTEN);
@@ -199,6 +204,37 @@ fn nothing_is_performed_after_a_write_fails(rt: HostRuntime) {
     }
 }
 
+/// How the write ends where so many requests for room are granted, and what it prints.
+fn served_with(rt: &HostRuntime, left: u64) -> (Vec<u8>, Ending, bool) {
+    let mut reader = Heard::new(WRITE);
+    let mut sink = Watched::new(Vec::new(rt.alloc()));
+    let mut supply = Refusing {
+        left,
+        refused: false,
+    };
+    let ending = serve_script_with(rt.alloc(), &mut supply, &mut reader, &mut sink);
+    (sink.writer, ending, supply.refused)
+}
+
+#[test]
+fn each_request_before_the_first_event_is_refused_in_turn(rt: HostRuntime) {
+    let mut refusals = 0u64;
+    for left in 0..1_000u64 {
+        let (out, ending, refused) = served_with(&rt, left);
+        if refused {
+            assert_eq!(rt; ending, Ending::NoMemory { whole: true });
+            assert_eq!(rt; out.as_slice(), b"refused 1\n".as_slice());
+            assert_eq!(rt; refusals, left);
+            refusals = left + 1;
+        } else {
+            assert_eq!(rt; ending, Ending::Done { refused: false });
+            assert_eq!(rt; out.as_slice(), WRITTEN);
+        }
+    }
+    // The text, its 22 lines, and the nine requests of the machine and its device at least.
+    assert!(rt; refusals > 32 && refusals < 1_000);
+}
+
 #[test]
 fn other_words_show_a_text(rt: HostRuntime) {
     let rows: [(&[&str], &str); 3] = [
@@ -207,11 +243,12 @@ fn other_words_show_a_text(rt: HostRuntime) {
         (&["chsim"], "error"),
     ];
     for (words, begins) in rows {
-        let mut reader = WRITE;
-        let mut out = Vec::new(rt.alloc());
-        let status = serve(rt.alloc(), words, &mut reader, &mut out);
+        let mut reader = Heard::new(WRITE);
+        let mut sink = Watched::new(Vec::new(rt.alloc()));
+        let status = serve(rt.alloc(), words, &mut reader, &mut sink);
+        let out = sink.writer;
         assert!(rt; out.as_slice().starts_with(begins.as_bytes()), "{begins}");
         assert_eq!(rt; status, 2);
-        assert_eq!(rt; reader.len(), WRITE.len());
+        assert_eq!(rt; reader.reader.len(), WRITE.len());
     }
 }

@@ -11,8 +11,8 @@ use machine_model::state::SubchannelState;
 use scsw_irb::scsw::{ActivityControl, FunctionControl, StatusControl};
 
 /// What an instruction finds of a provided subchannel.
-pub fn condition_of(state: SubchannelState) -> Condition
-    ensures { result ≡ state_spec.condition_of state }
+pub fn condition_of(state: &SubchannelState) -> Condition
+    ensures { result ≡ state_spec.condition_of state.now }
 {
     Condition {
         provided: true,

@@ -16,160 +16,129 @@ use scsw_irb::scsw::{ActivityControl, DeferredCode, FunctionControl, Scsw, Statu
 use scsw_irb::serials::Serials;
 use scsw_irb::status::{DeviceStatus, SubchannelStatus};
 
-fn started_scsw(scsw: Scsw, orb: Orb) -> Scsw
-    ensures { result ≡ start_spec.started_scsw scsw orb }
+fn start_scsw(scsw: &mut Scsw, orb: &Orb)
+    ensures { scsw.new ≡ start_spec.started_scsw scsw.old orb.now }
 {
-    Scsw {
-        key: orb.key,
-        suspend: orb.suspend,
-        deferred: DeferredCode::Zero,
-        format_one: orb.format_one,
-        prefetch: orb.prefetch,
-        initial_status: orb.initial_status,
-        address_limit: orb.address_limit,
-        suppress_suspended: orb.suppress_suspended,
-        path_not_operational: false,
-        functions: FunctionControl {
-            start: true,
-            ..FunctionControl::none()
-        },
-        activity: ActivityControl {
-            start_pending: true,
-            device_active: scsw.activity.device_active,
-            ..ActivityControl::none()
-        },
-        status: scsw.status,
-        command_address: orb.program,
-        device_status: DeviceStatus::empty(),
-        subchannel_status: SubchannelStatus::empty(),
-        count: 0,
-    }
+    scsw.key = orb.key;
+    scsw.suspend = orb.suspend;
+    scsw.deferred = DeferredCode::Zero;
+    scsw.format_one = orb.format_one;
+    scsw.prefetch = orb.prefetch;
+    scsw.initial_status = orb.initial_status;
+    scsw.address_limit = orb.address_limit;
+    scsw.suppress_suspended = orb.suppress_suspended;
+    scsw.path_not_operational = false;
+    scsw.functions = FunctionControl {
+        start: true,
+        ..FunctionControl::none()
+    };
+    scsw.activity = ActivityControl {
+        start_pending: true,
+        device_active: scsw.activity.device_active,
+        ..ActivityControl::none()
+    };
+    scsw.command_address = orb.program;
+    scsw.device_status = DeviceStatus::empty();
+    scsw.subchannel_status = SubchannelStatus::empty();
+    scsw.count = 0;
 }
 
-fn started_pmcw(pmcw: Pmcw, orb: Orb) -> Pmcw
-    ensures { result ≡ start_spec.started_pmcw pmcw orb }
+fn start_pmcw(pmcw: &mut Pmcw, orb: &Orb)
+    ensures { pmcw.new ≡ start_spec.started_pmcw pmcw.old orb.now }
 {
-    let mut started = pmcw;
-    started.parameter = orb.parameter;
-    started.logical = paths_of_mask(orb.paths);
-    started.not_operational = [false; 8];
-    started
+    pmcw.parameter = orb.parameter;
+    pmcw.logical = paths_of_mask(orb.paths);
+    pmcw.not_operational = [false; 8];
 }
 
-/// The subchannel after START SUBCHANNEL with code 0.
-pub fn started(state: SubchannelState, orb: Orb) -> SubchannelState
-    requires { state.starts < 2 ^ 63 }
-    ensures { result ≡ start_spec.started state orb }
+/// START SUBCHANNEL with code 0.
+pub fn start(state: &mut SubchannelState, orb: &Orb)
+    requires { state.old.starts < 2 ^ 63 }
+    ensures { state.new ≡ start_spec.started state.old orb.now }
 {
     let single_path = !state.pmcw.multipath;
-    SubchannelState {
-        pmcw: started_pmcw(state.pmcw, orb),
-        scsw: started_scsw(state.scsw, orb),
-        starts: state.starts + 1,
-        waiting: Some(Program {
-            start: state.starts + 1,
-            orb,
-            single_path,
-        }),
-        suspended: None,
-        ..state
-    }
+    start_pmcw(&mut state.pmcw, orb);
+    start_scsw(&mut state.scsw, orb);
+    state.starts += 1;
+    state.waiting = Some(Program {
+        start: state.starts,
+        orb: *orb,
+        single_path,
+    });
+    state.suspended = None;
 }
 
-fn found_operational(pmcw: Pmcw) -> Pmcw
-    ensures { result ≡ spec.found_operational pmcw }
+fn find_operational(pmcw: &mut Pmcw)
+    ensures { pmcw.new ≡ spec.found_operational pmcw.old }
 {
-    let mut pmcw = pmcw;
     pmcw.not_operational = [false; 8];
-    pmcw
 }
 
-fn resumed_scsw(scsw: Scsw) -> Scsw
-    ensures { result ≡ spec.resumed_scsw scsw }
+fn resume_scsw(scsw: &mut Scsw)
+    ensures { scsw.new ≡ spec.resumed_scsw scsw.old }
 {
-    let mut scsw = scsw;
     scsw.activity.resume_pending = true;
-    scsw
 }
 
-/// The subchannel after RESUME SUBCHANNEL with code 0.
-pub(crate) fn resumed(state: SubchannelState) -> SubchannelState
-    ensures { result ≡ spec.resumed state }
+/// RESUME SUBCHANNEL with code 0.
+pub(crate) fn resume(state: &mut SubchannelState)
+    ensures { state.new ≡ spec.resumed state.old }
 {
-    let pmcw = if state.scsw.activity.suspended {
-        found_operational(state.pmcw)
-    } else {
-        state.pmcw
-    };
-    SubchannelState {
-        pmcw,
-        scsw: resumed_scsw(state.scsw),
-        ..state
+    if state.scsw.activity.suspended {
+        find_operational(&mut state.pmcw);
     }
+    resume_scsw(&mut state.scsw);
 }
 
-fn halted_scsw(scsw: Scsw) -> Scsw
-    ensures { result ≡ spec.halted_scsw scsw }
-{
-    let mut scsw = scsw;
-    scsw.functions.halt = true;
-    scsw.activity.halt_pending = true;
-    scsw
-}
-
-fn halting(state: SubchannelState) -> SubchannelState
-    ensures { result ≡ spec.halting state }
-{
-    SubchannelState {
-        pmcw: found_operational(state.pmcw),
-        scsw: halted_scsw(state.scsw),
-        ..state
-    }
-}
-
-fn drops_status(scsw: Scsw) -> bool
-    ensures { result ≡ spec.drops_status scsw }
+fn drops_status(scsw: &Scsw) -> bool
+    ensures { result ≡ spec.drops_status scsw.now }
 {
     scsw.status.pending && is_intermediate_alone(scsw.status) && scsw.activity.subchannel_active
 }
 
-/// The same status word, with no status pending.
-pub fn without_status(scsw: Scsw) -> Scsw
-    ensures { result ≡ status_spec.without_status scsw }
-{
-    let mut scsw = scsw;
-    scsw.status = StatusControl::none();
-    scsw
-}
-
 /// The counts once all status that was made is cleared.
-pub fn serials_cleared(serials: Serials) -> Serials
-    ensures { result ≡ status_spec.serials_cleared serials }
+pub fn clear_serials(serials: &mut Serials)
+    ensures { serials.new ≡ status_spec.serials_cleared serials.old }
 {
-    Serials {
-        cleared: serials.made,
-        ..serials
-    }
+    serials.cleared = serials.made;
 }
 
-fn dropped(state: SubchannelState) -> SubchannelState
-    ensures { result ≡ spec.dropped state }
+fn halt_scsw(scsw: &mut Scsw)
+    ensures { scsw.new ≡ spec.halted_scsw scsw.old }
 {
-    SubchannelState {
-        scsw: without_status(state.scsw),
-        serials: serials_cleared(state.serials),
-        ..state
-    }
+    scsw.functions.halt = true;
+    scsw.activity.halt_pending = true;
 }
 
-/// The subchannel after HALT SUBCHANNEL with code 0.
-pub(crate) fn halted(state: SubchannelState) -> SubchannelState
-    ensures { result ≡ spec.halted state }
+fn halting(state: &mut SubchannelState)
+    ensures { state.new ≡ spec.halting state.old }
 {
-    if drops_status(state.scsw) {
-        dropped(halting(state))
-    } else {
-        halting(state)
+    find_operational(&mut state.pmcw);
+    halt_scsw(&mut state.scsw);
+}
+
+/// Its status is no longer pending.
+pub fn drop_scsw(scsw: &mut Scsw)
+    ensures { scsw.new ≡ status_spec.without_status scsw.old }
+{
+    scsw.status = StatusControl::none();
+}
+
+fn drop_status(state: &mut SubchannelState)
+    ensures { state.new ≡ spec.dropped state.old }
+{
+    drop_scsw(&mut state.scsw);
+    clear_serials(&mut state.serials);
+}
+
+/// HALT SUBCHANNEL with code 0.
+pub(crate) fn halt(state: &mut SubchannelState)
+    ensures { state.new ≡ spec.halted state.old }
+{
+    let drops = drops_status(&state.scsw);
+    halting(state);
+    if drops {
+        drop_status(state);
     }
 }
 
@@ -182,80 +151,65 @@ fn cleared_scsw() -> Scsw
     scsw
 }
 
-fn cleared_pmcw(pmcw: Pmcw) -> Pmcw
-    ensures { result ≡ spec.cleared_pmcw pmcw }
+fn clear_pmcw(pmcw: &mut Pmcw)
+    ensures { pmcw.new ≡ spec.cleared_pmcw pmcw.old }
 {
-    let mut pmcw = pmcw;
     pmcw.not_operational = [false; 8];
     pmcw.last_used = None;
     pmcw.operational = [true; 8];
-    pmcw
 }
 
-/// The subchannel after CLEAR SUBCHANNEL with code 0.
-pub(crate) fn cleared(state: SubchannelState) -> SubchannelState
-    requires { state.drawn < 2 ^ 63 }
-    ensures { result ≡ spec.cleared state }
+/// CLEAR SUBCHANNEL with code 0.
+pub(crate) fn clear(state: &mut SubchannelState)
+    requires { state.old.drawn < 2 ^ 63 }
+    ensures { state.new ≡ spec.cleared state.old }
 {
-    let drawn = state.drawn + 1;
+    clear_pmcw(&mut state.pmcw);
+    state.scsw = cleared_scsw();
+    clear_serials(&mut state.serials);
+    state.drawn += 1;
+    state.waiting = None;
+    state.begun = None;
+    state.suspended = None;
     let mut hold = Hold::of(state.hold);
-    hold.reset(drawn);
-    SubchannelState {
-        pmcw: cleared_pmcw(state.pmcw),
-        scsw: cleared_scsw(),
-        serials: serials_cleared(state.serials),
-        drawn,
-        waiting: None,
-        begun: None,
-        suspended: None,
-        hold: hold.state(),
-        dedicated: None,
-        ..state
-    }
+    hold.reset(state.drawn);
+    state.hold = hold.state();
+    state.dedicated = None;
 }
 
-fn cancelled_scsw(scsw: Scsw) -> Scsw
-    ensures { result ≡ spec.cancelled_scsw scsw }
+fn cancel_scsw(scsw: &mut Scsw)
+    ensures { scsw.new ≡ spec.cancelled_scsw scsw.old }
 {
-    let mut scsw = scsw;
     scsw.path_not_operational = false;
     scsw.functions = FunctionControl::none();
     scsw.activity.resume_pending = false;
     scsw.activity.start_pending = false;
     scsw.activity.suspended = false;
-    scsw
 }
 
-/// The subchannel after CANCEL SUBCHANNEL with code 0.
-pub(crate) fn cancelled(state: SubchannelState) -> SubchannelState
-    ensures { result ≡ spec.cancelled state }
+/// CANCEL SUBCHANNEL with code 0.
+pub(crate) fn cancel(state: &mut SubchannelState)
+    ensures { state.new ≡ spec.cancelled state.old }
 {
-    let mut next = state;
-    next.scsw = cancelled_scsw(state.scsw);
-    next.waiting = None;
-    next.suspended = None;
-    next
+    cancel_scsw(&mut state.scsw);
+    state.waiting = None;
+    state.suspended = None;
 }
 
-fn with_word(state: Pmcw, word: &pmcw::Pmcw) -> Pmcw
-    ensures { result ≡ block_spec.with_word state word.now }
+fn place_word(state: &mut Pmcw, word: &pmcw::Pmcw)
+    ensures { state.new ≡ block_spec.with_word state.old word.now }
 {
-    let mut pmcw = state;
-    pmcw.parameter = word.parameter;
-    pmcw.subclass = word.subclass;
-    pmcw.enabled = word.enabled;
-    pmcw.multipath = word.multipath;
-    pmcw.logical = paths_of_mask(word.logical);
-    pmcw.operational = paths_of_mask(word.operational);
-    pmcw
+    state.parameter = word.parameter;
+    state.subclass = word.subclass;
+    state.enabled = word.enabled;
+    state.multipath = word.multipath;
+    state.logical = paths_of_mask(word.logical);
+    state.operational = paths_of_mask(word.operational);
 }
 
-/// The subchannel after MODIFY SUBCHANNEL with code 0.
-pub fn placed(state: SubchannelState, given: &pmcw::Pmcw) -> SubchannelState
-    ensures { result ≡ spec.placed state given.now }
+/// MODIFY SUBCHANNEL with code 0.
+pub fn place(state: &mut SubchannelState, given: &pmcw::Pmcw)
+    ensures { state.new ≡ spec.placed state.old given.now }
 {
-    SubchannelState {
-        pmcw: with_word(state.pmcw, given),
-        ..state
-    }
+    place_word(&mut state.pmcw, given);
 }

@@ -24,9 +24,9 @@ pub fn ssch(state: &mut SubchannelState, orb: Orb) -> ConditionCode
     ensures code { result ≡ code_spec.ssch_code (condition_of state.old) }
     ensures state { state.new ≡ spec.left_by result state.old (started state.old orb) }
 {
-    let code = codes::ssch_code(codes::condition_of(*state));
+    let code = codes::ssch_code(codes::condition_of(state));
     if code == ConditionCode::Zero {
-        *state = effects::started(*state, orb);
+        effects::start(state, &orb);
     }
     code
 }
@@ -36,9 +36,9 @@ pub fn rsch(state: &mut SubchannelState) -> ConditionCode
     ensures code { result ≡ code_spec.rsch_code (condition_of state.old) }
     ensures state { state.new ≡ spec.left_by result state.old (spec.resumed state.old) }
 {
-    let code = codes::rsch_code(codes::condition_of(*state));
+    let code = codes::rsch_code(codes::condition_of(state));
     if code == ConditionCode::Zero {
-        *state = effects::resumed(*state);
+        effects::resume(state);
     }
     code
 }
@@ -48,9 +48,9 @@ pub fn hsch(state: &mut SubchannelState) -> ConditionCode
     ensures code { result ≡ code_spec.hsch_code (condition_of state.old) }
     ensures state { state.new ≡ spec.left_by result state.old (spec.halted state.old) }
 {
-    let code = codes::hsch_code(codes::condition_of(*state));
+    let code = codes::hsch_code(codes::condition_of(state));
     if code == ConditionCode::Zero {
-        *state = effects::halted(*state);
+        effects::halt(state);
     }
     code
 }
@@ -61,9 +61,9 @@ pub fn csch(state: &mut SubchannelState) -> ConditionCode
     ensures code { result ≡ code_spec.csch_code (condition_of state.old) }
     ensures state { state.new ≡ spec.left_by result state.old (spec.cleared state.old) }
 {
-    let code = codes::csch_code(codes::condition_of(*state));
+    let code = codes::csch_code(codes::condition_of(state));
     if code == ConditionCode::Zero {
-        *state = effects::cleared(*state);
+        effects::clear(state);
     }
     code
 }
@@ -73,9 +73,9 @@ pub fn xsch(state: &mut SubchannelState) -> ConditionCode
     ensures code { result ≡ code_spec.xsch_code (condition_of state.old) }
     ensures state { state.new ≡ spec.left_by result state.old (spec.cancelled state.old) }
 {
-    let code = codes::xsch_code(codes::condition_of(*state));
+    let code = codes::xsch_code(codes::condition_of(state));
     if code == ConditionCode::Zero {
-        *state = effects::cancelled(*state);
+        effects::cancel(state);
     }
     code
 }
@@ -85,9 +85,9 @@ pub fn msch(state: &mut SubchannelState, given: &pmcw::Pmcw) -> ConditionCode
     ensures code { result ≡ code_spec.msch_code (condition_of state.old) }
     ensures state { state.new ≡ spec.left_by result state.old (spec.placed state.old given.now) }
 {
-    let code = codes::msch_code(codes::condition_of(*state));
+    let code = codes::msch_code(codes::condition_of(state));
     if code == ConditionCode::Zero {
-        *state = effects::placed(*state, given);
+        effects::place(state, given);
     }
     code
 }

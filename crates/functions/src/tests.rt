@@ -60,7 +60,7 @@ fn is_same_words(state: &SubchannelState, words: [u32; 3]) -> bool {
 
 /// What an instruction finds of an enabled subchannel whose status word begins so.
 fn found(word: u32) -> Condition {
-    condition_of(subchannel([word, 0, 0]))
+    condition_of(&subchannel([word, 0, 0]))
 }
 
 fn disabled(word: u32) -> Condition {

@@ -8,14 +8,14 @@ ghost use Rattle.schib_block.specs.Modify.{IsAllowed};
 use chan_model::paths::mask_of_path;
 use chan_model::reply::{Answer, ConditionCode, Reply};
 use functions::codes::{condition_of, msch_code, ssch_code, tsch_code};
-use functions::effects::started;
+use functions::effects::{place, start};
+use functions::law::modified;
 use functions::{csch, hsch, rsch, xsch};
 use machine_model::state::{Subchannel, SubchannelState};
 use orb_block::Orb;
 use schib_block::pmcw::Pmcw;
 use scsw_irb::irb::Irb;
 use status::tsch;
-use subchannel_blocks::modified_state;
 
 /// START SUBCHANNEL with an allowed ORB.
 pub fn start_sub(sub: &mut Subchannel, orb: Orb) -> Reply
@@ -23,9 +23,9 @@ pub fn start_sub(sub: &mut Subchannel, orb: Orb) -> Reply
     ensures { spec.start_sub sub.old orb ≡ spec.leaves result sub.new }
 {
     let serials = sub.state.serials;
-    match ssch_code(condition_of(sub.state)) {
+    match ssch_code(condition_of(&sub.state)) {
         ConditionCode::Zero => {
-            sub.state = started(sub.state, orb);
+            start(&mut sub.state, &orb);
             Reply::Code(Answer::Zero(serials))
         }
         ConditionCode::One => Reply::Code(Answer::One(serials)),
@@ -38,7 +38,7 @@ pub fn start_sub(sub: &mut Subchannel, orb: Orb) -> Reply
 pub fn test_code_of(sub: &Subchannel) -> ConditionCode
     ensures { result ≡ spec.test_code_of sub.now }
 {
-    tsch_code(condition_of(sub.state))
+    tsch_code(condition_of(&sub.state))
 }
 
 /// TEST SUBCHANNEL, but for the IRB.
@@ -80,9 +80,10 @@ pub fn modify_sub(sub: &mut Subchannel, given: &Pmcw) -> Reply
     ensures { spec.modify_sub sub.old given.now ≡ spec.leaves result sub.new }
 {
     let serials = sub.state.serials;
-    match msch_code(condition_of(sub.state)) {
+    match msch_code(condition_of(&sub.state)) {
         ConditionCode::Zero => {
-            sub.state = modified_state(sub, given);
+            modified();
+            place(&mut sub.state, given);
             Reply::Code(Answer::Zero(serials))
         }
         ConditionCode::One => Reply::Code(Answer::One(serials)),

@@ -12,10 +12,11 @@ use Rattle.chan_model.specs.declared.signal.Up.{Up}
 use Rattle.chan_model.specs.declared.signal.Up.TheVariants as up
 use Rattle.chan_model.specs.declared.unit_state.UnitState.{UnitState}
 use Rattle.wires.specs.Queues.{queue, taken}
-use Rattle.agreement_laws.specs.Claims.{IsSound, IsPassed}
+use Rattle.agreement_laws.specs.Claims.{IsSound, IsPassed, EndsByReset, IsResetDue}
 use Rattle.agreement_laws.specs.Links.{Link, Links, link_of, Carries, with_accepted}
 use Rattle.agreement_laws.specs.Moving.{HoldAct, HoldActed, still, hold_acts, LinkStep, Cause, Hold_acts, IsHoldGiven, Step}
 use Rattle.agreement_laws.specs.Invariant.{IsGood}
+use Rattle.step_laws.specs.Walks.{AreWalks}
 use Rattle.machine_model.specs.declared.state.Subchannel.{Subchannel}
 use Rattle.machine_model.specs.declared.state.SubchannelState.{SubchannelState}
 use Rattle.machine_model.specs.Steps.{with_any_sent}
@@ -51,7 +52,7 @@ covers-wider l m queues w c p =
     All-weaker (λ x. Contains l (record { path = p; signal = x })) (λ x. Contains m (record { path = p; signal = x }))
     (λ x h. w (record { path = p; signal = x }) h) (queue queues p) (c p)
 
-queue-set : {A : Type 0} (P : ℕ → A → Type 0) (queues : List (List A)) (k : ℕ) (xs : List A) → ((p : ℕ) → All (P p) (queue queues p)) → All (P k) xs →
+pub queue-set : {A : Type 0} (P : ℕ → A → Type 0) (queues : List (List A)) (k : ℕ) (xs : List A) → ((p : ℕ) → All (P p) (queue queues p)) → All (P k) xs →
     (p : ℕ) → All (P p) (queue (slice_set queues k xs) p)
 queue-set P [] k xs all h p = all p
 queue-set P (ys ∷ queues) zero xs all h zero = h
@@ -118,26 +119,42 @@ links_of Second u l other = record { «unit» = u; first = other; second = l }
 
 -- each step keeps what holds of a unit and its links
 abbrev pub Keeps : Type 0
-Keeps = (old : Links) (cause : Cause) (new : Links) → IsGood old → Step old cause new → IsGood new
+Keeps = (old : Links) (cause : Cause) (new : Links) → IsGood old → Step old cause new → IsGood new × ((j : Side) → EndsByReset old cause new j)
 
 -- what both sides are sound by; a Busy that may arrive is passed, and what is passed stays so
 pub record AreLaws : Type 0 where
+  pub walks : AreWalks
   pub keeps : Keeps
   pub means : (w : Links) (side : Side) → IsGood w → IsSound w side
   pub busy : (w : Links) (side : Side) (x : OnPath Up) (t : ℕ) → IsGood w → Contains (link_of w side).ups x → x.signal ≡ up.Busy t → IsPassed w side t
   pub stays : (old : Links) (cause : Cause) (new : Links) (side : Side) (t : ℕ) → IsGood old → Step old cause new → IsPassed old side t → IsPassed new side t
 
 -- what holds with a link holds with another, by acts of the hold
+pub record IsLed (v w : Links) : Type 0 where
+  pub good : IsGood w
+  pub due : (j : Side) → IsResetDue v j → IsResetDue w j
+
+not-taken : (v w : Links) (k : Side) (act : HoldAct) → IsGood w × ((j : Side) → EndsByReset v (Hold_acts k act) w j) → IsLed v w
+not-taken v w k act x =
+    record {
+      good = x.0;
+      due = λ j d.
+          elim (x.1 j d) [
+            | inl y ↦ y
+            | inr p ↦ absurd p.0
+          ];
+    }
+
 abbrev pub Leads : Link → Link → Type 0
-Leads l m = (side : Side) (u : UnitState) (other : Link) → IsGood (links_of side u l other) → IsGood (links_of side u m other)
+Leads l m = (side : Side) (u : UnitState) (other : Link) → IsGood (links_of side u l other) → IsLed (links_of side u l other) (links_of side u m other)
 
 act-leads : Keeps → (l : Link) (act : HoldAct) → IsHoldGiven l act → Leads l (held l (hold_acts l.drawn l.hold act))
 act-leads keeps l act given First u other g =
-    keeps _ (Hold_acts First act) (links_of First u (held l (hold_acts l.drawn l.hold act)) other) g
-    (record { given = given; «unit» = refl; first = held-step l (hold_acts l.drawn l.hold act); second = told-step other None })
+    not-taken _ _ First act (keeps _ (Hold_acts First act) (links_of First u (held l (hold_acts l.drawn l.hold act)) other) g
+    (record { given = given; «unit» = refl; first = held-step l (hold_acts l.drawn l.hold act); second = told-step other None }))
 act-leads keeps l act given Second u other g =
-    keeps _ (Hold_acts Second act) (links_of Second u (held l (hold_acts l.drawn l.hold act)) other) g
-    (record { given = given; «unit» = refl; first = told-step other None; second = held-step l (hold_acts l.drawn l.hold act) })
+    not-taken _ _ Second act (keeps _ (Hold_acts Second act) (links_of Second u (held l (hold_acts l.drawn l.hold act)) other) g
+    (record { given = given; «unit» = refl; first = told-step other None; second = held-step l (hold_acts l.drawn l.hold act) }))
 
 -- the counter and the hold of a link
 pub record IsAt (l : Link) (n : ℕ) (h : HoldState) : Type 0 where
@@ -155,7 +172,7 @@ pub record Reaches (l : Link) (acted : HoldActed) : Type 0 where
   pub accepted : link.accepted ≡ l.accepted
 
 pub stays : (l : Link) (n : ℕ) (h : HoldState) → IsAt l n h → Reaches l (still n h)
-stays l n h at = record { link = l; leads = λ side u other g. g; at = at; downs = λ x c. c; sent = tt; ups = λ x c. c; accepted = refl }
+stays l n h at = record { link = l; leads = λ side u other g. record { good = g; due = λ j d. d }; at = at; downs = λ x c. c; sent = tt; ups = λ x c. c; accepted = refl }
 
 -- one act
 acts-at : (l : Link) (n : ℕ) (h : HoldState) (act : HoldAct) → IsAt l n h → hold_acts l.drawn l.hold act ≡ hold_acts n h act
@@ -180,7 +197,10 @@ chain l first second a f =
     let b : Reaches a.link second = f a.link a.at in
     record {
       link = b.link;
-      leads = λ side u other g. b.leads side u other (a.leads side u other g);
+      leads = λ side u other g.
+          let x = a.leads side u other g in
+          let y = b.leads side u other x.good in
+          record { good = y.good; due = λ j d. y.due j (x.due j d) };
       at = b.at;
       downs = λ x c. b.downs x (a.downs x c);
       sent = b.sent;

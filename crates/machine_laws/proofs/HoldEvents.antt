@@ -1,7 +1,6 @@
 -- What a subchannel does, of itself or with a signal that came up, is acts of its hold.
-use Rattle.std.proofs.Common.{◌≡◌, refl, sym, ◌∙◌, ap, ℕ, ◌+◌, Bool, true, false, ◌==◌, nat_lt, length, Option, None, Some, Result, List, arith}
+use Rattle.std.proofs.Common.{◌≡◌, refl, sym, ◌∙◌, ap, ℕ, ◌+◌, Bool, true, false, not, ◌==◌, ◌&&◌, nat_lt, length, Option, None, Some, Result}
 use Rattle.std.specs.Prelude.{if◌then◌else◌, slice_get, IfOk, Contains}
-use Rattle.std.proofs.lemmas.Bool.{ltb-true}
 use Rattle.storage_keys.specs.Storage.{Contents}
 use Rattle.chan_model.specs.declared.hold_state.HoldPhase.{HoldPhase}
 use Rattle.chan_model.specs.declared.hold_state.HoldPhase.TheVariants as hold
@@ -18,7 +17,7 @@ use Rattle.chan_model.specs.UnitReports.{is_last_end, is_outward, has_device_end
 use Rattle.wires.specs.Queues.{queue}
 use Rattle.scsw_irb.specs.declared.status.DeviceStatus.{DeviceStatus}
 use Rattle.agreement_laws.specs.Links.{Link}
-use Rattle.agreement_laws.specs.Moving.{Offers, Sends_reset, Lets_go, Is_reset, Takes, Sends, HoldActed, still, stepped, offered, hold_acts}
+use Rattle.agreement_laws.specs.Moving.{reset_again, Offers, Sends_reset, Lets_go, Is_reset, Takes, Sends, HoldActed, still, stepped, offered, hold_acts}
 use Rattle.machine_model.specs.declared.state.Begun.{Begun}
 use Rattle.channel_program.specs.Walks.{Place}
 use Rattle.machine_model.specs.declared.state.Chosen.{Chosen}
@@ -41,18 +40,16 @@ use Rattle.machine_model.specs.Causes.{with_cause}
 use Rattle.machine_model.specs.Choosing.{IsFitFor, reset_sent, halt_sent}
 use Rattle.machine_model.specs.Statuses.{has_status_modifier, chains_command}
 use Rattle.machine_model.specs.Steps.{SubTurn, UpTurn, choose_sub, is_full, finds_full, up_front, up_sub}
-use Rattle.machine_model.specs.Taking.{Met, meets, ignoring, quietly, sending, let_go, by_hold, moving_on, giving, give_next, answering, take_in, bytes_of, standing, goes_ahead, with_path, taking_over, interrupted, suspending, beginning, begin_standing, halt_done, accept, move_bytes, move_data, with_end, chaining, chain_with, goes_on, end_shown_at, stops_at, command_ended, end_of, reset_taken, takes_up}
-use Rattle.machine_laws.proofs.SameHold.{IsSameHold, same-hold, same-then, cause-same, interrupted-same, moving-same, suspending-same, halt_done-same, clear_done-same}
+use Rattle.machine_model.specs.Taking.{Met, with_known, meets, ignoring, quietly, sending, let_go, by_hold, moving_on, giving, give_next, answering, take_in, bytes_of, standing, goes_ahead, with_path, taking_over, interrupted, suspending, beginning, begin_standing, halt_done, accept, move_bytes, move_data, with_end, chaining, chain_with, goes_on, end_shown_at, stops_at, command_ended, end_of, reset_taken, may_attend, with_attention, takes_up}
+use Rattle.machine_model.specs.Losing.{has_any, is_offered_or_held, reset_for}
+use Rattle.machine_laws.proofs.Resetting.{reset-acted}
+use Rattle.machine_laws.proofs.SameHold.{IsSameHold, same-hold, same-then, cause-same, interrupted-same, moving-same, suspending-same, halt_done-same, clear_done-same, attention-same}
 use Rattle.machine_laws.proofs.Growth.{covers-taken, covers-first, IsLink, Keeps, IsAt, Reaches, stays, acts, chain, IsReached, reached}
-
--- no unit restarted: no Notice tells of a restart
-abbrev pub IsTame : List (OnPath Up) → Type 0
-IsTame ups = (p b : ℕ) → Contains ups (record { path = p; signal = up.Notice b }) → b ≡ 0
 
 -- what a subchannel does is acts of its hold, and left it so set up
 pub record IsOfHold (sub new : Subchannel) : Type 0 where
   pub setup : new.setup ≡ sub.setup
-  pub reaches : (l : Link) → IsTame l.ups → IsLink sub l → IsReached l new
+  pub reaches : (l : Link) → IsLink sub l → IsReached l new
 
 abbrev acted_of : UpStep → HoldActed
 acted_of step = record { drawn = step.state.drawn; hold = step.state.hold; sent = step.came.sent }
@@ -93,7 +90,7 @@ pub kept-turns : (sub : Subchannel) (s : SubchannelState) → sub.state.drawn �
 kept-turns sub s n h =
     record {
       setup = refl;
-      reaches = λ l tame k. reached sub l s None sub.wires.up k (stays l s.drawn s.hold (record { drawn = k.drawn ∙ n; hold = k.hold ∙ h })) (λ m c. c);
+      reaches = λ l k. reached sub l s None sub.wires.up k (stays l s.drawn s.hold (record { drawn = k.drawn ∙ n; hold = k.hold ∙ h })) (λ m c. c);
     }
 
 pub same-turns : (sub : Subchannel) (s : SubchannelState) → IsSameHold sub.state s → IsOfHold sub (record sub { state = s })
@@ -114,22 +111,25 @@ reset-leaves : (l : Link) (s : SubchannelState) (step : Option HoldStep) → Lea
 reset-leaves l s None r = r
 reset-leaves l s (Some step) r = reaches-same l (record s { hold = step.state }) _ step.sent (clear_done-same (record s { hold = step.state })) r
 
--- Notice: a count that is not above the known one
-notice-leaves : (l : Link) (s : SubchannelState) (p b : ℕ) (more : Bool) → IsOf l s → nat_lt s.hold.known b ≡ more → b ≡ 0 →
-    Leaves l (by_hold s (if more then Some (record { state = record s.hold { known = b }; sent = None }) else None))
-notice-leaves l s p b true at e z = absurd (omega (arith, ltb-true s.hold.known b e, z))
-notice-leaves l s p b false at e z = ignored l s at
-
 module _ (keeps : Keeps) where
   let_go-leaves : (l : Link) (n : ℕ) (h : HoldState) → IsAt l n h →
       Reaches l (record { drawn = n; hold = hold_after h (letting_go h h.phase); sent = (came_of (letting_go h h.phase)).sent })
   let_go-leaves l n h at = acts keeps l n h Lets_go _ tt at (stepped-is n h (letting_go h h.phase))
 
-  by_hold-leaves : (l : Link) (s : SubchannelState) (p : ℕ) (x : Up) → Contains l.ups (record { path = p; signal = x }) → IsOf l s →
-      hold_acts s.drawn s.hold (Takes (record { path = p; signal = x }) false) ≡ stepped s.drawn s.hold (hold_takes s.hold p x false) →
-      Leaves l (by_hold s (hold_takes s.hold p x false))
-  by_hold-leaves l s p x c at e =
-      acts keeps l s.drawn s.hold (Takes (record { path = p; signal = x }) false) _ c at (e ∙ stepped-is s.drawn s.hold (hold_takes s.hold p x false))
+  by_hold-leaves : (returns : Bool) → (l : Link) (s : SubchannelState) (p : ℕ) (x : Up) → Contains l.ups (record { path = p; signal = x }) → IsOf l s →
+      hold_acts s.drawn s.hold (Takes (record { path = p; signal = x }) returns) ≡ stepped s.drawn s.hold (hold_takes s.hold p x returns) →
+      Leaves l (by_hold s (hold_takes s.hold p x returns))
+  by_hold-leaves returns l s p x c at e =
+      acts keeps l s.drawn s.hold (Takes (record { path = p; signal = x }) returns) _ c at (e ∙ stepped-is s.drawn s.hold (hold_takes s.hold p x returns))
+
+  -- Notice
+  notice-leaves : (l : Link) (s : SubchannelState) (p b : ℕ) (more : Bool) → Contains l.ups (record { path = p; signal = up.Notice b }) → IsOf l s → nat_lt s.hold.known b ≡ more →
+      Leaves l (if more then quietly (reset_for (with_known s b)) else ignoring s)
+  notice-leaves l s p b true c at e =
+      acts keeps l s.drawn s.hold (Takes (record { path = p; signal = up.Notice b }) false) _ c at
+      (ap (λ (m : Bool). if m then reset_again s.drawn (record s.hold { known = b }) else still s.drawn s.hold) e
+      ∙ reset-acted (with_known s b) (is_offered_or_held s.hold.phase && has_any s.waiting s.begun s.suspended))
+  notice-leaves l s p b false c at e = ignored l s at
 
   let-leaves : (l : Link) (s x : SubchannelState) → IsSameHold s x → IsOf l s → Leaves l (let_go x)
   let-leaves l s x h at = let_go-leaves l x.drawn x.hold (still-of l s x h at)
@@ -228,39 +228,43 @@ module _ (keeps : Keeps) where
       (stops-leaves l s b p status more at))
       (ignored l s at)
 
-  takes-leaves : (storage : Contents) (l : Link) (s : SubchannelState) (p : ℕ) (x : Up) → IsTame l.ups → Contains l.ups (record { path = p; signal = x }) → IsOf l s →
-      Leaves l (takes_up storage s p x).step
-  takes-leaves storage l s p (up.Accept t) tame c at = accept-leaves storage l s s.hold s.hold.phase p t (goes_ahead s) c at
-  takes-leaves storage l s p (up.Busy t) tame c at = by_hold-leaves l s p (up.Busy t) c at refl
-  takes-leaves storage l s p (up.Leave t d) tame c at = by_hold-leaves l s p (up.Leave t d) c at refl
-  takes-leaves storage l s p (up.Back t d) tame c at = by_hold-leaves l s p (up.Back t d) c at refl
-  takes-leaves storage l s p (up.Data t d n seq load) tame c at =
+  takes-leaves : (returns : Bool) → (storage : Contents) (l : Link) (s : SubchannelState) (p : ℕ) (x : Up) → Contains l.ups (record { path = p; signal = x }) → IsOf l s →
+      Leaves l (takes_up returns storage s p x).step
+  takes-leaves returns storage l s p (up.Accept t) c at = accept-leaves storage l s s.hold s.hold.phase p t (goes_ahead s) c at
+  takes-leaves returns storage l s p (up.Busy t) c at = by_hold-leaves false l s p (up.Busy t) c at refl
+  takes-leaves returns storage l s p (up.Leave t d) c at = by_hold-leaves false l s p (up.Leave t d) c at refl
+  takes-leaves returns storage l s p (up.Back t d) c at = by_hold-leaves returns l s p (up.Back t d) c at refl
+  takes-leaves returns storage l s p (up.Data t d n seq load) c at =
       if-meets l (is_connected s.hold.phase p t d) (move_data storage s s.begun p t d n seq load) (meets storage (ignoring s))
       (move-leaves storage l s s.begun p t d n seq load at) (ignored l s at)
-  takes-leaves storage l s p (up.End t n status more) tame c at =
+  takes-leaves returns storage l s p (up.End t n status more) c at =
       if-leaves l (is_on s.hold.phase t) _ (ignoring s) (end_of-leaves storage l s s.begun p t n status more at) (ignored l s at)
-  takes-leaves storage l s p (up.Released t) tame c at = by_hold-leaves l s p (up.Released t) c at refl
-  takes-leaves storage l s p (up.Cleared r) tame c at = reset-leaves l s (hold_takes s.hold p (up.Cleared r) false) (by_hold-leaves l s p (up.Cleared r) c at refl)
-  takes-leaves storage l s p (up.Notice b) tame c at = notice-leaves l s p b (nat_lt s.hold.known b) at refl (tame p b c)
-  takes-leaves storage l s p (up.Attn a status) tame c at = by_hold-leaves l s p (up.Attn a status) c at refl
+  takes-leaves returns storage l s p (up.Released t) c at = by_hold-leaves false l s p (up.Released t) c at refl
+  takes-leaves returns storage l s p (up.Cleared r) c at = reset-leaves l s (hold_takes s.hold p (up.Cleared r) false) (by_hold-leaves false l s p (up.Cleared r) c at refl)
+  takes-leaves returns storage l s p (up.Notice b) c at = notice-leaves l s p b (nat_lt s.hold.known b) c at refl
+  takes-leaves returns storage l s p (up.Attn a status) c at =
+      let step : Option HoldStep = hold_takes s.hold p (up.Attn a status) (may_attend s) in
+      let shows : Bool = (came_of step).taken && not (status.0 == 0x20) in
+      reaches-same l (by_hold s step).state (with_attention (by_hold s step).state shows) (came_of step).sent (attention-same (by_hold s step).state shows)
+      (by_hold-leaves (may_attend s) l s p (up.Attn a status) c at refl)
 
-  up_front-turns : (storage : Contents) (sub : Subchannel) (path : ℕ) (front : Option Up) → slice_get (queue sub.wires.up path) 0 ≡ front →
-      IsUpTurn sub (up_front storage sub path front)
-  up_front-turns storage sub path None e = tt
-  up_front-turns storage sub path (Some x) e =
-      if-turns (λ t. IsOfHold sub t.sub) (finds_full sub.wires.down (takes_up storage sub.state path x).step.came.sent) _ _ tt
+  up_front-turns : (returns : Bool) → (storage : Contents) (sub : Subchannel) (path : ℕ) (front : Option Up) → slice_get (queue sub.wires.up path) 0 ≡ front →
+      IsUpTurn sub (up_front returns storage sub path front)
+  up_front-turns returns storage sub path None e = tt
+  up_front-turns returns storage sub path (Some x) e =
+      if-turns (λ t. IsOfHold sub t.sub) (finds_full sub.wires.down (takes_up returns storage sub.state path x).step.came.sent) _ _ tt
       (record {
         setup = refl;
-        reaches = λ l tame k.
-            reached sub l (takes_up storage sub.state path x).step.state (takes_up storage sub.state path x).step.came.sent _ k
-            (takes-leaves storage l sub.state path x tame (covers-first l.ups sub.wires.up path x k.ups e) (record { drawn = k.drawn; hold = k.hold }))
+        reaches = λ l k.
+            reached sub l (takes_up returns storage sub.state path x).step.state (takes_up returns storage sub.state path x).step.came.sent _ k
+            (takes-leaves returns storage l sub.state path x (covers-first l.ups sub.wires.up path x k.ups e) (record { drawn = k.drawn; hold = k.hold }))
             (λ m c. covers-taken m sub.wires.up path c);
       })
 
-  pub up-turns : (storage : Contents) (sub : Subchannel) (path : ℕ) → IsUpTurn sub (up_sub storage sub path)
-  up-turns storage sub path =
-      if-turns (λ t. IsOfHold sub t.sub) (nat_lt path (length sub.setup.paths)) (up_front storage sub path (slice_get (queue sub.wires.up path) 0)) _
-      (up_front-turns storage sub path (slice_get (queue sub.wires.up path) 0) refl) tt
+  pub up-turns : (returns : Bool) → (storage : Contents) (sub : Subchannel) (path : ℕ) → IsUpTurn sub (up_sub returns storage sub path)
+  up-turns returns storage sub path =
+      if-turns (λ t. IsOfHold sub t.sub) (nat_lt path (length sub.setup.paths)) (up_front returns storage sub path (slice_get (queue sub.wires.up path) 0)) _
+      (up_front-turns returns storage sub path (slice_get (queue sub.wires.up path) 0) refl) tt
 
   -- Choose
   pub choose-turns : (sub : Subchannel) (c : Chosen) → IsFitFor c sub.state.hold → IsSubTurn sub (choose_sub sub c)
@@ -269,7 +273,7 @@ module _ (keeps : Keeps) where
       if-turns (λ t. IsOfHold sub t.sub) (is_full sub.wires.down path) _ _ tt
       (record {
         setup = refl;
-        reaches = λ l tame k.
+        reaches = λ l k.
             reached sub l (reset_sent sub.state path) (Some (record { path = path; signal = down.Reset r sub.state.hold.known })) sub.wires.up k
             (acts keeps l sub.state.drawn sub.state.hold (Sends_reset path) _ tt (record { drawn = k.drawn; hold = k.hold })
             (stepped-is sub.state.drawn sub.state.hold (sending_reset sub.state.hold sub.state.hold.phase path)
@@ -281,7 +285,7 @@ module _ (keeps : Keeps) where
       if-turns (λ t. IsOfHold sub t.sub) (is_full sub.wires.down path) _ _ tt
       (record {
         setup = refl;
-        reaches = λ l tame k.
+        reaches = λ l k.
             reached sub l (halt_sent sub.state) (Some (record { path = path; signal = down.Halt t })) sub.wires.up k
             (acts keeps l sub.state.drawn sub.state.hold (Sends _) _ tt (record { drawn = k.drawn; hold = k.hold }) refl)
             (λ m c. c);
@@ -292,7 +296,7 @@ module _ (keeps : Keeps) where
       if-turns (λ t. IsOfHold sub t.sub) (is_full sub.wires.down path) _ _ tt
       (record {
         setup = refl;
-        reaches = λ l tame k.
+        reaches = λ l k.
             reached sub l _ (Some (record { path = path; signal = down.Select (sub.state.drawn + 1) })) sub.wires.up k
             (acts keeps l sub.state.drawn sub.state.hold (Offers path c.program.single_path) _ tt (record { drawn = k.drawn; hold = k.hold })
             (ap (λ (phase : HoldPhase). offered sub.state.drawn sub.state.hold phase path c.program.single_path) fit))
@@ -304,7 +308,7 @@ module _ (keeps : Keeps) where
   clear-turns sub =
       record {
         setup = refl;
-        reaches = λ l tame k.
+        reaches = λ l k.
             reached sub l (cleared sub.state) None sub.wires.up k
             (acts keeps l sub.state.drawn sub.state.hold Is_reset _ tt (record { drawn = k.drawn; hold = k.hold }) refl) (λ m c. c);
       }

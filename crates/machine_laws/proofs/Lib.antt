@@ -1,5 +1,4 @@
 mod Sound
-mod Walk
 mod Moves
 mod RunSound
 mod RunSerials
@@ -15,7 +14,10 @@ mod Linked
 mod RunAgrees
 mod Prefixes
 mod Waits
+mod Resetting
 mod WaitsUp
 mod Pairs
 mod Tales
 mod TaleEvents
+mod Swept
+mod Ended

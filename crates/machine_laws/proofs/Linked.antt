@@ -17,7 +17,7 @@ use Rattle.wires.specs.Queues.{queue}
 use Rattle.agreement_laws.specs.Links.{Links, link_of, opening}
 use Rattle.agreement_laws.specs.Invariant.{IsGood}
 use Rattle.machine_model.specs.declared.state.Subchannel.{Subchannel}
-use Rattle.machine_model.specs.State.{State, opening_of, opened, idle_of}
+use Rattle.machine_model.specs.State.{opening_of, opened, idle_of}
 use Rattle.machine_laws.specs.Beginnings.{Starts, no_starts}
 use Rattle.machine_laws.proofs.Places.{set-get, map-get, one-place}
 use Rattle.machine_laws.proofs.Growth.{Covers, IsLink, link-wider, AreLaws}
@@ -26,12 +26,11 @@ use Rattle.machine_laws.proofs.TaleEvents.{Tells}
 use Rattle.machine_laws.proofs.Tales.{IsTold, told-opened, told-wider}
 use Rattle.machine_laws.proofs.UnitEvents.{Follows, IsKept, hold-kept}
 
--- the links of the unit at a place, which never restarted, and what is told of one subchannel
+-- the links of the unit at a place, and what is told of one subchannel
 pub record IsLinked (subs : List Subchannel) (at : ℕ) (u : UnitState) (which : Option ℕ) (k : Starts) : Type 0 where
   pub links : Links
   pub good : IsGood links
   pub «unit» : links.«unit» ≡ u
-  pub restarts : u.restarts ≡ 0
   pub stand : (place : ℕ) (sub : Subchannel) → slice_get subs place ≡ Some sub → sub.setup.«unit» ≡ at → IsLink sub (link_of links sub.setup.side)
   pub told : (place : ℕ) (sub : Subchannel) → slice_get subs place ≡ Some sub → sub.setup.«unit» ≡ at → which ≡ Some place → IsTold k sub.state links sub.setup.side
 
@@ -73,7 +72,6 @@ other-linked subs place sub new at u which k mine next there s n about l =
       links = l.links;
       good = l.good;
       «unit» = l.«unit»;
-      restarts = l.restarts;
       stand = λ i x e h.
           elim (set-get subs place new i x e) [
             | inl p ↦ absurd (n (sym h ∙ (ap (λ (y : Subchannel). y.setup.«unit») p.1 ∙ ap (λ (z : SubchannelSetup). z.«unit») s)))
@@ -91,16 +89,15 @@ not-true : (b : Bool) → (b ≡ true → ⊥) → b ≡ false
 not-true true n = absurd (n refl)
 not-true false n = refl
 
-here-linked : (subs : List Subchannel) (place : ℕ) (sub new : Subchannel) (at : ℕ) (u v : UnitState) (which : Option ℕ) (k mine next : Starts) →
-    slice_get subs place ≡ Some sub → AreApart subs → at ≡ sub.setup.«unit» → IsKept sub new u v k mine → IsAbout which place k mine next → IsLinked subs at u which k →
+here-linked : (T : Type 0) (subs : List Subchannel) (place : ℕ) (sub new : Subchannel) (at : ℕ) (u v : UnitState) (which : Option ℕ) (k mine next : Starts) →
+    slice_get subs place ≡ Some sub → AreApart subs → at ≡ sub.setup.«unit» → IsKept T sub new u v k mine → IsAbout which place k mine next → IsLinked subs at u which k →
     IsLinked (slice_set subs place new) at v which next
-here-linked subs place sub new at u v which k mine next there apart e kept about l =
-    let f : Follows l.links sub.setup.side sub new v k mine = kept.follows l.links l.good l.«unit» l.restarts (l.stand place sub there (sym e)) in
+here-linked T subs place sub new at u v which k mine next there apart e kept about l =
+    let f : Follows T l.links sub.setup.side sub new v k mine = kept.follows l.links l.good l.«unit» (l.stand place sub there (sym e)) in
     record {
       links = f.links;
       good = f.good;
       «unit» = f.«unit»;
-      restarts = kept.restarts l.restarts;
       stand = λ i x h g.
           elim (set-get subs place new i x h) [
             | inl p ↦ subst (λ (y : Subchannel). IsLink y (link_of f.links y.setup.side)) (sym p.1)
@@ -122,16 +119,16 @@ here-linked subs place sub new at u v which k mine next there apart e kept about
     }
 
 -- the units, of which that of this subchannel was changed, or none
-abbrev AreAfter : List UnitState → List UnitState → Subchannel → Subchannel → Starts → Starts → Type 0
-AreAfter old units sub new k mine = (at : ℕ) (v : UnitState) → slice_get units at ≡ Some v →
-    (u : UnitState) × (slice_get old at ≡ Some u) × (((at ≢ sub.setup.«unit») × (v ≡ u)) ⊎ ((at ≡ sub.setup.«unit») × IsKept sub new u v k mine))
+abbrev AreAfter : Type 0 → List UnitState → List UnitState → Subchannel → Subchannel → Starts → Starts → Type 0
+AreAfter T old units sub new k mine = (at : ℕ) (v : UnitState) → slice_get units at ≡ Some v →
+    (u : UnitState) × (slice_get old at ≡ Some u) × (((at ≢ sub.setup.«unit») × (v ≡ u)) ⊎ ((at ≡ sub.setup.«unit») × IsKept T sub new u v k mine))
 
 same-or-not : (a b : ℕ) (same : Bool) → (a == b) ≡ same → (a ≡ b) ⊎ (a ≢ b)
 same-or-not a b true e = inl (eqb-true a b e)
 same-or-not a b false e = inr (eqb-false a b e)
 
-same-after : (units : List UnitState) (sub new : Subchannel) (k mine : Starts) → ((u : UnitState) → IsKept sub new u u k mine) → AreAfter units units sub new k mine
-same-after units sub new k mine f at v e = (
+same-after : (T : Type 0) (units : List UnitState) (sub new : Subchannel) (k mine : Starts) → ((u : UnitState) → IsKept T sub new u u k mine) → AreAfter T units units sub new k mine
+same-after T units sub new k mine f at v e = (
   v,
   e,
   elim (same-or-not at sub.setup.«unit» (at == sub.setup.«unit») refl) [
@@ -140,39 +137,39 @@ same-after units sub new k mine f at v e = (
   ],
 )
 
-set-after : (units : List UnitState) (sub new : Subchannel) (place : ℕ) (u v : UnitState) (k mine : Starts) → slice_get units place ≡ Some u → place ≡ sub.setup.«unit» →
-    IsKept sub new u v k mine → AreAfter units (slice_set units place v) sub new k mine
-set-after units sub new place u v k mine there e f at w h =
+set-after : (T : Type 0) (units : List UnitState) (sub new : Subchannel) (place : ℕ) (u v : UnitState) (k mine : Starts) → slice_get units place ≡ Some u → place ≡ sub.setup.«unit» →
+    IsKept T sub new u v k mine → AreAfter T units (slice_set units place v) sub new k mine
+set-after T units sub new place u v k mine there e f at w h =
     elim (set-get units place v at w h) [
-      | inl p ↦ (u, subst (λ (i : ℕ). slice_get units i ≡ Some u) (sym p.0) there, inr (p.0 ∙ e, subst (λ (y : UnitState). IsKept sub new u y k mine) (sym p.1) f))
+      | inl p ↦ (u, subst (λ (i : ℕ). slice_get units i ≡ Some u) (sym p.0) there, inr (p.0 ∙ e, subst (λ (y : UnitState). IsKept T sub new u y k mine) (sym p.1) f))
       | inr p ↦ (w, p.1, inl (λ q. p.0 (q ∙ sym e), refl))
     ]
 
-all-linked : (subs : List Subchannel) (units after : List UnitState) (place : ℕ) (sub new : Subchannel) (which : Option ℕ) (k mine next : Starts) → slice_get subs place ≡ Some sub →
-    new.setup ≡ sub.setup → IsAbout which place k mine next → AreAfter units after sub new k mine → AreLinked subs units which k → AreLinked (slice_set subs place new) after which next
-all-linked subs units after place sub new which k mine next there s about a l =
+all-linked : (T : Type 0) (subs : List Subchannel) (units after : List UnitState) (place : ℕ) (sub new : Subchannel) (which : Option ℕ) (k mine next : Starts) → slice_get subs place ≡ Some sub →
+    new.setup ≡ sub.setup → IsAbout which place k mine next → AreAfter T units after sub new k mine → AreLinked subs units which k → AreLinked (slice_set subs place new) after which next
+all-linked T subs units after place sub new which k mine next there s about a l =
     record {
       apart = apart-kept subs place sub new there s l.apart;
       linked = λ at v e.
-          let b : (u : UnitState) × (slice_get units at ≡ Some u) × (((at ≢ sub.setup.«unit») × (v ≡ u)) ⊎ ((at ≡ sub.setup.«unit») × IsKept sub new u v k mine)) = a at v e in
+          let b : (u : UnitState) × (slice_get units at ≡ Some u) × (((at ≢ sub.setup.«unit») × (v ≡ u)) ⊎ ((at ≡ sub.setup.«unit») × IsKept T sub new u v k mine)) = a at v e in
           elim b.2 [
             | inl p ↦ subst (λ (u : UnitState). IsLinked (slice_set subs place new) at u which next) (sym p.1)
                 (other-linked subs place sub new at b.0 which k mine next there s p.0 about (l.linked at b.0 b.1))
-            | inr p ↦ here-linked subs place sub new at b.0 v which k mine next there l.apart p.0 p.1 about (l.linked at b.0 b.1)
+            | inr p ↦ here-linked T subs place sub new at b.0 v which k mine next there l.apart p.0 p.1 about (l.linked at b.0 b.1)
           ];
     }
 
-pub hold-linked : AreLaws → (s : State) (place : ℕ) (sub new : Subchannel) (which : Option ℕ) (k mine next : Starts) → slice_get s.subs place ≡ Some sub → IsOfHold sub new →
-    Tells sub new.state k mine → IsAbout which place k mine next → AreLinked s.subs s.units which k → AreLinked (slice_set s.subs place new) s.units which next
-hold-linked laws s place sub new which k mine next there h f about l =
-    all-linked s.subs s.units s.units place sub new which k mine next there h.setup about
-    (same-after s.units sub new k mine (λ u. hold-kept laws sub new u k mine h f)) l
+pub hold-linked : AreLaws → (subs : List Subchannel) (units : List UnitState) (place : ℕ) (sub new : Subchannel) (which : Option ℕ) (k mine next : Starts) → slice_get subs place ≡ Some sub → IsOfHold sub new →
+    Tells sub new.state k mine → IsAbout which place k mine next → AreLinked subs units which k → AreLinked (slice_set subs place new) units which next
+hold-linked laws subs units place sub new which k mine next there h f about l =
+    all-linked ⊥ subs units units place sub new which k mine next there h.setup about
+    (same-after ⊥ units sub new k mine (λ u. hold-kept laws sub new u k mine h f)) l
 
-pub unit-linked : (s : State) (place at : ℕ) (sub new : Subchannel) (u v : UnitState) (which : Option ℕ) (k mine next : Starts) → slice_get s.subs place ≡ Some sub →
-    slice_get s.units at ≡ Some u → at ≡ sub.setup.«unit» → IsKept sub new u v k mine → IsAbout which place k mine next → AreLinked s.subs s.units which k →
-    AreLinked (slice_set s.subs place new) (slice_set s.units at v) which next
-unit-linked s place at sub new u v which k mine next there found e f about l =
-    all-linked s.subs s.units (slice_set s.units at v) place sub new which k mine next there f.setup about (set-after s.units sub new at u v k mine found e f) l
+pub unit-linked : (T : Type 0) (subs : List Subchannel) (units : List UnitState) (place at : ℕ) (sub new : Subchannel) (u v : UnitState) (which : Option ℕ) (k mine next : Starts) → slice_get subs place ≡ Some sub →
+    slice_get units at ≡ Some u → at ≡ sub.setup.«unit» → IsKept T sub new u v k mine → IsAbout which place k mine next → AreLinked subs units which k →
+    AreLinked (slice_set subs place new) (slice_set units at v) which next
+unit-linked T subs units place at sub new u v which k mine next there found e f about l =
+    all-linked T subs units (slice_set units at v) place sub new which k mine next there f.setup about (set-after T units sub new at u v k mine found e f) l
 
 -- at the opening no signal waits
 no-signal : {A : Type 0} (n p : ℕ) → queue {A = A} (replicate n []) p ≡ []
@@ -202,7 +199,6 @@ opens-linked setup which lawful good =
             links = opening;
             good = good;
             «unit» = a.2;
-            restarts = ap (λ (v : UnitState). v.restarts) (sym a.2);
             stand = λ place sub h g.
                 let b : (s : SubchannelSetup) × (slice_get setup.subchannels place ≡ Some s) × (opened s ≡ sub) = map-get opened setup.subchannels place sub h in
                 subst (λ (y : Subchannel). IsLink y (link_of opening y.setup.side)) b.2 (opened-link b.0 b.0.side);

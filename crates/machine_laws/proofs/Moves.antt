@@ -1,10 +1,11 @@
 -- A relation that holds between the state of a subchannel and what each event leaves of it holds, subchannel by
 -- subchannel, between the states before and after a step.
-use Rattle.std.proofs.Common.{◌≡◌, refl, subst, ℕ, zero, suc, Bool, true, false, nat_lt, Option, None, Some, Result, List, [], ◌∷◌, length}
+use Rattle.std.proofs.Common.{◌≡◌, refl, sym, ◌∙◌, ap, map, subst, ℕ, zero, suc, Bool, true, false, nat_lt, Option, None, Some, Result, List, [], ◌∷◌, length}
 use Rattle.std.specs.Prelude.{slice_get, slice_set, if◌then◌else◌, IfOk}
 use Rattle.std.specs.List.{AllZip}
 use Rattle.orb_block.specs.declared.Orb.{Orb}
 use Rattle.schib_block.specs.declared.pmcw.Pmcw as block
+use Rattle.channel_config.specs.declared.parts.SubchannelSetup.{SubchannelSetup}
 use Rattle.storage_keys.specs.Storage.{Contents}
 use Rattle.chan_model.specs.declared.fault.Fault.{Fault}
 use Rattle.chan_model.specs.declared.event.Event.{Event}
@@ -31,8 +32,9 @@ use Rattle.machine_model.specs.Choosing.{chosen, reset_sent, halt_sent, offered}
 use Rattle.machine_model.specs.Functions.{tested_wholly}
 use Rattle.machine_model.specs.Instructions.{started}
 use Rattle.machine_model.specs.Taking.{takes_up}
-use Rattle.machine_model.specs.Steps.{SubTurn, UpTurn, DownTurn, start_with, test_with, modify_with, choose_sub, is_full, finds_full, up_front, up_sub, down_front, down_sub, report_taken, function_sub, Step}
-use Rattle.machine_laws.proofs.Walk.{Function, effect_of, IsWalk, step-walks}
+use Rattle.machine_model.specs.Steps.{SubTurn, UpTurn, DownTurn, start_with, test_with, modify_with, choose_sub, is_full, finds_full, up_front, up_sub, down_front, down_sub, report_taken, function_sub}
+use Rattle.step_laws.specs.Walks as walked
+use Rattle.step_laws.specs.Walks.{Walked, Function, effect_of, OneSub, OneUnit}
 
 -- what each event leaves of the state of a subchannel
 pub record IsKept (R : SubchannelState → SubchannelState → Type 0) : Type 0 where
@@ -47,7 +49,7 @@ pub record IsKept (R : SubchannelState → SubchannelState → Type 0) : Type 0 
   pub ends : (s : SubchannelState) → R s (with_cause s cause.HaltDone)
   pub over : (s : SubchannelState) → R s (with_cause s cause.NoPath)
   pub offers : (s : SubchannelState) (program : Program) (path : ℕ) → R s (offered s program path)
-  pub takes : (storage : Contents) (s : SubchannelState) (path : ℕ) (signal : Up) → R s (takes_up storage s path signal).step.state
+  pub takes : (returns : Bool) (storage : Contents) (s : SubchannelState) (path : ℕ) (signal : Up) → R s (takes_up returns storage s path signal).step.state
 
 -- no event changes how a subchannel is set up
 pub record Changed (R : SubchannelState → SubchannelState → Type 0) (old new : Subchannel) : Type 0 where
@@ -123,27 +125,27 @@ module _ (R : SubchannelState → SubchannelState → Type 0) (k : IsKept R) whe
   choose-kept sub (chosen_is.Offers c path) =
       if-ok (λ t. Changed R sub t.sub) (is_full sub.wires.down path) _ _ tt (record { setup = refl; state = k.offers sub.state c.program path })
 
-  up_front-kept : (storage : Contents) (sub : Subchannel) (path : ℕ) (front : Option Up) → OkUp sub (up_front storage sub path front)
-  up_front-kept storage sub path None = tt
-  up_front-kept storage sub path (Some signal) =
-      if-ok (λ t. Changed R sub t.sub) (finds_full sub.wires.down (takes_up storage sub.state path signal).step.came.sent) _ _ tt
-      (record { setup = refl; state = k.takes storage sub.state path signal })
+  up_front-kept : (returns : Bool) → (storage : Contents) (sub : Subchannel) (path : ℕ) (front : Option Up) → OkUp sub (up_front returns storage sub path front)
+  up_front-kept returns storage sub path None = tt
+  up_front-kept returns storage sub path (Some signal) =
+      if-ok (λ t. Changed R sub t.sub) (finds_full sub.wires.down (takes_up returns storage sub.state path signal).step.came.sent) _ _ tt
+      (record { setup = refl; state = k.takes returns storage sub.state path signal })
 
-  up-kept : (storage : Contents) (sub : Subchannel) (path : ℕ) → OkUp sub (up_sub storage sub path)
-  up-kept storage sub path =
-      if-ok (λ t. Changed R sub t.sub) (nat_lt path (length sub.setup.paths)) (up_front storage sub path (slice_get (queue sub.wires.up path) 0)) _
-      (up_front-kept storage sub path (slice_get (queue sub.wires.up path) 0)) tt
+  up-kept : (returns : Bool) → (storage : Contents) (sub : Subchannel) (path : ℕ) → OkUp sub (up_sub returns storage sub path)
+  up-kept returns storage sub path =
+      if-ok (λ t. Changed R sub t.sub) (nat_lt path (length sub.setup.paths)) (up_front returns storage sub path (slice_get (queue sub.wires.up path) 0)) _
+      (up_front-kept returns storage sub path (slice_get (queue sub.wires.up path) 0)) tt
 
-  down_front-kept : (sub : Subchannel) (path : ℕ) (u : UnitState) (front : Option Down) → OkBoth sub (down_front sub path u front)
-  down_front-kept sub path u None = tt
-  down_front-kept sub path u (Some signal) =
-      if-ok (λ t. Changed R sub t.sub) (finds_full sub.wires.up (unit_table.came_of (unit_takes u sub.setup.side path signal true)).sent) _ _ tt
+  down_front-kept : (may : Bool) → (sub : Subchannel) (path : ℕ) (u : UnitState) (front : Option Down) → OkBoth sub (down_front may sub path u front)
+  down_front-kept may sub path u None = tt
+  down_front-kept may sub path u (Some signal) =
+      if-ok (λ t. Changed R sub t.sub) (finds_full sub.wires.up (unit_table.came_of (unit_takes u sub.setup.side path signal may)).sent) _ _ tt
       (record { setup = refl; state = k.same sub.state })
 
-  down-kept : (sub : Subchannel) (path : ℕ) (u : UnitState) → OkBoth sub (down_sub sub path u)
-  down-kept sub path u =
-      if-ok (λ t. Changed R sub t.sub) (nat_lt path (length sub.setup.paths)) (down_front sub path u (slice_get (queue sub.wires.down path) 0)) _
-      (down_front-kept sub path u (slice_get (queue sub.wires.down path) 0)) tt
+  down-kept : (may : Bool) → (sub : Subchannel) (path : ℕ) (u : UnitState) → OkBoth sub (down_sub may sub path u)
+  down-kept may sub path u =
+      if-ok (λ t. Changed R sub t.sub) (nat_lt path (length sub.setup.paths)) (down_front may sub path u (slice_get (queue sub.wires.down path) 0)) _
+      (down_front-kept may sub path u (slice_get (queue sub.wires.down path) 0)) tt
 
   report-kept : (sub : Subchannel) (step : Option UnitStep) → OkBoth sub (report_taken sub step)
   report-kept sub None = tt
@@ -157,38 +159,60 @@ module _ (R : SubchannelState → SubchannelState → Type 0) (k : IsKept R) whe
   set-moved : (s : State) (place : ℕ) (sub new : Subchannel) → slice_get s.subs place ≡ Some sub → Changed R sub new → AllZip (Changed R) s.subs (slice_set s.subs place new)
   set-moved s place sub new e c = zip-set (Changed R) unchanged s.subs place sub new e c
 
-  moves : (s : State) → IsWalk s (λ e r. Moved R s)
-  moves s = record {
-    stays = λ v r storage n. record { sets = refl; subs = unmoved s };
-    starts = λ cpu word address id place sub orb c n f e. record { sets = refl; subs = set-moved s place sub _ e (start-kept sub orb c) };
-    tests = λ v r storage place sub c n e. record { sets = refl; subs = set-moved s place sub _ e (test-kept sub c) };
-    modifies = λ v r storage place sub given c n e. record { sets = refl; subs = set-moved s place sub _ e (modify-kept sub given c) };
-    functions = λ v r place sub f c n e. record { sets = refl; subs = set-moved s place sub _ e (function-kept sub f c) };
-    chooses = λ word place sub choice t n e h. record { sets = refl; subs = set-moved s place sub t.sub e (subst (OkSub sub) h (choose-kept sub (chosen sub choice))) };
-    ups = λ v r place sub path t n e h. record { sets = refl; subs = set-moved s place sub t.sub e (subst (OkUp sub) h (up-kept s.storage sub path)) };
-    downs = λ word place sub u path t n e f h. record { sets = refl; subs = set-moved s place sub t.sub e (subst (OkBoth sub) h (down-kept sub path u)) };
-    reports = λ v q place at sub u report t n e f r h. record { sets = refl; subs = set-moved s at sub t.sub e (subst (OkBoth sub) h (report-kept sub (unit_reports u report))) };
-  }
+  one-moved : (s new : State) (place : ℕ) (sub after : Subchannel) → new.sets ≡ s.sets → slice_get s.subs place ≡ Some sub → new.subs ≡ slice_set s.subs place after →
+      Changed R sub after → Moved R s new
+  one-moved s new place sub after sets there subs c =
+      record { sets = sets; subs = subst (λ (xs : List Subchannel). AllZip (Changed R) s.subs xs) (sym subs) (set-moved s place sub after there c) }
 
-  pub step-moves : (s : State) (e : Event) (r : Reply) (new : State) → Step s e r new → Moved R s new
-  step-moves s e r new w = step-walks s (λ e r. Moved R s) (moves s) e r new w
+  sub-moved : (s new : State) (place : ℕ) (sub after : Subchannel) → OneSub s new place sub after → Changed R sub after → Moved R s new
+  sub-moved s new place sub after one c = one-moved s new place sub after one.sets one.there one.subs c
+
+  unit-moved : (s new : State) (place : ℕ) (sub after : Subchannel) (at : ℕ) (u v : UnitState) → OneUnit s new place sub after at u v → Changed R sub after → Moved R s new
+  unit-moved s new place sub after at u v one c = one-moved s new place sub after one.sets one.there one.subs c
+
+  pub step-moves : (s : State) (e : Event) (r : Reply) (new : State) → Walked s e r new → Moved R s new
+  step-moves s _ _ _ (walked.Stays e r new q sets subs units) =
+      record { sets = sets; subs = subst (λ (xs : List Subchannel). AllZip (Changed R) s.subs xs) (sym subs) (unmoved s) }
+  step-moves s _ _ _ (walked.Started cpu word address place sub orb c new n one) = sub-moved s new place sub _ one (start-kept sub orb c)
+  step-moves s _ _ _ (walked.Tested e r place sub c new q one) = sub-moved s new place sub _ one (test-kept sub c)
+  step-moves s _ _ _ (walked.Modified e r place sub given c new q one) = sub-moved s new place sub _ one (modify-kept sub given c)
+  step-moves s _ _ _ (walked.Performed e r place sub f c new q one) = sub-moved s new place sub _ one (function-kept sub f c)
+  step-moves s _ _ _ (walked.Chosen word place sub choice t new n x h one) = sub-moved s new place sub t.sub one (subst (OkSub sub) h (choose-kept sub (chosen sub choice)))
+  step-moves s _ _ _ (walked.Met word path returns place sub t new n h one) = sub-moved s new place sub t.sub one (subst (OkUp sub) h (up-kept returns s.storage sub path))
+  step-moves s _ _ _ (walked.Sunk word path may place sub u t new n h one) = unit-moved s new place sub t.sub _ u t.«unit» one (subst (OkBoth sub) h (down-kept may sub path u))
+  step-moves s _ _ _ (walked.Reported at place sub u report t new n k h one) =
+      unit-moved s new place sub t.sub at u t.«unit» one (subst (OkBoth sub) h (report-kept sub (unit_reports u report)))
+
+any-state : IsKept (λ s new. Unit {0})
+any-state = record {
+  same = λ s. tt;
+  starts = λ s orb. tt;
+  tests = λ s. tt;
+  modifies = λ s pmcw. tt;
+  functions = λ s f. tt;
+  resets = λ s path. tt;
+  clears = λ s. tt;
+  halts = λ s. tt;
+  ends = λ s. tt;
+  over = λ s. tt;
+  offers = λ s program path. tt;
+  takes = λ returns storage s path signal. tt;
+}
 
 -- no step changes how many sets there are
-pub sets-stay : (s : State) (e : Event) (r : Reply) (new : State) → Step s e r new → new.sets ≡ s.sets
-sets-stay s e r new w =
-    (step-moves (λ s new. Unit {0})
-    (record {
-      same = λ s. tt;
-      starts = λ s orb. tt;
-      tests = λ s. tt;
-      modifies = λ s pmcw. tt;
-      functions = λ s f. tt;
-      resets = λ s path. tt;
-      clears = λ s. tt;
-      halts = λ s. tt;
-      ends = λ s. tt;
-      over = λ s. tt;
-      offers = λ s program path. tt;
-      takes = λ storage s path signal. tt;
-    })
-    s e r new w).sets
+pub sets-stay : (s : State) (e : Event) (r : Reply) (new : State) → Walked s e r new → new.sets ≡ s.sets
+sets-stay s e r new w = (step-moves (λ s new. Unit {0}) any-state s e r new w).sets
+
+-- nor how a subchannel is set up
+same-setups : (R : SubchannelState → SubchannelState → Type 0) (old new : List Subchannel) → AllZip (Changed R) old new →
+    map (λ (x : Subchannel). x.setup) new ≡ map (λ (x : Subchannel). x.setup) old
+same-setups R [] [] z = refl
+same-setups R [] (y ∷ ys) z = absurd z
+same-setups R (x ∷ xs) [] z = absurd z
+same-setups R (x ∷ xs) (y ∷ ys) z =
+    ap (λ (s : SubchannelSetup). s ∷ map (λ (x : Subchannel). x.setup) ys) z.0.setup
+    ∙ ap (λ (ss : List SubchannelSetup). x.setup ∷ ss) (same-setups R xs ys z.1)
+
+pub setups-stay : (s : State) (e : Event) (r : Reply) (new : State) → Walked s e r new →
+    map (λ (x : Subchannel). x.setup) new.subs ≡ map (λ (x : Subchannel). x.setup) s.subs
+setups-stay s e r new w = same-setups (λ s new. Unit {0}) s.subs new.subs (step-moves (λ s new. Unit {0}) any-state s e r new w).subs

@@ -1,6 +1,6 @@
 -- No two subchannels reach the same side of a unit: at the opening of a lawful set-up.
-use Rattle.std.proofs.Common.{◌≡◌, ◌≢◌, refl, sym, ◌∙◌, ap, ℕ, ◌+◌, ◌≤◌, ◌==◌, ◌&&◌, zero, suc, Bool, true, false, Option, None, Some, List, [], ◌∷◌, map, inl, inr, arith}
-use Rattle.std.specs.Prelude.{◌⊎◌, slice_get, slice_set, option_map, count_by, cond}
+use Rattle.std.proofs.Common.{◌≡◌, ◌≢◌, refl, sym, ◌∙◌, ap, subst, ℕ, ◌+◌, ◌≤◌, ◌==◌, ◌&&◌, zero, suc, Bool, true, false, Option, None, Some, List, [], ◌∷◌, map, inl, inr, arith}
+use Rattle.std.specs.Prelude.{◌⊎◌, slice_get, slice_set, option_map, count_by, cond, if◌then◌else◌}
 use Rattle.std.proofs.lemmas.Bool.{eq-eqb}
 use Rattle.std.proofs.lemmas.List.Sums.{sum_by-cons}
 use Rattle.std.proofs.lemmas.Option.{slice_get-map}
@@ -9,6 +9,8 @@ use Rattle.chan_model.specs.declared.names.Side.TheVariants.{First, Second}
 use Rattle.chan_model.specs.Sides.{same_side}
 use Rattle.channel_config.specs.declared.parts.SubchannelSetup.{SubchannelSetup}
 use Rattle.channel_config.specs.Lawful.{IsShared, uses_by}
+use Rattle.machine_model.specs.declared.state.Subchannel.{Subchannel}
+use Rattle.machine_model.specs.State.{first_place, one_later}
 
 -- an element of a list in which one was set
 pub set-get : {A : Type 0} (xs : List A) (k : ℕ) (y : A) (i : ℕ) (x : A) → slice_get (slice_set xs k y) i ≡ Some x →
@@ -88,3 +90,19 @@ pub one-place : (subs : List SubchannelSetup) (i j : ℕ) (x y : SubchannelSetup
 one-place subs i j x y shared e f u k =
     alone (λ sub. sub.«unit» == y.«unit» && same_side sub.side y.side) subs i j x y (used-once subs y.«unit» y.side (shared y.«unit»)) e f
     (is-used y x u k) (is-used y y refl (same-side y.side))
+
+-- the subchannel at the first place that passes a test passes it
+first-cases : (b : Bool) (o : Option ℕ) (place : ℕ) → (if b then Some 0 else one_later o) ≡ Some place →
+    ((b ≡ true) × (place ≡ zero)) ⊎ ((i : ℕ) × (o ≡ Some i) × (place ≡ suc i))
+first-cases true o place e = let z : 0 ≡ place = cc e in inl (refl, omega (arith, z))
+first-cases false None place e = absurd (cc e)
+first-cases false (Some i) place e = let z : i + 1 ≡ place = cc e in inr (i, refl, omega (arith, z))
+
+pub first-passes : (test : Subchannel → Bool) (subs : List Subchannel) (place : ℕ) (sub : Subchannel) → first_place test subs ≡ Some place →
+    slice_get subs place ≡ Some sub → test sub ≡ true
+first-passes test [] place sub e there = absurd (cc e)
+first-passes test (x ∷ xs) place sub e there =
+    elim (first-cases (test x) (first_place test xs) place e) [
+      | inl h ↦ let same : x ≡ sub = cc (subst (λ (k : ℕ). slice_get (x ∷ xs) k ≡ Some sub) h.1 there) in sym (ap test same) ∙ h.0
+      | inr h ↦ first-passes test xs h.0 sub h.1 (subst (λ (k : ℕ). slice_get (x ∷ xs) k ≡ Some sub) h.2 there)
+    ]

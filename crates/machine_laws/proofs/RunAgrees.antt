@@ -1,19 +1,24 @@
 -- After each run of a lawful set-up each unit has such links: each subchannel and its unit agree, and the starts of a
 -- subchannel that began a program rise.
 use Rattle.std.proofs.Common.{◌≡◌, refl, sym, ◌∙◌, ap, subst, ℕ, ◌<◌, ◌==◌, zero, suc, Bool, true, false, Option, None, Some, Result, List, [], ◌∷◌, ◌++◌, arith}
-use Rattle.std.specs.Prelude.{◌&&◌, if◌then◌else◌, slice_get, slice_set, AllPairs, IfOk}
+use Rattle.std.specs.Prelude.{◌&&◌, if◌then◌else◌, slice_get, slice_set, AllPairs, IfOk, Contains}
 use Rattle.std.proofs.lemmas.Bool.{eqb-true, eq-eqb, and_parts}
-use Rattle.storage_keys.specs.Storage.{Contents}
 use Rattle.chan_model.specs.declared.fault.Fault.{Fault}
 use Rattle.chan_model.specs.declared.hold_state.HoldPhase.{HoldPhase}
 use Rattle.chan_model.specs.declared.hold_state.HoldState.{HoldState}
 use Rattle.chan_model.specs.declared.names.Side.{Side}
 use Rattle.chan_model.specs.declared.reply.ConditionCode.{ConditionCode}
 use Rattle.chan_model.specs.declared.reply.ConditionCode.TheVariants as code
+use Rattle.chan_model.specs.declared.event.Event.{Event}
+use Rattle.chan_model.specs.declared.event.Event.TheVariants as event
+use Rattle.chan_model.specs.declared.event.Instruction.TheVariants as instruction
+use Rattle.chan_model.specs.declared.reply.Answer.TheVariants as answer
 use Rattle.chan_model.specs.declared.reply.Entry.{Entry}
 use Rattle.chan_model.specs.declared.reply.Reply.{Reply}
 use Rattle.chan_model.specs.declared.reply.Reply.TheVariants as reply
+use Rattle.chan_model.specs.declared.signal.Down.TheVariants as down
 use Rattle.chan_model.specs.declared.unit_state.UnitState.{UnitState}
+use Rattle.chan_model.specs.UnitTable.{side_of, resets}
 use Rattle.chan_model.specs.Sides.{same_side}
 use Rattle.channel_config.specs.declared.names.SubchannelId.{SubchannelId}
 use Rattle.channel_config.specs.declared.parts.SubchannelSetup.{SubchannelSetup}
@@ -29,16 +34,18 @@ use Rattle.machine_model.specs.declared.state.Subchannel.{Subchannel}
 use Rattle.machine_model.specs.Choosing.{chosen}
 use Rattle.machine_model.specs.Functions.{resumed, halted, cancelled, tested_wholly}
 use Rattle.machine_model.specs.Instructions.{started}
-use Rattle.machine_model.specs.State.{State, opening_of, is_named, one_later, place_in, place_of_id, with_sub, with_unit}
+use Rattle.machine_model.specs.State.{State, opening_of, is_named, one_later, place_in, place_of_id}
 use Rattle.machine_model.specs.SubchannelBlocks.{modified_state}
 use Rattle.machine_model.specs.Steps.{SubTurn, UpTurn, DownTurn, start_with, test_with, modify_with, function_sub, Run, Opened, Stepped}
-use Rattle.machine_laws.specs.Agreeing.{IsAgreed, AllAgree}
+use Rattle.machine_laws.specs.Agreeing.{IsAgreed, AllAgree, AreAbove, IsEnd}
 use Rattle.machine_laws.specs.Beginnings.{Starts, no_starts, with_start, with_offer, with_taken, starts_after, starts_by, starts, IsBegunOnce}
 use Rattle.machine_laws.specs.Claims.{is_same_id, is_id}
-use Rattle.machine_laws.proofs.Walk.{Function, Resumes, Halts, Clears, Cancels, effect_of, IsWalk, first-passes, step-walks}
+use Rattle.step_laws.specs.Walks as walked
+use Rattle.step_laws.specs.Walks.{Walked, IsQuiet, is_start, OneSub, OneUnit, Function, Resumes, Halts, Clears, Cancels, effect_of}
+use Rattle.machine_laws.proofs.Places.{first-passes}
 use Rattle.machine_laws.proofs.Moves.{sets-stay}
 use Rattle.machine_laws.proofs.Places.{both-true}
-use Rattle.machine_laws.proofs.Growth.{AreLaws}
+use Rattle.machine_laws.proofs.Growth.{IsLink, covers-first, AreLaws}
 use Rattle.machine_laws.proofs.Choices.{chosen-fit, chosen-of}
 use Rattle.machine_laws.proofs.HoldEvents.{IsOfHold, up-turns, kept-turns, same-turns, choose-turns, clear-turns}
 use Rattle.machine_laws.proofs.RunSerials.{same-id}
@@ -51,26 +58,26 @@ use Rattle.machine_laws.proofs.Linked.{IsLinked, IsAbout, AreLinked, hold-linked
 same-hold : (sub : Subchannel) → IsOfHold sub sub
 same-hold sub = kept-turns sub sub.state refl refl
 
-start-hold : (sub : Subchannel) (orb : Orb) (c : ConditionCode) → IsOfHold sub (start_with sub orb c).sub
+pub start-hold : (sub : Subchannel) (orb : Orb) (c : ConditionCode) → IsOfHold sub (start_with sub orb c).sub
 start-hold sub orb code.Zero = kept-turns sub (started sub.state orb) refl refl
 start-hold sub orb code.One = same-hold sub
 start-hold sub orb code.Two = same-hold sub
 start-hold sub orb code.Three = same-hold sub
 
-test-hold : (sub : Subchannel) (c : ConditionCode) → IsOfHold sub (test_with sub c).sub
+pub test-hold : (sub : Subchannel) (c : ConditionCode) → IsOfHold sub (test_with sub c).sub
 test-hold sub code.Zero = same-turns sub (tested_wholly sub.state) (tested-same sub.state)
 test-hold sub code.One = same-hold sub
 test-hold sub code.Two = same-hold sub
 test-hold sub code.Three = same-hold sub
 
-modify-hold : (sub : Subchannel) (given : block.Pmcw) (c : ConditionCode) → IsOfHold sub (modify_with sub given c).sub
+pub modify-hold : (sub : Subchannel) (given : block.Pmcw) (c : ConditionCode) → IsOfHold sub (modify_with sub given c).sub
 modify-hold sub given code.Zero = kept-turns sub (modified_state sub given) refl refl
 modify-hold sub given code.One = same-hold sub
 modify-hold sub given code.Two = same-hold sub
 modify-hold sub given code.Three = same-hold sub
 
 -- the places of subchannels stay
-place-set : (id : SubchannelId) (subs : List Subchannel) (place : ℕ) (sub new : Subchannel) → slice_get subs place ≡ Some sub → new.setup ≡ sub.setup →
+pub place-set : (id : SubchannelId) (subs : List Subchannel) (place : ℕ) (sub new : Subchannel) → slice_get subs place ≡ Some sub → new.setup ≡ sub.setup →
     place_in id (slice_set subs place new) ≡ place_in id subs
 place-set id [] place sub new e s = absurd (cc e)
 place-set id (x ∷ xs) zero sub new e s =
@@ -80,8 +87,8 @@ place-set id (x ∷ xs) zero sub new e s =
 place-set id (x ∷ xs) (suc place) sub new e s = ap (λ (p : Option ℕ). if is_named id x then Some 0 else one_later p) (place-set id xs place sub new e s)
 
 -- a state after entries that tell this of the subchannel of an id
-pub record IsStateTold (id : SubchannelId) (k : Starts) (s : State) : Type 0 where
-  pub linked : AreLinked s.subs s.units (place_in id s.subs) k
+pub record IsStateTold (id : SubchannelId) (k : Starts) (subs : List Subchannel) (units : List UnitState) : Type 0 where
+  pub linked : AreLinked subs units (place_in id subs) k
   pub rises : AllPairs (λ x y. x < y) k.begun
 
 -- an event that tells nothing, and one of the subchannel that a word names
@@ -162,95 +169,141 @@ module _ (laws : AreLaws) where
   effect-hold sub Clears = clear-turns laws.keeps sub
   effect-hold sub Cancels = kept-turns sub (cancelled sub.state) refl refl
 
-  function-hold : (sub : Subchannel) (f : Function) (c : ConditionCode) → IsOfHold sub (function_sub sub c (effect_of f sub.state)).sub
+  pub function-hold : (sub : Subchannel) (f : Function) (c : ConditionCode) → IsOfHold sub (function_sub sub c (effect_of f sub.state)).sub
   function-hold sub f code.Zero = effect-hold sub f
   function-hold sub f code.One = same-hold sub
   function-hold sub f code.Two = same-hold sub
   function-hold sub f code.Three = same-hold sub
 
   -- an event at the subchannel of a place
-  told-at : (id : SubchannelId) (s : State) (storage : Contents) (place : ℕ) (sub new : Subchannel) (k mine next : Starts) → slice_get s.subs place ≡ Some sub → IsOfHold sub new →
-      Tells sub new.state k mine → IsAbout (place_in id s.subs) place k mine next → next.begun ≡ k.begun → IsStateTold id k s →
-      IsStateTold id next (with_sub (record s { storage = storage }) place new)
-  told-at id s storage place sub new k mine next there h f about same l =
-      record {
-        linked = subst (λ (which : Option ℕ). AreLinked (slice_set s.subs place new) s.units which next) (sym (place-set id s.subs place sub new there h.setup))
-            (hold-linked laws s place sub new (place_in id s.subs) k mine next there h f about l.linked);
+  told-at : (id : SubchannelId) (s new : State) (place : ℕ) (sub after : Subchannel) (k mine next : Starts) → OneSub s new place sub after → IsOfHold sub after →
+      Tells sub after.state k mine → IsAbout (place_in id s.subs) place k mine next → next.begun ≡ k.begun → IsStateTold id k s.subs s.units →
+      IsStateTold id next new.subs new.units
+  told-at id s new place sub after k mine next one h f about same l =
+      subst (λ (units : List UnitState). IsStateTold id next new.subs units) (sym one.units)
+      (subst (λ (subs : List Subchannel). IsStateTold id next subs s.units) (sym one.subs)
+      (record {
+        linked = subst (λ (which : Option ℕ). AreLinked (slice_set s.subs place after) s.units which next) (sym (place-set id s.subs place sub after one.there h.setup))
+            (hold-linked laws s.subs s.units place sub after (place_in id s.subs) k mine next one.there h f about l.linked);
         rises = rises-same k next same l.rises;
-      }
+      }))
 
-  told-unit : (id : SubchannelId) (s : State) (place at : ℕ) (sub new : Subchannel) (u v : UnitState) (k mine next : Starts) → slice_get s.subs place ≡ Some sub →
-      slice_get s.units at ≡ Some u → at ≡ sub.setup.«unit» → IsKept sub new u v k mine → IsAbout (place_in id s.subs) place k mine next →
-      AllPairs (λ x y. x < y) next.begun → IsStateTold id k s → IsStateTold id next (with_unit (with_sub s place new) at v)
-  told-unit id s place at sub new u v k mine next there found e f about r l =
-      record {
-        linked = subst (λ (which : Option ℕ). AreLinked (slice_set s.subs place new) (slice_set s.units at v) which next) (sym (place-set id s.subs place sub new there f.setup))
-            (unit-linked s place at sub new u v (place_in id s.subs) k mine next there found e f about l.linked);
+  told-unit : (T : Type 0) (id : SubchannelId) (s new : State) (place at : ℕ) (sub after : Subchannel) (u v : UnitState) (k mine next : Starts) → OneUnit s new place sub after at u v →
+      at ≡ sub.setup.«unit» → IsKept T sub after u v k mine → IsAbout (place_in id s.subs) place k mine next →
+      AllPairs (λ x y. x < y) next.begun → IsStateTold id k s.subs s.units → IsStateTold id next new.subs new.units
+  told-unit T id s new place at sub after u v k mine next one e f about r l =
+      subst (λ (units : List UnitState). IsStateTold id next new.subs units) (sym one.units)
+      (subst (λ (subs : List Subchannel). IsStateTold id next subs (slice_set s.units at v)) (sym one.subs)
+      (record {
+        linked = subst (λ (which : Option ℕ). AreLinked (slice_set s.subs place after) (slice_set s.units at v) which next) (sym (place-set id s.subs place sub after one.there f.setup))
+            (unit-linked T s.subs s.units place at sub after u v (place_in id s.subs) k mine next one.there one.found e f about l.linked);
         rises = r;
-      }
+      }))
 
   -- what began rises, where the unit of the subchannel took a signal
-  unit-rises : (id : SubchannelId) (s : State) (place at : ℕ) (sub new : Subchannel) (u v : UnitState) (k mine : Starts) → slice_get s.subs place ≡ Some sub →
-      slice_get s.units at ≡ Some u → at ≡ sub.setup.«unit» → IsKept sub new u v k mine → place_in id s.subs ≡ Some place → IsStateTold id k s → AllPairs (λ x y. x < y) mine.begun
-  unit-rises id s place at sub new u v k mine there found e f which l =
+  unit-rises : (T : Type 0) (id : SubchannelId) (s : State) (place at : ℕ) (sub new : Subchannel) (u v : UnitState) (k mine : Starts) → slice_get s.subs place ≡ Some sub →
+      slice_get s.units at ≡ Some u → at ≡ sub.setup.«unit» → IsKept T sub new u v k mine → place_in id s.subs ≡ Some place → IsStateTold id k s.subs s.units → AllPairs (λ x y. x < y) mine.begun
+  unit-rises T id s place at sub new u v k mine there found e f which l =
       let x : IsLinked s.subs at u (place_in id s.subs) k = l.linked.linked at u found in
-      let g : Follows x.links sub.setup.side sub new v k mine = f.follows x.links x.good x.«unit» x.restarts (x.stand place sub there (sym e)) in
+      let g : Follows T x.links sub.setup.side sub new v k mine = f.follows x.links x.good x.«unit» (x.stand place sub there (sym e)) in
       (g.told (x.told place sub there (sym e) which)).rises
 
-  links-walk : (id : SubchannelId) (k : Starts) (s : State) → IsStateTold id k s → IsWalk s (λ e r. IsStateTold id (starts_after s.sets id e r k))
-  links-walk id k s l = record {
-    stays = λ v r storage n.
-        subst (λ (next : Starts). IsStateTold id next (record s { storage = storage })) (sym (n s.sets id k)) (record { linked = l.linked; rises = l.rises });
-    starts = λ cpu word address named place sub orb c n f e.
-        told-at id s s.storage place sub (start_with sub orb c).sub k (with_start (start_with sub orb c).reply k) _ e (start-hold sub orb c) (start-tells sub orb c k)
-        (named-about s.subs id (subchannel_named s.sets word) place sub k (with_start (start_with sub orb c).reply k) (ap (place_of_id s.subs) n ∙ f) e)
-        (if-rises (is_id (subchannel_named s.sets word) id) k (with_start (start_with sub orb c).reply k) (start-begun sub orb c k)) l;
-    tests = λ v r storage place sub c n e.
-        told-at id s storage place sub _ k k _ e (test-hold sub c) (test-tells sub c k) (silent-about _ place k _ (n s.sets id k))
-        (ap (λ (x : Starts). x.begun) (n s.sets id k)) l;
-    modifies = λ v r storage place sub given c n e.
-        told-at id s storage place sub _ k k _ e (modify-hold sub given c) (modify-tells sub given c k) (silent-about _ place k _ (n s.sets id k))
-        (ap (λ (x : Starts). x.begun) (n s.sets id k)) l;
-    functions = λ v r place sub f c n e.
-        told-at id s s.storage place sub _ k k _ e (function-hold sub f c) (function-tells sub f c k) (silent-about _ place k _ (n s.sets id k))
-        (ap (λ (x : Starts). x.begun) (n s.sets id k)) l;
-    chooses = λ word place sub choice t n e h.
-        told-at id s s.storage place sub t.sub k (with_offer t.reply k) _ e
-        (subst (λ (r : Result SubTurn Fault). IfOk r (λ t. IsOfHold sub t.sub)) h (choose-turns laws.keeps sub (chosen sub choice) (chosen-fit sub choice)))
-        (subst (λ (r : Result SubTurn Fault). IfOk r (λ t. Tells sub t.sub.state k (with_offer t.reply k))) h (choose-tells sub (chosen sub choice) k (chosen-fit sub choice) (chosen-of sub choice)))
-        (named-about s.subs id (subchannel_named s.sets word) place sub k (with_offer t.reply k) n e)
-        (if-rises (is_id (subchannel_named s.sets word) id) k (with_offer t.reply k) (offer-begun t.reply k)) l;
-    ups = λ v r place sub path t n e h.
-        told-at id s t.storage place sub t.sub k k _ e
-        (subst (λ (r : Result UpTurn Fault). IfOk r (λ t. IsOfHold sub t.sub)) h (up-turns laws.keeps s.storage sub path))
-        (subst (λ (r : Result UpTurn Fault). IfOk r (λ t. Tells sub t.sub.state k k)) h (up_sub-tells s.storage sub path k))
-        (silent-about _ place k _ (n s.sets id k)) (ap (λ (x : Starts). x.begun) (n s.sets id k)) l;
-    downs = λ word place sub u path t n e f h.
-        let kept : IsKept sub t.sub u t.«unit» k (with_taken t.reply k) =
-        subst (λ (r : Result DownTurn Fault). IfOk r (λ t. IsKept sub t.sub u t.«unit» k (with_taken t.reply k))) h (down-kept laws sub path u k) in
-        told-unit id s place sub.setup.«unit» sub t.sub u t.«unit» k (with_taken t.reply k) _ e f refl kept
-        (named-about s.subs id (subchannel_named s.sets word) place sub k (with_taken t.reply k) n e)
-        (down-rises (is_id (subchannel_named s.sets word) id) k (with_taken t.reply k)
-        (λ b. unit-rises id s place sub.setup.«unit» sub t.sub u t.«unit» k (with_taken t.reply k) e f refl kept (named-place s.subs id (subchannel_named s.sets word) place n b) l)
-        l.rises)
-        l;
-    reports = λ v r place at sub u report t n e f reached h.
-        let both : ((sub.setup.«unit» == place) ≡ true) × (same_side sub.setup.side report.side ≡ true) = and_parts (sub.setup.«unit» == place) (same_side sub.setup.side report.side) reached in
-        told-unit id s at place sub t.sub u t.«unit» k k _ e f (sym (eqb-true sub.setup.«unit» place both.0))
-        (subst (λ (r : Result DownTurn Fault). IfOk r (λ t. IsKept sub t.sub u t.«unit» k k)) h (report-kept laws sub u report k both.1))
-        (silent-about _ at k _ (n s.sets id k)) (rises-same k (starts_after s.sets id v r k) (ap (λ (x : Starts). x.begun) (n s.sets id k)) l.rises) l;
-  }
+  -- a quiet event tells nothing of the starts of any subchannel
+  start-quiet : (r : Reply) (k : Starts) → is_start r ≡ false → with_start r k ≡ k
+  start-quiet reply.Done k q = refl
+  start-quiet (reply.Shown bytes) k q = refl
+  start-quiet (reply.Code (answer.Zero serials)) k q = absurd (cc q)
+  start-quiet (reply.Code (answer.One serials)) k q = refl
+  start-quiet (reply.Code answer.Two) k q = refl
+  start-quiet (reply.Code answer.Three) k q = refl
+  start-quiet (reply.Status a scsw) k q = refl
+  start-quiet (reply.Offered t p z) k q = refl
+  start-quiet (reply.ResetSent n p) k q = refl
+  start-quiet (reply.HaltSent t p) k q = refl
+  start-quiet reply.Pending k q = refl
+  start-quiet reply.Idle k q = refl
+  start-quiet (reply.Up x taken one) k q = refl
+  start-quiet (reply.Down x taken one) k q = refl
 
-  run-told : (setup : Setup) (id : SubchannelId) (h : List Entry) (s : State) → IsLawful setup → IsGood opening → Run (opening_of setup) h s →
-      (s.sets ≡ set_count setup) × IsStateTold id (starts (set_count setup) id h) s
+  if-quiet : (b : Bool) (k next : Starts) → next ≡ k → (if b then next else k) ≡ k
+  if-quiet true k next e = e
+  if-quiet false k next e = refl
+
+  quiet-tells : (sets : ℕ) (id : SubchannelId) (e : Event) (r : Reply) (k : Starts) → IsQuiet e r → starts_after sets id e r k ≡ k
+  quiet-tells sets id (event.Put address bytes) r k q = refl
+  quiet-tells sets id (event.SetKey address key) r k q = refl
+  quiet-tells sets id (event.SetPrefix cpu address) r k q = refl
+  quiet-tells sets id (event.Show address count) r k q = refl
+  quiet-tells sets id (event.Execute cpu (instruction.Ssch word address)) r k q = if-quiet (is_id (subchannel_named sets word) id) k (with_start r k) (start-quiet r k q)
+  quiet-tells sets id (event.Execute cpu (instruction.Tsch word address)) r k q = refl
+  quiet-tells sets id (event.Execute cpu (instruction.Stsch word address)) r k q = refl
+  quiet-tells sets id (event.Execute cpu (instruction.Msch word address)) r k q = refl
+  quiet-tells sets id (event.Execute cpu (instruction.Enable word subclass multipath)) r k q = refl
+  quiet-tells sets id (event.Execute cpu (instruction.Rsch word)) r k q = refl
+  quiet-tells sets id (event.Execute cpu (instruction.Hsch word)) r k q = refl
+  quiet-tells sets id (event.Execute cpu (instruction.Csch word)) r k q = refl
+  quiet-tells sets id (event.Execute cpu (instruction.Xsch word)) r k q = refl
+  quiet-tells sets id (event.Choose word) r k q = absurd q
+  quiet-tells sets id (event.Up word path) r k q = absurd q
+  quiet-tells sets id (event.Down word path) r k q = absurd q
+  quiet-tells sets id (event.Report at report) r k q = absurd q
+
+  -- an event that tells nothing, at one subchannel
+  quiet-at : (id : SubchannelId) (s new : State) (e : Event) (r : Reply) (place : ℕ) (sub after : Subchannel) (k : Starts) → IsQuiet e r → OneSub s new place sub after → IsOfHold sub after →
+      Tells sub after.state k k → IsStateTold id k s.subs s.units → IsStateTold id (starts_after s.sets id e r k) new.subs new.units
+  quiet-at id s new e r place sub after k q one h f l =
+      let same : starts_after s.sets id e r k ≡ k = quiet-tells s.sets id e r k q in
+      told-at id s new place sub after k k _ one h f (silent-about _ place k _ same) (ap (λ (x : Starts). x.begun) same) l
+
+  links-walk : (id : SubchannelId) (k : Starts) (s : State) (e : Event) (r : Reply) (new : State) → Walked s e r new → IsStateTold id k s.subs s.units →
+      IsStateTold id (starts_after s.sets id e r k) new.subs new.units
+  links-walk id k s _ _ _ (walked.Stays e r new q sets subs units) l =
+      subst (λ (xs : List UnitState). IsStateTold id (starts_after s.sets id e r k) new.subs xs) (sym units)
+      (subst (λ (xs : List Subchannel). IsStateTold id (starts_after s.sets id e r k) xs s.units) (sym subs)
+      (subst (λ (next : Starts). IsStateTold id next s.subs s.units) (sym (quiet-tells s.sets id e r k q)) l))
+  links-walk id k s _ _ _ (walked.Started cpu word address place sub orb c new n one) l =
+      told-at id s new place sub _ k (with_start (start_with sub orb c).reply k) _ one (start-hold sub orb c) (start-tells sub orb c k)
+      (named-about s.subs id (subchannel_named s.sets word) place sub k (with_start (start_with sub orb c).reply k) n one.there)
+      (if-rises (is_id (subchannel_named s.sets word) id) k (with_start (start_with sub orb c).reply k) (start-begun sub orb c k)) l
+  links-walk id k s _ _ _ (walked.Tested e r place sub c new q one) l = quiet-at id s new e r place sub _ k q one (test-hold sub c) (test-tells sub c k) l
+  links-walk id k s _ _ _ (walked.Modified e r place sub given c new q one) l = quiet-at id s new e r place sub _ k q one (modify-hold sub given c) (modify-tells sub given c k) l
+  links-walk id k s _ _ _ (walked.Performed e r place sub f c new q one) l = quiet-at id s new e r place sub _ k q one (function-hold sub f c) (function-tells sub f c k) l
+  links-walk id k s _ _ _ (walked.Chosen word place sub choice t new n x h one) l =
+      told-at id s new place sub t.sub k (with_offer t.reply k) _ one
+      (subst (λ (r : Result SubTurn Fault). IfOk r (λ t. IsOfHold sub t.sub)) h (choose-turns laws.keeps sub (chosen sub choice) (chosen-fit sub choice)))
+      (subst (λ (r : Result SubTurn Fault). IfOk r (λ t. Tells sub t.sub.state k (with_offer t.reply k))) h (choose-tells sub (chosen sub choice) k (chosen-fit sub choice) (chosen-of sub choice)))
+      (named-about s.subs id (subchannel_named s.sets word) place sub k (with_offer t.reply k) n one.there)
+      (if-rises (is_id (subchannel_named s.sets word) id) k (with_offer t.reply k) (offer-begun t.reply k)) l
+  links-walk id k s _ _ _ (walked.Met word path returns place sub t new n h one) l =
+      told-at id s new place sub t.sub k k _ one
+      (subst (λ (r : Result UpTurn Fault). IfOk r (λ t. IsOfHold sub t.sub)) h (up-turns laws.keeps returns s.storage sub path))
+      (subst (λ (r : Result UpTurn Fault). IfOk r (λ t. Tells sub t.sub.state k k)) h (up_sub-tells returns s.storage sub path k))
+      (silent-about _ place k _ refl) refl l
+  links-walk id k s _ _ _ (walked.Sunk word path may place sub u t new n h one) l =
+      let kept : IsKept (IsEnd sub u t.reply) sub t.sub u t.«unit» k (with_taken t.reply k) =
+      subst (λ (r : Result DownTurn Fault). IfOk r (λ t. IsKept (IsEnd sub u t.reply) sub t.sub u t.«unit» k (with_taken t.reply k))) h (down-kept laws may sub path u k) in
+      told-unit _ id s new place sub.setup.«unit» sub t.sub u t.«unit» k (with_taken t.reply k) _ one refl kept
+      (named-about s.subs id (subchannel_named s.sets word) place sub k (with_taken t.reply k) n one.there)
+      (down-rises (is_id (subchannel_named s.sets word) id) k (with_taken t.reply k)
+      (λ b. unit-rises _ id s place sub.setup.«unit» sub t.sub u t.«unit» k (with_taken t.reply k) one.there one.found refl kept (named-place s.subs id (subchannel_named s.sets word) place n b) l)
+      l.rises)
+      l
+  links-walk id k s _ _ _ (walked.Reported at place sub u report t new n reached h one) l =
+      let both : ((sub.setup.«unit» == at) ≡ true) × (same_side sub.setup.side report.side ≡ true) = and_parts (sub.setup.«unit» == at) (same_side sub.setup.side report.side) reached in
+      told-unit _ id s new place at sub t.sub u t.«unit» k k _ one (sym (eqb-true sub.setup.«unit» at both.0))
+      (subst (λ (r : Result DownTurn Fault). IfOk r (λ t. IsKept (IsEnd sub u t.reply) sub t.sub u t.«unit» k k)) h (report-kept laws sub u report k both.1))
+      (silent-about _ place k _ refl) l.rises l
+
+  pub run-told : (setup : Setup) (id : SubchannelId) (h : List Entry) (s : State) → IsLawful setup → IsGood opening → Run (opening_of setup) h s →
+      (s.sets ≡ set_count setup) × IsStateTold id (starts (set_count setup) id h) s.subs s.units
   run-told setup id _ _ lawful good Opened =
       (refl, record { linked = opens-linked setup (place_in id (opening_of setup).subs) lawful good; rises = λ i j d less within. absurd (omega (arith, within)) })
   run-told setup id _ _ lawful good (Stepped h old e r new run step) =
-      let told : (old.sets ≡ set_count setup) × IsStateTold id (starts (set_count setup) id h) old = run-told setup id h old lawful good run in
-      let next : (new.sets ≡ old.sets) × IsStateTold id (starts_after old.sets id e r (starts (set_count setup) id h)) new =
-      (sets-stay old e r new step, step-walks old _ (links-walk id (starts (set_count setup) id h) old told.1) e r new step) in (
+      let told : (old.sets ≡ set_count setup) × IsStateTold id (starts (set_count setup) id h) old.subs old.units = run-told setup id h old lawful good run in
+      let next : (new.sets ≡ old.sets) × IsStateTold id (starts_after old.sets id e r (starts (set_count setup) id h)) new.subs new.units =
+      (sets-stay old e r new (laws.walks old e r new step), links-walk id (starts (set_count setup) id h) old e r new (laws.walks old e r new step) told.1) in (
         next.0 ∙ told.0,
-        subst (λ (k : Starts). IsStateTold id k new)
+        subst (λ (k : Starts). IsStateTold id k new.subs new.units)
             (ap (λ (sets : ℕ). starts_after sets id e r (starts (set_count setup) id h)) told.0 ∙ sym (starts-more (set_count setup) id no_starts h (record { event = e; reply = r })))
             next.1,
       )
@@ -261,7 +314,7 @@ sound-agreed phase u w side e f k =
     subst (λ (v : UnitState). IsAgreed phase v side) f
     (subst (λ (x : HoldPhase). IsAgreed x w.«unit» side) e (record { agree = k.agree; one_path = k.one_path }))
 
-linked-agree : ((w : Links) (side : Side) → IsGood w → IsSound w side) → (s : State) (which : Option ℕ) (k : Starts) → AreLinked s.subs s.units which k → AllAgree s
+pub linked-agree : ((w : Links) (side : Side) → IsGood w → IsSound w side) → (s : State) (which : Option ℕ) (k : Starts) → AreLinked s.subs s.units which k → AllAgree s
 linked-agree means s which k l = λ place sub u e f.
     let x : IsLinked s.subs sub.setup.«unit» u which k = l.linked sub.setup.«unit» u f in
     sound-agreed sub.state.hold.phase u x.links sub.setup.side (ap (λ (h : HoldState). h.phase) (x.stand place sub e refl).hold) x.«unit» (means x.links sub.setup.side x.good)
@@ -270,6 +323,24 @@ pub run-agrees : IsGood opening → AreLaws → (setup : Setup) (h : List Entry)
 run-agrees good laws setup h s lawful run =
     let told = run-told laws setup (record { set = 0; number = 0 }) h s lawful good run in
     linked-agree laws.means s _ _ told.1.linked
+
+-- a Reset that the unit would take is above its floor
+abbrev pub Rises : Type 0
+Rises = (w : Links) (side : Side) (p r b : ℕ) → IsGood w → Contains (link_of w side).downs (record { path = p; signal = down.Reset r b }) → resets w.«unit» side r b ≡ true →
+    (side_of w.«unit» side).floor < r
+
+linked-above : Rises → (s : State) (which : Option ℕ) (k : Starts) → AreLinked s.subs s.units which k → AreAbove s
+linked-above rises s which k l = λ place sub u p r b e f front takes.
+    let x : IsLinked s.subs sub.setup.«unit» u which k = l.linked sub.setup.«unit» u f in
+    let link : IsLink sub (link_of x.links sub.setup.side) = x.stand place sub e refl in
+    subst (λ (v : UnitState). (side_of v sub.setup.side).floor < r) x.«unit»
+    (rises x.links sub.setup.side p r b x.good (covers-first (link_of x.links sub.setup.side).downs sub.wires.down p (down.Reset r b) link.downs front)
+    (subst (λ (v : UnitState). resets v sub.setup.side r b ≡ true) (sym x.«unit») takes))
+
+pub run-above : IsGood opening → AreLaws → Rises → (setup : Setup) (h : List Entry) (s : State) → IsLawful setup → Run (opening_of setup) h s → AreAbove s
+run-above good laws rises setup h s lawful run =
+    let told = run-told laws setup (record { set = 0; number = 0 }) h s lawful good run in
+    linked-above rises s _ _ told.1.linked
 
 -- the starts that began a program, of each subchannel, rise
 pub run-begins : IsGood opening → AreLaws → (setup : Setup) (h : List Entry) (s : State) → IsLawful setup → Run (opening_of setup) h s → IsBegunOnce (set_count setup) h

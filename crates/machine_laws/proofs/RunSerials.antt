@@ -26,6 +26,7 @@ use Rattle.machine_model.specs.declared.state.SubchannelState.{SubchannelState}
 use Rattle.machine_model.specs.Functions.{ends_suspended, without_programs, tested_wholly}
 use Rattle.machine_model.specs.Instructions.{condition_of, tested}
 use Rattle.machine_model.specs.Steps.{Turn, does, with_state, test_sub, test_code_of, tests, Executes_on, Executes, Step, Run, Opened, Stepped}
+use Rattle.step_laws.specs.Walks.{AreWalks}
 use Rattle.machine_laws.specs.Claims.{IsLater, is_same_id, is_id, serial_shown, serial_by, serial_of, serial_at, serials}
 use Rattle.machine_laws.proofs.Sound.{AreNumbered}
 use Rattle.machine_laws.proofs.RunSound.{SoundSub, one-of, run-sound, step-sets, step-later}
@@ -252,19 +253,19 @@ step-shows n id s (event.Up word path) r new a stays w = inl refl
 step-shows n id s (event.Down word path) r new a stays w = inl refl
 step-shows n id s (event.Report place report) r new a stays w = inl refl
 
-run-told : AreNumbered → (setup : Setup) (id : SubchannelId) (h : List Entry) (s : State) → Run (opening_of setup) h s → Told (set_count setup) id h s
-run-told numbered setup id _ _ Opened =
+run-told : AreWalks → AreNumbered → (setup : Setup) (id : SubchannelId) (h : List Entry) (s : State) → Run (opening_of setup) h s → Told (set_count setup) id h s
+run-told walks numbered setup id _ _ Opened =
     record {
       same_sets = refl;
       cleared = cleared-none (of_id id (opening_of setup).subs);
       rises = λ i j d less within. absurd (omega (arith, within));
     }
-run-told numbered setup id _ _ (Stepped h old e r new run step) =
-    let told : Told (set_count setup) id h old = run-told numbered setup id h old run in
-    let zip : AllZip IsLater old.subs new.subs = step-later numbered setup h old e r new run step in
-    told-step (set_count setup) id h old new (record { event = e; reply = r }) told zip (step-sets numbered old e r new step)
+run-told walks numbered setup id _ _ (Stepped h old e r new run step) =
+    let told : Told (set_count setup) id h old = run-told walks numbered setup id h old run in
+    let zip : AllZip IsLater old.subs new.subs = step-later walks numbered setup h old e r new run step in
+    told-step (set_count setup) id h old new (record { event = e; reply = r }) told zip (step-sets walks old e r new step)
     (subst (λ (sets : ℕ). Shows id old new (serial_of sets id e r)) told.same_sets
-    (step-shows (length h) id old e r new (run-sound numbered setup h old run) (place-stays id old.subs new.subs zip) step))
+    (step-shows (length h) id old e r new (run-sound walks numbered setup h old run) (place-stays id old.subs new.subs zip) step))
 
-pub serials-rise : AreNumbered → (setup : Setup) (h : List Entry) (s : State) → Run (opening_of setup) h s → (id : SubchannelId) → AllPairs (λ x y. x < y) (serials (set_count setup) id h)
-serials-rise numbered setup h s run id = (run-told numbered setup id h s run).rises
+pub serials-rise : AreWalks → AreNumbered → (setup : Setup) (h : List Entry) (s : State) → Run (opening_of setup) h s → (id : SubchannelId) → AllPairs (λ x y. x < y) (serials (set_count setup) id h)
+serials-rise walks numbered setup h s run id = (run-told walks numbered setup id h s run).rises

@@ -17,7 +17,8 @@ use Rattle.machine_model.specs.State.{State, opening_of, opened}
 use Rattle.machine_model.specs.Steps.{Step, Run, Opened, Stepped}
 use Rattle.machine_laws.specs.Claims.{IsLater}
 use Rattle.machine_laws.proofs.Sound.{Sound, AreNumbered, later, started-sound, wholly-sound, modified-sound, effect-sound, reset_sent-sound, halt_sent-sound, made-sound, offered-sound, up-sound}
-use Rattle.machine_laws.proofs.Moves.{IsKept, Changed, step-moves}
+use Rattle.step_laws.specs.Walks.{AreWalks}
+use Rattle.machine_laws.proofs.Moves.{IsKept, Changed, step-moves, sets-stay}
 
 -- one more event, above any floor
 abbrev pub Turns : ℕ → SubchannelState → SubchannelState → Type 0
@@ -36,7 +37,7 @@ turns numbered n = record {
   halts = λ s floor k. halt_sent-sound floor n s k;
   ends = λ s floor k. made-sound floor n s cause.HaltDone tt k;
   over = λ s floor k. made-sound floor n s cause.NoPath tt k;
-  takes = λ storage s path signal floor k. up-sound numbered floor n storage s path signal k;
+  takes = λ returns storage s path signal floor k. up-sound numbered returns floor n storage s path signal k;
 }
 
 abbrev pub no_serials : Serials
@@ -74,17 +75,17 @@ all-later n (x ∷ xs) (y ∷ ys) a z =
 opened-sound : (setups : List SubchannelSetup) → All (SoundSub 0) (map opened setups)
 opened-sound setups = All-map (SoundSub 0) opened setups (λ k d h. (omega arith, omega arith, omega arith, tt, refl, omega arith, omega arith, omega arith))
 
-pub run-sound : AreNumbered → (setup : Setup) (h : List Entry) (s : State) → Run (opening_of setup) h s → All (SoundSub (length h)) s.subs
-run-sound numbered setup _ _ Opened = opened-sound setup.subchannels
-run-sound numbered setup _ _ (Stepped h old e r new run step) =
+pub run-sound : AreWalks → AreNumbered → (setup : Setup) (h : List Entry) (s : State) → Run (opening_of setup) h s → All (SoundSub (length h)) s.subs
+run-sound walks numbered setup _ _ Opened = opened-sound setup.subchannels
+run-sound walks numbered setup _ _ (Stepped h old e r new run step) =
     subst (λ m. All (SoundSub m) new.subs) (sym (length-append h (record { event = e; reply = r } ∷ [])))
-    (all-after (length h) old.subs new.subs (step-moves (Turns (length h)) (turns numbered (length h)) old e r new step).subs (run-sound numbered setup h old run))
+    (all-after (length h) old.subs new.subs (step-moves (Turns (length h)) (turns numbered (length h)) old e r new (walks old e r new step)).subs (run-sound walks numbered setup h old run))
 
 -- a step after a run
-pub step-sets : AreNumbered → (s : State) (e : Event) (r : Reply) (new : State) → Step s e r new → new.sets ≡ s.sets
-step-sets numbered s e r new step = (step-moves (Turns 0) (turns numbered 0) s e r new step).sets
+pub step-sets : AreWalks → (s : State) (e : Event) (r : Reply) (new : State) → Step s e r new → new.sets ≡ s.sets
+step-sets walks s e r new step = sets-stay s e r new (walks s e r new step)
 
-pub step-later : AreNumbered → (setup : Setup) (h : List Entry) (s : State) (e : Event) (r : Reply) (new : State) → Run (opening_of setup) h s → Step s e r new →
+pub step-later : AreWalks → AreNumbered → (setup : Setup) (h : List Entry) (s : State) (e : Event) (r : Reply) (new : State) → Run (opening_of setup) h s → Step s e r new →
     AllZip IsLater s.subs new.subs
-step-later numbered setup h s e r new run step =
-    all-later (length h) s.subs new.subs (run-sound numbered setup h s run) (step-moves (Turns (length h)) (turns numbered (length h)) s e r new step).subs
+step-later walks numbered setup h s e r new run step =
+    all-later (length h) s.subs new.subs (run-sound walks numbered setup h s run) (step-moves (Turns (length h)) (turns numbered (length h)) s e r new (walks s e r new step)).subs

@@ -13,7 +13,7 @@ use Rattle.machine_model.specs.declared.state.SubchannelState.{SubchannelState}
 use Rattle.machine_model.specs.Causes.{without_begun, without_waiting, after_end, with_cause}
 use Rattle.machine_model.specs.Functions.{without_programs, tested_wholly, ends_suspended, dropped, halting, halted, drops_status}
 use Rattle.machine_model.specs.Instructions.{tested}
-use Rattle.machine_model.specs.Taking.{without_interruption, interrupted, interrupted_by, with_transfer, moving_on, suspended_alone, standing_still, suspending, halt_done, clear_done}
+use Rattle.machine_model.specs.Taking.{without_interruption, interrupted, interrupted_by, with_transfer, moving_on, suspended_alone, standing_still, suspending, halt_done, clear_done, with_attention}
 
 pub record IsSameHold (s x : SubchannelState) : Type 0 where
   pub drawn : x.drawn ≡ s.drawn
@@ -78,6 +78,9 @@ halt_done-same s = if-same s s.scsw.activity.halt_pending (with_cause s cause.Ha
 
 pub clear_done-same : (s : SubchannelState) → IsSameHold s (clear_done s)
 clear_done-same s = if-same s s.scsw.activity.clear_pending (with_cause s cause.ClearDone) s (cause-same s cause.ClearDone) (same-hold s s refl refl)
+
+pub attention-same : (s : SubchannelState) (shows : Bool) → IsSameHold s (with_attention s shows)
+attention-same s shows = if-same s shows (with_cause s cause.Attention) s (cause-same s cause.Attention) (same-hold s s refl refl)
 
 -- nor do the instructions TEST and HALT
 pub tested-same : (s : SubchannelState) → IsSameHold s (tested_wholly s)

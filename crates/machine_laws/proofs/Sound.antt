@@ -1,6 +1,6 @@
 -- What is kept of the state of a subchannel: its numbers, and when status is pending. Its serials are at least those of
 -- a floor, which may be any.
-use Rattle.std.proofs.Common.{◌≡◌, refl, sym, ◌∙◌, ℕ, ◌+◌, ◌≤◌, ◌==◌, Bool, true, false, not, nat_lt, Option, None, Some, List, arith}
+use Rattle.std.proofs.Common.{◌≡◌, refl, sym, ◌∙◌, ℕ, ◌+◌, ◌≤◌, ◌==◌, Bool, true, false, not, ◌&&◌, nat_lt, Option, None, Some, List, arith}
 use Rattle.std.specs.Prelude.{if◌then◌else◌}
 use Rattle.std.proofs.lemmas.Bool.{lt-ltb, le-ltb}
 use Rattle.orb_block.specs.declared.Orb.{Orb}
@@ -43,8 +43,9 @@ use Rattle.machine_model.specs.Causes.{joined_by, shown_of, without_begun, witho
 use Rattle.machine_model.specs.Choosing.{reset_sent, halt_sent, offered}
 use Rattle.machine_model.specs.Functions.{halting, dropped, cleared_scsw, without_programs, tested_wholly, drops_status, ends_suspended}
 use Rattle.machine_model.specs.Statuses.{with_status, has_status_modifier, chains_command, has_shown}
-use Rattle.machine_model.specs.Taking.{Met, meets, ignoring, quietly, without_interruption, interrupted_by, standing, goes_ahead, taking_over, suspended_alone, standing_still, suspending, beginning, begin_standing, halt_done, accepted_by, accept_by, with_transfer, moving_on, give_next, take_in, bytes_of, move_bytes, move_data, take_data, with_end, chaining, chain_with, goes_on, end_shown_at, stops_at, command_ended, end_of, end_command, reset_taken, takes_up, with_path, let_go}
-use Rattle.machine_laws.proofs.Walk.{Function, Resumes, Halts, Clears, Cancels, effect_of}
+use Rattle.machine_model.specs.Losing.{has_any, is_offered_or_held, reset_drawn, reset_with, reset_for}
+use Rattle.machine_model.specs.Taking.{with_known, Met, meets, ignoring, quietly, without_interruption, interrupted_by, standing, goes_ahead, taking_over, suspended_alone, standing_still, suspending, beginning, begin_standing, halt_done, accepted_by, accept_by, with_transfer, moving_on, give_next, take_in, bytes_of, move_bytes, move_data, take_data, with_end, chaining, chain_with, goes_on, end_shown_at, stops_at, command_ended, end_of, end_command, reset_taken, may_attend, takes_up, with_path, let_go}
+use Rattle.step_laws.specs.Walks.{Function, Resumes, Halts, Clears, Cancels, effect_of}
 
 abbrev pub Sound : Serials → ℕ → SubchannelState → Type 0
 Sound floor n s =
@@ -378,16 +379,29 @@ module _ (numbered : AreNumbered) where
       pick-state floor (n + 1) s.scsw.activity.clear_pending (with_cause (record s { hold = step.state }) cause.ClearDone) (record s { hold = step.state })
       (made-sound floor n (record s { hold = step.state }) cause.ClearDone tt k) (later floor n s k)
 
-  pub up-sound : (floor : Serials) (n : ℕ) (storage : Contents) (s : SubchannelState) (p : ℕ) (signal : Up) → Sound floor n s →
-      Sound floor (n + 1) (takes_up storage s p signal).step.state
-  up-sound floor n storage s p (up.Accept t) k =
+  drawn-ready : (floor : Serials) (n : ℕ) (s : SubchannelState) → Sound floor n s → Ready floor n (reset_drawn s)
+  drawn-ready floor n s k = (omega (arith, k.0), omega (arith, k.1), k.2, moved-later n s.begun k.3, k.4, k.5, k.6, k.7)
+
+  reset_with-sound : (floor : Serials) (n : ℕ) (s : SubchannelState) (shows : Bool) → Sound floor n s → Sound floor (n + 1) (reset_with s shows)
+  reset_with-sound floor n s true k = cause-sound floor n (reset_drawn s) cause.InterfaceControlCheck tt (drawn-ready floor n s k)
+  reset_with-sound floor n s false k = ready-sound floor n (reset_drawn s) (drawn-ready floor n s k)
+
+  pub up-sound : (returns : Bool) → (floor : Serials) (n : ℕ) (storage : Contents) (s : SubchannelState) (p : ℕ) (signal : Up) → Sound floor n s →
+      Sound floor (n + 1) (takes_up returns storage s p signal).step.state
+  up-sound returns floor n storage s p (up.Accept t) k =
       let step = hold_takes s.hold p (up.Accept t) (goes_ahead s) in accept-sound floor n storage s (hold_after s.hold step) (came_of step) k
-  up-sound floor n storage s p (up.Busy t) k = later floor n s k
-  up-sound floor n storage s p (up.Leave t c) k = later floor n s k
-  up-sound floor n storage s p (up.Back t c) k = later floor n s k
-  up-sound floor n storage s p (up.Data t c m seq load) k = data-sound floor n storage s p t c m seq load k
-  up-sound floor n storage s p (up.End t m st more) k = end-sound floor n storage s p t m st more k
-  up-sound floor n storage s p (up.Released t) k = later floor n s k
-  up-sound floor n storage s p (up.Cleared r) k = reset-sound floor n s (hold_takes s.hold p (up.Cleared r) false) k
-  up-sound floor n storage s p (up.Notice b) k = later floor n s k
-  up-sound floor n storage s p (up.Attn a st) k = later floor n s k
+  up-sound returns floor n storage s p (up.Busy t) k = later floor n s k
+  up-sound returns floor n storage s p (up.Leave t c) k = later floor n s k
+  up-sound returns floor n storage s p (up.Back t c) k = later floor n s k
+  up-sound returns floor n storage s p (up.Data t c m seq load) k = data-sound floor n storage s p t c m seq load k
+  up-sound returns floor n storage s p (up.End t m st more) k = end-sound floor n storage s p t m st more k
+  up-sound returns floor n storage s p (up.Released t) k = later floor n s k
+  up-sound returns floor n storage s p (up.Cleared r) k = reset-sound floor n s (hold_takes s.hold p (up.Cleared r) false) k
+  up-sound returns floor n storage s p (up.Notice b) k =
+      pick floor (n + 1) (nat_lt s.hold.known b) (quietly (reset_for (with_known s b))) (ignoring s)
+      (reset_with-sound floor n (with_known s b) (is_offered_or_held s.hold.phase && has_any s.waiting s.begun s.suspended) k) (later floor n s k)
+  up-sound returns floor n storage s p (up.Attn a st) k =
+      let step : Option HoldStep = hold_takes s.hold p (up.Attn a st) (may_attend s) in
+      let next : SubchannelState = record s { hold = hold_after s.hold step } in
+      pick-state floor (n + 1) ((came_of step).taken && not (st.0 == 0x20)) (with_cause next cause.Attention) next
+      (made-sound floor n next cause.Attention tt k) (later floor n s k)

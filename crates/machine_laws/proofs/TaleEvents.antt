@@ -46,7 +46,7 @@ use Rattle.machine_laws.proofs.Moves.{if-ok}
 use Rattle.machine_laws.proofs.Tales.{IsAccepted, AreSpent, AreSpentBut, IsTold, told-wider, told-same, told-turned, told-start, told-offer, told-resume, busy-spent, begun-of}
 use Rattle.machine_laws.proofs.Waits.{IsBegunHeld, Waits, Turned, IsCalm, kept, none, cause-calm, without_waiting-begun, none-held, held-on, moved-as, calm-turned}
 use Rattle.machine_laws.proofs.WaitsUp.{takes-turned}
-use Rattle.machine_laws.proofs.Walk.{Function, Resumes, Halts, Clears, Cancels, effect_of}
+use Rattle.step_laws.specs.Walks.{Function, Resumes, Halts, Clears, Cancels, effect_of}
 
 -- Select is answered by an Accept of its own number, or by no Accept
 abbrev IsAcceptOf : ℕ → Up → Type 0
@@ -256,20 +256,20 @@ choose-tells sub (chosen_is.Offers c path) k fit of =
     if-ok (λ t. Tells sub t.sub.state k (with_offer t.reply k)) (is_full sub.wires.down path) _ _ tt (offer-tells sub c path c.resumes k refl fit of)
 
 -- Up
-up-tells : (storage : Contents) (sub : Subchannel) (path : ℕ) (x : Up) (k : Starts) → slice_get (queue sub.wires.up path) 0 ≡ Some x →
-    Tells sub (takes_up storage sub.state path x).step.state k k
-up-tells storage sub path x k e w side b t =
-    told-turned k sub.state (takes_up storage sub.state path x).step.state w side
-    (takes-turned (AreSpent w side k) (AreSpentBut w side k) storage sub.state path x (λ u f but. busy-spent k w side u (b path u (e ∙ ap Some f)) but) t.waits)
+up-tells : (returns : Bool) → (storage : Contents) (sub : Subchannel) (path : ℕ) (x : Up) (k : Starts) → slice_get (queue sub.wires.up path) 0 ≡ Some x →
+    Tells sub (takes_up returns storage sub.state path x).step.state k k
+up-tells returns storage sub path x k e w side b t =
+    told-turned k sub.state (takes_up returns storage sub.state path x).step.state w side
+    (takes-turned (AreSpent w side k) (AreSpentBut w side k) returns storage sub.state path x (λ u f but. busy-spent k w side u (b path u (e ∙ ap Some f)) but) t.waits)
     t
 
-front-tells : (storage : Contents) (sub : Subchannel) (path : ℕ) (front : Option Up) (k : Starts) → slice_get (queue sub.wires.up path) 0 ≡ front →
-    IfOk (up_front storage sub path front) (λ t. Tells sub t.sub.state k k)
-front-tells storage sub path None k e = tt
-front-tells storage sub path (Some x) k e =
-    if-ok (λ t. Tells sub t.sub.state k k) (finds_full sub.wires.down (takes_up storage sub.state path x).step.came.sent) _ _ tt (up-tells storage sub path x k e)
+front-tells : (returns : Bool) → (storage : Contents) (sub : Subchannel) (path : ℕ) (front : Option Up) (k : Starts) → slice_get (queue sub.wires.up path) 0 ≡ front →
+    IfOk (up_front returns storage sub path front) (λ t. Tells sub t.sub.state k k)
+front-tells returns storage sub path None k e = tt
+front-tells returns storage sub path (Some x) k e =
+    if-ok (λ t. Tells sub t.sub.state k k) (finds_full sub.wires.down (takes_up returns storage sub.state path x).step.came.sent) _ _ tt (up-tells returns storage sub path x k e)
 
-pub up_sub-tells : (storage : Contents) (sub : Subchannel) (path : ℕ) (k : Starts) → IfOk (up_sub storage sub path) (λ t. Tells sub t.sub.state k k)
-up_sub-tells storage sub path k =
-    if-ok (λ t. Tells sub t.sub.state k k) (nat_lt path (length sub.setup.paths)) (up_front storage sub path (slice_get (queue sub.wires.up path) 0)) _
-    (front-tells storage sub path (slice_get (queue sub.wires.up path) 0) k refl) tt
+pub up_sub-tells : (returns : Bool) → (storage : Contents) (sub : Subchannel) (path : ℕ) (k : Starts) → IfOk (up_sub returns storage sub path) (λ t. Tells sub t.sub.state k k)
+up_sub-tells returns storage sub path k =
+    if-ok (λ t. Tells sub t.sub.state k k) (nat_lt path (length sub.setup.paths)) (up_front returns storage sub path (slice_get (queue sub.wires.up path) 0)) _
+    (front-tells returns storage sub path (slice_get (queue sub.wires.up path) 0) k refl) tt

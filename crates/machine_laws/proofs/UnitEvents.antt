@@ -1,7 +1,6 @@
 -- What an event leaves of a subchannel and its unit follows from what held of the unit and its links.
-use Rattle.std.proofs.Common.{◌≡◌, refl, sym, ◌∙◌, ap, subst, ℕ, ◌==◌, ◌&&◌, ◌≤◌, Bool, true, false, nat_lt, length, Option, None, Some, Result, List, arith}
-use Rattle.std.specs.Prelude.{◌≢◌, if◌then◌else◌, slice_get, All, IfOk, IfSome, Contains}
-use Rattle.std.proofs.lemmas.List.Elements.{All-contains}
+use Rattle.std.proofs.Common.{◌≡◌, refl, sym, ◌∙◌, ap, subst, ℕ, ◌==◌, ◌&&◌, Bool, true, false, nat_lt, length, Option, None, Some, Result, List, inl, inr}
+use Rattle.std.specs.Prelude.{◌⊎◌, ◌≢◌, if◌then◌else◌, slice_get, All, IfOk, IfSome, Contains}
 use Rattle.chan_model.specs.declared.fault.Fault.{Fault}
 use Rattle.chan_model.specs.declared.names.Side.{Side}
 use Rattle.chan_model.specs.declared.names.Side.TheVariants.{First, Second}
@@ -17,13 +16,17 @@ use Rattle.chan_model.specs.declared.unit_state.Own.TheVariants as own
 use Rattle.chan_model.specs.declared.unit_state.UnitState.{UnitState}
 use Rattle.chan_model.specs.Sides.{same_side}
 use Rattle.chan_model.specs.UnitTable as unit_table
-use Rattle.chan_model.specs.UnitTable.{UnitStep, unit_takes, unit_after}
+use Rattle.chan_model.specs.UnitTable.{UnitStep, resets, unit_takes, unit_after}
 use Rattle.chan_model.specs.UnitReports.{unit_reports, report_on, report_of}
 use Rattle.wires.specs.Queues.{queue, taken}
-use Rattle.agreement_laws.specs.Claims.{IsPassed}
+use Rattle.agreement_laws.specs.Claims.{IsPassed, IsResetDue, DoAgree, IsReset, IsTakenBy}
+use Rattle.machine_laws.specs.Agreeing.{IsEnd}
+use Rattle.chan_model.specs.declared.signal.Down.TheVariants as down
+use Rattle.chan_model.specs.declared.hold_state.HoldState.{HoldState}
+use Rattle.chan_model.specs.declared.hold_state.HoldPhase.TheVariants as hold
 use Rattle.agreement_laws.specs.Links.{Link, Links, link_of, with_accepted}
 use Rattle.agreement_laws.specs.Moving.{UnitAct, Takes_down, Reports, unit_steps, is_to, is_owner_side, sent_by, sent_to, up_sent, Unit_acts, IsUnitGiven, Step}
-use Rattle.agreement_laws.specs.Invariant.{ends_of, IsUpGood, IsSideGood, IsGood}
+use Rattle.agreement_laws.specs.Invariant.{IsGood}
 use Rattle.machine_model.specs.declared.state.Subchannel.{Subchannel}
 use Rattle.machine_model.specs.Steps.{DownTurn, with_any_sent, finds_full, down_front, down_sub, report_taken, report_sub}
 use Rattle.machine_laws.proofs.Growth.{one-wider, one-within, Covers, covers-taken, covers-sent, covers-wider, covers-first, IsLink, IsWider, told, told-step, AreLaws, IsReached, links_of}
@@ -31,11 +34,10 @@ use Rattle.machine_laws.specs.Beginnings.{Starts, with_taken}
 use Rattle.machine_laws.proofs.Tales.{IsAccepted, IsTold, told-wider}
 use Rattle.machine_laws.proofs.TaleEvents.{takes-of, accepted-wider, Wide, taken-told, AreBusyPassed, Tells}
 use Rattle.machine_laws.proofs.Places.{same-side, one-side}
-use Rattle.machine_laws.proofs.HoldEvents.{IsTame, IsOfHold}
-use Rattle.machine_laws.proofs.UnitPlain.{takes-plain, report-plain}
+use Rattle.machine_laws.proofs.HoldEvents.{IsOfHold}
 
 -- the links of a unit after an event at the subchannel of this side, and what is told of the subchannel before and after it
-pub record Follows (w : Links) (side : Side) (sub new : Subchannel) (v : UnitState) (k next : Starts) : Type 0 where
+pub record Follows (T : Type 0) (w : Links) (side : Side) (sub new : Subchannel) (v : UnitState) (k next : Starts) : Type 0 where
   pub links : Links
   pub good : IsGood links
   pub «unit» : links.«unit» ≡ v
@@ -44,12 +46,12 @@ pub record Follows (w : Links) (side : Side) (sub new : Subchannel) (v : UnitSta
   pub passed : (j : Side) (t : ℕ) → IsPassed w j t → IsPassed links j t
   pub accepted : (j : Side) (t : ℕ) → IsAccepted w j t → IsAccepted links j t
   pub told : IsTold k sub.state w side → IsTold next new.state links side
+  pub ends : (j : Side) → IsResetDue w j → IsResetDue links j ⊎ ((same_side side j ≡ true) × T × DoAgree links j)
 
--- an event that left these of a subchannel and its unit, which never restarted
-pub record IsKept (sub new : Subchannel) (u v : UnitState) (k next : Starts) : Type 0 where
+-- an event that left these of a subchannel and its unit, and in which, or in none, a reset is taken
+pub record IsKept (T : Type 0) (sub new : Subchannel) (u v : UnitState) (k next : Starts) : Type 0 where
   pub setup : new.setup ≡ sub.setup
-  pub restarts : u.restarts ≡ 0 → v.restarts ≡ 0
-  pub follows : (w : Links) → IsGood w → w.«unit» ≡ u → u.restarts ≡ 0 → IsLink sub (link_of w sub.setup.side) → Follows w sub.setup.side sub new v k next
+  pub follows : (w : Links) → IsGood w → w.«unit» ≡ u → IsLink sub (link_of w sub.setup.side) → Follows T w sub.setup.side sub new v k next
 
 same-wider : (l : Link) → IsWider l l
 same-wider l = record { drawn = refl; hold = refl; downs = λ x c. c; ups = λ x c. c }
@@ -82,11 +84,12 @@ hold-told : (sub new : Subchannel) (k next : Starts) (w m : Links) (side : Side)
 hold-told sub new k next w m side f b p a t = f m side (λ path n e. p n (b path n e)) (told-wider k sub.state w m side p a t)
 
 hold-follows : (w : Links) (side : Side) (sub new : Subchannel) (k next : Starts) → IsGood w → IsReached (link_of w side) new → Tells sub new.state k next → AreBusyPassed sub w side →
-    Follows w side sub new w.«unit» k next
+    Follows ⊥ w side sub new w.«unit» k next
 hold-follows w First sub new k next g r f b =
     record {
       links = links_of First w.«unit» r.link w.second;
-      good = r.leads First w.«unit» w.second g;
+      good = (r.leads First w.«unit» w.second g).good;
+      ends = λ j d. inl ((r.leads First w.«unit» w.second g).due j d);
       «unit» = refl;
       here = r.is;
       there = λ j e. elim j as (λ j. same_side First j ≡ false → IsWider (link_of w j) (link_of (links_of First w.«unit» r.link w.second) j)) [ First ↦ λ e. absurd (cc e) | Second ↦ λ e. same-wider w.second ] e;
@@ -97,7 +100,8 @@ hold-follows w First sub new k next g r f b =
 hold-follows w Second sub new k next g r f b =
     record {
       links = links_of Second w.«unit» r.link w.first;
-      good = r.leads Second w.«unit» w.first g;
+      good = (r.leads Second w.«unit» w.first g).good;
+      ends = λ j d. inl ((r.leads Second w.«unit» w.first g).due j d);
       «unit» = refl;
       here = r.is;
       there = λ j e. elim j as (λ j. same_side Second j ≡ false → IsWider (link_of w j) (link_of (links_of Second w.«unit» r.link w.first) j)) [ First ↦ λ e. same-wider w.first | Second ↦ λ e. absurd (cc e) ] e;
@@ -106,29 +110,17 @@ hold-follows w Second sub new k next g r f b =
       told = hold-told sub new k next w (links_of Second w.«unit» r.link w.first) Second f b (second-passed w r.link r.accepted Second) (second-accepted w r.link r.accepted Second);
     }
 
-side-good : (w : Links) (side : Side) → IsGood w → IsSideGood w side
-side-good w First g = g.first
-side-good w Second g = g.second
-
-good-tame : (w : Links) (side : Side) → IsGood w → w.«unit».restarts ≡ 0 → IsTame (link_of w side).ups
-good-tame w side g e p b c =
-    let le : b ≤ w.«unit».restarts =
-    All-contains (λ x. IsUpGood (ends_of (link_of w side).drawn (link_of w side).hold w.«unit» side) (link_of w side).accepted x.path x.signal) (link_of w side).ups
-    (record { path = p; signal = up.Notice b }) (side-good w side g).ups c in
-    omega (arith, le, e)
-
 busy-passed : AreLaws → (sub : Subchannel) (w : Links) (side : Side) → IsGood w → IsLink sub (link_of w side) → AreBusyPassed sub w side
 busy-passed laws sub w side g k path t e =
     laws.busy w side (record { path = path; signal = up.Busy t }) t g (covers-first (link_of w side).ups sub.wires.up path (up.Busy t) k.ups e) refl
 
-pub hold-kept : AreLaws → (sub new : Subchannel) (u : UnitState) (k next : Starts) → IsOfHold sub new → Tells sub new.state k next → IsKept sub new u u k next
+pub hold-kept : AreLaws → (sub new : Subchannel) (u : UnitState) (k next : Starts) → IsOfHold sub new → Tells sub new.state k next → IsKept ⊥ sub new u u k next
 hold-kept laws sub new u k next h f =
     record {
       setup = h.setup;
-      restarts = λ e. e;
-      follows = λ w g e z l.
-          subst (λ (v : UnitState). Follows w sub.setup.side sub new v k next) e
-          (hold-follows w sub.setup.side sub new k next g (h.reaches (link_of w sub.setup.side) (good-tame w sub.setup.side g (ap (λ (v : UnitState). v.restarts) e ∙ z)) l) f
+      follows = λ w g e l.
+          subst (λ (v : UnitState). Follows ⊥ w sub.setup.side sub new v k next) e
+          (hold-follows w sub.setup.side sub new k next g (h.reaches (link_of w sub.setup.side) l) f
           (busy-passed laws sub w sub.setup.side g l));
     }
 
@@ -175,7 +167,7 @@ came-sent None = refl
 came-sent (Some step) = refl
 
 abbrev pub AreKept : Subchannel → UnitState → Starts → (Reply → Starts) → Result DownTurn Fault → Type 0
-AreKept sub u k g r = IfOk r (λ t. IsKept sub t.sub u t.«unit» k (g t.reply))
+AreKept sub u k g r = IfOk r (λ t. IsKept (IsEnd sub u t.reply) sub t.sub u t.«unit» k (g t.reply))
 
 if-kept : (sub : Subchannel) (u : UnitState) (k : Starts) (g : Reply → Starts) (b : Bool) (x y : Result DownTurn Fault) → AreKept sub u k g x → AreKept sub u k g y →
     AreKept sub u k g (if b then x else y)
@@ -209,19 +201,25 @@ report-side u (own.Owned k t place) r y e =
     owner-side k r.side ((r.number == t) && (r.command == u.last_command)) (report_on u t place u.at_hand r) y e
 
 module _ (laws : AreLaws) where
-  unit-follows : (w : Links) (act : UnitAct) (side : Side) (sub : Subchannel) (downs : List (List Down)) (k next : Starts) → IsGood w → IsUnitGiven w act →
+  unit-follows : (T : Type 0) (w : Links) (act : UnitAct) (side : Side) (sub : Subchannel) (downs : List (List Down)) (k next : Starts) → IsGood w → IsUnitGiven w act →
       is_to w.«unit» act side ≡ true → IsLink sub (link_of w side) → IsFewer sub.wires.down downs → TellsUnit sub w.«unit» act k next →
-      Follows w side sub (sent_up sub downs (sent_by (unit_steps w.«unit» act))) (unit_after w.«unit» (unit_steps w.«unit» act)) k next
-  unit-follows w act side sub downs k next g given e l f tells =
+      ((j : Side) → IsTakenBy w.«unit» (link_of w j).hold.phase act j → (same_side side j ≡ true) × T) → Follows T w side sub (sent_up sub downs (sent_by (unit_steps w.«unit» act))) (unit_after w.«unit» (unit_steps w.«unit» act)) k next
+  unit-follows T w act side sub downs k next g given e l f tells taken =
       let step : Step w (Unit_acts act) (told_links w act) =
       record { given = given; «unit» = refl; first = told-step w.first (up_sent w.«unit» act First); second = told-step w.second (up_sent w.«unit» act Second) } in
-      let good : IsGood (told_links w act) = laws.keeps w (Unit_acts act) (told_links w act) g step in
+      let all = laws.keeps w (Unit_acts act) (told_links w act) g step in
+      let good : IsGood (told_links w act) = all.0 in
       record {
         links = told_links w act;
         good = good;
         «unit» = refl;
         here = unit-link sub (link_of w side) (link_of (told_links w act) side) downs (sent_by (unit_steps w.«unit» act)) l (links-wider w act side) (sent-told w act side e) f;
         there = λ j h. links-wider w act j;
+        ends = λ j d.
+            elim (all.1 j d) [
+              | inl x ↦ inl x
+              | inr p ↦ let q = taken j p.0 in inr (q.0, q.1, p.1)
+            ];
         passed = λ j t p. laws.stays w (Unit_acts act) (told_links w act) j t g step p;
         accepted = told-accepted w act;
         told = tells w (told_links w act) side (record {
@@ -232,46 +230,77 @@ module _ (laws : AreLaws) where
         });
       }
 
-  unit-kept : (sub : Subchannel) (u : UnitState) (act : UnitAct) (downs : List (List Down)) (k next : Starts) →
+  unit-kept : (T : Type 0) (sub : Subchannel) (u : UnitState) (act : UnitAct) (downs : List (List Down)) (k next : Starts) →
       ((w : Links) → IsLink sub (link_of w sub.setup.side) → IsUnitGiven w act) → is_to u act sub.setup.side ≡ true → IsFewer sub.wires.down downs →
-      (u.restarts ≡ 0 → (unit_after u (unit_steps u act)).restarts ≡ 0) → TellsUnit sub u act k next →
-      IsKept sub (sent_up sub downs (sent_by (unit_steps u act))) u (unit_after u (unit_steps u act)) k next
-  unit-kept sub u act downs k next given to f still tells =
+      TellsUnit sub u act k next →
+      ((w : Links) → IsLink sub (link_of w sub.setup.side) → (j : Side) → IsTakenBy u (link_of w j).hold.phase act j → (same_side sub.setup.side j ≡ true) × T) →
+      IsKept T sub (sent_up sub downs (sent_by (unit_steps u act))) u (unit_after u (unit_steps u act)) k next
+  unit-kept T sub u act downs k next given to f tells taken =
       record {
         setup = refl;
-        restarts = still;
-        follows = λ w g e z l.
-            subst (λ (v : UnitState). Follows w sub.setup.side sub (sent_up sub downs (sent_by (unit_steps v act))) (unit_after v (unit_steps v act)) k next) e
-            (unit-follows w act sub.setup.side sub downs k next g (given w l) (ap (λ (v : UnitState). is_to v act sub.setup.side) e ∙ to) l f
-            (subst (λ (v : UnitState). TellsUnit sub v act k next) (sym e) tells));
+        follows = λ w g e l.
+            subst (λ (v : UnitState). Follows T w sub.setup.side sub (sent_up sub downs (sent_by (unit_steps v act))) (unit_after v (unit_steps v act)) k next) e
+            (unit-follows T w act sub.setup.side sub downs k next g (given w l) (ap (λ (v : UnitState). is_to v act sub.setup.side) e ∙ to) l f
+            (subst (λ (v : UnitState). TellsUnit sub v act k next) (sym e) tells)
+            (λ j t. taken w l j (subst (λ (v : UnitState). IsTakenBy v (link_of w j).hold.phase act j) e t)));
       }
 
   -- Down
-  down-tells : (sub : Subchannel) (path : ℕ) (u : UnitState) (x : Down) (k : Starts) →
-      TellsUnit sub u (Takes_down sub.setup.side (record { path = path; signal = x }) true) k
-      (with_taken (reply.Down x (unit_table.came_of (unit_takes u sub.setup.side path x true)).taken (unit_table.came_of (unit_takes u sub.setup.side path x true)).sent) k)
-  down-tells sub path u x k w m side h t =
-      let step = unit_takes u sub.setup.side path x true in
+  down-tells : (may : Bool) → (sub : Subchannel) (path : ℕ) (u : UnitState) (x : Down) (k : Starts) →
+      TellsUnit sub u (Takes_down sub.setup.side (record { path = path; signal = x }) may) k
+      (with_taken (reply.Down x (unit_table.came_of (unit_takes u sub.setup.side path x may)).taken (unit_table.came_of (unit_takes u sub.setup.side path x may)).sent) k)
+  down-tells may sub path u x k w m side h t =
+      let step = unit_takes u sub.setup.side path x may in
       taken-told k sub.state w m side x (unit_table.came_of step).taken (unit_table.came_of step).sent
-      (subst (Wide w m side) (came-sent step) h) (takes-of u sub.setup.side path x true) t
+      (subst (Wide w m side) (came-sent step) h) (takes-of u sub.setup.side path x may) t
 
-  down_front-kept : (sub : Subchannel) (path : ℕ) (u : UnitState) (k : Starts) (front : Option Down) → slice_get (queue sub.wires.down path) 0 ≡ front →
-      AreKept sub u k (λ r. with_taken r k) (down_front sub path u front)
-  down_front-kept sub path u k None e = tt
-  down_front-kept sub path u k (Some x) e =
-      let step = unit_takes u sub.setup.side path x true in
+  -- a Reset of the hold that the unit takes
+  if-taken : (b : Bool) (x : UnitStep) (y : Option UnitStep) → b ≡ true → (unit_table.came_of (if b then Some x else y)).taken ≡ true
+  if-taken true x y e = refl
+  if-taken false x y e = absurd (cc e)
+
+  reset-ends : (sub : Subchannel) (u : UnitState) (w : Links) (r b : ℕ) (j : Side) → IsLink sub (link_of w sub.setup.side) → sub.setup.side ≡ j →
+      IsReset u (link_of w j).hold.phase j (down.Reset r b) → (sub.state.hold.phase ≡ hold.Reset r) × (resets u sub.setup.side r b ≡ true)
+  reset-ends sub u w r b j l e t =
+      let mine : IsReset u (link_of w sub.setup.side).hold.phase sub.setup.side (down.Reset r b) =
+      subst (λ (k : Side). IsReset u (link_of w k).hold.phase k (down.Reset r b)) (sym e) t in
+      (ap (λ (h : HoldState). h.phase) (sym l.hold) ∙ mine.0, mine.1)
+
+  down-ends : (may : Bool) → (sub : Subchannel) (path : ℕ) (u : UnitState) (x : Down) (w : Links) → IsLink sub (link_of w sub.setup.side) → (j : Side) →
+      IsTakenBy u (link_of w j).hold.phase (Takes_down sub.setup.side (record { path = path; signal = x }) may) j →
+      (same_side sub.setup.side j ≡ true)
+      × IsEnd sub u (reply.Down x (unit_table.came_of (unit_takes u sub.setup.side path x may)).taken (unit_table.came_of (unit_takes u sub.setup.side path x may)).sent)
+  down-ends may sub path u (down.Reset r b) w l j t =
+      let q = reset-ends sub u w r b j l (one-side sub.setup.side j t.0) t.1 in
+      (t.0, (if-taken (resets u sub.setup.side r b) _ _ q.1, q.0, q.1))
+  down-ends may sub path u (down.Select t) w l j x = absurd x.1
+  down-ends may sub path u (down.Command t n code room) w l j x = absurd x.1
+  down-ends may sub path u (down.Grant t c) w l j x = absurd x.1
+  down-ends may sub path u (down.Refuse t c) w l j x = absurd x.1
+  down-ends may sub path u (down.Took t n s room) w l j x = absurd x.1
+  down-ends may sub path u (down.Give t c n s bytes) w l j x = absurd x.1
+  down-ends may sub path u (down.Halt t) w l j x = absurd x.1
+  down-ends may sub path u (down.Release t) w l j x = absurd x.1
+  down-ends may sub path u (down.Got a) w l j x = absurd x.1
+
+  down_front-kept : (may : Bool) → (sub : Subchannel) (path : ℕ) (u : UnitState) (k : Starts) (front : Option Down) → slice_get (queue sub.wires.down path) 0 ≡ front →
+      AreKept sub u k (λ r. with_taken r k) (down_front may sub path u front)
+  down_front-kept may sub path u k None e = tt
+  down_front-kept may sub path u k (Some x) e =
+      let step = unit_takes u sub.setup.side path x may in
       let next = with_taken (reply.Down x (unit_table.came_of step).taken (unit_table.came_of step).sent) k in
       if-kept sub u k (λ r. with_taken r k) (finds_full sub.wires.up (unit_table.came_of step).sent) _ _ tt
-      (subst (λ (one : Option (OnPath Up)). IsKept sub (sent_up sub (taken sub.wires.down path) one) u (unit_after u step) k next)
+      (subst (λ (one : Option (OnPath Up)). IsKept (IsEnd sub u (reply.Down x (unit_table.came_of step).taken (unit_table.came_of step).sent)) sub (sent_up sub (taken sub.wires.down path) one) u (unit_after u step) k next)
       (came-sent step)
-      (unit-kept sub u (Takes_down sub.setup.side (record { path = path; signal = x }) true) (taken sub.wires.down path) k next
+      (unit-kept _ sub u (Takes_down sub.setup.side (record { path = path; signal = x }) may) (taken sub.wires.down path) k next
       (λ w l. covers-first (link_of w sub.setup.side).downs sub.wires.down path x l.downs e) (same-side sub.setup.side)
-      (λ m c. covers-taken m sub.wires.down path c) (λ e. (takes-plain u sub.setup.side path x true).restarts ∙ e) (down-tells sub path u x k)))
+      (λ m c. covers-taken m sub.wires.down path c) (down-tells may sub path u x k)
+      (down-ends may sub path u x)))
 
-  pub down-kept : (sub : Subchannel) (path : ℕ) (u : UnitState) (k : Starts) → AreKept sub u k (λ r. with_taken r k) (down_sub sub path u)
-  down-kept sub path u k =
-      if-kept sub u k (λ r. with_taken r k) (nat_lt path (length sub.setup.paths)) (down_front sub path u (slice_get (queue sub.wires.down path) 0)) _
-      (down_front-kept sub path u k (slice_get (queue sub.wires.down path) 0) refl) tt
+  pub down-kept : (may : Bool) → (sub : Subchannel) (path : ℕ) (u : UnitState) (k : Starts) → AreKept sub u k (λ r. with_taken r k) (down_sub may sub path u)
+  down-kept may sub path u k =
+      if-kept sub u k (λ r. with_taken r k) (nat_lt path (length sub.setup.paths)) (down_front may sub path u (slice_get (queue sub.wires.down path) 0)) _
+      (down_front-kept may sub path u k (slice_get (queue sub.wires.down path) 0) refl) tt
 
   -- Report
   taken-kept : (sub : Subchannel) (u : UnitState) (r : Report) (k : Starts) (step : Option UnitStep) → unit_reports u r ≡ step → same_side sub.setup.side r.side ≡ true →
@@ -279,10 +308,10 @@ module _ (laws : AreLaws) where
   taken-kept sub u r k None h e = tt
   taken-kept sub u r k (Some y) h e =
       if-kept sub u k (λ r. k) (finds_full sub.wires.up y.sent) _ _ tt
-      (subst (λ (step : Option UnitStep). IsKept sub (sent_up sub sub.wires.down (sent_by step)) u (unit_after u step) k k) h
-      (unit-kept sub u (Reports r) sub.wires.down k k (λ w l. tt)
-      (subst (λ (side : Side). is_owner_side u.own side ≡ true) (sym (one-side sub.setup.side r.side e)) (report-side u u.own r y h)) (λ m c. c) (λ e. (report-plain u r).restarts ∙ e)
-      (λ w m side h t. told-wider k sub.state w m side h.passed h.accepted t)))
+      (subst (λ (step : Option UnitStep). IsKept ⊥ sub (sent_up sub sub.wires.down (sent_by step)) u (unit_after u step) k k) h
+      (unit-kept ⊥ sub u (Reports r) sub.wires.down k k (λ w l. tt)
+      (subst (λ (side : Side). is_owner_side u.own side ≡ true) (sym (one-side sub.setup.side r.side e)) (report-side u u.own r y h)) (λ m c. c)
+      (λ w m side h t. told-wider k sub.state w m side h.passed h.accepted t) (λ w l j t. absurd t)))
 
   pub report-kept : (sub : Subchannel) (u : UnitState) (r : Report) (k : Starts) → same_side sub.setup.side r.side ≡ true → AreKept sub u k (λ r. k) (report_sub sub u r)
   report-kept sub u r k e = taken-kept sub u r k (unit_reports u r) refl e

@@ -1,11 +1,13 @@
 -- The number of the last chunk at each unit is at most the number of events.
-use Rattle.std.proofs.Common.{◌≡◌, sym, subst, ℕ, ◌+◌, ◌<◌, true, nat_lt, Option, None, Some, Result, List, [], ◌∷◌, length, map, arith, length-append}
-use Rattle.std.specs.Prelude.{slice_get, All, IfOk}
+use Rattle.std.proofs.Common.{◌≡◌, sym, subst, ℕ, ◌+◌, ◌<◌, Bool, nat_lt, Option, None, Some, Result, List, [], ◌∷◌, length, map, arith, length-append}
+use Rattle.std.specs.Prelude.{slice_get, slice_set, All, IfOk}
 use Rattle.std.specs.List.{AllZip}
 use Rattle.std.proofs.lemmas.List.Elements.{All-map, AllZip-get_or, length_all_zip}
 use Rattle.chan_model.specs.declared.fault.Fault.{Fault}
 use Rattle.chan_model.specs.declared.report.Report.{Report}
+use Rattle.chan_model.specs.declared.event.Event.{Event}
 use Rattle.chan_model.specs.declared.reply.Entry.{Entry}
+use Rattle.chan_model.specs.declared.reply.Reply.{Reply}
 use Rattle.chan_model.specs.declared.signal.Down.{Down}
 use Rattle.chan_model.specs.declared.unit_state.UnitState.{UnitState}
 use Rattle.chan_model.specs.UnitTable as unit_table
@@ -20,21 +22,22 @@ use Rattle.machine_model.specs.State.{State, opening_of, idle_of}
 use Rattle.machine_model.specs.Steps.{DownTurn, finds_full, down_front, down_sub, report_taken, report_sub, Run, Opened, Stepped}
 use Rattle.machine_laws.proofs.Moves.{if-ok, zip-same, zip-set}
 use Rattle.machine_laws.proofs.UnitPlain.{IsPlain, IsPlainStep, stays, takes-plain, report-plain}
-use Rattle.machine_laws.proofs.Walk.{IsWalk, step-walks}
+use Rattle.step_laws.specs.Walks as walked
+use Rattle.step_laws.specs.Walks.{Walked, AreWalks}
 
 abbrev AreUnits : UnitState → Result DownTurn Fault → Type 0
 AreUnits u r = IfOk r (λ t. IsPlain u t.«unit»)
 
-front-plain : (sub : Subchannel) (path : ℕ) (u : UnitState) (front : Option Down) → AreUnits u (down_front sub path u front)
-front-plain sub path u None = tt
-front-plain sub path u (Some x) =
-    if-ok (λ t. IsPlain u t.«unit») (finds_full sub.wires.up (unit_table.came_of (unit_takes u sub.setup.side path x true)).sent) _ _ tt
-    (takes-plain u sub.setup.side path x true)
+front-plain : (may : Bool) → (sub : Subchannel) (path : ℕ) (u : UnitState) (front : Option Down) → AreUnits u (down_front may sub path u front)
+front-plain may sub path u None = tt
+front-plain may sub path u (Some x) =
+    if-ok (λ t. IsPlain u t.«unit») (finds_full sub.wires.up (unit_table.came_of (unit_takes u sub.setup.side path x may)).sent) _ _ tt
+    (takes-plain u sub.setup.side path x may)
 
-down-plain : (sub : Subchannel) (path : ℕ) (u : UnitState) → AreUnits u (down_sub sub path u)
-down-plain sub path u =
-    if-ok (λ t. IsPlain u t.«unit») (nat_lt path (length sub.setup.paths)) (down_front sub path u (slice_get (queue sub.wires.down path) 0)) _
-    (front-plain sub path u (slice_get (queue sub.wires.down path) 0)) tt
+down-plain : (may : Bool) → (sub : Subchannel) (path : ℕ) (u : UnitState) → AreUnits u (down_sub may sub path u)
+down-plain may sub path u =
+    if-ok (λ t. IsPlain u t.«unit») (nat_lt path (length sub.setup.paths)) (down_front may sub path u (slice_get (queue sub.wires.down path) 0)) _
+    (front-plain may sub path u (slice_get (queue sub.wires.down path) 0)) tt
 
 taken-plain : (sub : Subchannel) (u : UnitState) (step : Option UnitStep) → IsPlainStep u step → AreUnits u (report_taken sub step)
 taken-plain sub u None k = tt
@@ -49,18 +52,22 @@ ArePlain s new = AllZip IsPlain s.units new.units
 same-units : (s : State) → AllZip IsPlain s.units s.units
 same-units s = zip-same IsPlain stays s.units
 
-units-walk : (s : State) → IsWalk s (λ e r. ArePlain s)
-units-walk s = record {
-  stays = λ v r storage n. same-units s;
-  starts = λ cpu word address id place sub orb c n f e. same-units s;
-  tests = λ v r storage place sub c n e. same-units s;
-  modifies = λ v r storage place sub given c n e. same-units s;
-  functions = λ v r place sub f c n e. same-units s;
-  chooses = λ word place sub choice t n e h. same-units s;
-  ups = λ v r place sub path t n e h. same-units s;
-  downs = λ word place sub u path t n e f h. zip-set IsPlain stays s.units sub.setup.«unit» u t.«unit» f (subst (AreUnits u) h (down-plain sub path u));
-  reports = λ v q place at sub u report t n e f r h. zip-set IsPlain stays s.units place u t.«unit» f (subst (AreUnits u) h (report_sub-plain sub u report));
-}
+one-plain : (s new : State) (at : ℕ) (u v : UnitState) → slice_get s.units at ≡ Some u → new.units ≡ slice_set s.units at v → IsPlain u v → ArePlain s new
+one-plain s new at u v found e k = subst (λ (xs : List UnitState). AllZip IsPlain s.units xs) (sym e) (zip-set IsPlain stays s.units at u v found k)
+
+none-plain : (s new : State) → new.units ≡ s.units → ArePlain s new
+none-plain s new e = subst (λ (xs : List UnitState). AllZip IsPlain s.units xs) (sym e) (same-units s)
+
+units-walk : (s : State) (e : Event) (r : Reply) (new : State) → Walked s e r new → ArePlain s new
+units-walk s _ _ _ (walked.Stays e r new q sets subs units) = none-plain s new units
+units-walk s _ _ _ (walked.Started cpu word address place sub orb c new n one) = none-plain s new one.units
+units-walk s _ _ _ (walked.Tested e r place sub c new q one) = none-plain s new one.units
+units-walk s _ _ _ (walked.Modified e r place sub given c new q one) = none-plain s new one.units
+units-walk s _ _ _ (walked.Performed e r place sub f c new q one) = none-plain s new one.units
+units-walk s _ _ _ (walked.Chosen word place sub choice t new n x h one) = none-plain s new one.units
+units-walk s _ _ _ (walked.Met word path returns place sub t new n h one) = none-plain s new one.units
+units-walk s _ _ _ (walked.Sunk word path may place sub u t new n h one) = one-plain s new sub.setup.«unit» u t.«unit» one.found one.units (subst (AreUnits u) h (down-plain may sub path u))
+units-walk s _ _ _ (walked.Reported at place sub u report t new n k h one) = one-plain s new at u t.«unit» one.found one.units (subst (AreUnits u) h (report_sub-plain sub u report))
 
 units-after : (n : ℕ) (xs ys : List UnitState) → AllZip IsPlain xs ys → All (IsUnitWithin n) xs → All (IsUnitWithin (n + 1)) ys
 units-after n xs ys z a =
@@ -72,8 +79,8 @@ units-after n xs ys z a =
 opened-units : (kinds : List UnitKind) → All (IsUnitWithin 0) (map idle_of kinds)
 opened-units kinds = All-map (IsUnitWithin 0) idle_of kinds (λ k d h. tt)
 
-pub run-units : (setup : Setup) (h : List Entry) (s : State) → Run (opening_of setup) h s → All (IsUnitWithin (length h)) s.units
-run-units setup _ _ Opened = opened-units setup.units
-run-units setup _ _ (Stepped h old e r new run step) =
+pub run-units : AreWalks → (setup : Setup) (h : List Entry) (s : State) → Run (opening_of setup) h s → All (IsUnitWithin (length h)) s.units
+run-units walks setup _ _ Opened = opened-units setup.units
+run-units walks setup _ _ (Stepped h old e r new run step) =
     subst (λ m. All (IsUnitWithin m) new.units) (sym (length-append h (record { event = e; reply = r } ∷ [])))
-    (units-after (length h) old.units new.units (step-walks old (λ v q. ArePlain old) (units-walk old) e r new step) (run-units setup h old run))
+    (units-after (length h) old.units new.units (units-walk old e r new (walks old e r new step)) (run-units walks setup h old run))

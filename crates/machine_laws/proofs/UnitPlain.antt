@@ -23,7 +23,7 @@ use Rattle.chan_model.specs.declared.unit_state.SideState.{SideState}
 use Rattle.chan_model.specs.declared.unit_state.UnitState.{UnitState}
 use Rattle.chan_model.specs.Sides.{same_side}
 use Rattle.chan_model.specs.UnitTable.{UnitStep, changes, with_given, with_answer, side_of, with_side, owns, is_owner, is_owner_on, freed, raised, selected, given_next, answered_load, answered_last, granted_at, granted, refused_at, refused, without_side, resets, forgetting, unit_works, unit_takes, unit_after, telling}
-use Rattle.chan_model.specs.UnitReports.{is_outward, is_to_supply, most_of, may_end, end_sent, begun, absorbed, with_supplied, supplied, sent_again, answer_taken, report_on, report_of, unit_reports}
+use Rattle.chan_model.specs.UnitReports.{is_outward, is_to_supply, most_of, may_end, shown_end, end_sent, begun, absorbed, with_supplied, supplied, sent_again, answer_taken, report_on, report_of, unit_reports}
 use Rattle.machine_model.specs.Bounds.{IsAtWithin}
 
 -- a unit after a step that does not restart it
@@ -184,10 +184,10 @@ ended-plain u p t x true status more h = hand-same u x _ h refl
 ended-plain u p t x false status more h = stays u
 
 answer-plain : (u : UnitState) (p t c : ℕ) (x : AtHand) (at : Progress) (a : DeviceAnswer) → u.at_hand ≡ Some x → IsPlainStep u (answer_taken u p t c x at a)
-answer-plain u p t c x progress.New (answer.Ended status more) h = ended-plain u p t x (may_end u.halted x progress.New status more) status more h
-answer-plain u p t c x progress.Working (answer.Ended status more) h = ended-plain u p t x (may_end u.halted x progress.Working status more) status more h
-answer-plain u p t c x progress.ChannelEnded (answer.Ended status more) h = ended-plain u p t x (may_end u.halted x progress.ChannelEnded status more) status more h
-answer-plain u p t c x progress.Ended (answer.Ended status more) h = ended-plain u p t x (may_end u.halted x progress.Ended status more) status more h
+answer-plain u p t c x progress.New (answer.Ended status more) h = ended-plain u p t x (may_end u.halted x progress.New status more) (shown_end progress.New status) more h
+answer-plain u p t c x progress.Working (answer.Ended status more) h = ended-plain u p t x (may_end u.halted x progress.Working status more) (shown_end progress.Working status) more h
+answer-plain u p t c x progress.ChannelEnded (answer.Ended status more) h = ended-plain u p t x (may_end u.halted x progress.ChannelEnded status more) (shown_end progress.ChannelEnded status) more h
+answer-plain u p t c x progress.Ended (answer.Ended status more) h = ended-plain u p t x (may_end u.halted x progress.Ended status more) (shown_end progress.Ended status) more h
 answer-plain u p t c x progress.New answer.Begins h = begun-plain u p t c x h
 answer-plain u p t c x progress.Working answer.Begins h = stays u
 answer-plain u p t c x progress.ChannelEnded answer.Begins h = stays u

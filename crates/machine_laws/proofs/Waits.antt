@@ -1,6 +1,6 @@
 -- A program that waits is of the latest start: either nothing began for it, or it is offered under a number under which it
 -- may begin. A program that was begun holds the device.
-use Rattle.std.proofs.Common.{◌≡◌, refl, sym, ◌∙◌, ap, subst, ℕ, Bool, true, false, Option, None, Some, inl, inr}
+use Rattle.std.proofs.Common.{◌≡◌, refl, sym, ◌∙◌, ap, subst, ℕ, ◌≤◌, arith, Bool, true, false, Option, None, Some, inl, inr}
 use Rattle.std.specs.Prelude.{◌⊎◌, if◌then◌else◌}
 use Rattle.chan_model.specs.declared.hold_state.HoldPhase.{HoldPhase}
 use Rattle.chan_model.specs.declared.hold_state.HoldPhase.TheVariants as hold
@@ -42,8 +42,11 @@ pub record Waits (A : Type 0) (B : ℕ → Type 0) (s : SubchannelState) : Type 
 -- what an event that is no START and no offer leaves
 pub record Turned (A : Type 0) (B : ℕ → Type 0) (s x : SubchannelState) : Type 0 where
   pub starts : x.starts ≡ s.starts
-  pub drawn : x.drawn ≡ s.drawn
+  pub drawn : s.drawn ≤ x.drawn
   pub waits : Waits A B x
+
+pub no-less : (a b : ℕ) → b ≡ a → a ≤ b
+no-less a b e = omega (arith, e)
 
 -- the same program waits, or none
 pub record IsCalm (s x : SubchannelState) : Type 0 where
@@ -164,10 +167,10 @@ module _ (A : Type 0) (B : ℕ → Type 0) where
       ]
 
   pub calm-turned : (s x : SubchannelState) → IsCalm s x → WaitsAs A B s s.waiting → IsBegunHeld x.begun x.hold.phase → Turned A B s x
-  calm-turned s x c k h = record { starts = c.starts; drawn = c.drawn; waits = record { waiting = calm-as s x c k; begun = h } }
+  calm-turned s x c k h = record { starts = c.starts; drawn = no-less s.drawn x.drawn c.drawn; waits = record { waiting = calm-as s x c k; begun = h } }
 
   pub same-turned : (s : SubchannelState) → Waits A B s → Turned A B s s
-  same-turned s k = record { starts = refl; drawn = refl; waits = k }
+  same-turned s k = record { starts = refl; drawn = omega arith; waits = k }
 
   pub if-turned : (s : SubchannelState) (b : Bool) (x y : SubchannelState) → (b ≡ true → Turned A B s x) → (b ≡ false → Turned A B s y) → Turned A B s (if b then x else y)
   if-turned s true x y e f = e refl

@@ -1,5 +1,5 @@
 -- What waits at a subchannel, after it took a signal that came up.
-use Rattle.std.proofs.Common.{◌≡◌, refl, sym, ◌∙◌, ap, subst, ℕ, Bool, true, false, not, ◌==◌, Option, None, Some, is_some, inl, inr}
+use Rattle.std.proofs.Common.{◌≡◌, refl, sym, ◌∙◌, ap, subst, ℕ, Bool, true, false, not, ◌==◌, Option, None, Some, is_some, arith, inl, inr}
 use Rattle.std.specs.Prelude.{◌&&◌, nat_lt, if◌then◌else◌}
 use Rattle.std.proofs.lemmas.Bool.{eqb-true, eq-eqb, and_parts}
 use Rattle.storage_keys.specs.Storage.{Contents}
@@ -10,7 +10,7 @@ use Rattle.chan_model.specs.declared.hold_state.HoldState.{HoldState}
 use Rattle.chan_model.specs.declared.signal.Load.{Load}
 use Rattle.chan_model.specs.declared.signal.Up.{Up}
 use Rattle.chan_model.specs.declared.signal.Up.TheVariants as up
-use Rattle.chan_model.specs.HoldTable.{HoldStep, begun, found_busy, left, asked_back, released, cleared, noticed, attended, hold_takes, hold_after, is_connected, is_on}
+use Rattle.chan_model.specs.HoldTable.{came_of, HoldStep, begun, found_busy, left, asked_back, released, cleared, attended, hold_takes, hold_after, is_connected, is_on}
 use Rattle.chan_model.specs.Loads.{load_length}
 use Rattle.chan_model.specs.ResetCauses.{is_held}
 use Rattle.chan_model.specs.UnitReports.{is_last_end, is_outward, has_device_end}
@@ -30,8 +30,9 @@ use Rattle.machine_model.specs.declared.state.UpStep.{UpStep}
 use Rattle.scsw_irb.specs.declared.scsw.Scsw.{Scsw}
 use Rattle.machine_model.specs.Causes.{with_cause}
 use Rattle.machine_model.specs.Statuses.{has_status_modifier, chains_command}
-use Rattle.machine_model.specs.Taking.{Met, meets, ignoring, quietly, let_go, by_hold, without_interruption, interrupted_by, from_start, suspended_as, standing_as, standing, goes_ahead, with_path, taking_over, suspended_alone, standing_still, suspending, beginning, begin_standing, halt_done, accept, with_transfer, moving_on, give_next, take_in, bytes_of, move_bytes, move_data, with_end, chaining, chain_with, goes_on, end_shown_at, stops_at, command_ended, end_of, reset_taken, takes_up}
-use Rattle.machine_laws.proofs.Waits.{WaitsAs, IsBegunHeld, Waits, Turned, IsCalm, kept, cause-calm, fault-begun, fault-waiting, end-held, end-begun, not-begun, none-held, held-by, held-on, let-offer, moved-as, calm-as, calm-turned, same-turned, if-turned}
+use Rattle.machine_model.specs.Taking.{back, may_attend, with_attention, Met, meets, ignoring, quietly, let_go, by_hold, without_interruption, interrupted_by, from_start, suspended_as, standing_as, standing, goes_ahead, with_path, taking_over, suspended_alone, standing_still, suspending, beginning, begin_standing, halt_done, accept, with_transfer, moving_on, give_next, take_in, bytes_of, move_bytes, move_data, with_end, chaining, chain_with, goes_on, end_shown_at, stops_at, command_ended, end_of, reset_taken, takes_up}
+use Rattle.machine_laws.proofs.Resetting.{notice-turned}
+use Rattle.machine_laws.proofs.Waits.{no-less, WaitsAs, IsBegunHeld, Waits, Turned, IsCalm, kept, cause-calm, fault-begun, fault-waiting, end-held, end-begun, not-begun, none-held, held-by, held-on, let-offer, moved-as, calm-as, calm-turned, same-turned, if-turned}
 
 -- an offer stays, and so does what is held
 record IsStill (h : HoldState) (step : Option HoldStep) : Type 0 where
@@ -87,9 +88,6 @@ cleared-still h (hold.Away t) u e = no-step h
 cleared-still h (hold.Letting t p) u e = no-step h
 cleared-still h (hold.Reset r) u e = if-still h (u == r) _ None (other-phase h (hold.Reset r) _ e (λ v q g. absurd (cc g)) (λ g. absurd (cc g))) (no-step h)
 
-noticed-still : (h : HoldState) (b : ℕ) → IsStill h (noticed h b)
-noticed-still h b = if-still h (nat_lt h.known b) _ None (same-phase h _ refl) (no-step h)
-
 attended-still : (h : HoldState) (phase : HoldPhase) (p a : ℕ) (may : Bool) → h.phase ≡ phase → IsStill h (attended h phase p a may)
 attended-still h hold.Free p a may e = if-still h may _ None (same-phase h _ refl) (no-step h)
 attended-still h (hold.Offer t q) p a may e = no-step h
@@ -140,7 +138,7 @@ module _ (A : Type 0) (B : ℕ → Type 0) where
   bare-turned s x y b n w g a d =
       record {
         starts = a ∙ n.starts;
-        drawn = d ∙ n.drawn;
+        drawn = no-less s.drawn y.drawn (d ∙ n.drawn);
         waits = record {
           waiting = subst (λ (p : Option Program). WaitsAs A B y p) (sym (w ∙ b.0)) tt;
           begun = none-held y.begun y.hold.phase (g ∙ b.1);
@@ -154,7 +152,7 @@ module _ (A : Type 0) (B : ℕ → Type 0) where
   let-turned s x c n k =
       record {
         starts = c.starts;
-        drawn = c.drawn;
+        drawn = no-less s.drawn (let_go x).state.drawn c.drawn;
         waits = record {
           waiting = moved-as A B x (let_go x).state refl refl (λ t p e. let-offer x.hold x.hold.phase t p refl e) x.waiting (calm-as A B s x c k);
           begun = none-held x.begun (let_go x).state.hold.phase n;
@@ -175,12 +173,22 @@ module _ (A : Type 0) (B : ℕ → Type 0) where
   still-turned s step h k =
       record {
         starts = refl;
-        drawn = refl;
+        drawn = omega arith;
         waits = record {
           waiting = moved-as A B s (by_hold s step).state refl refl h.offer s.waiting k.waiting;
           begun = held-on s.begun s.hold.phase (hold_after s.hold step).phase h.held k.begun;
         };
       }
+
+  -- and a status that is made
+  calm-then : (s y x : SubchannelState) → IsCalm y x → IsBegunHeld x.begun x.hold.phase → Turned A B s y → Turned A B s x
+  calm-then s y x c h k =
+      let t : Turned A B y x = calm-turned A B y x c k.waits.waiting h in
+      record { starts = t.starts ∙ k.starts; drawn = omega (arith, t.drawn, k.drawn); waits = t.waits }
+
+  attention-turned : (s y : SubchannelState) (shows : Bool) → Turned A B s y → Turned A B s (with_attention y shows)
+  attention-turned s y true k = calm-then s y (with_cause y cause.Attention) (cause-calm y cause.Attention) k.waits.begun k
+  attention-turned s y false k = k
 
   reset-turned : (s : SubchannelState) (step : Option HoldStep) → Turned A B s (by_hold s step).state → Turned A B s (reset_taken s step).state
   reset-turned s None k = k
@@ -247,10 +255,10 @@ module _ (A : Type 0) (B : ℕ → Type 0) where
       Turned A B s (halt_done x)
   letting-turned s x a d w n same g k =
       if-turned A B s x.scsw.activity.halt_pending (with_cause x cause.HaltDone) x
-      (λ e. record { starts = a; drawn = d; waits = record { waiting = tt; begun = tt } })
+      (λ e. record { starts = a; drawn = no-less s.drawn x.drawn d; waits = record { waiting = tt; begun = tt } })
       (λ e. record {
         starts = a;
-        drawn = d;
+        drawn = no-less s.drawn x.drawn d;
         waits = record {
           waiting = subst (λ (q : Option Program). WaitsAs A B x q) (sym w)
               (refused-as s x s.waiting a refl (ap (λ (c : Scsw). c.activity.halt_pending) (sym same) ∙ e) g k);
@@ -308,7 +316,7 @@ module _ (A : Type 0) (B : ℕ → Type 0) where
   busy-if s h t q u true e f k =
       record {
         starts = refl;
-        drawn = refl;
+        drawn = omega arith;
         waits = record {
           waiting = freed-as (record s { hold = record h { phase = hold.Offer t q } }) (record s { hold = record h { phase = hold.Free } }) h t q s.waiting refl refl
               (λ b. f (subst B (sym (eqb-true u t e)) b)) k.waiting;
@@ -378,19 +386,26 @@ module _ (A : Type 0) (B : ℕ → Type 0) where
       (λ d. stops-turned s b p status more held k.waiting))
       (λ c. same-turned A B s k)
 
-  pub takes-turned : (storage : Contents) (s : SubchannelState) (p : ℕ) (x : Up) → ((u : ℕ) → x ≡ up.Busy u → B u → A) → Waits A B s → Turned A B s (takes_up storage s p x).step.state
-  takes-turned storage s p (up.Accept t) f k = accept-turned storage s s.hold s.hold.phase p t (goes_ahead s) refl k
-  takes-turned storage s p (up.Busy t) f k = busy-turned s s.hold s.hold.phase t (f t refl) k
-  takes-turned storage s p (up.Leave t c) f k = still-turned s (left s.hold s.hold.phase t c) (left-still s.hold s.hold.phase t c refl) k
-  takes-turned storage s p (up.Back t c) f k = still-turned s (asked_back s.hold s.hold.phase p t c false) (back-still s.hold s.hold.phase p t c false refl) k
-  takes-turned storage s p (up.Data t c n seq load) f k =
+  pub takes-turned : (returns : Bool) → (storage : Contents) (s : SubchannelState) (p : ℕ) (x : Up) → ((u : ℕ) → x ≡ up.Busy u → B u → A) → Waits A B s → Turned A B s (takes_up returns storage s p x).step.state
+  takes-turned returns storage s p (up.Accept t) f k = accept-turned storage s s.hold s.hold.phase p t (goes_ahead s) refl k
+  takes-turned returns storage s p (up.Busy t) f k = busy-turned s s.hold s.hold.phase t (f t refl) k
+  takes-turned returns storage s p (up.Leave t c) f k = still-turned s (left s.hold s.hold.phase t c) (left-still s.hold s.hold.phase t c refl) k
+  takes-turned returns storage s p (up.Back t c) f k =
+      let step : Option HoldStep = asked_back s.hold s.hold.phase p t c returns in
+      let turned : Turned A B s (by_hold s step).state = still-turned s step (back-still s.hold s.hold.phase p t c returns refl) k in
+      calm-then s (by_hold s step).state (back s p step).state (kept (by_hold s step).state (back s p step).state refl refl refl refl refl)
+      turned.waits.begun turned
+  takes-turned returns storage s p (up.Data t c n seq load) f k =
       if-met s (is_connected s.hold.phase p t c) (move_data storage s s.begun p t c n seq load) (meets storage (ignoring s))
       (move-turned storage s s.begun p t c n seq load refl k) (same-turned A B s k)
-  takes-turned storage s p (up.End t n status more) f k =
+  takes-turned returns storage s p (up.End t n status more) f k =
       if-step s (is_on s.hold.phase t) (end_of storage s s.begun p t n status more) (ignoring s)
       (λ e. end_of-turned storage s s.begun p t n status more refl k) (λ e. same-turned A B s k)
-  takes-turned storage s p (up.Released t) f k = still-turned s (released s.hold s.hold.phase t) (released-still s.hold s.hold.phase t refl) k
-  takes-turned storage s p (up.Cleared r) f k =
+  takes-turned returns storage s p (up.Released t) f k = still-turned s (released s.hold s.hold.phase t) (released-still s.hold s.hold.phase t refl) k
+  takes-turned returns storage s p (up.Cleared r) f k =
       reset-turned s (cleared s.hold s.hold.phase r) (still-turned s (cleared s.hold s.hold.phase r) (cleared-still s.hold s.hold.phase r refl) k)
-  takes-turned storage s p (up.Notice b) f k = still-turned s (noticed s.hold b) (noticed-still s.hold b) k
-  takes-turned storage s p (up.Attn a status) f k = still-turned s (attended s.hold s.hold.phase p a false) (attended-still s.hold s.hold.phase p a false refl) k
+  takes-turned returns storage s p (up.Notice b) f k = notice-turned A B s b (nat_lt s.hold.known b) k
+  takes-turned returns storage s p (up.Attn a status) f k =
+      let step : Option HoldStep = attended s.hold s.hold.phase p a (may_attend s) in
+      attention-turned s (by_hold s step).state ((came_of step).taken && not (status.0 == 0x20))
+      (still-turned s step (attended-still s.hold s.hold.phase p a (may_attend s) refl) k)

@@ -1,13 +1,20 @@
 -- When each subchannel and its unit agree on the program that holds the device (own).
-use Rattle.std.specs.Prelude.{◌≡◌, ◌⊎◌, ℕ, Some, List, slice_get}
+use Rattle.std.specs.Prelude.{◌≡◌, ◌⊎◌, ◌<◌, ℕ, true, Some, List, slice_get}
 use Rattle.chan_model.specs.declared.hold_state.HoldPhase.{HoldPhase}
 use Rattle.chan_model.specs.declared.names.Side.{Side}
+use Rattle.chan_model.specs.declared.hold_state.HoldPhase.TheVariants as hold
+use Rattle.chan_model.specs.declared.event.Event.{Event}
+use Rattle.chan_model.specs.declared.event.Event.TheVariants as event
 use Rattle.chan_model.specs.declared.reply.Entry.{Entry}
+use Rattle.chan_model.specs.declared.reply.Reply.{Reply}
+use Rattle.chan_model.specs.declared.reply.Reply.TheVariants as reply
 use Rattle.chan_model.specs.declared.unit_state.UnitState.{UnitState}
 use Rattle.chan_model.specs.Agreement.{Agrees, IsOutstanding, owner_of, moving_path, device_path}
-use Rattle.chan_model.specs.UnitTable.{side_of}
+use Rattle.chan_model.specs.UnitTable.{side_of, resets}
+use Rattle.chan_model.specs.declared.signal.Down.TheVariants as down
+use Rattle.wires.specs.Queues.{first_of}
 use Rattle.machine_model.specs.declared.state.Subchannel.{Subchannel}
-use Rattle.machine_model.specs.State.{State}
+use Rattle.machine_model.specs.State.{State, place_of}
 use Rattle.machine_model.specs.Steps.{Run}
 
 pub record IsAgreed (phase : HoldPhase) (u : UnitState) (side : Side) : Type 0 where
@@ -24,3 +31,24 @@ AllAgree s = (place : ℕ) (sub : Subchannel) (u : UnitState) → slice_get s.su
 -- these entries lead to a state in which they do
 abbrev pub LeadsToAgreed : State → List Entry → Type 0
 LeadsToAgreed opening h = (s : State) × Run opening h s × AllAgree s
+
+-- the signal that came down is the Reset of the hold, and the unit took it
+abbrev pub IsEnd : Subchannel → UnitState → Reply → Type 0
+IsEnd sub u (reply.Down (down.Reset r b) taken sent) = (taken ≡ true) × (sub.state.hold.phase ≡ hold.Reset r) × (resets u sub.setup.side r b ≡ true)
+IsEnd sub u r = ⊥
+
+abbrev pub IsDownTo : State → Event → ℕ → Type 0
+IsDownTo s (event.Down word path) place = place_of s word ≡ Some place
+IsDownTo s e place = ⊥
+
+-- a reset that isn't yet taken stays so in a step, but where in that step the unit takes it, and they agree right after
+abbrev pub EndsByReset : State → Event → Reply → State → Type 0
+EndsByReset s e r new = (place : ℕ) (sub after : Subchannel) (u v : UnitState) → slice_get s.subs place ≡ Some sub → slice_get new.subs place ≡ Some after →
+    slice_get s.units sub.setup.«unit» ≡ Some u → slice_get new.units sub.setup.«unit» ≡ Some v → IsOutstanding sub.state.hold.phase (side_of u sub.setup.side) →
+    IsOutstanding after.state.hold.phase (side_of v sub.setup.side)
+    ⊎ (IsDownTo s e place × IsEnd sub u r × Agrees after.state.hold.phase (owner_of v.own sub.setup.side))
+
+-- where the signal that waits longest on a wire down is a Reset that the unit would take, its number is above the floor
+abbrev pub AreAbove : State → Type 0
+AreAbove s = (place : ℕ) (sub : Subchannel) (u : UnitState) (p r b : ℕ) → slice_get s.subs place ≡ Some sub → slice_get s.units sub.setup.«unit» ≡ Some u →
+    first_of sub.wires.down p ≡ Some (down.Reset r b) → resets u sub.setup.side r b ≡ true → (side_of u sub.setup.side).floor < r

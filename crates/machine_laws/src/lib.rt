@@ -1,7 +1,8 @@
 //! What holds after every run of a channel subsystem: theorems over its definitions alone.
 #![tactic(auto)]
 
-ghost use Rattle.std.specs.Prelude.{◌≡◌, List, ◌++◌, All, length};
+ghost use Rattle.std.specs.Prelude.{◌≡◌, ℕ, List, ◌++◌, All, length, map};
+ghost use Rattle.machine_model.specs.Losing.{loses};
 ghost use Rattle.std.specs.List.{AllZip};
 ghost use Rattle.chan_model.specs.declared.event.Event.{Event};
 ghost use Rattle.chan_model.specs.declared.reply.Entry.{Entry};
@@ -11,11 +12,12 @@ ghost use Rattle.channel_config.specs.Setup.{Setup, set_count};
 ghost use Rattle.machine_model.specs.State.{State, opening_of};
 ghost use Rattle.machine_model.specs.Steps.{Step, Run};
 ghost use Rattle.machine_model.specs.Bounds.{IsWithin, IsUnitWithin};
-ghost use Rattle.machine_laws.specs.Agreeing.{AllAgree, LeadsToAgreed};
+ghost use Rattle.machine_laws.specs.Agreeing.{AllAgree, LeadsToAgreed, AreAbove, EndsByReset};
 ghost use Rattle.machine_laws.specs.Beginnings.{IsBegunOnce};
 ghost use Rattle.machine_laws.specs.Claims.{IsPendingUncleared, IsLater, IsClearedOnce};
 
-use agreement_laws::{agreement, passing};
+use agreement_laws::{agreement, passing, resets, rising};
+use step_laws::walks;
 use transfer::law::command_numbers;
 
 /// After each run the numbers of each subchannel, and of the chunks at each unit, are at most as many as there were events, and its status is pending
@@ -25,6 +27,7 @@ pub fn numbers()
     ensures units { (setup : Setup) (h : List Entry) (s : State) → Run (opening_of setup) h s → All (IsUnitWithin (length h)) s.units }
     ensures pending { (setup : Setup) (h : List Entry) (s : State) → Run (opening_of setup) h s → All IsPendingUncleared s.subs }
 {
+    walks();
     command_numbers();
 }
 
@@ -35,7 +38,15 @@ pub fn steps()
     ensures subs { (setup : Setup) (h : List Entry) (s : State) (e : Event) (r : Reply) (new : State) → Run (opening_of setup) h s →
         Step s e r new → AllZip IsLater s.subs new.subs }
 {
+    walks();
     command_numbers();
+}
+
+/// No step changes which subchannels there are, their order, or how one of them is set up.
+pub fn setups()
+    ensures stay { (s : State) (e : Event) (r : Reply) (new : State) → Step s e r new → map (λ sub. sub.setup) new.subs ≡ map (λ sub. sub.setup) s.subs }
+{
+    walks();
 }
 
 /// Of two TEST SUBCHANNEL instructions of one subchannel that answered condition code 0 (SA22-7832, chapter 14), the later
@@ -43,6 +54,7 @@ pub fn steps()
 pub fn serials()
     ensures rises { (setup : Setup) (h : List Entry) (s : State) → Run (opening_of setup) h s → IsClearedOnce (set_count setup) h }
 {
+    walks();
     command_numbers();
 }
 
@@ -53,7 +65,9 @@ pub fn agreements()
     ensures each { (setup : Setup) (h : List Entry) (later : List Entry) (s : State) → IsLawful setup → Run (opening_of setup) (h ++ later) s →
         LeadsToAgreed (opening_of setup) h }
 {
+    walks();
     agreement();
+    resets();
     passing();
 }
 
@@ -62,6 +76,42 @@ pub fn agreements()
 pub fn beginnings()
     ensures once { (setup : Setup) (h : List Entry) (s : State) → IsLawful setup → Run (opening_of setup) h s → IsBegunOnce (set_count setup) h }
 {
+    walks();
     agreement();
+    resets();
+    passing();
+}
+
+/// Where a channel path goes down after a run, and each subchannel loses it, they agree still.
+pub fn sweeps()
+    ensures agree { (setup : Setup) (h : List Entry) (s : State) (chpid : ℕ) → IsLawful setup → Run (opening_of setup) h s →
+        AllAgree (record s { subs = map (loses chpid) s.subs }) }
+{
+    walks();
+    agreement();
+    resets();
+    passing();
+}
+
+/// After each run of a lawful set-up the first Reset that waits for a unit, where the unit would take it, is above its floor.
+pub fn reset_numbers()
+    ensures above { (setup : Setup) (h : List Entry) (s : State) → IsLawful setup → Run (opening_of setup) h s → AreAbove s }
+{
+    walks();
+    agreement();
+    resets();
+    passing();
+    rising();
+}
+
+/// After each run of a lawful set-up a reset that isn't yet taken ends in no step but one in which the unit takes it, and both
+/// sides agree right after.
+pub fn ends()
+    ensures by_reset { (setup : Setup) (h : List Entry) (s : State) (e : Event) (r : Reply) (new : State) → IsLawful setup → Run (opening_of setup) h s →
+        Step s e r new → EndsByReset s e r new }
+{
+    walks();
+    agreement();
+    resets();
     passing();
 }

@@ -1,9 +1,11 @@
+pub mod Ruled
 pub mod State
 pub mod Statuses
 pub mod Instructions
 pub mod Choosing
 pub mod SubchannelBlocks
 pub mod Taking
+pub mod Losing
 pub mod Steps
 pub mod Bounds
 pub mod Functions

@@ -1,6 +1,6 @@
 -- What there is of a channel subsystem, as small values.
 use Rattle.std.proofs.Common.{lit<}
-use Rattle.std.specs.Prelude.{ℕ, zero, suc, ◌+◌, ◌%◌, ◌==◌, ◌&&◌, not, nat_lt, Bool, true, false, List, [], ◌∷◌, map, length, replicate, slice_get, slice_set, unwrap_or, Option, None, Some, if◌then◌else◌}
+use Rattle.std.specs.Prelude.{◌≡◌, ◌≤◌, ◌^◌, ◌⊎◌, ℕ, zero, suc, ◌+◌, ◌%◌, ◌==◌, ◌&&◌, not, nat_lt, Bool, true, false, List, [], ◌∷◌, map, length, replicate, slice_get, slice_set, unwrap_or, Option, None, Some, if◌then◌else◌}
 use Rattle.scsw_irb.specs.Empty.{zero_scsw}
 use Rattle.storage_keys.specs.Storage.{Contents, cleared}
 use Rattle.chan_model.specs.declared.unit_state.UnitState.{UnitState}
@@ -38,10 +38,25 @@ pub record State : Type 0 where
   pub subs : List Subchannel
   pub units : List UnitState
 
--- a state, and the accepted events with their replies that led there
+-- a state, the accepted events with their replies that led there, and for how many more of them there is room
 pub record Past : Type 0 where
   pub state : State
   pub history : List Entry
+  pub room : ℕ
+
+-- as before: of room, which may be made, nothing is said but that none was lost
+pub record IsAsBefore (old new : Past) : Type 0 where
+  pub state : new.state ≡ old.state
+  pub history : new.history ≡ old.history
+  pub room : old.room ≤ new.room
+
+-- there is no room for another event, or no number for it is left
+abbrev pub IsSpent : Past → Type 0
+IsSpent past = (past.room ≡ 0) ⊎ (2 ^ 62 ≤ length past.history + 1)
+
+-- nothing changed, room neither, and there was no room for the event, or no number
+abbrev pub LacksRoom : Past → Past → Type 0
+LacksRoom old new = (new ≡ old) × IsSpent old
 
 -- a subchannel at the opening: not enabled, all its paths logically available and operational (own)
 abbrev pub all_paths : List Bool

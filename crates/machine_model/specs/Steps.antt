@@ -359,13 +359,13 @@ up_with sub path signal m =
     if finds_full sub.wires.down m.step.came.sent then Err fault.WireFull
     else Ok (record { reply = reply.Up signal m.step.came.taken m.step.came.sent; sub = with_met sub path m.step; storage = m.storage })
 
-abbrev pub up_front : Contents → Subchannel → ℕ → Option Up → Result UpTurn Fault
-up_front storage sub path None = Err fault.NotSent
-up_front storage sub path (Some signal) = up_with sub path signal (takes_up storage sub.state path signal)
+abbrev pub up_front : Bool → Contents → Subchannel → ℕ → Option Up → Result UpTurn Fault
+up_front returns storage sub path None = Err fault.NotSent
+up_front returns storage sub path (Some signal) = up_with sub path signal (takes_up returns storage sub.state path signal)
 
-abbrev pub up_sub : Contents → Subchannel → ℕ → Result UpTurn Fault
-up_sub storage sub path =
-    if nat_lt path (length sub.setup.paths) then up_front storage sub path (slice_get (queue sub.wires.up path) 0)
+abbrev pub up_sub : Bool → Contents → Subchannel → ℕ → Result UpTurn Fault
+up_sub returns storage sub path =
+    if nat_lt path (length sub.setup.paths) then up_front returns storage sub path (slice_get (queue sub.wires.up path) 0)
     else Err fault.NoSuchPath
 
 abbrev pub at_storage : State → ℕ → Result UpTurn Fault → Outcome
@@ -375,7 +375,7 @@ at_storage s place (Ok t) = does t.reply (with_sub (record s { storage = t.stora
 abbrev pub up_at : State → Option ℕ → Option Subchannel → ℕ → Outcome
 up_at s None sub path = Err fault.NoSuchSubchannel
 up_at s (Some place) None path = Err fault.NoSuchSubchannel
-up_at s (Some place) (Some sub) path = at_storage s place (up_sub s.storage sub path)
+up_at s (Some place) (Some sub) path = at_storage s place (up_sub false s.storage sub path)
 
 -- Down: the unit takes the signal that waits longest; its control unit may serve it
 pub record DownTurn : Type 0 where
@@ -392,13 +392,13 @@ down_with sub path signal u step =
       «unit» = unit_after u step;
     })
 
-abbrev pub down_front : Subchannel → ℕ → UnitState → Option Down → Result DownTurn Fault
-down_front sub path u None = Err fault.NotSent
-down_front sub path u (Some signal) = down_with sub path signal u (unit_takes u sub.setup.side path signal true)
+abbrev pub down_front : Bool → Subchannel → ℕ → UnitState → Option Down → Result DownTurn Fault
+down_front may sub path u None = Err fault.NotSent
+down_front may sub path u (Some signal) = down_with sub path signal u (unit_takes u sub.setup.side path signal may)
 
-abbrev pub down_sub : Subchannel → ℕ → UnitState → Result DownTurn Fault
-down_sub sub path u =
-    if nat_lt path (length sub.setup.paths) then down_front sub path u (slice_get (queue sub.wires.down path) 0)
+abbrev pub down_sub : Bool → Subchannel → ℕ → UnitState → Result DownTurn Fault
+down_sub may sub path u =
+    if nat_lt path (length sub.setup.paths) then down_front may sub path u (slice_get (queue sub.wires.down path) 0)
     else Err fault.NoSuchPath
 
 abbrev pub at_unit : State → ℕ → ℕ → Result DownTurn Fault → Outcome
@@ -407,7 +407,7 @@ at_unit s place «unit» (Ok t) = does t.reply (with_unit (with_sub s place t.su
 
 abbrev pub down_unit : State → ℕ → Subchannel → ℕ → Option UnitState → Outcome
 down_unit s place sub path None = Err fault.NoSuchUnit
-down_unit s place sub path (Some u) = at_unit s place sub.setup.unit (down_sub sub path u)
+down_unit s place sub path (Some u) = at_unit s place sub.setup.unit (down_sub true sub path u)
 
 abbrev pub down_at : State → Option ℕ → Option Subchannel → ℕ → Outcome
 down_at s None sub path = Err fault.NoSuchSubchannel

@@ -1,5 +1,5 @@
 -- What a subchannel does with a signal that came up by a path (own).
-use Rattle.std.specs.Prelude.{ℕ, ◌+◌, ◌<◌, ◌^◌, Bool, true, false, not, ◌==◌, ◌&&◌, if◌then◌else◌, Option, None, Some, is_some, List, [], slice_set}
+use Rattle.std.specs.Prelude.{ℕ, nat_lt, ◌+◌, ◌<◌, ◌^◌, Bool, true, false, not, ◌==◌, ◌&&◌, ◌||◌, if◌then◌else◌, Option, None, Some, is_some, List, [], slice_set}
 use Rattle.scsw_irb.specs.declared.scsw.ActivityControl.{ActivityControl}
 use Rattle.scsw_irb.specs.declared.scsw.Scsw.{Scsw}
 use Rattle.scsw_irb.specs.declared.status.DeviceStatus.{DeviceStatus}
@@ -10,6 +10,7 @@ use Rattle.chan_model.specs.declared.hold_state.HoldState.{HoldState}
 use Rattle.chan_model.specs.declared.signal.Taken.{Taken}
 use Rattle.chan_model.specs.declared.signal.Load.{Load}
 use Rattle.chan_model.specs.declared.signal.Down.{Down}
+use Rattle.chan_model.specs.declared.signal.OnPath.{OnPath}
 use Rattle.chan_model.specs.declared.signal.Down.TheVariants as down
 use Rattle.chan_model.specs.declared.signal.Up.{Up}
 use Rattle.chan_model.specs.declared.signal.Up.TheVariants as up
@@ -36,6 +37,7 @@ use Rattle.machine_model.specs.declared.state.UpStep.{UpStep}
 use Rattle.machine_model.specs.declared.cause.Cause.TheVariants as cause
 use Rattle.machine_model.specs.declared.state.Standing.{Standing}
 use Rattle.machine_model.specs.Causes.{with_cause}
+use Rattle.machine_model.specs.Losing.{reset_for}
 use Rattle.machine_model.specs.Statuses.{has_status_modifier, chains_command}
 
 -- a subchannel after a signal, what came of the signal, and storage
@@ -263,10 +265,57 @@ abbrev pub reset_taken : SubchannelState → Option HoldStep → UpStep
 reset_taken s None = ignoring s
 reset_taken s (Some step) = record { state = clear_done (record s { hold = step.state }); came = came_of (Some step) }
 
--- what a subchannel does with a signal
-abbrev pub takes_up : Contents → SubchannelState → ℕ → Up → Met
-takes_up storage s p (up.Accept t) = meets storage (accept storage s (hold_takes s.hold p (up.Accept t) (goes_ahead s)))
-takes_up storage s p (up.Data t c n seq load) = take_data storage s p t c n seq load
-takes_up storage s p (up.End t n status more) = meets storage (end_command storage s p t n status more)
-takes_up storage s p (up.Cleared r) = meets storage (reset_taken s (hold_takes s.hold p (up.Cleared r) false))
-takes_up storage s p signal = meets storage (by_hold s (hold_takes s.hold p signal false))
+-- Notice: of more restarts than are known; they become known, and the hold is to be reset
+abbrev pub with_known : SubchannelState → ℕ → SubchannelState
+with_known s b = record s { hold = record s.hold { known = b } }
+
+abbrev pub notice : SubchannelState → ℕ → UpStep
+notice s b = if nat_lt s.hold.known b then quietly (reset_for (with_known s b)) else ignoring s
+
+-- Back: the path of a Grant is the one that was used last, and the one that was chosen last
+abbrev pub is_grant : Down → Bool
+is_grant (down.Grant t c) = true
+is_grant signal = false
+
+abbrev pub is_granted : Option (OnPath Down) → Bool
+is_granted None = false
+is_granted (Some answer) = is_grant answer.signal
+
+abbrev pub returned : SubchannelState → ℕ → Bool → SubchannelState
+returned s p granted = record s {
+  pmcw = record s.pmcw { last_used = if granted then Some p else s.pmcw.last_used };
+  last_path = if granted then Some p else s.last_path;
+}
+
+abbrev pub back : SubchannelState → ℕ → Option HoldStep → UpStep
+back s p step =
+    record { state = returned (record s { hold = hold_after s.hold step }) p (is_granted (came_of step).sent); came = came_of step }
+
+-- Attn: it may be taken where no status is pending and no more goes on than a start that waits; but for a control-unit end
+-- alone it makes status
+abbrev pub is_open : ActivityControl → Bool
+is_open a =
+    not (a.resume_pending || (a.halt_pending || (a.clear_pending || (a.subchannel_active || (a.device_active || a.suspended)))))
+
+abbrev pub may_attend : SubchannelState → Bool
+may_attend s = not s.scsw.status.pending && is_open s.scsw.activity
+
+abbrev pub with_attention : SubchannelState → Bool → SubchannelState
+with_attention s shows = if shows then with_cause s cause.Attention else s
+
+abbrev pub attend : SubchannelState → DeviceStatus → Option HoldStep → UpStep
+attend s status step = record {
+  state = with_attention (record s { hold = hold_after s.hold step }) ((came_of step).taken && not (status.0 == 0x20));
+  came = came_of step;
+}
+
+-- what a subchannel does with a signal; returns: a program that is away may come back by the path
+abbrev pub takes_up : Bool → Contents → SubchannelState → ℕ → Up → Met
+takes_up returns storage s p (up.Accept t) = meets storage (accept storage s (hold_takes s.hold p (up.Accept t) (goes_ahead s)))
+takes_up returns storage s p (up.Data t c n seq load) = take_data storage s p t c n seq load
+takes_up returns storage s p (up.End t n status more) = meets storage (end_command storage s p t n status more)
+takes_up returns storage s p (up.Cleared r) = meets storage (reset_taken s (hold_takes s.hold p (up.Cleared r) false))
+takes_up returns storage s p (up.Back t c) = meets storage (back s p (hold_takes s.hold p (up.Back t c) returns))
+takes_up returns storage s p (up.Notice b) = meets storage (notice s b)
+takes_up returns storage s p (up.Attn a status) = meets storage (attend s status (hold_takes s.hold p (up.Attn a status) (may_attend s)))
+takes_up returns storage s p signal = meets storage (by_hold s (hold_takes s.hold p signal false))

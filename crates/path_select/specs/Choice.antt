@@ -15,6 +15,10 @@ abbrev pub following : Option ℕ → ℕ
 following None = 0
 following (Some last) = (last + 1) % 8
 
+-- a rule of choice: by the usable paths and the path of the choice before, which path may be taken
+abbrev pub Rule : Type 1
+Rule = List Bool → Option ℕ → Option ℕ → Type 0
+
 -- how many steps a path is ahead of the first one, where 0 follows 7
 abbrev pub steps_to : ℕ → ℕ → ℕ
 steps_to first path = (path + 8 - first) % 8
@@ -28,3 +32,11 @@ IsNextFrom usable first (Some path) = (other : ℕ) → IsUsable usable other �
 abbrev pub IsLowest : List Bool → Option ℕ → Type 0
 IsLowest usable None = Unit {0}
 IsLowest usable (Some path) = (other : ℕ) → IsUsable usable other → path ≤ other
+
+-- the rule of the lowest path
+abbrev pub TakesLowest : Rule
+TakesLowest usable last path = IsLowest usable path
+
+-- the rule of the path that follows the last one
+abbrev pub TakesNext : Rule
+TakesNext usable last path = IsNextFrom usable (following last) path

@@ -7,16 +7,22 @@
 #![tactic(auto)]
 
 ghost use Rattle.std.specs.Prelude.{◌<◌, ◌+◌};
-ghost use Rattle.path_select.specs.Choice.{IsChoice, IsLowest, IsNextFrom, following};
+ghost use Rattle.path_select.specs.Choice.{IsChoice, IsNextFrom, TakesLowest, TakesNext};
 
 use chan_model::names::Path;
 use chan_model::paths::PathSet;
 
 /// Picks one of the usable paths.
 pub trait PathChoice {
+    ghost use Rattle.path_select.specs.Choice.{Rule};
+
+    // The rule of the choice: by the usable paths and the path of the choice before, which path may be taken.
+    ghost picks: { Rule };
+
     /// A path of the set; None where it is empty. `last` is the path of the choice before.
     fn choose(&self, usable: &PathSet, last: Option<Path>) -> Option<Path>
-        ensures { IsChoice usable.now result };
+        ensures law { IsChoice usable.now result }
+        ensures rule { picks usable.now last result };
 }
 
 /// The lowest path.
@@ -28,19 +34,17 @@ pub struct Lowest;
 pub struct Rotating;
 
 impl PathChoice for Lowest {
-    fn choose(&self, usable: &PathSet, _last: Option<Path>) -> Option<Path>
-        ensures law { IsChoice usable.now result }
-        ensures lowest { IsLowest usable.now result }
-    {
+    ghost picks = { TakesLowest };
+
+    fn choose(&self, usable: &PathSet, _last: Option<Path>) -> Option<Path> {
         first_from(usable, 0)
     }
 }
 
 impl PathChoice for Rotating {
-    fn choose(&self, usable: &PathSet, last: Option<Path>) -> Option<Path>
-        ensures law { IsChoice usable.now result }
-        ensures next { IsNextFrom usable.now (following last) result }
-    {
+    ghost picks = { TakesNext };
+
+    fn choose(&self, usable: &PathSet, last: Option<Path>) -> Option<Path> {
         match last {
             Some(path) => first_from(usable, (path.index() + 1) % 8),
             None => first_from(usable, 0),

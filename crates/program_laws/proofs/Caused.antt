@@ -12,7 +12,7 @@ use Rattle.machine_model.specs.declared.state.SubchannelState.{SubchannelState}
 use Rattle.machine_model.specs.Causes.{with_cause, without_begun, without_waiting, after_end, programs_left}
 use Rattle.machine_model.specs.Functions.{without_programs, halting, drops_status, dropped, halted, ends_suspended, tested_wholly}
 use Rattle.machine_model.specs.Instructions.{tested}
-use Rattle.machine_model.specs.Taking.{without_interruption, interrupted, standing_still, suspended_alone, suspending, halt_done, clear_done}
+use Rattle.machine_model.specs.Taking.{with_attention, without_interruption, interrupted, standing_still, suspended_alone, suspending, halt_done, clear_done}
 
 -- the hold, and the numbers that were drawn
 pub record IsHoldKept (s x : SubchannelState) : Type 0 where
@@ -118,6 +118,10 @@ clear-begun s = by s.scsw.activity.clear_pending
     by : (c : Bool) → (if c then with_cause s cause.ClearDone else s).begun ≡ s.begun
     by true = refl
     by false = refl
+
+pub attention-begun : (s : SubchannelState) (shows : Bool) → (with_attention s shows).begun ≡ s.begun
+attention-begun s true = refl
+attention-begun s false = refl
 
 -- TEST and HALT
 pub tested-kept : (s : SubchannelState) → IsHoldKept s (tested_wholly s)

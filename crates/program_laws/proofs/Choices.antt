@@ -1,6 +1,6 @@
 -- What the choosing of a path, and the taking of a signal, do to a subchannel.
-use Rattle.std.proofs.Common.{◌≡◌, refl, ap, sym, ◌∙◌, subst, arith, ℕ, ◌+◌, ◌≤◌, Bool, true, false, List, [], ◌∷◌, ◌++◌, length, Option, Some, None, Result, Ok, Err}
-use Rattle.std.specs.Prelude.{if◌then◌else◌, ◌==◌, nat_lt, slice_get, take, IfOk}
+use Rattle.std.proofs.Common.{◌≡◌, refl, ap, sym, ◌∙◌, subst, arith, ℕ, ◌+◌, ◌≤◌, Bool, true, false, List, [], ◌∷◌, ◌++◌, length, Option, Some, None, Result, Ok, Err, ◌&&◌}
+use Rattle.std.specs.Prelude.{if◌then◌else◌, ◌==◌, not, nat_lt, slice_get, take, IfOk}
 use Rattle.std.proofs.lemmas.List.Elements.{All-nil}
 use Rattle.storage_keys.specs.Storage.{Contents}
 use Rattle.chan_model.specs.declared.fault.Fault.{Fault}
@@ -29,6 +29,7 @@ use Rattle.channel_config.specs.Setup.{Setup}
 use Rattle.orb_block.specs.declared.Orb.{Orb}
 use Rattle.channel_program.specs.Programs.{code}
 use Rattle.chan_model.specs.HoldTable as hold_table
+use Rattle.scsw_irb.specs.declared.status.DeviceStatus.{DeviceStatus}
 use Rattle.chan_model.specs.HoldTable.{hold_after, sending_reset, is_connected, is_on}
 use Rattle.wires.specs.Queues.{queue}
 use Rattle.machine_model.specs.declared.state.Begun.{Begun}
@@ -47,6 +48,7 @@ use Rattle.machine_model.specs.State.{State, opening_of, opened}
 use Rattle.machine_model.specs.Taking as taking
 use Rattle.machine_model.specs.Taking.{takes_up, goes_ahead, by_hold, reset_taken}
 use Rattle.machine_model.specs.Steps.{SubTurn, UpTurn, DownTurn, is_full, finds_full, choose_sub, up_front, up_sub, down_front, down_sub, report_taken, report_sub, Run, Opened, Stepped}
+use Rattle.machine_model.specs.Losing.{has_any, is_offered_or_held, reset_with, reset_for}
 use Rattle.program_laws.specs.Stories as stories
 use Rattle.program_laws.specs.Stories.{Story, offered_for, resumed_for, chosen_at, met_with, met_at, meets, takes, taken_at, absorbs, reported, reported_at, story, story_after}
 use Rattle.program_laws.specs.Claims.{IsCopied}
@@ -229,22 +231,23 @@ takes-held s (down.Got a) k h = h
 
 taken-held : (s : SubchannelState) (d : Down) (came : Bool) (sent : Option (OnPath Up)) (k : Option Story) → KeptBy s k → KeptBy s (taken_at (reply.Down d came sent) k)
 taken-held s d false sent k h = h
-taken-held s d true sent None h = h
-taken-held s d true sent (Some k) h = takes-held s d k h
+taken-held s d true (Some x) k h = h
+taken-held s d true None None h = h
+taken-held s d true None (Some k) h = takes-held s d k h
 
-down_front-held : (sub : Subchannel) (path : ℕ) (u : UnitState) (front : Option Down) (k : Option Story) → KeptBy sub.state k →
-    IfOk (down_front sub path u front) (λ t. KeptBy t.sub.state (taken_at t.reply k))
-down_front-held sub path u None k h = tt
-down_front-held sub path u (Some d) k h =
-    let step : Option UnitStep = unit_takes u sub.setup.side path d true in
+down_front-held : (may : Bool) → (sub : Subchannel) (path : ℕ) (u : UnitState) (front : Option Down) (k : Option Story) → KeptBy sub.state k →
+    IfOk (down_front may sub path u front) (λ t. KeptBy t.sub.state (taken_at t.reply k))
+down_front-held may sub path u None k h = tt
+down_front-held may sub path u (Some d) k h =
+    let step : Option UnitStep = unit_takes u sub.setup.side path d may in
     if-ok (λ t. KeptBy t.sub.state (taken_at t.reply k)) (finds_full sub.wires.up (unit_table.came_of step).sent) (Err fault.WireFull) _ tt
     (taken-held sub.state d (unit_table.came_of step).taken (unit_table.came_of step).sent k h)
 
-pub sunk-held : (sub : Subchannel) (path : ℕ) (u : UnitState) (t : DownTurn) (k : Option Story) → down_sub sub path u ≡ Ok t → KeptBy sub.state k → KeptBy t.sub.state (taken_at t.reply k)
-sunk-held sub path u t k e h =
+pub sunk-held : (may : Bool) → (sub : Subchannel) (path : ℕ) (u : UnitState) (t : DownTurn) (k : Option Story) → down_sub may sub path u ≡ Ok t → KeptBy sub.state k → KeptBy t.sub.state (taken_at t.reply k)
+sunk-held may sub path u t k e h =
     subst (λ (r : Result DownTurn Fault). IfOk r (λ t. KeptBy t.sub.state (taken_at t.reply k))) e
-    (if-ok (λ t. KeptBy t.sub.state (taken_at t.reply k)) (nat_lt path (length sub.setup.paths)) (down_front sub path u (slice_get (queue sub.wires.down path) 0)) (Err fault.NoSuchPath)
-    (down_front-held sub path u (slice_get (queue sub.wires.down path) 0) k h) tt)
+    (if-ok (λ t. KeptBy t.sub.state (taken_at t.reply k)) (nat_lt path (length sub.setup.paths)) (down_front may sub path u (slice_get (queue sub.wires.down path) 0)) (Err fault.NoSuchPath)
+    (down_front-held may sub path u (slice_get (queue sub.wires.down path) 0) k h) tt)
 
 absorbs-held : (s : SubchannelState) (count : ℕ) (x : Option AtHand) (k : Story) → IsKept s k → IsKept s (absorbs count x k)
 absorbs-held s count None k h = h
@@ -281,9 +284,13 @@ told-held sub u report t k e h =
     subst (λ (r : Result DownTurn Fault). IfOk r (λ t. KeptBy t.sub.state (reported_at (Some u) report k))) e (report_taken-held sub u report (unit_reports u report) k h)
 
 -- no signal tells of a program where none was offered
-noticed-untold : (s : SubchannelState) (c : ℕ) (b : Bool) → IsUntold s →
-    IsUntold (by_hold s (if b then Some (hold_table.quietly (record s.hold { known = c })) else None)).state
-noticed-untold s c true u = record { phase = u.phase; begun = u.begun; suspended = u.suspended }
+reset-untold : (s : SubchannelState) (shows : Bool) → IsUntold s → IsUntold (reset_with s shows)
+reset-untold s true u = record { phase = omega arith; begun = refl; suspended = refl }
+reset-untold s false u = record { phase = omega arith; begun = u.begun; suspended = u.suspended }
+
+noticed-untold : (s : SubchannelState) (c : ℕ) (b : Bool) → IsUntold s → IsUntold (if b then taking.quietly (reset_for (taking.with_known s c)) else taking.ignoring s).state
+noticed-untold s c true u =
+    reset-untold (taking.with_known s c) (is_offered_or_held s.hold.phase && has_any s.waiting s.begun s.suspended) (record { phase = u.phase; begun = u.begun; suspended = u.suspended })
 noticed-untold s c false u = u
 
 unheld-by : (s : SubchannelState) (f : HoldPhase → SubchannelState) (phase : HoldPhase) → IsUnheld phase s.drawn → IsUntold (f hold.Free) →
@@ -306,42 +313,53 @@ cleared-if s true u =
     (record { phase = tt; begun = u.begun; suspended = u.suspended })
 cleared-if s false u = u
 
+attention-untold : (s : SubchannelState) (shows : Bool) → IsUntold s → IsUntold (taking.with_attention s shows)
+attention-untold s true u = record { phase = u.phase; begun = u.begun; suspended = u.suspended }
+attention-untold s false u = u
+
+attended-untold : (s : SubchannelState) (p a : ℕ) (status : DeviceStatus) (may : Bool) → IsUntold s →
+    IsUntold (taking.attend s status (hold_table.attended s.hold hold.Free p a may)).state
+attended-untold s p a status true u = attention-untold s (not (status.0 == 0x20)) u
+attended-untold s p a status false u = u
+
 module _ (laws : AreLaws) (accesses : AreAccesses) where
   -- nothing changes, where the hold is free or to be reset
   abbrev unmet : (s : SubchannelState) (f : HoldPhase → SubchannelState) → IsUntold s → IsUntold (f hold.Free) → ((r : ℕ) → IsUntold (f (hold.Reset r))) → IsUntold (f s.hold.phase)
   unmet s f u x y = unheld-by s f s.hold.phase u.phase x y
 
-  pub untold-met : (storage : Contents) (s : SubchannelState) (p : ℕ) (signal : Up) → IsUntold s → IsUntold (takes_up storage s p signal).step.state
-  untold-met storage s p (up.Accept t) u = unmet s (λ x. (taking.accept storage s (hold_table.accepted s.hold x t (goes_ahead s))).state) u u (λ r. u)
-  untold-met storage s p (up.Busy t) u = unmet s (λ x. (by_hold s (hold_table.found_busy s.hold x t)).state) u u (λ r. u)
-  untold-met storage s p (up.Leave t c) u = unmet s (λ x. (by_hold s (hold_table.left s.hold x t c)).state) u u (λ r. u)
-  untold-met storage s p (up.Back t c) u = unmet s (λ x. (by_hold s (hold_table.asked_back s.hold x p t c false)).state) u u (λ r. u)
-  untold-met storage s p (up.Data t c n seq load) u =
+  pub untold-met : (returns : Bool) → (storage : Contents) (s : SubchannelState) (p : ℕ) (signal : Up) → IsUntold s → IsUntold (takes_up returns storage s p signal).step.state
+  untold-met returns storage s p (up.Accept t) u = unmet s (λ x. (taking.accept storage s (hold_table.accepted s.hold x t (goes_ahead s))).state) u u (λ r. u)
+  untold-met returns storage s p (up.Busy t) u = unmet s (λ x. (by_hold s (hold_table.found_busy s.hold x t)).state) u u (λ r. u)
+  untold-met returns storage s p (up.Leave t c) u = unmet s (λ x. (by_hold s (hold_table.left s.hold x t c)).state) u u (λ r. u)
+  untold-met returns storage s p (up.Back t c) u = unmet s (λ x. (taking.back s p (hold_table.asked_back s.hold x p t c returns)).state) u u (λ r. u)
+  untold-met returns storage s p (up.Data t c n seq load) u =
       unmet s (λ x. (if is_connected x p t c then taking.move_data storage s s.begun p t c n seq load else taking.meets storage (taking.ignoring s)).step.state) u u (λ r. u)
-  untold-met storage s p (up.End t n status more) u =
+  untold-met returns storage s p (up.End t n status more) u =
       unmet s (λ x. (if is_on x t then taking.end_of storage s s.begun p t n status more else taking.ignoring s).state) u u (λ r. u)
-  untold-met storage s p (up.Released t) u = unmet s (λ x. (by_hold s (hold_table.released s.hold x t)).state) u u (λ r. u)
-  untold-met storage s p (up.Cleared r) u = unmet s (λ x. (reset_taken s (hold_table.cleared s.hold x r)).state) u u (λ q. cleared-if s (r == q) u)
-  untold-met storage s p (up.Notice b) u = noticed-untold s b (nat_lt s.hold.known b) u
-  untold-met storage s p (up.Attn a status) u = unmet s (λ x. (by_hold s (hold_table.attended s.hold x p a false)).state) u u (λ r. u)
+  untold-met returns storage s p (up.Released t) u = unmet s (λ x. (by_hold s (hold_table.released s.hold x t)).state) u u (λ r. u)
+  untold-met returns storage s p (up.Cleared r) u = unmet s (λ x. (reset_taken s (hold_table.cleared s.hold x r)).state) u u (λ q. cleared-if s (r == q) u)
+  untold-met returns storage s p (up.Notice b) u = noticed-untold s b (nat_lt s.hold.known b) u
+  untold-met returns storage s p (up.Attn a status) u =
+      unmet s (λ x. (taking.attend s status (hold_table.attended s.hold x p a (taking.may_attend s))).state) u
+      (attended-untold s p a status (taking.may_attend s) u) (λ r. u)
 
-  any-met : (storage : Contents) (s : SubchannelState) (p : ℕ) (signal : Up) (k : Option Story) → KeptBy s k → KeptBy (takes_up storage s p signal).step.state (met_with storage s p (Some signal) k)
-  any-met storage s p signal None h = untold-met storage s p signal h
-  any-met storage s p signal (Some k) h = (signal-held laws accesses storage s p signal k h.0, meets-copied accesses storage s p signal k h.1)
+  any-met : (returns : Bool) → (storage : Contents) (s : SubchannelState) (p : ℕ) (signal : Up) (k : Option Story) → KeptBy s k → KeptBy (takes_up returns storage s p signal).step.state (met_with storage s p (Some signal) k)
+  any-met returns storage s p signal None h = untold-met returns storage s p signal h
+  any-met returns storage s p signal (Some k) h = (signal-held laws accesses returns storage s p signal k h.0, meets-copied accesses storage s p signal k h.1)
 
-  up_front-held : (storage : Contents) (sub : Subchannel) (path : ℕ) (front : Option Up) (k : Option Story) → KeptBy sub.state k →
-      IfOk (up_front storage sub path front) (λ t. KeptBy t.sub.state (met_with storage sub.state path front k))
-  up_front-held storage sub path None k h = tt
-  up_front-held storage sub path (Some signal) k h =
-      if-ok (λ t. KeptBy t.sub.state (met_with storage sub.state path (Some signal) k)) (finds_full sub.wires.down (takes_up storage sub.state path signal).step.came.sent) (Err fault.WireFull) _ tt
-      (any-met storage sub.state path signal k h)
+  up_front-held : (returns : Bool) → (storage : Contents) (sub : Subchannel) (path : ℕ) (front : Option Up) (k : Option Story) → KeptBy sub.state k →
+      IfOk (up_front returns storage sub path front) (λ t. KeptBy t.sub.state (met_with storage sub.state path front k))
+  up_front-held returns storage sub path None k h = tt
+  up_front-held returns storage sub path (Some signal) k h =
+      if-ok (λ t. KeptBy t.sub.state (met_with storage sub.state path (Some signal) k)) (finds_full sub.wires.down (takes_up returns storage sub.state path signal).step.came.sent) (Err fault.WireFull) _ tt
+      (any-met returns storage sub.state path signal k h)
 
-  pub met-held : (storage : Contents) (sub : Subchannel) (path : ℕ) (t : UpTurn) (k : Option Story) → up_sub storage sub path ≡ Ok t → KeptBy sub.state k →
+  pub met-held : (returns : Bool) → (storage : Contents) (sub : Subchannel) (path : ℕ) (t : UpTurn) (k : Option Story) → up_sub returns storage sub path ≡ Ok t → KeptBy sub.state k →
       KeptBy t.sub.state (met_at storage (Some sub) path k)
-  met-held storage sub path t k e h =
+  met-held returns storage sub path t k e h =
       subst (λ (r : Result UpTurn Fault). IfOk r (λ t. KeptBy t.sub.state (met_at storage (Some sub) path k))) e
-      (if-ok (λ t. KeptBy t.sub.state (met_at storage (Some sub) path k)) (nat_lt path (length sub.setup.paths)) (up_front storage sub path (slice_get (queue sub.wires.up path) 0)) (Err fault.NoSuchPath)
-      (up_front-held storage sub path (slice_get (queue sub.wires.up path) 0) k h) tt)
+      (if-ok (λ t. KeptBy t.sub.state (met_at storage (Some sub) path k)) (nat_lt path (length sub.setup.paths)) (up_front returns storage sub path (slice_get (queue sub.wires.up path) 0)) (Err fault.NoSuchPath)
+      (up_front-held returns storage sub path (slice_get (queue sub.wires.up path) 0) k h) tt)
 
   -- whatever happens
   same-held : (old new : Subchannel) (f : Option Story → Option Story) (k : Option Story) → new ≡ old → f k ≡ k → KeptBy old.state k → KeptBy new.state (f k)
@@ -398,13 +416,13 @@ module _ (laws : AreLaws) (accesses : AreAccesses) where
       (same-kept old.state (record old.state { pmcw = pmcw }) k refl refl refl refl refl h)
   happens-held storage old new u v f (Is_chosen choice t c e w g) k h =
       told new t.sub.state f k (chosen_at (Some old) t.reply k) (ap state-of e) (g k) (chosen-held old k choice t c h)
-  happens-held storage old new u v f (Meets path t c e w g) k h =
-      told new t.sub.state f k (met_at storage (Some old) path k) (ap state-of e) (g k) (met-held storage old path t k c h)
-  happens-held storage old new u v f (Sinks path x t a c e w g) k h =
-      told new t.sub.state f k (taken_at t.reply k) (ap state-of e) (g k) (sunk-held old path x t k c h)
+  happens-held storage old new u v f (Meets path returns t c e w g) k h =
+      told new t.sub.state f k (met_at storage (Some old) path k) (ap state-of e) (g k) (met-held returns storage old path t k c h)
+  happens-held storage old new u v f (Sinks path may x t a c e w g) k h =
+      told new t.sub.state f k (taken_at t.reply k) (ap state-of e) (g k) (sunk-held may old path x t k c h)
   happens-held storage old new u v f (Is_reported report x t a b c e w g) k h =
       told new t.sub.state f k (reported_at (Some x) report k) (ap state-of e) (g k) (told-held old x report t k c h)
-  happens-held storage old new u v f (Other_sinks other path x t a b c e w g) k h = same-held old new f k e (g k) h
+  happens-held storage old new u v f (Other_sinks other path may x t a b c e w g) k h = same-held old new f k e (g k) h
   happens-held storage old new u v f (Other_reported other report x t a b c d e w g) k h = same-held old new f k e (g k) h
 
   -- after a run
@@ -417,6 +435,6 @@ module _ (laws : AreLaws) (accesses : AreAccesses) where
       let a : (s : SubchannelSetup) × (slice_get setup.subchannels place ≡ Some s) × (opened s ≡ sub) = map-get opened setup.subchannels place sub e in
       free-untold sub a.0 a.2
   run-held setup lawful _ _ (Stepped h old e r new run step) place sub at =
-      let a = step-happens old (run-one-sided setup lawful h old run) place e r new step sub at in
+      let a = step-happens old (run-one-sided laws.walks setup lawful h old run) place e r new (laws.walks old e r new step) sub at in
       happens-held old.storage a.0 sub (slice_get old.units a.0.setup.«unit») (slice_get new.units a.0.setup.«unit») (story_after place old e r) a.3
       (story place (opening_of setup) h old run) (run-held setup lawful h old run place a.0 a.1)

@@ -55,14 +55,14 @@ abbrev offered_state : SubchannelState
 offered_state = record opening_subchannel { drawn = 1; starts = 1; offered = 1; waiting = Some program; hold = record free_hold { phase = hold.Offer 1 0 } }
 
 abbrev sent_state : SubchannelState
-sent_state = (takes_up storage offered_state 0 (up.Accept 1)).step.state
+sent_state = (takes_up false storage offered_state 0 (up.Accept 1)).step.state
 
 abbrev sent_story : Story
 sent_story = meets storage offered_state 0 (up.Accept 1) (offered 1 orb)
 
 -- the device asks for bytes, and absorbs them
 abbrev given_state : SubchannelState
-given_state = (takes_up storage sent_state 0 (up.Data 1 0 1 0 (load.Absorbed 0))).step.state
+given_state = (takes_up false storage sent_state 0 (up.Data 1 0 1 0 (load.Absorbed 0))).step.state
 
 abbrev given_story : Story
 given_story = meets storage sent_state 0 (up.Data 1 0 1 0 (load.Absorbed 0)) sent_story
@@ -108,7 +108,7 @@ abbrev waiting_state : SubchannelState
 waiting_state = record offered_state { waiting = Some (record program { orb = suspendable }) }
 
 abbrev working_state : SubchannelState
-working_state = (takes_up marked waiting_state 0 (up.Accept 1)).step.state
+working_state = (takes_up false marked waiting_state 0 (up.Accept 1)).step.state
 
 abbrev working_story : Story
 working_story = meets marked waiting_state 0 (up.Accept 1) (offered 1 suspendable)
@@ -117,7 +117,7 @@ abbrev ended : DeviceStatus
 ended = record { 0 = 0x0C }
 
 abbrev suspended_state : SubchannelState
-suspended_state = (takes_up marked working_state 0 (up.End 1 1 ended false)).step.state
+suspended_state = (takes_up false marked working_state 0 (up.End 1 1 ended false)).step.state
 
 abbrev suspended_story : Story
 suspended_story = meets marked working_state 0 (up.End 1 1 ended false) working_story

@@ -13,7 +13,7 @@ use Rattle.chan_model.specs.declared.signal.Load.{Load}
 use Rattle.chan_model.specs.declared.signal.Up.{Up}
 use Rattle.chan_model.specs.declared.signal.Up.TheVariants as up
 use Rattle.chan_model.specs.HoldTable as hold_table
-use Rattle.chan_model.specs.HoldTable.{HoldStep, hold_takes, is_connected, is_on}
+use Rattle.chan_model.specs.HoldTable.{HoldStep, hold_takes, came_of, is_connected, is_on}
 use Rattle.chan_model.specs.Loads.{load_length}
 use Rattle.chan_model.specs.declared.status.Shown.{Shown}
 use Rattle.chan_model.specs.UnitReports.{is_outward, is_last_end, has_device_end, has_unit_check}
@@ -49,7 +49,8 @@ use Rattle.program_laws.specs.Reaches.{reaches}
 use Rattle.program_laws.proofs.Accesses.{AreAccesses}
 use Rattle.program_laws.proofs.Ties.{AreLaws, Tied, changed}
 use Rattle.program_laws.proofs.Parts.{IsDone, IsAtWork, done-of, arrived-none, gives-work, takes_in-work, WentOn, goes-on, IsSame, absorbed-same, next_given-same, located-same, brought-same, room-same}
-use Rattle.program_laws.proofs.Holds.{IsPhase, IsDrawn, HasWork, IsStanding, IsHeld, IsHold, done-held, phase-some, phase-none, busy-phase, left-phase, back-phase, released-phase, noticed-phase, attended-phase, by_hold-held, let_go-held, standing-some, none-stands, halt_done-held, reset_taken-held, nothing-done, past-done}
+use Rattle.machine_model.specs.Losing.{has_any, is_offered_or_held, reset_with, reset_for}
+use Rattle.program_laws.proofs.Holds.{IsPhase, IsDrawn, HasWork, IsStanding, IsHeld, IsHold, done-held, phase-some, phase-none, busy-phase, left-phase, back-phase, released-phase, attended-phase, by_hold-held, back-held, attention-held, let_go-held, standing-some, none-stands, halt_done-held, reset_taken-held, nothing-done, past-done}
 
 module _ (laws : AreLaws) (accesses : AreAccesses) where
   -- the program is over or suspended, where a command can't begin
@@ -406,22 +407,57 @@ module _ (laws : AreLaws) (accesses : AreAccesses) where
   on-held storage s k p t n status more true h = end-held storage s s.begun k p t n status more refl h h.work
   on-held storage s k p t n status more false h = h
 
+  -- the hold is to be reset: no program is begun any more
+  unshown-begun : (phase : HoldPhase) (n sent : ℕ) (w : Option Program) (b : Option Begun) (d : Option Standing) → (is_offered_or_held phase && has_any w b d) ≡ false →
+      IsPhase phase n b sent → b ≡ None
+  unshown-begun phase n sent w None d f k = refl
+  unshown-begun hold.Free n sent w (Some b) d f k = k
+  unshown-begun (hold.Offer t p) n sent w (Some b) d f k = k.1
+  unshown-begun (hold.On t p c) n sent None (Some b) d f k = absurd (cc f)
+  unshown-begun (hold.On t p c) n sent (Some w) (Some b) d f k = absurd (cc f)
+  unshown-begun (hold.Away t) n sent None (Some b) d f k = absurd (cc f)
+  unshown-begun (hold.Away t) n sent (Some w) (Some b) d f k = absurd (cc f)
+  unshown-begun (hold.Letting t p) n sent w (Some b) d f k = k.1
+  unshown-begun (hold.Reset r) n sent w (Some b) d f k = k.0
+
+  reset-held : (s : SubchannelState) (k : Story) (shows : Bool) → (is_offered_or_held s.hold.phase && has_any s.waiting s.begun s.suspended) ≡ shows → IsHeld s k → IsHeld (reset_with s shows) k
+  reset-held s k true e h =
+      let n : k.number ≤ s.drawn = h.number in
+      record { number = omega (arith, n); phase = (refl, omega (arith, n)); drawn = omega arith; work = done-held s k h; standing = tt }
+  reset-held s k false e h =
+      let n : k.number ≤ s.drawn = h.number in
+      record {
+        number = omega (arith, n);
+        phase = (unshown-begun s.hold.phase k.number k.sent s.waiting s.begun s.suspended e h.phase, omega (arith, n));
+        drawn = omega arith;
+        work = h.work;
+        standing = h.standing;
+      }
+
+  notice-held : (s : SubchannelState) (k : Story) (b : ℕ) (more : Bool) → IsHeld s k → IsHeld (if more then taking.quietly (reset_for (taking.with_known s b)) else taking.ignoring s).state k
+  notice-held s k b true h =
+      reset-held (taking.with_known s b) k (is_offered_or_held s.hold.phase && has_any s.waiting s.begun s.suspended) refl
+      (record { number = h.number; phase = h.phase; drawn = h.drawn; work = h.work; standing = h.standing })
+  notice-held s k b false h = h
+
   -- a signal
-  pub signal-held : (storage : Contents) (s : SubchannelState) (p : ℕ) (signal : Up) (k : Story) → IsHeld s k →
-      IsHeld (takes_up storage s p signal).step.state (meets storage s p signal k)
-  signal-held storage s p (up.Accept t) k h = accept-held storage s k t (goes_ahead s) s.hold.phase refl h
-  signal-held storage s p (up.Busy t) k h =
+  pub signal-held : (returns : Bool) → (storage : Contents) (s : SubchannelState) (p : ℕ) (signal : Up) (k : Story) → IsHeld s k →
+      IsHeld (takes_up returns storage s p signal).step.state (meets storage s p signal k)
+  signal-held returns storage s p (up.Accept t) k h = accept-held storage s k t (goes_ahead s) s.hold.phase refl h
+  signal-held returns storage s p (up.Busy t) k h =
       by_hold-held s k (hold_takes s.hold p (up.Busy t) false) h (busy-phase s.drawn k.number s.begun k.sent s.hold s.hold.phase t refl (h.phase, h.drawn))
-  signal-held storage s p (up.Leave t c) k h =
+  signal-held returns storage s p (up.Leave t c) k h =
       by_hold-held s k (hold_takes s.hold p (up.Leave t c) false) h (left-phase s.drawn k.number s.begun k.sent s.hold s.hold.phase t c refl (h.phase, h.drawn))
-  signal-held storage s p (up.Back t c) k h =
-      by_hold-held s k (hold_takes s.hold p (up.Back t c) false) h (back-phase s.drawn k.number s.begun k.sent s.hold s.hold.phase p t c false refl (h.phase, h.drawn))
-  signal-held storage s p (up.Data t c n seq load) k h = connected-held storage s k p t c n seq load (is_connected s.hold.phase p t c) h
-  signal-held storage s p (up.End t n status more) k h = on-held storage s k p t n status more (is_on s.hold.phase t) h
-  signal-held storage s p (up.Released t) k h =
+  signal-held returns storage s p (up.Back t c) k h =
+      back-held s k p (hold_takes s.hold p (up.Back t c) returns) h (back-phase s.drawn k.number s.begun k.sent s.hold s.hold.phase p t c returns refl (h.phase, h.drawn))
+  signal-held returns storage s p (up.Data t c n seq load) k h = connected-held storage s k p t c n seq load (is_connected s.hold.phase p t c) h
+  signal-held returns storage s p (up.End t n status more) k h = on-held storage s k p t n status more (is_on s.hold.phase t) h
+  signal-held returns storage s p (up.Released t) k h =
       by_hold-held s k (hold_takes s.hold p (up.Released t) false) h (released-phase s.drawn k.number s.begun k.sent s.hold s.hold.phase t refl (h.phase, h.drawn))
-  signal-held storage s p (up.Cleared r) k h = reset_taken-held s k r s.hold.phase refl h
-  signal-held storage s p (up.Notice b) k h =
-      by_hold-held s k (hold_takes s.hold p (up.Notice b) false) h (noticed-phase s.drawn k.number s.begun k.sent s.hold (nat_lt s.hold.known b) b (h.phase, h.drawn))
-  signal-held storage s p (up.Attn a status) k h =
-      by_hold-held s k (hold_takes s.hold p (up.Attn a status) false) h (attended-phase s.drawn k.number s.begun k.sent s.hold s.hold.phase p a false refl (h.phase, h.drawn))
+  signal-held returns storage s p (up.Cleared r) k h = reset_taken-held s k r s.hold.phase refl h
+  signal-held returns storage s p (up.Notice b) k h =
+      notice-held s k b (nat_lt s.hold.known b) h
+  signal-held returns storage s p (up.Attn a status) k h =
+      let step : Option HoldStep = hold_takes s.hold p (up.Attn a status) (taking.may_attend s) in
+      attention-held (taking.by_hold s step).state k ((came_of step).taken && not (status.0 == 0x20))
+      (by_hold-held s k step h (attended-phase s.drawn k.number s.begun k.sent s.hold s.hold.phase p a (taking.may_attend s) refl (h.phase, h.drawn)))

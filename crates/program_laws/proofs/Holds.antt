@@ -18,7 +18,7 @@ use Rattle.machine_model.specs.declared.state.Standing.{Standing}
 use Rattle.machine_model.specs.declared.cause.Cause.TheVariants as cause
 use Rattle.machine_model.specs.Causes.{with_cause}
 use Rattle.machine_model.specs.Functions.{without_programs}
-use Rattle.machine_model.specs.Taking.{let_go, by_hold, halt_done, clear_done, reset_taken}
+use Rattle.machine_model.specs.Taking.{let_go, by_hold, back, halt_done, clear_done, with_attention, reset_taken}
 use Rattle.program_laws.specs.Doings.{Part, no_part}
 use Rattle.program_laws.specs.Stories.{Story, past_part}
 use Rattle.program_laws.specs.Claims.{IsStored, places_of}
@@ -191,6 +191,10 @@ pub by_hold-held : (s : SubchannelState) (k : Story) (step : Option HoldStep) �
     IsHeld (by_hold s step).state k
 by_hold-held s k step h p = record { number = h.number; phase = p.0; drawn = p.1; work = h.work; standing = h.standing }
 
+pub back-held : (s : SubchannelState) (k : Story) (p : ℕ) (step : Option HoldStep) → IsHeld s k →
+    IsHold s.drawn k.number s.begun k.sent (hold_after s.hold step).phase → IsHeld (back s p step).state k
+back-held s k p step h i = record { number = h.number; phase = i.0; drawn = i.1; work = h.work; standing = h.standing }
+
 pub let_go-held : (s : SubchannelState) (k : Story) → k.number ≤ s.drawn → IsHold s.drawn k.number s.begun k.sent s.hold.phase → s.begun ≡ None → IsDone k.orb k.now →
     IsStanding s.waiting s.begun s.suspended k → IsHeld (let_go s).state k
 let_go-held s k n p z d st =
@@ -230,6 +234,16 @@ halt_done-held s k h = by s.scsw.activity.halt_pending
     by : (b : Bool) → IsHeld (if b then with_cause s cause.HaltDone else s) k
     by true = halted-held s k h
     by false = h
+
+-- attention: a start that waits is over
+unwaiting : (w : Option Program) (b : Option Begun) (st : Option Standing) (k : Story) → IsStanding w b st k → IsStanding None b st k
+unwaiting w b None k x = tt
+unwaiting w b (Some st) k x = (refl, x.1, x.2, x.3)
+
+pub attention-held : (s : SubchannelState) (k : Story) (shows : Bool) → IsHeld s k → IsHeld (with_attention s shows) k
+attention-held s k true h =
+    record { number = h.number; phase = h.phase; drawn = h.drawn; work = h.work; standing = unwaiting s.waiting s.begun s.suspended k h.standing }
+attention-held s k false h = h
 
 pub cleared-held : (s : SubchannelState) (k : Story) → IsHeld s k → IsHeld (with_cause s cause.ClearDone) k
 cleared-held s k h = record { number = h.number; phase = h.phase; drawn = h.drawn; work = h.work; standing = h.standing }

@@ -99,7 +99,8 @@ takes-work b k (down.Reset r c) w = w
 takes-work b k (down.Got a) w = w
 
 taken-work : (b : Begun) (k : Story) (d : Down) (came : Bool) (sent : Option (OnPath Up)) → HasWork (Some b) k → WorkOf b (taken_at (reply.Down d came sent) (Some k))
-taken-work b k d true sent w = takes-work b k d w
+taken-work b k d true None w = takes-work b k d w
+taken-work b k d true (Some x) w = w
 taken-work b k d false sent w = w
 
 follows-of : (side : Side) (begun : Option Begun) (k : Option Story) (downs : List (List Down)) (ups : List (List Up)) (u : UnitState) → ModeOf side begun k downs ups u → CourseOf side begun k downs ups u
@@ -115,15 +116,15 @@ same-last : (k : Story) (b c : Begun) → HasWork (Some b) k → Some b ≡ Some
 same-last k b c w e = let same : b ≡ c = cc e in subst (λ (x : Begun). IsLast (codes_of k) k.sent x.transfer) same (work-last b k w)
 
 -- Down
-pub course-down : (side : Side) (drawn : ℕ) (k : Story) (downs : List (List Down)) (ups : List (List Up)) (u : UnitState) (path : ℕ) → IsOrdered side drawn k.number k.sent (codes_of k) k.taken downs u →
+pub course-down : (may : Bool) → (side : Side) (drawn : ℕ) (k : Story) (downs : List (List Down)) (ups : List (List Up)) (u : UnitState) (path : ℕ) → IsOrdered side drawn k.number k.sent (codes_of k) k.taken downs u →
     (begun : Option Begun) (d : Down) → ((b : Begun) → begun ≡ Some b → IsLast (codes_of k) k.sent b.transfer) → slice_get (queue downs path) 0 ≡ Some d →
     IsDown drawn k.number k.sent (codes_of k) d → Course side begun k downs ups u →
-    CourseOf side begun (taken_at (reply.Down d (came_of (unit_takes u side path d true)).taken (came_of (unit_takes u side path d true)).sent) (Some k)) (taken downs path)
-    (with_any_sent ups (came_of (unit_takes u side path d true)).sent) (unit_after u (unit_takes u side path d true))
-course-down side drawn k downs ups u path o begun d last q i (Follows m) = follows-of side begun _ _ _ _ (mode-down side drawn k downs ups u path o begun d last q i m)
-course-down side drawn k downs ups u path o begun d last q i (Cut e b w m) =
-    cut-of side begun b _ _ _ _ e (taken-work b k d (came_of (unit_takes u side path d true)).taken (came_of (unit_takes u side path d true)).sent w)
-    (mode-down side drawn k downs ups u path o (Some b) d (λ c f. same-last k b c w f) q i m)
+    CourseOf side begun (taken_at (reply.Down d (came_of (unit_takes u side path d may)).taken (came_of (unit_takes u side path d may)).sent) (Some k)) (taken downs path)
+    (with_any_sent ups (came_of (unit_takes u side path d may)).sent) (unit_after u (unit_takes u side path d may))
+course-down may side drawn k downs ups u path o begun d last q i (Follows m) = follows-of side begun _ _ _ _ (mode-down side drawn k downs ups u path o may begun d last q i m)
+course-down may side drawn k downs ups u path o begun d last q i (Cut e b w m) =
+    cut-of side begun b _ _ _ _ e (taken-work b k d (came_of (unit_takes u side path d may)).taken (came_of (unit_takes u side path d may)).sent w)
+    (mode-down side drawn k downs ups u path o may (Some b) d (λ c f. same-last k b c w f) q i m)
 
 -- Report
 absorbs-work : (b : Begun) (k : Story) (count : ℕ) (x : Option AtHand) → HasWork (Some b) k → HasWork (Some b) (absorbs count x k)

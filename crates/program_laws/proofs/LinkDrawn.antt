@@ -1,5 +1,5 @@
 -- A signal draws no number.
-use Rattle.std.proofs.Common.{◌≡◌, refl, ℕ, Bool, true, false, ◌==◌, Option, None, Some}
+use Rattle.std.proofs.Common.{◌≡◌, refl, ℕ, Bool, true, false, not, ◌==◌, Option, None, Some, ◌≤◌, ◌&&◌, nat_lt, arith}
 use Rattle.std.specs.Prelude.{if◌then◌else◌}
 use Rattle.scsw_irb.specs.declared.status.DeviceStatus.{DeviceStatus}
 use Rattle.storage_keys.specs.Storage.{Contents}
@@ -26,6 +26,8 @@ use Rattle.machine_model.specs.declared.state.SubchannelState.{SubchannelState}
 use Rattle.machine_model.specs.declared.state.UpStep.{UpStep}
 use Rattle.machine_model.specs.Statuses.{has_status_modifier, chains_command}
 use Rattle.machine_model.specs.Taking.{Met, goes_ahead, standing, with_path, taking_over, moving_on, reset_taken, beginning, begin_standing, accepted_by, accept, move_bytes, move_data, with_end, chaining, goes_on, stops_at, end_of, takes_up}
+use Rattle.machine_model.specs.Losing.{has_any, is_offered_or_held, reset_with, reset_for}
+use Rattle.machine_model.specs.Taking as taking
 use Rattle.program_laws.proofs.Caused.{cause-kept, interrupted-work, suspending-workless, halt-kept, clear-kept}
 
 module _ (storage : Contents) where
@@ -98,14 +100,31 @@ module _ (storage : Contents) where
   reset-same s None = refl
   reset-same s (Some step) = (clear-kept (record s { hold = step.state })).drawn
 
-  pub up-drawn : (s : SubchannelState) (p : ℕ) (x : Up) → IsSame s (takes_up storage s p x).step
-  up-drawn s p (up.Accept t) = accept-same s (hold_takes s.hold p (up.Accept t) (goes_ahead s))
-  up-drawn s p (up.Data t c n q load) = if-met s (is_connected s.hold.phase p t c) _ _ (move_data-same s s.begun p t c n q load) refl
-  up-drawn s p (up.End t n status more) = if-same s (is_on s.hold.phase t) _ _ (end_of-same s s.begun p t n status more) refl
-  up-drawn s p (up.Busy t) = refl
-  up-drawn s p (up.Leave t c) = refl
-  up-drawn s p (up.Back t c) = refl
-  up-drawn s p (up.Released t) = refl
-  up-drawn s p (up.Cleared r) = reset-same s (hold_takes s.hold p (up.Cleared r) false)
-  up-drawn s p (up.Notice b) = refl
-  up-drawn s p (up.Attn a status) = refl
+  no-less : (a b : ℕ) → b ≡ a → a ≤ b
+  no-less a b e = omega (arith, e)
+
+  reset-less : (s : SubchannelState) (shows : Bool) → s.drawn ≤ (reset_with s shows).drawn
+  reset-less s true = omega arith
+  reset-less s false = omega arith
+
+  notice-less : (s : SubchannelState) (b : ℕ) (more : Bool) → s.drawn ≤ (if more then taking.quietly (reset_for (taking.with_known s b)) else taking.ignoring s).state.drawn
+  notice-less s b true = reset-less (taking.with_known s b) (is_offered_or_held s.hold.phase && has_any s.waiting s.begun s.suspended)
+  notice-less s b false = omega arith
+
+  attention-drawn : (s : SubchannelState) (shows : Bool) → (taking.with_attention s shows).drawn ≡ s.drawn
+  attention-drawn s true = refl
+  attention-drawn s false = refl
+
+  pub up-drawn : (returns : Bool) → (s : SubchannelState) (p : ℕ) (x : Up) → s.drawn ≤ (takes_up returns storage s p x).step.state.drawn
+  up-drawn returns s p (up.Accept t) = no-less s.drawn _ (accept-same s (hold_takes s.hold p (up.Accept t) (goes_ahead s)))
+  up-drawn returns s p (up.Data t c n q load) = no-less s.drawn _ (if-met s (is_connected s.hold.phase p t c) _ _ (move_data-same s s.begun p t c n q load) refl)
+  up-drawn returns s p (up.End t n status more) = no-less s.drawn _ (if-same s (is_on s.hold.phase t) _ _ (end_of-same s s.begun p t n status more) refl)
+  up-drawn returns s p (up.Busy t) = omega arith
+  up-drawn returns s p (up.Leave t c) = omega arith
+  up-drawn returns s p (up.Back t c) = omega arith
+  up-drawn returns s p (up.Released t) = omega arith
+  up-drawn returns s p (up.Cleared r) = no-less s.drawn _ (reset-same s (hold_takes s.hold p (up.Cleared r) false))
+  up-drawn returns s p (up.Notice b) = notice-less s b (nat_lt s.hold.known b)
+  up-drawn returns s p (up.Attn a status) =
+      let step : Option HoldStep = hold_takes s.hold p (up.Attn a status) (taking.may_attend s) in
+      no-less s.drawn _ (attention-drawn (record s { hold = hold_after s.hold step }) ((came_of step).taken && not (status.0 == 0x20)))

@@ -1,6 +1,6 @@
 -- The bytes that a device absorbs for its command: what a step at one place keeps of what holds of them.
-use Rattle.std.proofs.Common.{◌≡◌, refl, sym, ◌∙◌, ap, subst, ℕ, ◌+◌, ◌≤◌, Bool, true, false, nat_lt, length, Option, None, Some, Err, List, [], arith}
-use Rattle.std.specs.Prelude.{slice_get, IfOk, IfSome}
+use Rattle.std.proofs.Common.{◌≡◌, refl, sym, ◌∙◌, ap, subst, ℕ, ◌+◌, ◌≤◌, Bool, true, false, nat_lt, length, Option, None, Some, Err, List, [], arith, ◌&&◌}
+use Rattle.std.specs.Prelude.{slice_get, IfOk, IfSome, if◌then◌else◌}
 use Rattle.storage_keys.specs.Storage.{Contents}
 use Rattle.chan_model.specs.declared.fault.Fault.TheVariants as fault
 use Rattle.chan_model.specs.declared.hold_state.HoldPhase.{HoldPhase}
@@ -9,6 +9,7 @@ use Rattle.chan_model.specs.declared.names.Side.{Side}
 use Rattle.chan_model.specs.declared.report.DeviceAnswer.{DeviceAnswer}
 use Rattle.chan_model.specs.declared.report.Report.{Report}
 use Rattle.chan_model.specs.declared.reply.Reply.TheVariants as reply
+use Rattle.chan_model.specs.declared.signal.Up.TheVariants as up
 use Rattle.chan_model.specs.declared.signal.Down.{Down}
 use Rattle.chan_model.specs.declared.signal.Down.TheVariants as down
 use Rattle.chan_model.specs.declared.signal.OnPath.{OnPath}
@@ -30,6 +31,8 @@ use Rattle.machine_model.specs.declared.state.SubchannelState.{SubchannelState}
 use Rattle.machine_model.specs.Choosing as choosing
 use Rattle.machine_model.specs.Taking.{takes_up}
 use Rattle.machine_model.specs.Steps.{with_any_sent, is_full, finds_full, choose_sub, up_front, up_sub, down_front, down_sub, report_taken}
+use Rattle.machine_model.specs.Losing.{has_any, is_offered_or_held, reset_with, reset_for}
+use Rattle.machine_model.specs.Taking as taking
 use Rattle.program_laws.specs.Stories.{Story, offered, offered_for, resumed, chosen_at, meets, met_with, met_at, taken_at, reported_at}
 use Rattle.program_laws.proofs.Turns.{if-ok}
 use Rattle.program_laws.proofs.Ties.{AreLaws}
@@ -51,7 +54,7 @@ use Rattle.program_laws.proofs.LinkModes as modes
 use Rattle.program_laws.proofs.LinkModes.{AnyGive, NoGive, AnyData, HandPlain, HandFlow, Mode, Waits, Reads, Writes, fit-closed, mode-carried, absorbs-none}
 use Rattle.program_laws.proofs.UnitFlows.{IsGive, IsData}
 use Rattle.program_laws.proofs.LinkReports.{one-side, report-owner, told-closed, told-own}
-use Rattle.program_laws.proofs.LinkMeets.{mode-meets}
+use Rattle.program_laws.proofs.LinkMeets.{quiet, mode-meets}
 
 abbrev pub AtSub : Side → Subchannel → Option Story → UnitState → Type 0
 AtSub side sub k u = CourseOf side sub.state.begun k sub.wires.down sub.wires.up u
@@ -150,95 +153,126 @@ sent-no-offer s k b h w t p e =
     absurd (omega (arith, none, w.2))
 
 module _ (laws : AreLaws) (accesses : AreAccesses) where
-  cut-meets : (storage : Contents) (side : Side) (s : SubchannelState) (k : Story) (downs : List (List Down)) (ups : List (List Up)) (u : UnitState) (path : ℕ) (x : Up) (b : Begun) → IsHeld s k →
+  cut-meets : (returns : Bool) → (storage : Contents) (side : Side) (s : SubchannelState) (k : Story) (downs : List (List Down)) (ups : List (List Up)) (u : UnitState) (path : ℕ) (x : Up) (b : Begun) → IsHeld s k →
       s.begun ≡ None → HasWork (Some b) k → Mode side (Some b) k downs ups u →
-      Course side (takes_up storage s path x).step.state.begun (meets storage s path x k) (with_any_sent downs (takes_up storage s path x).step.came.sent) (taken ups path) u
-  cut-meets storage side s k downs ups u path x b h e w m =
-      let i : IsIdle s (takes_up storage s path x).step (meets storage s path x) = idle-meets storage s e (sent-no-offer s k b h w) path x in
-      let one : Option (OnPath Down) = (takes_up storage s path x).step.came.sent in
-      subst (λ (y : Story). Course side (takes_up storage s path x).step.state.begun y (with_any_sent downs one) (taken ups path) u) (sym (i.same k))
+      Course side (takes_up returns storage s path x).step.state.begun (meets storage s path x k) (with_any_sent downs (takes_up returns storage s path x).step.came.sent) (taken ups path) u
+  cut-meets returns storage side s k downs ups u path x b h e w m =
+      let i : IsIdle s (takes_up returns storage s path x).step (meets storage s path x) = idle-meets storage s e returns (sent-no-offer s k b h w) path x in
+      let one : Option (OnPath Down) = (takes_up returns storage s path x).step.came.sent in
+      subst (λ (y : Story). Course side (takes_up returns storage s path x).step.state.begun y (with_any_sent downs one) (taken ups path) u) (sym (i.same k))
       (Cut (i.begun ∙ e) b w
       (mode-carried side (Some b) k downs (with_any_sent downs one) ups (taken ups path) u u
       (λ P Q R f v. wired-holds side k.number (length k.taken) P P Q Q R R downs ups u one path (λ z y. y) (λ j bytes y. y) (λ j l y. y) (sent-hold k.number (length k.taken) Q one i.sends) v) m))
 
-  course-meets : (storage : Contents) (side : Side) (s : SubchannelState) (k : Story) (downs : List (List Down)) (ups : List (List Up)) (u : UnitState) (path : ℕ) (x : Up) →
-      slice_get (queue ups path) 0 ≡ Some x → IsHeld s k → Course side s.begun k downs ups u →
-      Course side (takes_up storage s path x).step.state.begun (meets storage s path x k) (with_any_sent downs (takes_up storage s path x).step.came.sent) (taken ups path) u
-  course-meets storage side s k downs ups u path x e h (Follows m) =
-      Follows (mode-meets laws accesses storage side s k downs ups u path h m x (λ P Q R w. first-tells side k.number (length k.taken) P Q R downs ups u path x e w))
-  course-meets storage side s k downs ups u path x e h (Cut z b w m) = cut-meets storage side s k downs ups u path x b h z w m
+  reset-course : (s : SubchannelState) (shows : Bool) (side : Side) (k : Story) (downs : List (List Down)) (ups : List (List Up)) (u : UnitState) → IsHeld s k → Course side s.begun k downs ups u →
+      Course side (reset_with s shows).begun k downs ups u
+  reset-course s true side k downs ups u h c = over-course side s (Some k) downs ups u h c
+  reset-course s false side k downs ups u h c = c
 
-  met-flows : (storage : Contents) (sub : Subchannel) (path : ℕ) (x : Up) (k : Option Story) (u : UnitState) → slice_get (queue sub.wires.up path) 0 ≡ Some x → HeldBy sub.state k →
+  notice-course : (s : SubchannelState) (b : ℕ) (more : Bool) (side : Side) (k : Story) (downs : List (List Down)) (ups : List (List Up)) (u : UnitState) → IsHeld s k →
+      Course side s.begun k downs ups u → Course side (if more then taking.quietly (reset_for (taking.with_known s b)) else taking.ignoring s).state.begun k (with_any_sent downs (if more then taking.quietly (reset_for (taking.with_known s b)) else taking.ignoring s).came.sent) ups u
+  notice-course s b true side k downs ups u h c =
+      reset-course (taking.with_known s b) (is_offered_or_held s.hold.phase && has_any s.waiting s.begun s.suspended) side k downs ups u
+      (record { number = h.number; phase = h.phase; drawn = h.drawn; work = h.work; standing = h.standing }) c
+  notice-course s b false side k downs ups u h c = c
+
+  course-meets : (returns : Bool) → (storage : Contents) (side : Side) (s : SubchannelState) (k : Story) (downs : List (List Down)) (ups : List (List Up)) (u : UnitState) (path : ℕ) (x : Up) →
+      slice_get (queue ups path) 0 ≡ Some x → IsHeld s k → Course side s.begun k downs ups u →
+      Course side (takes_up returns storage s path x).step.state.begun (meets storage s path x k) (with_any_sent downs (takes_up returns storage s path x).step.came.sent) (taken ups path) u
+  course-meets returns storage side s k downs ups u path (up.Accept t) e h (Follows m) =
+      Follows (mode-meets laws accesses storage side s k downs ups u path h m returns (up.Accept t) (λ P Q R w. first-tells side k.number (length k.taken) P Q R downs ups u path (up.Accept t) e w) tt)
+  course-meets returns storage side s k downs ups u path (up.Busy t) e h (Follows m) =
+      Follows (mode-meets laws accesses storage side s k downs ups u path h m returns (up.Busy t) (λ P Q R w. first-tells side k.number (length k.taken) P Q R downs ups u path (up.Busy t) e w) tt)
+  course-meets returns storage side s k downs ups u path (up.Leave t c) e h (Follows m) =
+      Follows (mode-meets laws accesses storage side s k downs ups u path h m returns (up.Leave t c) (λ P Q R w. first-tells side k.number (length k.taken) P Q R downs ups u path (up.Leave t c) e w) tt)
+  course-meets returns storage side s k downs ups u path (up.Back t c) e h (Follows m) =
+      Follows (mode-meets laws accesses storage side s k downs ups u path h m returns (up.Back t c) (λ P Q R w. first-tells side k.number (length k.taken) P Q R downs ups u path (up.Back t c) e w) tt)
+  course-meets returns storage side s k downs ups u path (up.Data t c n seq load) e h (Follows m) =
+      Follows (mode-meets laws accesses storage side s k downs ups u path h m returns (up.Data t c n seq load) (λ P Q R w. first-tells side k.number (length k.taken) P Q R downs ups u path (up.Data t c n seq load) e w) tt)
+  course-meets returns storage side s k downs ups u path (up.End t n status more) e h (Follows m) =
+      Follows (mode-meets laws accesses storage side s k downs ups u path h m returns (up.End t n status more) (λ P Q R w. first-tells side k.number (length k.taken) P Q R downs ups u path (up.End t n status more) e w) tt)
+  course-meets returns storage side s k downs ups u path (up.Released t) e h (Follows m) =
+      Follows (mode-meets laws accesses storage side s k downs ups u path h m returns (up.Released t) (λ P Q R w. first-tells side k.number (length k.taken) P Q R downs ups u path (up.Released t) e w) tt)
+  course-meets returns storage side s k downs ups u path (up.Cleared r) e h (Follows m) =
+      Follows (mode-meets laws accesses storage side s k downs ups u path h m returns (up.Cleared r) (λ P Q R w. first-tells side k.number (length k.taken) P Q R downs ups u path (up.Cleared r) e w) tt)
+  course-meets returns storage side s k downs ups u path (up.Attn a status) e h (Follows m) =
+      Follows (mode-meets laws accesses storage side s k downs ups u path h m returns (up.Attn a status) (λ P Q R w. first-tells side k.number (length k.taken) P Q R downs ups u path (up.Attn a status) e w) tt)
+  course-meets returns storage side s k downs ups u path (up.Notice b) e h (Follows m) =
+      notice-course s b (nat_lt s.hold.known b) side k downs (taken ups path) u h (Follows (quiet laws accesses storage side s k downs ups u path h m s.begun None refl tt))
+  course-meets returns storage side s k downs ups u path x e h (Cut z b w m) = cut-meets returns storage side s k downs ups u path x b h z w m
+
+  met-flows : (returns : Bool) → (storage : Contents) (sub : Subchannel) (path : ℕ) (x : Up) (k : Option Story) (u : UnitState) → slice_get (queue sub.wires.up path) 0 ≡ Some x → HeldBy sub.state k →
       AtSub sub.setup.side sub k u →
-      CourseOf sub.setup.side (takes_up storage sub.state path x).step.state.begun (met_with storage sub.state path (Some x) k)
-      (with_any_sent sub.wires.down (takes_up storage sub.state path x).step.came.sent) (taken sub.wires.up path) u
-  met-flows storage sub path x None u e h a =
-      let one : Option (OnPath Down) = (takes_up storage sub.state path x).step.came.sent in
-      let i : IsIdle sub.state (takes_up storage sub.state path x).step (meets storage sub.state path x) =
-      idle-meets storage sub.state h.begun (untold-no-offer sub.state.hold.phase sub.state.drawn h.phase) path x in
+      CourseOf sub.setup.side (takes_up returns storage sub.state path x).step.state.begun (met_with storage sub.state path (Some x) k)
+      (with_any_sent sub.wires.down (takes_up returns storage sub.state path x).step.came.sent) (taken sub.wires.up path) u
+  met-flows returns storage sub path x None u e h a =
+      let one : Option (OnPath Down) = (takes_up returns storage sub.state path x).step.came.sent in
+      let i : IsIdle sub.state (takes_up returns storage sub.state path x).step (meets storage sub.state path x) =
+      idle-meets storage sub.state h.begun returns (untold-no-offer sub.state.hold.phase sub.state.drawn h.phase) path x in
       wired-holds sub.setup.side 0 0 HandClosed HandClosed AnyGive AnyGive AnyData AnyData sub.wires.down sub.wires.up u one path (λ i y. y) (λ i bytes y. y) (λ i l y. y)
       (sent-hold 0 0 AnyGive one i.sends) a
-  met-flows storage sub path x (Some k) u e h a = course-meets storage sub.setup.side sub.state k sub.wires.down sub.wires.up u path x e h a
+  met-flows returns storage sub path x (Some k) u e h a = course-meets returns storage sub.setup.side sub.state k sub.wires.down sub.wires.up u path x e h a
 
-  up_front-flows : (storage : Contents) (sub : Subchannel) (path : ℕ) (front : Option Up) (k : Option Story) (u : UnitState) → slice_get (queue sub.wires.up path) 0 ≡ front → HeldBy sub.state k →
-      AtSub sub.setup.side sub k u → IfOk (up_front storage sub path front) (λ t. AtSub sub.setup.side t.sub (met_with storage sub.state path front k) u)
-  up_front-flows storage sub path None k u e h a = tt
-  up_front-flows storage sub path (Some x) k u e h a =
-      if-ok (λ t. AtSub sub.setup.side t.sub (met_with storage sub.state path (Some x) k) u) (finds_full sub.wires.down (takes_up storage sub.state path x).step.came.sent) (Err fault.WireFull) _ tt
-      (met-flows storage sub path x k u e h a)
+  up_front-flows : (returns : Bool) → (storage : Contents) (sub : Subchannel) (path : ℕ) (front : Option Up) (k : Option Story) (u : UnitState) → slice_get (queue sub.wires.up path) 0 ≡ front → HeldBy sub.state k →
+      AtSub sub.setup.side sub k u → IfOk (up_front returns storage sub path front) (λ t. AtSub sub.setup.side t.sub (met_with storage sub.state path front k) u)
+  up_front-flows returns storage sub path None k u e h a = tt
+  up_front-flows returns storage sub path (Some x) k u e h a =
+      if-ok (λ t. AtSub sub.setup.side t.sub (met_with storage sub.state path (Some x) k) u) (finds_full sub.wires.down (takes_up returns storage sub.state path x).step.came.sent) (Err fault.WireFull) _ tt
+      (met-flows returns storage sub path x k u e h a)
 
-  pub up-flows : (storage : Contents) (sub : Subchannel) (path : ℕ) (k : Option Story) (u : UnitState) → HeldBy sub.state k → AtSub sub.setup.side sub k u →
-      IfOk (up_sub storage sub path) (λ t. AtSub sub.setup.side t.sub (met_at storage (Some sub) path k) u)
-  up-flows storage sub path k u h a =
-      if-ok (λ t. AtSub sub.setup.side t.sub (met_at storage (Some sub) path k) u) (nat_lt path (length sub.setup.paths)) (up_front storage sub path (slice_get (queue sub.wires.up path) 0))
-      (Err fault.NoSuchPath) (up_front-flows storage sub path (slice_get (queue sub.wires.up path) 0) k u refl h a) tt
+  pub up-flows : (returns : Bool) → (storage : Contents) (sub : Subchannel) (path : ℕ) (k : Option Story) (u : UnitState) → HeldBy sub.state k → AtSub sub.setup.side sub k u →
+      IfOk (up_sub returns storage sub path) (λ t. AtSub sub.setup.side t.sub (met_at storage (Some sub) path k) u)
+  up-flows returns storage sub path k u h a =
+      if-ok (λ t. AtSub sub.setup.side t.sub (met_at storage (Some sub) path k) u) (nat_lt path (length sub.setup.paths)) (up_front returns storage sub path (slice_get (queue sub.wires.up path) 0))
+      (Err fault.NoSuchPath) (up_front-flows returns storage sub path (slice_get (queue sub.wires.up path) 0) k u refl h a) tt
 
 -- Down
-none-answered : (side : Side) (drawn : ℕ) (u : UnitState) (path : ℕ) (d : Down) → IsDown drawn 0 0 [] d → IsAnswered side 0 u path d
-none-answered side drawn u path (down.Select t) i = tt
-none-answered side drawn u path (down.Command t n code room) i = λ e. absurd (let k = i.1 e in omega (arith, k.0, k.1.count))
-none-answered side drawn u path (down.Grant t c) i = tt
-none-answered side drawn u path (down.Refuse t c) i = tt
-none-answered side drawn u path (down.Took t n s room) i = tt
-none-answered side drawn u path (down.Give t c n s bytes) i = tt
-none-answered side drawn u path (down.Halt t) i = tt
-none-answered side drawn u path (down.Release t) i = tt
-none-answered side drawn u path (down.Reset r b) i = tt
-none-answered side drawn u path (down.Got a) i = tt
+none-answered : (may : Bool) → (side : Side) (drawn : ℕ) (u : UnitState) (path : ℕ) (d : Down) → IsDown drawn 0 0 [] d → IsAnswered may side 0 u path d
+none-answered may side drawn u path (down.Select t) i = tt
+none-answered may side drawn u path (down.Command t n code room) i = λ e. absurd (let k = i.1 e in omega (arith, k.0, k.1.count))
+none-answered may side drawn u path (down.Grant t c) i = tt
+none-answered may side drawn u path (down.Refuse t c) i = tt
+none-answered may side drawn u path (down.Took t n s room) i = tt
+none-answered may side drawn u path (down.Give t c n s bytes) i = tt
+none-answered may side drawn u path (down.Halt t) i = tt
+none-answered may side drawn u path (down.Release t) i = tt
+none-answered may side drawn u path (down.Reset r b) i = tt
+none-answered may side drawn u path (down.Got a) i = tt
 
 none-taken : (d : Down) (came : Bool) (sent : Option (OnPath Up)) → taken_at (reply.Down d came sent) None ≡ None
-none-taken d true sent = refl
+none-taken d true None = refl
+none-taken d true (Some x) = refl
 none-taken d false sent = refl
 
-sunk-flows : (sub : Subchannel) (path : ℕ) (d : Down) (k : Option Story) (u : UnitState) → slice_get (queue sub.wires.down path) 0 ≡ Some d → HeldBy sub.state k →
+sunk-flows : (may : Bool) → (sub : Subchannel) (path : ℕ) (d : Down) (k : Option Story) (u : UnitState) → slice_get (queue sub.wires.down path) 0 ≡ Some d → HeldBy sub.state k →
     IsLinked sub.setup.side sub.state.drawn sub.wires.down k u → AtSub sub.setup.side sub k u →
     CourseOf sub.setup.side sub.state.begun
-    (taken_at (reply.Down d (came_of (unit_takes u sub.setup.side path d true)).taken (came_of (unit_takes u sub.setup.side path d true)).sent) k) (taken sub.wires.down path)
-    (with_any_sent sub.wires.up (came_of (unit_takes u sub.setup.side path d true)).sent) (unit_after u (unit_takes u sub.setup.side path d true))
-sunk-flows sub path d None u e h l a =
+    (taken_at (reply.Down d (came_of (unit_takes u sub.setup.side path d may)).taken (came_of (unit_takes u sub.setup.side path d may)).sent) k) (taken sub.wires.down path)
+    (with_any_sent sub.wires.up (came_of (unit_takes u sub.setup.side path d may)).sent) (unit_after u (unit_takes u sub.setup.side path d may))
+sunk-flows may sub path d None u e h l a =
     let i : IsDown sub.state.drawn 0 0 [] d = on-first (IsDown sub.state.drawn 0 0 []) sub.wires.down path d l.downs e in
     subst (λ (x : Option Story). CourseOf sub.setup.side sub.state.begun x (taken sub.wires.down path)
-    (with_any_sent sub.wires.up (came_of (unit_takes u sub.setup.side path d true)).sent) (unit_after u (unit_takes u sub.setup.side path d true)))
-    (sym (none-taken d (came_of (unit_takes u sub.setup.side path d true)).taken (came_of (unit_takes u sub.setup.side path d true)).sent))
-    (wired-takes sub.setup.side sub.state.drawn 0 0 0 [] HandClosed AnyGive AnyData sub.wires.down sub.wires.up u path d e i fit-closed.none fit-closed.answered fit-closed.gives l.kept.fresh l.kept.last
-    (none-answered sub.setup.side sub.state.drawn u path d i) a)
-sunk-flows sub path d (Some k) u e h l a =
+    (with_any_sent sub.wires.up (came_of (unit_takes u sub.setup.side path d may)).sent) (unit_after u (unit_takes u sub.setup.side path d may)))
+    (sym (none-taken d (came_of (unit_takes u sub.setup.side path d may)).taken (came_of (unit_takes u sub.setup.side path d may)).sent))
+    (wired-takes may sub.setup.side sub.state.drawn 0 0 0 [] HandClosed AnyGive AnyData sub.wires.down sub.wires.up u path d e i fit-closed.none fit-closed.answered fit-closed.gives l.kept.last
+    (none-answered may sub.setup.side sub.state.drawn u path d i) a)
+sunk-flows may sub path d (Some k) u e h l a =
     let i : IsDown sub.state.drawn k.number k.sent _ d = on-first (IsDown sub.state.drawn k.number k.sent _) sub.wires.down path d l.downs e in
-    course-down sub.setup.side sub.state.drawn k sub.wires.down sub.wires.up u path l sub.state.begun d (held-needs (Some k) sub.state h).begun e i a
+    course-down may sub.setup.side sub.state.drawn k sub.wires.down sub.wires.up u path l sub.state.begun d (held-needs (Some k) sub.state h).begun e i a
 
-down_front-flows : (sub : Subchannel) (path : ℕ) (u : UnitState) (front : Option Down) (k : Option Story) → slice_get (queue sub.wires.down path) 0 ≡ front → HeldBy sub.state k →
+down_front-flows : (may : Bool) → (sub : Subchannel) (path : ℕ) (u : UnitState) (front : Option Down) (k : Option Story) → slice_get (queue sub.wires.down path) 0 ≡ front → HeldBy sub.state k →
     IsLinked sub.setup.side sub.state.drawn sub.wires.down k u → AtSub sub.setup.side sub k u →
-    IfOk (down_front sub path u front) (λ t. AtSub sub.setup.side t.sub (taken_at t.reply k) t.«unit»)
-down_front-flows sub path u None k e h l a = tt
-down_front-flows sub path u (Some d) k e h l a =
-    if-ok (λ t. AtSub sub.setup.side t.sub (taken_at t.reply k) t.«unit») (finds_full sub.wires.up (came_of (unit_takes u sub.setup.side path d true)).sent) (Err fault.WireFull) _ tt
-    (sunk-flows sub path d k u e h l a)
+    IfOk (down_front may sub path u front) (λ t. AtSub sub.setup.side t.sub (taken_at t.reply k) t.«unit»)
+down_front-flows may sub path u None k e h l a = tt
+down_front-flows may sub path u (Some d) k e h l a =
+    if-ok (λ t. AtSub sub.setup.side t.sub (taken_at t.reply k) t.«unit») (finds_full sub.wires.up (came_of (unit_takes u sub.setup.side path d may)).sent) (Err fault.WireFull) _ tt
+    (sunk-flows may sub path d k u e h l a)
 
-pub down-flows : (sub : Subchannel) (path : ℕ) (u : UnitState) (k : Option Story) → HeldBy sub.state k → IsLinked sub.setup.side sub.state.drawn sub.wires.down k u → AtSub sub.setup.side sub k u →
-    IfOk (down_sub sub path u) (λ t. AtSub sub.setup.side t.sub (taken_at t.reply k) t.«unit»)
-down-flows sub path u k h l a =
-    if-ok (λ t. AtSub sub.setup.side t.sub (taken_at t.reply k) t.«unit») (nat_lt path (length sub.setup.paths)) (down_front sub path u (slice_get (queue sub.wires.down path) 0))
-    (Err fault.NoSuchPath) (down_front-flows sub path u (slice_get (queue sub.wires.down path) 0) k refl h l a) tt
+pub down-flows : (may : Bool) → (sub : Subchannel) (path : ℕ) (u : UnitState) (k : Option Story) → HeldBy sub.state k → IsLinked sub.setup.side sub.state.drawn sub.wires.down k u → AtSub sub.setup.side sub k u →
+    IfOk (down_sub may sub path u) (λ t. AtSub sub.setup.side t.sub (taken_at t.reply k) t.«unit»)
+down-flows may sub path u k h l a =
+    if-ok (λ t. AtSub sub.setup.side t.sub (taken_at t.reply k) t.«unit») (nat_lt path (length sub.setup.paths)) (down_front may sub path u (slice_get (queue sub.wires.down path) 0))
+    (Err fault.NoSuchPath) (down_front-flows may sub path u (slice_get (queue sub.wires.down path) 0) k refl h l a) tt
 
 -- Report
 none-told : (u : UnitState) (p t c : ℕ) (x : AtHand) (a : DeviceAnswer) (y : UnitStep) (number m : ℕ) (E : Type 0) → IsTold u p t c x a y → IsOfCommand number m t u.last_command E →
@@ -248,7 +282,7 @@ none-told u p t c x _ _ number m E (Begins_in o n) f = tt
 none-told u p t c x _ _ number m E (Absorbs bytes count w g l) f = (f.0, λ e. ((f.1 e).0, λ i. tt))
 none-told u p t c x _ _ number m E (Supplies bytes o w) f = (f.0, λ e. ((f.1 e).0, λ i. tt))
 none-told u p t c x _ _ number m E (Tells_again l e w) f = (f.0, λ e. ((f.1 e).0, λ i. tt))
-none-told u p t c x _ _ number m E (Ends status more) f = f
+none-told u p t c x _ _ number m E (Ends given shown more) f = f
 
 reported-none : (side : Side) (drawn : ℕ) (downs : List (List Down)) (ups : List (List Up)) (u : UnitState) (report : Report) (y : UnitStep) → same_side side report.side ≡ true → IsNumbered side drawn 0 [] u →
     IsReportTaken u report y → IsWired side 0 0 HandClosed AnyGive AnyData downs ups u → IsWired side 0 0 HandClosed AnyGive AnyData downs (with_any_sent ups y.sent) y.state
@@ -279,16 +313,16 @@ calm-flows side sub k u v c a =
     course-carried side sub.state.begun k sub.wires.down sub.wires.down sub.wires.up sub.wires.up u v
     (λ P Q R f w. wired-calm side (number_of k) (length (took_of k)) P Q R sub.wires.down sub.wires.up u v c w) a
 
-other-down_front : (other : Subchannel) (side : Side) (path : ℕ) (u : UnitState) (front : Option Down) → same_side other.setup.side side ≡ false →
-    IfOk (down_front other path u front) (λ t. IsCalm side u t.«unit»)
-other-down_front other side path u None e = tt
-other-down_front other side path u (Some d) e =
-    if-ok (λ t. IsCalm side u t.«unit») (finds_full other.wires.up (came_of (unit_takes u other.setup.side path d true)).sent) (Err fault.WireFull) _ tt (other-calm side u other.setup.side path d e)
+other-down_front : (may : Bool) → (other : Subchannel) (side : Side) (path : ℕ) (u : UnitState) (front : Option Down) → same_side other.setup.side side ≡ false →
+    IfOk (down_front may other path u front) (λ t. IsCalm side u t.«unit»)
+other-down_front may other side path u None e = tt
+other-down_front may other side path u (Some d) e =
+    if-ok (λ t. IsCalm side u t.«unit») (finds_full other.wires.up (came_of (unit_takes u other.setup.side path d may)).sent) (Err fault.WireFull) _ tt (other-calm may side u other.setup.side path d e)
 
-pub other-down : (other : Subchannel) (side : Side) (path : ℕ) (u : UnitState) → same_side other.setup.side side ≡ false → IfOk (down_sub other path u) (λ t. IsCalm side u t.«unit»)
-other-down other side path u e =
-    if-ok (λ t. IsCalm side u t.«unit») (nat_lt path (length other.setup.paths)) (down_front other path u (slice_get (queue other.wires.down path) 0)) (Err fault.NoSuchPath)
-    (other-down_front other side path u (slice_get (queue other.wires.down path) 0) e) tt
+pub other-down : (may : Bool) → (other : Subchannel) (side : Side) (path : ℕ) (u : UnitState) → same_side other.setup.side side ≡ false → IfOk (down_sub may other path u) (λ t. IsCalm side u t.«unit»)
+other-down may other side path u e =
+    if-ok (λ t. IsCalm side u t.«unit») (nat_lt path (length other.setup.paths)) (down_front may other path u (slice_get (queue other.wires.down path) 0)) (Err fault.NoSuchPath)
+    (other-down_front may other side path u (slice_get (queue other.wires.down path) 0) e) tt
 
 pub other-told : (other : Subchannel) (side : Side) (u : UnitState) (report : Report) (step : Option UnitStep) → unit_reports u report ≡ step → same_side other.setup.side side ≡ false →
     same_side other.setup.side report.side ≡ true → IfOk (report_taken other step) (λ t. IsCalm side u t.«unit»)

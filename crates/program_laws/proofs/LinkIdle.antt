@@ -1,5 +1,5 @@
 -- Where no program is at work or offered, a signal is a matter of the hold alone.
-use Rattle.std.proofs.Common.{◌≡◌, refl, ℕ, Bool, true, false, Option, None, Some}
+use Rattle.std.proofs.Common.{◌≡◌, refl, ℕ, Bool, true, false, Option, None, Some, sym, ◌&&◌, ◌==◌, not, nat_lt}
 use Rattle.std.specs.Prelude.{if◌then◌else◌, IfSome}
 use Rattle.scsw_irb.specs.declared.status.DeviceStatus.{DeviceStatus}
 use Rattle.storage_keys.specs.Storage.{Contents}
@@ -9,16 +9,17 @@ use Rattle.chan_model.specs.declared.signal.Load.{Load}
 use Rattle.chan_model.specs.declared.signal.Up.{Up}
 use Rattle.chan_model.specs.declared.signal.Up.TheVariants as up
 use Rattle.chan_model.specs.HoldTable as hold_table
-use Rattle.chan_model.specs.HoldTable.{HoldStep, came_of, is_connected, is_on, left, asked_back, found_busy, released, cleared, noticed, attended}
+use Rattle.chan_model.specs.HoldTable.{HoldStep, hold_after, came_of, is_connected, is_on, left, asked_back, found_busy, released, cleared, noticed, attended}
 use Rattle.machine_model.specs.declared.state.Begun.{Begun}
 use Rattle.machine_model.specs.declared.state.SubchannelState.{SubchannelState}
 use Rattle.machine_model.specs.declared.state.UpStep.{UpStep}
 use Rattle.machine_model.specs.Taking as taking
 use Rattle.machine_model.specs.Taking.{goes_ahead, takes_up}
+use Rattle.machine_model.specs.Losing.{has_any, is_offered_or_held, reset_with, reset_for}
 use Rattle.program_laws.specs.Stories as stories
 use Rattle.program_laws.specs.Stories.{Story, meets}
-use Rattle.program_laws.proofs.Caused.{clear-begun}
-use Rattle.program_laws.proofs.LinkSent.{IsOfHold, Mutters, busy-mutters, left-mutters, back-mutters, released-mutters, cleared-mutters, attended-mutters, noticed-mutters}
+use Rattle.program_laws.proofs.Caused.{clear-begun, attention-begun}
+use Rattle.program_laws.proofs.LinkSent.{IsOfHold, Mutters, busy-mutters, left-mutters, back-mutters, released-mutters, cleared-mutters, attended-mutters}
 
 -- the hold alone sends, no program begins or ends, and the story stays
 pub record IsIdle (s : SubchannelState) (step : UpStep) (f : Story → Story) : Type 0 where
@@ -58,14 +59,33 @@ module _ (storage : Contents) (s : SubchannelState) (none : s.begun ≡ None) wh
   reset-idle None m = record { begun = refl; sends = tt; same = λ k. refl }
   reset-idle (Some step) m = record { begun = clear-begun (record s { hold = step.state }); sends = m; same = λ k. refl }
 
-  pub idle-meets : IsNoOffer s.hold.phase → (p : ℕ) (x : Up) → IsIdle s (takes_up storage s p x).step (meets storage s p x)
-  idle-meets n p (up.Accept t) = accept-idle s.hold.phase t (goes_ahead s) n
-  idle-meets n p (up.Data t c i q l) = data-idle p t c i q l (is_connected s.hold.phase p t c) s.begun none
-  idle-meets n p (up.End t i status more) = end-idle p t i status more (is_on s.hold.phase t) s.begun none
-  idle-meets n p (up.Busy t) = by_hold-idle (found_busy s.hold s.hold.phase t) (busy-mutters s.hold s.hold.phase t)
-  idle-meets n p (up.Leave t c) = by_hold-idle (left s.hold s.hold.phase t c) (left-mutters s.hold s.hold.phase t c)
-  idle-meets n p (up.Back t c) = by_hold-idle (asked_back s.hold s.hold.phase p t c false) (back-mutters s.hold s.hold.phase p t c false)
-  idle-meets n p (up.Released t) = by_hold-idle (released s.hold s.hold.phase t) (released-mutters s.hold s.hold.phase t)
-  idle-meets n p (up.Cleared r) = reset-idle (cleared s.hold s.hold.phase r) (cleared-mutters s.hold s.hold.phase r)
-  idle-meets n p (up.Notice b) = by_hold-idle (noticed s.hold b) (noticed-mutters s.hold b)
-  idle-meets n p (up.Attn a status) = by_hold-idle (attended s.hold s.hold.phase p a false) (attended-mutters s.hold s.hold.phase p a false)
+  reset-begun : (c : SubchannelState) (shows : Bool) → c.begun ≡ None → (reset_with c shows).begun ≡ c.begun
+  reset-begun c true e = sym e
+  reset-begun c false e = refl
+
+  notice-idle : (b : ℕ) (more : Bool) → IsIdle s (if more then taking.quietly (reset_for (taking.with_known s b)) else taking.ignoring s) (λ k. k)
+  notice-idle b true = record { begun = reset-begun (taking.with_known s b) (is_offered_or_held s.hold.phase && has_any s.waiting s.begun s.suspended) none; sends = tt; same = λ k. refl }
+  notice-idle b false = record { begun = refl; sends = tt; same = λ k. refl }
+
+  back-idle : (p : ℕ) (step : Option HoldStep) → Mutters step → IsIdle s (taking.back s p step) (λ k. k)
+  back-idle p step m = record { begun = refl; sends = m; same = λ k. refl }
+
+  attend-idle : (status : DeviceStatus) (step : Option HoldStep) → Mutters step → IsIdle s (taking.attend s status step) (λ k. k)
+  attend-idle status step m = record {
+    begun = attention-begun (record s { hold = hold_after s.hold step }) ((came_of step).taken && not (status.0 == 0x20));
+    sends = m;
+    same = λ k. refl;
+  }
+
+  pub idle-meets : (returns : Bool) → IsNoOffer s.hold.phase → (p : ℕ) (x : Up) → IsIdle s (takes_up returns storage s p x).step (meets storage s p x)
+  idle-meets returns n p (up.Accept t) = accept-idle s.hold.phase t (goes_ahead s) n
+  idle-meets returns n p (up.Data t c i q l) = data-idle p t c i q l (is_connected s.hold.phase p t c) s.begun none
+  idle-meets returns n p (up.End t i status more) = end-idle p t i status more (is_on s.hold.phase t) s.begun none
+  idle-meets returns n p (up.Busy t) = by_hold-idle (found_busy s.hold s.hold.phase t) (busy-mutters s.hold s.hold.phase t)
+  idle-meets returns n p (up.Leave t c) = by_hold-idle (left s.hold s.hold.phase t c) (left-mutters s.hold s.hold.phase t c)
+  idle-meets returns n p (up.Back t c) = back-idle p (asked_back s.hold s.hold.phase p t c returns) (back-mutters s.hold s.hold.phase p t c returns)
+  idle-meets returns n p (up.Released t) = by_hold-idle (released s.hold s.hold.phase t) (released-mutters s.hold s.hold.phase t)
+  idle-meets returns n p (up.Cleared r) = reset-idle (cleared s.hold s.hold.phase r) (cleared-mutters s.hold s.hold.phase r)
+  idle-meets returns n p (up.Notice b) = notice-idle b (nat_lt s.hold.known b)
+  idle-meets returns n p (up.Attn a status) =
+      attend-idle status (attended s.hold s.hold.phase p a (taking.may_attend s)) (attended-mutters s.hold s.hold.phase p a (taking.may_attend s))

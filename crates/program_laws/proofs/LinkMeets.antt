@@ -56,11 +56,11 @@ use Rattle.program_laws.proofs.Accesses.{AreAccesses}
 use Rattle.program_laws.proofs.Parts.{IsSame, absorbed-same, next_given-same, located-same, brought-same, WentOn}
 use Rattle.program_laws.proofs.Holds.{IsPhase, IsHeld, HasWork}
 use Rattle.program_laws.proofs.HoldMeets.{chains-facts, next-went}
-use Rattle.program_laws.proofs.Caused.{IsUninterrupted, suspending-workless, fault-begun, halt-begun, clear-begun}
+use Rattle.program_laws.proofs.Caused.{IsUninterrupted, suspending-workless, fault-begun, halt-begun, clear-begun, attention-begun}
 use Rattle.program_laws.proofs.UnitFlows.{View, Flow, IsGive, IsData, IsGood, answered-hand, answered-flow, answered-give, answered-data, located-give, located-data, located-hand, located-flow}
 use Rattle.program_laws.proofs.UnitFlows as flows
 use Rattle.program_laws.proofs.UnitGrowth.{codes_of}
-use Rattle.program_laws.proofs.LinkSent.{IsOfHold, Mutters, busy-mutters, left-mutters, back-mutters, released-mutters, cleared-mutters, attended-mutters, noticed-mutters, letting-mutters}
+use Rattle.program_laws.proofs.LinkSent.{IsOfHold, Mutters, busy-mutters, left-mutters, back-mutters, released-mutters, cleared-mutters, attended-mutters, letting-mutters}
 use Rattle.program_laws.proofs.LinkNeeds.{IsLast, on-number, connected-number, held-needs}
 use Rattle.program_laws.proofs.LinkViews.{view_of, answers-view, repeats-view, goes-new, room-seq, current-facts}
 use Rattle.program_laws.proofs.LinkWires.{HandClosed, IsClosed, IsGiving, IsTelling, IsWired, wired-holds, sent-hold}
@@ -71,6 +71,11 @@ use Rattle.program_laws.proofs.LinkModes.{AnyGive, NoGive, AnyData, HandPlain, H
 least : (j n : ℕ) → j ≤ n → min j n ≡ j
 least j n l = min-eq_left l
 
+-- any but a Notice, which may empty what is begun
+abbrev pub IsNoNotice : Up → Type 0
+IsNoNotice (up.Notice b) = ⊥
+IsNoNotice signal = Unit {0}
+
 module _ (laws : AreLaws) (accesses : AreAccesses) (storage : Contents) (side : Side) (s : SubchannelState) (k : Story) (downs : List (List Down)) (ups : List (List Up)) (u : UnitState) (path : ℕ)
     (held : IsHeld s k) (mode : Mode side s.begun k downs ups u) where
   abbrev Goes : UpStep → Story → Type 0
@@ -80,7 +85,7 @@ module _ (laws : AreLaws) (accesses : AreAccesses) (storage : Contents) (side : 
   m = length k.taken
 
   -- nothing is done for the program
-  quiet : (begun : Option Begun) (one : Option (OnPath Down)) → begun ≡ s.begun → IfSome one (λ d. IsOfHold d.signal) → Mode side begun k (with_any_sent downs one) (taken ups path) u
+  pub quiet : (begun : Option Begun) (one : Option (OnPath Down)) → begun ≡ s.begun → IfSome one (λ d. IsOfHold d.signal) → Mode side begun k (with_any_sent downs one) (taken ups path) u
   quiet begun one e h =
       subst (λ (b : Option Begun). Mode side b k (with_any_sent downs one) (taken ups path) u) (sym e)
       (mode-carried side s.begun k downs (with_any_sent downs one) ups (taken ups path) u u
@@ -473,15 +478,19 @@ module _ (laws : AreLaws) (accesses : AreAccesses) (storage : Contents) (side : 
       quiet (taking.clear_done (record s { hold = step.state })).begun (came_of (Some step)).sent (clear-begun (record s { hold = step.state })) h
 
   -- any signal
-  pub mode-meets : (x : Up) → ((P : Option AtHand → Type 0) (Q : ℕ → List ℕ → Type 0) (R : ℕ → Load → Type 0) → IsWired side k.number m P Q R downs ups u → Front R x) →
-      Goes (takes_up storage s path x).step (meets storage s path x k)
-  mode-meets (up.Accept t) f = accepts-goes s.hold s.hold.phase t (goes_ahead s) held.phase
-  mode-meets (up.Data t c n seq l) f = data-goes path t c n seq l f
-  mode-meets (up.End t n status more) f = end-goes path t n status more f
-  mode-meets (up.Busy t) f = by_hold-goes (found_busy s.hold s.hold.phase t) (busy-mutters s.hold s.hold.phase t)
-  mode-meets (up.Leave t c) f = by_hold-goes (left s.hold s.hold.phase t c) (left-mutters s.hold s.hold.phase t c)
-  mode-meets (up.Back t c) f = by_hold-goes (asked_back s.hold s.hold.phase path t c false) (back-mutters s.hold s.hold.phase path t c false)
-  mode-meets (up.Released t) f = by_hold-goes (released s.hold s.hold.phase t) (released-mutters s.hold s.hold.phase t)
-  mode-meets (up.Cleared r) f = reset-goes (cleared s.hold s.hold.phase r) (cleared-mutters s.hold s.hold.phase r)
-  mode-meets (up.Notice b) f = by_hold-goes (noticed s.hold b) (noticed-mutters s.hold b)
-  mode-meets (up.Attn a status) f = by_hold-goes (attended s.hold s.hold.phase path a false) (attended-mutters s.hold s.hold.phase path a false)
+  pub mode-meets : (returns : Bool) → (x : Up) → ((P : Option AtHand → Type 0) (Q : ℕ → List ℕ → Type 0) (R : ℕ → Load → Type 0) → IsWired side k.number m P Q R downs ups u → Front R x) → IsNoNotice x →
+      Goes (takes_up returns storage s path x).step (meets storage s path x k)
+  mode-meets returns (up.Accept t) f other = accepts-goes s.hold s.hold.phase t (goes_ahead s) held.phase
+  mode-meets returns (up.Data t c n seq l) f other = data-goes path t c n seq l f
+  mode-meets returns (up.End t n status more) f other = end-goes path t n status more f
+  mode-meets returns (up.Busy t) f other = by_hold-goes (found_busy s.hold s.hold.phase t) (busy-mutters s.hold s.hold.phase t)
+  mode-meets returns (up.Leave t c) f other = by_hold-goes (left s.hold s.hold.phase t c) (left-mutters s.hold s.hold.phase t c)
+  mode-meets returns (up.Back t c) f other = by_hold-goes (asked_back s.hold s.hold.phase path t c returns) (back-mutters s.hold s.hold.phase path t c returns)
+  mode-meets returns (up.Released t) f other = by_hold-goes (released s.hold s.hold.phase t) (released-mutters s.hold s.hold.phase t)
+  mode-meets returns (up.Cleared r) f other = reset-goes (cleared s.hold s.hold.phase r) (cleared-mutters s.hold s.hold.phase r)
+  mode-meets returns (up.Notice b) f other = absurd other
+  mode-meets returns (up.Attn a status) f other =
+      let step : Option HoldStep = attended s.hold s.hold.phase path a (taking.may_attend s) in
+      quiet (taking.attend s status step).state.begun (came_of step).sent
+      (attention-begun (record s { hold = hold_after s.hold step }) ((came_of step).taken && not (status.0 == 0x20)))
+      (attended-mutters s.hold s.hold.phase path a (taking.may_attend s))

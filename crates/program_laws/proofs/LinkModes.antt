@@ -22,7 +22,7 @@ use Rattle.wires.specs.Queues.{queue, taken}
 use Rattle.machine_model.specs.declared.state.Begun.{Begun}
 use Rattle.machine_model.specs.Steps.{with_any_sent}
 use Rattle.program_laws.specs.Doings.{Part}
-use Rattle.program_laws.specs.Stories.{Story, taken_at}
+use Rattle.program_laws.specs.Stories.{silent, silent_by, Story, taken_at}
 use Rattle.program_laws.specs.Claims.{AbsorbsInOrder, IsFirstOf}
 use Rattle.program_laws.proofs.UnitOrders.{IsNth, IsDown, IsOrdered, ends-same}
 use Rattle.program_laws.proofs.UnitGrowth.{codes_of}
@@ -101,22 +101,24 @@ pub absorbs-none : (orb : Orb) (p : Part) (absorbed : List ℕ) → absorbed ≡
 absorbs-none orb p absorbed e = ([], All-nil (IsFirstOf p.copied), sym e, (_, refl))
 
 -- Down: where the device took all that was sent, it takes no Command
-story-same : (d : Down) (came : Bool) (sent : Option (OnPath Up)) (k : Story) → IsNoNext k.number d came → taken_at (reply.Down d came sent) (Some k) ≡ Some k
-story-same d false sent k n = refl
-story-same (down.Select t) true sent k n = refl
-story-same (down.Command t c code room) true sent k n = by (t == k.number) refl
+story-same : (d : Down) (came : Bool) (sent : Option (OnPath Up)) (k : Story) → IsNoNext k.number d (silent_by came sent) → taken_at (reply.Down d came sent) (Some k) ≡ Some k
+story-same d true (Some x) k n = refl
+story-same d false (Some x) k n = refl
+story-same d false None k n = refl
+story-same (down.Select t) true None k n = refl
+story-same (down.Command t c code room) true None k n = by (t == k.number) refl
   where
     by : (b : Bool) → (t == k.number) ≡ b → Some (if b then record k { taken = code ∷ k.taken; absorbed = [] } else k) ≡ Some k
     by true e = absurd (cc (n (eqb-true t k.number e)))
     by false e = refl
-story-same (down.Grant t c) true sent k n = refl
-story-same (down.Refuse t c) true sent k n = refl
-story-same (down.Took t c s room) true sent k n = refl
-story-same (down.Give t c e s bytes) true sent k n = refl
-story-same (down.Halt t) true sent k n = refl
-story-same (down.Release t) true sent k n = refl
-story-same (down.Reset r b) true sent k n = refl
-story-same (down.Got a) true sent k n = refl
+story-same (down.Grant t c) true None k n = refl
+story-same (down.Refuse t c) true None k n = refl
+story-same (down.Took t c s room) true None k n = refl
+story-same (down.Give t c e s bytes) true None k n = refl
+story-same (down.Halt t) true None k n = refl
+story-same (down.Release t) true None k n = refl
+story-same (down.Reset r b) true None k n = refl
+story-same (down.Got a) true None k n = refl
 
 abbrev command_step : UnitState → ℕ → ℕ → ℕ → ℕ → Bool → Bool → Bool → Option UnitStep
 command_step u p n code room fresh owner next =
@@ -131,42 +133,42 @@ last-code codes sent n code t l k e =
     sym (cc same)
 
 module _ (side : Side) (drawn : ℕ) (k : Story) (downs : List (List Down)) (ups : List (List Up)) (u : UnitState) (path : ℕ) (o : IsOrdered side drawn k.number k.sent (codes_of k) k.taken downs u) where
-  abbrev After : Option Begun → Down → Type 0
-  After begun d =
-      ModeOf side begun (taken_at (reply.Down d (came_of (unit_takes u side path d true)).taken (came_of (unit_takes u side path d true)).sent) (Some k)) (taken downs path)
-      (with_any_sent ups (came_of (unit_takes u side path d true)).sent) (unit_after u (unit_takes u side path d true))
+  abbrev After : (may : Bool) → Option Begun → Down → Type 0
+  After may begun d =
+      ModeOf side begun (taken_at (reply.Down d (came_of (unit_takes u side path d may)).taken (came_of (unit_takes u side path d may)).sent) (Some k)) (taken downs path)
+      (with_any_sent ups (came_of (unit_takes u side path d may)).sent) (unit_after u (unit_takes u side path d may))
 
-  carried-down : (begun : Option Begun) (d : Down) → slice_get (queue downs path) 0 ≡ Some d → IsDown drawn k.number k.sent (codes_of k) d → IsAnswered side k.number u path d →
-      Mode side begun k downs ups u → After begun d
-  carried-down begun d e i n m =
+  carried-down : (may : Bool) → (begun : Option Begun) (d : Down) → slice_get (queue downs path) 0 ≡ Some d → IsDown drawn k.number k.sent (codes_of k) d → IsAnswered may side k.number u path d →
+      Mode side begun k downs ups u → After may begun d
+  carried-down may begun d e i n m =
       subst
-      (λ (x : Option Story). ModeOf side begun x (taken downs path) (with_any_sent ups (came_of (unit_takes u side path d true)).sent) (unit_after u (unit_takes u side path d true)))
-      (sym (story-same d (came_of (unit_takes u side path d true)).taken (came_of (unit_takes u side path d true)).sent k n))
-      (mode-carried side begun k downs (taken downs path) ups (with_any_sent ups (came_of (unit_takes u side path d true)).sent) u (unit_after u (unit_takes u side path d true))
-      (λ P Q R f w. wired-takes side drawn k.number (length k.taken) k.sent (codes_of k) P Q R downs ups u path d e i f.none f.answered f.gives o.kept.fresh o.kept.last n w) m)
+      (λ (x : Option Story). ModeOf side begun x (taken downs path) (with_any_sent ups (came_of (unit_takes u side path d may)).sent) (unit_after u (unit_takes u side path d may)))
+      (sym (story-same d (came_of (unit_takes u side path d may)).taken (came_of (unit_takes u side path d may)).sent k n))
+      (mode-carried side begun k downs (taken downs path) ups (with_any_sent ups (came_of (unit_takes u side path d may)).sent) u (unit_after u (unit_takes u side path d may))
+      (λ P Q R f w. wired-takes may side drawn k.number (length k.taken) k.sent (codes_of k) P Q R downs ups u path d e i f.none f.answered f.gives o.kept.last n w) m)
 
-  full-answered : (t n code room : ℕ) → IsDown drawn k.number k.sent (codes_of k) (down.Command t n code room) → length k.taken ≡ k.sent → (fresh owner next : Bool) → fresh ≡ false →
-      is_owner u.own side t ≡ owner → (n == u.last_command + 1) ≡ next → t ≡ k.number → (came_of (command_step u path n code room fresh owner next)).taken ≡ false
-  full-answered t n code room i f true owner next z a b e = absurd (cc z)
-  full-answered t n code room i f false true true z a b e =
+  full-answered : (t n code room : ℕ) → IsDown drawn k.number k.sent (codes_of k) (down.Command t n code room) → length k.taken ≡ k.sent → (fresh owner next : Bool) →
+      is_owner u.own side t ≡ owner → (n == u.last_command + 1) ≡ next → t ≡ k.number → silent (came_of (command_step u path n code room fresh owner next)) ≡ false
+  full-answered t n code room i f true owner next a b e = refl
+  full-answered t n code room i f false true true a b e =
       let last : u.last_command ≡ length k.taken = o.kept.last (subst (λ (x : ℕ). is_owner u.own side x ≡ true) e a) in
       let is : n ≡ u.last_command + 1 = eqb-true n (u.last_command + 1) b in
       let le : n ≤ k.sent = (i.1 e).0 in
       absurd (omega (arith, last, is, le, f))
-  full-answered t n code room i f false true false z a b e = refl
-  full-answered t n code room i f false false next z a b e = refl
+  full-answered t n code room i f false true false a b e = refl
+  full-answered t n code room i f false false next a b e = refl
 
-  all-answered : (d : Down) → IsDown drawn k.number k.sent (codes_of k) d → length k.taken ≡ k.sent → IsAnswered side k.number u path d
-  all-answered (down.Select t) i f = tt
-  all-answered (down.Command t n code room) i f = full-answered t n code room i f (side_of u side).fresh (is_owner u.own side t) (n == u.last_command + 1) o.kept.fresh refl refl
-  all-answered (down.Grant t c) i f = tt
-  all-answered (down.Refuse t c) i f = tt
-  all-answered (down.Took t c s room) i f = tt
-  all-answered (down.Give t c n s bytes) i f = tt
-  all-answered (down.Halt t) i f = tt
-  all-answered (down.Release t) i f = tt
-  all-answered (down.Reset r b) i f = tt
-  all-answered (down.Got a) i f = tt
+  all-answered : (may : Bool) → (d : Down) → IsDown drawn k.number k.sent (codes_of k) d → length k.taken ≡ k.sent → IsAnswered may side k.number u path d
+  all-answered may (down.Select t) i f = tt
+  all-answered may (down.Command t n code room) i f = full-answered t n code room i f (side_of u side).fresh (is_owner u.own side t) (n == u.last_command + 1) refl refl
+  all-answered may (down.Grant t c) i f = tt
+  all-answered may (down.Refuse t c) i f = tt
+  all-answered may (down.Took t c s room) i f = tt
+  all-answered may (down.Give t c n s bytes) i f = tt
+  all-answered may (down.Halt t) i f = tt
+  all-answered may (down.Release t) i f = tt
+  all-answered may (down.Reset r b) i f = tt
+  all-answered may (down.Got a) i f = tt
 
   -- the Command that it waits for
   abbrev next_story : ℕ → Story
@@ -200,32 +202,36 @@ module _ (side : Side) (drawn : ℕ) (k : Story) (downs : List (List Down)) (ups
         subst (λ (b : Bool). Mode side begun (if b then next_story code else k) (taken downs path) ups (record u { last_command = n; at_hand = Some (new_command code room) }))
         (sym (eq-eqb t k.number e)) m
 
-    waits-by : (b : Begun) → begun ≡ Some b → IsLast (codes_of k) k.sent b.transfer → length k.taken + 1 ≡ k.sent → b.transfer.sequence ≡ 0 → k.now.moved ≡ [] →
+    waits-by : (may : Bool) → (b : Begun) → begun ≡ Some b → IsLast (codes_of k) k.sent b.transfer → length k.taken + 1 ≡ k.sent → b.transfer.sequence ≡ 0 → k.now.moved ≡ [] →
         slice_get (queue downs path) 0 ≡ Some (down.Command t n code room) → IsDown drawn k.number k.sent (codes_of k) (down.Command t n code room) →
-        IsWired side k.number (length k.taken) HandClosed AnyGive AnyData downs ups u → Mode side begun k downs ups u → After begun (down.Command t n code room)
-    waits-by b e last l s m q i w mode =
+        IsWired side k.number (length k.taken) HandClosed AnyGive AnyData downs ups u → Mode side begun k downs ups u → After may begun (down.Command t n code room)
+    waits-by may b e last l s m q i w mode =
         by (side_of u side).fresh (is_owner u.own side t) (n == u.last_command + 1) (t == k.number) refl refl refl refl
       where
         other : ((fresh owner next : Bool) → (side_of u side).fresh ≡ fresh → is_owner u.own side t ≡ owner → (n == u.last_command + 1) ≡ next → t ≡ k.number →
-            (came_of (command_step u path n code room fresh owner next)).taken ≡ false) → After begun (down.Command t n code room)
-        other a = carried-down begun (down.Command t n code room) q i (a (side_of u side).fresh (is_owner u.own side t) (n == u.last_command + 1) refl refl refl) mode
+            silent (came_of (command_step u path n code room fresh owner next)) ≡ false) → After may begun (down.Command t n code room)
+        other a = carried-down may begun (down.Command t n code room) q i (a (side_of u side).fresh (is_owner u.own side t) (n == u.last_command + 1) refl refl refl) mode
 
         untaken : (x : Bool) → (is_owner u.own side t ≡ x) → x ≡ false → (fresh owner next : Bool) → (side_of u side).fresh ≡ fresh → is_owner u.own side t ≡ owner →
-            (came_of (command_step u path n code room fresh owner next)).taken ≡ false
-        untaken x p z true owner next f g = absurd (cc (sym f ∙ o.kept.fresh))
+            silent (came_of (command_step u path n code room fresh owner next)) ≡ false
+        untaken x p z true owner next f g = refl
         untaken x p z false true next f g = absurd (cc (sym g ∙ (p ∙ z)))
         untaken x p z false false next f g = refl
 
+        answers : (fresh owner next : Bool) → fresh ≡ true → silent (came_of (command_step u path n code room fresh owner next)) ≡ false
+        answers true owner next e = refl
+        answers false owner next e = absurd (cc e)
+
         unfit : (n == u.last_command + 1) ≡ false → (fresh owner next : Bool) → (side_of u side).fresh ≡ fresh → (n == u.last_command + 1) ≡ next →
-            (came_of (command_step u path n code room fresh owner next)).taken ≡ false
-        unfit z true owner next f h = absurd (cc (sym f ∙ o.kept.fresh))
+            silent (came_of (command_step u path n code room fresh owner next)) ≡ false
+        unfit z true owner next f h = refl
         unfit z false true true f h = absurd (cc (sym h ∙ z))
         unfit z false true false f h = refl
         unfit z false false next f h = refl
 
         by : (fresh owner next same : Bool) → (side_of u side).fresh ≡ fresh → is_owner u.own side t ≡ owner → (n == u.last_command + 1) ≡ next → (t == k.number) ≡ same →
-            After begun (down.Command t n code room)
-        by true owner next same f g h j = absurd (cc (sym f ∙ o.kept.fresh))
+            After may begun (down.Command t n code room)
+        by true owner next same f g h j = other (λ fresh owner next a c d z. answers fresh owner next (sym a ∙ f))
         by false true true true f g h j =
             let here : t ≡ k.number = eqb-true t k.number j in
             let took : u.last_command ≡ length k.taken = o.kept.last (subst (λ (x : ℕ). is_owner u.own side x ≡ true) here g) in
@@ -241,23 +247,23 @@ module _ (side : Side) (drawn : ℕ) (k : Story) (downs : List (List Down)) (ups
         by false false next same f g h j = other (λ fresh owner next a c d z. untaken false g refl fresh owner next a c)
 
   -- any signal
-  mode-next : (begun : Option Begun) (d : Down) → ((b : Begun) → begun ≡ Some b → IsLast (codes_of k) k.sent b.transfer) → slice_get (queue downs path) 0 ≡ Some d →
+  mode-next : (may : Bool) → (begun : Option Begun) (d : Down) → ((b : Begun) → begun ≡ Some b → IsLast (codes_of k) k.sent b.transfer) → slice_get (queue downs path) 0 ≡ Some d →
       IsDown drawn k.number k.sent (codes_of k) d → Mode side begun k downs ups u → (b : Begun) → begun ≡ Some b → length k.taken + 1 ≡ k.sent → b.transfer.sequence ≡ 0 → k.now.moved ≡ [] →
-      IsWired side k.number (length k.taken) HandClosed AnyGive AnyData downs ups u → After begun d
-  mode-next begun (down.Select t) last q i m b e l s z w = carried-down begun (down.Select t) q i tt m
-  mode-next begun (down.Command t n code room) last q i m b e l s z w = waits-by begun t n code room b e (last b e) l s z q i w m
-  mode-next begun (down.Grant t c) last q i m b e l s z w = carried-down begun (down.Grant t c) q i tt m
-  mode-next begun (down.Refuse t c) last q i m b e l s z w = carried-down begun (down.Refuse t c) q i tt m
-  mode-next begun (down.Took t c y room) last q i m b e l s z w = carried-down begun (down.Took t c y room) q i tt m
-  mode-next begun (down.Give t c n y bytes) last q i m b e l s z w = carried-down begun (down.Give t c n y bytes) q i tt m
-  mode-next begun (down.Halt t) last q i m b e l s z w = carried-down begun (down.Halt t) q i tt m
-  mode-next begun (down.Release t) last q i m b e l s z w = carried-down begun (down.Release t) q i tt m
-  mode-next begun (down.Reset r y) last q i m b e l s z w = carried-down begun (down.Reset r y) q i tt m
-  mode-next begun (down.Got a) last q i m b e l s z w = carried-down begun (down.Got a) q i tt m
+      IsWired side k.number (length k.taken) HandClosed AnyGive AnyData downs ups u → After may begun d
+  mode-next may begun (down.Select t) last q i m b e l s z w = carried-down may begun (down.Select t) q i tt m
+  mode-next may begun (down.Command t n code room) last q i m b e l s z w = waits-by begun t n code room may b e (last b e) l s z q i w m
+  mode-next may begun (down.Grant t c) last q i m b e l s z w = carried-down may begun (down.Grant t c) q i tt m
+  mode-next may begun (down.Refuse t c) last q i m b e l s z w = carried-down may begun (down.Refuse t c) q i tt m
+  mode-next may begun (down.Took t c y room) last q i m b e l s z w = carried-down may begun (down.Took t c y room) q i tt m
+  mode-next may begun (down.Give t c n y bytes) last q i m b e l s z w = carried-down may begun (down.Give t c n y bytes) q i tt m
+  mode-next may begun (down.Halt t) last q i m b e l s z w = carried-down may begun (down.Halt t) q i tt m
+  mode-next may begun (down.Release t) last q i m b e l s z w = carried-down may begun (down.Release t) q i tt m
+  mode-next may begun (down.Reset r y) last q i m b e l s z w = carried-down may begun (down.Reset r y) q i tt m
+  mode-next may begun (down.Got a) last q i m b e l s z w = carried-down may begun (down.Got a) q i tt m
 
-  pub mode-down : (begun : Option Begun) (d : Down) → ((b : Begun) → begun ≡ Some b → IsLast (codes_of k) k.sent b.transfer) → slice_get (queue downs path) 0 ≡ Some d →
-      IsDown drawn k.number k.sent (codes_of k) d → Mode side begun k downs ups u → After begun d
-  mode-down begun d last q i (Waits b e n s m a w) = mode-next begun d last q i (Waits b e n s m a w) b e n s m w
-  mode-down begun d last q i (Over e n z a w) = carried-down begun d q i (all-answered d i n) (Over e n z a w)
-  mode-down begun d last q i (Reads b e n y z w) = carried-down begun d q i (all-answered d i n) (Reads b e n y z w)
-  mode-down begun d last q i (Writes b e n y lead f w) = carried-down begun d q i (all-answered d i n) (Writes b e n y lead f w)
+  pub mode-down : (may : Bool) → (begun : Option Begun) (d : Down) → ((b : Begun) → begun ≡ Some b → IsLast (codes_of k) k.sent b.transfer) → slice_get (queue downs path) 0 ≡ Some d →
+      IsDown drawn k.number k.sent (codes_of k) d → Mode side begun k downs ups u → After may begun d
+  mode-down may begun d last q i (Waits b e n s m a w) = mode-next may begun d last q i (Waits b e n s m a w) b e n s m w
+  mode-down may begun d last q i (Over e n z a w) = carried-down may begun d q i (all-answered may d i n) (Over e n z a w)
+  mode-down may begun d last q i (Reads b e n y z w) = carried-down may begun d q i (all-answered may d i n) (Reads b e n y z w)
+  mode-down may begun d last q i (Writes b e n y lead f w) = carried-down may begun d q i (all-answered may d i n) (Writes b e n y lead f w)

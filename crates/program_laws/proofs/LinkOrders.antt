@@ -1,5 +1,5 @@
 -- The commands that a device takes are those of the program, in order: what a step at one place keeps of this.
-use Rattle.std.proofs.Common.{◌≡◌, refl, sym, ◌∙◌, ap, subst, ℕ, ◌+◌, ◌≤◌, Bool, true, false, ◌==◌, nat_lt, Option, None, Some, Result, Ok, Err, List, [], ◌∷◌, length, map, inl, inr, arith}
+use Rattle.std.proofs.Common.{◌<◌, ◌≡◌, refl, sym, ◌∙◌, ap, subst, ℕ, ◌+◌, ◌≤◌, Bool, true, false, ◌==◌, nat_lt, Option, None, Some, Result, Ok, Err, List, [], ◌∷◌, length, map, inl, inr, arith}
 use Rattle.std.specs.Prelude.{if◌then◌else◌, slice_get, IfOk, IfSome}
 use Rattle.storage_keys.specs.Storage.{Contents}
 use Rattle.chan_model.specs.declared.fault.Fault.{Fault}
@@ -20,9 +20,9 @@ use Rattle.chan_model.specs.declared.unit_state.UnitState.{UnitState}
 use Rattle.chan_model.specs.HoldTable.{is_on}
 use Rattle.chan_model.specs.Sides.{same_side}
 use Rattle.chan_model.specs.UnitTable as unit_table
-use Rattle.chan_model.specs.UnitTable.{UnitStep, unit_takes, unit_after}
+use Rattle.chan_model.specs.UnitTable.{UnitStep, side_of, resets, unit_takes, unit_after}
 use Rattle.chan_model.specs.UnitReports.{unit_reports}
-use Rattle.wires.specs.Queues.{queue, taken}
+use Rattle.wires.specs.Queues.{queue, first_of, taken}
 use Rattle.machine_model.specs.declared.state.Chosen.{Chosen}
 use Rattle.machine_model.specs.declared.state.Chosen.TheVariants.{Idle, Resets, Clears, Halts, Ends, Over, Offers}
 use Rattle.machine_model.specs.declared.cause.Cause.TheVariants as cause
@@ -35,14 +35,14 @@ use Rattle.machine_model.specs.Functions.{resumed, halted, cleared, cancelled, t
 use Rattle.machine_model.specs.Choosing.{chosen}
 use Rattle.machine_model.specs.Taking.{takes_up}
 use Rattle.machine_model.specs.Steps.{with_state, SubTurn, UpTurn, DownTurn, with_any_sent, is_full, finds_full, choose_sub, up_front, up_sub, down_front, down_sub, report_taken}
-use Rattle.program_laws.specs.Stories.{Story, offered, offered_for, chosen_at, meets, met_with, met_at, taken_at, absorbs, reported, reported_at}
+use Rattle.program_laws.specs.Stories.{silent_by, Story, offered, offered_for, chosen_at, meets, met_with, met_at, taken_at, absorbs, reported, reported_at}
 use Rattle.program_laws.proofs.Turns.{Happening, Stays, Starts_with_orb, Is_tested, Is_resumed, Is_halted, Is_cleared, Is_cancelled, Is_modified, Is_chosen, Meets, Sinks, Is_reported, Other_sinks, Other_reported, if-ok}
 use Rattle.channel_program.specs.Programs.{Command, commands, code}
 use Rattle.program_laws.proofs.Caused.{cause-kept, tested-kept, halted-kept}
 use Rattle.program_laws.proofs.Holds.{IsUnheld, IsUntold}
 use Rattle.std.proofs.lemmas.List.{length-map}
 use Rattle.program_laws.proofs.UnitSides.{IsStillStep, other-still, report-still}
-use Rattle.program_laws.proofs.UnitOrders.{IsDown, AreOn, IsOrdered, on-taken, on-first, hold-sends, hold-begins, hold-offers, hold-draws, ordered-still, took_after, unit-takes}
+use Rattle.program_laws.proofs.UnitOrders.{IsAbove, IsDown, AreOn, IsOrdered, on-taken, on-first, hold-sends, hold-begins, hold-offers, hold-draws, ordered-still, took_after, unit-takes}
 use Rattle.program_laws.proofs.LinkNeeds.{IsLast, IsNeeded, Needs, reset-needs}
 use Rattle.program_laws.proofs.LinkDrawn.{up-drawn}
 use Rattle.program_laws.proofs.LinkChosen.{IsFound, IsFitting, chosen-fits}
@@ -175,22 +175,22 @@ choose-linked sub (Offers c path) k u w n l =
     (offered-linked sub path c.program c.resumes k u w.1 n l)
 
 -- Up
-met-linked : (storage : Contents) (sub : Subchannel) (path : ℕ) (x : Up) (k : Option Story) (u : UnitState) (drawn : ℕ) →
-    drawn ≡ (takes_up storage sub.state path x).step.state.drawn → Needs k sub.state →
-    Needs (met_with storage sub.state path (Some x) k) (takes_up storage sub.state path x).step.state → IsLinked sub.setup.side drawn sub.wires.down k u →
-    IsLinked sub.setup.side drawn (with_any_sent sub.wires.down (takes_up storage sub.state path x).step.came.sent) (met_with storage sub.state path (Some x) k) u
-met-linked storage sub path x None u drawn same n m l =
-    hold-sends sub.setup.side drawn 0 0 0 [] [] [] sub.wires.down u (takes_up storage sub.state path x).step.came.sent l (omega arith)
-    (if-some (λ d. IsOf (takes_up storage sub.state path x).step.state d.signal) (λ d. IsDown drawn 0 0 [] d.signal) (takes_up storage sub.state path x).step.came.sent
-    (λ d h. subst (λ (i : ℕ). IsDown i 0 0 [] d.signal) (sym same) (down-untold (takes_up storage sub.state path x).step.state d.signal m h)) (up-sends storage sub.state path x))
-met-linked storage sub path x (Some k) u drawn same n m l =
+met-linked : (returns : Bool) → (storage : Contents) (sub : Subchannel) (path : ℕ) (x : Up) (k : Option Story) (u : UnitState) (drawn : ℕ) →
+    drawn ≡ (takes_up returns storage sub.state path x).step.state.drawn → Needs k sub.state →
+    Needs (met_with storage sub.state path (Some x) k) (takes_up returns storage sub.state path x).step.state → IsLinked sub.setup.side drawn sub.wires.down k u →
+    IsLinked sub.setup.side drawn (with_any_sent sub.wires.down (takes_up returns storage sub.state path x).step.came.sent) (met_with storage sub.state path (Some x) k) u
+met-linked returns storage sub path x None u drawn same n m l =
+    hold-sends sub.setup.side drawn 0 0 0 [] [] [] sub.wires.down u (takes_up returns storage sub.state path x).step.came.sent l (omega arith)
+    (if-some (λ d. IsOf (takes_up returns storage sub.state path x).step.state d.signal) (λ d. IsDown drawn 0 0 [] d.signal) (takes_up returns storage sub.state path x).step.came.sent
+    (λ d h. subst (λ (i : ℕ). IsDown i 0 0 [] d.signal) (sym same) (down-untold (takes_up returns storage sub.state path x).step.state d.signal m h)) (up-sends returns storage sub.state path x))
+met-linked returns storage sub path x (Some k) u drawn same n m l =
     let new : Story = meets storage sub.state path x k in
-    let s : SubchannelState = (takes_up storage sub.state path x).step.state in
-    let one : Option (OnPath Down) = (takes_up storage sub.state path x).step.came.sent in
+    let s : SubchannelState = (takes_up returns storage sub.state path x).step.state in
+    let one : Option (OnPath Down) = (takes_up returns storage sub.state path x).step.came.sent in
     let g : IsGrown k new = meets-grown storage sub.state path x k n.unbegun in
     let sends : IfSome one (λ d. IsDown drawn new.number new.sent (codes_of new) d.signal) =
     if-some (λ d. IsOf s d.signal) (λ d. IsDown drawn new.number new.sent (codes_of new) d.signal) one
-    (λ d h. subst (λ (i : ℕ). IsDown i new.number new.sent (codes_of new) d.signal) (sym same) (down-of new s d.signal m h)) (up-sends storage sub.state path x) in
+    (λ d h. subst (λ (i : ℕ). IsDown i new.number new.sent (codes_of new) d.signal) (sym same) (down-of new s d.signal m h)) (up-sends returns storage sub.state path x) in
     let P : ℕ → List ℕ → Type 0 = λ i c. IfSome one (λ d. IsDown drawn i new.sent c d.signal) in
     let Q : ℕ → List ℕ → List ℕ → Type 0 = λ i c t. IsOrdered sub.setup.side drawn i new.sent c t (with_any_sent sub.wires.down one) u in
     let sends' : P k.number (codes_of new) = subst (λ (i : ℕ). P i (codes_of new)) g.number sends in
@@ -207,83 +207,101 @@ met-linked storage sub path x (Some k) u drawn same n m l =
 abbrev IsMet : Subchannel → Option Story → UnitState → UpTurn → Type 0
 IsMet sub k u t = Needs k t.sub.state → IsLinked sub.setup.side t.sub.state.drawn t.sub.wires.down k u
 
-signal-linked : (storage : Contents) (sub : Subchannel) (path : ℕ) (x : Up) (k : Option Story) (u : UnitState) → Needs k sub.state →
-    Needs (met_with storage sub.state path (Some x) k) (takes_up storage sub.state path x).step.state → IsLinked sub.setup.side sub.state.drawn sub.wires.down k u →
-    IsLinked sub.setup.side (takes_up storage sub.state path x).step.state.drawn (with_any_sent sub.wires.down (takes_up storage sub.state path x).step.came.sent)
+signal-linked : (returns : Bool) → (storage : Contents) (sub : Subchannel) (path : ℕ) (x : Up) (k : Option Story) (u : UnitState) → Needs k sub.state →
+    Needs (met_with storage sub.state path (Some x) k) (takes_up returns storage sub.state path x).step.state → IsLinked sub.setup.side sub.state.drawn sub.wires.down k u →
+    IsLinked sub.setup.side (takes_up returns storage sub.state path x).step.state.drawn (with_any_sent sub.wires.down (takes_up returns storage sub.state path x).step.came.sent)
     (met_with storage sub.state path (Some x) k) u
-signal-linked storage sub path x k u n m l =
-    met-linked storage sub path x k u (takes_up storage sub.state path x).step.state.drawn refl n m
-    (subst (λ (i : ℕ). IsLinked sub.setup.side i sub.wires.down k u) (sym (up-drawn storage sub.state path x)) l)
+signal-linked returns storage sub path x k u n m l =
+    met-linked returns storage sub path x k u (takes_up returns storage sub.state path x).step.state.drawn refl n m
+    (hold-draws sub.setup.side sub.state.drawn (takes_up returns storage sub.state path x).step.state.drawn (number_of k) (sent_of k) (all_codes k) (took_of k) sub.wires.down u (up-drawn storage returns sub.state path x) l)
 
-up_front-linked : (storage : Contents) (sub : Subchannel) (path : ℕ) (front : Option Up) (k : Option Story) (u : UnitState) → Needs k sub.state →
-    IsLinked sub.setup.side sub.state.drawn sub.wires.down k u → IfOk (up_front storage sub path front) (IsMet sub (met_with storage sub.state path front k) u)
-up_front-linked storage sub path None k u n l = tt
-up_front-linked storage sub path (Some x) k u n l =
-    if-ok (IsMet sub (met_with storage sub.state path (Some x) k) u) (finds_full sub.wires.down (takes_up storage sub.state path x).step.came.sent) (Err fault.WireFull) _ tt
-    (λ m. signal-linked storage sub path x k u n m l)
+up_front-linked : (returns : Bool) → (storage : Contents) (sub : Subchannel) (path : ℕ) (front : Option Up) (k : Option Story) (u : UnitState) → Needs k sub.state →
+    IsLinked sub.setup.side sub.state.drawn sub.wires.down k u → IfOk (up_front returns storage sub path front) (IsMet sub (met_with storage sub.state path front k) u)
+up_front-linked returns storage sub path None k u n l = tt
+up_front-linked returns storage sub path (Some x) k u n l =
+    if-ok (IsMet sub (met_with storage sub.state path (Some x) k) u) (finds_full sub.wires.down (takes_up returns storage sub.state path x).step.came.sent) (Err fault.WireFull) _ tt
+    (λ m. signal-linked returns storage sub path x k u n m l)
 
-up-linked : (storage : Contents) (sub : Subchannel) (path : ℕ) (k : Option Story) (u : UnitState) → Needs k sub.state →
-    IsLinked sub.setup.side sub.state.drawn sub.wires.down k u → IfOk (up_sub storage sub path) (IsMet sub (met_at storage (Some sub) path k) u)
-up-linked storage sub path k u n l =
-    if-ok (IsMet sub (met_at storage (Some sub) path k) u) (nat_lt path (length sub.setup.paths)) (up_front storage sub path (slice_get (queue sub.wires.up path) 0)) (Err fault.NoSuchPath)
-    (up_front-linked storage sub path (slice_get (queue sub.wires.up path) 0) k u n l) tt
+up-linked : (returns : Bool) → (storage : Contents) (sub : Subchannel) (path : ℕ) (k : Option Story) (u : UnitState) → Needs k sub.state →
+    IsLinked sub.setup.side sub.state.drawn sub.wires.down k u → IfOk (up_sub returns storage sub path) (IsMet sub (met_at storage (Some sub) path k) u)
+up-linked returns storage sub path k u n l =
+    if-ok (IsMet sub (met_at storage (Some sub) path k) u) (nat_lt path (length sub.setup.paths)) (up_front returns storage sub path (slice_get (queue sub.wires.up path) 0)) (Err fault.NoSuchPath)
+    (up_front-linked returns storage sub path (slice_get (queue sub.wires.up path) 0) k u n l) tt
 
 -- Down
 took-story : (side : Side) (drawn : ℕ) (wires : List (List Down)) (v : UnitState) (d : Down) (came : Bool) (sent : Option (OnPath Up)) (k : Option Story) →
-    IsOrdered side drawn (number_of k) (sent_of k) (all_codes k) (took_after (number_of k) came d (took_of k)) wires v → IsLinked side drawn wires (taken_at (reply.Down d came sent) k) v
-took-story side drawn wires v d false sent k o = o
-took-story side drawn wires v (down.Select t) true sent None o = o
-took-story side drawn wires v (down.Command t n code room) true sent None o = none (t == 0) o
+    IsOrdered side drawn (number_of k) (sent_of k) (all_codes k) (took_after (number_of k) (silent_by came sent) d (took_of k)) wires v → IsLinked side drawn wires (taken_at (reply.Down d came sent) k) v
+took-story side drawn wires v d true (Some x) k o = o
+took-story side drawn wires v d false (Some x) k o = o
+took-story side drawn wires v d false None k o = o
+took-story side drawn wires v (down.Select t) true None None o = o
+took-story side drawn wires v (down.Command t n code room) true None None o = none (t == 0) o
   where
     none : (b : Bool) → IsOrdered side drawn 0 0 [] (if b then code ∷ [] else []) wires v → IsOrdered side drawn 0 0 [] [] wires v
     none true o = absurd (let z : length (code ∷ []) ≤ 0 = o.most in omega (arith, z))
     none false o = o
-took-story side drawn wires v (down.Grant t c) true sent None o = o
-took-story side drawn wires v (down.Refuse t c) true sent None o = o
-took-story side drawn wires v (down.Took t n s room) true sent None o = o
-took-story side drawn wires v (down.Give t c n s bytes) true sent None o = o
-took-story side drawn wires v (down.Halt t) true sent None o = o
-took-story side drawn wires v (down.Release t) true sent None o = o
-took-story side drawn wires v (down.Reset r b) true sent None o = o
-took-story side drawn wires v (down.Got a) true sent None o = o
-took-story side drawn wires v (down.Select t) true sent (Some k) o = o
-took-story side drawn wires v (down.Command t n code room) true sent (Some k) o = some (t == k.number) o
+took-story side drawn wires v (down.Grant t c) true None None o = o
+took-story side drawn wires v (down.Refuse t c) true None None o = o
+took-story side drawn wires v (down.Took t n s room) true None None o = o
+took-story side drawn wires v (down.Give t c n s bytes) true None None o = o
+took-story side drawn wires v (down.Halt t) true None None o = o
+took-story side drawn wires v (down.Release t) true None None o = o
+took-story side drawn wires v (down.Reset r b) true None None o = o
+took-story side drawn wires v (down.Got a) true None None o = o
+took-story side drawn wires v (down.Select t) true None (Some k) o = o
+took-story side drawn wires v (down.Command t n code room) true None (Some k) o = some (t == k.number) o
   where
     some : (b : Bool) → IsOrdered side drawn k.number k.sent (codes_of k) (if b then code ∷ k.taken else k.taken) wires v →
         IsLinked side drawn wires (Some (if b then record k { taken = code ∷ k.taken; absorbed = [] } else k)) v
     some true o = o
     some false o = o
-took-story side drawn wires v (down.Grant t c) true sent (Some k) o = o
-took-story side drawn wires v (down.Refuse t c) true sent (Some k) o = o
-took-story side drawn wires v (down.Took t n s room) true sent (Some k) o = o
-took-story side drawn wires v (down.Give t c n s bytes) true sent (Some k) o = o
-took-story side drawn wires v (down.Halt t) true sent (Some k) o = o
-took-story side drawn wires v (down.Release t) true sent (Some k) o = o
-took-story side drawn wires v (down.Reset r b) true sent (Some k) o = o
-took-story side drawn wires v (down.Got a) true sent (Some k) o = o
+took-story side drawn wires v (down.Grant t c) true None (Some k) o = o
+took-story side drawn wires v (down.Refuse t c) true None (Some k) o = o
+took-story side drawn wires v (down.Took t n s room) true None (Some k) o = o
+took-story side drawn wires v (down.Give t c n s bytes) true None (Some k) o = o
+took-story side drawn wires v (down.Halt t) true None (Some k) o = o
+took-story side drawn wires v (down.Release t) true None (Some k) o = o
+took-story side drawn wires v (down.Reset r b) true None (Some k) o = o
+took-story side drawn wires v (down.Got a) true None (Some k) o = o
 
 with-wires : (side : Side) (drawn number sent : ℕ) (codes took : List ℕ) (wires after : List (List Down)) (u : UnitState) → AreOn (IsDown drawn number sent codes) after →
     IsOrdered side drawn number sent codes took wires u → IsOrdered side drawn number sent codes took after u
 with-wires side drawn number sent codes took wires after u a k = record { later = k.later; order = k.order; most = k.most; downs = a; kept = k.kept }
 
-down_front-linked : (sub : Subchannel) (path : ℕ) (u : UnitState) (front : Option Down) (k : Option Story) → slice_get (queue sub.wires.down path) 0 ≡ front → Needs k sub.state →
-    IsLinked sub.setup.side sub.state.drawn sub.wires.down k u → IfOk (down_front sub path u front) (λ t. IsLinked sub.setup.side t.sub.state.drawn t.sub.wires.down (taken_at t.reply k) t.«unit»)
-down_front-linked sub path u None k e n l = tt
-down_front-linked sub path u (Some d) k e n l =
-    let step : Option UnitStep = unit_takes u sub.setup.side path d true in
+-- each first Reset that waits for the unit, where it is taken, is above the floor
+abbrev pub AreAbove : Subchannel → UnitState → Type 0
+AreAbove sub u = (p r b : ℕ) → first_of sub.wires.down p ≡ Some (down.Reset r b) → resets u sub.setup.side r b ≡ true → (side_of u sub.setup.side).floor < r
+
+above-of : (u : UnitState) (side : Side) (d : Down) → ((r b : ℕ) → d ≡ down.Reset r b → resets u side r b ≡ true → (side_of u side).floor < r) → IsAbove u side d
+above-of u side (down.Reset r b) f = f r b refl
+above-of u side (down.Select t) f = tt
+above-of u side (down.Command t n code room) f = tt
+above-of u side (down.Grant t c) f = tt
+above-of u side (down.Refuse t c) f = tt
+above-of u side (down.Took t n s room) f = tt
+above-of u side (down.Give t c n s bytes) f = tt
+above-of u side (down.Halt t) f = tt
+above-of u side (down.Release t) f = tt
+above-of u side (down.Got a) f = tt
+
+down_front-linked : (may : Bool) → (sub : Subchannel) (path : ℕ) (u : UnitState) (front : Option Down) (k : Option Story) → slice_get (queue sub.wires.down path) 0 ≡ front → AreAbove sub u → Needs k sub.state →
+    IsLinked sub.setup.side sub.state.drawn sub.wires.down k u → IfOk (down_front may sub path u front) (λ t. IsLinked sub.setup.side t.sub.state.drawn t.sub.wires.down (taken_at t.reply k) t.«unit»)
+down_front-linked may sub path u None k e a n l = tt
+down_front-linked may sub path u (Some d) k e a n l =
+    let step : Option UnitStep = unit_takes u sub.setup.side path d may in
     if-ok (λ t. IsLinked sub.setup.side t.sub.state.drawn t.sub.wires.down (taken_at t.reply k) t.«unit») (finds_full sub.wires.up (unit_table.came_of step).sent) (Err fault.WireFull) _ tt
     (took-story sub.setup.side sub.state.drawn (taken sub.wires.down path) (unit_after u step) d (unit_table.came_of step).taken (unit_table.came_of step).sent k
     (with-wires sub.setup.side sub.state.drawn (number_of k) (sent_of k) (all_codes k) _ sub.wires.down (taken sub.wires.down path) (unit_after u step)
     (on-taken (IsDown sub.state.drawn (number_of k) (sent_of k) (all_codes k)) sub.wires.down path l.downs)
-    (unit-takes sub.setup.side sub.state.drawn (number_of k) (sent_of k) (all_codes k) (took_of k) sub.wires.down u path d (number-drawn k sub.state n)
-    (on-first (IsDown sub.state.drawn (number_of k) (sent_of k) (all_codes k)) sub.wires.down path d l.downs e) l)))
+    (unit-takes may sub.setup.side sub.state.drawn (number_of k) (sent_of k) (all_codes k) (took_of k) sub.wires.down u path d (number-drawn k sub.state n)
+    (on-first (IsDown sub.state.drawn (number_of k) (sent_of k) (all_codes k)) sub.wires.down path d l.downs e) (above-of u sub.setup.side d (λ r b f. a path r b (e ∙ ap Some f))) l)))
 
-down-linked : (sub : Subchannel) (path : ℕ) (u : UnitState) (k : Option Story) → Needs k sub.state → IsLinked sub.setup.side sub.state.drawn sub.wires.down k u →
-    IfOk (down_sub sub path u) (λ t. IsLinked sub.setup.side t.sub.state.drawn t.sub.wires.down (taken_at t.reply k) t.«unit»)
-down-linked sub path u k n l =
+down-linked : (may : Bool) → (sub : Subchannel) (path : ℕ) (u : UnitState) (k : Option Story) → AreAbove sub u → Needs k sub.state → IsLinked sub.setup.side sub.state.drawn sub.wires.down k u →
+    IfOk (down_sub may sub path u) (λ t. IsLinked sub.setup.side t.sub.state.drawn t.sub.wires.down (taken_at t.reply k) t.«unit»)
+down-linked may sub path u k a n l =
     if-ok (λ t. IsLinked sub.setup.side t.sub.state.drawn t.sub.wires.down (taken_at t.reply k) t.«unit») (nat_lt path (length sub.setup.paths))
-    (down_front sub path u (slice_get (queue sub.wires.down path) 0)) (Err fault.NoSuchPath)
-    (down_front-linked sub path u (slice_get (queue sub.wires.down path) 0) k refl n l) tt
+    (down_front may sub path u (slice_get (queue sub.wires.down path) 0)) (Err fault.NoSuchPath)
+    (down_front-linked may sub path u (slice_get (queue sub.wires.down path) 0) k refl a n l) tt
 
 -- what leaves the side still
 still-linked : (side : Side) (drawn : ℕ) (wires : List (List Down)) (k : Option Story) (u : UnitState) (step : Option UnitStep) → IsStillStep side u step → IsLinked side drawn wires k u →
@@ -329,20 +347,20 @@ report-linked sub u report k (Some step) e l =
     (still-linked sub.setup.side sub.state.drawn sub.wires.down k u (Some step) (subst (IsStillStep sub.setup.side u) e (report-still sub.setup.side u report)) l))
 
 -- the other side of the unit
-other-down_front : (sub other : Subchannel) (path : ℕ) (u : UnitState) (front : Option Down) (k : Option Story) → same_side other.setup.side sub.setup.side ≡ false →
-    IsLinked sub.setup.side sub.state.drawn sub.wires.down k u → IfOk (down_front other path u front) (λ t. IsLinked sub.setup.side sub.state.drawn sub.wires.down k t.«unit»)
-other-down_front sub other path u None k e l = tt
-other-down_front sub other path u (Some d) k e l =
-    let step : Option UnitStep = unit_takes u other.setup.side path d true in
+other-down_front : (may : Bool) → (sub other : Subchannel) (path : ℕ) (u : UnitState) (front : Option Down) (k : Option Story) → same_side other.setup.side sub.setup.side ≡ false →
+    IsLinked sub.setup.side sub.state.drawn sub.wires.down k u → IfOk (down_front may other path u front) (λ t. IsLinked sub.setup.side sub.state.drawn sub.wires.down k t.«unit»)
+other-down_front may sub other path u None k e l = tt
+other-down_front may sub other path u (Some d) k e l =
+    let step : Option UnitStep = unit_takes u other.setup.side path d may in
     if-ok (λ t. IsLinked sub.setup.side sub.state.drawn sub.wires.down k t.«unit») (finds_full other.wires.up (unit_table.came_of step).sent) (Err fault.WireFull) _ tt
-    (still-linked sub.setup.side sub.state.drawn sub.wires.down k u step (other-still sub.setup.side u other.setup.side path d true e) l)
+    (still-linked sub.setup.side sub.state.drawn sub.wires.down k u step (other-still sub.setup.side u other.setup.side path d may e) l)
 
-other-down : (sub other : Subchannel) (path : ℕ) (u : UnitState) (k : Option Story) → same_side other.setup.side sub.setup.side ≡ false →
-    IsLinked sub.setup.side sub.state.drawn sub.wires.down k u → IfOk (down_sub other path u) (λ t. IsLinked sub.setup.side sub.state.drawn sub.wires.down k t.«unit»)
-other-down sub other path u k e l =
+other-down : (may : Bool) → (sub other : Subchannel) (path : ℕ) (u : UnitState) (k : Option Story) → same_side other.setup.side sub.setup.side ≡ false →
+    IsLinked sub.setup.side sub.state.drawn sub.wires.down k u → IfOk (down_sub may other path u) (λ t. IsLinked sub.setup.side sub.state.drawn sub.wires.down k t.«unit»)
+other-down may sub other path u k e l =
     if-ok (λ t. IsLinked sub.setup.side sub.state.drawn sub.wires.down k t.«unit») (nat_lt path (length other.setup.paths))
-    (down_front other path u (slice_get (queue other.wires.down path) 0)) (Err fault.NoSuchPath)
-    (other-down_front sub other path u (slice_get (queue other.wires.down path) 0) k e l) tt
+    (down_front may other path u (slice_get (queue other.wires.down path) 0)) (Err fault.NoSuchPath)
+    (other-down_front may sub other path u (slice_get (queue other.wires.down path) 0) k e l) tt
 
 other-report : (sub other : Subchannel) (u : UnitState) (report : Report) (k : Option Story) (step : Option UnitStep) → unit_reports u report ≡ step →
     IsLinked sub.setup.side sub.state.drawn sub.wires.down k u → IfOk (report_taken other step) (λ t. IsLinked sub.setup.side sub.state.drawn sub.wires.down k t.«unit»)
@@ -377,63 +395,63 @@ chosen-at sub choice k (Some u) t e n l =
     subst (λ (r : Result SubTurn Fault). IfOk r (λ t. IsLinked sub.setup.side t.sub.state.drawn t.sub.wires.down (chosen_at (Some sub) t.reply k) u)) e
     (choose-linked sub (chosen sub choice) k u (chosen-fits sub choice) n l)
 
-met-at : (storage : Contents) (sub : Subchannel) (path : ℕ) (k : Option Story) (u : Option UnitState) (t : UpTurn) → up_sub storage sub path ≡ Ok t → Needs k sub.state →
+met-at : (returns : Bool) → (storage : Contents) (sub : Subchannel) (path : ℕ) (k : Option Story) (u : Option UnitState) (t : UpTurn) → up_sub returns storage sub path ≡ Ok t → Needs k sub.state →
     Needs (met_at storage (Some sub) path k) t.sub.state → AtUnit (IsLinked sub.setup.side sub.state.drawn sub.wires.down k) u →
     AtUnit (IsLinked sub.setup.side t.sub.state.drawn t.sub.wires.down (met_at storage (Some sub) path k)) u
-met-at storage sub path k None t e n m l = absurd l
-met-at storage sub path k (Some u) t e n m l =
-    (subst (λ (r : Result UpTurn Fault). IfOk r (IsMet sub (met_at storage (Some sub) path k) u)) e (up-linked storage sub path k u n l)) m
+met-at returns storage sub path k None t e n m l = absurd l
+met-at returns storage sub path k (Some u) t e n m l =
+    (subst (λ (r : Result UpTurn Fault). IfOk r (IsMet sub (met_at storage (Some sub) path k) u)) e (up-linked returns storage sub path k u n l)) m
 
 draws-linked : (side : Side) (drawn : ℕ) (wires : List (List Down)) (k : Option Story) (u : Option UnitState) → AtUnit (IsLinked side drawn wires k) u → AtUnit (IsLinked side (drawn + 1) wires k) u
 draws-linked side drawn wires k None l = absurd l
 draws-linked side drawn wires k (Some u) l = hold-draws side drawn (drawn + 1) (number_of k) (sent_of k) (all_codes k) (took_of k) wires u (omega arith) l
 
-pub happens-linked : (storage : Contents) (old new : Subchannel) (u v : Option UnitState) (f : Option Story → Option Story) → Happening storage old new u v f → new.setup ≡ old.setup →
+pub happens-linked : (storage : Contents) (old new : Subchannel) (u v : Option UnitState) (f : Option Story → Option Story) → Happening storage old new u v f → new.setup ≡ old.setup → ((x : UnitState) → u ≡ Some x → AreAbove old x) →
     (k : Option Story) → Needs k old.state → Needs (f k) new.state →
     AtUnit (IsLinked old.setup.side old.state.drawn old.wires.down k) u → AtUnit (IsLinked new.setup.side new.state.drawn new.wires.down (f k)) v
-happens-linked storage old new u v f (Stays e w s) i k n m l =
+happens-linked storage old new u v f (Stays e w s) i a k n m l =
     at-same old.setup.side new.setup.side old.state.drawn new.state.drawn old.wires.down new.wires.down k (f k) u v (side-of new old i) (drawn-of new old e) (down-of-sub new old e) (s k) w l
-happens-linked storage old new u v f (Starts_with_orb orb e w s) i k n m l =
+happens-linked storage old new u v f (Starts_with_orb orb e w s) i a k n m l =
     at-same old.setup.side new.setup.side old.state.drawn new.state.drawn old.wires.down new.wires.down k (f k) u v (side-of new old i) (drawn-of new (with_state old (started old.state orb)) e) (down-of-sub new (with_state old (started old.state orb)) e) (s k) w l
-happens-linked storage old new u v f (Is_tested e w s) i k n m l =
+happens-linked storage old new u v f (Is_tested e w s) i a k n m l =
     at-same old.setup.side new.setup.side old.state.drawn new.state.drawn old.wires.down new.wires.down k (f k) u v (side-of new old i)
     (drawn-of new (with_state old (tested_wholly old.state)) e ∙ (tested-kept old.state).drawn) (down-of-sub new (with_state old (tested_wholly old.state)) e) (s k) w l
-happens-linked storage old new u v f (Is_resumed e w s) i k n m l =
+happens-linked storage old new u v f (Is_resumed e w s) i a k n m l =
     at-same old.setup.side new.setup.side old.state.drawn new.state.drawn old.wires.down new.wires.down k (f k) u v (side-of new old i)
     (drawn-of new (with_state old (resumed old.state)) e) (down-of-sub new (with_state old (resumed old.state)) e) (s k) w l
-happens-linked storage old new u v f (Is_halted e w s) i k n m l =
+happens-linked storage old new u v f (Is_halted e w s) i a k n m l =
     at-same old.setup.side new.setup.side old.state.drawn new.state.drawn old.wires.down new.wires.down k (f k) u v (side-of new old i)
     (drawn-of new (with_state old (halted old.state)) e ∙ (halted-kept old.state).drawn) (down-of-sub new (with_state old (halted old.state)) e) (s k) w l
-happens-linked storage old new u v f (Is_cleared e w s) i k n m l =
+happens-linked storage old new u v f (Is_cleared e w s) i a k n m l =
     at-same old.setup.side new.setup.side (old.state.drawn + 1) new.state.drawn old.wires.down new.wires.down k (f k) u v (side-of new old i)
     (drawn-of new (with_state old (cleared old.state)) e) (down-of-sub new (with_state old (cleared old.state)) e) (s k) w
     (draws-linked old.setup.side old.state.drawn old.wires.down k u l)
-happens-linked storage old new u v f (Is_cancelled e w s) i k n m l =
+happens-linked storage old new u v f (Is_cancelled e w s) i a k n m l =
     at-same old.setup.side new.setup.side old.state.drawn new.state.drawn old.wires.down new.wires.down k (f k) u v (side-of new old i)
     (drawn-of new (with_state old (cancelled old.state)) e) (down-of-sub new (with_state old (cancelled old.state)) e) (s k) w l
-happens-linked storage old new u v f (Is_modified pmcw e w s) i k n m l =
+happens-linked storage old new u v f (Is_modified pmcw e w s) i a k n m l =
     at-same old.setup.side new.setup.side old.state.drawn new.state.drawn old.wires.down new.wires.down k (f k) u v (side-of new old i) (drawn-of new (with_state old (record old.state { pmcw = pmcw })) e)
     (down-of-sub new (with_state old (record old.state { pmcw = pmcw })) e) (s k) w l
-happens-linked storage old new u v f (Is_chosen choice t c e w s) i k n m l =
+happens-linked storage old new u v f (Is_chosen choice t c e w s) i a k n m l =
     at-same old.setup.side new.setup.side t.sub.state.drawn new.state.drawn t.sub.wires.down new.wires.down (chosen_at (Some old) t.reply k) (f k) u v (side-of new old i) (drawn-of new t.sub e) (down-of-sub new t.sub e) (s k) w
     (chosen-at old choice k u t c n l)
-happens-linked storage old new u v f (Meets path t c e w s) i k n m l =
+happens-linked storage old new u v f (Meets path returns t c e w s) i a k n m l =
     at-same old.setup.side new.setup.side t.sub.state.drawn new.state.drawn t.sub.wires.down new.wires.down (met_at storage (Some old) path k) (f k) u v (side-of new old i) (drawn-of new t.sub e) (down-of-sub new t.sub e) (s k) w
-    (met-at storage old path k u t c n
+    (met-at returns storage old path k u t c n
     (subst (λ (x : Subchannel). Needs (met_at storage (Some old) path k) x.state) e (subst (λ (x : Option Story). Needs x new.state) (s k) m)) l)
-happens-linked storage old new u v f (Sinks path x t is c e w s) i k n m l =
+happens-linked storage old new u v f (Sinks path may x t is c e w s) i a k n m l =
     at-same old.setup.side new.setup.side t.sub.state.drawn new.state.drawn t.sub.wires.down new.wires.down (taken_at t.reply k) (f k) (Some t.«unit») v (side-of new old i) (drawn-of new t.sub e) (down-of-sub new t.sub e) (s k) w
     (subst (λ (r : Result DownTurn Fault). IfOk r (λ t. IsLinked old.setup.side t.sub.state.drawn t.sub.wires.down (taken_at t.reply k) t.«unit»)) c
-    (down-linked old path x k n (subst (AtUnit (IsLinked old.setup.side old.state.drawn old.wires.down k)) is l)))
-happens-linked storage old new u v f (Is_reported report x t is same c e w s) i k n m l =
+    (down-linked may old path x k (a x is) n (subst (AtUnit (IsLinked old.setup.side old.state.drawn old.wires.down k)) is l)))
+happens-linked storage old new u v f (Is_reported report x t is same c e w s) i a k n m l =
     at-same old.setup.side new.setup.side t.sub.state.drawn new.state.drawn t.sub.wires.down new.wires.down (reported_at (Some x) report k) (f k) (Some t.«unit») v (side-of new old i) (drawn-of new t.sub e) (down-of-sub new t.sub e) (s k) w
     (subst (λ (r : Result DownTurn Fault). IfOk r (λ t. IsLinked old.setup.side t.sub.state.drawn t.sub.wires.down (reported_at (Some x) report k) t.«unit»)) c
     (report-linked old x report k (unit_reports x report) refl (subst (AtUnit (IsLinked old.setup.side old.state.drawn old.wires.down k)) is l)))
-happens-linked storage old new u v f (Other_sinks other path x t apart is c e w s) i k n m l =
+happens-linked storage old new u v f (Other_sinks other path may x t apart is c e w s) i a k n m l =
     at-same old.setup.side new.setup.side old.state.drawn new.state.drawn old.wires.down new.wires.down k (f k) (Some t.«unit») v (side-of new old i) (drawn-of new old e) (down-of-sub new old e) (s k) w
     (subst (λ (r : Result DownTurn Fault). IfOk r (λ t. IsLinked old.setup.side old.state.drawn old.wires.down k t.«unit»)) c
-    (other-down old other path x k apart (subst (AtUnit (IsLinked old.setup.side old.state.drawn old.wires.down k)) is l)))
-happens-linked storage old new u v f (Other_reported other report x t apart is same c e w s) i k n m l =
+    (other-down may old other path x k apart (subst (AtUnit (IsLinked old.setup.side old.state.drawn old.wires.down k)) is l)))
+happens-linked storage old new u v f (Other_reported other report x t apart is same c e w s) i a k n m l =
     at-same old.setup.side new.setup.side old.state.drawn new.state.drawn old.wires.down new.wires.down k (f k) (Some t.«unit») v (side-of new old i) (drawn-of new old e) (down-of-sub new old e) (s k) w
     (subst (λ (r : Result DownTurn Fault). IfOk r (λ t. IsLinked old.setup.side old.state.drawn old.wires.down k t.«unit»)) c
     (other-report old other x report k (unit_reports x report) refl (subst (AtUnit (IsLinked old.setup.side old.state.drawn old.wires.down k)) is l)))

@@ -62,7 +62,7 @@ told-closed u p t c x _ _ (Begins_in o n) h = absurd (not-new x.progress n h)
 told-closed u p t c x _ _ (Absorbs bytes count w g l) h = absurd (not-working x.progress w h)
 told-closed u p t c x _ _ (Supplies bytes o w) h = absurd (not-working x.progress w h)
 told-closed u p t c x _ _ (Tells_again l e w) h = absurd (not-working x.progress w h)
-told-closed u p t c x _ _ (Ends status more) h = ended-after status
+told-closed u p t c x _ _ (Ends given shown more) h = ended-after shown
 
 -- the report is of another number
 module _ (u : UnitState) (p t c : ℕ) (x : AtHand) (number m : ℕ) (R : ℕ → Load → Type 0) (E : Type 0) (le : t ≤ number) (other : t ≡ number → ⊥) where
@@ -72,7 +72,7 @@ module _ (u : UnitState) (p t c : ℕ) (x : AtHand) (number m : ℕ) (R : ℕ �
   told-other _ _ (Absorbs bytes count w g l) = (le, λ e. absurd (other e))
   told-other _ _ (Supplies bytes o w) = (le, λ e. absurd (other e))
   told-other _ _ (Tells_again l e w) = (le, λ e. absurd (other e))
-  told-other _ _ (Ends status more) = (le, λ e. absurd (other e))
+  told-other _ _ (Ends given shown more) = (le, λ e. absurd (other e))
 
 pub told-own : (u : UnitState) (p t c : ℕ) (x : AtHand) (a : DeviceAnswer) (y : UnitStep) → IsTold u p t c x a y → y.state.own ≡ u.own
 told-own u p t c x _ _ (Begins_out n) = refl
@@ -80,7 +80,7 @@ told-own u p t c x _ _ (Begins_in o n) = refl
 told-own u p t c x _ _ (Absorbs bytes count w g l) = refl
 told-own u p t c x _ _ (Supplies bytes o w) = refl
 told-own u p t c x _ _ (Tells_again l e w) = refl
-told-own u p t c x _ _ (Ends status more) = refl
+told-own u p t c x _ _ (Ends given shown more) = refl
 
 -- the story, at a report of its number and of another
 reported-other : (u : UnitState) (report : Report) (a : DeviceAnswer) (k : Story) → (report.number == k.number) ≡ false → reported u report a k ≡ k
@@ -122,7 +122,7 @@ module _ (side : Side) (begun : Option Begun) (k : Story) (downs : List (List Do
   closed-told _ _ E (Absorbs bytes count w g l) h z = absurd (not-working x.progress w h)
   closed-told _ _ E (Supplies bytes o w) h z = absurd (not-working x.progress w h)
   closed-told _ _ E (Tells_again l e w) h z = absurd (not-working x.progress w h)
-  closed-told _ _ E (Ends status more) h z = (of-it E z, refl)
+  closed-told _ _ E (Ends given shown more) h z = (of-it E z, refl)
 
   closed-wired : (a : DeviceAnswer) (y : UnitStep) → IsTold u p report.number c x a y → IsWired side k.number m HandClosed AnyGive AnyData downs ups u →
       IsWired side k.number m HandClosed AnyGive AnyData downs (with_any_sent ups y.sent) y.state
@@ -139,7 +139,7 @@ module _ (side : Side) (begun : Option Begun) (k : Story) (downs : List (List Do
   plain-told _ _ (Absorbs bytes count w h l) g = absurd (some-none x.given bytes h g)
   plain-told _ _ (Supplies bytes o w) g = (g, of-it (Unit {0}) tt, refl)
   plain-told _ _ (Tells_again l e w) g = (g, of-it (Unit {0}) tt, refl)
-  plain-told _ y (Ends status more) g = (g, of-it (IsClosed side k.number y.state) (λ o. ended-after status), refl)
+  plain-told _ y (Ends given shown more) g = (g, of-it (IsClosed side k.number y.state) (λ o. ended-after shown), refl)
 
   -- it writes
   module _ (b : Begun) (e : begun ≡ Some b) (n : length k.taken ≡ k.sent) (out : is_outward b.transfer.code ≡ true) where
@@ -211,9 +211,9 @@ module _ (side : Side) (begun : Option Begun) (k : Story) (downs : List (List Do
         subst (λ (s : Story). IsWrite s y) (sym (absorbed-here u report count k x bytes same hand i)) (absorbs-told lead bytes count z h g i l f w)
     writes-told _ _ lead (Supplies bytes o g) z h f w = absurd (not-inward z o)
     writes-told _ _ lead (Tells_again l i g) z h f w = again-told lead l z h i g f w
-    writes-told _ y lead (Ends status more) z h f w =
-        stays-writing y lead lead f (λ o. (z, ended-hand lead status h)) (λ r t d. d) (closes (answer.Ended status more) y (Ends status more))
-        (of-it (IsClosed side k.number y.state) (λ o. ended-after status)) w
+    writes-told _ y lead (Ends given shown more) z h f w =
+        stays-writing y lead lead f (λ o. (z, ended-hand lead shown h)) (λ r t d. d) (closes (answer.Ended given more) y (Ends given shown more))
+        (of-it (IsClosed side k.number y.state) (λ o. ended-after shown)) w
 
   mode-told : (a : DeviceAnswer) (y : UnitStep) → IsTold u p report.number c x a y → Mode side begun k downs ups u → Mode side begun (reported u report a k) downs (with_any_sent ups y.sent) y.state
   mode-told a y t (Waits b e n s z i w) =

@@ -28,6 +28,8 @@ use Rattle.machine_model.specs.declared.state.Standing.{Standing}
 use Rattle.machine_model.specs.declared.state.SubchannelState.{SubchannelState}
 use Rattle.machine_model.specs.declared.state.UpStep.{UpStep}
 use Rattle.machine_model.specs.Statuses.{has_status_modifier, chains_command}
+use Rattle.machine_model.specs.Taking as taking
+use Rattle.machine_model.specs.Losing.{reset_for}
 use Rattle.machine_model.specs.Taking.{Met, ignoring, by_hold, let_go, goes_ahead, standing, with_path, taking_over, moving_on, reset_taken, halt_done, clear_done, beginning, begin_standing, accepted_by, accept, move_bytes, move_data, take_data, with_end, chaining, goes_on, stops_at, command_ended, end_of, end_command, takes_up}
 use Rattle.program_laws.proofs.Caused.{IsInterrupted, interrupted-work}
 
@@ -278,14 +280,22 @@ reset-sends : (s : SubchannelState) (step : Option HoldStep) → Mutters step �
 reset-sends s None m = tt
 reset-sends s (Some step) m = muttered (clear_done (record s { hold = step.state })) (came_of (Some step)).sent m
 
-pub up-sends : (storage : Contents) (s : SubchannelState) (p : ℕ) (x : Up) → Sends (takes_up storage s p x).step
-up-sends storage s p (up.Accept t) = accept-sends storage s (accepted s.hold s.hold.phase t (goes_ahead s)) (accepted-mutters s.hold s.hold.phase t (goes_ahead s))
-up-sends storage s p (up.Data t c n q load) = take_data-sends storage s p t c n q load
-up-sends storage s p (up.End t n status more) = end_command-sends storage s p t n status more
-up-sends storage s p (up.Busy t) = by_hold-sends s (found_busy s.hold s.hold.phase t) (busy-mutters s.hold s.hold.phase t)
-up-sends storage s p (up.Leave t c) = by_hold-sends s (left s.hold s.hold.phase t c) (left-mutters s.hold s.hold.phase t c)
-up-sends storage s p (up.Back t c) = by_hold-sends s (asked_back s.hold s.hold.phase p t c false) (back-mutters s.hold s.hold.phase p t c false)
-up-sends storage s p (up.Released t) = by_hold-sends s (released s.hold s.hold.phase t) (released-mutters s.hold s.hold.phase t)
-up-sends storage s p (up.Cleared r) = reset-sends s (cleared s.hold s.hold.phase r) (cleared-mutters s.hold s.hold.phase r)
-up-sends storage s p (up.Notice b) = by_hold-sends s (noticed s.hold b) (noticed-mutters s.hold b)
-up-sends storage s p (up.Attn a status) = by_hold-sends s (attended s.hold s.hold.phase p a false) (attended-mutters s.hold s.hold.phase p a false)
+notice-sends : (s : SubchannelState) (b : ℕ) (more : Bool) → Sends (if more then taking.quietly (reset_for (taking.with_known s b)) else taking.ignoring s)
+notice-sends s b true = tt
+notice-sends s b false = tt
+
+pub up-sends : (returns : Bool) → (storage : Contents) (s : SubchannelState) (p : ℕ) (x : Up) → Sends (takes_up returns storage s p x).step
+up-sends returns storage s p (up.Accept t) = accept-sends storage s (accepted s.hold s.hold.phase t (goes_ahead s)) (accepted-mutters s.hold s.hold.phase t (goes_ahead s))
+up-sends returns storage s p (up.Data t c n q load) = take_data-sends storage s p t c n q load
+up-sends returns storage s p (up.End t n status more) = end_command-sends storage s p t n status more
+up-sends returns storage s p (up.Busy t) = by_hold-sends s (found_busy s.hold s.hold.phase t) (busy-mutters s.hold s.hold.phase t)
+up-sends returns storage s p (up.Leave t c) = by_hold-sends s (left s.hold s.hold.phase t c) (left-mutters s.hold s.hold.phase t c)
+up-sends returns storage s p (up.Back t c) =
+    let step : Option HoldStep = asked_back s.hold s.hold.phase p t c returns in
+    muttered (taking.back s p step).state (came_of step).sent (back-mutters s.hold s.hold.phase p t c returns)
+up-sends returns storage s p (up.Released t) = by_hold-sends s (released s.hold s.hold.phase t) (released-mutters s.hold s.hold.phase t)
+up-sends returns storage s p (up.Cleared r) = reset-sends s (cleared s.hold s.hold.phase r) (cleared-mutters s.hold s.hold.phase r)
+up-sends returns storage s p (up.Notice b) = notice-sends s b (nat_lt s.hold.known b)
+up-sends returns storage s p (up.Attn a status) =
+    let step : Option HoldStep = attended s.hold s.hold.phase p a (taking.may_attend s) in
+    muttered (taking.attend s status step).state (came_of step).sent (attended-mutters s.hold s.hold.phase p a (taking.may_attend s))

@@ -12,11 +12,12 @@ use Rattle.chan_model.specs.declared.unit_state.AtHand.{AtHand}
 use Rattle.chan_model.specs.declared.unit_state.Progress.{Progress}
 use Rattle.chan_model.specs.declared.unit_state.Progress.TheVariants as progress
 use Rattle.chan_model.specs.declared.unit_state.UnitState.{UnitState}
-use Rattle.chan_model.specs.UnitTable.{came_of, side_of, is_owner, unit_takes, unit_after}
+use Rattle.chan_model.specs.UnitTable.{came_of, is_owner, unit_takes, unit_after}
 use Rattle.wires.specs.Queues.{queue, taken}
 use Rattle.machine_model.specs.Steps.{with_any_sent}
 use Rattle.program_laws.proofs.LinkSent.{IsOfHold}
 use Rattle.program_laws.proofs.UnitOrders.{AreOn, IsDown, IsNumbered, on-taken, on-sent, on-first, on-weaker}
+use Rattle.program_laws.specs.Stories.{silent}
 use Rattle.program_laws.proofs.UnitHands.{IsCalm, IsEasy, easy-calm, IsHeld, calm-held, select-held, StaysAnswered, took-held, TakesGive, give-held, command-held, IsQuiet, takes-quiet}
 
 -- a command is over at the device
@@ -176,47 +177,47 @@ abbrev pub IsNoNext : ℕ → Down → Bool → Type 0
 IsNoNext number (down.Command t n code room) came = t ≡ number → came ≡ false
 IsNoNext number d came = Unit {0}
 
-abbrev pub IsAnswered : Side → ℕ → UnitState → ℕ → Down → Type 0
-IsAnswered side number u p d = IsNoNext number d (came_of (unit_takes u side p d true)).taken
+abbrev pub IsAnswered : (may : Bool) → Side → ℕ → UnitState → ℕ → Down → Type 0
+IsAnswered may side number u p d = IsNoNext number d (silent (came_of (unit_takes u side p d may)))
 
-easy-held : (side : Side) (number : ℕ) (P : Option AtHand → Type 0) (u : UnitState) (p : ℕ) (d : Down) → IsEasy d → IsHeld side number P u →
-    IsHeld side number P (unit_after u (unit_takes u side p d true))
-easy-held side number P u p d m h = calm-held side number P u (unit_after u (unit_takes u side p d true)) (easy-calm side u side p d m) h
+easy-held : (may : Bool) → (side : Side) (number : ℕ) (P : Option AtHand → Type 0) (u : UnitState) (p : ℕ) (d : Down) → IsEasy d → IsHeld side number P u →
+    IsHeld side number P (unit_after u (unit_takes u side p d may))
+easy-held may side number P u p d m h = calm-held side number P u (unit_after u (unit_takes u side p d may)) (easy-calm may side u side p d m) h
 
 module _ (side : Side) (drawn number m sent : ℕ) (codes : List ℕ) (P : Option AtHand → Type 0) (Q : ℕ → List ℕ → Type 0) where
-  down-held : (u : UnitState) (p : ℕ) (d : Down) → P None → StaysAnswered P → ((s : ℕ) (bytes : List ℕ) → Q s bytes → TakesGive P s bytes) → (side_of u side).fresh ≡ false →
-      (is_owner u.own side number ≡ true → u.last_command ≡ m) → IsGiving number m Q d → IsDown drawn number sent codes d → IsAnswered side number u p d → IsHeld side number P u →
-      IsHeld side number P (unit_after u (unit_takes u side p d true))
-  down-held u p (down.Select t) z a g f l q i n h = select-held side number P u p t z h
-  down-held u p (down.Command t c code room) z a g f l q i n h = command-held side number P u p t c code room h n f
-  down-held u p (down.Grant t c) z a g f l q i n h = easy-held side number P u p (down.Grant t c) tt h
-  down-held u p (down.Refuse t c) z a g f l q i n h = easy-held side number P u p (down.Refuse t c) tt h
-  down-held u p (down.Took t c s room) z a g f l q i n h = took-held side number P u p t c s room a h
-  down-held u p (down.Give t c e s bytes) z a g f l q i n h = give-held side number P u p t c e s bytes (λ j w o. g s bytes ((q.1 j).1 (w ∙ l o))) h
-  down-held u p (down.Halt t) z a g f l q i n h = easy-held side number P u p (down.Halt t) tt h
-  down-held u p (down.Release t) z a g f l q i n h = easy-held side number P u p (down.Release t) tt h
-  down-held u p (down.Reset v w) z a g f l q i n h = easy-held side number P u p (down.Reset v w) tt h
-  down-held u p (down.Got t) z a g f l q i n h = easy-held side number P u p (down.Got t) tt h
+  down-held : (may : Bool) → (u : UnitState) (p : ℕ) (d : Down) → P None → StaysAnswered P → ((s : ℕ) (bytes : List ℕ) → Q s bytes → TakesGive P s bytes) →
+      (is_owner u.own side number ≡ true → u.last_command ≡ m) → IsGiving number m Q d → IsDown drawn number sent codes d → IsAnswered may side number u p d → IsHeld side number P u →
+      IsHeld side number P (unit_after u (unit_takes u side p d may))
+  down-held may u p (down.Select t) z a g l q i n h = select-held may side number P u p t z h
+  down-held may u p (down.Command t c code room) z a g l q i n h = command-held may side number P u p t c code room h n
+  down-held may u p (down.Grant t c) z a g l q i n h = easy-held may side number P u p (down.Grant t c) tt h
+  down-held may u p (down.Refuse t c) z a g l q i n h = easy-held may side number P u p (down.Refuse t c) tt h
+  down-held may u p (down.Took t c s room) z a g l q i n h = took-held may side number P u p t c s room a h
+  down-held may u p (down.Give t c e s bytes) z a g l q i n h = give-held may side number P u p t c e s bytes (λ j w o. g s bytes ((q.1 j).1 (w ∙ l o))) h
+  down-held may u p (down.Halt t) z a g l q i n h = easy-held may side number P u p (down.Halt t) tt h
+  down-held may u p (down.Release t) z a g l q i n h = easy-held may side number P u p (down.Release t) tt h
+  down-held may u p (down.Reset v w) z a g l q i n h = easy-held may side number P u p (down.Reset v w) tt h
+  down-held may u p (down.Got t) z a g l q i n h = easy-held may side number P u p (down.Got t) tt h
 
-pub wired-takes : (side : Side) (drawn number m sent : ℕ) (codes : List ℕ) (P : Option AtHand → Type 0) (Q : ℕ → List ℕ → Type 0) (R : ℕ → Load → Type 0) (downs : List (List Down)) (ups : List (List Up))
+pub wired-takes : (may : Bool) → (side : Side) (drawn number m sent : ℕ) (codes : List ℕ) (P : Option AtHand → Type 0) (Q : ℕ → List ℕ → Type 0) (R : ℕ → Load → Type 0) (downs : List (List Down)) (ups : List (List Up))
     (u : UnitState) (path : ℕ) (d : Down) → slice_get (queue downs path) 0 ≡ Some d → IsDown drawn number sent codes d → P None → StaysAnswered P →
-    ((s : ℕ) (bytes : List ℕ) → Q s bytes → TakesGive P s bytes) → (side_of u side).fresh ≡ false → (is_owner u.own side number ≡ true → u.last_command ≡ m) →
-    IsAnswered side number u path d → IsWired side number m P Q R downs ups u →
-    IsWired side number m P Q R (taken downs path) (with_any_sent ups (came_of (unit_takes u side path d true)).sent) (unit_after u (unit_takes u side path d true))
-wired-takes side drawn number m sent codes P Q R downs ups u path d e i z a g f l n k =
-    let v : UnitState = unit_after u (unit_takes u side path d true) in
-    let one : Option (OnPath Up) = (came_of (unit_takes u side path d true)).sent in
+    ((s : ℕ) (bytes : List ℕ) → Q s bytes → TakesGive P s bytes) → (is_owner u.own side number ≡ true → u.last_command ≡ m) →
+    IsAnswered may side number u path d → IsWired side number m P Q R downs ups u →
+    IsWired side number m P Q R (taken downs path) (with_any_sent ups (came_of (unit_takes u side path d may)).sent) (unit_after u (unit_takes u side path d may))
+wired-takes may side drawn number m sent codes P Q R downs ups u path d e i z a g l n k =
+    let v : UnitState = unit_after u (unit_takes u side path d may) in
+    let one : Option (OnPath Up) = (came_of (unit_takes u side path d may)).sent in
     let q : IsGiving number m Q d = on-first (IsGiving number m Q) downs path d k.gives e in
     let closes : IsClosed side number u → IsClosed side number v =
-    λ c. down-held side drawn number m sent codes HandClosed Q u path d tt closed-answered (λ s bytes x. closed-gives s bytes) f l q i n c in
+    λ c. down-held side drawn number m sent codes HandClosed Q may u path d tt closed-answered (λ s bytes x. closed-gives s bytes) l q i n c in
     record {
-      hand = down-held side drawn number m sent codes P Q u path d z a g f l q i n k.hand;
+      hand = down-held side drawn number m sent codes P Q may u path d z a g l q i n k.hand;
       gives = on-taken (IsGiving number m Q) downs path k.gives;
       tells = on-sent (IsTelling number m R (IsClosed side number v)) ups one
           (on-weaker (IsTelling number m R (IsClosed side number u)) (IsTelling number m R (IsClosed side number v)) ups
           (telling-other number m number m R R (IsClosed side number u) (IsClosed side number v) (λ t c s x y. y)
           (λ t c. same-command number m t c (IsClosed side number u) (IsClosed side number v) closes)) k.tells)
-          (quiet-sent number m R (IsClosed side number v) one (takes-quiet u side path d));
+          (quiet-sent number m R (IsClosed side number v) one (takes-quiet may u side path d));
     }
 
 -- the next Command of the program is taken

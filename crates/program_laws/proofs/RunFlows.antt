@@ -81,11 +81,11 @@ tested-flows sub k u h a =
     ]
 
 module _ (laws : AreLaws) (accesses : AreAccesses) where
-  met-flows : (storage : Contents) (sub : Subchannel) (path : ℕ) (k : Option Story) (u : Option UnitState) (t : UpTurn) → up_sub storage sub path ≡ Ok t → HeldBy sub.state k →
+  met-flows : (returns : Bool) → (storage : Contents) (sub : Subchannel) (path : ℕ) (k : Option Story) (u : Option UnitState) (t : UpTurn) → up_sub returns storage sub path ≡ Ok t → HeldBy sub.state k →
       Flows sub.setup.side sub k u → Flows sub.setup.side t.sub (met_at storage (Some sub) path k) u
-  met-flows storage sub path k None t e h a = absurd a
-  met-flows storage sub path k (Some u) t e h a =
-      subst (λ (r : Result UpTurn Fault). IfOk r (λ t. AtSub sub.setup.side t.sub (met_at storage (Some sub) path k) u)) e (up-flows laws accesses storage sub path k u h a)
+  met-flows returns storage sub path k None t e h a = absurd a
+  met-flows returns storage sub path k (Some u) t e h a =
+      subst (λ (r : Result UpTurn Fault). IfOk r (λ t. AtSub sub.setup.side t.sub (met_at storage (Some sub) path k) u)) e (up-flows laws accesses returns storage sub path k u h a)
 
   happens-flows : (storage : Contents) (old new : Subchannel) (u v : Option UnitState) (f : Option Story → Option Story) → Happening storage old new u v f → new.setup ≡ old.setup →
       (k : Option Story) → HeldBy old.state k → HeldBy new.state (f k) → AtUnit (IsLinked old.setup.side old.state.drawn old.wires.down k) u → Flows old.setup.side old k u →
@@ -111,20 +111,20 @@ module _ (laws : AreLaws) (accesses : AreAccesses) where
       flows-as old.setup.side new t.sub (chosen_at (Some old) t.reply k) (f k) u v (ap (λ (x : SubchannelSetup). x.side) i) e (s k) w
       (chosen-flows old choice k u t c n
       (subst (λ (x : Subchannel). HeldBy x.state (chosen_at (Some old) t.reply k)) e (subst (λ (x : Option Story). HeldBy new.state x) (s k) m)) l a)
-  happens-flows storage old new u v f (Meets path t c e w s) i k n m l a =
-      flows-as old.setup.side new t.sub (met_at storage (Some old) path k) (f k) u v (ap (λ (x : SubchannelSetup). x.side) i) e (s k) w (met-flows storage old path k u t c n a)
-  happens-flows storage old new u v f (Sinks path x t is c e w s) i k n m l a =
+  happens-flows storage old new u v f (Meets path returns t c e w s) i k n m l a =
+      flows-as old.setup.side new t.sub (met_at storage (Some old) path k) (f k) u v (ap (λ (x : SubchannelSetup). x.side) i) e (s k) w (met-flows returns storage old path k u t c n a)
+  happens-flows storage old new u v f (Sinks path may x t is c e w s) i k n m l a =
       flows-as old.setup.side new t.sub (taken_at t.reply k) (f k) (Some t.«unit») v (ap (λ (x : SubchannelSetup). x.side) i) e (s k) w
       (subst (λ (r : Result DownTurn Fault). IfOk r (λ t. AtSub old.setup.side t.sub (taken_at t.reply k) t.«unit»)) c
-      (down-flows old path x k n (subst (AtUnit (IsLinked old.setup.side old.state.drawn old.wires.down k)) is l) (subst (Flows old.setup.side old k) is a)))
+      (down-flows may old path x k n (subst (AtUnit (IsLinked old.setup.side old.state.drawn old.wires.down k)) is l) (subst (Flows old.setup.side old k) is a)))
   happens-flows storage old new u v f (Is_reported report x t is same c e w s) i k n m l a =
       flows-as old.setup.side new t.sub (reported_at (Some x) report k) (f k) (Some t.«unit») v (ap (λ (x : SubchannelSetup). x.side) i) e (s k) w
       (subst (λ (r : Result DownTurn Fault). IfOk r (λ t. AtSub old.setup.side t.sub (reported_at (Some x) report k) t.«unit»)) c
       (report-flows old x report k (unit_reports x report) refl same (subst (AtUnit (IsLinked old.setup.side old.state.drawn old.wires.down k)) is l) (subst (Flows old.setup.side old k) is a)))
-  happens-flows storage old new u v f (Other_sinks other path x t apart is c e w s) i k n m l a =
+  happens-flows storage old new u v f (Other_sinks other path may x t apart is c e w s) i k n m l a =
       flows-as old.setup.side new old k (f k) (Some t.«unit») v (ap (λ (x : SubchannelSetup). x.side) i) e (s k) w
       (calm-flows old.setup.side old k x t.«unit»
-      (subst (λ (r : Result DownTurn Fault). IfOk r (λ t. IsCalm old.setup.side x t.«unit»)) c (other-down other old.setup.side path x apart)) (subst (Flows old.setup.side old k) is a))
+      (subst (λ (r : Result DownTurn Fault). IfOk r (λ t. IsCalm old.setup.side x t.«unit»)) c (other-down may other old.setup.side path x apart)) (subst (Flows old.setup.side old k) is a))
   happens-flows storage old new u v f (Other_reported other report x t apart is same c e w s) i k n m l a =
       flows-as old.setup.side new old k (f k) (Some t.«unit») v (ap (λ (x : SubchannelSetup). x.side) i) e (s k) w
       (calm-flows old.setup.side old k x t.«unit»
@@ -159,11 +159,11 @@ module _ (laws : AreLaws) (accesses : AreAccesses) where
       Flows sub.setup.side sub (story place (opening_of setup) h s run) (slice_get s.units sub.setup.«unit»)
   run-flows setup lawful held _ _ Opened place sub e = opens-flows setup lawful place sub e
   run-flows setup lawful held _ _ (Stepped h old e r new run step) place sub at =
-      let a = step-happens old (run-one-sided setup lawful h old run) place e r new step sub at in
+      let a = step-happens old (run-one-sided laws.walks setup lawful h old run) place e r new (laws.walks old e r new step) sub at in
       subst (λ (x : SubchannelSetup). Flows sub.setup.side sub (story_after place old e r (story place (opening_of setup) h old run)) (slice_get new.units x.«unit»)) (sym a.2)
       (happens-flows old.storage a.0 sub (slice_get old.units a.0.setup.«unit») (slice_get new.units a.0.setup.«unit») (story_after place old e r) a.3 a.2
       (story place (opening_of setup) h old run) (held h old run place a.0 a.1) (held _ new (Stepped h old e r new run step) place sub at)
-      (run-linked setup lawful (held-all setup held) h old run place a.0 a.1) (run-flows setup lawful held h old run place a.0 a.1))
+      (run-linked laws.walks setup lawful (λ h s run. laws.above setup h s lawful run) (held-all setup held) h old run place a.0 a.1) (run-flows setup lawful held h old run place a.0 a.1))
 
   -- what it means
   part-now : (k : Story) (b : Bool) → b ≡ true → AbsorbsInOrder k.orb k.now k.absorbed → AbsorbsInOrder k.orb (if b then k.now else k.before) k.absorbed

@@ -20,6 +20,8 @@ use Rattle.machine_model.specs.State.{State, opening_of, opened, idle_of}
 use Rattle.machine_model.specs.Steps.{Run, Opened, Stepped}
 use Rattle.program_laws.specs.Stories.{Story, story, story_after}
 use Rattle.program_laws.specs.Claims.{codes, TakesInOrder}
+use Rattle.step_laws.specs.Walks.{AreWalks}
+use Rattle.machine_laws.specs.Agreeing.{AreAbove}
 use Rattle.program_laws.proofs.Turns.{step-happens}
 use Rattle.program_laws.proofs.UnitOrders.{IsDown, AreOn, IsOrdered}
 use Rattle.program_laws.proofs.LinkNeeds.{Needs}
@@ -27,6 +29,10 @@ use Rattle.program_laws.proofs.LinkOrders.{IsLinked, AtUnit, happens-linked}
 use Rattle.program_laws.proofs.RunSides.{map-get, run-one-sided}
 
 -- what is to be known of each subchannel after each run
+-- what agreement says of the Resets that wait
+abbrev pub AllAbove : Setup → Type 0
+AllAbove setup = (h : List Entry) (s : State) → Run (opening_of setup) h s → AreAbove s
+
 abbrev pub AllNeeds : Setup → Type 0
 AllNeeds setup = (h : List Entry) (s : State) (run : Run (opening_of setup) h s) (place : ℕ) (sub : Subchannel) → slice_get s.subs place ≡ Some sub →
     Needs (story place (opening_of setup) h s run) sub.state
@@ -46,14 +52,14 @@ opens-ordered First = record {
   order = refl;
   most = omega arith;
   downs = on-none (IsDown 0 0 0 []) 8;
-  kept = record { fresh = refl; floor = omega arith; new = λ l. refl; owned = λ t e. absurd (cc e); named = λ t e. absurd (cc e); last = λ e. absurd (cc e) };
+  kept = record { fresh = λ f t e. cc e; floor = omega arith; new = λ l. refl; owned = λ t e. absurd (cc e); named = λ t e. absurd (cc e); last = λ e. absurd (cc e) };
 }
 opens-ordered Second = record {
   later = [];
   order = refl;
   most = omega arith;
   downs = on-none (IsDown 0 0 0 []) 8;
-  kept = record { fresh = refl; floor = omega arith; new = λ l. refl; owned = λ t e. absurd (cc e); named = λ t e. absurd (cc e); last = λ e. absurd (cc e) };
+  kept = record { fresh = λ f t e. cc e; floor = omega arith; new = λ l. refl; owned = λ t e. absurd (cc e); named = λ t e. absurd (cc e); last = λ e. absurd (cc e) };
 }
 
 has-element : {A : Type 0} (xs : List A) (i : ℕ) → i < length xs → (x : A) × (slice_get xs i ≡ Some x)
@@ -81,23 +87,23 @@ opens-linked setup lawful place sub e =
     (subst (AtUnit (IsLinked a.0.side 0 no_queues.down None)) (sym (idle-there setup.units a.0.«unit» kind.0 kind.1)) (opens-ordered a.0.side))
 
 -- after a run
-pub run-linked : (setup : Setup) → IsLawful setup → AllNeeds setup → (h : List Entry) (s : State) (run : Run (opening_of setup) h s) (place : ℕ) (sub : Subchannel) →
+pub run-linked : AreWalks → (setup : Setup) → IsLawful setup → AllAbove setup → AllNeeds setup → (h : List Entry) (s : State) (run : Run (opening_of setup) h s) (place : ℕ) (sub : Subchannel) →
     slice_get s.subs place ≡ Some sub → AtUnit (IsLinked sub.setup.side sub.state.drawn sub.wires.down (story place (opening_of setup) h s run)) (slice_get s.units sub.setup.«unit»)
-run-linked setup lawful needs _ _ Opened place sub e = opens-linked setup lawful place sub e
-run-linked setup lawful needs _ _ (Stepped h old e r new run step) place sub at =
-    let a = step-happens old (run-one-sided setup lawful h old run) place e r new step sub at in
+run-linked walks setup lawful above needs _ _ Opened place sub e = opens-linked setup lawful place sub e
+run-linked walks setup lawful above needs _ _ (Stepped h old e r new run step) place sub at =
+    let a = step-happens old (run-one-sided walks setup lawful h old run) place e r new (walks old e r new step) sub at in
     subst (λ (x : SubchannelSetup). AtUnit (IsLinked sub.setup.side sub.state.drawn sub.wires.down (story_after place old e r (story place (opening_of setup) h old run))) (slice_get new.units x.«unit»)) (sym a.2)
     (happens-linked old.storage a.0 sub (slice_get old.units a.0.setup.«unit») (slice_get new.units a.0.setup.«unit») (story_after place old e r) a.3 a.2
-    (story place (opening_of setup) h old run) (needs h old run place a.0 a.1) (needs _ new (Stepped h old e r new run step) place sub at)
-    (run-linked setup lawful needs h old run place a.0 a.1))
+    (λ x g p r b front takes. above h old run place a.0 x p r b a.1 g front takes) (story place (opening_of setup) h old run) (needs h old run place a.0 a.1) (needs _ new (Stepped h old e r new run step) place sub at)
+    (run-linked walks setup lawful above needs h old run place a.0 a.1))
 
 linked-takes : (side : Side) (drawn : ℕ) (wires : List (List Down)) (k : Story) (u : Option UnitState) → AtUnit (IsLinked side drawn wires (Some k)) u → TakesInOrder k
 linked-takes side drawn wires k None l = absurd l
 linked-takes side drawn wires k (Some u) l =
     (reverse l.later, sym (reverse-append l.later k.taken) ∙ ap reverse (sym l.order) ∙ reverse-reverse (codes k.earlier k.orb k.now.acts))
 
-pub run-takes : (setup : Setup) → IsLawful setup → AllNeeds setup → (h : List Entry) (s : State) (run : Run (opening_of setup) h s) (place : ℕ) (sub : Subchannel) (k : Story) →
+pub run-takes : AreWalks → (setup : Setup) → IsLawful setup → AllAbove setup → AllNeeds setup → (h : List Entry) (s : State) (run : Run (opening_of setup) h s) (place : ℕ) (sub : Subchannel) (k : Story) →
     slice_get s.subs place ≡ Some sub → story place (opening_of setup) h s run ≡ Some k → TakesInOrder k
-run-takes setup lawful needs h s run place sub k at e =
+run-takes walks setup lawful above needs h s run place sub k at e =
     linked-takes sub.setup.side sub.state.drawn sub.wires.down k (slice_get s.units sub.setup.«unit»)
-    (subst (λ (x : Option Story). AtUnit (IsLinked sub.setup.side sub.state.drawn sub.wires.down x) (slice_get s.units sub.setup.«unit»)) e (run-linked setup lawful needs h s run place sub at))
+    (subst (λ (x : Option Story). AtUnit (IsLinked sub.setup.side sub.state.drawn sub.wires.down x) (slice_get s.units sub.setup.«unit»)) e (run-linked walks setup lawful above needs h s run place sub at))

@@ -14,6 +14,7 @@ use Rattle.channel_config.specs.Setup.{Setup}
 use Rattle.machine_model.specs.declared.state.Subchannel.{Subchannel}
 use Rattle.machine_model.specs.State.{State, opening_of, opened}
 use Rattle.machine_model.specs.Steps.{Run, Opened, Stepped}
+use Rattle.step_laws.specs.Walks.{AreWalks}
 use Rattle.program_laws.proofs.Turns.{IsOneSided, step-happens}
 
 -- an element of a list that was mapped
@@ -91,13 +92,13 @@ opens-one-sided setup lawful i j x y e f u side =
     (ap (λ (z : Subchannel). z.setup.«unit») a.2 ∙ (u ∙ ap (λ (z : Subchannel). z.setup.«unit») (sym b.2)))
     (ap (λ (z : Subchannel). same_side z.setup.side b.0.side) a.2 ∙ (ap (λ (z : Subchannel). same_side x.setup.side z.setup.side) b.2 ∙ side))
 
-pub run-one-sided : (setup : Setup) → IsLawful setup → (h : List Entry) (s : State) → Run (opening_of setup) h s → IsOneSided s
-run-one-sided setup lawful _ _ Opened = opens-one-sided setup lawful
-run-one-sided setup lawful _ _ (Stepped h old e r new run step) =
-    let one : IsOneSided old = run-one-sided setup lawful h old run in
+pub run-one-sided : AreWalks → (setup : Setup) → IsLawful setup → (h : List Entry) (s : State) → Run (opening_of setup) h s → IsOneSided s
+run-one-sided walks setup lawful _ _ Opened = opens-one-sided setup lawful
+run-one-sided walks setup lawful _ _ (Stepped h old e r new run step) =
+    let one : IsOneSided old = run-one-sided walks setup lawful h old run in
     λ i j x y at there u side.
-    let a = step-happens old one i e r new step x at in
-    let b = step-happens old one j e r new step y there in
+    let a = step-happens old one i e r new (walks old e r new step) x at in
+    let b = step-happens old one j e r new (walks old e r new step) y there in
     one i j a.0 b.0 a.1 b.1
     (ap (λ (z : SubchannelSetup). z.«unit») (sym a.2) ∙ (u ∙ ap (λ (z : SubchannelSetup). z.«unit») b.2))
     (ap (λ (z : SubchannelSetup). same_side z.side b.0.setup.side) (sym a.2) ∙ (ap (λ (z : SubchannelSetup). same_side x.setup.side z.side) (sym b.2) ∙ side))

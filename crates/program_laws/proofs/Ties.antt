@@ -29,6 +29,13 @@ use Rattle.transfer.specs.declared.Came.TheVariants as came
 use Rattle.transfer.specs.Commands.{is_skipped, command_of, begins, goes_to, with_located, located, begun_with_room, with_room, brings}
 use Rattle.ccw_codec.specs.Command.{class_of}
 use Rattle.transfer.specs.Chunks.{with_moved}
+use Rattle.step_laws.specs.Walks.{AreWalks}
+use Rattle.machine_laws.specs.Agreeing.{AreAbove}
+use Rattle.chan_model.specs.declared.reply.Entry.{Entry}
+use Rattle.channel_config.specs.Lawful.{IsLawful}
+use Rattle.channel_config.specs.Setup.{Setup}
+use Rattle.machine_model.specs.State.{State, opening_of}
+use Rattle.machine_model.specs.Steps.{Run}
 use Rattle.program_laws.specs.Reaches.{reach, reaches, reaches_after, reaches_with, word_after, counts}
 use Rattle.program_laws.specs.Doings.{act_of_word, word_acts, located_acts, room_acts}
 use Rattle.program_laws.specs.Claims.{IsBeginning}
@@ -37,6 +44,8 @@ use Rattle.program_laws.proofs.Advances.{Went, advance-went}
 
 -- what is proved below of a command word's data, and of a program that goes on
 pub record AreLaws : Type 0 where
+  pub walks : AreWalks
+  pub above : (setup : Setup) (h : List Entry) (s : State) → IsLawful setup → Run (opening_of setup) h s → AreAbove s
   pub begins : (kind : ListKind) (ccw : Ccw) (skipped : Bool) → IsAt (record { ccw = ccw; skipped = skipped; words = [] }) (begun kind ccw skipped)
   pub word : (r : Reach) (m : Moving) (word : ℕ) → IsAt r m → MayFetch m word → IsAt (with_word r word) (with_piece m word)
   pub stays : (r : Reach) (m : Moving) (word : ℕ) → IsAt r m → uses_list m ≡ true →

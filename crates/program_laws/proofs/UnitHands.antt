@@ -19,6 +19,7 @@ use Rattle.chan_model.specs.declared.unit_state.SideState.{SideState}
 use Rattle.chan_model.specs.declared.unit_state.UnitState.{UnitState}
 use Rattle.chan_model.specs.Sides.{same_side}
 use Rattle.chan_model.specs.UnitTable.{UnitStep, came_of, changes, sends, with_given, with_answer, new_command, side_of, with_side, owns, is_owner, is_owner_on, is_place_on, freed, raised, selected, given_next, answered_load, answered_last, granted_at, granted, refused_at, refused, without_side, reset_side, resets, forgetting, unit_works, unit_takes, unit_after, telling}
+use Rattle.program_laws.specs.Stories.{silent}
 use Rattle.program_laws.proofs.UnitSides.{side-own, one-owner, other-owner}
 use Rattle.program_laws.proofs.UnitOrders.{one-number}
 
@@ -99,20 +100,20 @@ IsEasy (down.Got a) = Unit {0}
 fresh-calm : (side : Side) (u : UnitState) (k : Side) (p : ℕ) (step : Option UnitStep) → IsCalmStep side u step → IsCalmStep side u (if (side_of u k).fresh then telling u p else step)
 fresh-calm side u k p step h = if-calm side u (side_of u k).fresh (telling u p) step (calm side u) h
 
-pub easy-calm : (side : Side) (u : UnitState) (k : Side) (p : ℕ) (d : Down) → IsEasy d → IsCalmStep side u (unit_takes u k p d true)
-easy-calm side u k p (down.Select t) m = absurd m
-easy-calm side u k p (down.Command t n code room) m = absurd m
-easy-calm side u k p (down.Grant t c) m = fresh-calm side u k p _ (granted-calm side u u.own k p t c refl)
-easy-calm side u k p (down.Refuse t c) m = fresh-calm side u k p _ (refused-calm side u u.own k t c refl)
-easy-calm side u k p (down.Took t n s room) m = absurd m
-easy-calm side u k p (down.Give t c n s bytes) m = absurd m
-easy-calm side u k p (down.Halt t) m =
+pub easy-calm : (may : Bool) → (side : Side) (u : UnitState) (k : Side) (p : ℕ) (d : Down) → IsEasy d → IsCalmStep side u (unit_takes u k p d may)
+easy-calm may side u k p (down.Select t) m = absurd m
+easy-calm may side u k p (down.Command t n code room) m = absurd m
+easy-calm may side u k p (down.Grant t c) m = fresh-calm side u k p _ (granted-calm side u u.own k p t c refl)
+easy-calm may side u k p (down.Refuse t c) m = fresh-calm side u k p _ (refused-calm side u u.own k t c refl)
+easy-calm may side u k p (down.Took t n s room) m = absurd m
+easy-calm may side u k p (down.Give t c n s bytes) m = absurd m
+easy-calm may side u k p (down.Halt t) m =
     fresh-calm side u k p _ (if-calm side u (is_owner u.own k t && not u.halted) _ None (calm-own side u (record u { halted = true }) refl refl) (calm side u))
-easy-calm side u k p (down.Release t) m = fresh-calm side u k p _ (if-calm side u (is_owner u.own k t) _ None (calm-idle side u (freed u) refl) (calm side u))
-easy-calm side u k p (down.Reset r b) m =
+easy-calm may side u k p (down.Release t) m = fresh-calm side u k p _ (if-calm side u (is_owner u.own k t) _ None (calm-idle side u (freed u) refl) (calm side u))
+easy-calm may side u k p (down.Reset r b) m =
     if-calm side u (resets u k r b) _ _ (calm-then side u (without_side u k) (reset_side u k r) (freed-where side u (owns u.own k)) (calm-side side k (without_side u k) _))
     (fresh-calm side u k p None (calm side u))
-easy-calm side u k p (down.Got a) m = fresh-calm side u k p _ (forgetting-calm side u u.attention k a)
+easy-calm may side u k p (down.Got a) m = fresh-calm side u k p _ (forgetting-calm side u u.attention k a)
 
 -- what a program that holds the device does is no matter of the other side
 owner-calm : (side k : Side) (u v : UnitState) (t : ℕ) → same_side k side ≡ false → is_owner u.own k t ≡ true → v.own ≡ u.own → IsCalm side u v
@@ -156,25 +157,26 @@ given-other side k u t c n s bytes true true z o =
 given-other side k u t c n s bytes true false z o = calm side u
 given-other side k u t c n s bytes false e z o = calm side u
 
-selected-calm : (side : Side) (u : UnitState) (o : Own) (k : Side) (p t : ℕ) → same_side k side ≡ false → IsCalmStep side u (selected (raised u k t) o k p t true)
-selected-calm side u own.Idle k p t e = λ n f. absurd (other-owner side k t n (On p 0) e f)
-selected-calm side u (own.Owned j v place) k p t e = calm-side side k u _
+selected-calm : (may : Bool) → (side : Side) (u : UnitState) (o : Own) (k : Side) (p t : ℕ) → same_side k side ≡ false → IsCalmStep side u (selected (raised u k t) o k p t may)
+selected-calm false side u own.Idle k p t e = calm-side side k u _
+selected-calm true side u own.Idle k p t e = λ n f. absurd (other-owner side k t n (On p 0) e f)
+selected-calm may side u (own.Owned j v place) k p t e = calm-side side k u _
 
-pub other-calm : (side : Side) (u : UnitState) (k : Side) (p : ℕ) (d : Down) → same_side k side ≡ false → IsCalmStep side u (unit_takes u k p d true)
-other-calm side u k p (down.Select t) e = fresh-calm side u k p _ (if-calm side u (nat_lt (side_of u k).floor t) _ None (selected-calm side u u.own k p t e) (calm side u))
-other-calm side u k p (down.Command t n code room) e =
+pub other-calm : (may : Bool) → (side : Side) (u : UnitState) (k : Side) (p : ℕ) (d : Down) → same_side k side ≡ false → IsCalmStep side u (unit_takes u k p d may)
+other-calm may side u k p (down.Select t) e = fresh-calm side u k p _ (if-calm side u (nat_lt (side_of u k).floor t) _ None (selected-calm may side u u.own k p t e) (calm side u))
+other-calm may side u k p (down.Command t n code room) e =
     fresh-calm side u k p _
     (owned-calm side k u t (changes (record u { last_command = n; at_hand = Some (new_command code room) })) (is_owner u.own k t) (n == u.last_command + 1) e refl refl)
-other-calm side u k p (down.Grant t c) e = easy-calm side u k p (down.Grant t c) tt
-other-calm side u k p (down.Refuse t c) e = easy-calm side u k p (down.Refuse t c) tt
-other-calm side u k p (down.Took t n s room) e =
+other-calm may side u k p (down.Grant t c) e = easy-calm may side u k p (down.Grant t c) tt
+other-calm may side u k p (down.Refuse t c) e = easy-calm may side u k p (down.Refuse t c) tt
+other-calm may side u k p (down.Took t n s room) e =
     fresh-calm side u k p _ (owned-calm side k u t (answered_last u u.at_hand s room) (is_owner u.own k t) (n == u.last_command) e refl (answered-own u u.at_hand s room))
-other-calm side u k p (down.Give t c n s bytes) e =
+other-calm may side u k p (down.Give t c n s bytes) e =
     fresh-calm side u k p _ (given-other side k u t c n s bytes (is_owner_on u.own k t c) (n == u.last_command) e refl)
-other-calm side u k p (down.Halt t) e = easy-calm side u k p (down.Halt t) tt
-other-calm side u k p (down.Release t) e = easy-calm side u k p (down.Release t) tt
-other-calm side u k p (down.Reset r b) e = easy-calm side u k p (down.Reset r b) tt
-other-calm side u k p (down.Got a) e = easy-calm side u k p (down.Got a) tt
+other-calm may side u k p (down.Halt t) e = easy-calm may side u k p (down.Halt t) tt
+other-calm may side u k p (down.Release t) e = easy-calm may side u k p (down.Release t) tt
+other-calm may side u k p (down.Reset r b) e = easy-calm may side u k p (down.Reset r b) tt
+other-calm may side u k p (down.Got a) e = easy-calm may side u k p (down.Got a) tt
 
 -- what holds of the command at hand of a program
 abbrev pub IsHeld : Side → ℕ → (Option AtHand → Type 0) → UnitState → Type 0
@@ -199,15 +201,16 @@ fresh-held side number P u p step h k = if-held side number P u (side_of u side)
 raised-held : (side : Side) (number : ℕ) (P : Option AtHand → Type 0) (u : UnitState) (t : ℕ) → IsHeld side number P u → IsHeld side number P (raised u side t)
 raised-held side number P u t h = calm-held side number P u (raised u side t) (calm-side side side u _) h
 
-selected-held : (side : Side) (number : ℕ) (P : Option AtHand → Type 0) (u : UnitState) (o : Own) (p t : ℕ) → P None → IsHeld side number P u →
-    IsHeldStep side number P u (selected (raised u side t) o side p t true)
-selected-held side number P u own.Idle p t z h = λ e. z
-selected-held side number P u (own.Owned j v place) p t z h = raised-held side number P u t h
+selected-held : (may : Bool) → (side : Side) (number : ℕ) (P : Option AtHand → Type 0) (u : UnitState) (o : Own) (p t : ℕ) → P None → IsHeld side number P u →
+    IsHeldStep side number P u (selected (raised u side t) o side p t may)
+selected-held false side number P u own.Idle p t z h = raised-held side number P u t h
+selected-held true side number P u own.Idle p t z h = λ e. z
+selected-held may side number P u (own.Owned j v place) p t z h = raised-held side number P u t h
 
-pub select-held : (side : Side) (number : ℕ) (P : Option AtHand → Type 0) (u : UnitState) (p t : ℕ) → P None → IsHeld side number P u →
-    IsHeldStep side number P u (unit_takes u side p (down.Select t) true)
-select-held side number P u p t z h =
-    fresh-held side number P u p _ h (if-held side number P u (nat_lt (side_of u side).floor t) _ None (selected-held side number P u u.own p t z h) h)
+pub select-held : (may : Bool) → (side : Side) (number : ℕ) (P : Option AtHand → Type 0) (u : UnitState) (p t : ℕ) → P None → IsHeld side number P u →
+    IsHeldStep side number P u (unit_takes u side p (down.Select t) may)
+select-held may side number P u p t z h =
+    fresh-held side number P u p _ h (if-held side number P u (nat_lt (side_of u side).floor t) _ None (selected-held may side number P u u.own p t z h) h)
 
 -- Took
 abbrev pub StaysAnswered : (Option AtHand → Type 0) → Type 0
@@ -223,9 +226,9 @@ last-held : (side : Side) (number : ℕ) (P : Option AtHand → Type 0) (u : Uni
 last-held side number P u None s room f e h = h
 last-held side number P u (Some x) s room f e h = if-held side number P u (s == x.sequence) _ None (load-held side number P u x x.unanswered room f e h) h
 
-pub took-held : (side : Side) (number : ℕ) (P : Option AtHand → Type 0) (u : UnitState) (p t n s room : ℕ) → StaysAnswered P → IsHeld side number P u →
-    IsHeldStep side number P u (unit_takes u side p (down.Took t n s room) true)
-took-held side number P u p t n s room f h =
+pub took-held : (may : Bool) → (side : Side) (number : ℕ) (P : Option AtHand → Type 0) (u : UnitState) (p t n s room : ℕ) → StaysAnswered P → IsHeld side number P u →
+    IsHeldStep side number P u (unit_takes u side p (down.Took t n s room) may)
+took-held may side number P u p t n s room f h =
     fresh-held side number P u p _ h
     (if-held side number P u (is_owner u.own side t && (n == u.last_command)) _ None (last-held side number P u u.at_hand s room f refl h) h)
 
@@ -242,10 +245,10 @@ next-held side number P u (Some x) s bytes f e h = by (s == x.sequence + 1) refl
     by true q = λ o. f o x (eqb-true s (x.sequence + 1) q) (subst P e (h o))
     by false q = h
 
-pub give-held : (side : Side) (number : ℕ) (P : Option AtHand → Type 0) (u : UnitState) (p t c n s : ℕ) (bytes : List ℕ) →
+pub give-held : (may : Bool) → (side : Side) (number : ℕ) (P : Option AtHand → Type 0) (u : UnitState) (p t c n s : ℕ) (bytes : List ℕ) →
     (t ≡ number → n ≡ u.last_command → is_owner u.own side number ≡ true → TakesGive P s bytes) → IsHeld side number P u →
-    IsHeldStep side number P u (unit_takes u side p (down.Give t c n s bytes) true)
-give-held side number P u p t c n s bytes f h = fresh-held side number P u p _ h (by (is_owner_on u.own side t c) (n == u.last_command) refl refl)
+    IsHeldStep side number P u (unit_takes u side p (down.Give t c n s bytes) may)
+give-held may side number P u p t c n s bytes f h = fresh-held side number P u p _ h (by (is_owner_on u.own side t c) (n == u.last_command) refl refl)
   where
     by : (a b : Bool) → is_owner_on u.own side t c ≡ a → (n == u.last_command) ≡ b → IsHeldStep side number P u (if a && b then given_next u u.at_hand s bytes else None)
     by true true i j =
@@ -255,19 +258,19 @@ give-held side number P u p t c n s bytes f h = fresh-held side number P u p _ h
     by false b i j = h
 
 -- Command, of another number, or not taken
-pub command-held : (side : Side) (number : ℕ) (P : Option AtHand → Type 0) (u : UnitState) (p t n code room : ℕ) → IsHeld side number P u →
-    (t ≡ number → (came_of (unit_takes u side p (down.Command t n code room) true)).taken ≡ false) → (side_of u side).fresh ≡ false →
-    IsHeldStep side number P u (unit_takes u side p (down.Command t n code room) true)
-command-held side number P u p t n code room h f e =
-    by (side_of u side).fresh e (is_owner u.own side t) (n == u.last_command + 1) refl f
+pub command-held : (may : Bool) → (side : Side) (number : ℕ) (P : Option AtHand → Type 0) (u : UnitState) (p t n code room : ℕ) → IsHeld side number P u →
+    (t ≡ number → silent (came_of (unit_takes u side p (down.Command t n code room) may)) ≡ false) →
+    IsHeldStep side number P u (unit_takes u side p (down.Command t n code room) may)
+command-held may side number P u p t n code room h f =
+    by (side_of u side).fresh (is_owner u.own side t) (n == u.last_command + 1) refl f
   where
-    by : (g : Bool) → g ≡ false → (a b : Bool) → is_owner u.own side t ≡ a →
-        (t ≡ number → (came_of (if g then telling u p else (if a && b then changes (record u { last_command = n; at_hand = Some (new_command code room) }) else None))).taken ≡ false) →
+    by : (g a b : Bool) → is_owner u.own side t ≡ a →
+        (t ≡ number → silent (came_of (if g then telling u p else (if a && b then changes (record u { last_command = n; at_hand = Some (new_command code room) }) else None))) ≡ false) →
         IsHeldStep side number P u (if g then telling u p else (if a && b then changes (record u { last_command = n; at_hand = Some (new_command code room) }) else None))
-    by true z a b i q = absurd (cc z)
-    by false z true true i q = λ o. absurd (cc (q (one-number u.own side t number i o)))
-    by false z true false i q = h
-    by false z false b i q = h
+    by true a b i q = h
+    by false true true i q = λ o. absurd (cc (q (one-number u.own side t number i o)))
+    by false true false i q = h
+    by false false b i q = h
 
 -- it tells nothing of the command
 abbrev pub IsQuiet : Up → Type 0
@@ -333,32 +336,32 @@ forgetting-quiet : (u : UnitState) (x : Option Attention) (k : Side) (a : ℕ) �
 forgetting-quiet u None k a = tt
 forgetting-quiet u (Some x) k a = if-quiet (same_side x.side k && (a == x.number)) (changes (record u { attention = None })) None tt tt
 
-works-quiet : (u : UnitState) (k : Side) (p : ℕ) (d : Down) → IsQuietStep (unit_works u k p d true)
-works-quiet u k p (down.Select t) =
-    if-quiet (nat_lt (side_of u k).floor t) (selected (raised u k t) u.own k p t true) None (selected-quiet (raised u k t) u.own k p t true) tt
-works-quiet u k p (down.Command t n code room) =
+works-quiet : (may : Bool) → (u : UnitState) (k : Side) (p : ℕ) (d : Down) → IsQuietStep (unit_works u k p d may)
+works-quiet may u k p (down.Select t) =
+    if-quiet (nat_lt (side_of u k).floor t) (selected (raised u k t) u.own k p t may) None (selected-quiet (raised u k t) u.own k p t may) tt
+works-quiet may u k p (down.Command t n code room) =
     if-quiet (is_owner u.own k t && (n == u.last_command + 1)) (changes (record u { last_command = n; at_hand = Some (new_command code room) })) None tt tt
-works-quiet u k p (down.Grant t c) = granted-quiet u u.own k p t c
-works-quiet u k p (down.Refuse t c) = refused-quiet u u.own k t c
-works-quiet u k p (down.Took t n s room) = if-quiet (is_owner u.own k t && (n == u.last_command)) (answered_last u u.at_hand s room) None (last-quiet u u.at_hand s room) tt
-works-quiet u k p (down.Give t c n s bytes) = if-quiet (is_owner_on u.own k t c && (n == u.last_command)) (given_next u u.at_hand s bytes) None (given-quiet u u.at_hand s bytes) tt
-works-quiet u k p (down.Halt t) = if-quiet (is_owner u.own k t && not u.halted) (changes (record u { halted = true })) None tt tt
-works-quiet u k p (down.Release t) = if-quiet (is_owner u.own k t) (sends (freed u) p (up.Released t)) None tt tt
-works-quiet u k p (down.Reset r b) = tt
-works-quiet u k p (down.Got a) = forgetting-quiet u u.attention k a
+works-quiet may u k p (down.Grant t c) = granted-quiet u u.own k p t c
+works-quiet may u k p (down.Refuse t c) = refused-quiet u u.own k t c
+works-quiet may u k p (down.Took t n s room) = if-quiet (is_owner u.own k t && (n == u.last_command)) (answered_last u u.at_hand s room) None (last-quiet u u.at_hand s room) tt
+works-quiet may u k p (down.Give t c n s bytes) = if-quiet (is_owner_on u.own k t c && (n == u.last_command)) (given_next u u.at_hand s bytes) None (given-quiet u u.at_hand s bytes) tt
+works-quiet may u k p (down.Halt t) = if-quiet (is_owner u.own k t && not u.halted) (changes (record u { halted = true })) None tt tt
+works-quiet may u k p (down.Release t) = if-quiet (is_owner u.own k t) (sends (freed u) p (up.Released t)) None tt tt
+works-quiet may u k p (down.Reset r b) = tt
+works-quiet may u k p (down.Got a) = forgetting-quiet u u.attention k a
 
 fresh-quiet : (u : UnitState) (k : Side) (p : ℕ) (step : Option UnitStep) → IsQuietStep step → IsQuietStep (if (side_of u k).fresh then telling u p else step)
 fresh-quiet u k p step h = if-quiet (side_of u k).fresh (telling u p) step tt h
 
-pub takes-quiet : (u : UnitState) (k : Side) (p : ℕ) (d : Down) → IsQuietStep (unit_takes u k p d true)
-takes-quiet u k p (down.Select t) = fresh-quiet u k p (unit_works u k p (down.Select t) true) (works-quiet u k p (down.Select t))
-takes-quiet u k p (down.Command t n code room) = fresh-quiet u k p (unit_works u k p (down.Command t n code room) true) (works-quiet u k p (down.Command t n code room))
-takes-quiet u k p (down.Grant t c) = fresh-quiet u k p (unit_works u k p (down.Grant t c) true) (works-quiet u k p (down.Grant t c))
-takes-quiet u k p (down.Refuse t c) = fresh-quiet u k p (unit_works u k p (down.Refuse t c) true) (works-quiet u k p (down.Refuse t c))
-takes-quiet u k p (down.Took t n s room) = fresh-quiet u k p (unit_works u k p (down.Took t n s room) true) (works-quiet u k p (down.Took t n s room))
-takes-quiet u k p (down.Give t c n s bytes) = fresh-quiet u k p (unit_works u k p (down.Give t c n s bytes) true) (works-quiet u k p (down.Give t c n s bytes))
-takes-quiet u k p (down.Halt t) = fresh-quiet u k p (unit_works u k p (down.Halt t) true) (works-quiet u k p (down.Halt t))
-takes-quiet u k p (down.Release t) = fresh-quiet u k p (unit_works u k p (down.Release t) true) (works-quiet u k p (down.Release t))
-takes-quiet u k p (down.Reset r b) =
+pub takes-quiet : (may : Bool) → (u : UnitState) (k : Side) (p : ℕ) (d : Down) → IsQuietStep (unit_takes u k p d may)
+takes-quiet may u k p (down.Select t) = fresh-quiet u k p (unit_works u k p (down.Select t) may) (works-quiet may u k p (down.Select t))
+takes-quiet may u k p (down.Command t n code room) = fresh-quiet u k p (unit_works u k p (down.Command t n code room) may) (works-quiet may u k p (down.Command t n code room))
+takes-quiet may u k p (down.Grant t c) = fresh-quiet u k p (unit_works u k p (down.Grant t c) may) (works-quiet may u k p (down.Grant t c))
+takes-quiet may u k p (down.Refuse t c) = fresh-quiet u k p (unit_works u k p (down.Refuse t c) may) (works-quiet may u k p (down.Refuse t c))
+takes-quiet may u k p (down.Took t n s room) = fresh-quiet u k p (unit_works u k p (down.Took t n s room) may) (works-quiet may u k p (down.Took t n s room))
+takes-quiet may u k p (down.Give t c n s bytes) = fresh-quiet u k p (unit_works u k p (down.Give t c n s bytes) may) (works-quiet may u k p (down.Give t c n s bytes))
+takes-quiet may u k p (down.Halt t) = fresh-quiet u k p (unit_works u k p (down.Halt t) may) (works-quiet may u k p (down.Halt t))
+takes-quiet may u k p (down.Release t) = fresh-quiet u k p (unit_works u k p (down.Release t) may) (works-quiet may u k p (down.Release t))
+takes-quiet may u k p (down.Reset r b) =
     if-quiet (resets u k r b) (sends (reset_side u k r) p (up.Cleared r)) (if (side_of u k).fresh then telling u p else None) tt (fresh-quiet u k p None tt)
-takes-quiet u k p (down.Got a) = fresh-quiet u k p (unit_works u k p (down.Got a) true) (works-quiet u k p (down.Got a))
+takes-quiet may u k p (down.Got a) = fresh-quiet u k p (unit_works u k p (down.Got a) may) (works-quiet may u k p (down.Got a))

@@ -19,9 +19,10 @@ use Rattle.chan_model.specs.declared.unit_state.Place.TheVariants.{On}
 use Rattle.chan_model.specs.declared.unit_state.SideState.{SideState}
 use Rattle.chan_model.specs.declared.unit_state.UnitState.{UnitState}
 use Rattle.chan_model.specs.Sides.{same_side}
-use Rattle.chan_model.specs.UnitTable.{UnitStep, came_of, changes, sends, new_command, side_of, with_side, owns, is_owner, freed, held, raised, selected, without_side, reset_side, telling, unit_works, unit_takes, unit_after}
+use Rattle.chan_model.specs.UnitTable.{resets, UnitStep, came_of, changes, sends, new_command, side_of, with_side, owns, is_owner, freed, held, raised, selected, without_side, reset_side, telling, unit_works, unit_takes, unit_after}
 use Rattle.wires.specs.Queues.{queue, taken}
 use Rattle.machine_model.specs.Steps.{with_any_sent}
+use Rattle.program_laws.specs.Stories.{silent}
 use Rattle.program_laws.proofs.UnitSides.{same-sides, side-own, IsStill, IsMild, mild-still}
 
 -- the n-th of the codes, of which the latest stands first
@@ -53,7 +54,7 @@ AreOn P queues = (p : ℕ) → All P (queue queues p)
 
 -- what a unit keeps of a side whose last offer has this number, and how many commands of it it took
 pub record IsNumbered (side : Side) (drawn number : ℕ) (took : List ℕ) (u : UnitState) : Type 0 where
-  pub fresh : (side_of u side).fresh ≡ false
+  pub fresh : (side_of u side).fresh ≡ true → (t : ℕ) → is_owner u.own side t ≡ true → ⊥
   pub floor : (side_of u side).floor ≤ drawn
   pub new : (side_of u side).floor < number → took ≡ []
   pub owned : (t : ℕ) → is_owner u.own side t ≡ true → t ≤ (side_of u side).floor
@@ -207,7 +208,7 @@ hold-draws side drawn later number sent codes took wires u le k = record {
 -- the unit is still
 pub numbered-still : (side : Side) (drawn number : ℕ) (took : List ℕ) (u v : UnitState) → IsStill side u v → IsNumbered side drawn number took u → IsNumbered side drawn number took v
 numbered-still side drawn number took u v s k = record {
-  fresh = ap (λ (x : SideState). x.fresh) s.side_state ∙ k.fresh;
+  fresh = λ f t e. k.fresh (ap (λ (x : SideState). x.fresh) (sym s.side_state) ∙ f) t (s.owner t e).0;
   floor = subst (λ (x : SideState). x.floor ≤ drawn) (sym s.side_state) k.floor;
   new = subst (λ (x : SideState). x.floor < number → took ≡ []) (sym s.side_state) k.new;
   owned = λ t e. subst (λ (x : SideState). t ≤ x.floor) (sym s.side_state) (k.owned t (s.owner t e).0);
@@ -245,7 +246,7 @@ held-side Second u t p = refl
 raised-numbered : (side : Side) (drawn number : ℕ) (took : List ℕ) (u : UnitState) (t : ℕ) → number ≤ drawn → t ≤ number → (side_of u side).floor < t → IsNumbered side drawn number took u →
     IsNumbered side drawn number took (raised u side t)
 raised-numbered side drawn number took u t most le lt k = record {
-  fresh = ap (λ (x : SideState). x.fresh) (here-side side u (record (side_of u side) { floor = t })) ∙ k.fresh;
+  fresh = λ f n e. k.fresh (ap (λ (x : SideState). x.fresh) (sym (here-side side u (record (side_of u side) { floor = t }))) ∙ f) n (ap (λ (x : Own). is_owner x side n) (sym (raised-own side u t)) ∙ e);
   floor = subst (λ (x : SideState). x.floor ≤ drawn) (sym (here-side side u (record (side_of u side) { floor = t }))) (omega (arith, le, most));
   new = λ l. k.new (omega (arith, le, lt));
   owned = λ n e. subst (λ (x : SideState). n ≤ x.floor) (sym (here-side side u (record (side_of u side) { floor = t })))
@@ -254,10 +255,10 @@ raised-numbered side drawn number took u t most le lt k = record {
   last = λ e. raised-last side u t ∙ k.last (ap (λ (x : Own). is_owner x side number) (sym (raised-own side u t)) ∙ e);
 }
 
-held-numbered : (side : Side) (drawn number : ℕ) (took : List ℕ) (u : UnitState) (t p : ℕ) → number ≤ drawn → t ≤ number → (side_of u side).floor < t → IsNumbered side drawn number took u →
+held-numbered : (side : Side) (drawn number : ℕ) (took : List ℕ) (u : UnitState) (t p : ℕ) → (side_of u side).fresh ≡ false → number ≤ drawn → t ≤ number → (side_of u side).floor < t → IsNumbered side drawn number took u →
     IsNumbered side drawn number took (held (raised u side t) side t p)
-held-numbered side drawn number took u t p most le lt k = record {
-  fresh = ap (λ (x : SideState). x.fresh) (held-side side u t p) ∙ k.fresh;
+held-numbered side drawn number took u t p old most le lt k = record {
+  fresh = λ f n e. absurd (cc (sym (ap (λ (x : SideState). x.fresh) (held-side side u t p) ∙ old) ∙ f));
   floor = subst (λ (x : SideState). x.floor ≤ drawn) (sym (held-side side u t p)) (omega (arith, le, most));
   new = λ l. k.new (omega (arith, le, lt));
   owned = λ n e. subst (λ (x : SideState). n ≤ x.floor) (sym (held-side side u t p)) (let s : n ≡ t = same-owner side t n (On p 0) e in omega (arith, s));
@@ -265,16 +266,16 @@ held-numbered side drawn number took u t p most le lt k = record {
   last = λ e. let s : number ≡ t = same-owner side t number (On p 0) e in sym (ap length (k.new (omega (arith, lt, s))));
 }
 
-selected-numbered : (side : Side) (drawn number : ℕ) (took : List ℕ) (u : UnitState) (o : Own) (p t : ℕ) (may : Bool) → number ≤ drawn → t ≤ number → (side_of u side).floor < t →
+selected-numbered : (side : Side) (drawn number : ℕ) (took : List ℕ) (u : UnitState) (o : Own) (p t : ℕ) (may : Bool) → (side_of u side).fresh ≡ false → number ≤ drawn → t ≤ number → (side_of u side).floor < t →
     IsNumbered side drawn number took u → IsNumbered side drawn number took (unit_after u (selected (raised u side t) o side p t may))
-selected-numbered side drawn number took u own.Idle p t true most le lt k = held-numbered side drawn number took u t p most le lt k
-selected-numbered side drawn number took u own.Idle p t false most le lt k = raised-numbered side drawn number took u t most le lt k
-selected-numbered side drawn number took u (own.Owned j v place) p t may most le lt k = raised-numbered side drawn number took u t most le lt k
+selected-numbered side drawn number took u own.Idle p t true old most le lt k = held-numbered side drawn number took u t p old most le lt k
+selected-numbered side drawn number took u own.Idle p t false old most le lt k = raised-numbered side drawn number took u t most le lt k
+selected-numbered side drawn number took u (own.Owned j v place) p t may old most le lt k = raised-numbered side drawn number took u t most le lt k
 
-select-numbered : (side : Side) (drawn number : ℕ) (took : List ℕ) (u : UnitState) (p t : ℕ) (may : Bool) (c : Bool) → nat_lt (side_of u side).floor t ≡ c → number ≤ drawn → t ≤ number →
+select-numbered : (side : Side) (drawn number : ℕ) (took : List ℕ) (u : UnitState) (p t : ℕ) (may : Bool) (c : Bool) → nat_lt (side_of u side).floor t ≡ c → (side_of u side).fresh ≡ false → number ≤ drawn → t ≤ number →
     IsNumbered side drawn number took u → IsNumbered side drawn number took (unit_after u (if c then selected (raised u side t) u.own side p t may else None))
-select-numbered side drawn number took u p t may true e most le k = selected-numbered side drawn number took u u.own p t may most le (ltb-true (side_of u side).floor t e) k
-select-numbered side drawn number took u p t may false e most le k = k
+select-numbered side drawn number took u p t may true e old most le k = selected-numbered side drawn number took u u.own p t may old most le (ltb-true (side_of u side).floor t e) k
+select-numbered side drawn number took u p t may false e old most le k = k
 
 -- Command: the next of the codes
 pub ends-same : (xs ys p q : List ℕ) → xs ++ p ≡ ys ++ q → length p ≡ length q → p ≡ q
@@ -321,7 +322,7 @@ commanded-here side drawn number sent codes took wires u t n code x true e o m h
       most = omega (arith, nth.0, next);
       downs = k.downs;
       kept = record {
-        fresh = ap (λ (s : SideState). s.fresh) (same-sides side u (next_commanded u n x) refl refl) ∙ k.kept.fresh;
+        fresh = λ f i z. k.kept.fresh (ap (λ (s : SideState). s.fresh) (sym (same-sides side u (next_commanded u n x) refl refl)) ∙ f) i z;
         floor = subst (λ (s : SideState). s.floor ≤ drawn) (sym (same-sides side u (next_commanded u n x) refl refl)) k.kept.floor;
         new = λ l. absurd (let l : (side_of u side).floor < number = subst (λ (s : SideState). s.floor < number) (same-sides side u (next_commanded u n x) refl refl) l in omega (arith, l, le));
         owned = λ i f. subst (λ (s : SideState). i ≤ s.floor) (sym (same-sides side u (next_commanded u n x) refl refl)) (k.kept.owned i f);
@@ -336,7 +337,7 @@ commanded-here side drawn number sent codes took wires u t n code x false e o m 
       most = k.most;
       downs = k.downs;
       kept = record {
-        fresh = ap (λ (s : SideState). s.fresh) (same-sides side u (next_commanded u n x) refl refl) ∙ k.kept.fresh;
+        fresh = λ f i z. k.kept.fresh (ap (λ (s : SideState). s.fresh) (sym (same-sides side u (next_commanded u n x) refl refl)) ∙ f) i z;
         floor = subst (λ (s : SideState). s.floor ≤ drawn) (sym (same-sides side u (next_commanded u n x) refl refl)) k.kept.floor;
         new = subst (λ (s : SideState). s.floor < number → took ≡ []) (sym (same-sides side u (next_commanded u n x) refl refl)) k.kept.new;
         owned = λ i f. subst (λ (s : SideState). i ≤ s.floor) (sym (same-sides side u (next_commanded u n x) refl refl)) (k.kept.owned i f);
@@ -352,7 +353,7 @@ took_after number true d took = took
 took_after number false d took = took
 
 abbrev pub IsTaken : Side → ℕ → ℕ → ℕ → List ℕ → List ℕ → List (List Down) → UnitState → Down → Option UnitStep → Type 0
-IsTaken side drawn number sent codes took wires u d step = IsOrdered side drawn number sent codes (took_after number (came_of step).taken d took) wires (unit_after u step)
+IsTaken side drawn number sent codes took wires u d step = IsOrdered side drawn number sent codes (took_after number (silent (came_of step)) d took) wires (unit_after u step)
 
 commanded-if : (side : Side) (drawn number sent : ℕ) (codes took : List ℕ) (wires : List (List Down)) (u : UnitState) (t n code room : ℕ) (x : Option AtHand) (owner next : Bool) →
     is_owner u.own side t ≡ owner → (n == u.last_command + 1) ≡ next → IsCommanded number sent codes t n code → IsOrdered side drawn number sent codes took wires u →
@@ -362,11 +363,19 @@ commanded-if side drawn number sent codes took wires u t n code room x true true
 commanded-if side drawn number sent codes took wires u t n code room x true false o e h k = k
 commanded-if side drawn number sent codes took wires u t n code room x false next o e h k = k
 
--- a side is never fresh
-old-side : (side : Side) (drawn number sent : ℕ) (codes took : List ℕ) (wires : List (List Down)) (u : UnitState) (p : ℕ) (d : Down) (step : Option UnitStep) (fresh : Bool) → fresh ≡ false →
-    IsTaken side drawn number sent codes took wires u d step → IsTaken side drawn number sent codes took wires u d (if fresh then telling u p else step)
-old-side side drawn number sent codes took wires u p d step true e k = absurd (cc e)
-old-side side drawn number sent codes took wires u p d step false e k = k
+-- a Reset that is taken is above the floor
+abbrev pub IsAbove : UnitState → Side → Down → Type 0
+IsAbove u side (down.Reset r b) = resets u side r b ≡ true → (side_of u side).floor < r
+IsAbove u side d = Unit {0}
+
+-- a side that is fresh answers
+answered-taken : (number : ℕ) (d : Down) (took : List ℕ) (P : List ℕ → Type 0) → P took → P (took_after number false d took)
+answered-taken number d took P k = k
+
+old-side : (side : Side) (drawn number sent : ℕ) (codes took : List ℕ) (wires : List (List Down)) (u : UnitState) (p : ℕ) (d : Down) (step : Option UnitStep) (fresh : Bool) →
+    (fresh ≡ false → IsTaken side drawn number sent codes took wires u d step) → IsOrdered side drawn number sent codes took wires u → IsTaken side drawn number sent codes took wires u d (if fresh then telling u p else step)
+old-side side drawn number sent codes took wires u p d step true f k = answered-taken number d took (λ (l : List ℕ). IsOrdered side drawn number sent codes l wires u) k
+old-side side drawn number sent codes took wires u p d step false f k = f refl
 
 mild-took : (number : ℕ) (b : Bool) (d : Down) (took : List ℕ) → IsMild d → took_after number b d took ≡ took
 mild-took number true (down.Select t) took m = absurd m
@@ -385,17 +394,17 @@ select-took : (number : ℕ) (b : Bool) (t : ℕ) (took : List ℕ) → took_aft
 select-took number true t took = refl
 select-took number false t took = refl
 
-mild-taken : (side : Side) (drawn number sent : ℕ) (codes took : List ℕ) (wires : List (List Down)) (u : UnitState) (p : ℕ) (d : Down) → IsMild d →
-    IsOrdered side drawn number sent codes took wires u → IsTaken side drawn number sent codes took wires u d (unit_takes u side p d true)
-mild-taken side drawn number sent codes took wires u p d m k =
-    subst (λ (l : List ℕ). IsOrdered side drawn number sent codes l wires (unit_after u (unit_takes u side p d true)))
-    (sym (mild-took number (came_of (unit_takes u side p d true)).taken d took m))
-    (ordered-still side drawn number sent codes took wires u (unit_after u (unit_takes u side p d true)) (mild-still side u side p d true m) k)
+mild-taken : (may : Bool) → (side : Side) (drawn number sent : ℕ) (codes took : List ℕ) (wires : List (List Down)) (u : UnitState) (p : ℕ) (d : Down) → IsMild d →
+    IsOrdered side drawn number sent codes took wires u → IsTaken side drawn number sent codes took wires u d (unit_takes u side p d may)
+mild-taken may side drawn number sent codes took wires u p d m k =
+    subst (λ (l : List ℕ). IsOrdered side drawn number sent codes l wires (unit_after u (unit_takes u side p d may)))
+    (sym (mild-took number (silent (came_of (unit_takes u side p d may))) d took m))
+    (ordered-still side drawn number sent codes took wires u (unit_after u (unit_takes u side p d may)) (mild-still side u side p d may m) k)
 
 selected-taken : (side : Side) (drawn number sent : ℕ) (codes took : List ℕ) (wires : List (List Down)) (u : UnitState) (t : ℕ) (step : Option UnitStep) →
     IsNumbered side drawn number took (unit_after u step) → IsOrdered side drawn number sent codes took wires u → IsTaken side drawn number sent codes took wires u (down.Select t) step
 selected-taken side drawn number sent codes took wires u t step n k =
-    subst (λ (l : List ℕ). IsOrdered side drawn number sent codes l wires (unit_after u step)) (sym (select-took number (came_of step).taken t took))
+    subst (λ (l : List ℕ). IsOrdered side drawn number sent codes l wires (unit_after u step)) (sym (select-took number (silent (came_of step)) t took))
     (record { later = k.later; order = k.order; most = k.most; downs = k.downs; kept = n })
 
 -- Reset: no program of its side holds the device
@@ -416,7 +425,7 @@ reset-numbered : (side : Side) (drawn number : ℕ) (took : List ℕ) (u : UnitS
 reset-numbered side drawn number took u r le lt k =
     let at : side_of (reset_side u side r) side ≡ record { floor = r; fresh = false } = here-side side (without_side u side) (record { floor = r; fresh = false }) in
     record {
-      fresh = ap (λ (x : SideState). x.fresh) at;
+      fresh = λ f t e. reset-unowned side u r t e;
       floor = subst (λ (x : SideState). x.floor ≤ drawn) (sym at) le;
       new = subst (λ (x : SideState). x.floor < number → took ≡ []) (sym at) (λ l. k.new (omega (arith, l, lt)));
       owned = λ t e. absurd (reset-unowned side u r t e);
@@ -424,36 +433,42 @@ reset-numbered side drawn number took u r le lt k =
       last = λ e. absurd (reset-unowned side u r number e);
     }
 
-reset-by : (side : Side) (drawn number sent : ℕ) (codes took : List ℕ) (wires : List (List Down)) (u : UnitState) (p r b : ℕ) (count fresh above : Bool) → (b == u.restarts) ≡ count →
-    fresh ≡ false → nat_lt (side_of u side).floor r ≡ above → r ≤ drawn → IsOrdered side drawn number sent codes took wires u →
+reset-by : (side : Side) (drawn number sent : ℕ) (codes took : List ℕ) (wires : List (List Down)) (u : UnitState) (p r b : ℕ) (count fresh above : Bool) → ((count && (fresh || above)) ≡ true → (side_of u side).floor < r) → r ≤ drawn → IsOrdered side drawn number sent codes took wires u →
     IsTaken side drawn number sent codes took wires u (down.Reset r b)
     (if count && (fresh || above) then sends (reset_side u side r) p (up.Cleared r) else (if fresh then telling u p else None))
-reset-by side drawn number sent codes took wires u p r b count true above c f a le k = absurd (cc f)
-reset-by side drawn number sent codes took wires u p r b true false true c f a le k = record {
+reset-by side drawn number sent codes took wires u p r b true true above f le k = record {
   later = k.later;
   order = k.order;
   most = k.most;
   downs = k.downs;
-  kept = reset-numbered side drawn number took u r le (ltb-true (side_of u side).floor r a) k.kept;
+  kept = reset-numbered side drawn number took u r le (f refl) k.kept;
 }
-reset-by side drawn number sent codes took wires u p r b true false false c f a le k = k
-reset-by side drawn number sent codes took wires u p r b false false above c f a le k = k
+reset-by side drawn number sent codes took wires u p r b false true above f le k = k
+reset-by side drawn number sent codes took wires u p r b true false true f le k = record {
+  later = k.later;
+  order = k.order;
+  most = k.most;
+  downs = k.downs;
+  kept = reset-numbered side drawn number took u r le (f refl) k.kept;
+}
+reset-by side drawn number sent codes took wires u p r b true false false f le k = k
+reset-by side drawn number sent codes took wires u p r b false false above f le k = k
 
-pub unit-takes : (side : Side) (drawn number sent : ℕ) (codes took : List ℕ) (wires : List (List Down)) (u : UnitState) (p : ℕ) (d : Down) → number ≤ drawn → IsDown drawn number sent codes d →
-    IsOrdered side drawn number sent codes took wires u → IsTaken side drawn number sent codes took wires u d (unit_takes u side p d true)
-unit-takes side drawn number sent codes took wires u p (down.Select t) most h k =
-    old-side side drawn number sent codes took wires u p (down.Select t) (unit_works u side p (down.Select t) true) (side_of u side).fresh k.kept.fresh
-    (selected-taken side drawn number sent codes took wires u t (unit_works u side p (down.Select t) true)
-    (select-numbered side drawn number took u p t true (nat_lt (side_of u side).floor t) refl most h k.kept) k)
-unit-takes side drawn number sent codes took wires u p (down.Command t n code room) most h k =
-    old-side side drawn number sent codes took wires u p (down.Command t n code room) (unit_works u side p (down.Command t n code room) true) (side_of u side).fresh k.kept.fresh
-    (commanded-if side drawn number sent codes took wires u t n code room (Some (new_command code room)) (is_owner u.own side t) (n == u.last_command + 1) refl refl h k)
-unit-takes side drawn number sent codes took wires u p (down.Grant t c) most h k = mild-taken side drawn number sent codes took wires u p (down.Grant t c) tt k
-unit-takes side drawn number sent codes took wires u p (down.Refuse t c) most h k = mild-taken side drawn number sent codes took wires u p (down.Refuse t c) tt k
-unit-takes side drawn number sent codes took wires u p (down.Took t n s room) most h k = mild-taken side drawn number sent codes took wires u p (down.Took t n s room) tt k
-unit-takes side drawn number sent codes took wires u p (down.Give t c n s bytes) most h k = mild-taken side drawn number sent codes took wires u p (down.Give t c n s bytes) tt k
-unit-takes side drawn number sent codes took wires u p (down.Halt t) most h k = mild-taken side drawn number sent codes took wires u p (down.Halt t) tt k
-unit-takes side drawn number sent codes took wires u p (down.Release t) most h k = mild-taken side drawn number sent codes took wires u p (down.Release t) tt k
-unit-takes side drawn number sent codes took wires u p (down.Reset r b) most h k =
-    reset-by side drawn number sent codes took wires u p r b (b == u.restarts) (side_of u side).fresh (nat_lt (side_of u side).floor r) refl k.kept.fresh refl h k
-unit-takes side drawn number sent codes took wires u p (down.Got a) most h k = mild-taken side drawn number sent codes took wires u p (down.Got a) tt k
+pub unit-takes : (may : Bool) → (side : Side) (drawn number sent : ℕ) (codes took : List ℕ) (wires : List (List Down)) (u : UnitState) (p : ℕ) (d : Down) → number ≤ drawn → IsDown drawn number sent codes d → IsAbove u side d →
+    IsOrdered side drawn number sent codes took wires u → IsTaken side drawn number sent codes took wires u d (unit_takes u side p d may)
+unit-takes may side drawn number sent codes took wires u p (down.Select t) most h rises k =
+    old-side side drawn number sent codes took wires u p (down.Select t) (unit_works u side p (down.Select t) may) (side_of u side).fresh
+    (λ old. selected-taken side drawn number sent codes took wires u t (unit_works u side p (down.Select t) may)
+    (select-numbered side drawn number took u p t may (nat_lt (side_of u side).floor t) refl old most h k.kept) k) k
+unit-takes may side drawn number sent codes took wires u p (down.Command t n code room) most h rises k =
+    old-side side drawn number sent codes took wires u p (down.Command t n code room) (unit_works u side p (down.Command t n code room) may) (side_of u side).fresh
+    (λ old. commanded-if side drawn number sent codes took wires u t n code room (Some (new_command code room)) (is_owner u.own side t) (n == u.last_command + 1) refl refl h k) k
+unit-takes may side drawn number sent codes took wires u p (down.Grant t c) most h rises k = mild-taken may side drawn number sent codes took wires u p (down.Grant t c) tt k
+unit-takes may side drawn number sent codes took wires u p (down.Refuse t c) most h rises k = mild-taken may side drawn number sent codes took wires u p (down.Refuse t c) tt k
+unit-takes may side drawn number sent codes took wires u p (down.Took t n s room) most h rises k = mild-taken may side drawn number sent codes took wires u p (down.Took t n s room) tt k
+unit-takes may side drawn number sent codes took wires u p (down.Give t c n s bytes) most h rises k = mild-taken may side drawn number sent codes took wires u p (down.Give t c n s bytes) tt k
+unit-takes may side drawn number sent codes took wires u p (down.Halt t) most h rises k = mild-taken may side drawn number sent codes took wires u p (down.Halt t) tt k
+unit-takes may side drawn number sent codes took wires u p (down.Release t) most h rises k = mild-taken may side drawn number sent codes took wires u p (down.Release t) tt k
+unit-takes may side drawn number sent codes took wires u p (down.Reset r b) most h rises k =
+    reset-by side drawn number sent codes took wires u p r b (b == u.restarts) (side_of u side).fresh (nat_lt (side_of u side).floor r) rises h k
+unit-takes may side drawn number sent codes took wires u p (down.Got a) most h rises k = mild-taken may side drawn number sent codes took wires u p (down.Got a) tt k

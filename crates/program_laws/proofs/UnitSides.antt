@@ -23,7 +23,7 @@ use Rattle.chan_model.specs.declared.unit_state.SideState.{SideState}
 use Rattle.chan_model.specs.declared.unit_state.UnitState.{UnitState}
 use Rattle.chan_model.specs.Sides.{same_side}
 use Rattle.chan_model.specs.UnitTable.{UnitStep, changes, with_given, side_of, with_side, owns, is_owner, is_owner_on, freed, raised, selected, given_next, answered_load, answered_last, granted_at, granted, refused_at, refused, without_side, reset_side, resets, forgetting, unit_works, unit_takes, unit_after, telling}
-use Rattle.chan_model.specs.UnitReports.{is_outward, is_to_supply, most_of, may_end, end_sent, begun, absorbed, supplied, sent_again, answer_taken, report_on, report_of, unit_reports}
+use Rattle.chan_model.specs.UnitReports.{is_outward, is_to_supply, most_of, may_end, shown_end, end_sent, begun, absorbed, supplied, sent_again, answer_taken, report_on, report_of, unit_reports}
 
 -- what is kept of a side is as it was, and a program of it that holds the device held it before, with the same last command
 pub record IsStill (side : Side) (u v : UnitState) : Type 0 where
@@ -254,10 +254,10 @@ ended-still : (side : Side) (u : UnitState) (p t : ℕ) (x : AtHand) (may : Bool
 ended-still side u p t x may status more = if-still side u may (end_sent u p t x status more) None (with-hand side u _) (still side u)
 
 answer-still : (side : Side) (u : UnitState) (p t c : ℕ) (x : AtHand) (at : Progress) (a : DeviceAnswer) → IsStillStep side u (answer_taken u p t c x at a)
-answer-still side u p t c x progress.New (answer.Ended status more) = ended-still side u p t x (may_end u.halted x progress.New status more) status more
-answer-still side u p t c x progress.Working (answer.Ended status more) = ended-still side u p t x (may_end u.halted x progress.Working status more) status more
-answer-still side u p t c x progress.ChannelEnded (answer.Ended status more) = ended-still side u p t x (may_end u.halted x progress.ChannelEnded status more) status more
-answer-still side u p t c x progress.Ended (answer.Ended status more) = ended-still side u p t x (may_end u.halted x progress.Ended status more) status more
+answer-still side u p t c x progress.New (answer.Ended status more) = ended-still side u p t x (may_end u.halted x progress.New status more) (shown_end progress.New status) more
+answer-still side u p t c x progress.Working (answer.Ended status more) = ended-still side u p t x (may_end u.halted x progress.Working status more) (shown_end progress.Working status) more
+answer-still side u p t c x progress.ChannelEnded (answer.Ended status more) = ended-still side u p t x (may_end u.halted x progress.ChannelEnded status more) (shown_end progress.ChannelEnded status) more
+answer-still side u p t c x progress.Ended (answer.Ended status more) = ended-still side u p t x (may_end u.halted x progress.Ended status more) (shown_end progress.Ended status) more
 answer-still side u p t c x progress.New answer.Begins = begun-still side u p t c x
 answer-still side u p t c x progress.Working answer.Begins = still side u
 answer-still side u p t c x progress.ChannelEnded answer.Begins = still side u

@@ -20,7 +20,7 @@ use Rattle.chan_model.specs.declared.unit_state.Progress.TheVariants as progress
 use Rattle.chan_model.specs.declared.unit_state.UnitState.{UnitState}
 use Rattle.chan_model.specs.Sides.{same_side}
 use Rattle.chan_model.specs.UnitTable.{UnitStep}
-use Rattle.chan_model.specs.UnitReports.{is_outward, is_over, is_settled, is_to_supply, most_of, may_end, end_sent, absorbed, with_absorbed, with_supplied, sent_again, answer_taken, after_end, report_on, report_of, unit_reports}
+use Rattle.chan_model.specs.UnitReports.{is_outward, is_over, is_settled, is_to_supply, most_of, may_end, shown_end, end_sent, absorbed, with_absorbed, with_supplied, sent_again, answer_taken, after_end, report_on, report_of, unit_reports}
 
 -- with another command at hand, and a signal sent
 abbrev pub with_hand : UnitState → AtHand → UnitState
@@ -37,9 +37,9 @@ pub data IsTold (u : UnitState) (p t c : ℕ) (x : AtHand) : DeviceAnswer → Un
   Supplies : (bytes : List ℕ) → is_outward x.code ≡ false → x.progress ≡ progress.Working →
       IsTold u p t c x (answer.Supplied bytes) (telling_data u p t c (with_supplied x bytes) (load.Bytes bytes))
   Tells_again : (l : Load) → x.unanswered ≡ Some l → x.progress ≡ progress.Working → IsTold u p t c x answer.Again (telling_data u p t c (record x { again = false }) l)
-  Ends : (status : DeviceStatus) (more : Bool) →
-      IsTold u p t c x (answer.Ended status more)
-      (record { state = with_hand u (record x { progress = after_end status }); sent = Some (record { path = p; signal = up.End t u.last_command status more }) })
+  Ends : (given shown : DeviceStatus) (more : Bool) →
+      IsTold u p t c x (answer.Ended given more)
+      (record { state = with_hand u (record x { progress = after_end shown }); sent = Some (record { path = p; signal = up.End t u.last_command shown more }) })
 
 abbrev AreTold : UnitState → ℕ → ℕ → ℕ → AtHand → DeviceAnswer → Option UnitStep → Type 0
 AreTold u p t c x a step = (y : UnitStep) → step ≡ Some y → IsTold u p t c x a y
@@ -50,9 +50,10 @@ none-told u p t c x a y e = absurd (cc e)
 one-told : (u : UnitState) (p t c : ℕ) (x : AtHand) (a : DeviceAnswer) (z : UnitStep) → IsTold u p t c x a z → AreTold u p t c x a (Some z)
 one-told u p t c x a z k y e = let same : z ≡ y = cc e in subst (IsTold u p t c x a) same k
 
-ended-told : (u : UnitState) (p t c : ℕ) (x : AtHand) (status : DeviceStatus) (more may : Bool) → AreTold u p t c x (answer.Ended status more) (if may then end_sent u p t x status more else None)
-ended-told u p t c x status more true = one-told u p t c x (answer.Ended status more) _ (Ends status more)
-ended-told u p t c x status more false = none-told u p t c x (answer.Ended status more)
+ended-told : (u : UnitState) (p t c : ℕ) (x : AtHand) (given shown : DeviceStatus) (more may : Bool) →
+    AreTold u p t c x (answer.Ended given more) (if may then end_sent u p t x shown more else None)
+ended-told u p t c x given shown more true = one-told u p t c x (answer.Ended given more) _ (Ends given shown more)
+ended-told u p t c x given shown more false = none-told u p t c x (answer.Ended given more)
 
 begun-told : (u : UnitState) (p t c : ℕ) (x : AtHand) (out : Bool) → is_outward x.code ≡ out → x.progress ≡ progress.New →
     AreTold u p t c x answer.Begins
@@ -90,10 +91,10 @@ again-told u p t c x (Some l) h e = by x.again
     by false = none-told u p t c x answer.Again
 
 answer-told : (u : UnitState) (p t c : ℕ) (x : AtHand) (at : Progress) (a : DeviceAnswer) → x.progress ≡ at → AreTold u p t c x a (answer_taken u p t c x at a)
-answer-told u p t c x progress.New (answer.Ended status more) e = ended-told u p t c x status more (may_end u.halted x progress.New status more)
-answer-told u p t c x progress.Working (answer.Ended status more) e = ended-told u p t c x status more (may_end u.halted x progress.Working status more)
-answer-told u p t c x progress.ChannelEnded (answer.Ended status more) e = ended-told u p t c x status more (may_end u.halted x progress.ChannelEnded status more)
-answer-told u p t c x progress.Ended (answer.Ended status more) e = ended-told u p t c x status more (may_end u.halted x progress.Ended status more)
+answer-told u p t c x progress.New (answer.Ended status more) e = ended-told u p t c x status (shown_end progress.New status) more (may_end u.halted x progress.New status more)
+answer-told u p t c x progress.Working (answer.Ended status more) e = ended-told u p t c x status (shown_end progress.Working status) more (may_end u.halted x progress.Working status more)
+answer-told u p t c x progress.ChannelEnded (answer.Ended status more) e = ended-told u p t c x status (shown_end progress.ChannelEnded status) more (may_end u.halted x progress.ChannelEnded status more)
+answer-told u p t c x progress.Ended (answer.Ended status more) e = ended-told u p t c x status (shown_end progress.Ended status) more (may_end u.halted x progress.Ended status more)
 answer-told u p t c x progress.New answer.Begins e = begun-told u p t c x (is_outward x.code) refl e
 answer-told u p t c x progress.Working answer.Begins e = none-told u p t c x answer.Begins
 answer-told u p t c x progress.ChannelEnded answer.Begins e = none-told u p t c x answer.Begins

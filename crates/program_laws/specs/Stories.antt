@@ -5,6 +5,8 @@ use Rattle.scsw_irb.specs.declared.status.DeviceStatus.{DeviceStatus}
 use Rattle.storage_keys.specs.Storage.{Contents}
 use Rattle.chan_model.specs.declared.hold_state.HoldPhase.{HoldPhase}
 use Rattle.chan_model.specs.declared.hold_state.HoldPhase.TheVariants as hold
+use Rattle.chan_model.specs.declared.signal.Taken.{Taken}
+use Rattle.chan_model.specs.declared.signal.OnPath.{OnPath}
 use Rattle.chan_model.specs.declared.signal.Down.{Down}
 use Rattle.chan_model.specs.declared.signal.Down.TheVariants as down
 use Rattle.chan_model.specs.declared.signal.Load.{Load}
@@ -151,13 +153,21 @@ abbrev pub met_at : Contents → Option Subchannel → ℕ → Option Story → 
 met_at storage None p k = k
 met_at storage (Some sub) p k = met_with storage sub.state p (first_of sub.wires.up p) k
 
--- the device takes a command of the program
+-- a signal that was taken, and not answered
+abbrev pub silent_by : Bool → Option (OnPath Up) → Bool
+silent_by came None = came
+silent_by came (Some x) = false
+
+abbrev pub silent : Taken Up → Bool
+silent c = silent_by c.taken c.sent
+
+-- the device takes a command of the program: one that is answered, as where its side is fresh, was not taken
 abbrev pub takes : Down → Story → Story
 takes (down.Command t n code room) k = if t == k.number then record k { taken = code ∷ k.taken; absorbed = [] } else k
 takes signal k = k
 
 abbrev pub taken_at : Reply → Option Story → Option Story
-taken_at (reply.Down signal true sent) (Some k) = Some (takes signal k)
+taken_at (reply.Down signal true None) (Some k) = Some (takes signal k)
 taken_at r k = k
 
 -- the device absorbs bytes that it was given

@@ -9,7 +9,7 @@ ghost use Rattle.machine_model.specs.State.{State, opening_of};
 ghost use Rattle.machine_model.specs.Steps.{Run};
 ghost use Rattle.program_laws.specs.Claims.{AllTold};
 
-use channel_program::law as walks;
+use channel_program::law as place_laws;
 use data_move::law as moves;
 use storage_keys::law as storage;
 
@@ -23,10 +23,12 @@ use storage_keys::law as storage;
 pub fn programs()
     ensures told { (setup : Setup) → IsLawful setup → (h : List Entry) (s : State) (run : Run (opening_of setup) h s) → AllTold (opening_of setup) h s run }
 {
+    step_laws::walks();
+    machine_laws::reset_numbers();
     moves::pieces();
-    walks::places();
-    walks::advances();
-    walks::programs();
+    place_laws::places();
+    place_laws::advances();
+    place_laws::programs();
     storage::fetched_bytes();
     storage::put_bytes();
 }

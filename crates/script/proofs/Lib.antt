@@ -2,3 +2,4 @@ pub mod Parting
 pub mod Digits
 pub mod Drafting
 pub mod Rows
+pub mod Printing

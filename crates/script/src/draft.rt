@@ -1,6 +1,6 @@
 //! Reading a script line by line.
 
-ghost use Rattle.std.specs.Prelude.{◌≡◌, OnOk, IfErr, IfOk, None, Ok, length, map};
+ghost use Rattle.std.specs.Prelude.{◌≡◌, ◌<◌, ◌++◌, ◌∷◌, [], true, OnOk, IfErr, IfOk, None, Ok, Err, length, map, vec_len, vec_capacity};
 ghost use Rattle.script.specs.Pieces.{words_of};
 ghost use Rattle.script.specs.Saying.{first_is_storage};
 ghost use Rattle.script.specs.Scripts as spec;
@@ -14,6 +14,7 @@ use crate::words::LineFault;
 use crate::{Line, ScriptBad};
 use channel_config::config::{Config, ConfigFault};
 use std::alloc::Global;
+use supply::Supply;
 
 /// What the lines so far have made.
 #[derive(Drop)]
@@ -25,11 +26,13 @@ pub struct Draft {
 }
 
 /// Whether the line's first word is `storage`.
-fn begins(alloc: Global, line: &[u8]) -> Result<bool, LineFault>
+fn begins<S: Supply>(alloc: Global, supply: &mut S, line: &[u8]) -> Result<bool, LineFault>
     ensures ok { IfOk result (λ b. b ≡ first_is_storage (words_of line.now)) }
     ensures err { IfErr result (λ f. f ≡ LineFault.NoMemory) }
+    ensures given { OnOk result (S.refused supply.new ≡ S.refused supply.old) }
+    ensures memory { result ≡ Err LineFault.NoMemory → S.refused supply.new ≡ true }
 {
-    let Ok(words) = pieces(alloc, line, b' ') else {
+    let Ok(words) = pieces(alloc, supply, line, b' ') else {
         return Err(LineFault::NoMemory);
     };
     match words.as_slice() {
@@ -39,9 +42,16 @@ fn begins(alloc: Global, line: &[u8]) -> Result<bool, LineFault>
 }
 
 /// Takes what a line says.
-fn hear(draft: &mut Draft, number: u64, said: Said) -> Result<(), LineFault>
+fn hear<S: Supply>(
+    supply: &mut S,
+    draft: &mut Draft,
+    number: u64,
+    said: Said,
+) -> Result<(), LineFault>
     ensures ok { OnOk result ((spec.broken_by (context draft.old) (Ok said) ≡ None) × Hears draft.old number (Ok said) draft.new) }
     ensures err { IfErr result (λ f. BreaksRule f (spec.broken_by (context draft.old) (Ok said))) }
+    ensures given { OnOk result (S.refused supply.new ≡ S.refused supply.old) }
+    ensures memory { result ≡ Err LineFault.NoMemory → S.refused supply.new ≡ true }
 {
     match said {
         Said::Nothing => Ok(()),
@@ -49,39 +59,62 @@ fn hear(draft: &mut Draft, number: u64, said: Said) -> Result<(), LineFault>
             if draft.acted {
                 return Err(LineFault::Rule(4));
             }
-            match configure(&mut draft.config, &setting) {
+            match configure(supply, &mut draft.config, &setting) {
                 Ok(()) => Ok(()),
                 Err(ConfigFault::NoMemory) => Err(LineFault::NoMemory),
                 Err(ConfigFault::Rule(_)) => Err(LineFault::Rule(5)),
             }
         }
         Said::Does(action) => {
-            draft.lines.push(Line { number, action })?;
+            supply.reserve(&mut draft.lines, 1)?;
+            add_line(&mut draft.lines, Line { number, action });
             draft.acted = true;
             Ok(())
         }
     }
 }
 
+/// Adds a line, for which there is room.
+fn add_line(lines: &mut Vec<Line>, line: Line)
+    requires { vec_len lines.old < vec_capacity lines.old }
+    ensures { lines.new.items ≡ lines.old.items ++ line ∷ [] }
+{
+    lines.push_reserved(line);
+}
+
 /// Takes one line.
-fn take_line(alloc: Global, draft: &mut Draft, number: u64, line: &[u8]) -> Result<(), LineFault>
+fn take_line<S: Supply>(
+    alloc: Global,
+    supply: &mut S,
+    draft: &mut Draft,
+    number: u64,
+    line: &[u8],
+) -> Result<(), LineFault>
     ensures ok { OnOk result ((spec.fault (context draft.old) line.now ≡ None) × IsNext draft.old number line.now draft.new) }
     ensures err { IfErr result (λ f. BreaksRule f (spec.fault (context draft.old) line.now)) }
+    ensures given { OnOk result (S.refused supply.new ≡ S.refused supply.old) }
+    ensures memory { result ≡ Err LineFault.NoMemory → S.refused supply.new ≡ true }
 {
     let worded = has_words(line);
-    if worded && !draft.begun && !begins(alloc, line)? {
+    if worded && !draft.begun && !begins(alloc, supply, line)? {
         return Err(LineFault::Rule(6));
     }
-    let said = say(alloc, line)?;
-    hear(draft, number, said)?;
+    let said = say(alloc, supply, line)?;
+    hear(supply, draft, number, said)?;
     draft.begun = draft.begun | worded;
     Ok(())
 }
 
 /// Takes all lines, or answers the first bad one.
-pub fn draft_of(alloc: Global, lines: &[&[u8]]) -> Result<Draft, ScriptBad>
+pub fn draft_of<S: Supply>(
+    alloc: Global,
+    supply: &mut S,
+    lines: &[&[u8]],
+) -> Result<Draft, ScriptBad>
     ensures good { IfOk result (λ d. IsDraftOf (map (λ l. l.now) lines.now) (length lines.now) d) }
     ensures bad { IfErr result (λ b. BadIn b (map (λ l. l.now) lines.now)) }
+    ensures given { OnOk result (S.refused supply.new ≡ S.refused supply.old) }
+    ensures memory { result ≡ Err ScriptBad.NoMemory → S.refused supply.new ≡ true }
 {
     let mut draft = Draft {
         config: Config::new(alloc),
@@ -91,7 +124,7 @@ pub fn draft_of(alloc: Global, lines: &[&[u8]]) -> Result<Draft, ScriptBad>
     };
     for (i, line) in lines.iter().enumerate() {
         let number = i as u64 + 1;
-        match take_line(alloc, &mut draft, number, line) {
+        match take_line(alloc, supply, &mut draft, number, line) {
             Ok(()) => {}
             Err(LineFault::NoMemory) => return Err(ScriptBad::NoMemory),
             Err(LineFault::Rule(rule)) => return Err(ScriptBad::Bad { line: number, rule }),

@@ -1,7 +1,7 @@
 //! Scripts: lines that configure a machine and drive it, and the texts that are printed.
 #![tactic(auto)]
 
-ghost use Rattle.std.specs.Prelude.{◌≡◌, IfOk, IfErr, map};
+ghost use Rattle.std.specs.Prelude.{◌≡◌, true, Err, IfOk, IfErr, OnOk, map};
 ghost use Rattle.std.specs.List.{list_any};
 ghost use Rattle.script.specs.Saying.{has_words as words_stand};
 ghost use Rattle.script.specs.Pieces.{lines_of};
@@ -10,9 +10,12 @@ ghost use Rattle.script.specs.Reading.{BadAt};
 
 mod actions;
 mod draft;
+pub mod held;
 mod pieces;
 mod said;
 mod settings;
+#[cfg(test)]
+mod shown_lines;
 #[cfg(test)]
 mod tests;
 pub mod text;
@@ -29,6 +32,7 @@ use channel_config::config::Config;
 use scsw_irb::serials::Serials;
 use std::alloc::Global;
 use std::marker::Model;
+use supply::{Given, Supply};
 
 /// What a line asks the machine for.
 #[derive(Drop)]
@@ -82,19 +86,34 @@ impl Model for Script {
 }
 
 impl Script {
-    /// The script that a text is, else the first line that breaks a rule and the first rule that it breaks.
-    ///
-    /// Rule 1: the first word is unknown. 2: a wrong number of words. 3: a bad number or other word, or a line of more than
-    /// 1,024 bytes or not of UTF-8. 4: a configuration line after an action. 5: a rule of configurations is broken. 6, before
-    /// all others of its line: the first line with words is no `storage` line; line 1 where no line has words.
+    /// The script that a text is, as `read_with` reads it, in what room the allocator has.
     pub fn read(alloc: Global, text: &[u8]) -> Result<Script, ScriptBad>
         ensures good { IfOk result (λ s. IsScript (lines_of text.now) s) }
         ensures bad { IfErr result (λ b. BadAt b (lines_of text.now)) }
     {
-        let Ok(lines) = pieces(alloc, text, b'\n') else {
+        Script::read_with(alloc, &mut Given { refused: false }, text)
+    }
+
+    /// The script that a text is, else the first line that breaks a rule and the first rule that it breaks. There is no
+    /// memory only where the supply refused a growth.
+    ///
+    /// Rule 1: the first word is unknown. 2: a wrong number of words. 3: a bad number or other word, or a line of more than
+    /// 1,024 bytes or not of UTF-8. 4: a configuration line after an action. 5: a rule of configurations is broken. 6, before
+    /// all others of its line: the first line with words is no `storage` line; line 1 where no line has words.
+    pub fn read_with<S: Supply>(
+        alloc: Global,
+        supply: &mut S,
+        text: &[u8],
+    ) -> Result<Script, ScriptBad>
+        ensures good { IfOk result (λ s. IsScript (lines_of text.now) s) }
+        ensures bad { IfErr result (λ b. BadAt b (lines_of text.now)) }
+        ensures given { OnOk result (S.refused supply.new ≡ S.refused supply.old) }
+        ensures memory { result ≡ Err ScriptBad.NoMemory → S.refused supply.new ≡ true }
+    {
+        let Ok(lines) = pieces(alloc, supply, text, b'\n') else {
             return Err(ScriptBad::NoMemory);
         };
-        script_of(alloc, lines.as_slice())
+        script_of(alloc, supply, lines.as_slice())
     }
 
     /// The configuration.
@@ -121,14 +140,16 @@ impl Script {
 }
 
 /// The script that these lines are.
-fn script_of(alloc: Global, lines: &[&[u8]]) -> Result<Script, ScriptBad>
+fn script_of<S: Supply>(alloc: Global, supply: &mut S, lines: &[&[u8]]) -> Result<Script, ScriptBad>
     ensures good { IfOk result (λ s. IsScript (map (λ l. l.now) lines.now) s) }
     ensures bad { IfErr result (λ b. BadAt b (map (λ l. l.now) lines.now)) }
+    ensures given { OnOk result (S.refused supply.new ≡ S.refused supply.old) }
+    ensures memory { result ≡ Err ScriptBad.NoMemory → S.refused supply.new ≡ true }
 {
     if !some_have_words(lines) {
         return Err(ScriptBad::Bad { line: 1, rule: 6 });
     }
-    let draft = draft_of(alloc, lines)?;
+    let draft = draft_of(alloc, supply, lines)?;
     Ok(Script {
         config: draft.config,
         lines: draft.lines,

@@ -1,6 +1,6 @@
 //! What one line says.
 
-ghost use Rattle.std.specs.Prelude.{◌≡◌, map, MatchResult, Ok};
+ghost use Rattle.std.specs.Prelude.{◌≡◌, map, true, OnOk, MatchResult, Ok, Err};
 ghost use Rattle.std.specs.Str.{is_utf8};
 ghost use Rattle.script.specs.Saying as spec;
 ghost use Rattle.script.specs.Reading.{FaultOf};
@@ -12,6 +12,7 @@ use crate::settings::{Setting, setting_row};
 use crate::words::LineFault;
 use std::alloc::Global;
 use std::str::from_utf8;
+use supply::Supply;
 
 /// The most bytes that a line has, without its line feed.
 const LINE_BYTES: usize = 1024;
@@ -25,13 +26,15 @@ pub enum Said {
 }
 
 /// What the words of a line say: by the first of them.
-fn words_say(alloc: Global, words: &[&[u8]]) -> Result<Said, LineFault>
-    ensures { MatchResult result (λ s. spec.words_say (map (λ w. w.now) words.now) ≡ Ok s) (λ f. FaultOf f (spec.words_say (map (λ w. w.now) words.now))) }
+fn words_say<S: Supply>(alloc: Global, supply: &mut S, words: &[&[u8]]) -> Result<Said, LineFault>
+    ensures says { MatchResult result (λ s. spec.words_say (map (λ w. w.now) words.now) ≡ Ok s) (λ f. FaultOf f (spec.words_say (map (λ w. w.now) words.now))) }
+    ensures given { OnOk result (S.refused supply.new ≡ S.refused supply.old) }
+    ensures memory { result ≡ Err LineFault.NoMemory → S.refused supply.new ≡ true }
 {
     let [first, others @ ..] = words else {
         return Err(LineFault::Rule(1));
     };
-    match setting_row(alloc, first, others) {
+    match setting_row(alloc, supply, first, others) {
         Some(Ok(setting)) => Ok(Said::Sets(setting)),
         Some(Err(fault)) => Err(fault),
         None => match action_row(first, others) {
@@ -62,8 +65,10 @@ fn is_text(line: &[u8]) -> bool
 }
 
 /// What a line says, or the first of the rules 1 to 3 that it breaks.
-pub fn say(alloc: Global, line: &[u8]) -> Result<Said, LineFault>
-    ensures { MatchResult result (λ s. spec.said line.now ≡ Ok s) (λ f. FaultOf f (spec.said line.now)) }
+pub fn say<S: Supply>(alloc: Global, supply: &mut S, line: &[u8]) -> Result<Said, LineFault>
+    ensures says { MatchResult result (λ s. spec.said line.now ≡ Ok s) (λ f. FaultOf f (spec.said line.now)) }
+    ensures given { OnOk result (S.refused supply.new ≡ S.refused supply.old) }
+    ensures memory { result ≡ Err LineFault.NoMemory → S.refused supply.new ≡ true }
 {
     if line.len() > LINE_BYTES || !is_text(line) {
         return Err(LineFault::Rule(3));
@@ -71,8 +76,8 @@ pub fn say(alloc: Global, line: &[u8]) -> Result<Said, LineFault>
     if !has_words(line) {
         return Ok(Said::Nothing);
     }
-    let Ok(words) = pieces(alloc, line, b' ') else {
+    let Ok(words) = pieces(alloc, supply, line, b' ') else {
         return Err(LineFault::NoMemory);
     };
-    words_say(alloc, words.as_slice())
+    words_say(alloc, supply, words.as_slice())
 }

@@ -1,6 +1,6 @@
 //! The lines that configure a machine.
 
-ghost use Rattle.std.specs.Prelude.{◌≡◌, map, MatchOption, MatchResult, Some, None, Ok, Err};
+ghost use Rattle.std.specs.Prelude.{◌≡◌, ◌≢◌, map, true, IfSome, OnOk, MatchOption, MatchResult, Some, None, Ok, Err};
 ghost use Rattle.script.specs.Settings as spec;
 ghost use Rattle.script.specs.Reading.{FaultOf, Says};
 ghost use Rattle.channel_config.specs.Refusing.{Configures};
@@ -9,6 +9,7 @@ use crate::words::{LineFault, Numbers, number, numbers_of, one, subchannel, two}
 use channel_config::config::{Config, ConfigFault};
 use channel_config::parts::UnitKind;
 use std::alloc::Global;
+use supply::Supply;
 
 /// What a line says of the configuration.
 #[derive(Drop)]
@@ -81,8 +82,10 @@ fn unit_row(words: &[&[u8]]) -> Result<Setting, u8>
     Ok(Setting::Unit { number: unit, kind })
 }
 
-fn sub_row(alloc: Global, words: &[&[u8]]) -> Result<Setting, LineFault>
-    ensures { MatchResult result (λ s. spec.sub_row (map (λ w. w.now) words.now) ≡ Ok s) (λ f. FaultOf f (spec.sub_row (map (λ w. w.now) words.now))) }
+fn sub_row<S: Supply>(alloc: Global, supply: &mut S, words: &[&[u8]]) -> Result<Setting, LineFault>
+    ensures says { MatchResult result (λ s. spec.sub_row (map (λ w. w.now) words.now) ≡ Ok s) (λ f. FaultOf f (spec.sub_row (map (λ w. w.now) words.now))) }
+    ensures given { OnOk result (S.refused supply.new ≡ S.refused supply.old) }
+    ensures memory { result ≡ Err LineFault.NoMemory → S.refused supply.new ≡ true }
 {
     match words {
         [] => Err(LineFault::Rule(2)),
@@ -92,7 +95,7 @@ fn sub_row(alloc: Global, words: &[&[u8]]) -> Result<Setting, LineFault>
             let word = subchannel(word).ok_or(LineFault::Rule(3))?;
             let device = number(device).ok_or(LineFault::Rule(3))?;
             let unit = number(unit).ok_or(LineFault::Rule(3))?;
-            let paths = numbers_of(alloc, paths)?;
+            let paths = numbers_of(alloc, supply, paths)?;
             Ok(Setting::Subchannel {
                 word,
                 device,
@@ -105,7 +108,8 @@ fn sub_row(alloc: Global, words: &[&[u8]]) -> Result<Setting, LineFault>
 
 /// The rule of a line that is not taken.
 fn ruled(said: Result<Setting, u8>) -> Result<Setting, LineFault>
-    ensures { Says result (Some said) }
+    ensures says { Says result (Some said) }
+    ensures never { result ≢ Err LineFault.NoMemory }
 {
     match said {
         Ok(setting) => Ok(setting),
@@ -114,12 +118,15 @@ fn ruled(said: Result<Setting, u8>) -> Result<Setting, LineFault>
 }
 
 /// What a line's words say of the configuration, where its first word is one of a configuration line.
-pub fn setting_row(
+pub fn setting_row<S: Supply>(
     alloc: Global,
+    supply: &mut S,
     word: &[u8],
     words: &[&[u8]],
 ) -> Option<Result<Setting, LineFault>>
-    ensures { MatchOption result (spec.setting_row word.now (map (λ w. w.now) words.now) ≡ None) (λ s. Says s (spec.setting_row word.now (map (λ w. w.now) words.now))) }
+    ensures says { MatchOption result (spec.setting_row word.now (map (λ w. w.now) words.now) ≡ None) (λ s. Says s (spec.setting_row word.now (map (λ w. w.now) words.now))) }
+    ensures given { MatchOption result (S.refused supply.new ≡ S.refused supply.old) (λ s. OnOk s (S.refused supply.new ≡ S.refused supply.old)) }
+    ensures memory { IfSome result (λ s. s ≡ Err LineFault.NoMemory → S.refused supply.new ≡ true) }
 {
     if word == b"storage".as_slice() {
         return Some(ruled(storage_row(words)));
@@ -134,25 +141,31 @@ pub fn setting_row(
         return Some(ruled(unit_row(words)));
     }
     if word == b"sub".as_slice() {
-        return Some(sub_row(alloc, words));
+        return Some(sub_row(alloc, supply, words));
     }
     None
 }
 
 /// Takes a setting. A setting that is refused changes nothing.
-pub fn configure(config: &mut Config, setting: &Setting) -> Result<(), ConfigFault>
-    ensures { Configures config.old config.new result (spec.configured config.old setting.now) }
+pub fn configure<S: Supply>(
+    supply: &mut S,
+    config: &mut Config,
+    setting: &Setting,
+) -> Result<(), ConfigFault>
+    ensures does { Configures config.old config.new result (spec.configured config.old setting.now) }
+    ensures given { OnOk result (S.refused supply.new ≡ S.refused supply.old) }
+    ensures memory { result ≡ Err ConfigFault.NoMemory → S.refused supply.new ≡ true }
 {
     match setting {
         Setting::Storage { blocks } => config.storage(*blocks),
         Setting::Sets { count } => config.sets(*count),
-        Setting::Path { chpid } => config.path(*chpid),
-        Setting::Unit { number, kind } => config.unit(*number, *kind),
+        Setting::Path { chpid } => config.path_with(supply, *chpid),
+        Setting::Unit { number, kind } => config.unit_with(supply, *number, *kind),
         Setting::Subchannel {
             word,
             device,
             unit,
             paths,
-        } => config.subchannel(*word, *device, *unit, paths.as_slice()),
+        } => config.subchannel_with(supply, *word, *device, *unit, paths.as_slice()),
     }
 }

@@ -1,7 +1,7 @@
 //! Scripts that are right and wrong line by line, and the text of each reply and refusal.
 
-use crate::text::{bad_line, event_line, refusal_text, reply_text};
-use crate::{Action, Script, ScriptBad, Told};
+use crate::text::{put_refusal, put_reply};
+use crate::{Action, Script, ScriptBad};
 use bitflags::Flags;
 use chan_model::chunk::Chunk;
 use chan_model::event::{Event, Instruction};
@@ -12,8 +12,8 @@ use chan_model::signal::{Down, Load, Up};
 use scsw_irb::scsw::{ActivityControl, DeferredCode, FunctionControl, Scsw, StatusControl};
 use scsw_irb::serials::Serials;
 use scsw_irb::status::{DeviceStatus, SubchannelStatus};
-use std::alloc::AllocError;
 use storage_keys::StorageFault;
+use streams::Watched;
 
 const RIGHT: &[u8] =
     b"# a machine\n\nstorage 10\nsets 2\npath 10\npath fF\nunit 0 block\nsub 0 0100 0 10 FF\nsub 00030000 0101 0 10\nput 500 c1C2\nenable 0 7 1\ncpu f enable 30000 0 0\nssch 0001 500\ncpu 1 ssch 00001 500\ntsch 0 600\nchoose 0\n#\nup 0 1\ndown 0 12345678\ndev 3FF\nglance 3";
@@ -217,7 +217,7 @@ fn down(signal: Down) -> Reply {
 }
 
 #[test]
-fn replies_are_shown(rt: HostRuntime) -> Result<(), AllocError> {
+fn replies_are_shown(rt: HostRuntime) {
     let serials = Serials {
         made: 1,
         cleared: 0,
@@ -351,18 +351,17 @@ fn replies_are_shown(rt: HostRuntime) -> Result<(), AllocError> {
         ),
     ];
     for (reply, text) in &rows {
-        let mut out = Vec::new(rt.alloc());
-        reply_text(&mut out, reply)?;
-        assert_eq!(rt; out.as_slice(), *text);
+        let mut sink = Watched::new(Vec::new(rt.alloc()));
+        assert!(rt; put_reply(&mut sink, reply));
+        assert_eq!(rt; sink.writer.as_slice(), *text);
     }
-    Ok(())
 }
 
 #[test]
-fn replies_with_a_path_are_shown(rt: HostRuntime) -> Result<(), AllocError> {
+fn replies_with_a_path_are_shown(rt: HostRuntime) {
     let (Some(first), Some(last)) = (Path::new(0), Path::new(7)) else {
         assert!(rt; false, "the paths are in range");
-        return Ok(());
+        return;
     };
     let offered = Reply::Offered {
         number: 3,
@@ -383,15 +382,14 @@ fn replies_with_a_path_are_shown(rt: HostRuntime) -> Result<(), AllocError> {
         (halt, b"halt 7"),
     ];
     for (reply, text) in &rows {
-        let mut out = Vec::new(rt.alloc());
-        reply_text(&mut out, reply)?;
-        assert_eq!(rt; out.as_slice(), *text);
+        let mut sink = Watched::new(Vec::new(rt.alloc()));
+        assert!(rt; put_reply(&mut sink, reply));
+        assert_eq!(rt; sink.writer.as_slice(), *text);
     }
-    Ok(())
 }
 
 #[test]
-fn refusals_are_shown(rt: HostRuntime) -> Result<(), AllocError> {
+fn refusals_are_shown(rt: HostRuntime) {
     let rows: [(Fault, &[u8]); 13] = [
         (Fault::NoMemory, b"refused 1"),
         (Fault::WireFull, b"refused 2"),
@@ -417,27 +415,8 @@ fn refusals_are_shown(rt: HostRuntime) -> Result<(), AllocError> {
         (Fault::Operand, b"refused 11"),
     ];
     for (refusal, text) in rows {
-        let mut out = Vec::new(rt.alloc());
-        refusal_text(&mut out, &refusal)?;
-        assert_eq!(rt; out.as_slice(), text);
+        let mut sink = Watched::new(Vec::new(rt.alloc()));
+        assert!(rt; put_refusal(&mut sink, &refusal));
+        assert_eq!(rt; sink.writer.as_slice(), text);
     }
-    Ok(())
-}
-
-#[test]
-fn lines_are_shown(rt: HostRuntime) -> Result<(), AllocError> {
-    let mut out = Vec::new(rt.alloc());
-    event_line(&mut out, 5, &Ok(Told::Reply(Reply::Done)))?;
-    let serials = Serials {
-        made: 12,
-        cleared: 9,
-    };
-    event_line(&mut out, 6, &Ok(Told::Serials(serials)))?;
-    event_line(&mut out, 1_000, &Err(Fault::Operand))?;
-    bad_line(&mut out, 9, 2)?;
-    assert_eq!(rt;
-        out.as_slice(),
-        b"5 done\n6 made 12 cleared 9\n1000 refused 11\nbad line 9 rule 2\n".as_slice()
-    );
-    Ok(())
 }

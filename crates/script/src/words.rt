@@ -1,12 +1,13 @@
 //! What a word of a line stands for.
 
-ghost use Rattle.std.specs.Prelude.{◌≡◌, ◌<◌, ◌≤◌, [], ◌∷◌, ◌++◌, map, length, IfSome, OnOk, IfErr, MatchOption, MatchResult, Some, None, Ok, Err};
+ghost use Rattle.std.specs.Prelude.{◌≡◌, ◌<◌, ◌≤◌, [], ◌∷◌, ◌++◌, map, length, true, IfSome, OnOk, IfErr, MatchOption, MatchResult, Some, None, Ok, Err};
 ghost use Rattle.script.specs.Words as spec;
 ghost use Rattle.script.specs.Reading.{FaultOf};
 
 use chan_model::chunk::Chunk;
-use std::alloc::{AllocFailed, Global};
+use std::alloc::{AllocError, Global};
 use std::marker::Model;
+use supply::{Supply, push};
 
 /// Why a line is not taken.
 #[derive(Clone, Copy, Debug, PartialEq, Eq)]
@@ -17,13 +18,13 @@ pub enum LineFault {
     Rule(u8),
 }
 
-impl<T: Drop> From<AllocFailed<T>> for LineFault {
+impl From<AllocError> for LineFault {
     ghost use Rattle.std.specs.Prelude.{◌≡◌};
     ghost use Rattle.script.specs.declared.words.LineFault.TheVariants.{NoMemory};
 
     ghost from_gives = { λ _ fault. fault ≡ NoMemory };
 
-    fn from(_: AllocFailed<T>) -> Self {
+    fn from(_: AllocError) -> Self {
         LineFault::NoMemory
     }
 }
@@ -53,11 +54,13 @@ impl Numbers {
     }
 
     /// One number more.
-    pub fn push(&mut self, number: u32) -> Result<(), LineFault>
+    pub fn push<S: Supply>(&mut self, supply: &mut S, number: u32) -> Result<(), LineFault>
         ensures ok { OnOk result (self.new ≡ self.old ++ number ∷ []) }
         ensures err { IfErr result (λ f. (f ≡ LineFault.NoMemory) × (self.new ≡ self.old)) }
+        ensures given { OnOk result (S.refused supply.new ≡ S.refused supply.old) }
+        ensures memory { result ≡ Err LineFault.NoMemory → S.refused supply.new ≡ true }
     {
-        self.numbers.push(number)?;
+        push(supply, &mut self.numbers, number)?;
         Ok(())
     }
 
@@ -119,13 +122,19 @@ pub fn number_up_to(most: u32, word: &[u8]) -> Option<u32>
 }
 
 /// The numbers of all these words, or rule 3.
-pub fn numbers_of(alloc: Global, words: &[&[u8]]) -> Result<Numbers, LineFault>
-    ensures { MatchResult result (λ ns. spec.numbers_of (map (λ w. w.now) words.now) ≡ Some ns) (λ f. FaultOf f (spec.or_rule_3 (spec.numbers_of (map (λ w. w.now) words.now)))) }
+pub fn numbers_of<S: Supply>(
+    alloc: Global,
+    supply: &mut S,
+    words: &[&[u8]],
+) -> Result<Numbers, LineFault>
+    ensures says { MatchResult result (λ ns. spec.numbers_of (map (λ w. w.now) words.now) ≡ Some ns) (λ f. FaultOf f (spec.or_rule_3 (spec.numbers_of (map (λ w. w.now) words.now)))) }
+    ensures given { OnOk result (S.refused supply.new ≡ S.refused supply.old) }
+    ensures memory { result ≡ Err LineFault.NoMemory → S.refused supply.new ≡ true }
 {
     let mut found = Numbers::new(alloc);
     for word in words {
         match number(word) {
-            Some(n) => found.push(n)?,
+            Some(n) => found.push(supply, n)?,
             None => return Err(LineFault::Rule(3)),
         }
     }

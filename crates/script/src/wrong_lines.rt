@@ -2,6 +2,7 @@
 
 use crate::{Script, ScriptBad};
 use std::alloc::AllocError;
+use supply::{Given, Refusing};
 
 const WRONG: [(&[u8], u64, u8); 74] = [
     (b"", 1, 6),
@@ -109,6 +110,58 @@ fn a_line_is_at_most_1024_bytes(rt: HostRuntime) -> Result<(), AllocError> {
                 assert_eq!(rt; bad, ScriptBad::Bad { line: 2, rule: 3 });
             }
         }
+    }
+    Ok(())
+}
+
+/// Every growth that reading meets: of lines, words, numbers, paths, units, subchannels and actions.
+const GROWING: &[u8] =
+    b"storage 10\npath 10\npath FF\nunit 0 block\nsub 0 0100 0 10 FF\nput 500 C1\nglance 0";
+
+#[test]
+fn each_growth_is_refused_in_turn(rt: HostRuntime) {
+    let mut counted = Refusing {
+        left: 1_000,
+        refused: false,
+    };
+    assert!(rt; Script::read_with(rt.alloc(), &mut counted, GROWING).is_ok());
+    let growths = 1_000u64.wrapping_sub(counted.left);
+    assert!(rt; growths > 20);
+    for left in 0..=growths {
+        let mut supply = Refusing {
+            left,
+            refused: false,
+        };
+        match Script::read_with(rt.alloc(), &mut supply, GROWING) {
+            Ok(_) => assert!(rt; left == growths && !supply.refused),
+            Err(bad) => {
+                assert!(rt; left < growths && supply.refused);
+                assert_eq!(rt; bad, ScriptBad::NoMemory);
+            }
+        }
+        let mut supply = Given { refused: false };
+        match Script::read_with(rt.alloc(), &mut supply, GROWING) {
+            Ok(script) => assert_eq!(rt; script.lines().len(), 2),
+            Err(_) => assert!(rt; false, "the allocator has room"),
+        }
+    }
+}
+
+#[test]
+fn a_script_of_many_lines_is_read(rt: HostRuntime) -> Result<(), AllocError> {
+    let mut text = Vec::new(rt.alloc());
+    text.extend_from_slice(b"storage 10\n")?;
+    for _ in 0..70_000 {
+        text.push(b'\n')?;
+    }
+    text.extend_from_slice(b"dev 0\n")?;
+    match Script::read(rt.alloc(), text.as_slice()) {
+        Ok(script) => {
+            let lines = script.lines();
+            assert_eq!(rt; lines.len(), 1);
+            assert_eq!(rt; lines[0].number, 70_002);
+        }
+        Err(_) => assert!(rt; false, "the text is right"),
     }
     Ok(())
 }

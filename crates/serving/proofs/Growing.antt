@@ -1,17 +1,16 @@
 -- One more line performed and written.
-use Rattle.std.proofs.Common.{◌≡◌, ℕ, ◌+◌, Bool, IsTrue, true, false, ◌||◌, List, [], ◌∷◌, ◌++◌, length, take, map, refl, subst, sym, ap, ◌∙◌, append-nil, append_assoc, suc, arith, ◌<◌, ◌≤◌, get_or}
-use Rattle.std.specs.Prelude.{Option, is_err}
+use Rattle.std.proofs.Common.{◌≡◌, ℕ, ◌+◌, Bool, true, false, not, ◌||◌, List, [], ◌∷◌, ◌++◌, length, take, map, refl, subst, sym, ap, ◌∙◌, append-nil, append_assoc, suc, arith, ◌<◌, ◌≤◌, get_or}
+use Rattle.std.specs.Prelude.{zero, Some, slice_get, is_err}
 use Rattle.std.specs.List.{list_any}
-use Rattle.std.proofs.Math.Seq.{take-append-add}
 use Rattle.std.proofs.lemmas.List.{take_all, take_more}
 use Rattle.std.proofs.KnownBytes.{Appends-trans}
-use Rattle.std.specs.Io.KnownBytes.{Appends}
 use Rattle.script.specs.declared.Action.{Action}
 use Rattle.script.specs.Text.{event_line}
 use Rattle.script.specs.declared.Line.{Line}
 use Rattle.serving.specs.declared.performing.Written.{Written}
 use Rattle.serving.specs.Acting.{Installed, Outcome, Acts, Runs}
-use Rattle.serving.specs.Performing.{output_of, IsDone, HasPerformed, HasBegun, Performs}
+use Rattle.streams.specs.Sinks.{Seen, Takes, Puts}
+use Rattle.serving.specs.Performing.{output_of, IsDone, HasPerformed, HasStopped}
 
 pub runs-more : (old : Installed) (es : List Action) (os : List Outcome) (middle : Installed) (e : Action) (o : Outcome) (new : Installed)
     → Runs old es os middle → Acts middle e o new → Runs old (es ++ e ∷ []) (os ++ o ∷ []) new
@@ -54,63 +53,61 @@ pub actions-more : (ls : List Line) (l : Line) → map (λ (k : Line). k.action)
 actions-more [] l = refl
 actions-more (m ∷ ls) l = ap (λ (t : List Action). m.action ∷ t) (actions-more ls l)
 
-pub performed_more : (old middle new : Installed) (ls : List Line) (l : Line) (held then now : Option (List ℕ)) (a : Bool) (r : Written)
-    → HasPerformed old ls held then a middle → IsDone middle l then now r new → IsTrue r.whole → HasPerformed old (ls ++ l ∷ []) held now (a || r.refused) new
-performed_more old middle new ls l held then now a r h t w = record {
-  outcomes = h.outcomes ++ t.outcome ∷ [];
-  runs = subst (λ (es : List Action). Runs old es (h.outcomes ++ t.outcome ∷ []) new) (sym (actions-more ls l))
-      (runs-more old (map (λ k. k.action) ls) h.outcomes middle l.action t.outcome new h.runs t.acts);
-  refused = refused-more h.outcomes t.outcome a r.refused h.refused t.refused;
-  written = subst (Appends held now) (sym (output-more ls h.outcomes l t.outcome (runs-length old ls h.outcomes middle h.runs)))
-      (Appends-trans held then now _ _ h.written (t.whole w));
+takes-more : (held then now : Seen) (xs ys : List ℕ) → Takes held xs then → Takes then ys now → Takes held (xs ++ ys) now
+takes-more held then now xs ys a b = record {
+  bytes = Appends-trans held.bytes then.bytes now.bytes xs ys a.bytes b.bytes;
+  failed = b.failed ∙ a.failed;
 }
 
-pub begun_more : (old middle new : Installed) (ls : List Line) (l : Line) (held then now : Option (List ℕ)) (a : Bool) (r : Written)
-    → HasPerformed old ls held then a middle → IsDone middle l then now r new → HasBegun old (ls ++ l ∷ []) held now (a || r.refused) new
-begun_more old middle new ls l held then now a r h t = record {
-  outcomes = h.outcomes ++ t.outcome ∷ [];
-  runs = subst (λ (es : List Action). Runs old es (h.outcomes ++ t.outcome ∷ []) new) (sym (actions-more ls l))
-      (runs-more old (map (λ k. k.action) ls) h.outcomes middle l.action t.outcome new h.runs t.acts);
-  refused = refused-more h.outcomes t.outcome a r.refused h.refused t.refused;
-  written = (
-    length (output_of ls h.outcomes) + t.part.0,
-    subst (λ (text : List ℕ). Appends held now (take (length (output_of ls h.outcomes) + t.part.0) text))
-        (sym (output-more ls h.outcomes l t.outcome (runs-length old ls h.outcomes middle h.runs)))
-        (subst (Appends held now) (sym (take-append-add (output_of ls h.outcomes) (event_line l.number t.outcome) t.part.0))
-        (Appends-trans held then now _ _ h.written t.part.1)),
-  );
-}
-
-pub begun_of : (old new : Installed) (ls : List Line) (held now : Option (List ℕ)) (a : Bool) → HasPerformed old ls held now a new → HasBegun old ls held now a new
-begun_of old new ls held now a h = record {
-  outcomes = h.outcomes;
-  runs = h.runs;
-  refused = h.refused;
-  written = (length (output_of ls h.outcomes), subst (Appends held now) (sym (take_all (length (output_of ls h.outcomes)) (output_of ls h.outcomes) (omega arith))) h.written);
+performed_more : (old middle new : Installed) (ls : List Line) (l : Line) (held then now : Seen) (a : Bool) (r : Written) (o : Outcome)
+    → HasPerformed old ls held then a middle → Acts middle l.action o new → r.refused ≡ is_err o → Takes then (event_line l.number o) now
+    → HasPerformed old (ls ++ l ∷ []) held now (a || r.refused) new
+performed_more old middle new ls l held then now a r o h acts refused took = record {
+  outcomes = h.outcomes ++ o ∷ [];
+  runs = subst (λ (es : List Action). Runs old es (h.outcomes ++ o ∷ []) new) (sym (actions-more ls l))
+      (runs-more old (map (λ k. k.action) ls) h.outcomes middle l.action o new h.runs acts);
+  refused = refused-more h.outcomes o a r.refused h.refused refused;
+  written = subst (λ (text : List ℕ). Takes held text now) (sym (output-more ls h.outcomes l o (runs-length old ls h.outcomes middle h.runs)))
+      (takes-more held then now (output_of ls h.outcomes) (event_line l.number o) h.written took);
 }
 
 pub grown : (ls : List Line) (i : ℕ) (l : Line) → i < length ls → l ≡ get_or ls i l → take (i + 1) ls ≡ take i ls ++ l ∷ []
 grown ls i l lt is = take_more ls i l lt ∙ ap (λ (k : Line). take i ls ++ k ∷ []) (sym is)
 
-pub performed_to : (old middle new : Installed) (ls : List Line) (i : ℕ) (l : Line) (held then now : Option (List ℕ)) (a : Bool) (r : Written)
-    → i < length ls → l ≡ get_or ls i l → HasPerformed old (take i ls) held then a middle → IsDone middle l then now r new → IsTrue r.whole
+pub performed_to : (old middle new : Installed) (ls : List Line) (i : ℕ) (l : Line) (held then now : Seen) (a : Bool) (r : Written)
+    → i < length ls → l ≡ get_or ls i l → HasPerformed old (take i ls) held then a middle → IsDone middle l then now r new → r.whole ≡ true
     → HasPerformed old (take (i + 1) ls) held now (a || r.refused) new
-performed_to old middle new ls i l held then now a r lt is h t w =
+performed_to old middle new ls i l held then now a r lt is h t whole =
     subst (λ (ks : List Line). HasPerformed old ks held now (a || r.refused) new) (sym (grown ls i l lt is))
-    (performed_more old middle new (take i ls) l held then now a r h t w)
+    (performed_more old middle new (take i ls) l held then now a r t.outcome h t.acts t.refused
+    (subst (λ (w : Bool). Puts then (event_line l.number t.outcome) now w) whole t.prints))
 
-pub begun_to : (old middle new : Installed) (ls : List Line) (i : ℕ) (l : Line) (held then now : Option (List ℕ)) (a : Bool) (r : Written)
-    → i < length ls → l ≡ get_or ls i l → HasPerformed old (take i ls) held then a middle → IsDone middle l then now r new
-    → HasBegun old (take (i + 1) ls) held now (a || r.refused) new
-begun_to old middle new ls i l held then now a r lt is h t =
-    subst (λ (ks : List Line). HasBegun old ks held now (a || r.refused) new) (sym (grown ls i l lt is))
-    (begun_more old middle new (take i ls) l held then now a r h t)
+pub whole_if : (b : Bool) → not b ≡ false → b ≡ true
+whole_if true e = refl
+whole_if false e = absurd (cc e)
 
-pub performs_all : (old new : Installed) (ls : List Line) (i : ℕ) (held now : Option (List ℕ)) (a : Bool) → length ls ≤ i
-    → HasPerformed old (take i ls) held now a new → Performs old ls held now (record { done = length ls; whole = true; refused = a }) new
-performs_all old new ls i held now a le h =
-    let all : HasPerformed old ls held now a new = subst (λ (ks : List Line). HasPerformed old ks held now a new) (take_all i ls le) h in
-    let same : take (length ls) ls ≡ ls = take_all (length ls) ls (omega arith) in
-    let begun : HasBegun old (take (length ls) ls) held now a new = subst (λ (ks : List Line). HasBegun old ks held now a new) (sym same) (begun_of old new ls held now a all) in
-    let within : length ls ≤ length ls = omega arith in
-    ((λ w. all), (within, begun))
+line_at : (ls : List Line) (i : ℕ) (l : Line) → i < length ls → l ≡ get_or ls i l → slice_get ls i ≡ Some l
+line_at [] i l within e = absurd (omega (arith, within))
+line_at (m ∷ ms) zero l within e = ap (λ z. Some z) (sym e)
+line_at (m ∷ ms) (suc i) l within e = line_at ms i l (omega (arith, within)) e
+
+pub stopped_at : (old middle new : Installed) (ls : List Line) (i : ℕ) (l : Line) (held then now : Seen) (a : Bool) (r : Written)
+    → i < length ls → l ≡ get_or ls i l → HasPerformed old (take i ls) held then a middle → IsDone middle l then now r new → r.whole ≡ false
+    → HasStopped old ls held now (a || r.refused) new
+stopped_at old middle new ls i l held then now a r lt is h t e = record {
+  done = i;
+  last = l;
+  there = line_at ls i l lt is;
+  middle = middle;
+  between = then;
+  earlier = a;
+  written = r;
+  performed = h;
+  stopped = t;
+  printed = e;
+  refused = refl;
+}
+
+pub performed_all : (old new : Installed) (ls : List Line) (i : ℕ) (held now : Seen) (a : Bool) → length ls ≤ i
+    → HasPerformed old (take i ls) held now a new → HasPerformed old ls held now a new
+performed_all old new ls i held now a le h = subst (λ (ks : List Line). HasPerformed old ks held now a new) (take_all i ls le) h

@@ -1,5 +1,5 @@
 -- What the actions of a script come to at a channel subsystem with its devices.
-use Rattle.std.specs.Prelude.{◌≡◌, ℕ, ◌⊎◌, List, [], ◌∷◌, ◌++◌, length, map, replicate, slice_get, slice_set, Option, None, Some, Result, Ok, Err}
+use Rattle.std.specs.Prelude.{◌≡◌, ◌≤◌, ◌+◌, ℕ, List, [], ◌∷◌, ◌++◌, length, map, replicate, slice_get, slice_set, Option, None, Some, Result, Ok, Err}
 use Rattle.chan_model.specs.declared.event.Event.{Event}
 use Rattle.chan_model.specs.declared.event.Event.TheVariants as event
 use Rattle.chan_model.specs.declared.fault.Fault.{Fault}
@@ -14,7 +14,9 @@ use Rattle.chan_model.specs.declared.report.Work.TheVariants as work
 use Rattle.channel_config.specs.Setup.{Setup}
 use Rattle.device_models.specs.AnyDevices.{device_of, answer_of, after}
 use Rattle.device_models.specs.declared.any_device.AnyDevice.{AnyDevice}
-use Rattle.machine_model.specs.State.{Past, opening_of, unit_turn_of, sub_of, serials_in}
+use Rattle.machine_model.specs.Ruled.{GoesByRule}
+use Rattle.path_select.specs.Choice.{TakesNext}
+use Rattle.machine_model.specs.State.{Past, IsAsBefore, LacksRoom, opening_of, unit_turn_of, sub_of, serials_in}
 use Rattle.machine_model.specs.Steps.{Step, IsRefused}
 use Rattle.machine_model.specs.declared.state.UnitTurn.{UnitTurn}
 use Rattle.machine_model.specs.declared.state.UnitTurn.TheVariants.{Takes, Works, Away, Rests}
@@ -40,15 +42,19 @@ pub record Installed : Type 0 where
 
 abbrev pub opening : Setup → Installed
 opening setup = record {
-  past = record { state = opening_of setup; history = [] };
+  past = record { state = opening_of setup; history = []; room = 0 };
   devices = map device_of setup.units;
   kept = replicate (length setup.units) None;
 }
 
--- an event: a step, which the history keeps with its reply; or a refusal, which changes nothing
+-- an event: a step by the path that follows the last one, which the history keeps with its reply; or a refusal, after which
+-- all is as before. Want of memory comes only where the history had no room, or no number was left.
 abbrev pub Enters : Past → Event → Result Reply Fault → Past → Type 0
-Enters old e (Ok r) new = Step old.state e r new.state × (new.history ≡ old.history ++ record { event = e; reply = r } ∷ [])
-Enters old e (Err f) new = ((f ≡ fault.NoMemory) ⊎ IsRefused old.state e f) × (new ≡ old)
+Enters old e (Ok r) new =
+    Step old.state e r new.state × GoesByRule TakesNext old.state e (Ok r) new.state
+    × (new.history ≡ old.history ++ record { event = e; reply = r } ∷ []) × (old.room ≤ new.room + 1)
+Enters old e (Err fault.NoMemory) new = LacksRoom old new
+Enters old e (Err f) new = IsRefused old.state e f × GoesByRule TakesNext old.state e (Err f) new.state × IsAsBefore old new
 
 -- A turn of a device: the report that is to be handed in, or why there is none; and the devices, of which one may be called.
 pub record Turn : Type 0 where

@@ -1,7 +1,7 @@
 -- What performing the actions of a script does and writes.
-use Rattle.std.specs.Prelude.{◌≡◌, ℕ, ◌≤◌, Bool, IsTrue, List, [], ◌∷◌, ◌++◌, length, take, map, Option, is_err}
+use Rattle.std.specs.Prelude.{◌≡◌, ℕ, Bool, true, false, ◌||◌, List, [], ◌∷◌, ◌++◌, take, map, slice_get, Some, is_err}
 use Rattle.std.specs.List.{list_any}
-use Rattle.std.specs.Io.KnownBytes.{Appends}
+use Rattle.streams.specs.Sinks.{Seen, Takes, Puts}
 use Rattle.script.specs.Text.{event_line}
 use Rattle.script.specs.declared.Line.{Line}
 use Rattle.serving.specs.declared.performing.Written.{Written}
@@ -14,30 +14,38 @@ output_of [] rs = []
 output_of (line ∷ lines) [] = []
 output_of (line ∷ lines) (r ∷ rs) = event_line line.number r ++ output_of lines rs
 
--- one line: its action, and what it prints in the writer, or a beginning of that
-pub record IsDone (old : Installed) (line : Line) (held now : Option (List ℕ)) (written : Written) (new : Installed) : Type 0 where
+-- one line: its action, and what it prints
+pub record IsDone (old : Installed) (line : Line) (held now : Seen) (written : Written) (new : Installed) : Type 0 where
   pub outcome : Outcome
   pub acts : Acts old line.action outcome new
   pub refused : written.refused ≡ is_err outcome
-  pub whole : IsTrue written.whole → Appends held now (event_line line.number outcome)
-  pub part : (k : ℕ) × Appends held now (take k (event_line line.number outcome))
+  pub prints : Puts held (event_line line.number outcome) now written.whole
 
 -- the actions of these lines came to these outcomes, and all that they print is written
-pub record HasPerformed (old : Installed) (lines : List Line) (held now : Option (List ℕ)) (some_refused : Bool) (new : Installed) : Type 0 where
+pub record HasPerformed (old : Installed) (lines : List Line) (held now : Seen) (some_refused : Bool) (new : Installed) : Type 0 where
   pub outcomes : List Outcome
   pub runs : Runs old (map (λ l. l.action) lines) outcomes new
   pub refused : some_refused ≡ list_any is_err outcomes
-  pub written : Appends held now (output_of lines outcomes)
+  pub written : Takes held (output_of lines outcomes) now
 
--- the same, but a beginning of what they print is written
-pub record HasBegun (old : Installed) (lines : List Line) (held now : Option (List ℕ)) (some_refused : Bool) (new : Installed) : Type 0 where
-  pub outcomes : List Outcome
-  pub runs : Runs old (map (λ l. l.action) lines) outcomes new
-  pub refused : some_refused ≡ list_any is_err outcomes
-  pub written : (k : ℕ) × Appends held now (take k (output_of lines outcomes))
+-- the lines before one were performed and all that they print is written; that one was performed, and the sink failed
+-- within its print
+pub record HasStopped (old : Installed) (lines : List Line) (held now : Seen) (some_refused : Bool) (new : Installed) : Type 0 where
+  pub done : ℕ
+  pub last : Line
+  pub there : slice_get lines done ≡ Some last
+  pub middle : Installed
+  pub between : Seen
+  pub earlier : Bool
+  pub written : Written
+  pub performed : HasPerformed old (take done lines) held between earlier middle
+  pub stopped : IsDone middle last between now written new
+  pub printed : written.whole ≡ false
+  pub refused : some_refused ≡ (earlier || written.refused)
 
--- all lines were performed; or only the first of them, up to the one at which the writer failed
-abbrev pub Performs : Installed → List Line → Option (List ℕ) → Option (List ℕ) → Performed → Installed → Type 0
-Performs old lines held now r new =
-    (IsTrue r.whole → HasPerformed old lines held now r.refused new)
-    × ((r.done ≤ length lines) × HasBegun old (take r.done lines) held now r.refused new)
+abbrev pub PerformsTo : Bool → Installed → List Line → Seen → Seen → Bool → Installed → Type 0
+PerformsTo true old lines held now refused new = HasPerformed old lines held now refused new
+PerformsTo false old lines held now refused new = HasStopped old lines held now refused new
+
+abbrev pub Performs : Installed → List Line → Seen → Seen → Performed → Installed → Type 0
+Performs old lines held now r new = PerformsTo r.whole old lines held now r.refused new

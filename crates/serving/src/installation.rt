@@ -1,6 +1,6 @@
 //! A channel subsystem with a device for each of its units.
 
-ghost use Rattle.std.specs.Prelude.{◌≡◌, IfOk, None, map, replicate, slice_get};
+ghost use Rattle.std.specs.Prelude.{◌≡◌, IfOk, None, OnErr, OnOk, map, replicate, slice_get, true};
 ghost use Rattle.serving.specs.Acting as spec;
 ghost use Rattle.serving.specs.Acting.{Acts, TakesTurn, HandsIn, kept_after, opening, glanced};
 ghost use Rattle.machine_model.specs.State.{sub_of, serials_in};
@@ -20,6 +20,7 @@ use script::{Action, Told};
 use std::alloc::{AllocError, Global};
 use std::marker::Model;
 use subsystem::subsystem::Subsystem;
+use supply::{Supply, push};
 
 /// A channel subsystem, with a device for each unit, and by unit the report that is still to be handed in: one for which there
 /// was no memory or no room on a wire.
@@ -39,13 +40,19 @@ impl Model for Installation {
 }
 
 impl Installation {
-    /// An installation at its opening.
-    pub fn new(alloc: Global, config: Config) -> Result<Installation, AllocError>
-        ensures { IfOk result (λ i. i ≡ opening config) }
+    /// An installation at its opening. It is not made only where the supply refused a growth.
+    pub fn new<S: Supply>(
+        alloc: Global,
+        supply: &mut S,
+        config: Config,
+    ) -> Result<Installation, AllocError>
+        ensures made { IfOk result (λ i. i ≡ opening config) }
+        ensures given { OnOk result (S.refused supply.new ≡ S.refused supply.old) }
+        ensures memory { OnErr result (S.refused supply.new ≡ true) }
     {
-        let devices = opening_devices(alloc, config.units())?;
-        let kept = no_reports(alloc, config.units().len())?;
-        match Subsystem::new(alloc, config, Rotating) {
+        let devices = opening_devices(alloc, supply, config.units())?;
+        let kept = no_reports(alloc, supply, config.units().len())?;
+        match Subsystem::new_with(alloc, supply, config, Rotating) {
             Ok(subsystem) => Ok(Installation {
                 subsystem,
                 devices,
@@ -116,7 +123,7 @@ impl Installation {
         };
         let outcome = self.subsystem.step(&event);
         if let Some(kept) = self.kept.get_mut(unit as usize) {
-            *kept = kept_of(report, &outcome);
+            *kept = kept_of(&report, &outcome);
         }
         outcome
     }
@@ -133,33 +140,45 @@ fn told_of(came: Result<Reply, Fault>) -> Result<Told, Fault>
 }
 
 /// What is kept of a report that was handed in.
-fn kept_of(report: Report, outcome: &Result<Reply, Fault>) -> Option<Report>
-    ensures { result ≡ kept_after report outcome.now }
+fn kept_of(report: &Report, outcome: &Result<Reply, Fault>) -> Option<Report>
+    ensures { result ≡ kept_after report.now outcome.now }
 {
     match outcome {
-        Err(Fault::NoMemory | Fault::WireFull) => Some(report),
+        Err(Fault::NoMemory | Fault::WireFull) => Some(report.copy()),
         _ => None,
     }
 }
 
 /// No report is kept for so many units.
-fn no_reports(alloc: Global, count: usize) -> Result<Vec<Option<Report>>, AllocError>
-    ensures { IfOk result (λ kept. kept.items ≡ replicate count None) }
+fn no_reports<S: Supply>(
+    alloc: Global,
+    supply: &mut S,
+    count: usize,
+) -> Result<Vec<Option<Report>>, AllocError>
+    ensures none { IfOk result (λ kept. kept.items ≡ replicate count None) }
+    ensures given { OnOk result (S.refused supply.new ≡ S.refused supply.old) }
+    ensures memory { OnErr result (S.refused supply.new ≡ true) }
 {
     let mut kept = Vec::new(alloc);
     for _ in 0..count {
-        kept.push(None)?;
+        push(supply, &mut kept, None)?;
     }
     Ok(kept)
 }
 
 /// The device of each unit, at its opening.
-fn opening_devices(alloc: Global, kinds: &[UnitKind]) -> Result<Vec<AnyDevice>, AllocError>
-    ensures { IfOk result (λ devices. devices.items ≡ map device_of kinds.now) }
+fn opening_devices<S: Supply>(
+    alloc: Global,
+    supply: &mut S,
+    kinds: &[UnitKind],
+) -> Result<Vec<AnyDevice>, AllocError>
+    ensures opened { IfOk result (λ devices. devices.items ≡ map device_of kinds.now) }
+    ensures given { OnOk result (S.refused supply.new ≡ S.refused supply.old) }
+    ensures memory { OnErr result (S.refused supply.new ≡ true) }
 {
     let mut devices = Vec::new(alloc);
     for kind in kinds {
-        devices.push(AnyDevice::of(*kind))?;
+        push(supply, &mut devices, AnyDevice::of(*kind))?;
     }
     Ok(devices)
 }

@@ -1,35 +1,33 @@
 //! Serving a script: its actions are performed at a channel subsystem with devices, and what each prints is written.
 #![tactic(auto)]
 
-ghost use Rattle.std.specs.Prelude.{◌≡◌, ◌⊎◌};
-ghost use Rattle.serving.specs.Serving.{Serves, Checks, IsRun, IsApproved, IsTold, TellsNoMemory, status_of};
+ghost use Rattle.std.specs.Prelude.{◌≡◌, true};
+ghost use Rattle.serving.specs.declared.Ending.TheVariants as ending;
+ghost use Rattle.serving.specs.Serving.{Serves, Checks, IsForMemory, IsRun, IsApproved, IsTold, TellsNoMemoryBy, status_of};
 
 pub mod installation;
 pub mod performing;
 
 use crate::installation::Installation;
 use crate::performing::{Performed, perform};
-use script::text::bad_line;
+use script::text::put_bad_line;
 use script::{Script, ScriptBad};
 use std::alloc::Global;
-use std::io::{Read, Write};
-use streams::{NoText, put_all, read_all};
-
-/// The most bytes that one line prints.
-const LINE_BYTES: usize = 1024;
+use streams::{NoText, Sink, Source};
+use supply::{Given, Supply};
 
 /// How the program ended.
 #[derive(Clone, Copy, Debug, PartialEq, Eq)]
 pub enum Ending {
     /// The text could not be read; nothing was written.
     NotRead,
-    /// The text is no script.
-    Bad,
+    /// The text is no script; `whole` says that the line that tells so was written whole, or else the sink failed.
+    Bad { whole: bool },
     /// There was no memory before the first event.
-    NoMemory,
+    NoMemory { whole: bool },
     /// All was done and written; `refused` says that some event was refused.
     Done { refused: bool },
-    /// The writer failed; what it took is a beginning of what was to be written.
+    /// The sink failed, within the print of the last action that was performed.
     Stopped { refused: bool },
 }
 
@@ -39,64 +37,92 @@ impl Ending {
         ensures { result ≡ status_of self }
     {
         match self {
-            Ending::NotRead | Ending::Bad => 2,
+            Ending::NotRead | Ending::Bad { .. } => 2,
             Ending::Done { refused: false } => 0,
-            Ending::NoMemory | Ending::Done { refused: true } | Ending::Stopped { .. } => 1,
+            Ending::NoMemory { .. } | Ending::Done { refused: true } | Ending::Stopped { .. } => 1,
         }
     }
 }
 
-/// Reads a script and performs its actions, each of which prints one line. Where there is no memory before the first event,
-/// `refused 1` is written alone, without a line's number.
-pub fn serve_script<R: Read, W: Write>(alloc: Global, reader: &mut R, writer: &mut W) -> Ending
-    ensures { Serves (R.remaining reader.old) (W.contents writer.old) (W.contents writer.new) result }
+/// Reads a script and performs its actions, as `serve_script_with` does, in what room the allocator has.
+pub fn serve_script<R: Source, S: Sink>(alloc: Global, reader: &mut R, sink: &mut S) -> Ending
+    ensures ends { Serves (R.left reader.old) (S.seen sink.old) (S.seen sink.new) result }
+    ensures read { result ≡ ending.NotRead → R.broken reader.new ≡ true }
 {
-    let text = match read_all(alloc, reader) {
+    serve_script_with(alloc, &mut Given { refused: false }, reader, sink)
+}
+
+/// Reads a script and performs its actions, each of which prints one line. Where there is no memory before the first event,
+/// and only where the supply refused a growth, `refused 1` is written alone, without a line's number.
+pub fn serve_script_with<M: Supply, R: Source, S: Sink>(
+    alloc: Global,
+    supply: &mut M,
+    reader: &mut R,
+    sink: &mut S,
+) -> Ending
+    ensures ends { Serves (R.left reader.old) (S.seen sink.old) (S.seen sink.new) result }
+    ensures read { result ≡ ending.NotRead → R.broken reader.new ≡ true }
+    ensures memory { IsForMemory result → M.refused supply.new ≡ true }
+{
+    let text = match reader.all_with(alloc, supply) {
         Ok(text) => text,
         Err(NoText::ReadFailed) => return Ending::NotRead,
-        Err(NoText::OutOfMemory) => return no_memory(writer),
+        Err(NoText::OutOfMemory) => return no_memory(sink),
     };
-    match Script::read(alloc, text.as_slice()) {
-        Ok(script) => run_script(alloc, script, writer),
-        Err(ScriptBad::NoMemory) => no_memory(writer),
-        Err(ScriptBad::Bad { line, rule }) => tell_bad(alloc, line, rule, writer),
+    match Script::read_with(alloc, supply, text.as_slice()) {
+        Ok(script) => run_script(alloc, supply, script, sink),
+        Err(ScriptBad::NoMemory) => no_memory(sink),
+        Err(ScriptBad::Bad { line, rule }) => tell_bad(line, rule, sink),
     }
 }
 
-/// Reads a script and performs nothing: `script ok` is written where it is good.
-pub fn check_script<R: Read, W: Write>(alloc: Global, reader: &mut R, writer: &mut W) -> Ending
-    ensures { Checks (R.remaining reader.old) (W.contents writer.old) (W.contents writer.new) result }
+/// Reads a script and performs nothing, as `check_script_with` does, in what room the allocator has.
+pub fn check_script<R: Source, S: Sink>(alloc: Global, reader: &mut R, sink: &mut S) -> Ending
+    ensures ends { Checks (R.left reader.old) (S.seen sink.old) (S.seen sink.new) result }
+    ensures read { result ≡ ending.NotRead → R.broken reader.new ≡ true }
 {
-    let text = match read_all(alloc, reader) {
+    check_script_with(alloc, &mut Given { refused: false }, reader, sink)
+}
+
+/// Reads a script and performs nothing: `script ok` is written where it is good. There is no memory only where the supply
+/// refused a growth.
+pub fn check_script_with<M: Supply, R: Source, S: Sink>(
+    alloc: Global,
+    supply: &mut M,
+    reader: &mut R,
+    sink: &mut S,
+) -> Ending
+    ensures ends { Checks (R.left reader.old) (S.seen sink.old) (S.seen sink.new) result }
+    ensures read { result ≡ ending.NotRead → R.broken reader.new ≡ true }
+    ensures memory { IsForMemory result → M.refused supply.new ≡ true }
+{
+    let text = match reader.all_with(alloc, supply) {
         Ok(text) => text,
         Err(NoText::ReadFailed) => return Ending::NotRead,
-        Err(NoText::OutOfMemory) => return no_memory(writer),
+        Err(NoText::OutOfMemory) => return no_memory(sink),
     };
-    match Script::read(alloc, text.as_slice()) {
-        Ok(_) => approve(writer),
-        Err(ScriptBad::NoMemory) => no_memory(writer),
-        Err(ScriptBad::Bad { line, rule }) => tell_bad(alloc, line, rule, writer),
+    match Script::read_with(alloc, supply, text.as_slice()) {
+        Ok(_) => approve(sink),
+        Err(ScriptBad::NoMemory) => no_memory(sink),
+        Err(ScriptBad::Bad { line, rule }) => tell_bad(line, rule, sink),
     }
 }
 
 /// Performs a good script.
-fn run_script<W: Write>(alloc: Global, script: Script, writer: &mut W) -> Ending
-    ensures { IsRun script (W.contents writer.old) (W.contents writer.new) result }
+fn run_script<M: Supply, S: Sink>(
+    alloc: Global,
+    supply: &mut M,
+    script: Script,
+    sink: &mut S,
+) -> Ending
+    ensures ends { IsRun script (S.seen sink.old) (S.seen sink.new) result }
+    ensures memory { IsForMemory result → M.refused supply.new ≡ true }
 {
     let (config, lines) = script.into_parts();
-    let mut out = Vec::new(alloc);
-    if out.reserve(LINE_BYTES).is_err() {
-        return no_memory(writer);
-    }
-    let Ok(mut installation) = Installation::new(alloc, config) else {
-        return no_memory(writer);
+    let Ok(mut installation) = Installation::new(alloc, supply, config) else {
+        return no_memory(sink);
     };
-    let Performed { whole, refused, .. } = perform(
-        &mut installation,
-        lines.as_slice(),
-        &mut out,
-        writer,
-    );
+    let Performed { whole, refused } = perform(&mut installation, lines.as_slice(), sink);
     if whole {
         Ending::Done { refused }
     } else {
@@ -105,11 +131,10 @@ fn run_script<W: Write>(alloc: Global, script: Script, writer: &mut W) -> Ending
 }
 
 /// Writes that a script is good.
-fn approve<W: Write>(writer: &mut W) -> Ending
-    ensures { IsApproved (W.contents writer.old) (W.contents writer.new) result }
+fn approve<S: Sink>(sink: &mut S) -> Ending
+    ensures { IsApproved (S.seen sink.old) (S.seen sink.new) result }
 {
-    let text = b"script ok\n";
-    if put_all(writer, text) == text.len() {
+    if sink.put(b"script ok\n") {
         Ending::Done { refused: false }
     } else {
         Ending::Stopped { refused: false }
@@ -117,22 +142,17 @@ fn approve<W: Write>(writer: &mut W) -> Ending
 }
 
 /// Writes the line of a bad script.
-fn tell_bad<W: Write>(alloc: Global, line: u64, rule: u8, writer: &mut W) -> Ending
-    ensures { IsTold line rule (W.contents writer.old) (W.contents writer.new) result }
+fn tell_bad<S: Sink>(line: u64, rule: u8, sink: &mut S) -> Ending
+    ensures { IsTold line rule (S.seen sink.old) (S.seen sink.new) result }
 {
-    let mut out = Vec::new(alloc);
-    if bad_line(&mut out, line, rule).is_err() {
-        return no_memory(writer);
-    }
-    let _ = put_all(writer, out.as_slice());
-    Ending::Bad
+    let whole = put_bad_line(sink, line, rule);
+    Ending::Bad { whole }
 }
 
 /// Writes that there is no memory.
-fn no_memory<W: Write>(writer: &mut W) -> Ending
-    ensures ending { result ≡ Ending.NoMemory }
-    ensures told { TellsNoMemory (W.contents writer.old) (W.contents writer.new) }
+fn no_memory<S: Sink>(sink: &mut S) -> Ending
+    ensures { TellsNoMemoryBy (S.seen sink.old) (S.seen sink.new) result }
 {
-    let _ = put_all(writer, b"refused 1\n");
-    Ending::NoMemory
+    let whole = sink.put(b"refused 1\n");
+    Ending::NoMemory { whole }
 }

@@ -1,78 +1,63 @@
 //! Performing the actions of a script, line by line.
 
-ghost use Rattle.std.specs.Prelude.{◌≡◌, ◌<◌, false};
 ghost use Rattle.serving.specs.Performing.{IsDone, Performs};
 
 use crate::installation::Installation;
 use script::Line;
-use script::text::event_line;
-use std::io::Write;
-use streams::put_all;
+use script::held::Held;
+use script::text::put_event_line_at_once;
+use streams::Sink;
 
-/// Whether the line of an action was written whole, and whether the action was refused.
+/// What came of the line of an action.
 #[derive(Clone, Copy, Debug)]
 pub struct Written {
+    /// It was written whole; otherwise the sink failed within it.
     pub whole: bool,
+    /// The action was refused.
     pub refused: bool,
 }
 
-/// How many lines were performed, whether all they print was written, and whether some action was refused.
+/// What came of the lines that were performed.
 #[derive(Clone, Copy, Debug)]
 pub struct Performed {
-    pub done: usize,
+    /// All of them were performed and written; otherwise the sink failed within the print of the last that was performed.
     pub whole: bool,
+    /// Some action was refused.
     pub refused: bool,
 }
 
-/// Performs one line and writes what it prints.
-fn perform_one<W: Write>(
+/// Performs one line and writes what it prints, through a place of its own.
+fn perform_one<S: Sink>(
     installation: &mut Installation,
     line: &Line,
-    out: &mut Vec<u8>,
-    writer: &mut W,
+    held: &mut Held,
+    sink: &mut S,
 ) -> Written
-    ensures { IsDone installation.old line.now (W.contents writer.old) (W.contents writer.new) result installation.new }
+    ensures { IsDone installation.old line.now (S.seen sink.old) (S.seen sink.new) result installation.new }
 {
     let outcome = installation.act(&line.action);
     let refused = outcome.is_err();
-    out.clear();
-    if event_line(out, line.number, &outcome).is_err() {
-        return Written {
-            whole: false,
-            refused,
-        };
-    }
-    let done = put_all(writer, out.as_slice());
-    Written {
-        whole: done == out.len(),
-        refused,
-    }
+    let whole = put_event_line_at_once(sink, held, line.number, &outcome);
+    Written { whole, refused }
 }
 
-/// Performs the lines in order, up to the first whose print is not written whole. `out` is the room for one line's print.
-pub fn perform<W: Write>(
-    installation: &mut Installation,
-    lines: &[Line],
-    out: &mut Vec<u8>,
-    writer: &mut W,
-) -> Performed
-    ensures performs { Performs installation.old lines.now (W.contents writer.old) (W.contents writer.new) result installation.new }
-    ensures tried { result.whole ≡ false → 0 < result.done }
+/// Performs the lines in order, up to the first whose print is not written whole.
+pub fn perform<S: Sink>(installation: &mut Installation, lines: &[Line], sink: &mut S) -> Performed
+    ensures { Performs installation.old lines.now (S.seen sink.old) (S.seen sink.new) result installation.new }
 {
+    let mut held = Held::new();
     let mut refused = false;
-    for (i, line) in lines.iter().enumerate() {
-        let written = perform_one(installation, line, out, writer);
+    for line in lines {
+        let written = perform_one(installation, line, &mut held, sink);
         refused = refused | written.refused;
         if !written.whole {
             return Performed {
-                done: i + 1,
                 whole: false,
                 refused,
             };
         }
     }
     Performed {
-        done: lines.len(),
         whole: true,
         refused,
     }

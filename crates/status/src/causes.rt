@@ -7,10 +7,10 @@ ghost use Rattle.machine_model.specs.Causes as spec;
 ghost use Rattle.machine_model.specs.Statuses as status_spec;
 
 use crate::shown::{
-    channel_end_shown, conditions, earlier_end_shown, fetch_fault_shown, last_end_shown,
-    no_path_shown, shows_primary, with_status,
+    add_status, channel_end_shown, conditions, earlier_end_shown, fetch_fault_shown,
+    last_end_shown, no_path_shown, shows_primary,
 };
-use crate::testing::without_programs;
+use crate::testing::end_programs;
 use chan_model::status::Shown;
 use machine_model::cause::Cause;
 use machine_model::state::{Begun, Program, SubchannelState};
@@ -202,70 +202,62 @@ pub(crate) fn shown_of(state: &SubchannelState, cause: &Cause) -> Shown
 }
 
 /// The program that was begun is over, or where none was the one that was to be.
-fn without_begun(state: &SubchannelState) -> SubchannelState
-    ensures { result ≡ spec.without_begun state.now.begun state.now }
+fn end_begun(state: &mut SubchannelState)
+    ensures { state.new ≡ spec.without_begun state.old.begun state.old }
 {
-    let mut next = *state;
-    if next.begun.is_some() {
-        next.begun = None;
+    if state.begun.is_some() {
+        state.begun = None;
     } else {
-        next.waiting = None;
-        next.suspended = None;
+        state.waiting = None;
+        state.suspended = None;
     }
-    next
 }
 
 /// The program that waits is over, or where none waits the suspended one.
-fn without_waiting(state: &SubchannelState) -> SubchannelState
-    ensures { result ≡ spec.without_waiting state.now.waiting state.now }
+fn end_waiting(state: &mut SubchannelState)
+    ensures { state.new ≡ spec.without_waiting state.old.waiting state.old }
 {
-    let mut next = *state;
-    if next.waiting.is_some() {
-        next.waiting = None;
+    if state.waiting.is_some() {
+        state.waiting = None;
     } else {
-        next.suspended = None;
+        state.suspended = None;
     }
-    next
 }
 
 /// A program that showed its primary status with channel end alone: nothing is chained to its command.
-fn has_shown(begun: &Begun) -> Begun
-    ensures { result ≡ status_spec.has_shown begun.now }
+fn show_primary(begun: &mut Begun)
+    ensures { begun.new ≡ status_spec.has_shown begun.old }
 {
-    let mut next = *begun;
-    next.primary_shown = true;
-    next.transfer.ended = true;
-    next.transfer.unchained = true;
-    next
+    begun.primary_shown = true;
+    begun.transfer.ended = true;
+    begun.transfer.unchained = true;
 }
 
-fn after_end(state: &SubchannelState, begun: &Begun, last: bool) -> SubchannelState
-    ensures { result ≡ spec.after_end state.now begun.now last }
+fn leave_end(state: &mut SubchannelState, begun: &Begun, last: bool)
+    ensures { state.new ≡ spec.after_end state.old begun.now last }
 {
     if last {
-        return without_programs(*state);
+        end_programs(state);
+        return;
     }
-    let mut next = *state;
-    next.begun = Some(has_shown(begun));
-    next
+    let mut next = *begun;
+    show_primary(&mut next);
+    state.begun = Some(next);
 }
 
-fn programs_left(state: &SubchannelState, cause: &Cause) -> SubchannelState
-    ensures state { result ≡ spec.programs_left state.now cause.now }
-    ensures counts { result.serials ≡ state.now.serials }
-    ensures enabled { result.pmcw.enabled ≡ state.now.pmcw.enabled }
+fn leave_programs(state: &mut SubchannelState, cause: &Cause)
+    ensures state { state.new ≡ spec.programs_left state.old cause.now }
+    ensures counts { state.new.serials ≡ state.old.serials }
+    ensures enabled { state.new.pmcw.enabled ≡ state.old.pmcw.enabled }
+    ensures word { state.new.scsw ≡ state.old.scsw }
 {
     match cause {
-        Cause::End { begun, status, .. } => after_end(state, begun, is_last_end(*status)),
-        Cause::FetchFault { .. } => without_begun(state),
-        Cause::Attention => {
-            let mut next = *state;
-            next.waiting = None;
-            next
-        }
-        Cause::NoPath => without_waiting(state),
-        Cause::InterfaceControlCheck | Cause::HaltDone => without_programs(*state),
-        Cause::Interruption { .. } | Cause::Suspension { .. } | Cause::ClearDone => *state,
+        Cause::End { begun, status, .. } => leave_end(state, begun, is_last_end(*status)),
+        Cause::FetchFault { .. } => end_begun(state),
+        Cause::Attention => state.waiting = None,
+        Cause::NoPath => end_waiting(state),
+        Cause::InterfaceControlCheck | Cause::HaltDone => end_programs(state),
+        Cause::Interruption { .. } | Cause::Suspension { .. } | Cause::ClearDone => {}
     }
 }
 
@@ -277,32 +269,25 @@ fn clear_scsw() -> Scsw
     scsw
 }
 
-fn without_intermediate(scsw: Scsw) -> Scsw
-    ensures { result ≡ spec.without_intermediate scsw }
-{
-    let mut scsw = scsw;
-    scsw.status.intermediate = false;
-    scsw
-}
-
 /// The status word that the status of a cause joins.
-fn joined_by(enabled: bool, scsw: Scsw, cause: &Cause) -> Scsw
-    ensures { result ≡ spec.joined_by enabled scsw cause.now }
+fn join_scsw(enabled: bool, scsw: &mut Scsw, cause: &Cause)
+    ensures { scsw.new ≡ spec.joined_by enabled scsw.old cause.now }
 {
     match cause {
-        Cause::ClearDone if enabled => clear_scsw(),
-        Cause::HaltDone if enabled => without_intermediate(scsw),
-        _ => scsw,
+        Cause::ClearDone if enabled => *scsw = clear_scsw(),
+        Cause::HaltDone if enabled => scsw.status.intermediate = false,
+        _ => {}
     }
 }
 
-/// The subchannel after a cause of status.
-pub(crate) fn with_cause(state: &SubchannelState, cause: &Cause) -> SubchannelState
-    requires { state.now.serials.made < 2 ^ 63 }
-    ensures state { result ≡ spec.with_cause state.now cause.now }
-    ensures made { result.serials ≡ chan_spec.serials_made state.now.pmcw.enabled state.now.serials }
+/// A cause of status.
+pub(crate) fn join(state: &mut SubchannelState, cause: &Cause)
+    requires { state.old.serials.made < 2 ^ 63 }
+    ensures state { state.new ≡ spec.with_cause state.old cause.now }
+    ensures made { state.new.serials ≡ chan_spec.serials_made state.old.pmcw.enabled state.old.serials }
 {
-    let mut next = programs_left(state, cause);
-    next.scsw = joined_by(state.pmcw.enabled, state.scsw, cause);
-    with_status(next, shown_of(state, cause))
+    let shown = shown_of(state, cause);
+    leave_programs(state, cause);
+    join_scsw(state.pmcw.enabled, &mut state.scsw, cause);
+    add_status(state, &shown);
 }

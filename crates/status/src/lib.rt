@@ -27,7 +27,7 @@ pub fn make_pending(state: &mut SubchannelState, cause: &Cause)
     ensures state { state.new ≡ cause_spec.with_cause state.old cause.now }
     ensures made { state.new.serials ≡ status_spec.serials_made state.old.pmcw.enabled state.old.serials }
 {
-    *state = causes::with_cause(state, cause);
+    causes::join(state, cause);
 }
 
 /// TEST SUBCHANNEL: the status word that is stored is the one before.
@@ -35,9 +35,9 @@ pub fn tsch(state: &mut SubchannelState) -> ConditionCode
     ensures code { result ≡ code_spec.tsch_code (condition_of state.old) }
     ensures state { state.new ≡ spec.left_by result state.old (spec.tested_wholly state.old) }
 {
-    let code = tsch_code(functions::codes::condition_of(*state));
+    let code = tsch_code(functions::codes::condition_of(state));
     if code == ConditionCode::Zero {
-        *state = testing::tested_wholly(*state);
+        testing::test_wholly(state);
     }
     code
 }

@@ -8,80 +8,61 @@ use chan_model::status::Shown;
 use channel_program::check::Check;
 use machine_model::state::{Begun, SubchannelState};
 use scsw_irb::scsw::{ActivityControl, DeferredCode, FunctionControl, Scsw, StatusControl};
-use scsw_irb::serials::Serials;
 use scsw_irb::status::{DeviceStatus, SubchannelStatus};
 
-/// The subchannel after a status is made pending. One that is not enabled gets none, but its activity changes.
-pub(crate) fn with_status(state: SubchannelState, shown: Shown) -> SubchannelState
-    requires { state.serials.made < 2 ^ 63 }
-    ensures { result ≡ spec.with_status state shown }
+/// A status is made pending. A subchannel that is not enabled gets none, but its activity changes.
+pub(crate) fn add_status(state: &mut SubchannelState, shown: &Shown)
+    requires { state.old.serials.made < 2 ^ 63 }
+    ensures { state.new ≡ spec.with_status state.old shown.now }
 {
-    SubchannelState {
-        scsw: scsw_made(state.pmcw.enabled, state.scsw, shown),
-        serials: serials_made(state.pmcw.enabled, state.serials),
-        ..state
-    }
-}
-
-fn serials_made(enabled: bool, serials: Serials) -> Serials
-    requires { serials.made < 2 ^ 63 }
-    ensures { result ≡ status_spec.serials_made enabled serials }
-{
+    let enabled = state.pmcw.enabled;
+    make_scsw(enabled, &mut state.scsw, shown);
     if enabled {
-        Serials {
-            made: serials.made + 1,
-            ..serials
-        }
-    } else {
-        serials
+        state.serials.made += 1;
     }
 }
 
-fn scsw_made(enabled: bool, scsw: Scsw, shown: Shown) -> Scsw
-    ensures { result ≡ status_spec.scsw_made enabled scsw shown }
+fn make_scsw(enabled: bool, scsw: &mut Scsw, shown: &Shown)
+    ensures { scsw.new ≡ status_spec.scsw_made enabled scsw.old shown.now }
 {
     if !enabled {
-        let mut scsw = scsw;
         scsw.activity = shown.activity;
-        return scsw;
+        return;
     }
     if scsw.status.pending {
-        with_joined(
-            scsw,
-            scsw.status,
-            scsw.device_status,
-            scsw.subchannel_status,
-            shown,
-        )
+        let conditions = scsw.status;
+        let device = scsw.device_status;
+        let subchannel = scsw.subchannel_status;
+        join_scsw(scsw, conditions, device, subchannel, shown);
     } else {
-        with_joined(
+        join_scsw(
             scsw,
             StatusControl::none(),
             DeviceStatus::empty(),
             SubchannelStatus::empty(),
             shown,
-        )
+        );
     }
 }
 
-fn with_joined(
-    scsw: Scsw,
+fn join_scsw(
+    scsw: &mut Scsw,
     conditions: StatusControl,
     device: DeviceStatus,
     subchannel: SubchannelStatus,
-    shown: Shown,
-) -> Scsw
-    ensures { result ≡ status_spec.with_joined scsw conditions device subchannel shown }
+    shown: &Shown,
+)
+    ensures { scsw.new ≡ status_spec.with_joined scsw.old conditions device subchannel shown.now }
 {
-    let mut scsw = scsw;
     scsw.activity = shown.activity;
     scsw.status = joined_conditions(conditions, shown.conditions);
     scsw.device_status = device.joined(shown.device);
     scsw.subchannel_status = subchannel.joined(shown.subchannel);
-    scsw.deferred = shown.deferred.unwrap_or(scsw.deferred);
+    if let Some(deferred) = shown.deferred {
+        scsw.deferred = deferred;
+    }
     scsw.command_address = shown.command_address;
     scsw.count = shown.count;
-    scsw
 }
 
 fn joined_conditions(old: StatusControl, new: StatusControl) -> StatusControl

@@ -6,7 +6,7 @@ ghost use Rattle.machine_model.specs.Functions as whole_spec;
 ghost use Rattle.machine_model.specs.Instructions as spec;
 
 use functions::codes::is_intermediate_alone;
-use functions::effects::{serials_cleared, without_status};
+use functions::effects::{clear_serials, drop_scsw};
 use machine_model::state::SubchannelState;
 use scsw_irb::scsw::{ActivityControl, DeferredCode, FunctionControl, Scsw, StatusControl};
 
@@ -20,66 +20,60 @@ fn active_alone(activity: ActivityControl) -> ActivityControl
     }
 }
 
-fn ended_scsw(scsw: Scsw) -> Scsw
-    ensures { result ≡ status_spec.ended_scsw scsw }
+fn end_scsw(scsw: &mut Scsw)
+    ensures { scsw.new ≡ status_spec.ended_scsw scsw.old }
 {
-    let mut scsw = scsw;
     scsw.functions = FunctionControl::none();
     scsw.activity = active_alone(scsw.activity);
     scsw.status = StatusControl::none();
     scsw.path_not_operational = false;
     scsw.deferred = DeferredCode::Zero;
-    scsw
 }
 
-fn suspended_scsw(scsw: Scsw) -> Scsw
-    ensures { result ≡ status_spec.suspended_scsw scsw }
+fn suspend_scsw(scsw: &mut Scsw)
+    ensures { scsw.new ≡ status_spec.suspended_scsw scsw.old }
 {
-    let mut scsw = scsw;
     scsw.activity.resume_pending = false;
     scsw.status = StatusControl::none();
     scsw.path_not_operational = false;
     scsw.deferred = DeferredCode::Zero;
-    scsw
 }
 
-fn intermediate_cleared(scsw: Scsw) -> Scsw
-    ensures { result ≡ status_spec.intermediate_cleared scsw }
+fn clear_intermediate(scsw: &mut Scsw)
+    ensures { scsw.new ≡ status_spec.intermediate_cleared scsw.old }
 {
     if !scsw.activity.suspended {
-        without_status(scsw)
+        drop_scsw(scsw);
     } else if scsw.functions.halt {
-        ended_scsw(scsw)
+        end_scsw(scsw);
     } else {
-        suspended_scsw(scsw)
+        suspend_scsw(scsw);
     }
 }
 
-fn tested_scsw(scsw: Scsw) -> Scsw
-    ensures { result ≡ status_spec.tested_scsw scsw }
+fn test_scsw(scsw: &mut Scsw)
+    ensures { scsw.new ≡ status_spec.tested_scsw scsw.old }
 {
     if !scsw.status.pending {
-        scsw
-    } else if is_intermediate_alone(scsw.status) {
-        intermediate_cleared(scsw)
+        return;
+    }
+    if is_intermediate_alone(scsw.status) {
+        clear_intermediate(scsw);
     } else {
-        ended_scsw(scsw)
+        end_scsw(scsw);
     }
 }
 
-/// The status word and the counts after TEST SUBCHANNEL with code 0.
-pub(crate) fn tested(state: SubchannelState) -> SubchannelState
-    ensures { result ≡ spec.tested state }
+/// TEST SUBCHANNEL with code 0: the status word and the counts.
+pub(crate) fn clear_status(state: &mut SubchannelState)
+    ensures { state.new ≡ spec.tested state.old }
 {
-    SubchannelState {
-        scsw: tested_scsw(state.scsw),
-        serials: serials_cleared(state.serials),
-        ..state
-    }
+    test_scsw(&mut state.scsw);
+    clear_serials(&mut state.serials);
 }
 
-fn ends_suspended(scsw: Scsw) -> bool
-    ensures { result ≡ whole_spec.ends_suspended scsw }
+fn ends_suspended(scsw: &Scsw) -> bool
+    ensures { result ≡ whole_spec.ends_suspended scsw.now }
 {
     scsw.status.pending
         && is_intermediate_alone(scsw.status)
@@ -87,25 +81,22 @@ fn ends_suspended(scsw: Scsw) -> bool
         && scsw.functions.halt
 }
 
-/// The same subchannel, with all its programs over.
-pub(crate) fn without_programs(state: SubchannelState) -> SubchannelState
-    ensures { result ≡ whole_spec.without_programs state }
+/// All its programs are over.
+pub(crate) fn end_programs(state: &mut SubchannelState)
+    ensures { state.new ≡ whole_spec.without_programs state.old }
 {
-    SubchannelState {
-        waiting: None,
-        begun: None,
-        suspended: None,
-        ..state
-    }
+    state.waiting = None;
+    state.begun = None;
+    state.suspended = None;
 }
 
-/// The subchannel after TEST SUBCHANNEL with code 0.
-pub(crate) fn tested_wholly(state: SubchannelState) -> SubchannelState
-    ensures { result ≡ whole_spec.tested_wholly state }
+/// TEST SUBCHANNEL with code 0.
+pub(crate) fn test_wholly(state: &mut SubchannelState)
+    ensures { state.new ≡ whole_spec.tested_wholly state.old }
 {
-    if ends_suspended(state.scsw) {
-        without_programs(tested(state))
-    } else {
-        tested(state)
+    let ends = ends_suspended(&state.scsw);
+    clear_status(state);
+    if ends {
+        end_programs(state);
     }
 }

@@ -1,8 +1,7 @@
 //! Status words that are known from elsewhere, cause by cause.
 
-use crate::causes::{shown_of, with_cause};
+use crate::causes::shown_of;
 use crate::shown::chains_command;
-use crate::testing::{tested, tested_wholly};
 use crate::{law, make_pending, tsch};
 use ccw_walk::Walk;
 use chan_model::hold_state::{HoldPhase, HoldState};
@@ -390,7 +389,8 @@ fn a_subchannel_that_is_not_enabled(rt: HostRuntime) {
     state.pmcw.enabled = false;
     assert!(rt; shown_of(&state, &Cause::NoPath).activity == Scsw::zero().activity);
     if state.serials.made < 9 {
-        let next = with_cause(&state, &Cause::NoPath);
+        let mut next = state;
+        make_pending(&mut next, &Cause::NoPath);
         assert!(rt; is_same_words(&next, [0x0080_4000, 0x1000, 0]));
         assert!(rt; next.serials.made == 8 && next.waiting.is_none());
     }
@@ -433,8 +433,6 @@ fn intermediate_status_is_tested(rt: HostRuntime) {
         suspended: with_suspended([0; 3]).suspended,
         ..pending([0x0880_6229, 0x1008, 0])
     };
-    assert!(rt; is_same_words(&tested(halted), [0x0880_0000, 0x1008, 0]));
-    assert!(rt; tested_wholly(halted).waiting.is_none());
     assert!(rt; tsch(&mut halted) == ConditionCode::Zero);
     assert!(rt; is_same_words(&halted, [0x0880_0000, 0x1008, 0]));
     assert!(rt; halted.waiting.is_none() && halted.suspended.is_none());

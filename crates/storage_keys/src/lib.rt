@@ -1,8 +1,9 @@
 //! Main storage as a channel subsystem sees it: bytes, keys and prefixes (SA22-7832, chapter 3).
 #![tactic(auto)]
 
-ghost use Rattle.std.specs.Prelude.{◌≡◌, ℕ, ◌+◌, ◌-◌, ◌%◌, ◌^◌, ◌<◌, ◌≤◌, length, IsTrue, IfOk, IfErr, OnOk, OnErr, Ok, Err, min, map, slice_index, slice_range};
+ghost use Rattle.std.specs.Prelude.{◌≡◌, ℕ, ◌+◌, ◌-◌, ◌%◌, ◌^◌, ◌<◌, ◌≤◌, length, IsTrue, IfOk, IfErr, OnOk, OnErr, Ok, Err, min, map, replicate, slice_index, slice_range, true};
 ghost use Rattle.storage_keys.specs.Storage as spec;
+ghost use Rattle.supply.specs.Requests.{IsModest};
 
 pub mod key;
 pub mod law;
@@ -12,6 +13,7 @@ mod tests;
 use key::Key;
 use std::alloc::{AllocError, Global};
 use std::marker::Model;
+use supply::{Given, Supply};
 
 /// How many bytes have one key.
 const BLOCK: usize = 4096;
@@ -31,7 +33,7 @@ pub enum StorageFault {
 }
 
 /// Main storage: 16 to 4,096 blocks of 4,096 bytes, a key for each block, a prefix for each of
-/// 16 CPUs. No call after `new` takes memory.
+/// 16 CPUs. No call after `new` or `new_with` takes memory.
 #[derive(Drop)]
 pub struct Storage {
     bytes: Vec<u8>,
@@ -50,16 +52,32 @@ impl Model for Storage {
 }
 
 impl Storage {
-    /// Storage of so many blocks of 4,096 bytes: all bytes, keys and prefixes zero.
+    /// Storage of so many blocks of 4,096 bytes, in what room the allocator has: all bytes, keys and prefixes zero.
     pub fn new(alloc: Global, blocks: u32) -> Result<Storage, AllocError>
         requires least { 16 ≤ blocks }
         requires greatest { blocks ≤ 4096 }
         ensures { IfOk result (λ storage. storage ≡ spec.cleared blocks) }
     {
+        Storage::new_with(alloc, &mut Given { refused: false }, blocks)
+    }
+
+    /// Storage of so many blocks of 4,096 bytes: all bytes, keys and prefixes zero. Two requests for room; it is refused only
+    /// where the supply refused one.
+    pub fn new_with<S: Supply>(
+        alloc: Global,
+        supply: &mut S,
+        blocks: u32,
+    ) -> Result<Storage, AllocError>
+        requires least { 16 ≤ blocks }
+        requires greatest { blocks ≤ 4096 }
+        ensures cleared { IfOk result (λ storage. storage ≡ spec.cleared blocks) }
+        ensures given { OnOk result (S.refused supply.new ≡ S.refused supply.old) }
+        ensures memory { OnErr result (S.refused supply.new ≡ true) }
+    {
         let blocks = blocks as usize;
         Ok(Storage {
-            bytes: vec![in alloc; 0; BLOCK * blocks]?,
-            keys: vec![in alloc; Key::ZERO; blocks]?,
+            bytes: filled(alloc, supply, 0, BLOCK * blocks)?,
+            keys: filled(alloc, supply, Key::ZERO, blocks)?,
             prefixes: [0; 16],
         })
     }
@@ -378,6 +396,24 @@ impl Storage {
         let first = address as usize;
         self.bytes[first..first + bytes.len()].copy_from_slice(bytes);
     }
+}
+
+/// A list of so many of one item, which are at most 16,777,216.
+fn filled<S: Supply, T: Copy>(
+    alloc: Global,
+    supply: &mut S,
+    item: T,
+    count: usize,
+) -> Result<Vec<T>, AllocError>
+    requires modest { IsModest count }
+    ensures items { IfOk result (λ list. list.items ≡ replicate count item) }
+    ensures given { OnOk result (S.refused supply.new ≡ S.refused supply.old) }
+    ensures memory { OnErr result (S.refused supply.new ≡ true) }
+{
+    let mut list = Vec::new(alloc);
+    supply.reserve(&mut list, count)?;
+    list.resize(count, item).unwrap();
+    Ok(list)
 }
 
 /// How many of the bytes from a real address on lie in its area of 8,192 bytes.

@@ -2,6 +2,8 @@
 
 use crate::key::Key;
 use crate::{Storage, StorageFault};
+use std::alloc::Global;
+use supply::{Given, Refusing, Supply};
 
 const ADDRESSING: StorageFault = StorageFault::Addressing;
 
@@ -13,6 +15,33 @@ fn holds(storage: &Storage, key: u8, address: u32, bytes: &[u8]) -> bool {
     match storage.fetch(key, address, bytes.len()) {
         Ok(found) => found == bytes,
         Err(_) => false,
+    }
+}
+
+/// Whether storage of 16 blocks is there: its last byte is zero, and no byte follows.
+fn is_made<S: Supply>(alloc: Global, supply: &mut S) -> bool {
+    match Storage::new_with(alloc, supply, 16) {
+        Ok(storage) => {
+            holds(&storage, 15, 0xFFFF, &[0])
+                && storage.key_at(0xFFFF) == Ok(Key::ZERO)
+                && storage.key_at(0x1_0000) == Err(ADDRESSING)
+        }
+        Err(_) => false,
+    }
+}
+
+#[test]
+fn each_request_for_room_is_refused_in_turn(rt: HostRuntime) {
+    for left in 0..4 {
+        let mut supply = Refusing {
+            left,
+            refused: false,
+        };
+        assert_eq!(rt; is_made(rt.alloc(), &mut supply), left >= 2, "{left}");
+        assert_eq!(rt; supply.refused, left < 2, "{left}");
+        let mut supply = Given { refused: false };
+        assert!(rt; is_made(rt.alloc(), &mut supply), "{left}");
+        assert!(rt; !supply.refused, "{left}");
     }
 }
 

@@ -1,8 +1,10 @@
 //! Reading all there is, and writing all there is, where a contract says what a failure leaves.
-//! When a reader or a writer fails, no clause can say; the tests do.
+//! Of a reader or a writer no clause can say that it failed; of a `Source` or a `Sink` it can.
 #![tactic(auto)]
 
-ghost use Rattle.std.specs.Prelude.{◌≡◌, ◌≤◌, take, length, IfOk, OnOk, IfSome, IfNone};
+ghost use Rattle.streams.specs.Sinks.{Puts};
+ghost use Rattle.streams.specs.declared.NoText.TheVariants as no_text;
+ghost use Rattle.std.specs.Prelude.{Err, true, ◌≡◌, ◌≤◌, ◌++◌, false, take, length, IfOk, OnOk, IfSome, IfNone};
 ghost use Rattle.std.specs.Io.KnownBytes.{Appends, IsAtEnd, Keeps};
 
 #[cfg(test)]
@@ -10,6 +12,7 @@ mod tests;
 
 use std::alloc::Global;
 use std::io::{ErrorKind, Read, Write};
+use supply::{Given, Supply, extend};
 
 /// Why there is no text.
 #[derive(Clone, Copy, Debug, PartialEq, Eq)]
@@ -20,11 +23,25 @@ pub enum NoText {
     ReadFailed,
 }
 
-/// All that the reader has left. An interrupted read is tried again; what was read before a
-/// failure is lost.
+/// All that the reader has left, in what room the allocator has.
 pub fn read_all<R: Read>(alloc: Global, reader: &mut R) -> Result<Vec<u8>, NoText>
     ensures whole { IfOk result (λ text. IfSome (R.remaining reader.old) (λ bytes. text.items ≡ bytes)) }
     ensures end { OnOk result (IsAtEnd (R.remaining reader.new)) }
+{
+    read_all_with(alloc, &mut Given { refused: false }, reader)
+}
+
+/// All that the reader has left. An interrupted read is tried again; what was read before a
+/// failure is lost. There is no memory only where the supply refused a growth.
+pub fn read_all_with<R: Read, S: Supply>(
+    alloc: Global,
+    supply: &mut S,
+    reader: &mut R,
+) -> Result<Vec<u8>, NoText>
+    ensures whole { IfOk result (λ text. IfSome (R.remaining reader.old) (λ bytes. text.items ≡ bytes)) }
+    ensures end { OnOk result (IsAtEnd (R.remaining reader.new)) }
+    ensures given { OnOk result (S.refused supply.new ≡ S.refused supply.old) }
+    ensures memory { result ≡ Err no_text.OutOfMemory → S.refused supply.new ≡ true }
 {
     let mut text = Vec::new(alloc);
     let mut buffer = [0u8; 4096];
@@ -32,7 +49,7 @@ pub fn read_all<R: Read>(alloc: Global, reader: &mut R) -> Result<Vec<u8>, NoTex
         match reader.read(&mut buffer) {
             Ok(0) => return Ok(text),
             Ok(n) => {
-                if text.extend_from_slice(&buffer[..n]).is_err() {
+                if extend(supply, &mut text, &buffer[..n]).is_err() {
                     return Err(NoText::OutOfMemory);
                 }
             }
@@ -44,6 +61,51 @@ pub fn read_all<R: Read>(alloc: Global, reader: &mut R) -> Result<Vec<u8>, NoTex
         }
     }
     Err(NoText::ReadFailed)
+}
+
+/// Where bytes go. It takes all of them, or it has failed, and that can be seen from then on.
+pub trait Sink {
+    ghost use Rattle.streams.specs.Sinks.{Seen};
+
+    // What it holds, and whether it failed.
+    ghost seen: { Self → Seen };
+
+    /// Puts the bytes in, and answers whether all of them went in.
+    fn put(&mut self, bytes: &[u8]) -> bool
+        ensures { Puts (seen self.old) bytes.now (seen self.new) result };
+}
+
+/// A writer, and whether it failed.
+#[derive(Drop)]
+pub struct Watched<W: Write + Drop> {
+    pub writer: W,
+    /// The writer did not take all of a text.
+    pub failed: bool,
+}
+
+impl<W: Write + Drop> Watched<W> {
+    /// A writer that has not failed yet.
+    pub fn new(writer: W) -> Watched<W>
+        ensures writer { result.writer ≡ writer }
+        ensures failed { result.failed ≡ false }
+    {
+        Watched {
+            writer,
+            failed: false,
+        }
+    }
+}
+
+impl<W: Write + Drop> Sink for Watched<W> {
+    ghost seen = { λ w. record { bytes = W.contents w.writer; failed = w.failed } };
+
+    fn put(&mut self, bytes: &[u8]) -> bool {
+        if put_all(&mut self.writer, bytes) >= bytes.len() {
+            return true;
+        }
+        self.failed = true;
+        false
+    }
 }
 
 /// Writes the bytes, and answers how many of them were taken before the writer failed: all of them
@@ -82,5 +144,82 @@ fn put_some<W: Write>(writer: &mut W, bytes: &[u8]) -> Option<usize>
                 None
             }
         }
+    }
+}
+
+/// Puts two texts in, one after the other.
+#[tactic(auto, using(crate::proofs::Sinking::takes_then, crate::proofs::Sinking::fails_then))]
+pub fn put_both<S: Sink>(sink: &mut S, first: &[u8], second: &[u8]) -> bool
+    ensures { Puts (S.seen sink.old) (first.now ++ second.now) (S.seen sink.new) result }
+{
+    if !sink.put(first) {
+        return false;
+    }
+    sink.put(second)
+}
+
+/// Where a text comes from. That it failed can be seen from then on.
+pub trait Source {
+    ghost use Rattle.std.specs.Prelude.{ℕ, Bool, List, Option};
+
+    // What is left of it, where that is known.
+    ghost left: { Self → Option (List ℕ) };
+
+    // It failed.
+    ghost broken: { Self → Bool };
+
+    /// All that is left, in what room the allocator has.
+    fn all(&mut self, alloc: Global) -> Result<Vec<u8>, NoText>
+        ensures whole { IfOk result (λ text. IfSome (left self.old) (λ bytes. text.items ≡ bytes)) }
+        ensures kept { OnOk result (broken self.new ≡ broken self.old) }
+        ensures failed { result ≡ Err no_text.ReadFailed → broken self.new ≡ true };
+
+    /// All that is left. There is no memory only where the supply refused a growth.
+    fn all_with<S: Supply>(&mut self, alloc: Global, supply: &mut S) -> Result<Vec<u8>, NoText>
+    where
+        Self: Sized,
+        ensures whole { IfOk result (λ text. IfSome (left self.old) (λ bytes. text.items ≡ bytes)) }
+        ensures kept { OnOk result (broken self.new ≡ broken self.old) }
+        ensures failed { result ≡ Err no_text.ReadFailed → broken self.new ≡ true }
+        ensures given { OnOk result (S.refused supply.new ≡ S.refused supply.old) }
+        ensures memory { result ≡ Err no_text.OutOfMemory → S.refused supply.new ≡ true };
+}
+
+/// A reader, and whether it failed.
+#[derive(Drop)]
+pub struct Heard<R: Read + Drop> {
+    pub reader: R,
+    /// The reader failed.
+    pub broken: bool,
+}
+
+impl<R: Read + Drop> Heard<R> {
+    /// A reader that has not failed yet.
+    pub fn new(reader: R) -> Heard<R>
+        ensures reader { result.reader ≡ reader }
+        ensures broken { result.broken ≡ false }
+    {
+        Heard {
+            reader,
+            broken: false,
+        }
+    }
+}
+
+impl<R: Read + Drop> Source for Heard<R> {
+    ghost left = { λ h. R.remaining h.reader };
+
+    ghost broken = { λ h. h.broken };
+
+    fn all(&mut self, alloc: Global) -> Result<Vec<u8>, NoText> {
+        self.all_with(alloc, &mut Given { refused: false })
+    }
+
+    fn all_with<S: Supply>(&mut self, alloc: Global, supply: &mut S) -> Result<Vec<u8>, NoText> {
+        let read = read_all_with(alloc, supply, &mut self.reader);
+        if let Err(NoText::ReadFailed) = &read {
+            self.broken = true;
+        }
+        read
     }
 }

@@ -1,8 +1,9 @@
 //! Readers and writers that give and take a few bytes a call, and fail at one.
 
-use crate::{NoText, put_all, read_all};
+use crate::{Heard, NoText, Sink, Source, Watched, put_all, put_both, read_all, read_all_with};
 use std::io;
 use std::io::{ErrorKind, Read, Write};
+use supply::{Given, Refusing};
 
 const TEXT: &[u8] = b"storage 10\npath 10\n";
 
@@ -96,4 +97,66 @@ fn all_is_written(rt: HostRuntime) {
         assert_eq!(rt; put_all(&mut writer, TEXT), taken);
         assert_eq!(rt; writer.text.as_slice(), &TEXT[..taken]);
     }
+}
+
+#[test]
+fn each_growth_is_refused_in_turn(rt: HostRuntime) {
+    for left in 0..4 {
+        let mut reader = Slow {
+            rest: TEXT,
+            most: 10,
+            calls: 0,
+            interrupted_at: 1,
+            fails_at: 0,
+        };
+        let mut supply = Refusing {
+            left,
+            refused: false,
+        };
+        match read_all_with(rt.alloc(), &mut supply, &mut reader) {
+            Ok(text) => assert!(rt; left >= 2 && text.as_slice() == TEXT),
+            Err(why) => assert!(rt; left < 2 && why == NoText::OutOfMemory),
+        }
+        assert_eq!(rt; supply.refused, left < 2);
+        let mut supply = Given { refused: false };
+        let mut memory = TEXT;
+        assert!(rt; read_all_with(rt.alloc(), &mut supply, &mut memory).is_ok());
+    }
+}
+
+#[test]
+fn a_source_shows_that_it_failed(rt: HostRuntime) {
+    for (fails_at, broken) in [(0, false), (2, true)] {
+        let mut source = Heard::new(Slow {
+            rest: TEXT,
+            most: 10,
+            calls: 0,
+            interrupted_at: 1,
+            fails_at,
+        });
+        match source.all(rt.alloc()) {
+            Ok(text) => assert!(rt; !broken && text.as_slice() == TEXT),
+            Err(why) => assert!(rt; broken && why == NoText::ReadFailed),
+        }
+        assert_eq!(rt; source.broken, broken);
+    }
+}
+
+#[test]
+fn a_sink_shows_that_it_failed(rt: HostRuntime) {
+    for (fails_at, taken) in [(0, 19), (2, 0), (3, 10), (4, 19)] {
+        let mut sink = Watched::new(Short {
+            text: Vec::new(rt.alloc()),
+            most: 10,
+            calls: 0,
+            interrupted_at: 1,
+            fails_at,
+        });
+        assert_eq!(rt; sink.put(TEXT), taken == 19);
+        assert_eq!(rt; sink.failed, taken < 19);
+        assert_eq!(rt; sink.writer.text.as_slice(), &TEXT[..taken]);
+    }
+    let mut sink = Watched::new(Vec::new(rt.alloc()));
+    assert!(rt; put_both(&mut sink, b"storage ", b"10\n"));
+    assert_eq!(rt; sink.writer.as_slice(), b"storage 10\n".as_slice());
 }

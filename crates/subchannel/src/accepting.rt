@@ -3,18 +3,20 @@
 ghost use Rattle.std.specs.Prelude.{◌≡◌, ◌<◌, ◌^◌};
 ghost use Rattle.chan_model.specs.HoldTable.{hold_takes};
 ghost use Rattle.machine_model.specs.Taking as spec;
+ghost use Rattle.subchannel.specs.Stepping.{stepped};
 ghost use Rattle.transfer.specs.Commands as transfer_spec;
 
-use crate::answers::{ignoring, let_go, quietly, sending, with_cause};
-use crate::intermediate::{interrupted, suspending};
+use crate::answers::{ignored, let_go, quiet, sent};
+use crate::intermediate::{interrupt, suspend};
 use ccw_walk::Walk;
-use chan_model::hold_state::{HoldPhase, HoldState};
+use chan_model::hold_state::HoldPhase;
 use chan_model::names::Path;
 use chan_model::signal::{Down, Taken, Up};
 use hold::Hold;
 use machine_model::cause::Cause;
-use machine_model::state::{Begun, Pmcw, Program, Standing, SubchannelState, UpStep};
-use scsw_irb::scsw::{ActivityControl, Scsw};
+use machine_model::state::{Begun, Pmcw, Program, Standing, SubchannelState};
+use scsw_irb::scsw::Scsw;
+use status::make_pending;
 use storage_keys::Storage;
 use transfer::commands::{begun_with_room, first_command};
 use transfer::{Came, Roomy, Transfer};
@@ -53,99 +55,80 @@ fn standing_as(
 }
 
 /// The program that was offered, where it isn't over.
-fn standing(state: &SubchannelState) -> Option<Standing>
+pub(crate) fn standing(state: &SubchannelState) -> Option<Standing>
     ensures { result ≡ spec.standing state.now }
 {
     standing_as(state.waiting, state.suspended, state.offered)
 }
 
 /// Whether it takes the device.
-fn goes_ahead(state: &SubchannelState) -> bool
+pub(crate) fn goes_ahead(state: &SubchannelState) -> bool
     ensures { result ≡ spec.goes_ahead state.now }
 {
     standing(state).is_some() && !state.scsw.activity.halt_pending
 }
 
-fn with_path(pmcw: Pmcw, path: Path) -> Pmcw
-    ensures { result ≡ spec.with_path pmcw path }
+fn use_path(pmcw: &mut Pmcw, path: Path)
+    ensures { pmcw.new ≡ spec.with_path pmcw.old path }
 {
-    let mut next = pmcw;
-    next.last_used = Some(path);
-    next.operational[path.index()] = true;
-    next
+    pmcw.last_used = Some(path);
+    pmcw.operational[path.index()] = true;
 }
 
-fn working(activity: ActivityControl) -> ActivityControl
-    ensures { result ≡ spec.working activity }
+fn work(scsw: &mut Scsw)
+    ensures { scsw.new ≡ spec.working_scsw scsw.old }
 {
-    ActivityControl {
-        start_pending: false,
-        resume_pending: false,
-        suspended: false,
-        subchannel_active: true,
-        device_active: true,
-        ..activity
-    }
+    scsw.activity.start_pending = false;
+    scsw.activity.resume_pending = false;
+    scsw.activity.suspended = false;
+    scsw.activity.subchannel_active = true;
+    scsw.activity.device_active = true;
 }
 
-fn working_scsw(scsw: Scsw) -> Scsw
-    ensures { result ≡ spec.working_scsw scsw }
+fn take_over(state: &mut SubchannelState, program: Program, transfer: Transfer)
+    ensures { state.new ≡ spec.taking_over state.old program transfer }
 {
-    let mut next = scsw;
-    next.activity = working(scsw.activity);
-    next
-}
-
-fn taking_over(state: &SubchannelState, program: Program, transfer: Transfer) -> SubchannelState
-    ensures { result ≡ spec.taking_over state.now program transfer }
-{
-    let mut next = *state;
-    next.scsw = working_scsw(state.scsw);
-    next.waiting = None;
-    next.suspended = None;
-    next.begun = Some(Begun {
+    work(&mut state.scsw);
+    state.waiting = None;
+    state.suspended = None;
+    state.begun = Some(Begun {
         program,
         primary_shown: false,
         transfer,
     });
-    next
 }
 
-fn sends_first(
-    state: &SubchannelState,
+fn send_first(
+    state: &mut SubchannelState,
     path: Path,
     number: u64,
     program: Program,
     command: Roomy,
-) -> UpStep
-    requires { state.now.serials.made < 2 ^ 63 }
-    ensures { result ≡ spec.sends_first state.now path number program command }
+) -> Taken<Down>
+    requires { state.old.serials.made < 2 ^ 63 }
+    ensures { stepped state.new result ≡ spec.sends_first state.old path number program command }
 {
-    let transfer = command.transfer;
-    let room = command.room;
-    let place = transfer.command;
-    let code = transfer.code;
-    sending(
-        interrupted(&taking_over(state, program, transfer)),
-        path,
-        Down::Command {
-            number,
-            command: place,
-            code,
-            room,
-        },
-    )
+    let Roomy { transfer, room } = command;
+    let signal = Down::Command {
+        number,
+        command: transfer.command,
+        code: transfer.code,
+        room,
+    };
+    take_over(state, program, transfer);
+    interrupt(state);
+    sent(path, signal)
 }
 
 fn begin_with(
     storage: &Storage,
-    state: &SubchannelState,
+    state: &mut SubchannelState,
     path: Path,
     number: u64,
     standing: &Standing,
-) -> UpStep
-    requires { state.now.serials.made < 2 ^ 63 }
-    ensures { result ≡ spec.begin_with storage.now state.now path number standing.now (transfer_spec.first_command storage.now standing.now.walk) }
+) -> Taken<Down>
+    requires { state.old.serials.made < 2 ^ 63 }
+    ensures { stepped state.new result ≡ spec.begin_with storage.now state.old path number standing.now (transfer_spec.first_command storage.now standing.now.walk) }
 {
     let first = first_command(storage, standing.walk);
     let program = standing.program;
@@ -153,91 +136,84 @@ fn begin_with(
     match first.came {
         Came::Begins(transfer) => {
             let command = begun_with_room(storage, &transfer);
-            sends_first(state, path, number, program, command)
+            send_first(state, path, number, program, command)
         }
-        Came::Suspends => let_go(suspending(state, program, first.walk, count)),
+        Came::Suspends => {
+            suspend(state, program, first.walk, count);
+            let_go(state)
+        }
         Came::Stops(check) => {
             let tried = first.walk.tried();
-            let_go(with_cause(
-                state,
-                &Cause::FetchFault {
-                    tried,
-                    check,
-                    count,
-                },
-            ))
+            let cause = Cause::FetchFault {
+                tried,
+                check,
+                count,
+            };
+            make_pending(state, &cause);
+            let_go(state)
         }
     }
 }
 
-fn begin_standing(storage: &Storage, state: &SubchannelState, path: Path, number: u64) -> UpStep
-    requires { state.now.serials.made < 2 ^ 63 }
-    ensures { result ≡ spec.begin_standing storage.now state.now path number (spec.standing state.now) }
+fn begin_standing(
+    storage: &Storage,
+    state: &mut SubchannelState,
+    path: Path,
+    number: u64,
+) -> Taken<Down>
+    requires { state.old.serials.made < 2 ^ 63 }
+    ensures { stepped state.new result ≡ spec.begin_standing storage.now state.old path number (spec.standing state.old) }
 {
     match standing(state) {
-        None => quietly(*state),
+        None => quiet(),
         Some(standing) => begin_with(storage, state, path, number, &standing),
     }
 }
 
 /// Where a halt is pending, it is performed as the device is let go.
-fn halt_done(state: &SubchannelState) -> SubchannelState
-    requires { state.now.serials.made < 2 ^ 63 }
-    ensures { result ≡ spec.halt_done state.now }
+fn do_halt(state: &mut SubchannelState)
+    requires { state.old.serials.made < 2 ^ 63 }
+    ensures { state.new ≡ spec.halt_done state.old }
 {
     if state.scsw.activity.halt_pending {
-        with_cause(state, &Cause::HaltDone)
-    } else {
-        *state
+        make_pending(state, &Cause::HaltDone);
     }
 }
 
-fn accepted_by(storage: &Storage, state: &SubchannelState, came: Taken<Down>) -> UpStep
-    requires { state.now.serials.made < 2 ^ 63 }
-    ensures { result ≡ spec.accepted_by storage.now state.now state.now.hold.phase came }
+fn accepted_by(storage: &Storage, state: &mut SubchannelState, came: Taken<Down>) -> Taken<Down>
+    requires { state.old.serials.made < 2 ^ 63 }
+    ensures { stepped state.new result ≡ spec.accepted_by storage.now state.old state.old.hold.phase came }
 {
-    match state.hold.phase {
+    let phase = state.hold.phase;
+    match phase {
         HoldPhase::On { number, path, .. } => {
-            let mut next = *state;
-            next.pmcw = with_path(state.pmcw, path);
-            begin_standing(storage, &next, path, number)
+            use_path(&mut state.pmcw, path);
+            begin_standing(storage, state, path, number)
         }
         HoldPhase::Letting { path, .. } => {
-            let mut next = *state;
-            next.pmcw = with_path(state.pmcw, path);
-            let state = halt_done(&next);
-            UpStep { state, came }
+            use_path(&mut state.pmcw, path);
+            do_halt(state);
+            came
         }
-        _ => UpStep {
-            state: *state,
-            came,
-        },
+        _ => came,
     }
-}
-
-fn accept_by(
-    storage: &Storage,
-    state: &SubchannelState,
-    hold: HoldState,
-    came: Taken<Down>,
-) -> UpStep
-    requires { state.now.serials.made < 2 ^ 63 }
-    ensures { result ≡ spec.accept_by storage.now state.now hold came }
-{
-    if !came.taken {
-        return ignoring(state);
-    }
-    let mut next = *state;
-    next.hold = hold;
-    accepted_by(storage, &next, came)
 }
 
 /// Accept: the program that was offered takes the device.
-pub(crate) fn accept(storage: &Storage, state: &SubchannelState, path: Path, signal: &Up) -> UpStep
-    requires { state.now.serials.made < 2 ^ 63 }
-    ensures { result ≡ spec.accept storage.now state.now (hold_takes state.now.hold path signal.now (spec.goes_ahead state.now)) }
+pub(crate) fn accept(
+    storage: &Storage,
+    state: &mut SubchannelState,
+    path: Path,
+    signal: &Up,
+) -> Taken<Down>
+    requires { state.old.serials.made < 2 ^ 63 }
+    ensures { stepped state.new result ≡ spec.accept storage.now state.old (hold_takes state.old.hold path signal.now (spec.goes_ahead state.old)) }
 {
     let mut hold = Hold::of(state.hold);
     let came = hold.take(path, signal, goes_ahead(state));
-    accept_by(storage, state, hold.state(), came)
+    if !came.taken {
+        return ignored();
+    }
+    state.hold = hold.state();
+    accepted_by(storage, state, came)
 }

@@ -1,82 +1,62 @@
 //! What may come of a signal.
 
-ghost use Rattle.std.specs.Prelude.{◌≡◌, ◌<◌, ◌^◌, false};
+ghost use Rattle.std.specs.Prelude.{◌≡◌, None, Some};
 ghost use Rattle.chan_model.specs.HoldTable.{hold_takes};
-ghost use Rattle.machine_model.specs.Causes as cause_spec;
 ghost use Rattle.machine_model.specs.Taking as spec;
+ghost use Rattle.subchannel.specs.Stepping.{not_taken, stepped, taken_with};
 
 use chan_model::names::Path;
 use chan_model::signal::{Down, OnPath, Taken, Up};
 use hold::Hold;
-use machine_model::cause::Cause;
-use machine_model::state::{SubchannelState, UpStep};
-use status::make_pending;
+use machine_model::state::SubchannelState;
 
-/// The subchannel after a cause of status.
-pub(crate) fn with_cause(state: &SubchannelState, cause: &Cause) -> SubchannelState
-    requires { state.now.serials.made < 2 ^ 63 }
-    ensures { result ≡ cause_spec.with_cause state.now cause.now }
+pub(crate) fn ignored() -> Taken<Down>
+    ensures { result ≡ not_taken }
 {
-    let mut next = *state;
-    make_pending(&mut next, cause);
-    next
-}
-
-pub(crate) fn ignoring(state: &SubchannelState) -> UpStep
-    ensures { result ≡ spec.ignoring state.now }
-{
-    UpStep {
-        state: *state,
-        came: Taken {
-            taken: false,
-            sent: None,
-        },
+    Taken {
+        taken: false,
+        sent: None,
     }
 }
 
-pub(crate) fn quietly(state: SubchannelState) -> UpStep
-    ensures { result ≡ spec.quietly state }
+pub(crate) fn quiet() -> Taken<Down>
+    ensures { result ≡ taken_with None }
 {
-    UpStep {
-        state,
-        came: Taken {
-            taken: true,
-            sent: None,
-        },
+    Taken {
+        taken: true,
+        sent: None,
     }
 }
 
-pub(crate) fn sending(state: SubchannelState, path: Path, signal: Down) -> UpStep
-    ensures { result ≡ spec.sending state path signal }
+pub(crate) fn sent(path: Path, signal: Down) -> Taken<Down>
+    ensures { result ≡ taken_with (Some (record { path = path; signal = signal })) }
 {
-    UpStep {
-        state,
-        came: Taken {
-            taken: true,
-            sent: Some(OnPath { path, signal }),
-        },
+    Taken {
+        taken: true,
+        sent: Some(OnPath { path, signal }),
     }
 }
 
-pub(crate) fn let_go(state: SubchannelState) -> UpStep
-    ensures { result ≡ spec.let_go state }
+pub(crate) fn let_go(state: &mut SubchannelState) -> Taken<Down>
+    ensures { stepped state.new result ≡ spec.let_go state.old }
 {
     let mut hold = Hold::of(state.hold);
     let sent = hold.let_go();
-    let mut next = state;
-    next.hold = hold.state();
-    UpStep {
-        state: next,
-        came: Taken { taken: true, sent },
-    }
+    state.hold = hold.state();
+    Taken { taken: true, sent }
 }
 
-pub(crate) fn by_hold(state: &SubchannelState, path: Path, signal: &Up) -> UpStep
-    ensures { result ≡ spec.by_hold state.now (hold_takes state.now.hold path signal.now false) }
+/// What the hold does with a signal; `may`: it may be taken, as the hold's table asks.
+pub(crate) fn by_hold(
+    state: &mut SubchannelState,
+    path: Path,
+    signal: &Up,
+    may: bool,
+) -> Taken<Down>
+    ensures { stepped state.new result ≡ spec.by_hold state.old (hold_takes state.old.hold path signal.now may) }
 {
     let mut hold = Hold::of(state.hold);
-    let came = hold.take(path, signal, false);
-    let mut next = *state;
-    next.hold = hold.state();
-    UpStep { state: next, came }
+    let came = hold.take(path, signal, may);
+    state.hold = hold.state();
+    came
 }

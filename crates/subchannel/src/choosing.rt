@@ -9,6 +9,7 @@ use crate::paths::{allowed_paths, installed_paths, is_any, return_paths, usable_
 use chan_model::hold_state::{HoldPhase, HoldState};
 use chan_model::names::Path;
 use chan_model::paths::PathSet;
+use finding::engines::Counted;
 use hold::Hold;
 use machine_model::state::{Candidate, Chosen, Program, Standing, Subchannel, SubchannelState};
 use scsw_irb::scsw::Scsw;
@@ -30,7 +31,7 @@ fn is_away(phase: HoldPhase) -> bool
     matches!(phase, HoldPhase::Away { .. })
 }
 
-fn paths_unreset(subs: &[Subchannel], sub: &Subchannel) -> PathSet
+fn paths_unreset(subs: &Counted<'_>, sub: &Subchannel) -> PathSet
     ensures { result ≡ spec.paths_unreset subs.now sub.now }
 {
     if sub.state.scsw.activity.halt_pending && is_away(sub.state.hold.phase) {
@@ -42,7 +43,7 @@ fn paths_unreset(subs: &[Subchannel], sub: &Subchannel) -> PathSet
 
 /// The paths of which one is chosen: for a Reset each that is installed, for a Halt of a program that is away those by which
 /// it may come back, and otherwise those that may be used and whose engines are free.
-pub fn paths_to_choose(subs: &[Subchannel], sub: &Subchannel) -> PathSet
+pub fn paths_to_choose(subs: &Counted<'_>, sub: &Subchannel) -> PathSet
     ensures { result ≡ spec.paths_to_choose subs.now sub.now }
 {
     match unsent_reset(&sub.state.hold) {
@@ -160,47 +161,39 @@ pub fn chosen(sub: &Subchannel, choice: Option<Path>) -> Chosen
     }
 }
 
-/// The subchannel after its Reset is sent on a path.
-pub fn reset_sent(state: &SubchannelState, path: Path) -> SubchannelState
-    ensures { result ≡ spec.reset_sent state.now path }
+/// Its Reset is sent on a path.
+pub fn send_reset(state: &mut SubchannelState, path: Path)
+    ensures { state.new ≡ spec.reset_sent state.old path }
 {
     let mut hold = Hold::of(state.hold);
     let _ = hold.send_reset(path);
-    let mut next = *state;
-    next.hold = hold.state();
-    next.last_path = Some(path);
-    next
+    state.hold = hold.state();
+    state.last_path = Some(path);
 }
 
-fn halt_sent_scsw(scsw: Scsw) -> Scsw
-    ensures { result ≡ spec.halt_sent_scsw scsw }
+fn tell_halt(scsw: &mut Scsw)
+    ensures { scsw.new ≡ spec.halt_sent_scsw scsw.old }
 {
-    let mut next = scsw;
-    next.activity.halt_pending = false;
-    next
+    scsw.activity.halt_pending = false;
 }
 
-/// The subchannel after its program is told of a halt: it is no longer pending.
-pub fn halt_sent(state: &SubchannelState) -> SubchannelState
-    ensures { result ≡ spec.halt_sent state.now }
+/// Its program is told of a halt: it is no longer pending.
+pub fn send_halt(state: &mut SubchannelState)
+    ensures { state.new ≡ spec.halt_sent state.old }
 {
-    let mut next = *state;
-    next.scsw = halt_sent_scsw(state.scsw);
-    next
+    tell_halt(&mut state.scsw);
 }
 
-/// The subchannel after its program is offered on a path.
-pub fn offered(state: &SubchannelState, program: &Program, path: Path) -> SubchannelState
-    requires drawn { state.now.drawn < 2 ^ 63 }
-    requires free { state.now.hold.phase ≡ phase.Free }
-    ensures { result ≡ spec.offered state.now program.now path }
+/// Its program is offered on a path.
+pub fn offer(state: &mut SubchannelState, program: &Program, path: Path)
+    requires drawn { state.old.drawn < 2 ^ 63 }
+    requires free { state.old.hold.phase ≡ phase.Free }
+    ensures { state.new ≡ spec.offered state.old program.now path }
 {
+    state.drawn += 1;
     let mut hold = Hold::of(state.hold);
-    let _ = hold.offer(state.drawn + 1, path, program.single_path);
-    let mut next = *state;
-    next.drawn = state.drawn + 1;
-    next.hold = hold.state();
-    next.offered = program.start;
-    next.last_path = Some(path);
-    next
+    let _ = hold.offer(state.drawn, path, program.single_path);
+    state.hold = hold.state();
+    state.offered = program.start;
+    state.last_path = Some(path);
 }

@@ -2,18 +2,20 @@
 
 ghost use Rattle.std.specs.Prelude.{◌≡◌, ◌<◌, ◌^◌};
 ghost use Rattle.machine_model.specs.Taking as spec;
+ghost use Rattle.subchannel.specs.Stepping.{stepped};
 ghost use Rattle.transfer.specs.Commands as transfer_spec;
 
-use crate::answers::{ignoring, let_go, quietly, sending, with_cause};
-use crate::intermediate::suspending;
-use crate::moving::moving_on;
+use crate::answers::{ignored, let_go, quiet, sent};
+use crate::intermediate::suspend;
+use crate::moving::move_on;
 use chan_model::names::Path;
-use chan_model::signal::Down;
+use chan_model::signal::{Down, Taken};
 use hold::Hold;
 use machine_model::cause::Cause;
-use machine_model::state::{Begun, SubchannelState, UpStep};
+use machine_model::state::{Begun, SubchannelState};
 use scsw_irb::status::DeviceStatus;
 use status::causes::is_last_end;
+use status::make_pending;
 use status::shown::chains_command;
 use storage_keys::Storage;
 use transfer::commands::{begun_with_room, next_command};
@@ -25,7 +27,7 @@ fn dedicated_after(status: DeviceStatus, path: Path) -> Option<Path>
     if status.has_check() { Some(path) } else { None }
 }
 
-fn with_end(begun: &Begun) -> Begun
+pub(crate) fn with_end(begun: &Begun) -> Begun
     ensures { result ≡ spec.with_end begun.now }
 {
     let mut next = *begun;
@@ -33,176 +35,164 @@ fn with_end(begun: &Begun) -> Begun
     next
 }
 
-fn sends_next(
-    state: &SubchannelState,
+fn send_next(
+    state: &mut SubchannelState,
     begun: &Begun,
     path: Path,
     number: u64,
     command: Roomy,
-) -> UpStep
-    requires { state.now.serials.made < 2 ^ 63 }
-    ensures { result ≡ spec.sends_next state.now begun.now path number command }
+) -> Taken<Down>
+    requires { state.old.serials.made < 2 ^ 63 }
+    ensures { stepped state.new result ≡ spec.sends_next state.old begun.now path number command }
 {
-    let transfer = command.transfer;
-    let room = command.room;
-    let place = transfer.command;
-    let code = transfer.code;
-    sending(
-        moving_on(state, begun, transfer),
-        path,
-        Down::Command {
-            number,
-            command: place,
-            code,
-            room,
-        },
-    )
-}
-
-/// The subchannel once no allegiance is dedicated.
-fn undedicated(state: &SubchannelState) -> SubchannelState
-    ensures { result ≡ record state.now { dedicated = None } }
-{
-    let mut next = *state;
-    next.dedicated = None;
-    next
+    let Roomy { transfer, room } = command;
+    let signal = Down::Command {
+        number,
+        command: transfer.command,
+        code: transfer.code,
+        room,
+    };
+    move_on(state, begun, transfer);
+    sent(path, signal)
 }
 
 fn chain(
     storage: &Storage,
-    state: &SubchannelState,
+    state: &mut SubchannelState,
     begun: &Begun,
     path: Path,
     number: u64,
     modifier: bool,
-) -> UpStep
-    requires made { state.now.serials.made < 2 ^ 63 }
+) -> Taken<Down>
+    requires made { state.old.serials.made < 2 ^ 63 }
     requires command { begun.now.transfer.command < 2 ^ 63 }
-    ensures { result ≡ spec.chain_with storage.now state.now begun.now path number (transfer_spec.next_command storage.now begun.now.transfer modifier) }
+    ensures { stepped state.new result ≡ spec.chain_with storage.now state.old begun.now path number (transfer_spec.next_command storage.now begun.now.transfer modifier) }
 {
     let next = next_command(storage, &begun.transfer, modifier);
     let count = begun.transfer.moving.residual();
     match next.came {
         Came::Begins(transfer) => {
             let command = begun_with_room(storage, &transfer);
-            sends_next(state, begun, path, number, command)
+            send_next(state, begun, path, number, command)
         }
-        Came::Suspends => let_go(suspending(&undedicated(state), begun.program, next.walk, count)),
+        Came::Suspends => {
+            state.dedicated = None;
+            suspend(state, begun.program, next.walk, count);
+            let_go(state)
+        }
         Came::Stops(check) => {
             let tried = next.walk.tried();
-            let_go(with_cause(
-                &undedicated(state),
-                &Cause::FetchFault {
-                    tried,
-                    check,
-                    count,
-                },
-            ))
+            let cause = Cause::FetchFault {
+                tried,
+                check,
+                count,
+            };
+            state.dedicated = None;
+            make_pending(state, &cause);
+            let_go(state)
         }
     }
 }
 
-fn goes_on(
+fn go_on(
     storage: &Storage,
-    state: &SubchannelState,
+    state: &mut SubchannelState,
     begun: &Begun,
     path: Path,
     number: u64,
     status: DeviceStatus,
-) -> UpStep
-    requires made { state.now.serials.made < 2 ^ 63 }
+) -> Taken<Down>
+    requires made { state.old.serials.made < 2 ^ 63 }
     requires command { begun.now.transfer.command < 2 ^ 63 }
-    ensures { result ≡ spec.goes_on storage.now state.now begun.now path number status }
+    ensures { stepped state.new result ≡ spec.goes_on storage.now state.old begun.now path number status }
 {
     if status.has_device_end() {
         return chain(storage, state, begun, path, number, status.has_modifier());
     }
-    let mut next = *state;
-    next.begun = Some(*begun);
-    next.dedicated = None;
-    quietly(next)
+    state.begun = Some(*begun);
+    state.dedicated = None;
+    quiet()
 }
 
-fn end_shown_at(
-    state: &SubchannelState,
+fn show_end(
+    state: &mut SubchannelState,
     begun: &Begun,
     path: Path,
     status: DeviceStatus,
     more: bool,
-) -> SubchannelState
-    requires { state.now.serials.made < 2 ^ 63 }
-    ensures { result ≡ spec.end_shown_at state.now begun.now path status more }
+)
+    requires { state.old.serials.made < 2 ^ 63 }
+    ensures { state.new ≡ spec.end_shown_at state.old begun.now path status more }
 {
     let cause = Cause::End {
         begun: *begun,
         status,
         more,
     };
-    let mut next = with_cause(state, &cause);
-    next.dedicated = dedicated_after(status, path);
-    next
+    make_pending(state, &cause);
+    state.dedicated = dedicated_after(status, path);
 }
 
-fn stops_at(
-    state: &SubchannelState,
+fn stop_at(
+    state: &mut SubchannelState,
     begun: &Begun,
     path: Path,
     status: DeviceStatus,
     more: bool,
-) -> UpStep
-    requires { state.now.serials.made < 2 ^ 63 }
-    ensures { result ≡ spec.stops_at state.now begun.now path status more }
+) -> Taken<Down>
+    requires { state.old.serials.made < 2 ^ 63 }
+    ensures { stepped state.new result ≡ spec.stops_at state.old begun.now path status more }
 {
-    let next = end_shown_at(state, begun, path, status, more);
+    show_end(state, begun, path, status, more);
     if is_last_end(status) {
-        let_go(next)
+        let_go(state)
     } else {
-        quietly(next)
+        quiet()
     }
 }
 
 fn command_ended(
     storage: &Storage,
-    state: &SubchannelState,
+    state: &mut SubchannelState,
     begun: &Begun,
     path: Path,
     number: u64,
     status: DeviceStatus,
     more: bool,
-) -> UpStep
-    requires made { state.now.serials.made < 2 ^ 63 }
+) -> Taken<Down>
+    requires made { state.old.serials.made < 2 ^ 63 }
     requires command { begun.now.transfer.command < 2 ^ 63 }
-    ensures { result ≡ spec.command_ended storage.now state.now begun.now path number status more }
+    ensures { stepped state.new result ≡ spec.command_ended storage.now state.old begun.now path number status more }
 {
     if chains_command(state.scsw, begun, status, more) {
-        goes_on(storage, state, &with_end(begun), path, number, status)
+        go_on(storage, state, &with_end(begun), path, number, status)
     } else {
-        stops_at(state, begun, path, status, more)
+        stop_at(state, begun, path, status, more)
     }
 }
 
 /// End: the command ended.
 pub(crate) fn end_command(
     storage: &Storage,
-    state: &SubchannelState,
+    state: &mut SubchannelState,
     path: Path,
     number: u64,
     command: u64,
     status: DeviceStatus,
     more: bool,
-) -> UpStep
-    requires made { state.now.serials.made < 2 ^ 63 }
-    requires below { spec.IsBelow state.now.begun }
-    ensures { result ≡ spec.end_command storage.now state.now path number command status more }
+) -> Taken<Down>
+    requires made { state.old.serials.made < 2 ^ 63 }
+    requires below { spec.IsBelow state.old.begun }
+    ensures { stepped state.new result ≡ spec.end_command storage.now state.old path number command status more }
 {
     if !Hold::of(state.hold).is_on(number) {
-        return ignoring(state);
+        return ignored();
     }
     let Some(begun) = state.begun else {
-        return ignoring(state);
+        return ignored();
     };
     if command != begun.transfer.command {
-        return ignoring(state);
+        return ignored();
     }
     command_ended(storage, state, &begun, path, number, status, more)
 }

@@ -1,94 +1,78 @@
 //! Intermediate status: an interruption by the program, and a suspension.
 
 ghost use Rattle.std.specs.Prelude.{◌≡◌, ◌<◌, ◌^◌};
+ghost use Rattle.data_move.specs.Moving.{residual};
+ghost use Rattle.machine_model.specs.declared.cause.Cause.TheVariants as cause;
 ghost use Rattle.machine_model.specs.Taking as spec;
 
-use crate::answers::with_cause;
 use ccw_walk::Walk;
 use machine_model::cause::Cause;
 use machine_model::state::{Begun, Program, Standing, SubchannelState};
 use scsw_irb::scsw::{ActivityControl, Scsw};
+use status::make_pending;
 
-fn without_interruption(begun: &Begun) -> Begun
-    ensures { result ≡ spec.without_interruption begun.now }
+fn drop_interruption(begun: &mut Begun)
+    ensures { begun.new ≡ spec.without_interruption begun.old }
 {
-    let mut next = *begun;
-    next.transfer.interrupts = false;
-    next
+    begun.transfer.interrupts = false;
 }
 
-fn interrupted_by(state: &SubchannelState, begun: &Begun) -> SubchannelState
-    requires { state.now.serials.made < 2 ^ 63 }
-    ensures { result ≡ spec.interrupted_by state.now begun.now }
+fn interruption_of(begun: &Begun) -> Cause
+    ensures { result ≡ cause.Interruption begun.now.transfer.walk.tried (residual begun.now.transfer.moving) }
 {
-    if !begun.transfer.interrupts {
-        return *state;
-    }
-    let cause = Cause::Interruption {
+    Cause::Interruption {
         tried: begun.transfer.walk.tried(),
         count: begun.transfer.moving.residual(),
-    };
-    let mut next = *state;
-    next.begun = Some(without_interruption(begun));
-    with_cause(&next, &cause)
-}
-
-/// The subchannel once the block that took control last has made the interruption that it asks for.
-pub(crate) fn interrupted(state: &SubchannelState) -> SubchannelState
-    requires { state.now.serials.made < 2 ^ 63 }
-    ensures { result ≡ spec.interrupted state.now state.now.begun }
-{
-    match state.begun {
-        None => *state,
-        Some(begun) => interrupted_by(state, &begun),
     }
 }
 
-fn suspended_alone(scsw: Scsw) -> Scsw
-    ensures { result ≡ spec.suspended_alone scsw }
+/// The block that took control last makes the interruption that it asks for.
+pub(crate) fn interrupt(state: &mut SubchannelState)
+    requires { state.old.serials.made < 2 ^ 63 }
+    ensures { state.new ≡ spec.interrupted state.old state.old.begun }
 {
-    let mut next = scsw;
-    next.activity = ActivityControl {
+    let Some(begun) = &mut state.begun else {
+        return;
+    };
+    if !begun.transfer.interrupts {
+        return;
+    }
+    let cause = interruption_of(begun);
+    drop_interruption(begun);
+    make_pending(state, &cause);
+}
+
+fn suspend_alone(scsw: &mut Scsw)
+    ensures { scsw.new ≡ spec.suspended_alone scsw.old }
+{
+    scsw.activity = ActivityControl {
         suspended: true,
         ..ActivityControl::none()
     };
-    next
 }
 
-fn standing_still(
-    state: &SubchannelState,
-    program: Program,
-    walk: Walk,
-    count: u16,
-) -> SubchannelState
-    ensures { result ≡ spec.standing_still state.now program walk count }
+fn stand_still(state: &mut SubchannelState, program: Program, walk: Walk, count: u16)
+    ensures state { state.new ≡ spec.standing_still state.old program walk count }
 {
-    let mut next = *state;
-    next.waiting = None;
-    next.begun = None;
-    next.suspended = Some(Standing {
+    state.waiting = None;
+    state.begun = None;
+    state.suspended = Some(Standing {
         program,
         walk,
         count,
     });
-    next
 }
 
-/// The subchannel once a program is suspended where it stands; of its last command `count` bytes were not moved.
-pub(crate) fn suspending(
-    state: &SubchannelState,
-    program: Program,
-    walk: Walk,
-    count: u16,
-) -> SubchannelState
-    requires { state.now.serials.made < 2 ^ 63 }
-    ensures { result ≡ spec.suspending state.now program walk count }
+/// A program is suspended where it stands; of its last command `count` bytes were not moved.
+pub(crate) fn suspend(state: &mut SubchannelState, program: Program, walk: Walk, count: u16)
+    requires { state.old.serials.made < 2 ^ 63 }
+    ensures { state.new ≡ spec.suspending state.old program walk count }
 {
-    let mut next = standing_still(state, program, walk, count);
+    stand_still(state, program, walk, count);
     if program.orb.suppress_suspended {
-        next.scsw = suspended_alone(state.scsw);
-        return next;
+        suspend_alone(&mut state.scsw);
+        return;
     }
     let tried = walk.tried();
-    with_cause(&next, &Cause::Suspension { tried, count })
+    make_pending(state, &Cause::Suspension { tried, count });
 }

@@ -1,19 +1,16 @@
 //! What a subchannel does with the Data of a command.
 
-ghost use Rattle.std.specs.Prelude.{◌≡◌, ◌<◌, ◌≤◌, ◌^◌, List, true, false, length};
-ghost use Rattle.storage_keys.specs.Storage.{Contents};
-ghost use Rattle.chan_model.specs.declared.signal.Down.{Down};
-ghost use Rattle.machine_model.specs.Steps.{finds_full, is_full};
+ghost use Rattle.std.specs.Prelude.{◌≡◌, ◌<◌, ◌≤◌, ◌^◌, length};
 ghost use Rattle.machine_model.specs.Taking as spec;
-ghost use Rattle.subchannel.specs.Storing as storing;
+ghost use Rattle.subchannel.specs.Stepping.{stepped};
 ghost use Rattle.transfer.specs.Chunks as chunk_spec;
 
-use crate::answers::{ignoring, sending};
-use crate::intermediate::interrupted;
+use crate::answers::{ignored, sent};
+use crate::intermediate::interrupt;
 use chan_model::names::Path;
-use chan_model::signal::{Down, Load, Up};
+use chan_model::signal::{Down, Load, Taken};
 use hold::Hold;
-use machine_model::state::{Begun, SubchannelState, UpStep};
+use machine_model::state::{Begun, SubchannelState};
 use storage_keys::Storage;
 use transfer::chunks::{absorbed, brought, is_answered, next_given};
 use transfer::commands::{is_outward, with_room};
@@ -28,41 +25,36 @@ pub struct DataNumbers {
     pub sequence: u64,
 }
 
-fn with_transfer(state: &SubchannelState, begun: &Begun, transfer: Transfer) -> SubchannelState
-    ensures { result ≡ spec.with_transfer state.now begun.now transfer }
+fn put_transfer(state: &mut SubchannelState, begun: &Begun, transfer: Transfer)
+    ensures { state.new ≡ spec.with_transfer state.old begun.now transfer }
 {
-    let mut next = *state;
-    next.begun = Some(Begun { transfer, ..*begun });
-    next.dedicated = None;
-    next
+    state.begun = Some(Begun { transfer, ..*begun });
+    state.dedicated = None;
 }
 
-/// The subchannel with its transfer a chunk or a command further; a block that took control may ask for an interruption.
-pub(crate) fn moving_on(
-    state: &SubchannelState,
-    begun: &Begun,
-    transfer: Transfer,
-) -> SubchannelState
-    requires { state.now.serials.made < 2 ^ 63 }
-    ensures { result ≡ spec.moving_on state.now begun.now transfer }
+/// Its transfer is a chunk or a command further; a block that took control may ask for an interruption.
+pub(crate) fn move_on(state: &mut SubchannelState, begun: &Begun, transfer: Transfer)
+    requires { state.old.serials.made < 2 ^ 63 }
+    ensures { state.new ≡ spec.moving_on state.old begun.now transfer }
 {
-    interrupted(&with_transfer(state, begun, transfer))
+    put_transfer(state, begun, transfer);
+    interrupt(state);
 }
 
-fn giving(
-    state: &SubchannelState,
+fn give(
+    state: &mut SubchannelState,
     begun: &Begun,
     path: Path,
     numbers: DataNumbers,
     given: Given,
-) -> UpStep
-    requires made { state.now.serials.made < 2 ^ 63 }
+) -> Taken<Down>
+    requires made { state.old.serials.made < 2 ^ 63 }
     requires sequence { numbers.sequence < 2 ^ 63 }
-    ensures { result ≡ spec.giving state.now begun.now path numbers.number numbers.connection numbers.command numbers.sequence given }
+    ensures { stepped state.new result ≡ spec.giving state.old begun.now path numbers.number numbers.connection numbers.command numbers.sequence given }
 {
     let Given { transfer, bytes } = given;
-    sending(
-        moving_on(state, begun, transfer),
+    move_on(state, begun, transfer);
+    sent(
         path,
         Down::Give {
             number: numbers.number,
@@ -76,34 +68,34 @@ fn giving(
 
 fn give_next(
     storage: &Storage,
-    state: &SubchannelState,
+    state: &mut SubchannelState,
     begun: &Begun,
     path: Path,
     numbers: DataNumbers,
     count: usize,
-) -> UpStep
-    requires made { state.now.serials.made < 2 ^ 63 }
+) -> Taken<Down>
+    requires made { state.old.serials.made < 2 ^ 63 }
     requires sequence { numbers.sequence < 2 ^ 63 }
     requires below { begun.now.transfer.sequence < 2 ^ 63 }
-    ensures { result ≡ spec.give_next storage.now state.now begun.now path numbers.number numbers.connection numbers.command numbers.sequence count }
+    ensures { stepped state.new result ≡ spec.give_next storage.now state.old begun.now path numbers.number numbers.connection numbers.command numbers.sequence count }
 {
     let moved = absorbed(storage, &begun.transfer, numbers.sequence, count);
-    giving(state, begun, path, numbers, next_given(storage, &moved))
+    give(state, begun, path, numbers, next_given(storage, &moved))
 }
 
-fn answering(
-    state: &SubchannelState,
+fn answer(
+    state: &mut SubchannelState,
     begun: &Begun,
     path: Path,
     numbers: DataNumbers,
     next: Roomy,
-) -> UpStep
-    requires { state.now.serials.made < 2 ^ 63 }
-    ensures { result ≡ spec.answering state.now begun.now path numbers.number numbers.command numbers.sequence next }
+) -> Taken<Down>
+    requires { state.old.serials.made < 2 ^ 63 }
+    ensures { stepped state.new result ≡ spec.answering state.old begun.now path numbers.number numbers.command numbers.sequence next }
 {
     let Roomy { transfer, room } = next;
-    sending(
-        moving_on(state, begun, transfer),
+    move_on(state, begun, transfer);
+    sent(
         path,
         Down::Took {
             number: numbers.number,
@@ -126,33 +118,33 @@ fn bytes_of(load: &Load) -> &[u8]
 
 fn take_in(
     storage: &mut Storage,
-    state: &SubchannelState,
+    state: &mut SubchannelState,
     begun: &Begun,
     path: Path,
     numbers: DataNumbers,
     load: &Load,
-) -> UpStep
-    requires made { state.now.serials.made < 2 ^ 63 }
+) -> Taken<Down>
+    requires made { state.old.serials.made < 2 ^ 63 }
     requires below { begun.now.transfer.sequence < 2 ^ 63 }
-    ensures { spec.meets storage.new result ≡ spec.take_in state.now begun.now path numbers.number numbers.command numbers.sequence (chunk_spec.brought storage.old begun.now.transfer numbers.sequence (spec.bytes_of load.now)) }
+    ensures { spec.meets storage.new (stepped state.new result) ≡ spec.take_in state.old begun.now path numbers.number numbers.command numbers.sequence (chunk_spec.brought storage.old begun.now.transfer numbers.sequence (spec.bytes_of load.now)) }
 {
     let taken = brought(storage, &begun.transfer, numbers.sequence, bytes_of(load));
     let next = with_room(storage, &taken);
-    answering(state, begun, path, numbers, next)
+    answer(state, begun, path, numbers, next)
 }
 
 fn move_bytes(
     storage: &mut Storage,
-    state: &SubchannelState,
+    state: &mut SubchannelState,
     begun: &Begun,
     path: Path,
     numbers: DataNumbers,
     load: &Load,
-) -> UpStep
-    requires made { state.now.serials.made < 2 ^ 63 }
+) -> Taken<Down>
+    requires made { state.old.serials.made < 2 ^ 63 }
     requires sequence { numbers.sequence < 2 ^ 63 }
     requires below { begun.now.transfer.sequence < 2 ^ 63 }
-    ensures { spec.meets storage.new result ≡ spec.move_bytes storage.old state.now begun.now path numbers.number numbers.connection numbers.command numbers.sequence load.now }
+    ensures { spec.meets storage.new (stepped state.new result) ≡ spec.move_bytes storage.old state.old begun.now path numbers.number numbers.connection numbers.command numbers.sequence load.now }
 {
     if is_outward(begun.transfer.code) {
         give_next(storage, state, begun, path, numbers, load.len())
@@ -164,49 +156,23 @@ fn move_bytes(
 /// Data: bytes were moved.
 pub(crate) fn take_data(
     storage: &mut Storage,
-    state: &SubchannelState,
+    state: &mut SubchannelState,
     path: Path,
     numbers: DataNumbers,
     load: &Load,
-) -> UpStep
-    requires made { state.now.serials.made < 2 ^ 63 }
-    requires below { spec.IsBelow state.now.begun }
-    ensures { spec.meets storage.new result ≡ spec.take_data storage.old state.now path numbers.number numbers.connection numbers.command numbers.sequence load.now }
+) -> Taken<Down>
+    requires made { state.old.serials.made < 2 ^ 63 }
+    requires below { spec.IsBelow state.old.begun }
+    ensures { spec.meets storage.new (stepped state.new result) ≡ spec.take_data storage.old state.old path numbers.number numbers.connection numbers.command numbers.sequence load.now }
 {
     if !Hold::of(state.hold).is_connected(path, numbers.number, numbers.connection) {
-        return ignoring(state);
+        return ignored();
     }
     let Some(begun) = state.begun else {
-        return ignoring(state);
+        return ignored();
     };
     if !is_answered(&begun.transfer, numbers.command, numbers.sequence) {
-        return ignoring(state);
+        return ignored();
     }
     move_bytes(storage, state, &begun, path, numbers, load)
-}
-
-/// Whether a signal is a Data that is answered and whose bytes may be stored.
-pub fn stores(state: &SubchannelState, path: Path, signal: &Up) -> bool
-    requires { spec.IsBelow state.now.begun }
-    ensures stores { result ≡ storing.stores state.now path signal.now }
-    // What answers it goes by the same path.
-    ensures answered { (queues : List (List Down)) (storage : Contents) → result ≡ true → finds_full queues (spec.takes_up storage state.now path signal.now).step.came.sent ≡ is_full queues path }
-{
-    let Up::Data {
-        number,
-        connection,
-        command,
-        sequence,
-        ..
-    } = signal
-    else {
-        return false;
-    };
-    if !Hold::of(state.hold).is_connected(path, *number, *connection) {
-        return false;
-    }
-    let Some(begun) = state.begun else {
-        return false;
-    };
-    is_answered(&begun.transfer, *command, *sequence) && !is_outward(begun.transfer.code)
 }

@@ -9,7 +9,7 @@ ghost use Rattle.machine_model.specs.SubchannelBlocks as block_spec;
 use allegiance::allegiances::may_reconnect;
 use chan_model::names::Path;
 use chan_model::paths::PathSet;
-use hold::Hold;
+use finding::engines::Counted;
 use machine_model::state::Subchannel;
 
 fn keeps_dedicated(dedicated: Option<Path>, path: usize) -> bool
@@ -37,32 +37,7 @@ fn is_allowed(sub: &Subchannel, path: usize) -> bool
         && keeps_dedicated(sub.state.dedicated, path)
 }
 
-/// Whether the subchannel engages the engine of a channel path.
-fn engages(chpid: u8, sub: &Subchannel) -> bool
-    ensures { result ≡ spec.engages chpid sub.now }
-{
-    match Hold::of(sub.state.hold).engaged_path() {
-        None => false,
-        Some(path) => match sub.setup.paths.as_slice().get(path.index()) {
-            None => false,
-            Some(engaged) => *engaged == chpid,
-        },
-    }
-}
-
-/// Whether some subchannel does.
-fn is_engaged(subs: &[Subchannel], chpid: u8) -> bool
-    ensures { result ≡ spec.any_engages subs.now chpid }
-{
-    for sub in subs {
-        if engages(chpid, sub) {
-            return true;
-        }
-    }
-    false
-}
-
-fn is_usable(subs: &[Subchannel], sub: &Subchannel, path: usize) -> bool
+fn is_usable(subs: &Counted<'_>, sub: &Subchannel, path: usize) -> bool
     requires { path < 8 }
     ensures { result ≡ spec.is_usable subs.now sub.now path }
 {
@@ -71,7 +46,7 @@ fn is_usable(subs: &[Subchannel], sub: &Subchannel, path: usize) -> bool
     }
     match sub.setup.paths.as_slice().get(path) {
         None => true,
-        Some(chpid) => !is_engaged(subs, *chpid),
+        Some(chpid) => !subs.is_engaged(*chpid),
     }
 }
 
@@ -92,7 +67,7 @@ pub(crate) fn allowed_paths(sub: &Subchannel) -> PathSet
 }
 
 /// The paths that may be used and whose engines are free.
-pub(crate) fn usable_paths(subs: &[Subchannel], sub: &Subchannel) -> PathSet
+pub(crate) fn usable_paths(subs: &Counted<'_>, sub: &Subchannel) -> PathSet
     ensures { result ≡ spec.usable_paths subs.now sub.now }
 {
     [

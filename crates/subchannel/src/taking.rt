@@ -1,59 +1,77 @@
 //! What a subchannel does with a signal that came up by a path (own).
 
-ghost use Rattle.std.specs.Prelude.{◌≡◌, ◌<◌, ◌^◌, true, false, List};
-ghost use Rattle.chan_model.specs.declared.signal.Down.{Down};
+ghost use Rattle.std.specs.Prelude.{◌≡◌, ◌<◌, ◌^◌, false};
 ghost use Rattle.chan_model.specs.HoldTable.{hold_takes};
-ghost use Rattle.machine_model.specs.Steps.{finds_full, is_full};
-ghost use Rattle.subchannel.specs.Storing.{stores};
+ghost use Rattle.subchannel.specs.Stepping.{stepped};
 ghost use Rattle.machine_model.specs.Taking as spec;
 
 use crate::accepting::accept;
-use crate::answers::{by_hold, ignoring, with_cause};
+use crate::answers::{by_hold, ignored, quiet};
+use crate::attending::attend;
 use crate::ending::end_command;
+use crate::losing::reset_for;
 use crate::moving::{DataNumbers, take_data};
+use crate::returning::come_back;
 use chan_model::names::Path;
-use chan_model::signal::Up;
+use chan_model::signal::{Down, Taken, Up};
 use hold::Hold;
 use machine_model::cause::Cause;
-use machine_model::state::{SubchannelState, UpStep};
+use machine_model::state::SubchannelState;
+use status::make_pending;
 use storage_keys::Storage;
 
 /// Where a clear is pending, it is performed.
-fn clear_done(state: &SubchannelState) -> SubchannelState
-    requires { state.now.serials.made < 2 ^ 63 }
-    ensures { result ≡ spec.clear_done state.now }
+fn do_clear(state: &mut SubchannelState)
+    requires { state.old.serials.made < 2 ^ 63 }
+    ensures { state.new ≡ spec.clear_done state.old }
 {
     if state.scsw.activity.clear_pending {
-        with_cause(state, &Cause::ClearDone)
-    } else {
-        *state
+        make_pending(state, &Cause::ClearDone);
     }
 }
 
 /// Cleared: the device was reset.
-fn reset_taken(state: &SubchannelState, path: Path, signal: &Up) -> UpStep
-    requires { state.now.serials.made < 2 ^ 63 }
-    ensures { result ≡ spec.reset_taken state.now (hold_takes state.now.hold path signal.now false) }
+fn reset_taken(state: &mut SubchannelState, path: Path, signal: &Up) -> Taken<Down>
+    requires { state.old.serials.made < 2 ^ 63 }
+    ensures { stepped state.new result ≡ spec.reset_taken state.old (hold_takes state.old.hold path signal.now false) }
 {
     let mut hold = Hold::of(state.hold);
     let came = hold.take(path, signal, false);
     if !came.taken {
-        return ignoring(state);
+        return ignored();
     }
-    let mut next = *state;
-    next.hold = hold.state();
-    let state = clear_done(&next);
-    UpStep { state, came }
+    state.hold = hold.state();
+    do_clear(state);
+    came
 }
 
-/// The subchannel after a signal, and what came of the signal. The bytes of a read are stored.
-pub fn takes_up(storage: &mut Storage, state: &SubchannelState, path: Path, signal: &Up) -> UpStep
-    requires made { state.now.serials.made < 2 ^ 63 }
-    requires below { spec.IsBelow state.now.begun }
-    ensures met { spec.meets storage.new result ≡ spec.takes_up storage.old state.now path signal.now }
-    // Storage is kept but by a Data that brings bytes, and that one is answered on its path.
-    ensures kept { stores state.now path signal.now ≡ false → storage.new ≡ storage.old }
-    ensures answered { (queues : List (List Down)) → stores state.now path signal.now ≡ true → finds_full queues result.came.sent ≡ is_full queues path }
+/// Notice: the unit restarted. A count above the one known becomes known, and the hold is to be reset.
+fn notice(state: &mut SubchannelState, restarts: u64) -> Taken<Down>
+    requires made { state.old.serials.made < 2 ^ 63 }
+    requires drawn { state.old.drawn < 2 ^ 63 }
+    ensures { stepped state.new result ≡ spec.notice state.old restarts }
+{
+    if restarts <= state.hold.known {
+        return ignored();
+    }
+    state.hold.known = restarts;
+    reset_for(state);
+    quiet()
+}
+
+/// It takes a signal; what came of it. The bytes of a read are stored. `returns`: a program that is away may come back by
+/// the path.
+pub fn take_up(
+    storage: &mut Storage,
+    state: &mut SubchannelState,
+    path: Path,
+    signal: &Up,
+    returns: bool,
+) -> Taken<Down>
+    requires made { state.old.serials.made < 2 ^ 63 }
+    requires drawn { state.old.drawn < 2 ^ 63 }
+    requires below { spec.IsBelow state.old.begun }
+    ensures met { spec.meets storage.new (stepped state.new result) ≡ spec.takes_up returns storage.old state.old path signal.now }
 {
     match signal {
         Up::Accept { .. } => accept(storage, state, path, signal),
@@ -79,6 +97,9 @@ pub fn takes_up(storage: &mut Storage, state: &SubchannelState, path: Path, sign
             more,
         } => end_command(storage, state, path, *number, *command, *status, *more),
         Up::Cleared { .. } => reset_taken(state, path, signal),
-        _ => by_hold(state, path, signal),
+        Up::Back { .. } => come_back(state, path, signal, returns),
+        Up::Notice { restarts } => notice(state, *restarts),
+        Up::Attn { status, .. } => attend(state, path, signal, *status),
+        _ => by_hold(state, path, signal, false),
     }
 }

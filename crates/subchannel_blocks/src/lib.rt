@@ -8,9 +8,7 @@ ghost use Rattle.machine_model.specs.SubchannelBlocks as spec;
 ghost use Rattle.allegiance.specs.PathUse.{each_path};
 
 use chan_model::paths::{PathSet, mask_of_path, mask_of_paths};
-use functions::effects::placed;
-use functions::law::modified;
-use machine_model::state::{Subchannel, SubchannelState};
+use machine_model::state::Subchannel;
 use schib_block::pmcw;
 use schib_block::schib::Schib;
 use zbits::set_field;
@@ -93,15 +91,6 @@ pub fn schib_of(sub: &Subchannel) -> Schib
         pmcw: pmcw_of(sub),
         scsw: sub.state.scsw,
     }
-}
-
-/// The state after MODIFY SUBCHANNEL with code 0, which was given this word.
-pub fn modified_state(sub: &Subchannel, given: &pmcw::Pmcw) -> SubchannelState
-    requires { IsAllowed given.now }
-    ensures { result ≡ spec.modified_state sub.now given.now }
-{
-    modified();
-    placed(sub.state, given)
 }
 
 /// The word with ISC, D and E one placed in it. Of `subclass` the three rightmost bits are placed.

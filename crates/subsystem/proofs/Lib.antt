@@ -1,6 +1,6 @@
-mod FirstPlaces
+pub mod Answered
 mod Lifting
 mod Pasts
-mod Stopping
 mod Answering
 mod Cycles
+mod Never

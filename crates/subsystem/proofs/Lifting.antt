@@ -1,5 +1,5 @@
 -- What an event does at one subchannel, as what it does to the whole.
-use Rattle.std.proofs.Common.{◌≡◌, sym, ◌∙◌, ap, subst, ℕ, ◌<◌, zero, suc, Option, None, Some, Result, Ok, Err, List, [], ◌∷◌, length, slice_index_or, arith}
+use Rattle.std.proofs.Common.{◌≡◌, sym, ◌∙◌, ap, subst, ℕ, ◌<◌, zero, suc, true, false, Option, None, Some, Result, Ok, Err, List, [], ◌∷◌, length, slice_index_or, arith}
 use Rattle.std.specs.Prelude.{slice_get, slice_set}
 use Rattle.std.proofs.lemmas.List.{set-get_or}
 use Rattle.storage_keys.specs.Storage.{Contents}
@@ -12,10 +12,11 @@ use Rattle.chan_model.specs.declared.event.Event.TheVariants as event
 use Rattle.chan_model.specs.declared.reply.Reply.{Reply}
 use Rattle.chan_model.specs.declared.report.Report.{Report}
 use Rattle.chan_model.specs.declared.unit_state.UnitState.{UnitState}
-use Rattle.path_select.specs.Choice.{IsChoice}
+use Rattle.path_select.specs.Choice.{Rule, IsChoice}
 use Rattle.machine_model.specs.declared.state.Subchannel.{Subchannel}
 use Rattle.machine_model.specs.State.{State, place_of, place_in, sub_at, with_sub, with_unit, reached_in}
 use Rattle.machine_model.specs.Choosing.{chosen, paths_to_choose}
+use Rattle.machine_model.specs.Ruled.{RulesAt, GoesByRule, outcome_of}
 use Rattle.machine_model.specs.Steps.{Outcome, SubTurn, UpTurn, DownTurn, Steps, Performs, Gives, GivesSub, GivesStorage, GivesBoth, Chooses, does, at_sub, at_storage, at_unit, up_at, up_sub, down_at, down_unit, down_sub, choose_sub, report_at, report_to, report_sub, Executes_at, Executes_on, word_of}
 use Rattle.io_step.specs.Executing.{Executed, Executed_absent}
 
@@ -67,10 +68,10 @@ lifted_both s place k sub new d u v w outcome (Err f) there here g = (
 )
 
 pub up-performs : (s : State) (word path place : ℕ) (sub new d : Subchannel) (after : Contents) (r : Result Reply Fault) → place_of s word ≡ Some place →
-    place < length s.subs → sub ≡ slice_index_or s.subs place d → GivesStorage s.storage sub (up_sub s.storage sub path) r after new →
+    place < length s.subs → sub ≡ slice_index_or s.subs place d → GivesStorage s.storage sub (up_sub false s.storage sub path) r after new →
     Performs s (event.Up word path) r (with_sub (record s { storage = after }) place new)
 up-performs s word path place sub new d after r at within there g =
-    let outcome = up_sub s.storage sub path in
+    let outcome = up_sub false s.storage sub path in
     let steps : (o : Outcome) → o ≡ at_storage s place outcome → Steps s (event.Up word path) o =
     λ o e. named s word place sub (λ (p : Option ℕ) (q : Option Subchannel). o ≡ up_at s p q path) at (at_place s.subs place sub d within there) e in
     performed s (event.Up word path) (at_storage s place outcome) r (with_sub (record s { storage = after }) place new) steps
@@ -85,12 +86,26 @@ choose-performs s word place sub new d choice r at within there chose g =
     λ o e. named s word place sub (λ (p : Option ℕ) (q : Option Subchannel). Chooses s p q o) at (at_place s.subs place sub d within there) (choice, chose, e) in
     performed s (event.Choose word) (at_sub s place outcome) r (with_sub s place new) steps (lifted s place sub new d outcome r there g)
 
+outcome-given : (s : State) (outcome : Outcome) (r : Result Reply Fault) (new : State) → Gives s outcome r new → outcome_of r new ≡ outcome
+outcome-given s outcome (Ok reply) new g = sym g
+outcome-given s outcome (Err f) new g = sym g.0
+
+pub choose-ruled : (picks : Rule) (s : State) (word place : ℕ) (sub new d : Subchannel) (choice : Option ℕ) (r : Result Reply Fault) → place_of s word ≡ Some place →
+    place < length s.subs → sub ≡ slice_index_or s.subs place d → IsChoice (paths_to_choose s.subs sub) choice →
+    picks (paths_to_choose s.subs sub) sub.state.last_path choice →
+    GivesSub sub (choose_sub sub (chosen sub choice)) r new → GoesByRule picks s (event.Choose word) r (with_sub s place new)
+choose-ruled picks s word place sub new d choice r at within there chose picked g =
+    let outcome = choose_sub sub (chosen sub choice) in
+    let after = with_sub s place new in
+    named s word place sub (λ (p : Option ℕ) (q : Option Subchannel). RulesAt picks s p q (outcome_of r after)) at (at_place s.subs place sub d within there)
+    (record { choice = choice; member = chose; picked = picked; gives = outcome-given s (at_sub s place outcome) r after (lifted s place sub new d outcome r there g) })
+
 down-performs : (s : State) (word path place : ℕ) (sub new d : Subchannel) (u v w : UnitState) (r : Result Reply Fault) → place_of s word ≡ Some place →
     place < length s.subs → sub ≡ slice_index_or s.subs place d → sub.setup.«unit» < length s.units → u ≡ slice_index_or s.units sub.setup.«unit» w →
-    GivesBoth sub u (down_sub sub path u) r new v → Performs s (event.Down word path) r (with_unit (with_sub s place new) sub.setup.«unit» v)
+    GivesBoth sub u (down_sub true sub path u) r new v → Performs s (event.Down word path) r (with_unit (with_sub s place new) sub.setup.«unit» v)
 down-performs s word path place sub new d u v w r at within there inside here g =
     let k = sub.setup.«unit» in
-    let outcome = down_sub sub path u in
+    let outcome = down_sub true sub path u in
     let steps : (o : Outcome) → o ≡ at_unit s place k outcome → Steps s (event.Down word path) o =
     λ o e. named s word place sub (λ (p : Option ℕ) (q : Option Subchannel). o ≡ down_at s p q path) at (at_place s.subs place sub d within there)
     (subst (λ (x : Option UnitState). o ≡ down_unit s place sub path x) (sym (at_place s.units k u w inside here)) e) in
@@ -120,7 +135,7 @@ one_there xs i x y d e within f g = some_inj x y (sym (at_place xs i x d within 
 -- the unit's place under another name
 pub down-performs-at : (s : State) (word path place k : ℕ) (sub new d : Subchannel) (u v w : UnitState) (r : Result Reply Fault) → sub.setup.«unit» ≡ k →
     place_of s word ≡ Some place → place < length s.subs → sub ≡ slice_index_or s.subs place d → k < length s.units → u ≡ slice_index_or s.units k w →
-    GivesBoth sub u (down_sub sub path u) r new v → Performs s (event.Down word path) r (with_unit (with_sub s place new) k v)
+    GivesBoth sub u (down_sub true sub path u) r new v → Performs s (event.Down word path) r (with_unit (with_sub s place new) k v)
 down-performs-at s word path place k sub new d u v w r same at within there inside here g =
     subst (λ (j : ℕ). j < length s.units → u ≡ slice_index_or s.units j w → Performs s (event.Down word path) r (with_unit (with_sub s place new) j v)) same
     (λ inside' here'. down-performs s word path place sub new d u v w r at within there inside' here' g) inside here

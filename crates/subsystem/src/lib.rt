@@ -3,7 +3,6 @@
 
 pub mod history;
 mod machine;
-mod places;
 pub mod subsystem;
 #[cfg(test)]
 mod tests;

@@ -3,11 +3,12 @@
 ghost use Rattle.std.specs.Prelude.{◌≡◌, ◌<◌, ◌≤◌, ◌+◌, ℕ, All, Err, None, Some, IfErr, IfOk, IfSome, OnErr, length, slice_index_or};
 ghost use Rattle.machine_model.specs.declared.state.Subchannel.{Subchannel};
 ghost use Rattle.machine_model.specs.State as state_spec;
+ghost use Rattle.machine_model.specs.Ruled.{GoesByRule};
 ghost use Rattle.machine_model.specs.Steps as spec;
 ghost use Rattle.machine_model.specs.Bounds.{IsRoomy, IsUnitRoomy};
 ghost use Rattle.chan_model.specs.declared.event.Event.TheVariants as event_spec;
+ghost use Rattle.finding.specs.Tables.{Fits};
 
-use crate::places::{place_in, reached_in};
 use crate::turns::{choose_sub, down_sub, report_sub, up_sub};
 use crate::unit_turns::turn_of_unit;
 use chan_model::chunk::{Chunk, ChunkLength};
@@ -17,6 +18,8 @@ use chan_model::names::Cpu;
 use chan_model::reply::Reply;
 use chan_model::report::Report;
 use channel_config::names::subchannel_named;
+use finding::engines::{Counted, Engines, engaged};
+use finding::tables::Places;
 use io_step::{execute, execute_absent};
 use machine_model::state::{Subchannel, UnitTurn};
 use path_select::PathChoice;
@@ -51,47 +54,54 @@ pub struct Machine {
     pub sets: u8,
     pub subs: Vec<Subchannel>,
     pub units: Vec<Unit>,
+    pub engines: Engines,
 }
 
 impl Model for Machine {
     ghost use Rattle.machine_model.specs.State.{State};
+    ghost use Rattle.finding.specs.Tables.{Counts};
 
     ghost Value = { State };
 
     ghost view = { λ m. record { storage = m.storage; sets = m.sets; subs = m.subs.items; units = m.units.items } };
+
+    ghost invariant = { λ m. Counts m.engines m.subs.items };
 }
 
 impl Machine {
     /// The place of the subchannel that a subsystem-identification word names.
-    fn place_of(&self, word: u32) -> Option<usize>
+    fn place_of(&self, places: &Places, word: u32) -> Option<usize>
+        requires fits { Fits places.now self.now.subs }
         ensures place { result ≡ state_spec.place_of self.now word }
         ensures bound { IfSome result (λ place. place < length self.now.subs) }
     {
         match subchannel_named(self.sets, word) {
             None => None,
-            Some(id) => place_in(id, self.subs.as_slice()),
+            Some(id) => places.place_in(id, self.subs.as_slice()),
         }
     }
 
     /// The serials of the subchannel that a word names.
-    pub fn serials(&self, word: u32) -> Option<Serials>
+    pub fn serials(&self, places: &Places, word: u32) -> Option<Serials>
+        requires fits { Fits places.now self.now.subs }
         ensures { result ≡ state_spec.serials_in (state_spec.sub_of self.now word) }
     {
-        match self.place_of(word) {
+        match self.place_of(places, word) {
             None => None,
             Some(place) => Some(self.subs[place].state.serials),
         }
     }
 
     /// What a unit is to do next.
-    pub fn unit_turn(&self, number: u32) -> Option<UnitTurn>
+    pub fn unit_turn(&self, places: &Places, number: u32) -> Option<UnitTurn>
+        requires fits { Fits places.now self.now.subs }
         ensures { result ≡ state_spec.unit_turn_of self.now number }
     {
         let number = number as usize;
         if number >= self.units.len() {
             return None;
         }
-        Some(turn_of_unit(number, &self.units[number], self.subs.as_slice()))
+        Some(turn_of_unit(places, number, &self.units[number], self.subs.as_slice()))
     }
 
     fn put(&mut self, address: u32, bytes: &Chunk) -> Result<Reply, Fault>
@@ -132,49 +142,77 @@ impl Machine {
         }
     }
 
-    fn execute(&mut self, cpu: Cpu, instruction: Instruction) -> Result<Reply, Fault>
-        requires { All IsRoomy self.old.subs }
+    fn execute(
+        &mut self,
+        places: &Places,
+        cpu: Cpu,
+        instruction: Instruction,
+    ) -> Result<Reply, Fault>
+        requires fits { Fits places.now self.old.subs }
+        requires roomy { All IsRoomy self.old.subs }
         ensures { spec.Performs self.old (event_spec.Execute cpu instruction) result self.new }
     {
         let Some(id) = subchannel_named(self.sets, word_of(instruction)) else {
             return Err(Fault::Operand);
         };
-        let Some(place) = place_in(id, self.subs.as_slice()) else {
+        let Some(place) = places.place_in(id, self.subs.as_slice()) else {
             return execute_absent(&mut self.storage, cpu, instruction);
         };
         let sub = &mut self.subs[place];
-        execute(&mut self.storage, sub, cpu, instruction)
+        let before = engaged(sub);
+        let answer = execute(&mut self.storage, sub, cpu, instruction);
+        let after = engaged(sub);
+        self.engines.change(before, after);
+        answer
     }
 
-    fn choose<P: PathChoice>(&mut self, choice: &P, word: u32) -> Result<Reply, Fault>
-        requires { All IsRoomy self.old.subs }
-        ensures { spec.Performs self.old (event_spec.Choose word) result self.new }
+    fn choose<P: PathChoice>(
+        &mut self,
+        places: &Places,
+        choice: &P,
+        word: u32,
+    ) -> Result<Reply, Fault>
+        requires fits { Fits places.now self.old.subs }
+        requires roomy { All IsRoomy self.old.subs }
+        ensures performs { spec.Performs self.old (event_spec.Choose word) result self.new }
+        ensures ruled { GoesByRule P.picks self.old (event_spec.Choose word) result self.new }
     {
-        let Some(place) = self.place_of(word) else {
+        let Some(place) = self.place_of(places, word) else {
             return Err(Fault::NoSuchSubchannel);
         };
-        let paths = paths_to_choose(self.subs.as_slice(), &self.subs[place]);
+        let counted = Counted::of(self.subs.as_slice(), &self.engines);
+        let paths = paths_to_choose(&counted, &self.subs[place]);
         let sub = &mut self.subs[place];
         let path = choice.choose(&paths, sub.state.last_path);
         let what = chosen(sub, path);
-        choose_sub(sub, what)
+        let before = engaged(sub);
+        let answer = choose_sub(sub, what);
+        let after = engaged(sub);
+        self.engines.change(before, after);
+        answer
     }
 
-    fn up(&mut self, word: u32, path: u32) -> Result<Reply, Fault>
-        requires { All IsRoomy self.old.subs }
+    fn up(&mut self, places: &Places, word: u32, path: u32) -> Result<Reply, Fault>
+        requires fits { Fits places.now self.old.subs }
+        requires roomy { All IsRoomy self.old.subs }
         ensures { spec.Performs self.old (event_spec.Up word path) result self.new }
     {
-        let Some(place) = self.place_of(word) else {
+        let Some(place) = self.place_of(places, word) else {
             return Err(Fault::NoSuchSubchannel);
         };
         let sub = &mut self.subs[place];
-        up_sub(&mut self.storage, sub, path)
+        let before = engaged(sub);
+        let answer = up_sub(&mut self.storage, sub, path);
+        let after = engaged(sub);
+        self.engines.change(before, after);
+        answer
     }
 
-    fn down(&mut self, word: u32, path: u32) -> Result<Reply, Fault>
+    fn down(&mut self, places: &Places, word: u32, path: u32) -> Result<Reply, Fault>
+        requires fits { Fits places.now self.old.subs }
         ensures { spec.Performs self.old (event_spec.Down word path) result self.new }
     {
-        let Some(place) = self.place_of(word) else {
+        let Some(place) = self.place_of(places, word) else {
             return Err(Fault::NoSuchSubchannel);
         };
         let number = self.subs[place].setup.unit as usize;
@@ -186,15 +224,16 @@ impl Machine {
         down_sub(sub, unit, path)
     }
 
-    fn report(&mut self, number: u32, report: &Report) -> Result<Reply, Fault>
-        requires { All IsUnitRoomy self.old.units }
+    fn report(&mut self, places: &Places, number: u32, report: &Report) -> Result<Reply, Fault>
+        requires fits { Fits places.now self.old.subs }
+        requires roomy { All IsUnitRoomy self.old.units }
         ensures { spec.Performs self.old (event_spec.Report number report.now) result self.new }
     {
         let number = number as usize;
         if number >= self.units.len() {
             return Err(Fault::NoSuchUnit);
         }
-        let Some(place) = reached_in(number, report.side, self.subs.as_slice()) else {
+        let Some(place) = places.reached_in(number, report.side, self.subs.as_slice()) else {
             return Err(Fault::NotNow);
         };
         let sub = &mut self.subs[place];
@@ -203,21 +242,28 @@ impl Machine {
     }
 
     /// Performs one event; a refusal changes nothing.
-    pub fn perform<P: PathChoice>(&mut self, choice: &P, event: &Event) -> Result<Reply, Fault>
+    pub fn perform<P: PathChoice>(
+        &mut self,
+        places: &Places,
+        choice: &P,
+        event: &Event,
+    ) -> Result<Reply, Fault>
+        requires fits { Fits places.now self.old.subs }
         requires subs { All IsRoomy self.old.subs }
         requires units { All IsUnitRoomy self.old.units }
-        ensures { spec.Performs self.old event.now result self.new }
+        ensures performs { spec.Performs self.old event.now result self.new }
+        ensures ruled { GoesByRule P.picks self.old event.now result self.new }
     {
         match event {
             Event::Put { address, bytes } => self.put(*address, bytes),
             Event::SetKey { address, key } => self.set_key(*address, *key),
             Event::SetPrefix { cpu, address } => self.set_prefix(*cpu, *address),
             Event::Show { address, length } => self.show(*address, *length),
-            Event::Execute { cpu, instruction } => self.execute(*cpu, *instruction),
-            Event::Choose { subchannel } => self.choose(choice, *subchannel),
-            Event::Up { subchannel, path } => self.up(*subchannel, *path),
-            Event::Down { subchannel, path } => self.down(*subchannel, *path),
-            Event::Report { unit, report } => self.report(*unit, report),
+            Event::Execute { cpu, instruction } => self.execute(places, *cpu, *instruction),
+            Event::Choose { subchannel } => self.choose(places, choice, *subchannel),
+            Event::Up { subchannel, path } => self.up(places, *subchannel, *path),
+            Event::Down { subchannel, path } => self.down(places, *subchannel, *path),
+            Event::Report { unit, report } => self.report(places, *unit, report),
         }
     }
 }

@@ -1,13 +1,16 @@
 //! The channel subsystem: its machine, and the history that led there.
 
-ghost use Rattle.std.specs.Prelude.{◌≡◌, ◌≢◌, ◌⊎◌, ◌+◌, ◌<◌, ◌≤◌, Err, ◌++◌, ◌∷◌, [], ℕ, IfOk, IfErr, OnErr, OnOk, All, length, map, vec_len, vec_capacity, option_map};
+ghost use Rattle.std.specs.Prelude.{◌≡◌, ◌≢◌, ◌⊎◌, ◌+◌, ◌<◌, ◌≤◌, Err, ◌++◌, ◌∷◌, [], ℕ, IfOk, IfErr, OnErr, OnOk, All, length, map, true, vec_len, vec_capacity, option_map};
 ghost use Rattle.chan_model.specs.declared.fault.Fault.TheVariants as fault_spec;
 ghost use Rattle.machine_model.specs.State as state_spec;
+ghost use Rattle.machine_model.specs.Ruled.{GoesByRule};
+ghost use Rattle.machine_model.specs.State.{IsAsBefore, LacksRoom};
 ghost use Rattle.machine_model.specs.Steps.{Step, IsRefused, HasRun};
 ghost use Rattle.machine_model.specs.Answering.{HasAnswered, HasBegun};
 ghost use Rattle.std.specs.Bool.{OnTrue, OnFalse};
 ghost use Rattle.machine_model.specs.Bounds.{IsRoomy, IsUnitRoomy};
 ghost use Rattle.channel_config.specs.Lawful.{IsLawful};
+ghost use Rattle.finding.specs.Tables.{Fits};
 ghost use Rattle.machine_laws.specs.Agreeing.{AllAgree};
 ghost use Rattle.program_laws.specs.Claims.{HasTold};
 ghost use Rattle.machine_laws.specs.Claims.{IsClearedOnce};
@@ -20,8 +23,10 @@ use chan_model::fault::Fault;
 use chan_model::reply::{Entry, Reply};
 use channel_config::config::Config;
 use channel_config::parts::{SubchannelSetup, UnitKind};
+use finding::engines::Engines;
+use finding::tables::Places;
 use hold::Hold;
-use machine_laws::{agreements, beginnings, numbers, serials, steps};
+use machine_laws::{agreements, beginnings, numbers, serials, setups, steps};
 use machine_model::state::{Pmcw, Subchannel, SubchannelState, UnitTurn};
 use path_select::PathChoice;
 use program_laws::programs;
@@ -30,6 +35,7 @@ use scsw_irb::serials::Serials;
 use std::alloc::{AllocError, Global};
 use std::marker::Model;
 use storage_keys::Storage;
+use supply::{Given, Supply, push};
 use unit::Unit;
 use wires::Wires;
 
@@ -37,19 +43,22 @@ use wires::Wires;
 #[derive(Drop)]
 pub struct Subsystem<P: Drop> {
     choice: P,
+    places: Places,
     machine: Machine,
     history: Vec<Entry>,
 }
 
 impl<P: Drop> Model for Subsystem<P> {
+    ghost use Rattle.std.specs.Prelude.{◌-◌, vec_len, vec_capacity};
     ghost use Rattle.machine_model.specs.State.{Past};
     ghost use Rattle.machine_model.specs.Steps.{HasRun};
+    ghost use Rattle.finding.specs.Tables.{Fits};
 
     ghost Value = { Past };
 
-    ghost view = { λ s. record { state = s.machine; history = s.history.items } };
+    ghost view = { λ s. record { state = s.machine; history = s.history.items; room = vec_capacity s.history - vec_len s.history } };
 
-    ghost invariant = { λ s. HasRun s.history.items s.machine };
+    ghost invariant = { λ s. HasRun s.history.items s.machine × Fits s.places s.machine.subs };
 }
 
 /// There was no memory for a subsystem: what it was to be made of.
@@ -62,11 +71,31 @@ pub struct NotMade<P: Drop> {
 impl<P: PathChoice + Drop> Subsystem<P> {
     /// The subsystem that is set up so. Where no memory is left, what was given is handed back.
     pub fn new(alloc: Global, config: Config, choice: P) -> Result<Self, NotMade<P>>
-        ensures { IfOk result (λ s. s ≡ record { state = state_spec.opening_of config; history = [] }) }
+        ensures made { IfOk result (λ s. s ≡ record { state = state_spec.opening_of config; history = []; room = 0 }) }
+        ensures config { IfErr result (λ n. n.config ≡ config) }
+        ensures choice { IfErr result (λ n. n.choice ≡ choice) }
     {
-        match opened_machine(alloc, &config) {
-            Ok(machine) => Ok(Subsystem {
+        Subsystem::new_with(alloc, &mut Given { refused: false }, config, choice)
+    }
+
+    /// The subsystem that is set up so, in what room a supply has. Where the supply refuses a growth, and only there, it is
+    /// not made, and what was given is handed back.
+    pub fn new_with<S: Supply>(
+        alloc: Global,
+        supply: &mut S,
+        config: Config,
+        choice: P,
+    ) -> Result<Self, NotMade<P>>
+        ensures made { IfOk result (λ s. s ≡ record { state = state_spec.opening_of config; history = []; room = 0 }) }
+        ensures config { IfErr result (λ n. n.config ≡ config) }
+        ensures choice { IfErr result (λ n. n.choice ≡ choice) }
+        ensures given { OnOk result (S.refused supply.new ≡ S.refused supply.old) }
+        ensures memory { OnErr result (S.refused supply.new ≡ true) }
+    {
+        match opened_machine(alloc, supply, &config) {
+            Ok((places, machine)) => Ok(Subsystem {
                 choice,
+                places,
                 machine,
                 history: Vec::new(alloc),
             }),
@@ -74,23 +103,28 @@ impl<P: PathChoice + Drop> Subsystem<P> {
         }
     }
 
-    /// One event. It is refused `NoMemory` where the history can't grow; a refusal changes nothing.
+    /// One event. It is refused `NoMemory` only where the history has no room and can't grow, or the numbers are used up; a
+    /// refusal changes nothing.
     pub fn step(&mut self, event: &Event) -> Result<Reply, Fault>
         ensures step { IfOk result (λ reply. Step self.old.state event.now reply self.new.state) }
         ensures history { IfOk result (λ reply. self.new.history ≡ self.old.history ++ record { event = event.now; reply = reply } ∷ []) }
-        ensures refused { OnErr result (self.new ≡ self.old) }
+        ensures ruled { result ≢ Err fault_spec.NoMemory → GoesByRule P.picks self.old.state event.now result self.new.state }
+        ensures room { self.old.room ≤ self.new.room + 1 }
+        ensures refused { OnErr result (IsAsBefore self.old self.new) }
         ensures refusal { IfErr result (λ f. (f ≡ fault_spec.NoMemory) ⊎ IsRefused self.old.state event.now f) }
+        ensures spent { result ≡ Err fault_spec.NoMemory → LacksRoom self.old self.new }
     {
         numbers();
+        setups();
         if self.history.len() >= (1 << 62) - 1 {
             return Err(Fault::NoMemory);
         }
         if self.history.reserve(1).is_err() {
             return Err(Fault::NoMemory);
         }
-        let reply = match self.machine.perform(&self.choice, event) {
-            Ok(reply) => reply,
-            Err(fault) => return Err(fault),
+        let answer = self.machine.perform(&self.places, &self.choice, event);
+        let Ok(reply) = &answer else {
+            return answer;
         };
         append(
             &mut self.history,
@@ -99,7 +133,7 @@ impl<P: PathChoice + Drop> Subsystem<P> {
                 reply: reply.copy(),
             },
         );
-        Ok(reply)
+        answer
     }
 
     /// The events in order, each with its reply or its refusal. Room for the answers is made first; the refusal
@@ -109,9 +143,10 @@ impl<P: PathChoice + Drop> Subsystem<P> {
         alloc: Global,
         events: &[Event],
     ) -> Result<Vec<Result<Reply, Fault>>, Fault>
-        ensures answered { IfOk result (λ answers. HasAnswered self.old events.now answers.items self.new) }
+        ensures answered { IfOk result (λ answers. HasAnswered P.picks self.old events.now answers.items self.new) }
         ensures ended { IfErr result (λ f. f ≡ fault_spec.NoMemory) }
-        ensures begun { OnErr result (HasBegun self.old events.now self.new) }
+        ensures begun { OnErr result (HasBegun P.picks self.old events.now self.new) }
+        ensures room { self.old.room ≤ self.new.room + length events.now }
         ensures replays { HasRun self.new.history self.new.state }
         // Of two TEST SUBCHANNEL of one subchannel that answered 0, the later carries a strictly greater count of statuses made.
         ensures cleared_once { IsClearedOnce self.new.state.sets self.new.history }
@@ -173,14 +208,14 @@ impl<P: PathChoice + Drop> Subsystem<P> {
     pub fn serials(&self, subchannel: u32) -> Option<Serials>
         ensures { result ≡ state_spec.serials_in (state_spec.sub_of self.now.state subchannel) }
     {
-        self.machine.serials(subchannel)
+        self.machine.serials(&self.places, subchannel)
     }
 
     /// What a unit is to do next; None where it is not configured.
     pub fn unit_turn(&self, unit: u32) -> Option<UnitTurn>
         ensures { result ≡ state_spec.unit_turn_of self.now.state «unit» }
     {
-        self.machine.unit_turn(unit)
+        self.machine.unit_turn(&self.places, unit)
     }
 }
 
@@ -201,15 +236,17 @@ fn add(answers: &mut Vec<Result<Reply, Fault>>, answer: Result<Reply, Fault>)
     ensures items { answers.new.items ≡ answers.old.items ++ answer ∷ [] }
     ensures capacity { vec_capacity answers.old ≤ vec_capacity answers.new }
 {
-    let _ = answers.push(answer);
+    answers.push_reserved(answer);
 }
 
 /// Adds an entry, for which there is room.
 fn append(history: &mut Vec<Entry>, entry: Entry)
     requires { vec_len history.old < vec_capacity history.old }
-    ensures { history.new.items ≡ history.old.items ++ entry ∷ [] }
+    ensures items { history.new.items ≡ history.old.items ++ entry ∷ [] }
+    ensures len { vec_len history.new ≡ vec_len history.old + 1 }
+    ensures capacity { vec_capacity history.old ≤ vec_capacity history.new }
 {
-    history.push(entry).unwrap();
+    history.push_reserved(entry);
 }
 
 /// A subchannel at the opening.
@@ -260,12 +297,18 @@ fn opening_subchannel() -> SubchannelState
     }
 }
 
-fn opened_all(alloc: Global, setups: &[SubchannelSetup]) -> Result<Vec<Subchannel>, AllocError>
-    ensures { IfOk result (λ subs. subs.items ≡ map state_spec.opened setups.now) }
+fn opened_all<S: Supply>(
+    alloc: Global,
+    supply: &mut S,
+    setups: &[SubchannelSetup],
+) -> Result<Vec<Subchannel>, AllocError>
+    ensures opened { IfOk result (λ subs. subs.items ≡ map state_spec.opened setups.now) }
+    ensures given { OnOk result (S.refused supply.new ≡ S.refused supply.old) }
+    ensures memory { OnErr result (S.refused supply.new ≡ true) }
 {
     let mut subs = Vec::new(alloc);
     for setup in setups {
-        subs.push(opened(setup))?;
+        push(supply, &mut subs, opened(setup))?;
     }
     Ok(subs)
 }
@@ -279,28 +322,48 @@ fn idle(kind: UnitKind) -> Unit
     }
 }
 
-fn idle_units(alloc: Global, kinds: &[UnitKind]) -> Result<Vec<Unit>, AllocError>
-    ensures { IfOk result (λ units. units.items ≡ map state_spec.idle_of kinds.now) }
+fn idle_units<S: Supply>(
+    alloc: Global,
+    supply: &mut S,
+    kinds: &[UnitKind],
+) -> Result<Vec<Unit>, AllocError>
+    ensures idle { IfOk result (λ units. units.items ≡ map state_spec.idle_of kinds.now) }
+    ensures given { OnOk result (S.refused supply.new ≡ S.refused supply.old) }
+    ensures memory { OnErr result (S.refused supply.new ≡ true) }
 {
     let mut units = Vec::new(alloc);
     for kind in kinds {
-        units.push(idle(*kind))?;
+        push(supply, &mut units, idle(*kind))?;
     }
     Ok(units)
 }
 
-fn opened_machine(alloc: Global, config: &Config) -> Result<Machine, AllocError>
-    ensures opened { IfOk result (λ machine. machine ≡ state_spec.opening_of config.now) }
+fn opened_machine<S: Supply>(
+    alloc: Global,
+    supply: &mut S,
+    config: &Config,
+) -> Result<(Places, Machine), AllocError>
+    ensures opened { IfOk result (λ m. m.1 ≡ state_spec.opening_of config.now) }
+    ensures fits { IfOk result (λ m. Fits m.0 m.1.subs) }
     ensures lawful { OnOk result (IsLawful config.now) }
+    ensures given { OnOk result (S.refused supply.new ≡ S.refused supply.old) }
+    ensures memory { OnErr result (S.refused supply.new ≡ true) }
 {
     let blocks = match config.blocks() {
         Some(blocks) => blocks,
         None => 16,
     };
-    Ok(Machine {
-        storage: Storage::new(alloc, blocks)?,
-        sets: config.set_count(),
-        subs: opened_all(alloc, config.subchannels())?,
-        units: idle_units(alloc, config.units())?,
-    })
+    let sets = config.set_count();
+    let units = idle_units(alloc, supply, config.units())?;
+    let subs = opened_all(alloc, supply, config.subchannels())?;
+    let places = Places::of(alloc, supply, sets, units.len(), subs.as_slice())?;
+    let engines = Engines::of(subs.as_slice());
+    let machine = Machine {
+        storage: Storage::new_with(alloc, supply, blocks)?,
+        sets,
+        subs,
+        units,
+        engines,
+    };
+    Ok((places, machine))
 }

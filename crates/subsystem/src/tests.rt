@@ -1,7 +1,7 @@
 //! One write command from its start to its cleared status; programs that are halted, cleared, cancelled and resumed; and the
 //! turns of a unit.
 
-use crate::subsystem::Subsystem;
+use crate::subsystem::{NotMade, Subsystem};
 use chan_model::chunk::Chunk;
 use chan_model::event::{Event, Instruction};
 use chan_model::fault::Fault;
@@ -15,6 +15,7 @@ use machine_model::state::UnitTurn;
 use path_select::Rotating;
 use scsw_irb::status::DeviceStatus;
 use std::alloc::Global;
+use supply::Refusing;
 
 const WORD: u32 = 0x0001_0000;
 
@@ -413,4 +414,34 @@ fn a_unit_takes_the_lowest_path_of_its_first_side(rt: HostRuntime) {
         assert!(rt; subsystem.step(&down).is_ok());
     }
     assert!(rt; matches!(subsystem.unit_turn(0), Some(UnitTurn::Rests)));
+}
+
+/// The requests for room as a subsystem of one unit and one subchannel is made: one for each of both, three for the tables of
+/// places, two for storage.
+const REQUESTS: u64 = 7;
+
+#[test]
+fn each_request_of_an_opening_is_refused_in_turn(rt: HostRuntime) {
+    let alloc = rt.alloc();
+    for left in 0..=REQUESTS {
+        let mut supply = Refusing {
+            left,
+            refused: false,
+        };
+        match Subsystem::new_with(alloc, &mut supply, one_path(alloc), Rotating {}) {
+            Ok(subsystem) => {
+                assert!(rt; left == REQUESTS && !supply.refused);
+                assert!(rt; subsystem.serials(WORD).is_some());
+            }
+            Err(NotMade { config, choice }) => {
+                assert!(rt; left < REQUESTS && supply.refused, "{left}");
+                let Ok(subsystem) = Subsystem::new(alloc, config, choice) else {
+                    assert!(rt; false, "there is memory");
+                    return;
+                };
+                assert!(rt; subsystem.serials(WORD).is_some());
+                assert_eq!(rt; subsystem.history().len(), 0);
+            }
+        }
+    }
 }

@@ -3,11 +3,13 @@
 ghost use Rattle.std.specs.Prelude.{◌≡◌, ◌<◌, ◌^◌, true, false, length};
 ghost use Rattle.machine_model.specs.Steps as spec;
 ghost use Rattle.machine_model.specs.Choosing as choosing_spec;
+ghost use Rattle.machine_model.specs.Taking.{IsBelow, takes_up};
 ghost use Rattle.machine_model.specs.declared.state.Chosen.TheVariants as chosen_spec;
 ghost use Rattle.machine_model.specs.Bounds.{IsRoomy, IsUnitRoomy};
 ghost use Rattle.chan_model.specs.UnitReports as reports_spec;
 ghost use Rattle.chan_model.specs.UnitTable as unit_spec;
 ghost use Rattle.wires.specs.Queues.{queue};
+ghost use Rattle.finding.specs.Tables.{engaged};
 
 use chan_model::fault::Fault;
 use chan_model::names::{Path, Side};
@@ -15,52 +17,41 @@ use chan_model::reply::Reply;
 use chan_model::report::{Report, ReportPath};
 use chan_model::signal::{Down, OnPath, Taken, Up};
 use machine_model::cause::Cause;
-use machine_model::state::{Candidate, Chosen, Subchannel, SubchannelState, UpStep};
+use machine_model::state::{Candidate, Chosen, Subchannel};
 use status::make_pending;
 use storage_keys::Storage;
-use subchannel::choosing::{halt_sent, offered, reset_sent};
-use subchannel::moving::stores;
-use subchannel::taking::takes_up;
+use subchannel::answering::answer_path;
+use subchannel::choosing::{offer, send_halt, send_reset};
+use subchannel::taking::take_up;
 use unit::Unit;
 use wires::Wires;
-
-/// A signal is sent down a path, with which the subchannel comes to this state.
-fn send_sub(
-    sub: &mut Subchannel,
-    state: SubchannelState,
-    path: Path,
-    signal: Down,
-    reply: Reply,
-) -> Result<Reply, Fault>
-    ensures { spec.GivesSub sub.old (spec.send_sub sub.old state path signal reply) result sub.new }
-{
-    if sub.wires.down_is_full(path) {
-        return Err(Fault::WireFull);
-    }
-    sub.state = state;
-    sub.wires.send_down(path, signal);
-    Ok(reply)
-}
 
 /// The Reset that is due is sent on a path.
 fn reset_sub(sub: &mut Subchannel, number: u64, path: Path) -> Result<Reply, Fault>
     ensures { spec.GivesSub sub.old (spec.choose_sub sub.old (chosen_spec.Resets number path)) result sub.new }
 {
+    if sub.wires.down_is_full(path) {
+        return Err(Fault::WireFull);
+    }
     let signal = Down::Reset {
         number,
         restarts: sub.state.hold.known,
     };
-    let state = reset_sent(&sub.state, path);
-    send_sub(sub, state, path, signal, Reply::ResetSent { number, path })
+    send_reset(&mut sub.state, path);
+    sub.wires.send_down(path, signal);
+    Ok(Reply::ResetSent { number, path })
 }
 
 /// A Halt is sent on a path.
 fn halt_on(sub: &mut Subchannel, number: u64, path: Path) -> Result<Reply, Fault>
     ensures { spec.GivesSub sub.old (spec.choose_sub sub.old (chosen_spec.Halts number path)) result sub.new }
 {
-    let state = halt_sent(&sub.state);
-    let signal = Down::Halt { number };
-    send_sub(sub, state, path, signal, Reply::HaltSent { number, path })
+    if sub.wires.down_is_full(path) {
+        return Err(Fault::WireFull);
+    }
+    send_halt(&mut sub.state);
+    sub.wires.send_down(path, Down::Halt { number });
+    Ok(Reply::HaltSent { number, path })
 }
 
 /// A program is offered on a path.
@@ -69,14 +60,17 @@ fn offer_sub(sub: &mut Subchannel, candidate: Candidate, path: Path) -> Result<R
     requires free { choosing_spec.IsFitFor (chosen_spec.Offers candidate path) sub.old.state.hold }
     ensures { spec.GivesSub sub.old (spec.choose_sub sub.old (chosen_spec.Offers candidate path)) result sub.new }
 {
+    if sub.wires.down_is_full(path) {
+        return Err(Fault::WireFull);
+    }
     let number = sub.state.drawn + 1;
-    let state = offered(&sub.state, &candidate.program, path);
-    let reply = Reply::Offered {
+    offer(&mut sub.state, &candidate.program, path);
+    sub.wires.send_down(path, Down::Select { number });
+    Ok(Reply::Offered {
         number,
         path,
         resumed: candidate.resumes,
-    };
-    send_sub(sub, state, path, Down::Select { number }, reply)
+    })
 }
 
 /// A status is made pending.
@@ -105,13 +99,23 @@ pub fn choose_sub(sub: &mut Subchannel, chosen: Chosen) -> Result<Reply, Fault>
     }
 }
 
-fn down_finds_full(wires: &Wires, sent: &Option<OnPath<Down>>) -> bool
-    ensures full { result ≡ spec.finds_full wires.now.down sent.now }
-    ensures room { spec.HasRoom wires.now.down sent.now result }
+fn finds_down_full(wires: &Wires, path: Path) -> bool
+    ensures full { result ≡ spec.is_full wires.now.down path }
+    ensures room { result ≡ false → length (queue wires.now.down path) < 8 }
 {
-    match sent {
+    wires.down_is_full(path)
+}
+
+/// Whether what comes of a signal finds its wire full.
+#[tactic(auto, using(crate::proofs::Answered::finds_none, crate::proofs::Answered::finds_some, crate::proofs::Answered::room_none, crate::proofs::Answered::room_some))]
+fn up_finds_full(storage: &Storage, sub: &Subchannel, path: Path, signal: &Up) -> bool
+    requires { IsBelow sub.now.state.begun }
+    ensures full { result ≡ spec.finds_full sub.now.wires.down (takes_up false storage.now sub.now.state path signal.now).step.came.sent }
+    ensures room { spec.HasRoom sub.now.wires.down (takes_up false storage.now sub.now.state path signal.now).step.came.sent result }
+{
+    match answer_path(storage, &sub.state, path, signal, false) {
         None => false,
-        Some(signal) => wires.down_is_full(signal.path),
+        Some(at) => finds_down_full(&sub.wires, at),
     }
 }
 
@@ -135,11 +139,11 @@ fn path_of(sub: &Subchannel, path: u32) -> Option<Path>
     }
 }
 
-/// The subchannel takes the signal that waits longest on the wire up of a path. The bytes of a read are stored once it is
-/// known that their answer finds room.
+/// The subchannel takes the signal that waits longest on the wire up of a path, once it is known that what comes of it finds
+/// room.
 pub fn up_sub(storage: &mut Storage, sub: &mut Subchannel, path: u32) -> Result<Reply, Fault>
     requires { IsRoomy sub.old }
-    ensures { spec.GivesStorage storage.old sub.old (spec.up_sub storage.old sub.old path) result storage.new sub.new }
+    ensures { spec.GivesStorage storage.old sub.old (spec.up_sub false storage.old sub.old path) result storage.new sub.new }
 {
     let Some(path) = path_of(sub, path) else {
         return Err(Fault::NoSuchPath);
@@ -147,17 +151,12 @@ pub fn up_sub(storage: &mut Storage, sub: &mut Subchannel, path: u32) -> Result<
     let Some(front) = sub.wires.front_up(path) else {
         return Err(Fault::NotSent);
     };
-    if stores(&sub.state, path, front) && finds_down_full(&sub.wires, path) {
-        return Err(Fault::WireFull);
-    }
-    let UpStep { state, came } = takes_up(storage, &sub.state, path, front);
-    let Taken { taken, sent } = came;
-    if down_finds_full(&sub.wires, &sent) {
+    if up_finds_full(storage, sub, path, front) {
         return Err(Fault::WireFull);
     }
     let signal = sub.wires.take_up(path);
+    let Taken { taken, sent } = take_up(storage, &mut sub.state, path, &signal, false);
     send_any_down(&mut sub.wires, &sent);
-    sub.state = state;
     Ok(Reply::Up {
         signal,
         taken,
@@ -184,7 +183,8 @@ fn send_any_up(wires: &mut Wires, sent: &Option<OnPath<Up>>)
 
 /// The unit takes the signal that waits longest on the wire down of a path.
 pub fn down_sub(sub: &mut Subchannel, unit: &mut Unit, path: u32) -> Result<Reply, Fault>
-    ensures { spec.GivesBoth sub.old «unit».old (spec.down_sub sub.old path «unit».old) result sub.new «unit».new }
+    ensures engaged { engaged sub.new ≡ engaged sub.old }
+    ensures gives { spec.GivesBoth sub.old «unit».old (spec.down_sub true sub.old path «unit».old) result sub.new «unit».new }
 {
     let Some(path) = path_of(sub, path) else {
         return Err(Fault::NoSuchPath);
@@ -204,12 +204,6 @@ pub fn down_sub(sub: &mut Subchannel, unit: &mut Unit, path: u32) -> Result<Repl
         taken,
         sent,
     })
-}
-
-fn finds_down_full(wires: &Wires, path: Path) -> bool
-    ensures { result ≡ spec.is_full wires.now.down path }
-{
-    wires.down_is_full(path)
 }
 
 fn finds_up_full(wires: &Wires, path: Path) -> bool
@@ -233,7 +227,8 @@ fn report_finds_full(wires: &Wires, unit: &Unit, report: &Report) -> bool
 /// The unit takes its device's answer, and sends what comes of it to the subchannel.
 pub fn report_sub(sub: &mut Subchannel, unit: &mut Unit, report: &Report) -> Result<Reply, Fault>
     requires { IsUnitRoomy «unit».old }
-    ensures { spec.GivesBoth sub.old «unit».old (spec.report_sub sub.old «unit».old report.now) result sub.new «unit».new }
+    ensures engaged { engaged sub.new ≡ engaged sub.old }
+    ensures gives { spec.GivesBoth sub.old «unit».old (spec.report_sub sub.old «unit».old report.now) result sub.new «unit».new }
 {
     if let ReportPath::Refused = unit.report_path(report) {
         return Err(Fault::NotNow);

@@ -3,10 +3,11 @@
 ghost use Rattle.std.specs.Prelude.{◌≡◌, ◌<◌, MatchOption, None, Some};
 ghost use Rattle.machine_model.specs.State as state_spec;
 ghost use Rattle.machine_model.specs.State.{State};
+ghost use Rattle.finding.specs.Tables.{Fits};
 
-use crate::places::reached_in;
 use chan_model::names::{Path, Side};
 use chan_model::unit_state::{Own, Place};
+use finding::tables::Places;
 use machine_model::state::{Subchannel, UnitTurn};
 use unit::Unit;
 use wires::Wires;
@@ -47,18 +48,25 @@ fn signal_path(wires: &Wires) -> Option<u32>
 }
 
 /// The subchannel that reaches this side of a unit.
-fn reached_sub(unit: usize, side: Side, subs: &[Subchannel]) -> Option<&Subchannel>
+fn reached_sub<'a>(
+    places: &Places,
+    unit: usize,
+    side: Side,
+    subs: &'a [Subchannel],
+) -> Option<&'a Subchannel>
+    requires { Fits places.now subs.now }
     ensures { MatchOption result (state_spec.reached_sub «unit» side subs.now ≡ None) (λ sub. state_spec.reached_sub «unit» side subs.now ≡ Some sub.now) }
 {
-    let place = reached_in(unit, side, subs)?;
+    let place = places.reached_in(unit, side, subs)?;
     subs.get(place)
 }
 
 /// The signal that waits for a side of a unit, as what the unit is to do.
-fn taken_from(unit: usize, side: Side, subs: &[Subchannel]) -> Option<UnitTurn>
+fn taken_from(places: &Places, unit: usize, side: Side, subs: &[Subchannel]) -> Option<UnitTurn>
+    requires { Fits places.now subs.now }
     ensures { result ≡ state_spec.takes_from (state_spec.reached_sub «unit» side subs.now) }
 {
-    let sub = reached_sub(unit, side, subs)?;
+    let sub = reached_sub(places, unit, side, subs)?;
     let path = signal_path(&sub.wires)?;
     Some(UnitTurn::Takes {
         subchannel: sub.setup.id,
@@ -81,15 +89,23 @@ fn cyclic_path(paths: usize, from: u64) -> Option<u32>
 }
 
 /// The path that a program of this side may ask for, whose last connection had this number.
-fn away_path(unit: usize, side: Side, connection: u64, subs: &[Subchannel]) -> Option<u32>
+fn away_path(
+    places: &Places,
+    unit: usize,
+    side: Side,
+    connection: u64,
+    subs: &[Subchannel],
+) -> Option<u32>
+    requires { Fits places.now subs.now }
     ensures { result ≡ state_spec.away_path (state_spec.reached_sub «unit» side subs.now) connection }
 {
-    let sub = reached_sub(unit, side, subs)?;
+    let sub = reached_sub(places, unit, side, subs)?;
     cyclic_path(sub.setup.paths.as_slice().len(), connection)
 }
 
 /// What a unit without a signal and without work is to do.
-fn turn_of_own(unit: usize, own: Own, subs: &[Subchannel]) -> UnitTurn
+fn turn_of_own(places: &Places, unit: usize, own: Own, subs: &[Subchannel]) -> UnitTurn
+    requires { Fits places.now subs.now }
     ensures { result ≡ state_spec.turn_of_own subs.now «unit» own }
 {
     match own {
@@ -98,7 +114,7 @@ fn turn_of_own(unit: usize, own: Own, subs: &[Subchannel]) -> UnitTurn
             place: Place::Away { connection },
             ..
         } => UnitTurn::Away {
-            path: away_path(unit, side, connection, subs),
+            path: away_path(places, unit, side, connection, subs),
         },
         _ => UnitTurn::Rests,
     }
@@ -106,17 +122,18 @@ fn turn_of_own(unit: usize, own: Own, subs: &[Subchannel]) -> UnitTurn
 
 /// What a unit is to do next: it takes the signal that waits, of its first side before its second; else does what its program
 /// asks for; else its program may ask for a path.
-pub fn turn_of_unit(number: usize, unit: &Unit, subs: &[Subchannel]) -> UnitTurn
+pub fn turn_of_unit(places: &Places, number: usize, unit: &Unit, subs: &[Subchannel]) -> UnitTurn
+    requires { Fits places.now subs.now }
     ensures { (s : State) → s.subs ≡ subs.now → state_spec.turn_of_unit s number (Some «unit».now) ≡ Some result }
 {
-    if let Some(turn) = taken_from(number, Side::First, subs) {
+    if let Some(turn) = taken_from(places, number, Side::First, subs) {
         return turn;
     }
-    if let Some(turn) = taken_from(number, Side::Second, subs) {
+    if let Some(turn) = taken_from(places, number, Side::Second, subs) {
         return turn;
     }
     match unit.work() {
         Some(work) => UnitTurn::Works(work),
-        None => turn_of_own(number, unit.own(), subs),
+        None => turn_of_own(places, number, unit.own(), subs),
     }
 }

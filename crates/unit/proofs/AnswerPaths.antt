@@ -1,5 +1,5 @@
 -- What is sent for a signal goes by the path that the signal came by.
-use Rattle.std.proofs.Common.{◌≡◌, refl, ℕ, ◌+◌, List, IfSome, Bool, true, false, Option, None, Some, is_some, ◌&&◌, ◌==◌, nat_lt, if◌then◌else◌, not}
+use Rattle.std.proofs.Common.{◌≡◌, refl, ℕ, ◌+◌, List, IfSome, Bool, true, false, Option, None, Some, ◌&&◌, ◌==◌, nat_lt, if◌then◌else◌, not}
 use Rattle.chan_model.specs.declared.names.Side.{Side}
 use Rattle.chan_model.specs.declared.signal.Down.{Down}
 use Rattle.chan_model.specs.declared.signal.Down.TheVariants.{Select, Command, Grant, Refuse, Took, Give, Halt, Release, Reset, Got}

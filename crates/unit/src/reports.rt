@@ -89,8 +89,18 @@ fn may_end(halted: bool, command: &AtHand, status: DeviceStatus, more: bool) -> 
         Progress::Working => {
             (halted || (is_over(command) && is_settled(command))) && has_device_end(status)
         }
-        Progress::ChannelEnded => has_device_end(status) && !has_channel_end(status),
+        Progress::ChannelEnded => has_device_end(status),
         Progress::Ended => false,
+    }
+}
+
+/// What an End shows of a status: channel end that was sent already is left out of the later status.
+fn shown_end(progress: Progress, status: DeviceStatus) -> DeviceStatus
+    ensures { result ≡ reports.shown_end progress status }
+{
+    match progress {
+        Progress::ChannelEnded => status.without_channel_end(),
+        Progress::New | Progress::Working | Progress::Ended => status,
     }
 }
 
@@ -233,8 +243,9 @@ fn report_on(unit: &mut UnitState, number: u64, place: Place, report: &Report) -
             program.data_again(command)
         }
         DeviceAnswer::Ended { status, more } => {
-            command.progress = after_end(*status);
-            program.end(*status, *more)
+            let shown = shown_end(command.progress, *status);
+            command.progress = after_end(shown);
+            program.end(shown, *more)
         }
     }
 }

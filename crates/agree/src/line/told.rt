@@ -2,6 +2,7 @@
 
 ghost use Rattle.std.specs.Prelude.{◌≡◌, ◌<◌, ◌^◌};
 ghost use Rattle.agree.specs.Lines as spec;
+ghost use Rattle.agree.specs.Rooms as room_spec;
 ghost use Rattle.agreement_laws.specs.Moving as moving;
 ghost use Rattle.unit.specs.UnitWords as words;
 
@@ -22,7 +23,8 @@ impl Line {
         keep: bool,
         may: bool,
     ) -> Result<(), Fault>
-        ensures { spec.Gives (spec.both unit.old self.old) (spec.meets (spec.both unit.old self.old) side place keep may) result (spec.both unit.new self.new) }
+        ensures gives { spec.Gives (spec.both unit.old self.old.line) (spec.meets (spec.both unit.old self.old.line) side place keep may) (room_spec.IsFullUp self.new.room) result (spec.both unit.new self.new.line) }
+        ensures room { room_spec.LineTakes result self.old.room self.new.room }
     {
         if place >= self.downs.len() {
             return Err(Fault::NotSent);
@@ -39,7 +41,8 @@ impl Line {
 
     /// The unit leaves the path of its program.
     pub fn leave(&mut self, unit: &mut Unit) -> Result<(), Fault>
-        ensures { spec.Gives (spec.both unit.old self.old) (spec.acts_for (spec.both unit.old self.old) moving.Leaves) result (spec.both unit.new self.new) }
+        ensures gives { spec.Gives (spec.both unit.old self.old.line) (spec.acts_for (spec.both unit.old self.old.line) moving.Leaves) (room_spec.IsFullUp self.new.room) result (spec.both unit.new self.new.line) }
+        ensures room { room_spec.LineTakes result self.old.room self.new.room }
     {
         make_room(&mut self.ups, &mut self.accepted)?;
         let sent = unit.leave();
@@ -53,7 +56,8 @@ impl Line {
     /// The unit asks for a path.
     pub fn ask(&mut self, unit: &mut Unit, path: Path) -> Result<(), Fault>
         requires { words.last_connection unit.old.own < 2 ^ 63 }
-        ensures { spec.Gives (spec.both unit.old self.old) (spec.acts_for (spec.both unit.old self.old) (moving.Asks path)) result (spec.both unit.new self.new) }
+        ensures gives { spec.Gives (spec.both unit.old self.old.line) (spec.acts_for (spec.both unit.old self.old.line) (moving.Asks path)) (room_spec.IsFullUp self.new.room) result (spec.both unit.new self.new.line) }
+        ensures room { room_spec.LineTakes result self.old.room self.new.room }
     {
         make_room(&mut self.ups, &mut self.accepted)?;
         let sent = unit.ask(path);
@@ -67,7 +71,8 @@ impl Line {
     /// The unit asks this side for attention.
     pub fn attention(&mut self, unit: &mut Unit, side: Side, path: Path) -> Result<(), Fault>
         requires { unit.old.attentions < 2 ^ 63 }
-        ensures { spec.Gives (spec.both unit.old self.old) (spec.acts_for (spec.both unit.old self.old) (moving.Attends side path)) result (spec.both unit.new self.new) }
+        ensures gives { spec.Gives (spec.both unit.old self.old.line) (spec.acts_for (spec.both unit.old self.old.line) (moving.Attends side path)) (room_spec.IsFullUp self.new.room) result (spec.both unit.new self.new.line) }
+        ensures room { room_spec.LineTakes result self.old.room self.new.room }
     {
         make_room(&mut self.ups, &mut self.accepted)?;
         let sent = unit.attention(side, path);
@@ -80,7 +85,8 @@ impl Line {
 
     /// The unit tells this side how often it was restarted.
     pub fn notice(&mut self, unit: &Unit, side: Side, path: Path) -> Result<(), Fault>
-        ensures { spec.Gives (spec.both unit.now self.old) (spec.acts_for (spec.both unit.now self.old) (moving.Notices side path)) result (spec.both unit.now self.new) }
+        ensures gives { spec.Gives (spec.both unit.now self.old.line) (spec.acts_for (spec.both unit.now self.old.line) (moving.Notices side path)) (room_spec.IsFullUp self.new.room) result (spec.both unit.now self.new.line) }
+        ensures room { room_spec.LineTakes result self.old.room self.new.room }
     {
         make_room(&mut self.ups, &mut self.accepted)?;
         let sent = unit.notice(side, path);
@@ -94,7 +100,8 @@ impl Line {
     /// The unit takes its device's answer.
     pub fn report(&mut self, unit: &mut Unit, report: &Report) -> Result<(), Fault>
         requires { words.last_sequence unit.old.at_hand < 2 ^ 63 }
-        ensures { spec.Gives (spec.both unit.old self.old) (spec.acts_for (spec.both unit.old self.old) (moving.Reports report.now)) result (spec.both unit.new self.new) }
+        ensures gives { spec.Gives (spec.both unit.old self.old.line) (spec.acts_for (spec.both unit.old self.old.line) (moving.Reports report.now)) (room_spec.IsFullUp self.new.room) result (spec.both unit.new self.new.line) }
+        ensures room { room_spec.LineTakes result self.old.room self.new.room }
     {
         make_room(&mut self.ups, &mut self.accepted)?;
         let came = unit.report(report);

@@ -6,6 +6,8 @@ use Rattle.program_laws.proofs.programs.Goals as goal
 pub returns : goal.returns
 returns c =
     let laws : AreLaws = record {
+      walks = c.walks.ensures.each;
+      above = c.reset_numbers.ensures.above;
       begins = c.pieces.ensures.begins;
       word = c.pieces.ensures.word;
       stays = c.pieces.ensures.stays;

@@ -3,4 +3,7 @@ use Rattle.std.specs.Prelude.{replicate}
 use Rattle.serving.proofs.installation.no_reports.Given as goal
 
 abbrev pub invariant-loop : goal.invariant-loop
-invariant-loop l = l.kept.items ≡ replicate l.counter None
+invariant-loop g l = record {
+  none : l.kept.items ≡ replicate l.counter None;
+  given : g.S.Supply.refused l.supply ≡ g.S.Supply.refused l.fn.supply;
+}

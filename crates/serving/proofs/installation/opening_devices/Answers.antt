@@ -7,12 +7,16 @@ use Rattle.device_models.specs.declared.any_device.AnyDevice.{AnyDevice}
 use Rattle.serving.proofs.installation.opening_devices.Goals as goal
 
 pub loop-kind-preserved : goal.loop-kind-preserved
-loop-kind-preserved c =
+loop-kind-preserved g c =
     let kinds = c.args.kinds.now in
     let k = c.loop-kind.kind-index in
     let kind = slice_index_or kinds k Block in
-    c.in_ok-push.ensures.items
-    ∙ (ap (λ (d : AnyDevice). c.loop-kind.devices.items ++ d ∷ []) c.of.ensures
-    ∙ (ap (λ (ds : List AnyDevice). ds ++ device_of kind ∷ []) c.loop-kind.invariant
-    ∙ (sym (map-append device_of (take k kinds) (kind ∷ []))
-    ∙ ap (λ (ks : List UnitKind). map device_of ks) (sym (take_more kinds k Block c.loop-kind-test.true)))))
+    record {
+      made =
+          c.in_ok-push.ensures.pushed
+          ∙ (ap (λ (d : AnyDevice). c.loop-kind.devices.items ++ d ∷ []) c.of.ensures
+          ∙ (ap (λ (ds : List AnyDevice). ds ++ device_of kind ∷ []) c.loop-kind.invariant.made
+          ∙ (sym (map-append device_of (take k kinds) (kind ∷ []))
+          ∙ ap (λ (ks : List UnitKind). map device_of ks) (sym (take_more kinds k Block c.loop-kind-test.true)))));
+      given = c.in_ok-push.ensures.given ∙ c.loop-kind.invariant.given;
+    }

@@ -4,4 +4,7 @@ use Rattle.serving.proofs.installation.opening_devices.Given as goal
 
 -- the devices so far are those of the first units
 abbrev pub invariant-loop-kind : goal.invariant-loop-kind
-invariant-loop-kind l = l.devices.items ≡ map device_of (take l.kind-index l.kinds)
+invariant-loop-kind g l = record {
+  made : l.devices.items ≡ map device_of (take l.kind-index l.kinds);
+  given : g.S.Supply.refused l.supply ≡ g.S.Supply.refused l.fn.supply;
+}

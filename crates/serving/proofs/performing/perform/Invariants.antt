@@ -2,5 +2,5 @@ use Rattle.std.proofs.Common.{take}
 use Rattle.serving.specs.Performing.{HasPerformed}
 use Rattle.serving.proofs.performing.perform.Given as goal
 
-abbrev pub invariant-loop-i : goal.invariant-loop-i
-invariant-loop-i g l = HasPerformed l.fn.installation (take l.i l.lines) (g.W.Write.contents l.fn.writer) (g.W.Write.contents l.writer) l.refused l.installation
+abbrev pub invariant-loop-line : goal.invariant-loop-line
+invariant-loop-line g l = HasPerformed l.fn.installation (take l.line-index l.lines) (g.S.Sink.seen l.fn.sink) (g.S.Sink.seen l.sink) l.refused l.installation

@@ -8,11 +8,15 @@ use Rattle.machine_model.specs.State.{idle_of}
 use Rattle.subsystem.proofs.subsystem.idle_units.Goals as goal
 
 pub loop-kind-preserved : goal.loop-kind-preserved
-loop-kind-preserved c =
+loop-kind-preserved g c =
     let kinds = c.args.kinds.now in
     let k = c.loop-kind.kind-index in
-    c.in_ok-push.ensures.items
-    ∙ (ap (λ (u : UnitState). c.loop-kind.units.items ++ u ∷ []) c.idle.ensures
-    ∙ (ap (λ (us : List UnitState). us ++ idle_unit ∷ []) c.loop-kind.invariant
-    ∙ (sym (map-append idle_of (take k kinds) (slice_index_or kinds k Block ∷ []))
-    ∙ ap (λ (ks : List UnitKind). map idle_of ks) (sym (take_more kinds k Block c.loop-kind-test.true)))))
+    record {
+      made =
+          c.in_ok-push.ensures.pushed
+          ∙ (ap (λ (u : UnitState). c.loop-kind.units.items ++ u ∷ []) c.idle.ensures
+          ∙ (ap (λ (us : List UnitState). us ++ idle_unit ∷ []) c.loop-kind.invariant.made
+          ∙ (sym (map-append idle_of (take k kinds) (slice_index_or kinds k Block ∷ []))
+          ∙ ap (λ (ks : List UnitKind). map idle_of ks) (sym (take_more kinds k Block c.loop-kind-test.true)))));
+      given = c.in_ok-push.ensures.given ∙ c.loop-kind.invariant.given;
+    }

@@ -4,4 +4,7 @@ use Rattle.subsystem.proofs.subsystem.idle_units.Given as goal
 
 -- the units so far are idle
 abbrev pub invariant-loop-kind : goal.invariant-loop-kind
-invariant-loop-kind l = l.units.items ≡ map idle_of (take l.kind-index l.kinds)
+invariant-loop-kind g l = record {
+  made : l.units.items ≡ map idle_of (take l.kind-index l.kinds);
+  given : g.S.Supply.refused l.supply ≡ g.S.Supply.refused l.fn.supply;
+}

@@ -4,4 +4,7 @@ use Rattle.subsystem.proofs.subsystem.opened_all.Given as goal
 
 -- the subchannels so far are opened
 abbrev pub invariant-loop-setup : goal.invariant-loop-setup
-invariant-loop-setup l = l.subs.items ≡ map opened (take l.setup-index l.setups)
+invariant-loop-setup g l = record {
+  made : l.subs.items ≡ map opened (take l.setup-index l.setups);
+  given : g.S.Supply.refused l.supply ≡ g.S.Supply.refused l.fn.supply;
+}

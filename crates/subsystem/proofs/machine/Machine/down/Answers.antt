@@ -3,6 +3,8 @@ use Rattle.chan_model.specs.declared.event.Event.TheVariants as event
 use Rattle.machine_model.specs.declared.state.Subchannel.{Subchannel}
 use Rattle.machine_model.specs.State.{State, place_of, with_sub, with_unit}
 use Rattle.machine_model.specs.Steps.{Performs}
+use Rattle.finding.specs.Tables.{engaged}
+use Rattle.finding.proofs.Changing.{counts-kept}
 use Rattle.subsystem.specs.contracts.machine.Machine.{the_view}
 use Rattle.subsystem.proofs.Lifting.{down-performs-at, one_there}
 use Rattle.subsystem.proofs.machine.Machine.down.Goals as goal
@@ -23,4 +25,12 @@ returns c =
     (with_unit (with_sub old c.in-Some.place c.down_sub.new.sub) k c.down_sub.new.«unit»)) c.self.view_is
     (down-performs-at old c.args.word c.args.path c.in-Some.place k sub c.down_sub.new.sub sub
     c.index_mut-unit.result.now c.down_sub.new.«unit» c.index_mut-unit.result.now c.down_sub.result
-    (ap (λ (x : Subchannel). x.setup.«unit») (sym same)) at within c.index_mut-sub.ensures.value inside c.index_mut-unit.ensures.value c.down_sub.ensures)
+    (ap (λ (x : Subchannel). x.setup.«unit») (sym same)) at within c.index_mut-sub.ensures.value inside c.index_mut-unit.ensures.value c.down_sub.ensures.gives)
+
+pub invariant_of-self : goal.invariant_of-self
+invariant_of-self c =
+    let subs = c.self.inside.subs.items in
+    let d = c.index_mut-sub.result.now in
+    let place = c.in-Some.place in
+    let within : place < length subs = subst (λ (s : State). place < length s.subs) (sym c.self.view_is) c.in-Some.ensures.bound in
+    counts-kept c.self.inside.engines subs place c.down_sub.new.sub d within c.self.invariant (c.down_sub.ensures.engaged ∙ ap engaged c.index_mut-sub.ensures.value)

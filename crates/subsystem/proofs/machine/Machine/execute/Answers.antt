@@ -4,6 +4,8 @@ use Rattle.chan_model.specs.declared.event.Event.TheVariants as event
 use Rattle.machine_model.specs.declared.state.Subchannel.{Subchannel}
 use Rattle.machine_model.specs.State.{State, place_in, with_sub}
 use Rattle.machine_model.specs.Steps.{Performs, word_of}
+use Rattle.finding.specs.Tables.{engaged}
+use Rattle.finding.proofs.Changing.{counts-some, counts-changed}
 use Rattle.subsystem.specs.contracts.machine.Machine.{the_view}
 use Rattle.subsystem.proofs.Lifting.{executes, executes-absent}
 use Rattle.subsystem.proofs.machine.Machine.execute.Goals as goal
@@ -27,7 +29,25 @@ returns c =
     let placed : place_in c.in-Some.id old.subs ≡ Some c.in-Some-place_in.place =
     ap (place_in c.in-Some.id) (sym subs) ∙ (sym c.place_in.ensures.place ∙ c.in-Some-place_in.is) in
     let within : c.in-Some-place_in.place < length old.subs = subst (λ (xs : List Subchannel). c.in-Some-place_in.place < length xs) subs c.in-Some-place_in.ensures.bound in
-    subst (λ (s : State). Performs s (event.Execute c.args.cpu c.args.instruction) c.execute.result
-    (with_sub (record old { storage = c.execute.new.storage }) c.in-Some-place_in.place c.execute.new.sub)) c.self.view_is
-    (executes old c.args.cpu c.in-Some-place_in.place c.args.instruction c.in-Some.id c.index_mut-sub.result.now c.execute.new.sub c.index_mut-sub.result.now c.execute.new.storage c.execute.result
-    named placed within c.index_mut-sub.ensures.value c.execute.ensures)
+    subst (λ (s : State). Performs s (event.Execute c.args.cpu c.args.instruction) c.execute-answer.result
+    (with_sub (record old { storage = c.execute-answer.new.storage }) c.in-Some-place_in.place c.execute-answer.new.sub)) c.self.view_is
+    (executes old c.args.cpu c.in-Some-place_in.place c.args.instruction c.in-Some.id c.index_mut-sub.result.now c.execute-answer.new.sub c.index_mut-sub.result.now c.execute-answer.new.storage c.execute-answer.result
+    named placed within c.index_mut-sub.ensures.value c.execute-answer.ensures)
+
+pub change-requires-clause-some : goal.change-requires-clause-some
+change-requires-clause-some c =
+    let subs = c.self.inside.subs.items in
+    let d = c.index_mut-sub.result.now in
+    let place = c.in-Some-place_in.place in
+    let within : place < length subs = subst (λ (xs : List Subchannel). place < length xs) c.as_slice.ensures.value c.in-Some-place_in.ensures.bound in
+    counts-some c.self.inside.engines subs place d c.engaged-before.result within c.self.invariant
+    (c.engaged-before.ensures.value ∙ ap engaged c.index_mut-sub.ensures.value) c.engaged-before.ensures.small
+
+pub invariant_of-self-2 : goal.invariant_of-self-2
+invariant_of-self-2 c =
+    let subs = c.self.inside.subs.items in
+    let d = c.index_mut-sub.result.now in
+    let place = c.in-Some-place_in.place in
+    let within : place < length subs = subst (λ (xs : List Subchannel). place < length xs) c.as_slice.ensures.value c.in-Some-place_in.ensures.bound in
+    counts-changed c.self.inside.engines c.change.new.self subs place c.execute-answer.new.sub d c.engaged-before.result c.engaged-after.result within c.self.invariant
+    (c.engaged-before.ensures.value ∙ ap engaged c.index_mut-sub.ensures.value) c.engaged-after.ensures.value c.change.ensures

@@ -3,6 +3,8 @@ use Rattle.chan_model.specs.declared.event.Event.TheVariants as event
 use Rattle.machine_model.specs.declared.state.Subchannel.{Subchannel}
 use Rattle.machine_model.specs.State.{State, reached_in, with_sub, with_unit}
 use Rattle.machine_model.specs.Steps.{Performs}
+use Rattle.finding.specs.Tables.{engaged}
+use Rattle.finding.proofs.Changing.{counts-kept}
 use Rattle.subsystem.specs.contracts.machine.Machine.{the_view}
 use Rattle.subsystem.proofs.Lifting.{report-performs}
 use Rattle.subsystem.proofs.machine.Machine.report.Goals as goal
@@ -19,4 +21,12 @@ returns c =
     (with_unit (with_sub old c.in-Some.place c.report_sub.new.sub) c.args.number c.report_sub.new.«unit»)) c.self.view_is
     (report-performs old c.args.number c.in-Some.place c.args.report.now c.index_mut-sub.result.now c.report_sub.new.sub c.index_mut-sub.result.now
     c.index_mut-unit.result.now c.report_sub.new.«unit» c.index_mut-unit.result.now c.report_sub.result
-    at within c.index_mut-sub.ensures.value inside c.index_mut-unit.ensures.value c.report_sub.ensures)
+    at within c.index_mut-sub.ensures.value inside c.index_mut-unit.ensures.value c.report_sub.ensures.gives)
+
+pub invariant_of-self : goal.invariant_of-self
+invariant_of-self c =
+    let subs = c.self.inside.subs.items in
+    let d = c.index_mut-sub.result.now in
+    let place = c.in-Some.place in
+    let within : place < length subs = subst (λ (xs : List Subchannel). place < length xs) c.as_slice.ensures.value c.in-Some.ensures.bound in
+    counts-kept c.self.inside.engines subs place c.report_sub.new.sub d within c.self.invariant (c.report_sub.ensures.engaged ∙ ap engaged c.index_mut-sub.ensures.value)

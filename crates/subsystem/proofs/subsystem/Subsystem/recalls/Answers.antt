@@ -10,17 +10,17 @@ use Rattle.subsystem.proofs.subsystem.Subsystem.recalls.Goals as goal
 pub returns-clause-cleared_once : goal.returns-clause-cleared_once
 returns-clause-cleared_once g c =
     subst (λ (x : Past). IsClearedOnce x.state.sets x.history) c.self.view_is
-    (past-cleared c.steps.ensures.sets c.serials.ensures.rises c.self.inside.history.items c.self.inside.machine c.self.invariant)
+    (past-cleared c.steps.ensures.sets c.serials.ensures.rises c.self.inside.history.items c.self.inside.machine c.self.invariant.0)
 
 pub returns-clause-begun_once : goal.returns-clause-begun_once
 returns-clause-begun_once g c =
     subst (λ (x : Past). IsBegunOnce x.state.sets x.history) c.self.view_is
-    (past-begun c.steps.ensures.sets c.beginnings.ensures.once c.self.inside.history.items c.self.inside.machine c.self.invariant)
+    (past-begun c.steps.ensures.sets c.beginnings.ensures.once c.self.inside.history.items c.self.inside.machine c.self.invariant.0)
 
 pub returns-clause-agree : goal.returns-clause-agree
 returns-clause-agree g c =
-    subst (λ (x : Past). AllAgree x.state) c.self.view_is (past-agrees c.agreements.ensures.agree c.self.inside.history.items c.self.inside.machine c.self.invariant)
+    subst (λ (x : Past). AllAgree x.state) c.self.view_is (past-agrees c.agreements.ensures.agree c.self.inside.history.items c.self.inside.machine c.self.invariant.0)
 
 pub returns-clause-told : goal.returns-clause-told
 returns-clause-told g c =
-    subst (λ (x : Past). HasTold x.history x.state) c.self.view_is (past-told c.programs.ensures.told c.self.inside.history.items c.self.inside.machine c.self.invariant)
+    subst (λ (x : Past). HasTold x.history x.state) c.self.view_is (past-told c.programs.ensures.told c.self.inside.history.items c.self.inside.machine c.self.invariant.0)

@@ -1,13 +1,14 @@
 use Rattle.std.proofs.Common.{length, arith, length-append, ap, ◌∷◌, []}
-use Rattle.subsystem.proofs.Answering.{has-more}
+use Rattle.subsystem.proofs.Answering.{has-more, begun-none, begun-at}
 use Rattle.subsystem.proofs.subsystem.Subsystem.run.Goals as goal
 
 pub loop-event-preserved : goal.loop-event-preserved
 loop-event-preserved g c = record {
   answered =
-      has-more c.args.self.now c.loop-event.self c.step-answer.new.self c.args.events.now c.loop-event.event-index c.event-item.result c.event-item.result c.loop-event.answers.items
-      c.add.new.answers.items c.step-answer.result c.loop-event-test.true c.event-item.is c.loop-event.invariant.answered c.step-answer.ensures.step c.step-answer.ensures.history
+      has-more g.P.PathChoice.picks c.args.self.now c.loop-event.self c.step-answer.new.self c.args.events.now c.loop-event.event-index c.event-item.result c.event-item.result c.loop-event.answers.items
+      c.add.new.answers.items c.step-answer.result c.loop-event-test.true c.event-item.is c.loop-event.invariant.answered c.step-answer.ensures.step c.step-answer.ensures.history c.step-answer.ensures.ruled
       c.step-answer.ensures.refused c.step-answer.ensures.refusal c.if-ends.ensures.other c.add.ensures.items;
+  held = omega (arith, c.loop-event.invariant.held, c.step-answer.ensures.room);
   room = omega (arith, c.loop-event.invariant.room, c.add.ensures.capacity, length-append c.loop-event.answers.items (c.step-answer.result ∷ []), ap length c.add.ensures.items);
   replays = c.recalls-in-loop-event.ensures.replays;
   cleared_once = c.recalls-in-loop-event.ensures.cleared_once;

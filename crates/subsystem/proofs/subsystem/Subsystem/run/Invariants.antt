@@ -9,7 +9,8 @@ use Rattle.subsystem.proofs.subsystem.Subsystem.run.Given as goal
 
 abbrev pub invariant-loop-event : goal.invariant-loop-event
 invariant-loop-event g l = record {
-  answered : HasAnswered l.fn.self (take l.event-index l.events) l.answers.items l.self;
+  answered : HasAnswered g.P.PathChoice.picks l.fn.self (take l.event-index l.events) l.answers.items l.self;
+  held : l.fn.self.room ≤ l.self.room + l.event-index;
   room : vec_len l.answers + length l.events ≤ vec_capacity l.answers + l.event-index;
   replays : HasRun l.self.history l.self.state;
   cleared_once : IsClearedOnce l.self.state.sets l.self.history;

@@ -1,15 +1,31 @@
-use Rattle.std.proofs.Common.{◌∙◌, ap, List, [], ◌∷◌, ◌++◌}
+use Rattle.std.proofs.Common.{◌∙◌, ap, subst, Result, Ok, List, [], ◌∷◌, ◌++◌}
 use Rattle.chan_model.specs.declared.event.Event.{Event}
 use Rattle.chan_model.specs.declared.reply.Entry.{Entry}
 use Rattle.chan_model.specs.declared.reply.Reply.{Reply}
+use Rattle.chan_model.specs.declared.fault.Fault.{Fault}
+use Rattle.machine_model.specs.Steps.{Performs}
+use Rattle.finding.proofs.Keeping.{fits-kept}
+use Rattle.subsystem.proofs.Never.{never}
 use Rattle.subsystem.proofs.Pasts.{past-more}
 use Rattle.subsystem.proofs.subsystem.Subsystem.step.Goals as goal
 
 pub invariant_of-self-2 : goal.invariant_of-self-2
 invariant_of-self-2 g c =
-    past-more c.self.inside.history.items c.append.new.history.items c.self.inside.machine c.perform.new.self c.args.event.now c.in-Ok.reply
-    c.self.invariant c.in-Ok.ensures
-    (c.append.ensures
-    ∙ (ap (λ (e : Event). c.reserve.new.self.items ++ record { event = e; reply = c.copy-2.result } ∷ []) c.copy.ensures
-    ∙ (ap (λ (r : Reply). c.reserve.new.self.items ++ record { event = c.args.event.now; reply = r } ∷ []) c.copy-2.ensures
-    ∙ ap (λ (h : List Entry). h ++ record { event = c.args.event.now; reply = c.in-Ok.reply } ∷ []) c.reserve.ensures.items)))
+    let machine = c.self.inside.machine in
+    let next = c.perform-answer.new.self in
+    let stepped : Performs machine c.args.event.now (Ok c.in-Ok.reply) next =
+    subst (λ (r : Result Reply Fault). Performs machine c.args.event.now r next) c.in-Ok.is c.perform-answer.ensures.performs in (
+      past-more c.self.inside.history.items c.append.new.history.items machine next c.args.event.now c.in-Ok.reply c.self.invariant.0 stepped
+          (c.append.ensures.items
+          ∙ (ap (λ (e : Event). c.reserve.new.self.items ++ record { event = e; reply = c.copy-2.result } ∷ []) c.copy.ensures
+          ∙ (ap (λ (r : Reply). c.reserve.new.self.items ++ record { event = c.args.event.now; reply = r } ∷ []) c.copy-2.ensures
+          ∙ ap (λ (h : List Entry). h ++ record { event = c.args.event.now; reply = c.in-Ok.reply } ∷ []) c.reserve.ensures.items))),
+      fits-kept c.self.inside.places machine.subs next.subs
+          (c.setups.ensures.stay machine c.args.event.now c.in-Ok.reply next stepped) c.self.invariant.1,
+    )
+
+-- the machine refuses nothing for want of memory
+pub returns-in_default-clause-spent : goal.returns-in_default-clause-spent
+returns-in_default-clause-spent g c = λ e.
+    absurd (never c.self.inside.machine c.args.event.now
+    (subst (λ (r : Result Reply Fault). Performs c.self.inside.machine c.args.event.now r c.perform-answer.new.self) e c.perform-answer.ensures.performs).0)

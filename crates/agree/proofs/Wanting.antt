@@ -1,0 +1,193 @@
+-- Want of memory: no turn is refused for it, so that it comes of the steps and the lists alone.
+use Rattle.std.proofs.Common.{◌≡◌, ◌≤◌, ℕ, inl, inr, Bool, true, false, Option, None, Some, length, refl, sym, ◌+◌, subst, arith}
+use Rattle.std.specs.Prelude.{Result, Ok, Err, if◌then◌else◌, nat_lt, remove, slice_get}
+use Rattle.std.proofs.lemmas.Bool.{ltb-false}
+use Rattle.chan_model.specs.declared.fault.Fault.{Fault}
+use Rattle.chan_model.specs.declared.fault.Fault.TheVariants.{NoMemory, NoSuchPath, NotSent, NotNow}
+use Rattle.chan_model.specs.declared.hold_state.HoldPhase.{HoldPhase}
+use Rattle.chan_model.specs.declared.hold_state.HoldPhase.TheVariants as hold
+use Rattle.chan_model.specs.declared.names.Side.{Side}
+use Rattle.chan_model.specs.declared.signal.OnPath.{OnPath}
+use Rattle.chan_model.specs.declared.signal.Down.{Down}
+use Rattle.chan_model.specs.declared.signal.Up.{Up}
+use Rattle.chan_model.specs.declared.unit_state.Own.{Own}
+use Rattle.chan_model.specs.declared.unit_state.Own.TheVariants.{Idle, Owned}
+use Rattle.chan_model.specs.UnitTable.{UnitStep}
+use Rattle.agreement_laws.specs.Moving.{UnitAct, Leaves, Asks, Attends, Notices, Reports, unit_steps}
+use Rattle.agree.specs.declared.event.WorldEvent.{WorldEvent}
+use Rattle.agree.specs.declared.event.WorldEvent.TheVariants as event
+use Rattle.agree.specs.State.{LineState, WorldState, line_of, is_up}
+use Rattle.agree.specs.Lines.{Gives, LineTurn, UnitLine, acts_for, stepping, chosen, let_go, heard, hears, met, meets, loses_down, loses_up, cut, goes_down, comes_up, is_cut, with_downs, with_ups, with_path}
+use Rattle.agree.specs.Turns.{Turn, at_side, at_unit, at_owner, both_of, on_path, path_named, turn_of, counted, max_steps, world_turn}
+use Rattle.agree.specs.Rooms.{LineRoom, WorldRoom, LineLoses, Loses, Takes, IsFullFor, IsSpent}
+
+-- it is not want of memory
+abbrev Other : Fault → Type 0
+Other NoMemory = ⊥
+Other f = Unit {0}
+
+abbrev Sound : {A : Type 0} → Result A Fault → Type 0
+Sound (Ok x) = Unit {0}
+Sound (Err f) = Other f
+
+either : {A : Type 0} (b : Bool) (x y : Result A Fault) → Sound x → Sound y → Sound (if b then x else y)
+either true x y p q = p
+either false x y p q = q
+
+sided : (w : WorldState) (side : Side) (turn : LineTurn) → Sound turn → Sound (at_side w side turn)
+sided w side (Ok l) h = tt
+sided w side (Err f) h = h
+
+united : (w : WorldState) (side : Side) (turn : Result UnitLine Fault) → Sound turn → Sound (at_unit w side turn)
+united w side (Ok b) h = tt
+united w side (Err f) h = h
+
+owned : (w : WorldState) (o : Own) (turn : Side → Turn) → ((side : Side) → Sound (turn side)) → Sound (at_owner w o turn)
+owned w Idle turn h = tt
+owned w (Owned side t place) turn h = h side
+
+named : (x : Result ℕ Fault) (turn : ℕ → Turn) → Sound x → ((q : ℕ) → Sound (turn q)) → Sound (on_path x turn)
+named (Ok p) turn s h = h p
+named (Err f) turn s h = s
+
+on_one : (p : ℕ) (turn : ℕ → Turn) → ((q : ℕ) → Sound (turn q)) → Sound (on_path (path_named p) turn)
+on_one p turn h = named (path_named p) turn (either (nat_lt p 8) (Ok p) (Err NoSuchPath) tt tt) h
+
+chosen_sound : (l : LineState) (phase : HoldPhase) (p : ℕ) (single : Bool) → Sound (chosen l phase p single)
+chosen_sound l hold.Free p single = tt
+chosen_sound l (hold.Reset r) p single = tt
+chosen_sound l (hold.Offer t q) p single = tt
+chosen_sound l (hold.On t q c) p single = tt
+chosen_sound l (hold.Away t) p single = tt
+chosen_sound l (hold.Letting t q) p single = tt
+
+let_go_sound : (l : LineState) (phase : HoldPhase) → Sound (let_go l phase)
+let_go_sound l hold.Free = tt
+let_go_sound l (hold.Reset r) = tt
+let_go_sound l (hold.Offer t q) = tt
+let_go_sound l (hold.On t q c) = tt
+let_go_sound l (hold.Away t) = tt
+let_go_sound l (hold.Letting t q) = tt
+
+heard_sound : (l : LineState) (x : Option (OnPath Up)) (place : ℕ) (keep may : Bool) → Sound (heard l x place keep may)
+heard_sound l None place keep may = tt
+heard_sound l (Some x) place keep may = tt
+
+met_sound : (b : UnitLine) (side : Side) (x : Option (OnPath Down)) (place : ℕ) (keep may : Bool) → Sound (met b side x place keep may)
+met_sound b side None place keep may = tt
+met_sound b side (Some x) place keep may = tt
+
+stepping_sound : (b : UnitLine) (step : Option UnitStep) → Sound (stepping b step)
+stepping_sound b None = tt
+stepping_sound b (Some step) = tt
+
+unit_sound : (w : WorldState) (side : Side) (act : UnitAct) → Sound (at_unit w side (acts_for (both_of w side) act))
+unit_sound w side act =
+    united w side (acts_for (both_of w side) act) (stepping_sound (both_of w side) (unit_steps w.«unit» act))
+
+owner_sound : (w : WorldState) (act : UnitAct) → Sound (at_owner w w.«unit».own (λ side. at_unit w side (acts_for (both_of w side) act)))
+owner_sound w act = owned w w.«unit».own (λ side. at_unit w side (acts_for (both_of w side) act)) (λ side. unit_sound w side act)
+
+never : (w : WorldState) (e : WorldEvent) → Sound (turn_of w e)
+never w (event.Choose side p single) =
+    let l : LineState = line_of w side in
+    on_one p (λ q. at_side w side (chosen l l.link.hold.phase q single))
+    (λ q. sided w side (chosen l l.link.hold.phase q single) (chosen_sound l l.link.hold.phase q single))
+never w (event.Down side place keep may) =
+    united w side (meets (both_of w side) side place keep may)
+    (met_sound (both_of w side) side (slice_get (line_of w side).link.downs place) place keep may)
+never w (event.Up side place keep may) =
+    let l : LineState = line_of w side in
+    sided w side (hears l place keep may) (heard_sound l (slice_get l.link.ups place) place keep may)
+never w (event.LoseDown side place) =
+    let l : LineState = line_of w side in
+    sided w side (loses_down l place)
+    (either (nat_lt place (length l.link.downs)) (Ok (with_downs l (remove l.link.downs place))) (Err NotSent) tt tt)
+never w (event.LoseUp side place) =
+    let l : LineState = line_of w side in
+    sided w side (loses_up l place)
+    (either (nat_lt place (length l.link.ups)) (Ok (with_ups l (remove l.link.ups place))) (Err NotSent) tt tt)
+never w (event.PathDown side p) =
+    let l : LineState = line_of w side in
+    on_one p (λ q. at_side w side (goes_down l q))
+    (λ q. sided w side (goes_down l q) (either (is_up l.up q) (Ok (cut (with_path l q false) q)) (Err NotNow) tt tt))
+never w (event.PathUp side p) =
+    let l : LineState = line_of w side in
+    on_one p (λ q. at_side w side (comes_up l q))
+    (λ q. sided w side (comes_up l q) (either (is_up l.up q) (Err NotNow) (Ok (with_path l q true)) tt tt))
+never w (event.PathReset side p) =
+    let l : LineState = line_of w side in
+    on_one p (λ q. at_side w side (is_cut l q))
+    (λ q. sided w side (is_cut l q) (either (is_up l.up q) (Ok (cut l q)) (Err NotNow) tt tt))
+never w (event.LetGo side) =
+    let l : LineState = line_of w side in
+    sided w side (let_go l l.link.hold.phase) (let_go_sound l l.link.hold.phase)
+never w (event.Clear side) = tt
+never w event.SubsystemReset = tt
+never w event.Leave = owner_sound w Leaves
+never w (event.Ask p) =
+    on_one p (λ q. at_owner w w.«unit».own (λ side. at_unit w side (acts_for (both_of w side) (Asks q))))
+    (λ q. owner_sound w (Asks q))
+never w (event.Attention side p) =
+    on_one p (λ q. at_unit w side (acts_for (both_of w side) (Attends side q))) (λ q. unit_sound w side (Attends side q))
+never w (event.Notice side p) =
+    on_one p (λ q. at_unit w side (acts_for (both_of w side) (Notices side q))) (λ q. unit_sound w side (Notices side q))
+never w event.Restart = tt
+never w (event.Report report) = owner_sound w (Reports report)
+
+counted_sound : (n : ℕ) (turn : Turn) → Sound turn → Sound (counted n turn)
+counted_sound n (Ok w) h = tt
+counted_sound n (Err f) h = h
+
+bounded : (b : Bool) (turn : Turn) → Sound turn → (if b then turn else Err NoMemory) ≡ Err NoMemory → b ≡ false
+bounded true turn sound is = absurd (subst Sound is sound)
+bounded false turn sound is = refl
+
+steps-spent : (w : WorldState) (e : WorldEvent) → world_turn w e ≡ Err NoMemory → max_steps ≤ w.steps
+steps-spent w e is =
+    let none : nat_lt w.steps max_steps ≡ false =
+    bounded (nat_lt w.steps max_steps) (counted w.steps (turn_of w e)) (counted_sound w.steps (turn_of w e) (never w e)) is in
+    ltb-false w.steps max_steps none
+
+-- a call that does as a turn says, and is refused for want of memory
+pub given-spent : {A : Type 0} → (w : WorldState) (room : WorldRoom) (e : WorldEvent) (new : WorldState) (r : Result A Fault) →
+    Gives w (world_turn w e) (IsFullFor w room e) r new → r ≡ Err NoMemory → IsSpent (record { world = new; room = room }) e
+given-spent w room e new (Ok done) given is = absurd (cc is)
+given-spent w room e new (Err f) given is =
+    let want : f ≡ NoMemory = cc in
+    subst (λ (x : WorldState). IsSpent (record { world = x; room = room }) e) (sym given.0)
+    (elim given.1 [
+      | inl full ↦ inr full.1
+      | inr turn ↦ inl (steps-spent w e (subst (λ (g : Fault). world_turn w e ≡ Err g) want turn))
+    ])
+
+-- room that is lost bit by bit
+line-more : (n m : ℕ) (a b c : LineRoom) → LineLoses n a b → LineLoses m b c → LineLoses (n + m) a c
+line-more n m a b c h k = record {
+  downs = omega (arith, h.downs, k.downs);
+  ups = omega (arith, h.ups, k.ups);
+  accepted = omega (arith, h.accepted, k.accepted);
+}
+
+world-more : (n m : ℕ) (a b c : WorldRoom) → Loses n a b → Loses m b c → Loses (n + m) a c
+world-more n m a b c h k = record {
+  first = line-more n m a.first b.first c.first h.first k.first;
+  second = line-more n m a.second b.second c.second h.second k.second;
+}
+
+line-weaker : (n m : ℕ) (a b : LineRoom) → n ≤ m → LineLoses n a b → LineLoses m a b
+line-weaker n m a b le h = record {
+  downs = omega (arith, le, h.downs);
+  ups = omega (arith, le, h.ups);
+  accepted = omega (arith, le, h.accepted);
+}
+
+loses-weaker : (n m : ℕ) (a b : WorldRoom) → n ≤ m → Loses n a b → Loses m a b
+loses-weaker n m a b le h = record {
+  first = line-weaker n m a.first b.first le h.first;
+  second = line-weaker n m a.second b.second le h.second;
+}
+
+pub taken-more : {A F : Type 0} → (n : ℕ) (a b c : WorldRoom) (r : Result A F) → Loses n a b → Takes r b c → Loses (n + 1) a c
+taken-more n a b c (Ok done) h k = world-more n 1 a b c h k
+taken-more n a b c (Err f) h k = world-more n 1 a b c h (loses-weaker 0 1 b c (omega arith) k)

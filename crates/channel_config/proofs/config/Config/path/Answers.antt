@@ -1,8 +1,0 @@
-use Rattle.channel_config.proofs.Keeping.{lawful-paths, lawful-path-more}
-use Rattle.channel_config.proofs.config.Config.path.Goals as goal
-
-pub invariant_of-self : goal.invariant_of-self
-invariant_of-self c = lawful-paths _ _ c.in_err-push.ensures.items c.self.invariant
-
-pub invariant_of-self-2 : goal.invariant_of-self-2
-invariant_of-self-2 c = lawful-path-more _ c.args.chpid _ c.in_ok-push.ensures.items c.self.invariant

@@ -1,0 +1,108 @@
+//! A device that gives channel end at once, and channel end with device end at last, as the law of devices lets it: what its
+//! unit shows of the second status.
+
+use ccw_codec::Class;
+use ccw_codec::command::class;
+use chan_model::chunk::Chunk;
+use chan_model::names::{Path, Side};
+use chan_model::report::{Report, Work};
+use chan_model::signal::{Down, Taken, Up};
+use device_law::answering::answer;
+use device_law::{Device, Finish};
+use scsw_irb::status::DeviceStatus;
+use unit::Unit;
+
+/// Its commands take no bytes and give none; a read backward is refused.
+#[derive(Drop)]
+struct Rewinding;
+
+impl Device for Rewinding {
+    ghost use Rattle.std.specs.Prelude.{◌≡◌};
+
+    ghost answers = { λ old call answer new. Unit {0} };
+
+    ghost opening = { λ d. d };
+
+    fn initial(&mut self, code: u8) -> DeviceStatus {
+        match class(code) {
+            Class::ReadBackward => DeviceStatus::UNIT_CHECK,
+            _ => DeviceStatus::CHANNEL_END,
+        }
+    }
+
+    fn supply(&mut self, _most: usize) -> Chunk {
+        Chunk::new()
+    }
+
+    fn absorb(&mut self, _bytes: &[u8]) -> usize {
+        0
+    }
+
+    fn finish(&mut self) -> Finish {
+        Finish {
+            status: DeviceStatus::end(),
+            more: false,
+        }
+    }
+
+    fn restart(&mut self) {}
+}
+
+/// The unit takes a report, while its chunks have small numbers.
+fn reported(unit: &mut Unit, report: &Report) -> Option<Up> {
+    let last = match &unit.state().at_hand {
+        Some(command) => command.sequence,
+        None => 0,
+    };
+    if last >= 8 {
+        return None;
+    }
+    let Taken { sent, .. } = unit.report(report);
+    sent.map(|sent| sent.signal)
+}
+
+/// The device's next turn: the status of the End that the unit sends for it.
+fn end_shown<D: Device>(unit: &mut Unit, device: &mut D) -> Option<u8> {
+    let Some(
+        Work::Call {
+            side,
+            number,
+            command,
+            sequence,
+            call,
+        },
+    ) = unit.work()
+    else {
+        return None;
+    };
+    let report = Report {
+        side,
+        number,
+        command,
+        sequence,
+        answer: answer(device, &call),
+    };
+    let Some(Up::End { status, .. }) = reported(unit, &report) else {
+        return None;
+    };
+    Some(status.bits())
+}
+
+#[test]
+fn channel_end_that_was_sent_is_left_out_of_the_later_status(rt: HostRuntime) {
+    let mut unit = Unit::new();
+    let mut device = Rewinding;
+    let path = Path::new(2).unwrap();
+    let select = Down::Select { number: 1 };
+    assert!(rt; unit.take(Side::First, path, &select, true).taken);
+    let rewind = Down::Command {
+        number: 1,
+        command: 1,
+        code: 7,
+        room: 0,
+    };
+    assert!(rt; unit.take(Side::First, path, &rewind, true).taken);
+    assert_eq!(rt; end_shown(&mut unit, &mut device), Some(0x08));
+    assert_eq!(rt; end_shown(&mut unit, &mut device), Some(0x04));
+    assert_eq!(rt; end_shown(&mut unit, &mut device), None);
+}

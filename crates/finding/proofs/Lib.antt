@@ -1,0 +1,5 @@
+mod FirstPlaces
+mod Filling
+mod Lookups
+pub mod Changing
+pub mod Keeping

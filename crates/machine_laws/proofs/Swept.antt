@@ -1,0 +1,109 @@
+-- A claim that each change of one subchannel keeps is kept where all are changed so; what is lost with a path.
+use Rattle.std.proofs.Common.{◌≡◌, refl, sym, ◌∙◌, subst, ℕ, zero, suc, ◌&&◌, Bool, true, false, Option, None, Some, List, [], ◌∷◌, map, arith}
+use Rattle.std.specs.Prelude.{slice_get, slice_set, if◌then◌else◌, Contains}
+use Rattle.std.specs.List.{AllZip}
+use Rattle.std.proofs.lemmas.List.Elements.{All-nil}
+use Rattle.chan_model.specs.declared.names.Side.{Side}
+use Rattle.chan_model.specs.declared.signal.OnPath.{OnPath}
+use Rattle.chan_model.specs.declared.unit_state.UnitState.{UnitState}
+use Rattle.chan_model.specs.ResetCauses.{rests_on}
+use Rattle.wires.specs.Queues.{lost}
+use Rattle.agreement_laws.specs.Links.{Link, Links}
+use Rattle.agreement_laws.specs.Moving.{Loses, still, reset_again}
+use Rattle.channel_config.specs.declared.names.SubchannelId.{SubchannelId}
+use Rattle.machine_model.specs.declared.state.Subchannel.{Subchannel}
+use Rattle.machine_model.specs.declared.state.SubchannelState.{SubchannelState}
+use Rattle.machine_model.specs.Losing.{has_any, is_offered_or_held, reset_with, path_lost, path_index, loses_at, loses}
+use Rattle.machine_model.specs.State.{place_in}
+use Rattle.machine_laws.specs.Beginnings.{Starts}
+use Rattle.machine_laws.proofs.Growth.{Covers, covers-wider, queue-set, IsLink, Keeps, Reaches, acts, IsReached, AreLaws}
+use Rattle.machine_laws.proofs.HoldEvents.{IsOfHold}
+use Rattle.machine_laws.proofs.Linked.{AreLinked, hold-linked}
+use Rattle.machine_laws.proofs.RunAgrees.{IsStateTold, place-set}
+use Rattle.machine_laws.proofs.TaleEvents.{Tells}
+use Rattle.machine_laws.proofs.Tales.{AreSpent, AreSpentBut, IsTold, told-same}
+use Rattle.machine_laws.proofs.Resetting.{reset-waits}
+
+pub map-by-places : {A : Type 0} (Q : List A → Type 0) (f : A → A) → ((xs : List A) (i : ℕ) (x : A) → slice_get xs i ≡ Some x → Q xs → Q (slice_set xs i (f x))) →
+    (xs : List A) → Q xs → Q (map f xs)
+map-by-places Q f step [] q = q
+map-by-places {A} Q f step (x ∷ xs) q =
+    map-by-places (λ (ys : List A). Q (f x ∷ ys)) f (λ ys i y e h. step (f x ∷ ys) (suc i) y e h) xs (step (x ∷ xs) zero x refl q)
+
+pub zip-map : {A : Type 0} (R : A → A → Type 0) (f : A → A) → ((x : A) → R x (f x)) → (xs : List A) → AllZip R xs (map f xs)
+zip-map R f k [] = tt
+zip-map R f k (x ∷ xs) = (k x, zip-map R f k xs)
+
+-- the wires of a path that is lost
+covers-lost : {A : Type 0} (l : List (OnPath A)) (queues : List (List A)) (k : ℕ) → Covers l queues → Covers l (lost queues k)
+covers-lost l queues k c = queue-set (λ p x. Contains l (record { path = p; signal = x })) queues k [] c (All-nil (λ x. Contains l (record { path = k; signal = x })))
+
+lost-reached : (sub : Subchannel) (l : Link) (s : SubchannelState) (p : ℕ) → IsLink sub l → Reaches l (record { drawn = s.drawn; hold = s.hold; sent = None }) →
+    IsReached l (record sub { state = s; wires = record { down = lost sub.wires.down p; up = lost sub.wires.up p } })
+lost-reached sub l s p k r =
+    record {
+      link = r.link;
+      leads = r.leads;
+      is = record {
+        drawn = r.at.drawn;
+        hold = r.at.hold;
+        downs = covers-lost r.link.downs sub.wires.down p (covers-wider l.downs r.link.downs sub.wires.down r.downs k.downs);
+        ups = covers-lost r.link.ups sub.wires.up p (covers-wider l.ups r.link.ups sub.wires.up r.ups k.ups);
+      };
+      accepted = r.accepted;
+    }
+
+-- the hold loses its path
+lost-acted : (s : SubchannelState) (rests shows : Bool) → (if rests then reset_again s.drawn s.hold else still s.drawn s.hold)
+    ≡ record { drawn = (if rests then reset_with s shows else s).drawn; hold = (if rests then reset_with s shows else s).hold; sent = None }
+lost-acted s true true = refl
+lost-acted s true false = refl
+lost-acted s false shows = refl
+
+loses_at-hold : Keeps → (sub : Subchannel) (q : Option ℕ) → IsOfHold sub (loses_at q sub)
+loses_at-hold keeps sub None = record { setup = refl; reaches = λ l k. record { link = l; leads = λ side u other g. record { good = g; due = λ j d. d }; is = k; accepted = refl } }
+loses_at-hold keeps sub (Some p) =
+    record {
+      setup = refl;
+      reaches = λ l k.
+          lost-reached sub l (path_lost sub.state p) p k
+          (acts keeps l sub.state.drawn sub.state.hold (Loses p) _ tt (record { drawn = k.drawn; hold = k.hold })
+          (lost-acted sub.state (rests_on sub.state.hold p) (is_offered_or_held sub.state.hold.phase && has_any sub.state.waiting sub.state.begun sub.state.suspended)));
+    }
+
+reset-told : (s : SubchannelState) (k : Starts) (w : Links) (side : Side) (shows : Bool) → (is_offered_or_held s.hold.phase && has_any s.waiting s.begun s.suspended) ≡ shows →
+    IsTold k s w side → IsTold k (reset_with s shows) w side
+reset-told s k w side true e t = told-same k s (reset_with s true) w side refl (omega arith) (reset-waits (AreSpent w side k) (AreSpentBut w side k) s true e t.waits) t
+reset-told s k w side false e t = told-same k s (reset_with s false) w side refl (omega arith) (reset-waits (AreSpent w side k) (AreSpentBut w side k) s false e t.waits) t
+
+lost-told : (s : SubchannelState) (k : Starts) (w : Links) (side : Side) (rests : Bool) → IsTold k s w side →
+    IsTold k (if rests then reset_with s (is_offered_or_held s.hold.phase && has_any s.waiting s.begun s.suspended) else s) w side
+lost-told s k w side true t = reset-told s k w side (is_offered_or_held s.hold.phase && has_any s.waiting s.begun s.suspended) refl t
+lost-told s k w side false t = t
+
+loses_at-tells : (sub : Subchannel) (q : Option ℕ) (k : Starts) → Tells sub (loses_at q sub).state k k
+loses_at-tells sub None k w side b t = t
+loses_at-tells sub (Some p) k w side b t = lost-told sub.state k w side (rests_on sub.state.hold p) t
+
+module _ (laws : AreLaws) (chpid : ℕ) where
+  loses-hold : (sub : Subchannel) → IsOfHold sub (loses chpid sub)
+  loses-hold sub = loses_at-hold laws.keeps sub (path_index chpid sub.setup.paths)
+
+  swept-linked : (subs : List Subchannel) (units : List UnitState) (which : Option ℕ) (k : Starts) → AreLinked subs units which k → AreLinked (map (loses chpid) subs) units which k
+  swept-linked subs units which k l =
+      map-by-places (λ (xs : List Subchannel). AreLinked xs units which k) (loses chpid)
+      (λ xs i x e h. hold-linked laws xs units i x (loses chpid x) which k k k e (loses-hold x) (loses_at-tells x (path_index chpid x.setup.paths) k) (record { here = λ h. refl; there = λ h. refl }) h)
+      subs l
+
+  -- the places of subchannels stay
+  place-swept : (id : SubchannelId) (subs : List Subchannel) → place_in id (map (loses chpid) subs) ≡ place_in id subs
+  place-swept id subs =
+      map-by-places (λ (xs : List Subchannel). place_in id xs ≡ place_in id subs) (loses chpid)
+      (λ xs i x e h. place-set id xs i x (loses chpid x) e (loses-hold x).setup ∙ h) subs refl
+
+  pub swept-told : (id : SubchannelId) (k : Starts) (subs : List Subchannel) (units : List UnitState) → IsStateTold id k subs units → IsStateTold id k (map (loses chpid) subs) units
+  swept-told id k subs units l =
+      record {
+        linked = subst (λ (which : Option ℕ). AreLinked (map (loses chpid) subs) units which k) (sym (place-swept id subs)) (swept-linked subs units (place_in id subs) k l.linked);
+        rises = l.rises;
+      }

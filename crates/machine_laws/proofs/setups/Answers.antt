@@ -1,0 +1,5 @@
+use Rattle.machine_laws.proofs.Moves.{setups-stay}
+use Rattle.machine_laws.proofs.setups.Goals as goal
+
+pub returns : goal.returns
+returns c = record { stay = λ s e r new w. setups-stay s e r new (c.walks.ensures.each s e r new w) }

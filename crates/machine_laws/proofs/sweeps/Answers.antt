@@ -1,0 +1,16 @@
+use Rattle.std.specs.Prelude.{map}
+use Rattle.machine_model.specs.Losing.{loses}
+use Rattle.machine_laws.proofs.Growth.{AreLaws}
+use Rattle.machine_laws.proofs.RunAgrees.{run-told, linked-agree}
+use Rattle.machine_laws.proofs.Swept.{swept-told}
+use Rattle.machine_laws.proofs.sweeps.Goals as goal
+
+pub returns : goal.returns
+returns c =
+    let laws : AreLaws = record { walks = c.walks.ensures.each; keeps = λ old cause new g s. (c.agreement.ensures.keeps old cause new g s, λ j. c.resets.ensures old cause new j g s); means = c.agreement.ensures.means; busy = c.passing.ensures.busy; stays = c.passing.ensures.stays } in
+    record {
+      agree = λ setup h s chpid lawful run.
+          let told = run-told laws setup (record { set = 0; number = 0 }) h s lawful c.agreement.ensures.opens run in
+          linked-agree laws.means (record s { subs = map (loses chpid) s.subs }) _ _
+          (swept-told laws chpid (record { set = 0; number = 0 }) _ s.subs s.units told.1).linked;
+    }

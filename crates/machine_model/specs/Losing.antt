@@ -1,0 +1,54 @@
+-- What a subchannel loses as a path of it goes down or is reset.
+use Rattle.std.specs.Prelude.{ℕ, ◌+◌, ◌==◌, ◌&&◌, ◌||◌, Bool, true, false, if◌then◌else◌, Option, None, Some, is_some, List, [], ◌∷◌}
+use Rattle.chan_model.specs.declared.hold_state.HoldPhase.{HoldPhase}
+use Rattle.chan_model.specs.declared.hold_state.HoldPhase.TheVariants as hold
+use Rattle.chan_model.specs.HoldTable.{resetting}
+use Rattle.chan_model.specs.ResetCauses.{rests_on}
+use Rattle.wires.specs.Queues.{lost}
+use Rattle.machine_model.specs.declared.cause.Cause.TheVariants as cause
+use Rattle.machine_model.specs.declared.state.Begun.{Begun}
+use Rattle.machine_model.specs.declared.state.Program.{Program}
+use Rattle.machine_model.specs.declared.state.Standing.{Standing}
+use Rattle.machine_model.specs.declared.state.Subchannel.{Subchannel}
+use Rattle.machine_model.specs.declared.state.SubchannelState.{SubchannelState}
+use Rattle.machine_model.specs.Causes.{with_cause}
+
+abbrev pub has_any : Option Program → Option Begun → Option Standing → Bool
+has_any waiting begun suspended = is_some waiting || (is_some begun || is_some suspended)
+
+abbrev pub is_offered_or_held : HoldPhase → Bool
+is_offered_or_held hold.Free = false
+is_offered_or_held (hold.Offer t p) = true
+is_offered_or_held (hold.On t p c) = true
+is_offered_or_held (hold.Away t) = true
+is_offered_or_held (hold.Letting t p) = false
+is_offered_or_held (hold.Reset r) = false
+
+-- the hold is to be reset under a fresh number; where a program was offered or held the device, its status is made
+abbrev pub reset_drawn : SubchannelState → SubchannelState
+reset_drawn s = record s { drawn = s.drawn + 1; hold = resetting s.hold (s.drawn + 1) }
+
+abbrev pub reset_with : SubchannelState → Bool → SubchannelState
+reset_with s shows = if shows then with_cause (reset_drawn s) cause.InterfaceControlCheck else reset_drawn s
+
+abbrev pub reset_for : SubchannelState → SubchannelState
+reset_for s = reset_with s (is_offered_or_held s.hold.phase && has_any s.waiting s.begun s.suspended)
+
+abbrev pub path_lost : SubchannelState → ℕ → SubchannelState
+path_lost s p = if rests_on s.hold p then reset_for s else s
+
+-- the index of a channel path, where the subchannel has it
+abbrev pub index_after : Option ℕ → Option ℕ
+index_after None = None
+index_after (Some i) = Some (i + 1)
+
+abbrev pub path_index : ℕ → List ℕ → Option ℕ
+path_index chpid [] = None
+path_index chpid (x ∷ xs) = if x == chpid then Some 0 else index_after (path_index chpid xs)
+
+abbrev pub loses_at : Option ℕ → Subchannel → Subchannel
+loses_at None sub = sub
+loses_at (Some p) sub = record sub { state = path_lost sub.state p; wires = record { down = lost sub.wires.down p; up = lost sub.wires.up p } }
+
+abbrev pub loses : ℕ → Subchannel → Subchannel
+loses chpid sub = loses_at (path_index chpid sub.setup.paths) sub

@@ -1,0 +1,38 @@
+-- Steps whose path is the one that a rule of choice gives.
+use Rattle.std.specs.Prelude.{◌≡◌, ℕ, Option, None, Some, Result, Ok, Err}
+use Rattle.chan_model.specs.declared.event.Event.{Event}
+use Rattle.chan_model.specs.declared.event.Event.TheVariants as event
+use Rattle.chan_model.specs.declared.fault.Fault.{Fault}
+use Rattle.chan_model.specs.declared.fault.Fault.TheVariants as fault
+use Rattle.chan_model.specs.declared.reply.Reply.{Reply}
+use Rattle.path_select.specs.Choice.{Rule, IsChoice}
+use Rattle.machine_model.specs.declared.state.Subchannel.{Subchannel}
+use Rattle.machine_model.specs.Choosing.{chosen, paths_to_choose}
+use Rattle.machine_model.specs.State.{State, place_of, sub_at}
+use Rattle.machine_model.specs.Steps.{Outcome, does, at_sub, choose_sub}
+
+-- the path of an offer, a Reset or a Halt is one that the rule allows, by the paths to choose from and the path of the last
+-- offer or Reset
+pub record IsRuled (picks : Rule) (s : State) (place : ℕ) (sub : Subchannel) (r : Outcome) : Type 0 where
+  pub choice : Option ℕ
+  pub member : IsChoice (paths_to_choose s.subs sub) choice
+  pub picked : picks (paths_to_choose s.subs sub) sub.state.last_path choice
+  pub gives : r ≡ at_sub s place (choose_sub sub (chosen sub choice))
+
+abbrev pub RulesAt : Rule → State → Option ℕ → Option Subchannel → Outcome → Type 0
+RulesAt picks s None sub r = r ≡ Err fault.NoSuchSubchannel
+RulesAt picks s (Some place) None r = r ≡ Err fault.NoSuchSubchannel
+RulesAt picks s (Some place) (Some sub) r = IsRuled picks s place sub r
+
+-- of the events, Choose alone takes a path of its own choice
+abbrev pub Rules : Rule → State → Event → Outcome → Type 0
+Rules picks s (event.Choose word) r = RulesAt picks s (place_of s word) (sub_at s.subs (place_of s word)) r
+Rules picks s other r = Unit {0}
+
+abbrev pub outcome_of : Result Reply Fault → State → Outcome
+outcome_of (Ok reply) new = does reply new
+outcome_of (Err f) new = Err f
+
+-- what a call answered and left goes by the rule
+abbrev pub GoesByRule : Rule → State → Event → Result Reply Fault → State → Type 0
+GoesByRule picks old e r new = Rules picks old e (outcome_of r new)

@@ -1,0 +1,177 @@
+-- The path that is found before a signal is taken is that of what is sent.
+use Rattle.std.proofs.Common.{◌≡◌, refl, ◌∙◌, ap, ℕ, Bool, true, false, Option, None, Some}
+use Rattle.std.specs.Prelude.{if◌then◌else◌, is_some, nat_lt}
+use Rattle.scsw_irb.specs.declared.status.DeviceStatus.{DeviceStatus}
+use Rattle.storage_keys.specs.Storage.{Contents}
+use Rattle.chan_model.specs.declared.hold_state.HoldPhase.{HoldPhase}
+use Rattle.chan_model.specs.declared.hold_state.HoldPhase.TheVariants as hold
+use Rattle.chan_model.specs.declared.hold_state.HoldState.{HoldState}
+use Rattle.chan_model.specs.declared.signal.Down.{Down}
+use Rattle.chan_model.specs.declared.signal.Load.{Load}
+use Rattle.chan_model.specs.declared.signal.Taken.{Taken}
+use Rattle.chan_model.specs.declared.signal.Up.{Up}
+use Rattle.chan_model.specs.declared.signal.Up.TheVariants as up
+use Rattle.chan_model.specs.HoldTable.{HoldStep, hold_takes, hold_after, came_of, is_connected, is_on, letting_go}
+use Rattle.chan_model.specs.UnitReports.{is_last_end, is_outward, has_device_end}
+use Rattle.channel_program.specs.declared.check.Check.{Check}
+use Rattle.channel_program.specs.Walks.{Place}
+use Rattle.data_move.specs.Moving.{residual}
+use Rattle.transfer.specs.declared.Came.{Came}
+use Rattle.transfer.specs.declared.Came.TheVariants as came
+use Rattle.transfer.specs.declared.Beginning.{Beginning}
+use Rattle.transfer.specs.Commands.{first_command, next_command}
+use Rattle.transfer.specs.Chunks.{is_answered}
+use Rattle.machine_model.specs.declared.state.Begun.{Begun}
+use Rattle.machine_model.specs.declared.state.Program.{Program}
+use Rattle.machine_model.specs.declared.state.Standing.{Standing}
+use Rattle.machine_model.specs.declared.state.SubchannelState.{SubchannelState}
+use Rattle.machine_model.specs.declared.state.UpStep.{UpStep}
+use Rattle.machine_model.specs.declared.cause.Cause.TheVariants as cause
+use Rattle.machine_model.specs.Causes.{with_cause, without_begun}
+use Rattle.machine_model.specs.Statuses.{has_status_modifier, chains_command}
+use Rattle.machine_model.specs.Taking.{Met, meets, ignoring, let_go, suspending, standing, goes_ahead, with_path, beginning, begin_standing, accepted_by, accept_by, move_bytes, move_data, chaining, goes_on, with_end, end_shown_at, stops_at, command_ended, end_of, reset_taken, notice, takes_up}
+use Rattle.subchannel.specs.Answering.{path_of, only_if, held_path, accepted_path, moved_path, chained_path, going_path, ended_path, end_of_path, answer_path}
+
+abbrev answers : UpStep → Option ℕ
+answers step = path_of step.came.sent
+
+answers-if : (b : Bool) (x y : UpStep) (u v : Option ℕ) → answers x ≡ u → answers y ≡ v → answers (if b then x else y) ≡ (if b then u else v)
+answers-if true x y u v e f = e
+answers-if false x y u v e f = f
+
+met-if : (b : Bool) (x y : Met) (u v : Option ℕ) → answers x.step ≡ u → answers y.step ≡ v → answers (if b then x else y).step ≡ (if b then u else v)
+met-if true x y u v e f = e
+met-if false x y u v e f = f
+
+both : (b : Bool) (x y : Met) (u : Option ℕ) → answers x.step ≡ u → answers y.step ≡ u → answers (if b then x else y).step ≡ u
+both true x y u e f = e
+both false x y u e f = f
+
+-- what lets the device go
+letting : (h : HoldState) (phase : HoldPhase) → path_of (came_of (letting_go h phase)).sent ≡ held_path phase
+letting h hold.Free = refl
+letting h (hold.Offer t p) = refl
+letting h (hold.On t p c) = refl
+letting h (hold.Away t) = refl
+letting h (hold.Letting t p) = refl
+letting h (hold.Reset r) = refl
+
+let-go : (s : SubchannelState) (h : HoldState) → s.hold ≡ h → answers (let_go s) ≡ held_path h.phase
+let-go s h e = letting s.hold s.hold.phase ∙ ap (λ (x : HoldState). held_path x.phase) e
+
+hold-if : (b : Bool) (x y : SubchannelState) (h : HoldState) → x.hold ≡ h → y.hold ≡ h → (if b then x else y).hold ≡ h
+hold-if true x y h e f = e
+hold-if false x y h e f = f
+
+suspending-hold : (s : SubchannelState) (program : Program) (walk : Place) (count : ℕ) → (suspending s program walk count).hold ≡ s.hold
+suspending-hold s program walk count = hold-if program.orb.suppress_suspended _ _ s.hold refl refl
+
+begun-hold : (b : Option Begun) (s : SubchannelState) → (without_begun b s).hold ≡ s.hold
+begun-hold None s = refl
+begun-hold (Some b) s = refl
+
+fault-hold : (s : SubchannelState) (tried : ℕ) (check : Check) (count : ℕ) → (with_cause s (cause.FetchFault tried check count)).hold ≡ s.hold
+fault-hold s tried check count = begun-hold s.begun s
+
+end-hold : (s : SubchannelState) (b : Begun) (p : ℕ) (status : DeviceStatus) (more : Bool) → (end_shown_at s b p status more).hold ≡ s.hold
+end-hold s b p status more = hold-if (is_last_end status) _ _ s.hold refl refl
+
+-- Accept
+begun-answers : (storage : Contents) (s : SubchannelState) (p t c : ℕ) (st : Standing) (walk : Place) (x : Came) → s.hold.phase ≡ hold.On t p c →
+    answers (beginning storage s p t st walk x) ≡ Some p
+begun-answers storage s p t c st walk (came.Begins transfer) e = refl
+begun-answers storage s p t c st walk came.Suspends e =
+    let-go (suspending s st.program walk st.count) s.hold (suspending-hold s st.program walk st.count) ∙ ap held_path e
+begun-answers storage s p t c st walk (came.Stops check) e =
+    let-go (with_cause s (cause.FetchFault walk.tried check st.count)) s.hold (fault-hold s walk.tried check st.count) ∙ ap held_path e
+
+standing-answers : (storage : Contents) (s : SubchannelState) (p t c : ℕ) (st : Option Standing) → s.hold.phase ≡ hold.On t p c →
+    answers (begin_standing storage s p t st) ≡ only_if (is_some st) p
+standing-answers storage s p t c None e = refl
+standing-answers storage s p t c (Some st) e =
+    begun-answers storage s p t c st (first_command storage st.walk).walk (first_command storage st.walk).came e
+
+accepted-answers : (storage : Contents) (s : SubchannelState) (phase : HoldPhase) (taken : Taken Down) → s.hold.phase ≡ phase →
+    answers (accepted_by storage s phase taken) ≡ accepted_path s phase taken
+accepted-answers storage s hold.Free taken e = refl
+accepted-answers storage s (hold.Offer t p) taken e = refl
+accepted-answers storage s (hold.On t p c) taken e = standing-answers storage (record s { pmcw = with_path s.pmcw p }) p t c (standing s) e
+accepted-answers storage s (hold.Away t) taken e = refl
+accepted-answers storage s (hold.Letting t p) taken e = refl
+accepted-answers storage s (hold.Reset r) taken e = refl
+
+accept-answers : (storage : Contents) (s : SubchannelState) (h : HoldState) (taken : Taken Down) →
+    answers (accept_by storage s h taken) ≡ (if taken.taken then accepted_path s h.phase taken else None)
+accept-answers storage s h taken =
+    answers-if taken.taken _ _ (accepted_path s h.phase taken) None (accepted-answers storage (record s { hold = h }) h.phase taken refl) refl
+
+-- Data
+move-answers : (storage : Contents) (s : SubchannelState) (b : Option Begun) (p t c n seq : ℕ) (load : Load) →
+    answers (move_data storage s b p t c n seq load).step ≡ moved_path b p n seq
+move-answers storage s None p t c n seq load = refl
+move-answers storage s (Some b) p t c n seq load =
+    met-if (is_answered b.transfer n seq) (move_bytes storage s b p t c n seq load) (meets storage (ignoring s)) (Some p) None
+    (both (is_outward b.transfer.code) _ _ (Some p) refl refl) refl
+
+-- End
+chain-answers : (storage : Contents) (s : SubchannelState) (b : Begun) (p t : ℕ) (walk : Place) (x : Came) →
+    answers (chaining storage s b p t walk x) ≡ chained_path x p (held_path s.hold.phase)
+chain-answers storage s b p t walk (came.Begins transfer) = refl
+chain-answers storage s b p t walk came.Suspends = let-go (suspending (record s { dedicated = None }) b.program walk (residual b.transfer.moving)) s.hold (suspending-hold (record s { dedicated = None }) b.program walk (residual b.transfer.moving))
+chain-answers storage s b p t walk (came.Stops check) =
+    let-go (with_cause (record s { dedicated = None }) (cause.FetchFault walk.tried check (residual b.transfer.moving))) s.hold (fault-hold (record s { dedicated = None }) walk.tried check (residual b.transfer.moving))
+
+going-answers : (storage : Contents) (s : SubchannelState) (b : Begun) (p t : ℕ) (status : DeviceStatus) →
+    answers (goes_on storage s b p t status) ≡ going_path storage s b p status
+going-answers storage s b p t status =
+    let next : Beginning = next_command storage b.transfer (has_status_modifier status) in
+    answers-if (has_device_end status) _ _ (chained_path next.came p (held_path s.hold.phase)) None (chain-answers storage s b p t next.walk next.came) refl
+
+stop-answers : (s : SubchannelState) (b : Begun) (p : ℕ) (status : DeviceStatus) (more : Bool) →
+    answers (stops_at s b p status more) ≡ (if is_last_end status then held_path s.hold.phase else None)
+stop-answers s b p status more =
+    answers-if (is_last_end status) _ _ (held_path s.hold.phase) None (let-go (end_shown_at s b p status more) s.hold (end-hold s b p status more)) refl
+
+ended-answers : (storage : Contents) (s : SubchannelState) (b : Begun) (p t : ℕ) (status : DeviceStatus) (more : Bool) →
+    answers (command_ended storage s b p t status more) ≡ ended_path storage s b p status more
+ended-answers storage s b p t status more =
+    answers-if (chains_command s.scsw b status more) _ _ _ _ (going-answers storage s (with_end b) p t status) (stop-answers s b p status more)
+
+end-of-answers : (storage : Contents) (s : SubchannelState) (b : Option Begun) (p t n : ℕ) (status : DeviceStatus) (more : Bool) →
+    answers (end_of storage s b p t n status more) ≡ end_of_path storage s b p n status more
+end-of-answers storage s None p t n status more = refl
+end-of-answers storage s (Some b) p t n status more = answers-if _ _ _ _ None (ended-answers storage s b p t status more) refl
+
+-- Cleared
+reset-answers : (s : SubchannelState) (step : Option HoldStep) → answers (reset_taken s step) ≡ path_of (came_of step).sent
+reset-answers s None = refl
+reset-answers s (Some step) = refl
+
+-- Notice
+unsent : (b : Bool) (x y : UpStep) → answers x ≡ None → answers y ≡ None → answers (if b then x else y) ≡ None
+unsent true x y e f = e
+unsent false x y e f = f
+
+notice-answers : (s : SubchannelState) (b : ℕ) → answers (notice s b) ≡ None
+notice-answers s b = unsent (nat_lt s.hold.known b) _ _ refl refl
+
+pub takes_answers : (returns : Bool) (storage : Contents) (s : SubchannelState) (p : ℕ) (signal : Up) →
+    path_of (takes_up returns storage s p signal).step.came.sent ≡ answer_path returns storage s p signal
+takes_answers returns storage s p (up.Accept t) = let step : Option HoldStep = hold_takes s.hold p (up.Accept t) (goes_ahead s) in accept-answers storage s (hold_after s.hold step) (came_of step)
+takes_answers returns storage s p (up.Busy t) = refl
+takes_answers returns storage s p (up.Leave t c) = refl
+takes_answers returns storage s p (up.Back t c) = refl
+takes_answers returns storage s p (up.Data t c n seq load) =
+    met-if (is_connected s.hold.phase p t c) _ _ (moved_path s.begun p n seq) None (move-answers storage s s.begun p t c n seq load) refl
+takes_answers returns storage s p (up.End t n status more) =
+    answers-if (is_on s.hold.phase t) _ _ (end_of_path storage s s.begun p n status more) None (end-of-answers storage s s.begun p t n status more) refl
+takes_answers returns storage s p (up.Released t) = refl
+takes_answers returns storage s p (up.Cleared r) = reset-answers s (hold_takes s.hold p (up.Cleared r) false)
+takes_answers returns storage s p (up.Notice b) = notice-answers s b
+takes_answers returns storage s p (up.Attn a status) = refl
+
+-- where the program is held on the path, its answer goes there
+pub chained_same : (x : Came) (p : ℕ) → Some p ≡ chained_path x p (Some p)
+chained_same (came.Begins transfer) p = refl
+chained_same came.Suspends p = refl
+chained_same (came.Stops check) p = refl

@@ -1,0 +1,20 @@
+-- A Back that is not granted leaves the path that was used last, and the one that was chosen last.
+use Rattle.std.proofs.Common.{◌≡◌, refl, sym, ◌∙◌, ap, ℕ, Bool, true, false, Option}
+use Rattle.chan_model.specs.declared.signal.Down.{Down}
+use Rattle.chan_model.specs.declared.signal.Taken.{Taken}
+use Rattle.chan_model.specs.HoldTable.{HoldStep, hold_after, came_of}
+use Rattle.machine_model.specs.declared.state.SubchannelState.{SubchannelState}
+use Rattle.machine_model.specs.declared.state.UpStep.{UpStep}
+use Rattle.machine_model.specs.Taking.{back, by_hold, is_granted, returned}
+use Rattle.subchannel.specs.Stepping.{stepped}
+
+ungranted : (s : SubchannelState) (came : Taken Down) (p : ℕ) (b : Bool) → b ≡ false → stepped s came ≡ stepped (returned s p b) came
+ungranted s came p false e = refl
+ungranted s came p true e = absurd (cc e)
+
+pub back_refused : (s : SubchannelState) (p : ℕ) (step : Option HoldStep) (next : UpStep) → next ≡ by_hold s step → is_granted next.came.sent ≡ false →
+    next ≡ back s p step
+back_refused s p step next e g =
+    e
+    ∙ ungranted (record s { hold = hold_after s.hold step }) (came_of step) p (is_granted (came_of step).sent)
+    (ap (λ (n : UpStep). is_granted n.came.sent) (sym e) ∙ g)

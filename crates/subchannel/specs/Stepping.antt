@@ -1,0 +1,16 @@
+-- A subchannel that a signal changed in place, with what came of the signal.
+use Rattle.std.specs.Prelude.{true, false, Option, None}
+use Rattle.chan_model.specs.declared.signal.Down.{Down}
+use Rattle.chan_model.specs.declared.signal.OnPath.{OnPath}
+use Rattle.chan_model.specs.declared.signal.Taken.{Taken}
+use Rattle.machine_model.specs.declared.state.SubchannelState.{SubchannelState}
+use Rattle.machine_model.specs.declared.state.UpStep.{UpStep}
+
+abbrev pub stepped : SubchannelState → Taken Down → UpStep
+stepped s came = record { state = s; came = came }
+
+abbrev pub not_taken : Taken Down
+not_taken = record { taken = false; sent = None }
+
+abbrev pub taken_with : Option (OnPath Down) → Taken Down
+taken_with sends = record { taken = true; sent = sends }

@@ -1,0 +1,245 @@
+//! Whether a signal is answered, and by which path, before anything is changed.
+
+ghost use Rattle.std.specs.Prelude.{◌≡◌, ◌<◌, ◌^◌, false};
+ghost use Rattle.chan_model.specs.HoldTable.{hold_takes, came_of};
+ghost use Rattle.machine_model.specs.Taking as taking_spec;
+ghost use Rattle.subchannel.specs.Answering as spec;
+ghost use Rattle.transfer.specs.Commands as transfer_spec;
+
+use crate::accepting::{goes_ahead, standing};
+use crate::attending::may_attend;
+use crate::ending::with_end;
+use chan_model::hold_state::{HoldPhase, HoldState};
+use chan_model::names::Path;
+use chan_model::signal::{Down, OnPath, Up};
+use hold::Hold;
+use machine_model::state::{Begun, SubchannelState};
+use scsw_irb::status::DeviceStatus;
+use status::causes::is_last_end;
+use status::shown::chains_command;
+use storage_keys::Storage;
+use transfer::Came;
+use transfer::chunks::is_answered;
+use transfer::commands::next_command;
+
+fn path_of(sent: &Option<OnPath<Down>>) -> Option<Path>
+    ensures { result ≡ spec.path_of sent.now }
+{
+    match sent {
+        None => None,
+        Some(signal) => Some(signal.path),
+    }
+}
+
+fn held_path(hold: &HoldState) -> Option<Path>
+    ensures { result ≡ spec.held_path hold.now.phase }
+{
+    match hold.phase {
+        HoldPhase::On { path, .. } => Some(path),
+        _ => None,
+    }
+}
+
+/// By which path the hold answers.
+fn hold_path(state: &SubchannelState, path: Path, signal: &Up, may: bool) -> Option<Path>
+    ensures { result ≡ spec.path_of (came_of (hold_takes state.now.hold path signal.now may)).sent }
+{
+    let mut hold = Hold::of(state.hold);
+    let came = hold.take(path, signal, may);
+    path_of(&came.sent)
+}
+
+fn accept_path(state: &SubchannelState, path: Path, signal: &Up) -> Option<Path>
+    ensures { result ≡ spec.accept_path state.now (hold_takes state.now.hold path signal.now (taking_spec.goes_ahead state.now)) }
+{
+    let mut hold = Hold::of(state.hold);
+    let came = hold.take(path, signal, goes_ahead(state));
+    if !came.taken {
+        return None;
+    }
+    let phase = hold.state().phase;
+    match phase {
+        HoldPhase::On { path, .. } => {
+            if standing(state).is_some() {
+                Some(path)
+            } else {
+                None
+            }
+        }
+        _ => path_of(&came.sent),
+    }
+}
+
+fn data_path(
+    state: &SubchannelState,
+    path: Path,
+    number: u64,
+    connection: u64,
+    command: u64,
+    sequence: u64,
+) -> Option<Path>
+    requires { taking_spec.IsBelow state.now.begun }
+    ensures { result ≡ spec.data_path state.now path number connection command sequence }
+{
+    if !Hold::of(state.hold).is_connected(path, number, connection) {
+        return None;
+    }
+    let Some(begun) = &state.begun else {
+        return None;
+    };
+    if is_answered(&begun.transfer, command, sequence) {
+        Some(path)
+    } else {
+        None
+    }
+}
+
+fn beginning_path(
+    storage: &Storage,
+    begun: &Begun,
+    path: Path,
+    held: Option<Path>,
+    modifier: bool,
+) -> Option<Path>
+    requires { begun.now.transfer.command < 2 ^ 63 }
+    ensures { result ≡ spec.chained_path (transfer_spec.next_command storage.now begun.now.transfer modifier).came path held }
+{
+    let next = next_command(storage, &begun.transfer, modifier);
+    match next.came {
+        Came::Begins(_) => Some(path),
+        Came::Suspends | Came::Stops(_) => held,
+    }
+}
+
+/// Where the program is held on the path of its End, nothing is to be fetched.
+#[tactic(auto, using(crate::proofs::Answered::chained_same))]
+fn chained_path(
+    storage: &Storage,
+    begun: &Begun,
+    path: Path,
+    held: Option<Path>,
+    modifier: bool,
+) -> Option<Path>
+    requires { begun.now.transfer.command < 2 ^ 63 }
+    ensures { result ≡ spec.chained_path (transfer_spec.next_command storage.now begun.now.transfer modifier).came path held }
+{
+    match held {
+        Some(at) if path.same(at) => Some(at),
+        _ => beginning_path(storage, begun, path, held, modifier),
+    }
+}
+
+fn going_path(
+    storage: &Storage,
+    state: &SubchannelState,
+    begun: &Begun,
+    path: Path,
+    status: DeviceStatus,
+) -> Option<Path>
+    requires { begun.now.transfer.command < 2 ^ 63 }
+    ensures { result ≡ spec.going_path storage.now state.now begun.now path status }
+{
+    if status.has_device_end() {
+        chained_path(
+            storage,
+            begun,
+            path,
+            held_path(&state.hold),
+            status.has_modifier(),
+        )
+    } else {
+        None
+    }
+}
+
+fn ended_path(
+    storage: &Storage,
+    state: &SubchannelState,
+    begun: &Begun,
+    path: Path,
+    status: DeviceStatus,
+    more: bool,
+) -> Option<Path>
+    requires { begun.now.transfer.command < 2 ^ 63 }
+    ensures { result ≡ spec.ended_path storage.now state.now begun.now path status more }
+{
+    if chains_command(state.scsw, begun, status, more) {
+        going_path(storage, state, &with_end(begun), path, status)
+    } else if is_last_end(status) {
+        held_path(&state.hold)
+    } else {
+        None
+    }
+}
+
+fn end_path(
+    storage: &Storage,
+    state: &SubchannelState,
+    path: Path,
+    number: u64,
+    command: u64,
+    status: DeviceStatus,
+    more: bool,
+) -> Option<Path>
+    requires { taking_spec.IsBelow state.now.begun }
+    ensures { result ≡ spec.end_path storage.now state.now path number command status more }
+{
+    if !Hold::of(state.hold).is_on(number) {
+        return None;
+    }
+    let Some(begun) = &state.begun else {
+        return None;
+    };
+    if command != begun.transfer.command {
+        return None;
+    }
+    ended_path(storage, state, begun, path, status, more)
+}
+
+fn path_by_signal(
+    storage: &Storage,
+    state: &SubchannelState,
+    path: Path,
+    signal: &Up,
+    returns: bool,
+) -> Option<Path>
+    requires { taking_spec.IsBelow state.now.begun }
+    ensures { result ≡ spec.answer_path returns storage.now state.now path signal.now }
+{
+    match signal {
+        Up::Accept { .. } => accept_path(state, path, signal),
+        Up::Data {
+            number,
+            connection,
+            command,
+            sequence,
+            ..
+        } => data_path(state, path, *number, *connection, *command, *sequence),
+        Up::End {
+            number,
+            command,
+            status,
+            more,
+        } => end_path(storage, state, path, *number, *command, *status, *more),
+        Up::Back { .. } => hold_path(state, path, signal, returns),
+        Up::Notice { .. } => None,
+        Up::Attn { .. } => hold_path(state, path, signal, may_attend(state)),
+        _ => hold_path(state, path, signal, false),
+    }
+}
+
+/// The path of the signal that is sent as this one is taken. None where none is sent. `returns`: a program that is away may
+/// come back by the path.
+#[tactic(auto, using(crate::proofs::Answered::takes_answers))]
+pub fn answer_path(
+    storage: &Storage,
+    state: &SubchannelState,
+    path: Path,
+    signal: &Up,
+    returns: bool,
+) -> Option<Path>
+    requires { taking_spec.IsBelow state.now.begun }
+    ensures { spec.path_of (taking_spec.takes_up returns storage.now state.now path signal.now).step.came.sent ≡ result }
+{
+    path_by_signal(storage, state, path, signal, returns)
+}

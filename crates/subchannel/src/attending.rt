@@ -1,0 +1,52 @@
+//! A device that asks for attention (own).
+
+ghost use Rattle.std.specs.Prelude.{◌≡◌, ◌<◌, ◌^◌};
+ghost use Rattle.chan_model.specs.HoldTable.{hold_takes};
+ghost use Rattle.machine_model.specs.Taking as spec;
+ghost use Rattle.subchannel.specs.Stepping.{stepped};
+
+use crate::answers::by_hold;
+use chan_model::names::Path;
+use chan_model::signal::{Down, Taken, Up};
+use machine_model::cause::Cause;
+use machine_model::state::SubchannelState;
+use scsw_irb::scsw::ActivityControl;
+use scsw_irb::status::DeviceStatus;
+use status::make_pending;
+
+/// Whether nothing goes on but a start that waits.
+fn is_open(activity: &ActivityControl) -> bool
+    ensures { result ≡ spec.is_open activity.now }
+{
+    !(activity.resume_pending
+        || activity.halt_pending
+        || activity.clear_pending
+        || activity.subchannel_active
+        || activity.device_active
+        || activity.suspended)
+}
+
+/// Whether an Attn may be taken: no status is pending, and nothing goes on but a start that waits.
+pub fn may_attend(state: &SubchannelState) -> bool
+    ensures { result ≡ spec.may_attend state.now }
+{
+    !state.scsw.status.pending && is_open(&state.scsw.activity)
+}
+
+/// Attn: but for a control-unit end alone it makes status.
+pub(crate) fn attend(
+    state: &mut SubchannelState,
+    path: Path,
+    signal: &Up,
+    status: DeviceStatus,
+) -> Taken<Down>
+    requires { state.old.serials.made < 2 ^ 63 }
+    ensures { stepped state.new result ≡ spec.attend state.old status (hold_takes state.old.hold path signal.now (spec.may_attend state.old)) }
+{
+    let may = may_attend(state);
+    let came = by_hold(state, path, signal, may);
+    if came.taken && status != DeviceStatus::CONTROL_UNIT_END {
+        make_pending(state, &Cause::Attention);
+    }
+    came
+}

@@ -1,7 +1,0 @@
-use Rattle.std.proofs.Common.{◌≡◌, None, take}
-use Rattle.machine_model.specs.State.{is_named, first_place}
-use Rattle.subsystem.proofs.places.place_in.Given as goal
-
--- none of the subchannels so far passes
-abbrev pub invariant-loop-place : goal.invariant-loop-place
-invariant-loop-place l = first_place (is_named l.id) (take l.place l.subs) ≡ None

@@ -1,8 +1,0 @@
-use Rattle.std.proofs.Common.{◌≡◌, None, take}
-use Rattle.machine_model.specs.State.{first_place}
-use Rattle.machine_model.specs.State.{reaches}
-use Rattle.subsystem.proofs.places.reached_in.Given as goal
-
--- none of the subchannels so far passes
-abbrev pub invariant-loop-place : goal.invariant-loop-place
-invariant-loop-place l = first_place (reaches l.«unit» l.side) (take l.place l.subs) ≡ None

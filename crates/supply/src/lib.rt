@@ -1,0 +1,119 @@
+//! Room for lists from a supply, of which contracts see whether it refused a growth.
+//! A call that answers want of memory only where its supply refused cannot answer it for another reason.
+#![tactic(auto)]
+
+ghost use Rattle.std.specs.Prelude.{◌≡◌, ◌<◌, ◌≤◌, ◌+◌, ◌++◌, ◌∷◌, [], Bool, true, OnOk, OnErr, vec_len, vec_capacity, length};
+ghost use Rattle.supply.specs.Requests.{IsModest};
+
+#[cfg(test)]
+mod tests;
+
+use std::alloc::AllocError;
+
+/// Room for lists. That it refused a growth can be seen from then on.
+pub trait Supply {
+    ghost use Rattle.std.specs.Prelude.{Bool};
+
+    // A growth was refused.
+    ghost refused: { Self → Bool };
+
+    /// Room for so many items more than the list has, which are at most 16,777,216. Where it is refused the list has the
+    /// room that it had, or more.
+    fn reserve<T>(&mut self, list: &mut Vec<T>, more: usize) -> Result<(), AllocError>
+    where
+        Self: Sized,
+        requires modest { IsModest more }
+        ensures items { list.new.items ≡ list.old.items }
+        ensures len { vec_len list.new ≡ vec_len list.old }
+        ensures kept { vec_capacity list.old ≤ vec_capacity list.new }
+        ensures room { OnOk result (vec_len list.new + more ≤ vec_capacity list.new) }
+        ensures given { OnOk result (refused self.new ≡ refused self.old) }
+        ensures taken { OnErr result (refused self.new ≡ true) };
+}
+
+/// What the allocator has.
+#[derive(Drop)]
+pub struct Given {
+    /// The allocator refused a growth.
+    pub refused: bool,
+}
+
+impl Supply for Given {
+    ghost refused = { λ g. g.refused };
+
+    fn reserve<T>(&mut self, list: &mut Vec<T>, more: usize) -> Result<(), AllocError> {
+        let result = list.reserve(more);
+        if result.is_err() {
+            self.refused = true;
+        }
+        result
+    }
+}
+
+/// Grants so many requests and refuses those that follow: a call over each number in turn meets each refusal that it can
+/// meet.
+#[derive(Drop)]
+pub struct Refusing {
+    /// How many requests are granted still.
+    pub left: u64,
+    /// A growth was refused.
+    pub refused: bool,
+}
+
+impl Supply for Refusing {
+    ghost refused = { λ g. g.refused };
+
+    fn reserve<T>(&mut self, list: &mut Vec<T>, more: usize) -> Result<(), AllocError> {
+        if self.left == 0 || list.reserve(more).is_err() {
+            self.refused = true;
+            return Err(AllocError);
+        }
+        self.left -= 1;
+        Ok(())
+    }
+}
+
+/// One item more. Where the growth is refused the items stay and the new one is lost.
+pub fn push<S: Supply, T: Drop>(
+    supply: &mut S,
+    list: &mut Vec<T>,
+    item: T,
+) -> Result<(), AllocError>
+    ensures pushed { OnOk result (list.new.items ≡ list.old.items ++ item ∷ []) }
+    ensures kept { OnErr result (list.new.items ≡ list.old.items) }
+    ensures given { OnOk result (S.refused supply.new ≡ S.refused supply.old) }
+    ensures taken { OnErr result (S.refused supply.new ≡ true) }
+{
+    supply.reserve(list, 1)?;
+    put(list, item);
+    Ok(())
+}
+
+/// Adds an item, for which there is room.
+fn put<T: Drop>(list: &mut Vec<T>, item: T)
+    requires { vec_len list.old < vec_capacity list.old }
+    ensures { list.new.items ≡ list.old.items ++ item ∷ [] }
+{
+    list.push(item).unwrap();
+}
+
+/// These bytes more, which are at most 16,777,216. Where the growth is refused the bytes stay as they were.
+pub fn extend<S: Supply>(supply: &mut S, list: &mut Vec<u8>, bytes: &[u8]) -> Result<(), AllocError>
+    requires modest { IsModest (length bytes.now) }
+    ensures extended { OnOk result (list.new.items ≡ list.old.items ++ bytes.now) }
+    ensures kept { OnErr result (list.new.items ≡ list.old.items) }
+    ensures given { OnOk result (S.refused supply.new ≡ S.refused supply.old) }
+    ensures taken { OnErr result (S.refused supply.new ≡ true) }
+{
+    supply.reserve(list, bytes.len())?;
+    put_bytes(list, bytes);
+    Ok(())
+}
+
+/// Adds bytes, for which there is room.
+fn put_bytes(list: &mut Vec<u8>, bytes: &[u8])
+    requires { vec_len list.old + length bytes.now ≤ vec_capacity list.old }
+    ensures { list.new.items ≡ list.old.items ++ bytes.now }
+{
+    list.extend_from_slice(bytes).unwrap();
+}
