@@ -7,4 +7,3 @@ pub mod UnitTable
 pub mod Agreement
 pub mod UnitReports
 pub mod ConditionCodes
-pub mod Status

@@ -1,16 +1,14 @@
 //! What each call answers at plain values, and the texts of refusals.
 
+use crate::answer::{Answer, ConditionCode};
 use crate::chunk::{Chunk, ChunkLength};
-use crate::event::Event;
 use crate::fault::Fault;
 use crate::names::{Cpu, Path, Side};
 use crate::paths::{mask_of_path, mask_of_paths, paths_of_mask};
-use crate::reply::{Answer, ConditionCode, Reply};
 use crate::report::{DeviceAnswer, Report};
 use crate::signal::{Down, Load, Up};
 use scsw_irb::serials::Serials;
 use storage_keys::StorageFault;
-use storage_keys::key::Key;
 
 #[test]
 fn names_keep_their_range(rt: HostRuntime) {
@@ -42,14 +40,8 @@ fn chunks_and_signals_are_copied(rt: HostRuntime) {
     assert_eq!(rt; bytes.copy().as_slice(), [0xC1, 0xC2, 0xC3].as_slice());
     assert_eq!(rt; Load::Bytes(bytes.copy()).copy().len(), 3);
     assert_eq!(rt; Load::Absorbed(9).len(), 9);
-    let put = Event::Put {
-        address: 0x500,
-        bytes,
-    };
-    assert!(rt; matches!(put.copy(), Event::Put { address: 0x500, .. }));
     assert!(rt; matches!(Down::Halt { number: 3 }.copy(), Down::Halt { number: 3 }));
     assert!(rt; matches!(Up::Busy { number: 3 }.copy(), Up::Busy { number: 3 }));
-    assert!(rt; matches!(Reply::Pending.copy(), Reply::Pending));
 }
 
 #[test]
@@ -60,15 +52,8 @@ fn reports_are_copied(rt: HostRuntime) {
         command: 2,
         sequence: 3,
         answer: DeviceAnswer::Supplied(Chunk::of(&[0xD1, 0xD2])),
-    };
-    let copied = Event::Report {
-        unit: 5,
-        report: report.copy(),
     }
     .copy();
-    let Event::Report { unit: 5, report } = copied else {
-        return assert!(rt; false, "the same unit reports");
-    };
     assert!(rt; report.side.same(Side::Second));
     assert_eq!(rt; (report.number, report.command, report.sequence), (1, 2, 3));
     let DeviceAnswer::Supplied(bytes) = report.answer.copy() else {
@@ -81,62 +66,8 @@ fn reports_are_copied(rt: HostRuntime) {
 fn lengths_keep_their_range(rt: HostRuntime) {
     assert!(rt; ChunkLength::new(257).is_none());
     match ChunkLength::new(256) {
-        Some(length) => {
-            assert_eq!(rt; length.get(), 256);
-            let show = Event::Show {
-                address: 0x2000,
-                length,
-            };
-            assert!(rt;
-                matches!(
-                    show.copy(),
-                    Event::Show {
-                        address: 0x2000,
-                        ..
-                    }
-                )
-            );
-        }
+        Some(length) => assert_eq!(rt; length.get(), 256),
         None => assert!(rt; false, "the length is in range"),
-    }
-    let key = Event::SetKey {
-        address: 0x2000,
-        key: Key::of_byte(0x10),
-    };
-    assert!(rt;
-        matches!(
-            key.copy(),
-            Event::SetKey {
-                key: Key { access: 1, .. },
-                ..
-            }
-        )
-    );
-    let shown = Reply::Shown {
-        bytes: Chunk::of(&[0xC1]),
-    };
-    assert!(rt; matches!(shown.copy(), Reply::Shown { .. }));
-}
-
-/// The number and the path of a Reset, or of a Halt, that was sent: first of the one, then of the other.
-fn sent(reply: &Reply) -> (Option<(u64, u64)>, Option<(u64, u64)>) {
-    match reply {
-        Reply::ResetSent { number, path } => (Some((*number, path.index() as u64)), None),
-        Reply::HaltSent { number, path } => (None, Some((*number, path.index() as u64))),
-        _ => (None, None),
-    }
-}
-
-#[test]
-fn resets_and_halts_that_are_sent_are_copied(rt: HostRuntime) {
-    match Path::new(5) {
-        Some(path) => {
-            let reset = Reply::ResetSent { number: 3, path };
-            let halt = Reply::HaltSent { number: 4, path };
-            assert_eq!(rt; sent(&reset.copy()), (Some((3, 5)), None));
-            assert_eq!(rt; sent(&halt.copy()), (None, Some((4, 5))));
-        }
-        None => assert!(rt; false, "the path is in range"),
     }
 }
 

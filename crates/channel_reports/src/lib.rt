@@ -14,7 +14,7 @@ ghost use Rattle.chan_model.specs.ConditionCodes as codes;
 ghost use Rattle.channel_reports.specs.Queue as spec;
 
 use arrayvec::ArrayVec;
-use chan_model::reply::ConditionCode;
+use chan_model::answer::ConditionCode;
 use scsw_irb::crw::{Crw, Report};
 use std::marker::Model;
 

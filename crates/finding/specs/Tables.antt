@@ -5,9 +5,9 @@ use Rattle.chan_model.specs.declared.names.Side.TheVariants.{First, Second}
 use Rattle.chan_model.specs.ResetCauses.{engaged_path}
 use Rattle.chan_model.specs.Sides.{same_side}
 use Rattle.channel_config.specs.declared.names.SubchannelId.{SubchannelId}
-use Rattle.machine_model.specs.declared.state.Subchannel.{Subchannel}
-use Rattle.machine_model.specs.State.{place_in, reached_in}
-use Rattle.machine_model.specs.Choosing.{engages, is_chpid}
+use Rattle.subchannel_model.specs.declared.state.Subchannel.{Subchannel}
+use Rattle.subchannel_model.specs.Places.{place_in, reached_in}
+use Rattle.subchannel_model.specs.Choosing.{engages, is_chpid}
 
 -- the places of the subchannels by their names, and by the side of the unit that they reach
 pub record Tables : Type 0 where

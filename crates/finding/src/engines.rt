@@ -1,12 +1,12 @@
 //! Which engines of channel paths are engaged: an engine serves one subchannel at a time (own).
 
 ghost use Rattle.std.specs.Prelude.{◌≡◌, ◌<◌, ◌≤◌, ◌+◌, ◌^◌, ℕ, IfSome, slice_index, replicate};
-ghost use Rattle.machine_model.specs.Choosing as choosing_spec;
+ghost use Rattle.subchannel_model.specs.Choosing as choosing_spec;
 ghost use Rattle.finding.specs.Tables as spec;
 
 use hold::Hold;
-use machine_model::state::Subchannel;
 use std::marker::Model;
+use subchannel_model::state::Subchannel;
 
 /// The identifier of the channel path whose engine the subchannel engages: the path of its active allegiance (SA22-7832,
 /// chapter 15). None where it has none.
@@ -84,7 +84,7 @@ pub struct Counted<'a> {
 
 impl<'a> Model for Counted<'a> {
     ghost use Rattle.std.specs.Prelude.{List};
-    ghost use Rattle.machine_model.specs.declared.state.Subchannel.{Subchannel};
+    ghost use Rattle.subchannel_model.specs.declared.state.Subchannel.{Subchannel};
     ghost use Rattle.finding.specs.Tables.{Counts};
 
     ghost Value = { List Subchannel };

@@ -1,16 +1,16 @@
 //! Where each subchannel stands, by its name and by the side of the unit that it reaches.
 
 ghost use Rattle.std.specs.Prelude.{◌≡◌, ◌<◌, ◌++◌, IfOk, IfSome, None, OnOk, OnErr, length, replicate, slice_get, true};
-ghost use Rattle.machine_model.specs.State as state_spec;
+ghost use Rattle.subchannel_model.specs.Places as place_spec;
 ghost use Rattle.finding.specs.Tables as spec;
 ghost use Rattle.supply.specs.Requests.{IsModest};
 
 use crate::walk::{place_in, reached_in};
 use chan_model::names::Side;
 use channel_config::names::SubchannelId;
-use machine_model::state::Subchannel;
 use std::alloc::{AllocError, Global};
 use std::marker::Model;
+use subchannel_model::state::Subchannel;
 use supply::Supply;
 
 /// How many numbers of a set have entries in the table of names.
@@ -154,7 +154,7 @@ impl Places {
     /// tables were made of, as they are now.
     pub fn place_in(&self, id: SubchannelId, subs: &[Subchannel]) -> Option<usize>
         requires { spec.Fits self.now subs.now }
-        ensures place { result ≡ state_spec.place_in id subs.now }
+        ensures place { result ≡ place_spec.place_in id subs.now }
         ensures bound { IfSome result (λ place. place < length subs.now) }
     {
         let Some(index) = name_index(id) else {
@@ -180,7 +180,7 @@ impl Places {
     /// subchannels that the tables were made of, as they are now.
     pub fn reached_in(&self, unit: usize, side: Side, subs: &[Subchannel]) -> Option<usize>
         requires { spec.Fits self.now subs.now }
-        ensures place { result ≡ state_spec.reached_in «unit» side subs.now }
+        ensures place { result ≡ place_spec.reached_in «unit» side subs.now }
         ensures bound { IfSome result (λ place. place < length subs.now) }
     {
         match entry(self.of_side(side), unit) {

@@ -6,10 +6,10 @@ use chan_model::hold_state::{HoldPhase, HoldState};
 use chan_model::names::{Path, Side};
 use channel_config::names::SubchannelId;
 use channel_config::parts::{ChpidList, SubchannelSetup};
-use machine_model::state::{Pmcw, Subchannel, SubchannelState};
 use scsw_irb::scsw::Scsw;
 use scsw_irb::serials::Serials;
 use std::alloc::{AllocError, Global};
+use subchannel_model::state::{Pmcw, Subchannel, SubchannelState};
 use supply::{Given, Refusing, Supply};
 use wires::Wires;
 

@@ -1,21 +1,21 @@
 //! Where a subchannel stands among all, by a search.
 
 ghost use Rattle.std.specs.Prelude.{◌≡◌, ◌<◌, IfSome, length};
-ghost use Rattle.machine_model.specs.State as state_spec;
+ghost use Rattle.subchannel_model.specs.Places as place_spec;
 
 use chan_model::names::Side;
 use channel_config::names::SubchannelId;
-use machine_model::state::Subchannel;
+use subchannel_model::state::Subchannel;
 
 fn is_named(id: SubchannelId, sub: &Subchannel) -> bool
-    ensures { result ≡ state_spec.is_named id sub.now }
+    ensures { result ≡ place_spec.is_named id sub.now }
 {
     sub.setup.id.set == id.set && sub.setup.id.number == id.number
 }
 
 /// The place of the first subchannel of this name. None where no subchannel has it.
 pub(crate) fn place_in(id: SubchannelId, subs: &[Subchannel]) -> Option<usize>
-    ensures place { result ≡ state_spec.place_in id subs.now }
+    ensures place { result ≡ place_spec.place_in id subs.now }
     ensures bound { IfSome result (λ place. place < length subs.now) }
 {
     for (place, sub) in subs.iter().enumerate() {
@@ -27,14 +27,14 @@ pub(crate) fn place_in(id: SubchannelId, subs: &[Subchannel]) -> Option<usize>
 }
 
 fn reaches(unit: usize, side: Side, sub: &Subchannel) -> bool
-    ensures { result ≡ state_spec.reaches «unit» side sub.now }
+    ensures { result ≡ place_spec.reaches «unit» side sub.now }
 {
     usize::from(sub.setup.unit) == unit && sub.setup.side.same(side)
 }
 
 /// The place of the first subchannel that reaches this side of a unit. None where no subchannel does.
 pub(crate) fn reached_in(unit: usize, side: Side, subs: &[Subchannel]) -> Option<usize>
-    ensures place { result ≡ state_spec.reached_in «unit» side subs.now }
+    ensures place { result ≡ place_spec.reached_in «unit» side subs.now }
     ensures bound { IfSome result (λ place. place < length subs.now) }
 {
     for (place, sub) in subs.iter().enumerate() {

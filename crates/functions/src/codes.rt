@@ -1,14 +1,15 @@
 //! The condition codes of the instructions on a subchannel (SA22-7832, chapter 14): the table, a function for each row.
 
 ghost use Rattle.std.specs.Prelude.{◌≡◌};
-ghost use Rattle.chan_model.specs.ConditionCodes as spec;
-ghost use Rattle.chan_model.specs.Status as status_spec;
-ghost use Rattle.machine_model.specs.Instructions as state_spec;
+ghost use Rattle.chan_model.specs.ConditionCodes as code_spec;
+ghost use Rattle.subchannel_model.specs.SubchannelCodes as spec;
+ghost use Rattle.subchannel_model.specs.Status as status_spec;
+ghost use Rattle.subchannel_model.specs.Instructions as state_spec;
 
-use chan_model::reply::ConditionCode;
-use chan_model::status::Condition;
-use machine_model::state::SubchannelState;
+use chan_model::answer::ConditionCode;
 use scsw_irb::scsw::{ActivityControl, FunctionControl, StatusControl};
+use subchannel_model::state::SubchannelState;
+use subchannel_model::status::Condition;
 
 /// What an instruction finds of a provided subchannel.
 pub fn condition_of(state: &SubchannelState) -> Condition
@@ -26,7 +27,7 @@ pub fn condition_of(state: &SubchannelState) -> Condition
 
 /// 3 where the subchannel is not operational, otherwise 1, otherwise 2, otherwise 0.
 fn in_order(operational: bool, one: bool, two: bool) -> ConditionCode
-    ensures { result ≡ spec.in_order operational one two }
+    ensures { result ≡ code_spec.in_order operational one two }
 {
     if !operational {
         ConditionCode::Three

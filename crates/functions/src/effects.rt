@@ -1,20 +1,20 @@
 //! What each accepted instruction leaves of a subchannel (SA22-7832, chapter 14; own).
 
 ghost use Rattle.std.specs.Prelude.{◌≡◌, ◌<◌, ◌^◌};
-ghost use Rattle.chan_model.specs.Status as status_spec;
-ghost use Rattle.machine_model.specs.Functions as spec;
-ghost use Rattle.machine_model.specs.Instructions as start_spec;
-ghost use Rattle.machine_model.specs.SubchannelBlocks as block_spec;
+ghost use Rattle.subchannel_model.specs.Status as status_spec;
+ghost use Rattle.subchannel_model.specs.Functions as spec;
+ghost use Rattle.subchannel_model.specs.Instructions as start_spec;
+ghost use Rattle.subchannel_model.specs.SubchannelBlocks as block_spec;
 
 use crate::codes::is_intermediate_alone;
 use chan_model::paths::paths_of_mask;
 use hold::Hold;
-use machine_model::state::{Pmcw, Program, SubchannelState};
 use orb_block::Orb;
 use schib_block::pmcw;
 use scsw_irb::scsw::{ActivityControl, DeferredCode, FunctionControl, Scsw, StatusControl};
 use scsw_irb::serials::Serials;
 use scsw_irb::status::{DeviceStatus, SubchannelStatus};
+use subchannel_model::state::{Pmcw, Program, SubchannelState};
 
 fn start_scsw(scsw: &mut Scsw, orb: &Orb)
     ensures { scsw.new ≡ start_spec.started_scsw scsw.old orb.now }

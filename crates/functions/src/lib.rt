@@ -3,20 +3,21 @@
 #![tactic(auto)]
 
 ghost use Rattle.std.specs.Prelude.{◌≡◌, ◌<◌, ◌^◌};
-ghost use Rattle.chan_model.specs.ConditionCodes as code_spec;
-ghost use Rattle.machine_model.specs.Functions as spec;
-ghost use Rattle.machine_model.specs.Instructions.{condition_of, started};
+ghost use Rattle.subchannel_model.specs.SubchannelCodes as code_spec;
+ghost use Rattle.subchannel_model.specs.Functions as spec;
+ghost use Rattle.subchannel_model.specs.Instructions.{condition_of, started};
 
+pub mod blocks;
 pub mod codes;
 pub mod effects;
 pub mod law;
 #[cfg(test)]
 mod tests;
 
-use chan_model::reply::ConditionCode;
-use machine_model::state::SubchannelState;
+use chan_model::answer::ConditionCode;
 use orb_block::Orb;
 use schib_block::pmcw;
+use subchannel_model::state::SubchannelState;
 
 /// START SUBCHANNEL with an ORB that is allowed.
 pub fn ssch(state: &mut SubchannelState, orb: Orb) -> ConditionCode

@@ -6,16 +6,16 @@ use crate::codes::{
 };
 use crate::{csch, hsch, msch, rsch, ssch, xsch};
 use ccw_walk::Walk;
+use chan_model::answer::ConditionCode;
 use chan_model::hold_state::{HoldPhase, HoldState};
 use chan_model::names::Path;
 use chan_model::paths::mask_of_paths;
-use chan_model::reply::ConditionCode;
-use chan_model::status::Condition;
-use machine_model::state::{Pmcw, Program, Standing, SubchannelState};
 use orb_block::Orb;
 use schib_block::pmcw;
 use scsw_irb::scsw::Scsw;
 use scsw_irb::serials::Serials;
+use subchannel_model::state::{Pmcw, Program, Standing, SubchannelState};
+use subchannel_model::status::Condition;
 
 /// An enabled subchannel whose status word has these three words, and whose number 4 was drawn last.
 fn subchannel(words: [u32; 3]) -> SubchannelState {

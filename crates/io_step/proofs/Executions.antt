@@ -12,15 +12,16 @@ use Rattle.storage_keys.specs.declared.StorageFault.{StorageFault}
 use Rattle.storage_keys.specs.Storage.{Contents, operand_at, operand_check, operand_stored, where_permitted, places}
 use Rattle.chan_model.specs.declared.fault.Fault.{Fault}
 use Rattle.chan_model.specs.declared.fault.Fault.TheVariants as fault
-use Rattle.chan_model.specs.declared.reply.Reply.{Reply}
-use Rattle.chan_model.specs.declared.reply.Reply.TheVariants as reply
-use Rattle.chan_model.specs.declared.reply.ConditionCode.{ConditionCode}
+use Rattle.chan_events.specs.declared.reply.Reply.{Reply}
+use Rattle.chan_events.specs.declared.reply.Reply.TheVariants as reply
+use Rattle.chan_model.specs.declared.answer.ConditionCode.{ConditionCode}
 use Rattle.scsw_irb.specs.declared.irb.Irb.{Irb}
 use Rattle.scsw_irb.specs.ScswTable.{irb_tables}
-use Rattle.machine_model.specs.declared.state.Subchannel.{Subchannel}
+use Rattle.subchannel_model.specs.declared.state.Subchannel.{Subchannel}
 use Rattle.machine_model.specs.State.{State, with_sub}
-use Rattle.machine_model.specs.SubchannelBlocks.{pmcw_of, schib_of, enabling, enabling_schib, enabling_word}
-use Rattle.machine_model.specs.Steps.{Outcome, SubTurn, Starts, Modifies, Enables, leaves, does, at_place, start_at, modify_at, modify_sub, enable_sub, store_answer, stores, tests, test_with, test_code_of, irb_of, with_irb, with_schib, with_enabling, stores_irb}
+use Rattle.subchannel_model.specs.SubchannelBlocks.{pmcw_of, schib_of, enabling, enabling_schib, enabling_word}
+use Rattle.machine_model.specs.Turns.{Outcome, SubTurn, leaves, does, at_place}
+use Rattle.machine_model.specs.InstructionSteps.{Starts, Modifies, Enables, start_at, modify_at, modify_sub, enable_sub, store_answer, stores, tests, test_with, test_code_of, irb_of, with_irb, with_schib, with_enabling, stores_irb}
 use Rattle.io_step.specs.Executing.{with_storage}
 use Rattle.io_step.specs.Operands.{HasOrb, HasWord}
 

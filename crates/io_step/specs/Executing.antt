@@ -1,12 +1,13 @@
 -- An instruction on a subchannel, executed on storage and that subchannel alone (SA22-7832, chapter 14).
 use Rattle.std.specs.Prelude.{◌≡◌, ℕ, None, Some, Result, Ok, Err, slice_get}
 use Rattle.storage_keys.specs.Storage.{Contents}
-use Rattle.chan_model.specs.declared.event.Instruction.{Instruction}
+use Rattle.chan_events.specs.declared.event.Instruction.{Instruction}
 use Rattle.chan_model.specs.declared.fault.Fault.{Fault}
-use Rattle.chan_model.specs.declared.reply.Reply.{Reply}
-use Rattle.machine_model.specs.declared.state.Subchannel.{Subchannel}
+use Rattle.chan_events.specs.declared.reply.Reply.{Reply}
+use Rattle.subchannel_model.specs.declared.state.Subchannel.{Subchannel}
 use Rattle.machine_model.specs.State.{State, with_sub}
-use Rattle.machine_model.specs.Steps.{Outcome, Executes_at, does}
+use Rattle.machine_model.specs.Turns.{Outcome, does}
+use Rattle.machine_model.specs.InstructionSteps.{Executes_at}
 
 abbrev pub with_storage : State → Contents → State
 with_storage s storage = record s { storage = storage }

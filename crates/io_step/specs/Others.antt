@@ -12,7 +12,7 @@ use Rattle.storage_keys.specs.declared.StorageFault.{StorageFault}
 use Rattle.storage_keys.specs.Storage.{Contents, operand_check, operand_stored}
 use Rattle.chan_model.specs.declared.fault.Fault.{Fault}
 use Rattle.chan_model.specs.declared.fault.Fault.TheVariants as fault
-use Rattle.chan_model.specs.declared.reply.ConditionCode.{ConditionCode}
+use Rattle.chan_model.specs.declared.answer.ConditionCode.{ConditionCode}
 use Rattle.chan_model.specs.ConditionCodes.{rchp_code}
 use Rattle.chan_model.specs.PathSets.{mask_of_paths}
 use Rattle.interruptions.specs.Requests as requests

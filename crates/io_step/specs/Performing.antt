@@ -3,15 +3,15 @@ use Rattle.std.proofs.Common.{inl, inr}
 use Rattle.std.specs.Borrow.{MutBor}
 use Rattle.std.specs.Prelude.{◌≡◌, ◌⊎◌, ℕ, Bool, true, false, if◌then◌else◌, Option, None, Some, Result, Ok, Err}
 use Rattle.storage_keys.specs.Storage.{Contents}
-use Rattle.chan_model.specs.declared.event.Instruction.{Instruction}
-use Rattle.chan_model.specs.declared.event.Instruction.TheVariants as instruction
+use Rattle.chan_events.specs.declared.event.Instruction.{Instruction}
+use Rattle.chan_events.specs.declared.event.Instruction.TheVariants as instruction
 use Rattle.chan_model.specs.declared.fault.Fault.{Fault}
-use Rattle.chan_model.specs.declared.reply.ConditionCode.{ConditionCode}
-use Rattle.chan_model.specs.declared.reply.ConditionCode.TheVariants.{Zero, One, Two, Three}
-use Rattle.chan_model.specs.declared.reply.Reply.{Reply}
-use Rattle.chan_model.specs.declared.reply.Reply.TheVariants as reply
+use Rattle.chan_model.specs.declared.answer.ConditionCode.{ConditionCode}
+use Rattle.chan_model.specs.declared.answer.ConditionCode.TheVariants.{Zero, One, Two, Three}
+use Rattle.chan_events.specs.declared.reply.Reply.{Reply}
+use Rattle.chan_events.specs.declared.reply.Reply.TheVariants as reply
 use Rattle.chan_model.specs.ConditionCodes.{code_of, tpi_code, stcrw_code}
-use Rattle.machine_model.specs.declared.state.Subchannel.{Subchannel}
+use Rattle.subchannel_model.specs.declared.state.Subchannel.{Subchannel}
 use Rattle.interruptions.specs.Requests as requests
 use Rattle.channel_reports.specs.Queue as reports
 use Rattle.io_step.specs.declared.instruction.IoInstruction.{IoInstruction}

@@ -2,16 +2,17 @@
 
 ghost use Rattle.std.specs.Prelude.{◌≡◌, ◌≤◌, ◌+◌, ℕ, length};
 ghost use Rattle.io_step.specs.Executing as spec;
-ghost use Rattle.chan_model.specs.declared.event.Instruction.TheVariants as instruction_spec;
+ghost use Rattle.chan_events.specs.declared.event.Instruction.TheVariants as instruction_spec;
 
 use crate::operands::{orb_at, word_at};
-use chan_model::event::Instruction;
+use chan_events::event::Instruction;
+use chan_events::reply::Reply;
+use chan_model::answer::Answer;
 use chan_model::fault::Fault;
 use chan_model::names::Cpu;
-use chan_model::reply::{Answer, Reply};
+use functions::blocks::enabling_word;
 use schib_block::pmcw::Pmcw;
 use storage_keys::Storage;
-use subchannel_blocks::enabling_word;
 use zbits::{be_bytes, be_words};
 
 /// The real address of the block that enabling modifies from.

@@ -4,8 +4,9 @@ ghost use Rattle.std.specs.Prelude.{◌≡◌};
 ghost use Rattle.io_step.specs.Performing as spec;
 
 use crate::others::PathTable;
-use chan_model::event::Instruction;
-use chan_model::reply::{ConditionCode, Reply};
+use chan_events::event::Instruction;
+use chan_events::reply::Reply;
+use chan_model::answer::ConditionCode;
 use scsw_irb::code::IntCode;
 use scsw_irb::crw::Crw;
 

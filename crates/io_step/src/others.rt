@@ -3,10 +3,10 @@
 ghost use Rattle.std.specs.Prelude.{◌≡◌, ◌≤◌, ◌<◌, ◌+◌, ◌*◌, Ok, Err, IfOk, IfErr, OnErr, OnOk, Some, length};
 ghost use Rattle.io_step.specs.Others as spec;
 
+use chan_model::answer::ConditionCode;
 use chan_model::fault::Fault;
 use chan_model::names::Cpu;
 use chan_model::paths::mask_of_paths;
-use chan_model::reply::ConditionCode;
 use channel_reports::Reports;
 use interruptions::Pending;
 use scsw_irb::code::IntCode;

@@ -9,14 +9,15 @@ use crate::absent::execute_absent;
 use crate::instruction::{ChannelPaths, Done, IoInstruction, reply_code};
 use crate::others::{rchp, stcps, stcrw, tpi};
 use crate::provided::execute;
-use chan_model::event::Instruction;
+use chan_events::event::Instruction;
+use chan_events::reply::Reply;
+use chan_model::answer::ConditionCode;
 use chan_model::fault::Fault;
 use chan_model::names::Cpu;
-use chan_model::reply::{ConditionCode, Reply};
 use channel_reports::Reports;
 use interruptions::Pending;
-use machine_model::state::Subchannel;
 use storage_keys::Storage;
+use subchannel_model::state::Subchannel;
 
 /// Whether an instruction that set this code drops the request of its subchannel.
 fn drops(instruction: Instruction, code: Option<ConditionCode>) -> bool

@@ -3,22 +3,23 @@
 ghost use Rattle.std.specs.Prelude.{◌≡◌, ◌≤◌, ◌+◌, ℕ, length};
 ghost use Rattle.io_step.specs.Executing as spec;
 ghost use Rattle.machine_model.specs.State.{State};
-ghost use Rattle.machine_model.specs.Steps as steps;
+ghost use Rattle.machine_model.specs.InstructionSteps as steps;
 ghost use Rattle.machine_model.specs.Bounds.{IsRoomy};
-ghost use Rattle.chan_model.specs.declared.event.Instruction.TheVariants as instruction_spec;
+ghost use Rattle.chan_events.specs.declared.event.Instruction.TheVariants as instruction_spec;
 
 use crate::operands::{orb_at, word_at};
 use crate::turns::{
     cancel_sub, clear_sub, halt_sub, irb_of, modify_sub, resume_sub, start_sub, stores_irb,
     test_code_of, test_sub,
 };
-use chan_model::event::Instruction;
+use chan_events::event::Instruction;
+use chan_events::reply::Reply;
+use chan_model::answer::Answer;
 use chan_model::fault::Fault;
 use chan_model::names::Cpu;
-use chan_model::reply::{Answer, Reply};
-use machine_model::state::Subchannel;
+use functions::blocks::{enabling_schib, schib_of};
 use storage_keys::Storage;
-use subchannel_blocks::{enabling_schib, schib_of};
+use subchannel_model::state::Subchannel;
 
 /// The real address of the block that enabling stores and modifies from.
 const ENABLE_BLOCK: u32 = 0xF00;

@@ -4,21 +4,21 @@ ghost use Rattle.std.specs.Bool.{OnTrue};
 ghost use Rattle.machine_model.specs.Bounds.{IsRoomy};
 
 use crate::{ChannelPaths, Done, IoInstruction, perform};
-use chan_model::event::Instruction;
+use chan_events::event::Instruction;
+use chan_model::answer::ConditionCode;
 use chan_model::fault::Fault;
 use chan_model::hold_state::{HoldPhase, HoldState};
 use chan_model::names::{Cpu, Side};
-use chan_model::reply::ConditionCode;
 use channel_config::names::SubchannelId;
 use channel_config::parts::{ChpidList, SubchannelSetup};
 use channel_reports::Reports;
 use interruptions::Pending;
-use machine_model::state::{Pmcw, Subchannel, SubchannelState};
 use scsw_irb::code::IntCode;
 use scsw_irb::scsw::Scsw;
 use scsw_irb::serials::Serials;
 use std::alloc::Global;
 use storage_keys::{Storage, StorageFault};
+use subchannel_model::state::{Pmcw, Subchannel, SubchannelState};
 use wires::Wires;
 
 const WORD: u32 = 0x0001_0001;

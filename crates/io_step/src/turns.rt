@@ -1,26 +1,28 @@
 //! What an instruction leaves of its subchannel.
 
 ghost use Rattle.std.specs.Prelude.{◌≡◌};
-ghost use Rattle.machine_model.specs.Steps as spec;
+ghost use Rattle.machine_model.specs.InstructionSteps as spec;
+ghost use Rattle.machine_model.specs.Turns as turn_spec;
 ghost use Rattle.machine_model.specs.Bounds.{IsRoomy};
 ghost use Rattle.schib_block.specs.Modify.{IsAllowed};
 
+use chan_events::reply::Reply;
+use chan_model::answer::{Answer, ConditionCode};
 use chan_model::paths::mask_of_path;
-use chan_model::reply::{Answer, ConditionCode, Reply};
 use functions::codes::{condition_of, msch_code, ssch_code, tsch_code};
 use functions::effects::{place, start};
 use functions::law::modified;
 use functions::{csch, hsch, rsch, xsch};
-use machine_model::state::{Subchannel, SubchannelState};
 use orb_block::Orb;
 use schib_block::pmcw::Pmcw;
 use scsw_irb::irb::Irb;
 use status::tsch;
+use subchannel_model::state::{Subchannel, SubchannelState};
 
 /// START SUBCHANNEL with an allowed ORB.
 pub fn start_sub(sub: &mut Subchannel, orb: Orb) -> Reply
     requires { IsRoomy sub.old }
-    ensures { spec.start_sub sub.old orb ≡ spec.leaves result sub.new }
+    ensures { spec.start_sub sub.old orb ≡ turn_spec.leaves result sub.new }
 {
     let serials = sub.state.serials;
     match ssch_code(condition_of(&sub.state)) {
@@ -43,7 +45,7 @@ pub fn test_code_of(sub: &Subchannel) -> ConditionCode
 
 /// TEST SUBCHANNEL, but for the IRB.
 pub fn test_sub(sub: &mut Subchannel) -> Reply
-    ensures { spec.test_with sub.old (spec.test_code_of sub.old) ≡ spec.leaves result sub.new }
+    ensures { spec.test_with sub.old (spec.test_code_of sub.old) ≡ turn_spec.leaves result sub.new }
 {
     let scsw = sub.state.scsw;
     let code = tsch(&mut sub.state);
@@ -77,7 +79,7 @@ pub fn stores_irb(code: ConditionCode) -> bool
 /// MODIFY SUBCHANNEL with a word that it allows.
 pub fn modify_sub(sub: &mut Subchannel, given: &Pmcw) -> Reply
     requires { IsAllowed given.now }
-    ensures { spec.modify_sub sub.old given.now ≡ spec.leaves result sub.new }
+    ensures { spec.modify_sub sub.old given.now ≡ turn_spec.leaves result sub.new }
 {
     let serials = sub.state.serials;
     match msch_code(condition_of(&sub.state)) {
@@ -94,7 +96,7 @@ pub fn modify_sub(sub: &mut Subchannel, given: &Pmcw) -> Reply
 
 /// RESUME SUBCHANNEL.
 pub fn resume_sub(sub: &mut Subchannel) -> Reply
-    ensures { spec.resume_sub sub.old ≡ spec.leaves result sub.new }
+    ensures { spec.resume_sub sub.old ≡ turn_spec.leaves result sub.new }
 {
     let code = rsch(&mut sub.state);
     Reply::Code(Answer::of(code, sub.state.serials))
@@ -102,7 +104,7 @@ pub fn resume_sub(sub: &mut Subchannel) -> Reply
 
 /// HALT SUBCHANNEL.
 pub fn halt_sub(sub: &mut Subchannel) -> Reply
-    ensures { spec.halt_sub sub.old ≡ spec.leaves result sub.new }
+    ensures { spec.halt_sub sub.old ≡ turn_spec.leaves result sub.new }
 {
     let code = hsch(&mut sub.state);
     Reply::Code(Answer::of(code, sub.state.serials))
@@ -111,7 +113,7 @@ pub fn halt_sub(sub: &mut Subchannel) -> Reply
 /// CLEAR SUBCHANNEL.
 pub fn clear_sub(sub: &mut Subchannel) -> Reply
     requires { IsRoomy sub.old }
-    ensures { spec.clear_sub sub.old ≡ spec.leaves result sub.new }
+    ensures { spec.clear_sub sub.old ≡ turn_spec.leaves result sub.new }
 {
     let code = csch(&mut sub.state);
     Reply::Code(Answer::of(code, sub.state.serials))
@@ -119,7 +121,7 @@ pub fn clear_sub(sub: &mut Subchannel) -> Reply
 
 /// CANCEL SUBCHANNEL.
 pub fn cancel_sub(sub: &mut Subchannel) -> Reply
-    ensures { spec.cancel_sub sub.old ≡ spec.leaves result sub.new }
+    ensures { spec.cancel_sub sub.old ≡ turn_spec.leaves result sub.new }
 {
     let code = xsch(&mut sub.state);
     Reply::Code(Answer::of(code, sub.state.serials))

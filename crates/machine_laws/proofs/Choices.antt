@@ -5,14 +5,14 @@ use Rattle.allegiance.specs.PathUse.{is_any}
 use Rattle.chan_model.specs.declared.hold_state.HoldPhase.{HoldPhase}
 use Rattle.chan_model.specs.declared.hold_state.HoldPhase.TheVariants as hold
 use Rattle.chan_model.specs.declared.hold_state.HoldState.{HoldState}
-use Rattle.machine_model.specs.declared.state.Candidate.{Candidate}
-use Rattle.machine_model.specs.declared.state.Chosen.{Chosen}
-use Rattle.machine_model.specs.declared.state.Chosen.TheVariants as chosen_is
-use Rattle.machine_model.specs.declared.state.Program.{Program}
-use Rattle.machine_model.specs.declared.state.Standing.{Standing}
-use Rattle.machine_model.specs.declared.state.Subchannel.{Subchannel}
-use Rattle.machine_model.specs.declared.state.SubchannelState.{SubchannelState}
-use Rattle.machine_model.specs.Choosing.{IsHeldBy, IsFitFor, unsent_at, unsent_reset, resuming, candidate_of, candidate, allowed_paths, idle_or_over, chosen_free, chosen_for, halting_away, chosen_halt, chosen_unreset, chosen_by, chosen}
+use Rattle.subchannel_model.specs.declared.state.Candidate.{Candidate}
+use Rattle.subchannel_model.specs.declared.state.Chosen.{Chosen}
+use Rattle.subchannel_model.specs.declared.state.Chosen.TheVariants as chosen_is
+use Rattle.subchannel_model.specs.declared.state.Program.{Program}
+use Rattle.subchannel_model.specs.declared.state.Standing.{Standing}
+use Rattle.subchannel_model.specs.declared.state.Subchannel.{Subchannel}
+use Rattle.subchannel_model.specs.declared.state.SubchannelState.{SubchannelState}
+use Rattle.subchannel_model.specs.Choosing.{IsHeldBy, IsFitFor, unsent_at, unsent_reset, resuming, candidate_of, candidate, allowed_paths, idle_or_over, chosen_free, chosen_for, halting_away, chosen_halt, chosen_unreset, chosen_by, chosen}
 
 if-fit : (h : HoldState) (b : Bool) (x y : Chosen) → IsFitFor x h → IsFitFor y h → IsFitFor (if b then x else y) h
 if-fit h true x y e f = e

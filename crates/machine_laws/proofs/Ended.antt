@@ -2,15 +2,15 @@
 use Rattle.std.proofs.Common.{◌≡◌, ◌≢◌, refl, sym, ◌∙◌, ap, subst, ℕ, ◌==◌, Bool, true, false, Option, None, Some, Result, Ok, List, inl, inr}
 use Rattle.std.specs.Prelude.{◌⊎◌, slice_get, slice_set, IfOk}
 use Rattle.std.proofs.lemmas.Bool.{eqb-true, and_parts}
-use Rattle.chan_model.specs.declared.event.Event.{Event}
-use Rattle.chan_model.specs.declared.event.Event.TheVariants as event
-use Rattle.chan_model.specs.declared.event.Instruction.TheVariants as instruction
+use Rattle.chan_events.specs.declared.event.Event.{Event}
+use Rattle.chan_events.specs.declared.event.Event.TheVariants as event
+use Rattle.chan_events.specs.declared.event.Instruction.TheVariants as instruction
 use Rattle.chan_model.specs.declared.fault.Fault.{Fault}
 use Rattle.chan_model.specs.declared.hold_state.HoldState.{HoldState}
 use Rattle.chan_model.specs.declared.names.Side.{Side}
-use Rattle.chan_model.specs.declared.reply.Reply.{Reply}
+use Rattle.chan_events.specs.declared.reply.Reply.{Reply}
 use Rattle.chan_model.specs.declared.report.Report.{Report}
-use Rattle.chan_model.specs.declared.reply.Entry.{Entry}
+use Rattle.chan_events.specs.declared.reply.Entry.{Entry}
 use Rattle.chan_model.specs.declared.unit_state.UnitState.{UnitState}
 use Rattle.chan_model.specs.Agreement.{Agrees, IsOutstanding, owner_of}
 use Rattle.chan_model.specs.Sides.{same_side}
@@ -21,10 +21,13 @@ use Rattle.channel_config.specs.Setup.{Setup}
 use Rattle.agreement_laws.specs.Claims.{IsResetDue, DoAgree}
 use Rattle.agreement_laws.specs.Invariant.{IsGood}
 use Rattle.agreement_laws.specs.Links.{Links, link_of, opening}
-use Rattle.machine_model.specs.declared.state.Subchannel.{Subchannel}
-use Rattle.machine_model.specs.Choosing.{chosen}
+use Rattle.subchannel_model.specs.declared.state.Subchannel.{Subchannel}
+use Rattle.subchannel_model.specs.Choosing.{chosen}
 use Rattle.machine_model.specs.State.{State, opening_of}
-use Rattle.machine_model.specs.Steps.{SubTurn, UpTurn, DownTurn, finds_full, report_taken, report_sub, Step, Run}
+use Rattle.machine_model.specs.Turns.{SubTurn, UpTurn, DownTurn}
+use Rattle.subchannel_model.specs.Sending.{finds_full}
+use Rattle.machine_model.specs.ReportSteps.{report_taken, report_sub}
+use Rattle.machine_model.specs.Steps.{Step, Run}
 use Rattle.step_laws.specs.Walks as walked
 use Rattle.step_laws.specs.Walks.{Walked, OneSub, OneUnit}
 use Rattle.machine_laws.specs.Agreeing.{IsEnd, IsDownTo, EndsByReset}

@@ -17,9 +17,9 @@ use Rattle.agreement_laws.specs.Links.{Link, Links, link_of, Carries, with_accep
 use Rattle.agreement_laws.specs.Moving.{HoldAct, HoldActed, still, hold_acts, LinkStep, Cause, Hold_acts, IsHoldGiven, Step}
 use Rattle.agreement_laws.specs.Invariant.{IsGood}
 use Rattle.step_laws.specs.Walks.{AreWalks}
-use Rattle.machine_model.specs.declared.state.Subchannel.{Subchannel}
-use Rattle.machine_model.specs.declared.state.SubchannelState.{SubchannelState}
-use Rattle.machine_model.specs.Steps.{with_any_sent}
+use Rattle.subchannel_model.specs.declared.state.Subchannel.{Subchannel}
+use Rattle.subchannel_model.specs.declared.state.SubchannelState.{SubchannelState}
+use Rattle.subchannel_model.specs.Sending.{with_any_sent}
 
 -- a signal more, where one is sent
 abbrev pub with_one : {A : Type 0} → List A → Option A → List A

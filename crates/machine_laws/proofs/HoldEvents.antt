@@ -18,12 +18,12 @@ use Rattle.wires.specs.Queues.{queue}
 use Rattle.scsw_irb.specs.declared.status.DeviceStatus.{DeviceStatus}
 use Rattle.agreement_laws.specs.Links.{Link}
 use Rattle.agreement_laws.specs.Moving.{reset_again, Offers, Sends_reset, Lets_go, Is_reset, Takes, Sends, HoldActed, still, stepped, offered, hold_acts}
-use Rattle.machine_model.specs.declared.state.Begun.{Begun}
+use Rattle.subchannel_model.specs.declared.state.Begun.{Begun}
 use Rattle.channel_program.specs.Walks.{Place}
-use Rattle.machine_model.specs.declared.state.Chosen.{Chosen}
-use Rattle.machine_model.specs.declared.state.Chosen.TheVariants as chosen
-use Rattle.machine_model.specs.declared.state.Subchannel.{Subchannel}
-use Rattle.machine_model.specs.declared.state.SubchannelState.{SubchannelState}
+use Rattle.subchannel_model.specs.declared.state.Chosen.{Chosen}
+use Rattle.subchannel_model.specs.declared.state.Chosen.TheVariants as chosen
+use Rattle.subchannel_model.specs.declared.state.Subchannel.{Subchannel}
+use Rattle.subchannel_model.specs.declared.state.SubchannelState.{SubchannelState}
 use Rattle.transfer.specs.declared.Came.{Came}
 use Rattle.transfer.specs.declared.Came.TheVariants as came
 use Rattle.data_move.specs.Moving.{residual}
@@ -32,16 +32,19 @@ use Rattle.transfer.specs.declared.Given.{Given}
 use Rattle.transfer.specs.declared.Roomy.{Roomy}
 use Rattle.transfer.specs.Commands.{first_command, next_command, begun_with_room, with_room}
 use Rattle.transfer.specs.Chunks.{absorbed, next_given, brought, is_answered}
-use Rattle.machine_model.specs.Functions.{cleared}
-use Rattle.machine_model.specs.declared.state.UpStep.{UpStep}
-use Rattle.machine_model.specs.declared.cause.Cause.TheVariants as cause
-use Rattle.machine_model.specs.declared.state.Standing.{Standing}
-use Rattle.machine_model.specs.Causes.{with_cause}
-use Rattle.machine_model.specs.Choosing.{IsFitFor, reset_sent, halt_sent}
-use Rattle.machine_model.specs.Statuses.{has_status_modifier, chains_command}
-use Rattle.machine_model.specs.Steps.{SubTurn, UpTurn, choose_sub, is_full, finds_full, up_front, up_sub}
-use Rattle.machine_model.specs.Taking.{Met, with_known, meets, ignoring, quietly, sending, let_go, by_hold, moving_on, giving, give_next, answering, take_in, bytes_of, standing, goes_ahead, with_path, taking_over, interrupted, suspending, beginning, begin_standing, halt_done, accept, move_bytes, move_data, with_end, chaining, chain_with, goes_on, end_shown_at, stops_at, command_ended, end_of, reset_taken, may_attend, with_attention, takes_up}
-use Rattle.machine_model.specs.Losing.{has_any, is_offered_or_held, reset_for}
+use Rattle.subchannel_model.specs.Functions.{cleared}
+use Rattle.subchannel_model.specs.declared.state.UpStep.{UpStep}
+use Rattle.subchannel_model.specs.declared.cause.Cause.TheVariants as cause
+use Rattle.subchannel_model.specs.declared.state.Standing.{Standing}
+use Rattle.subchannel_model.specs.Causes.{with_cause}
+use Rattle.subchannel_model.specs.Choosing.{IsFitFor, reset_sent, halt_sent}
+use Rattle.subchannel_model.specs.Statuses.{has_status_modifier, chains_command}
+use Rattle.machine_model.specs.Turns.{SubTurn, UpTurn}
+use Rattle.machine_model.specs.ChooseSteps.{choose_sub}
+use Rattle.subchannel_model.specs.Sending.{is_full, finds_full}
+use Rattle.machine_model.specs.UpSteps.{up_front, up_sub}
+use Rattle.subchannel_model.specs.Taking.{Met, with_known, meets, ignoring, quietly, sending, let_go, by_hold, moving_on, giving, give_next, answering, take_in, bytes_of, standing, goes_ahead, with_path, taking_over, interrupted, suspending, beginning, begin_standing, halt_done, accept, move_bytes, move_data, with_end, chaining, chain_with, goes_on, end_shown_at, stops_at, command_ended, end_of, reset_taken, may_attend, with_attention, takes_up}
+use Rattle.subchannel_model.specs.Losing.{has_any, is_offered_or_held, reset_for}
 use Rattle.machine_laws.proofs.Resetting.{reset-acted}
 use Rattle.machine_laws.proofs.SameHold.{IsSameHold, same-hold, same-then, cause-same, interrupted-same, moving-same, suspending-same, halt_done-same, clear_done-same, attention-same}
 use Rattle.machine_laws.proofs.Growth.{covers-taken, covers-first, IsLink, Keeps, IsAt, Reaches, stays, acts, chain, IsReached, reached}

@@ -16,8 +16,9 @@ use Rattle.channel_config.specs.Setup.{Setup}
 use Rattle.wires.specs.Queues.{queue}
 use Rattle.agreement_laws.specs.Links.{Links, link_of, opening}
 use Rattle.agreement_laws.specs.Invariant.{IsGood}
-use Rattle.machine_model.specs.declared.state.Subchannel.{Subchannel}
-use Rattle.machine_model.specs.State.{opening_of, opened, idle_of}
+use Rattle.subchannel_model.specs.declared.state.Subchannel.{Subchannel}
+use Rattle.machine_model.specs.State.{opening_of, idle_of}
+use Rattle.subchannel_model.specs.Opening.{opened}
 use Rattle.machine_laws.specs.Beginnings.{Starts, no_starts}
 use Rattle.machine_laws.proofs.Places.{set-get, map-get, one-place}
 use Rattle.machine_laws.proofs.Growth.{Covers, IsLink, link-wider, AreLaws}

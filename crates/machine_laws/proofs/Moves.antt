@@ -8,10 +8,10 @@ use Rattle.schib_block.specs.declared.pmcw.Pmcw as block
 use Rattle.channel_config.specs.declared.parts.SubchannelSetup.{SubchannelSetup}
 use Rattle.storage_keys.specs.Storage.{Contents}
 use Rattle.chan_model.specs.declared.fault.Fault.{Fault}
-use Rattle.chan_model.specs.declared.event.Event.{Event}
-use Rattle.chan_model.specs.declared.reply.Reply.{Reply}
-use Rattle.chan_model.specs.declared.reply.ConditionCode.{ConditionCode}
-use Rattle.chan_model.specs.declared.reply.ConditionCode.TheVariants as code
+use Rattle.chan_events.specs.declared.event.Event.{Event}
+use Rattle.chan_events.specs.declared.reply.Reply.{Reply}
+use Rattle.chan_model.specs.declared.answer.ConditionCode.{ConditionCode}
+use Rattle.chan_model.specs.declared.answer.ConditionCode.TheVariants as code
 use Rattle.chan_model.specs.declared.signal.Down.{Down}
 use Rattle.chan_model.specs.declared.signal.Up.{Up}
 use Rattle.chan_model.specs.declared.unit_state.UnitState.{UnitState}
@@ -19,20 +19,26 @@ use Rattle.chan_model.specs.UnitTable as unit_table
 use Rattle.chan_model.specs.UnitTable.{UnitStep, unit_takes, unit_after}
 use Rattle.chan_model.specs.UnitReports.{unit_reports}
 use Rattle.wires.specs.Queues.{queue}
-use Rattle.machine_model.specs.declared.state.Chosen.{Chosen}
-use Rattle.machine_model.specs.declared.state.Chosen.TheVariants as chosen_is
-use Rattle.machine_model.specs.declared.state.Pmcw.{Pmcw}
-use Rattle.machine_model.specs.declared.state.Program.{Program}
-use Rattle.machine_model.specs.declared.state.Subchannel.{Subchannel}
-use Rattle.machine_model.specs.declared.state.SubchannelState.{SubchannelState}
+use Rattle.subchannel_model.specs.declared.state.Chosen.{Chosen}
+use Rattle.subchannel_model.specs.declared.state.Chosen.TheVariants as chosen_is
+use Rattle.subchannel_model.specs.declared.state.Pmcw.{Pmcw}
+use Rattle.subchannel_model.specs.declared.state.Program.{Program}
+use Rattle.subchannel_model.specs.declared.state.Subchannel.{Subchannel}
+use Rattle.subchannel_model.specs.declared.state.SubchannelState.{SubchannelState}
 use Rattle.machine_model.specs.State.{State}
-use Rattle.machine_model.specs.declared.cause.Cause.TheVariants as cause
-use Rattle.machine_model.specs.Causes.{with_cause}
-use Rattle.machine_model.specs.Choosing.{chosen, reset_sent, halt_sent, offered}
-use Rattle.machine_model.specs.Functions.{tested_wholly}
-use Rattle.machine_model.specs.Instructions.{started}
-use Rattle.machine_model.specs.Taking.{takes_up}
-use Rattle.machine_model.specs.Steps.{SubTurn, UpTurn, DownTurn, start_with, test_with, modify_with, choose_sub, is_full, finds_full, up_front, up_sub, down_front, down_sub, report_taken, function_sub}
+use Rattle.subchannel_model.specs.declared.cause.Cause.TheVariants as cause
+use Rattle.subchannel_model.specs.Causes.{with_cause}
+use Rattle.subchannel_model.specs.Choosing.{chosen, reset_sent, halt_sent, offered}
+use Rattle.subchannel_model.specs.Functions.{tested_wholly}
+use Rattle.subchannel_model.specs.Instructions.{started}
+use Rattle.subchannel_model.specs.Taking.{takes_up}
+use Rattle.machine_model.specs.Turns.{SubTurn, UpTurn, DownTurn}
+use Rattle.machine_model.specs.InstructionSteps.{start_with, test_with, modify_with, function_sub}
+use Rattle.machine_model.specs.ChooseSteps.{choose_sub}
+use Rattle.subchannel_model.specs.Sending.{is_full, finds_full}
+use Rattle.machine_model.specs.UpSteps.{up_front, up_sub}
+use Rattle.machine_model.specs.DownSteps.{down_front, down_sub}
+use Rattle.machine_model.specs.ReportSteps.{report_taken}
 use Rattle.step_laws.specs.Walks as walked
 use Rattle.step_laws.specs.Walks.{Walked, Function, effect_of, OneSub, OneUnit}
 

@@ -2,7 +2,7 @@
 use Rattle.std.proofs.Common.{◌≡◌, refl, sym, subst, ℕ, ◌+◌, ◌<◌, Bool, true, false, nat_lt, List, [], ◌∷◌, ◌++◌, length, take, arith, length-append, take_all}
 use Rattle.std.proofs.lemmas.Bool.{ltb-true, ltb-false}
 use Rattle.std.proofs.lemmas.List.{take-append-le, take_at}
-use Rattle.chan_model.specs.declared.reply.Entry.{Entry}
+use Rattle.chan_events.specs.declared.reply.Entry.{Entry}
 use Rattle.machine_model.specs.State.{State}
 use Rattle.machine_model.specs.Steps.{Run, Opened, Stepped}
 

@@ -7,15 +7,15 @@ use Rattle.chan_model.specs.declared.fault.Fault.{Fault}
 use Rattle.chan_model.specs.declared.hold_state.HoldPhase.{HoldPhase}
 use Rattle.chan_model.specs.declared.hold_state.HoldState.{HoldState}
 use Rattle.chan_model.specs.declared.names.Side.{Side}
-use Rattle.chan_model.specs.declared.reply.ConditionCode.{ConditionCode}
-use Rattle.chan_model.specs.declared.reply.ConditionCode.TheVariants as code
-use Rattle.chan_model.specs.declared.event.Event.{Event}
-use Rattle.chan_model.specs.declared.event.Event.TheVariants as event
-use Rattle.chan_model.specs.declared.event.Instruction.TheVariants as instruction
-use Rattle.chan_model.specs.declared.reply.Answer.TheVariants as answer
-use Rattle.chan_model.specs.declared.reply.Entry.{Entry}
-use Rattle.chan_model.specs.declared.reply.Reply.{Reply}
-use Rattle.chan_model.specs.declared.reply.Reply.TheVariants as reply
+use Rattle.chan_model.specs.declared.answer.ConditionCode.{ConditionCode}
+use Rattle.chan_model.specs.declared.answer.ConditionCode.TheVariants as code
+use Rattle.chan_events.specs.declared.event.Event.{Event}
+use Rattle.chan_events.specs.declared.event.Event.TheVariants as event
+use Rattle.chan_events.specs.declared.event.Instruction.TheVariants as instruction
+use Rattle.chan_model.specs.declared.answer.Answer.TheVariants as answer
+use Rattle.chan_events.specs.declared.reply.Entry.{Entry}
+use Rattle.chan_events.specs.declared.reply.Reply.{Reply}
+use Rattle.chan_events.specs.declared.reply.Reply.TheVariants as reply
 use Rattle.chan_model.specs.declared.signal.Down.TheVariants as down
 use Rattle.chan_model.specs.declared.unit_state.UnitState.{UnitState}
 use Rattle.chan_model.specs.UnitTable.{side_of, resets}
@@ -30,13 +30,16 @@ use Rattle.schib_block.specs.declared.pmcw.Pmcw as block
 use Rattle.agreement_laws.specs.Links.{Links, link_of, opening}
 use Rattle.agreement_laws.specs.Invariant.{IsGood}
 use Rattle.agreement_laws.specs.Claims.{IsSound}
-use Rattle.machine_model.specs.declared.state.Subchannel.{Subchannel}
-use Rattle.machine_model.specs.Choosing.{chosen}
-use Rattle.machine_model.specs.Functions.{resumed, halted, cancelled, tested_wholly}
-use Rattle.machine_model.specs.Instructions.{started}
-use Rattle.machine_model.specs.State.{State, opening_of, is_named, one_later, place_in, place_of_id}
-use Rattle.machine_model.specs.SubchannelBlocks.{modified_state}
-use Rattle.machine_model.specs.Steps.{SubTurn, UpTurn, DownTurn, start_with, test_with, modify_with, function_sub, Run, Opened, Stepped}
+use Rattle.subchannel_model.specs.declared.state.Subchannel.{Subchannel}
+use Rattle.subchannel_model.specs.Choosing.{chosen}
+use Rattle.subchannel_model.specs.Functions.{resumed, halted, cancelled, tested_wholly}
+use Rattle.subchannel_model.specs.Instructions.{started}
+use Rattle.machine_model.specs.State.{State, opening_of}
+use Rattle.subchannel_model.specs.Places.{is_named, one_later, place_in, place_of_id}
+use Rattle.subchannel_model.specs.SubchannelBlocks.{modified_state}
+use Rattle.machine_model.specs.Turns.{SubTurn, UpTurn, DownTurn}
+use Rattle.machine_model.specs.InstructionSteps.{start_with, test_with, modify_with, function_sub}
+use Rattle.machine_model.specs.Steps.{Run, Opened, Stepped}
 use Rattle.machine_laws.specs.Agreeing.{IsAgreed, AllAgree, AreAbove, IsEnd}
 use Rattle.machine_laws.specs.Beginnings.{Starts, no_starts, with_start, with_offer, with_taken, starts_after, starts_by, starts, IsBegunOnce}
 use Rattle.machine_laws.specs.Claims.{is_same_id, is_id}

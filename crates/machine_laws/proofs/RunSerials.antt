@@ -11,21 +11,25 @@ use Rattle.storage_keys.specs.Storage.{operand_check}
 use Rattle.channel_config.specs.declared.names.SubchannelId.{SubchannelId}
 use Rattle.channel_config.specs.Setup.{Setup, set_count}
 use Rattle.channel_config.specs.SubchannelWords.{subchannel_named}
-use Rattle.chan_model.specs.declared.event.Event.{Event}
-use Rattle.chan_model.specs.declared.event.Event.TheVariants as event
-use Rattle.chan_model.specs.declared.event.Instruction.{Instruction}
-use Rattle.chan_model.specs.declared.event.Instruction.TheVariants as instruction
-use Rattle.chan_model.specs.declared.reply.ConditionCode.{ConditionCode}
-use Rattle.chan_model.specs.declared.reply.ConditionCode.TheVariants as code
-use Rattle.chan_model.specs.declared.reply.Entry.{Entry}
-use Rattle.chan_model.specs.declared.reply.Reply.{Reply}
-use Rattle.chan_model.specs.ConditionCodes.{in_order, is_operational}
-use Rattle.machine_model.specs.declared.state.Subchannel.{Subchannel}
-use Rattle.machine_model.specs.State.{State, opening_of, is_named, one_later, place_in, sub_at}
-use Rattle.machine_model.specs.declared.state.SubchannelState.{SubchannelState}
-use Rattle.machine_model.specs.Functions.{ends_suspended, without_programs, tested_wholly}
-use Rattle.machine_model.specs.Instructions.{condition_of, tested}
-use Rattle.machine_model.specs.Steps.{Turn, does, with_state, test_sub, test_code_of, tests, Executes_on, Executes, Step, Run, Opened, Stepped}
+use Rattle.chan_events.specs.declared.event.Event.{Event}
+use Rattle.chan_events.specs.declared.event.Event.TheVariants as event
+use Rattle.chan_events.specs.declared.event.Instruction.{Instruction}
+use Rattle.chan_events.specs.declared.event.Instruction.TheVariants as instruction
+use Rattle.chan_model.specs.declared.answer.ConditionCode.{ConditionCode}
+use Rattle.chan_model.specs.declared.answer.ConditionCode.TheVariants as code
+use Rattle.chan_events.specs.declared.reply.Entry.{Entry}
+use Rattle.chan_events.specs.declared.reply.Reply.{Reply}
+use Rattle.chan_model.specs.ConditionCodes.{in_order}
+use Rattle.subchannel_model.specs.SubchannelCodes.{is_operational}
+use Rattle.subchannel_model.specs.declared.state.Subchannel.{Subchannel}
+use Rattle.machine_model.specs.State.{State, opening_of}
+use Rattle.subchannel_model.specs.Places.{is_named, one_later, place_in, sub_at}
+use Rattle.subchannel_model.specs.declared.state.SubchannelState.{SubchannelState}
+use Rattle.subchannel_model.specs.Functions.{ends_suspended, without_programs, tested_wholly}
+use Rattle.subchannel_model.specs.Instructions.{condition_of, tested}
+use Rattle.machine_model.specs.Turns.{Turn, does, with_state}
+use Rattle.machine_model.specs.InstructionSteps.{test_sub, test_code_of, tests, Executes_on, Executes}
+use Rattle.machine_model.specs.Steps.{Step, Run, Opened, Stepped}
 use Rattle.step_laws.specs.Walks.{AreWalks}
 use Rattle.machine_laws.specs.Claims.{IsLater, is_same_id, is_id, serial_shown, serial_by, serial_of, serial_at, serials}
 use Rattle.machine_laws.proofs.Sound.{AreNumbered}

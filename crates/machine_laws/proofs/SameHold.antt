@@ -5,15 +5,15 @@ use Rattle.channel_program.specs.Walks.{Place}
 use Rattle.chan_model.specs.UnitReports.{is_last_end}
 use Rattle.data_move.specs.Moving.{residual}
 use Rattle.transfer.specs.declared.Transfer.{Transfer}
-use Rattle.machine_model.specs.declared.cause.Cause.{Cause}
-use Rattle.machine_model.specs.declared.cause.Cause.TheVariants as cause
-use Rattle.machine_model.specs.declared.state.Begun.{Begun}
-use Rattle.machine_model.specs.declared.state.Program.{Program}
-use Rattle.machine_model.specs.declared.state.SubchannelState.{SubchannelState}
-use Rattle.machine_model.specs.Causes.{without_begun, without_waiting, after_end, with_cause}
-use Rattle.machine_model.specs.Functions.{without_programs, tested_wholly, ends_suspended, dropped, halting, halted, drops_status}
-use Rattle.machine_model.specs.Instructions.{tested}
-use Rattle.machine_model.specs.Taking.{without_interruption, interrupted, interrupted_by, with_transfer, moving_on, suspended_alone, standing_still, suspending, halt_done, clear_done, with_attention}
+use Rattle.subchannel_model.specs.declared.cause.Cause.{Cause}
+use Rattle.subchannel_model.specs.declared.cause.Cause.TheVariants as cause
+use Rattle.subchannel_model.specs.declared.state.Begun.{Begun}
+use Rattle.subchannel_model.specs.declared.state.Program.{Program}
+use Rattle.subchannel_model.specs.declared.state.SubchannelState.{SubchannelState}
+use Rattle.subchannel_model.specs.Causes.{without_begun, without_waiting, after_end, with_cause}
+use Rattle.subchannel_model.specs.Functions.{without_programs, tested_wholly, ends_suspended, dropped, halting, halted, drops_status}
+use Rattle.subchannel_model.specs.Instructions.{tested}
+use Rattle.subchannel_model.specs.Taking.{without_interruption, interrupted, interrupted_by, with_transfer, moving_on, suspended_alone, standing_still, suspending, halt_done, clear_done, with_attention}
 
 pub record IsSameHold (s x : SubchannelState) : Type 0 where
   pub drawn : x.drawn ≡ s.drawn

@@ -11,10 +11,10 @@ use Rattle.wires.specs.Queues.{lost}
 use Rattle.agreement_laws.specs.Links.{Link, Links}
 use Rattle.agreement_laws.specs.Moving.{Loses, still, reset_again}
 use Rattle.channel_config.specs.declared.names.SubchannelId.{SubchannelId}
-use Rattle.machine_model.specs.declared.state.Subchannel.{Subchannel}
-use Rattle.machine_model.specs.declared.state.SubchannelState.{SubchannelState}
-use Rattle.machine_model.specs.Losing.{has_any, is_offered_or_held, reset_with, path_lost, path_index, loses_at, loses}
-use Rattle.machine_model.specs.State.{place_in}
+use Rattle.subchannel_model.specs.declared.state.Subchannel.{Subchannel}
+use Rattle.subchannel_model.specs.declared.state.SubchannelState.{SubchannelState}
+use Rattle.subchannel_model.specs.Losing.{has_any, is_offered_or_held, reset_with, path_lost, path_index, loses_at, loses}
+use Rattle.subchannel_model.specs.Places.{place_in}
 use Rattle.machine_laws.specs.Beginnings.{Starts}
 use Rattle.machine_laws.proofs.Growth.{Covers, covers-wider, queue-set, IsLink, Keeps, Reaches, acts, IsReached, AreLaws}
 use Rattle.machine_laws.proofs.HoldEvents.{IsOfHold}

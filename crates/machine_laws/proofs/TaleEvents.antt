@@ -9,9 +9,9 @@ use Rattle.chan_model.specs.declared.hold_state.HoldPhase.TheVariants as hold
 use Rattle.chan_model.specs.declared.hold_state.HoldState.{HoldState}
 use Rattle.chan_model.specs.ResetCauses.{is_held}
 use Rattle.chan_model.specs.declared.names.Side.{Side}
-use Rattle.chan_model.specs.declared.reply.ConditionCode.{ConditionCode}
-use Rattle.chan_model.specs.declared.reply.ConditionCode.TheVariants as code
-use Rattle.chan_model.specs.declared.reply.Reply.TheVariants as reply
+use Rattle.chan_model.specs.declared.answer.ConditionCode.{ConditionCode}
+use Rattle.chan_model.specs.declared.answer.ConditionCode.TheVariants as code
+use Rattle.chan_events.specs.declared.reply.Reply.TheVariants as reply
 use Rattle.chan_model.specs.declared.signal.Down.{Down}
 use Rattle.chan_model.specs.declared.signal.Down.TheVariants as down
 use Rattle.chan_model.specs.declared.signal.OnPath.{OnPath}
@@ -26,20 +26,23 @@ use Rattle.wires.specs.Queues.{queue}
 use Rattle.schib_block.specs.declared.pmcw.Pmcw as block
 use Rattle.agreement_laws.specs.Claims.{IsPassed}
 use Rattle.agreement_laws.specs.Links.{Links, link_of, with_signal, with_accepted}
-use Rattle.machine_model.specs.declared.cause.Cause.TheVariants as cause
-use Rattle.machine_model.specs.declared.state.Begun.{Begun}
-use Rattle.machine_model.specs.declared.state.Candidate.{Candidate}
-use Rattle.machine_model.specs.declared.state.Chosen.{Chosen}
-use Rattle.machine_model.specs.declared.state.Chosen.TheVariants as chosen_is
-use Rattle.machine_model.specs.declared.state.Subchannel.{Subchannel}
-use Rattle.machine_model.specs.declared.state.SubchannelState.{SubchannelState}
-use Rattle.machine_model.specs.Causes.{with_cause}
-use Rattle.machine_model.specs.Choosing.{IsFitFor, reset_sent, halt_sent, offered}
-use Rattle.machine_model.specs.Functions.{ends_suspended, without_programs, resumed, drops_status, dropped, halting, cleared, cancelled}
-use Rattle.machine_model.specs.Instructions.{tested}
-use Rattle.machine_model.specs.SubchannelBlocks.{modified_state}
-use Rattle.machine_model.specs.Steps.{start_with, test_with, modify_with, function_sub, choose_sub, is_full, finds_full, up_front, up_sub}
-use Rattle.machine_model.specs.Taking.{takes_up}
+use Rattle.subchannel_model.specs.declared.cause.Cause.TheVariants as cause
+use Rattle.subchannel_model.specs.declared.state.Begun.{Begun}
+use Rattle.subchannel_model.specs.declared.state.Candidate.{Candidate}
+use Rattle.subchannel_model.specs.declared.state.Chosen.{Chosen}
+use Rattle.subchannel_model.specs.declared.state.Chosen.TheVariants as chosen_is
+use Rattle.subchannel_model.specs.declared.state.Subchannel.{Subchannel}
+use Rattle.subchannel_model.specs.declared.state.SubchannelState.{SubchannelState}
+use Rattle.subchannel_model.specs.Causes.{with_cause}
+use Rattle.subchannel_model.specs.Choosing.{IsFitFor, reset_sent, halt_sent, offered}
+use Rattle.subchannel_model.specs.Functions.{ends_suspended, without_programs, resumed, drops_status, dropped, halting, cleared, cancelled}
+use Rattle.subchannel_model.specs.Instructions.{tested}
+use Rattle.subchannel_model.specs.SubchannelBlocks.{modified_state}
+use Rattle.machine_model.specs.InstructionSteps.{start_with, test_with, modify_with, function_sub}
+use Rattle.machine_model.specs.ChooseSteps.{choose_sub}
+use Rattle.subchannel_model.specs.Sending.{is_full, finds_full}
+use Rattle.machine_model.specs.UpSteps.{up_front, up_sub}
+use Rattle.subchannel_model.specs.Taking.{takes_up}
 use Rattle.machine_laws.specs.Beginnings.{Starts, with_start, with_offer, with_answer, with_sent, with_taken}
 use Rattle.machine_laws.proofs.Choices.{IsOfCandidate, candidate-waits}
 use Rattle.machine_laws.proofs.Moves.{if-ok}

@@ -11,11 +11,11 @@ use Rattle.chan_model.specs.declared.hold_state.HoldPhase.TheVariants as hold
 use Rattle.chan_model.specs.declared.names.Side.{Side}
 use Rattle.agreement_laws.specs.Claims.{IsPassed}
 use Rattle.agreement_laws.specs.Links.{Links, link_of}
-use Rattle.machine_model.specs.declared.state.Program.{Program}
-use Rattle.machine_model.specs.declared.state.SubchannelState.{SubchannelState}
-use Rattle.machine_model.specs.State.{opening_subchannel}
-use Rattle.machine_model.specs.Choosing.{offered}
-use Rattle.machine_model.specs.Instructions.{started}
+use Rattle.subchannel_model.specs.declared.state.Program.{Program}
+use Rattle.subchannel_model.specs.declared.state.SubchannelState.{SubchannelState}
+use Rattle.subchannel_model.specs.Opening.{opening_subchannel}
+use Rattle.subchannel_model.specs.Choosing.{offered}
+use Rattle.subchannel_model.specs.Instructions.{started}
 use Rattle.machine_laws.specs.Beginnings.{Offer, Starts, no_starts, with_begun}
 use Rattle.machine_laws.proofs.Pairs.{contains-more, all-rest, pairs-weaker, pair-of, before-last}
 use Rattle.machine_laws.proofs.Waits.{IsWaiting, WaitsAs, IsBegunHeld, Waits, Turned, not-begun, none-held, waits-wider}

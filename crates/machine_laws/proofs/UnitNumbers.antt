@@ -5,9 +5,9 @@ use Rattle.std.specs.List.{AllZip}
 use Rattle.std.proofs.lemmas.List.Elements.{All-map, AllZip-get_or, length_all_zip}
 use Rattle.chan_model.specs.declared.fault.Fault.{Fault}
 use Rattle.chan_model.specs.declared.report.Report.{Report}
-use Rattle.chan_model.specs.declared.event.Event.{Event}
-use Rattle.chan_model.specs.declared.reply.Entry.{Entry}
-use Rattle.chan_model.specs.declared.reply.Reply.{Reply}
+use Rattle.chan_events.specs.declared.event.Event.{Event}
+use Rattle.chan_events.specs.declared.reply.Entry.{Entry}
+use Rattle.chan_events.specs.declared.reply.Reply.{Reply}
 use Rattle.chan_model.specs.declared.signal.Down.{Down}
 use Rattle.chan_model.specs.declared.unit_state.UnitState.{UnitState}
 use Rattle.chan_model.specs.UnitTable as unit_table
@@ -16,10 +16,14 @@ use Rattle.chan_model.specs.UnitReports.{unit_reports}
 use Rattle.channel_config.specs.Setup.{Setup}
 use Rattle.channel_config.specs.declared.parts.UnitKind.{UnitKind}
 use Rattle.wires.specs.Queues.{queue}
-use Rattle.machine_model.specs.declared.state.Subchannel.{Subchannel}
+use Rattle.subchannel_model.specs.declared.state.Subchannel.{Subchannel}
 use Rattle.machine_model.specs.Bounds.{IsUnitWithin}
 use Rattle.machine_model.specs.State.{State, opening_of, idle_of}
-use Rattle.machine_model.specs.Steps.{DownTurn, finds_full, down_front, down_sub, report_taken, report_sub, Run, Opened, Stepped}
+use Rattle.machine_model.specs.Turns.{DownTurn}
+use Rattle.subchannel_model.specs.Sending.{finds_full}
+use Rattle.machine_model.specs.DownSteps.{down_front, down_sub}
+use Rattle.machine_model.specs.ReportSteps.{report_taken, report_sub}
+use Rattle.machine_model.specs.Steps.{Run, Opened, Stepped}
 use Rattle.machine_laws.proofs.Moves.{if-ok, zip-same, zip-set}
 use Rattle.machine_laws.proofs.UnitPlain.{IsPlain, IsPlainStep, stays, takes-plain, report-plain}
 use Rattle.step_laws.specs.Walks as walked

@@ -8,12 +8,12 @@ use Rattle.chan_model.specs.declared.hold_state.HoldState.{HoldState}
 use Rattle.chan_model.specs.HoldTable.{hold_after, letting_go}
 use Rattle.chan_model.specs.ResetCauses.{is_held}
 use Rattle.chan_model.specs.UnitReports.{is_last_end}
-use Rattle.machine_model.specs.declared.cause.Cause.{Cause}
-use Rattle.machine_model.specs.declared.cause.Cause.TheVariants as cause
-use Rattle.machine_model.specs.declared.state.Begun.{Begun}
-use Rattle.machine_model.specs.declared.state.Program.{Program}
-use Rattle.machine_model.specs.declared.state.SubchannelState.{SubchannelState}
-use Rattle.machine_model.specs.Causes.{without_begun, without_waiting, after_end, with_cause}
+use Rattle.subchannel_model.specs.declared.cause.Cause.{Cause}
+use Rattle.subchannel_model.specs.declared.cause.Cause.TheVariants as cause
+use Rattle.subchannel_model.specs.declared.state.Begun.{Begun}
+use Rattle.subchannel_model.specs.declared.state.Program.{Program}
+use Rattle.subchannel_model.specs.declared.state.SubchannelState.{SubchannelState}
+use Rattle.subchannel_model.specs.Causes.{without_begun, without_waiting, after_end, with_cause}
 
 -- the program is offered under this number
 pub record IsOffered (B : ℕ → Type 0) (s : SubchannelState) : Type 0 where

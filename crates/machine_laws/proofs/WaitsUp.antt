@@ -21,16 +21,16 @@ use Rattle.transfer.specs.declared.Came.TheVariants as came
 use Rattle.transfer.specs.declared.Transfer.{Transfer}
 use Rattle.transfer.specs.Commands.{first_command, next_command, begun_with_room, with_room}
 use Rattle.transfer.specs.Chunks.{absorbed, next_given, brought, is_answered}
-use Rattle.machine_model.specs.declared.cause.Cause.TheVariants as cause
-use Rattle.machine_model.specs.declared.state.Begun.{Begun}
-use Rattle.machine_model.specs.declared.state.Program.{Program}
-use Rattle.machine_model.specs.declared.state.Standing.{Standing}
-use Rattle.machine_model.specs.declared.state.SubchannelState.{SubchannelState}
-use Rattle.machine_model.specs.declared.state.UpStep.{UpStep}
+use Rattle.subchannel_model.specs.declared.cause.Cause.TheVariants as cause
+use Rattle.subchannel_model.specs.declared.state.Begun.{Begun}
+use Rattle.subchannel_model.specs.declared.state.Program.{Program}
+use Rattle.subchannel_model.specs.declared.state.Standing.{Standing}
+use Rattle.subchannel_model.specs.declared.state.SubchannelState.{SubchannelState}
+use Rattle.subchannel_model.specs.declared.state.UpStep.{UpStep}
 use Rattle.scsw_irb.specs.declared.scsw.Scsw.{Scsw}
-use Rattle.machine_model.specs.Causes.{with_cause}
-use Rattle.machine_model.specs.Statuses.{has_status_modifier, chains_command}
-use Rattle.machine_model.specs.Taking.{back, may_attend, with_attention, Met, meets, ignoring, quietly, let_go, by_hold, without_interruption, interrupted_by, from_start, suspended_as, standing_as, standing, goes_ahead, with_path, taking_over, suspended_alone, standing_still, suspending, beginning, begin_standing, halt_done, accept, with_transfer, moving_on, give_next, take_in, bytes_of, move_bytes, move_data, with_end, chaining, chain_with, goes_on, end_shown_at, stops_at, command_ended, end_of, reset_taken, takes_up}
+use Rattle.subchannel_model.specs.Causes.{with_cause}
+use Rattle.subchannel_model.specs.Statuses.{has_status_modifier, chains_command}
+use Rattle.subchannel_model.specs.Taking.{back, may_attend, with_attention, Met, meets, ignoring, quietly, let_go, by_hold, without_interruption, interrupted_by, from_start, suspended_as, standing_as, standing, goes_ahead, with_path, taking_over, suspended_alone, standing_still, suspending, beginning, begin_standing, halt_done, accept, with_transfer, moving_on, give_next, take_in, bytes_of, move_bytes, move_data, with_end, chaining, chain_with, goes_on, end_shown_at, stops_at, command_ended, end_of, reset_taken, takes_up}
 use Rattle.machine_laws.proofs.Resetting.{notice-turned}
 use Rattle.machine_laws.proofs.Waits.{no-less, WaitsAs, IsBegunHeld, Waits, Turned, IsCalm, kept, cause-calm, fault-begun, fault-waiting, end-held, end-begun, not-begun, none-held, held-by, held-on, let-offer, moved-as, calm-as, calm-turned, same-turned, if-turned}
 

@@ -1,19 +1,19 @@
 -- What is claimed of every run.
 use Rattle.std.specs.Prelude.{◌≡◌, ◌<◌, ◌≤◌, AllPairs, ℕ, Bool, false, ◌==◌, ◌&&◌, if◌then◌else◌, Option, None, Some, List, [], ◌∷◌}
 use Rattle.std.specs.List.{flat_map}
-use Rattle.chan_model.specs.declared.event.Event.{Event}
-use Rattle.chan_model.specs.declared.event.Event.TheVariants as event
-use Rattle.chan_model.specs.declared.event.Instruction.{Instruction}
-use Rattle.chan_model.specs.declared.event.Instruction.TheVariants as instruction
-use Rattle.chan_model.specs.declared.reply.Answer.{Answer}
-use Rattle.chan_model.specs.declared.reply.Answer.TheVariants as answer
-use Rattle.chan_model.specs.declared.reply.Reply.{Reply}
-use Rattle.chan_model.specs.declared.reply.Reply.TheVariants as reply
-use Rattle.chan_model.specs.declared.reply.Entry.{Entry}
-use Rattle.chan_model.specs.Status.{is_uncleared}
+use Rattle.chan_events.specs.declared.event.Event.{Event}
+use Rattle.chan_events.specs.declared.event.Event.TheVariants as event
+use Rattle.chan_events.specs.declared.event.Instruction.{Instruction}
+use Rattle.chan_events.specs.declared.event.Instruction.TheVariants as instruction
+use Rattle.chan_model.specs.declared.answer.Answer.{Answer}
+use Rattle.chan_model.specs.declared.answer.Answer.TheVariants as answer
+use Rattle.chan_events.specs.declared.reply.Reply.{Reply}
+use Rattle.chan_events.specs.declared.reply.Reply.TheVariants as reply
+use Rattle.chan_events.specs.declared.reply.Entry.{Entry}
+use Rattle.subchannel_model.specs.Status.{is_uncleared}
 use Rattle.channel_config.specs.declared.names.SubchannelId.{SubchannelId}
 use Rattle.channel_config.specs.SubchannelWords.{subchannel_named}
-use Rattle.machine_model.specs.declared.state.Subchannel.{Subchannel}
+use Rattle.subchannel_model.specs.declared.state.Subchannel.{Subchannel}
 
 -- status is pending exactly where cleared is less than made
 pub record IsPendingUncleared (sub : Subchannel) : Type 0 where

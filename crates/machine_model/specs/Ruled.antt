@@ -1,15 +1,17 @@
 -- Steps whose path is the one that a rule of choice gives.
 use Rattle.std.specs.Prelude.{◌≡◌, ℕ, Option, None, Some, Result, Ok, Err}
-use Rattle.chan_model.specs.declared.event.Event.{Event}
-use Rattle.chan_model.specs.declared.event.Event.TheVariants as event
+use Rattle.chan_events.specs.declared.event.Event.{Event}
+use Rattle.chan_events.specs.declared.event.Event.TheVariants as event
 use Rattle.chan_model.specs.declared.fault.Fault.{Fault}
 use Rattle.chan_model.specs.declared.fault.Fault.TheVariants as fault
-use Rattle.chan_model.specs.declared.reply.Reply.{Reply}
+use Rattle.chan_events.specs.declared.reply.Reply.{Reply}
 use Rattle.path_select.specs.Choice.{Rule, IsChoice}
-use Rattle.machine_model.specs.declared.state.Subchannel.{Subchannel}
-use Rattle.machine_model.specs.Choosing.{chosen, paths_to_choose}
-use Rattle.machine_model.specs.State.{State, place_of, sub_at}
-use Rattle.machine_model.specs.Steps.{Outcome, does, at_sub, choose_sub}
+use Rattle.subchannel_model.specs.declared.state.Subchannel.{Subchannel}
+use Rattle.subchannel_model.specs.Choosing.{chosen, paths_to_choose}
+use Rattle.machine_model.specs.State.{State, place_of}
+use Rattle.subchannel_model.specs.Places.{sub_at}
+use Rattle.machine_model.specs.Turns.{Outcome, does, at_sub}
+use Rattle.machine_model.specs.ChooseSteps.{choose_sub}
 
 -- the path of an offer, a Reset or a Halt is one that the rule allows, by the paths to choose from and the path of the last
 -- offer or Reset

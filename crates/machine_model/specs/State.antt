@@ -1,15 +1,10 @@
 -- What there is of a channel subsystem, as small values.
-use Rattle.std.proofs.Common.{lit<}
-use Rattle.std.specs.Prelude.{◌≡◌, ◌≤◌, ◌^◌, ◌⊎◌, ℕ, zero, suc, ◌+◌, ◌%◌, ◌==◌, ◌&&◌, not, nat_lt, Bool, true, false, List, [], ◌∷◌, map, length, replicate, slice_get, slice_set, unwrap_or, Option, None, Some, if◌then◌else◌}
-use Rattle.scsw_irb.specs.Empty.{zero_scsw}
+use Rattle.std.specs.Prelude.{◌≡◌, ◌≤◌, ◌^◌, ◌⊎◌, ℕ, zero, suc, ◌+◌, ◌%◌, ◌==◌, not, nat_lt, Bool, List, map, length, slice_get, slice_set, unwrap_or, Option, None, Some, if◌then◌else◌}
 use Rattle.storage_keys.specs.Storage.{Contents, cleared}
 use Rattle.chan_model.specs.declared.unit_state.UnitState.{UnitState}
-use Rattle.chan_model.specs.declared.reply.Entry.{Entry}
-use Rattle.chan_model.specs.HoldTable.{free_hold}
+use Rattle.chan_events.specs.declared.reply.Entry.{Entry}
 use Rattle.chan_model.specs.UnitTable.{idle_unit}
-use Rattle.channel_config.specs.declared.names.SubchannelId.{SubchannelId}
 use Rattle.channel_config.specs.declared.parts.UnitKind.{UnitKind}
-use Rattle.channel_config.specs.declared.parts.SubchannelSetup.{SubchannelSetup}
 use Rattle.channel_config.specs.Setup.{Setup, set_count}
 use Rattle.channel_config.specs.SubchannelWords.{subchannel_named}
 use Rattle.scsw_irb.specs.declared.serials.Serials.{Serials}
@@ -25,11 +20,10 @@ use Rattle.chan_model.specs.declared.unit_state.Own.{Own}
 use Rattle.chan_model.specs.declared.unit_state.Own.TheVariants.{Idle, Owned}
 use Rattle.chan_model.specs.declared.unit_state.Place.{Place}
 use Rattle.chan_model.specs.declared.unit_state.Place.TheVariants.{Away}
-use Rattle.chan_model.specs.Sides.{same_side}
-use Rattle.wires.specs.Queues.{no_queues, queue}
-use Rattle.machine_model.specs.declared.state.Pmcw.{Pmcw}
-use Rattle.machine_model.specs.declared.state.SubchannelState.{SubchannelState}
-use Rattle.machine_model.specs.declared.state.Subchannel.{Subchannel}
+use Rattle.wires.specs.Queues.{queue}
+use Rattle.subchannel_model.specs.declared.state.Subchannel.{Subchannel}
+use Rattle.subchannel_model.specs.Opening.{opened}
+use Rattle.subchannel_model.specs.Places.{place_of_id, sub_at, reached_sub}
 
 -- storage, how many sets of subchannels there are, the subchannels in the order of their configuration, and the units
 pub record State : Type 0 where
@@ -58,35 +52,6 @@ IsSpent past = (past.room ≡ 0) ⊎ (2 ^ 62 ≤ length past.history + 1)
 abbrev pub LacksRoom : Past → Past → Type 0
 LacksRoom old new = (new ≡ old) × IsSpent old
 
--- a subchannel at the opening: not enabled, all its paths logically available and operational (own)
-abbrev pub all_paths : List Bool
-all_paths = replicate 8 true
-
-abbrev pub no_paths : List Bool
-no_paths = replicate 8 false
-
-abbrev pub opening_pmcw : Pmcw
-opening_pmcw = record { parameter = 0; subclass = 0; enabled = false; multipath = false; logical = all_paths; not_operational = no_paths; last_used = None; operational = all_paths; subclass_fits = lit< tt }
-
-abbrev pub opening_subchannel : SubchannelState
-opening_subchannel = record {
-  pmcw = opening_pmcw;
-  scsw = zero_scsw;
-  serials = record { made = 0; cleared = 0 };
-  drawn = 0;
-  starts = 0;
-  waiting = None;
-  begun = None;
-  suspended = None;
-  hold = free_hold;
-  offered = 0;
-  last_path = None;
-  dedicated = None;
-}
-
-abbrev pub opened : SubchannelSetup → Subchannel
-opened setup = record { setup = setup; state = opening_subchannel; wires = no_queues }
-
 -- a unit at the opening, of whatever kind
 abbrev pub idle_of : UnitKind → UnitState
 idle_of kind = idle_unit
@@ -101,31 +66,8 @@ opening_of setup = record {
 }
 
 -- the place of the subchannel that a subsystem-identification word names, where it is provided
-abbrev pub is_named : SubchannelId → Subchannel → Bool
-is_named id sub = (sub.setup.id.set == id.set) && (sub.setup.id.number == id.number)
-
-abbrev pub one_later : Option ℕ → Option ℕ
-one_later None = None
-one_later (Some place) = Some (place + 1)
-
--- the place of the first subchannel that passes a test
-abbrev pub first_place : (Subchannel → Bool) → List Subchannel → Option ℕ
-first_place test [] = None
-first_place test (sub ∷ subs) = if test sub then Some 0 else one_later (first_place test subs)
-
-abbrev pub place_in : SubchannelId → List Subchannel → Option ℕ
-place_in id subs = first_place (is_named id) subs
-
-abbrev pub place_of_id : List Subchannel → Option SubchannelId → Option ℕ
-place_of_id subs None = None
-place_of_id subs (Some id) = place_in id subs
-
 abbrev pub place_of : State → ℕ → Option ℕ
 place_of s word = place_of_id s.subs (subchannel_named s.sets word)
-
-abbrev pub sub_at : List Subchannel → Option ℕ → Option Subchannel
-sub_at subs None = None
-sub_at subs (Some place) = slice_get subs place
 
 -- the subchannel that a word names
 abbrev pub sub_of : State → ℕ → Option Subchannel
@@ -142,16 +84,6 @@ with_unit s place u = record s { units = slice_set s.units place u }
 abbrev pub serials_in : Option Subchannel → Option Serials
 serials_in None = None
 serials_in (Some sub) = Some sub.state.serials
-
--- the subchannel that reaches a side of a unit
-abbrev pub reaches : ℕ → Side → Subchannel → Bool
-reaches place side sub = (sub.setup.unit == place) && same_side sub.setup.side side
-
-abbrev pub reached_in : ℕ → Side → List Subchannel → Option ℕ
-reached_in place side subs = first_place (reaches place side) subs
-
-abbrev pub reached_sub : ℕ → Side → List Subchannel → Option Subchannel
-reached_sub place side subs = sub_at subs (reached_in place side subs)
 
 -- the lowest path of a subchannel whose wire down has a signal
 abbrev pub has_signal : List (List Down) → ℕ → Bool

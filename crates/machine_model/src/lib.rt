@@ -1,5 +1,4 @@
 //! The channel subsystem as small values, and its steps and runs, as definitions.
 #![tactic(auto)]
 
-pub mod cause;
 pub mod state;

@@ -4,15 +4,15 @@ use Rattle.std.specs.Prelude.{◌⊎◌, if◌then◌else◌}
 use Rattle.chan_model.specs.UnitReports.{is_last_end}
 use Rattle.channel_program.specs.Walks.{Place}
 use Rattle.data_move.specs.Moving.{residual}
-use Rattle.machine_model.specs.declared.cause.Cause.{Cause}
-use Rattle.machine_model.specs.declared.cause.Cause.TheVariants as cause
-use Rattle.machine_model.specs.declared.state.Begun.{Begun}
-use Rattle.machine_model.specs.declared.state.Program.{Program}
-use Rattle.machine_model.specs.declared.state.SubchannelState.{SubchannelState}
-use Rattle.machine_model.specs.Causes.{with_cause, without_begun, without_waiting, after_end, programs_left}
-use Rattle.machine_model.specs.Functions.{without_programs, halting, drops_status, dropped, halted, ends_suspended, tested_wholly}
-use Rattle.machine_model.specs.Instructions.{tested}
-use Rattle.machine_model.specs.Taking.{with_attention, without_interruption, interrupted, standing_still, suspended_alone, suspending, halt_done, clear_done}
+use Rattle.subchannel_model.specs.declared.cause.Cause.{Cause}
+use Rattle.subchannel_model.specs.declared.cause.Cause.TheVariants as cause
+use Rattle.subchannel_model.specs.declared.state.Begun.{Begun}
+use Rattle.subchannel_model.specs.declared.state.Program.{Program}
+use Rattle.subchannel_model.specs.declared.state.SubchannelState.{SubchannelState}
+use Rattle.subchannel_model.specs.Causes.{with_cause, without_begun, without_waiting, after_end, programs_left}
+use Rattle.subchannel_model.specs.Functions.{without_programs, halting, drops_status, dropped, halted, ends_suspended, tested_wholly}
+use Rattle.subchannel_model.specs.Instructions.{tested}
+use Rattle.subchannel_model.specs.Taking.{with_attention, without_interruption, interrupted, standing_still, suspended_alone, suspending, halt_done, clear_done}
 
 -- the hold, and the numbers that were drawn
 pub record IsHoldKept (s x : SubchannelState) : Type 0 where

@@ -13,8 +13,8 @@ use Rattle.chan_model.specs.declared.signal.Up.TheVariants as up
 use Rattle.chan_model.specs.declared.signal.Down.{Down}
 use Rattle.chan_model.specs.declared.signal.Down.TheVariants as down
 use Rattle.chan_model.specs.declared.signal.OnPath.{OnPath}
-use Rattle.chan_model.specs.declared.reply.Entry.{Entry}
-use Rattle.chan_model.specs.declared.reply.Reply.TheVariants as reply
+use Rattle.chan_events.specs.declared.reply.Entry.{Entry}
+use Rattle.chan_events.specs.declared.reply.Reply.TheVariants as reply
 use Rattle.chan_model.specs.declared.report.DeviceAnswer.{DeviceAnswer}
 use Rattle.chan_model.specs.declared.report.DeviceAnswer.TheVariants as answer
 use Rattle.chan_model.specs.declared.report.Report.{Report}
@@ -32,23 +32,30 @@ use Rattle.chan_model.specs.HoldTable as hold_table
 use Rattle.scsw_irb.specs.declared.status.DeviceStatus.{DeviceStatus}
 use Rattle.chan_model.specs.HoldTable.{hold_after, sending_reset, is_connected, is_on}
 use Rattle.wires.specs.Queues.{queue}
-use Rattle.machine_model.specs.declared.state.Begun.{Begun}
-use Rattle.machine_model.specs.declared.state.Chosen.{Chosen}
-use Rattle.machine_model.specs.declared.state.Chosen.TheVariants.{Idle, Resets, Clears, Halts, Ends, Over, Offers}
-use Rattle.machine_model.specs.declared.cause.Cause.TheVariants as cause
-use Rattle.machine_model.specs.declared.state.Standing.{Standing}
-use Rattle.machine_model.specs.declared.state.Program.{Program}
-use Rattle.machine_model.specs.declared.state.Subchannel.{Subchannel}
-use Rattle.machine_model.specs.declared.state.SubchannelState.{SubchannelState}
-use Rattle.machine_model.specs.Choosing.{chosen, reset_sent, halt_sent, offered}
-use Rattle.machine_model.specs.Causes.{without_waiting, with_cause}
-use Rattle.machine_model.specs.Functions.{resumed, halting, drops_status, dropped, halted, cleared, cancelled, ends_suspended, without_programs, tested_wholly}
-use Rattle.machine_model.specs.Instructions.{started, tested}
-use Rattle.machine_model.specs.State.{State, opening_of, opened}
-use Rattle.machine_model.specs.Taking as taking
-use Rattle.machine_model.specs.Taking.{takes_up, goes_ahead, by_hold, reset_taken}
-use Rattle.machine_model.specs.Steps.{SubTurn, UpTurn, DownTurn, is_full, finds_full, choose_sub, up_front, up_sub, down_front, down_sub, report_taken, report_sub, Run, Opened, Stepped}
-use Rattle.machine_model.specs.Losing.{has_any, is_offered_or_held, reset_with, reset_for}
+use Rattle.subchannel_model.specs.declared.state.Begun.{Begun}
+use Rattle.subchannel_model.specs.declared.state.Chosen.{Chosen}
+use Rattle.subchannel_model.specs.declared.state.Chosen.TheVariants.{Idle, Resets, Clears, Halts, Ends, Over, Offers}
+use Rattle.subchannel_model.specs.declared.cause.Cause.TheVariants as cause
+use Rattle.subchannel_model.specs.declared.state.Standing.{Standing}
+use Rattle.subchannel_model.specs.declared.state.Program.{Program}
+use Rattle.subchannel_model.specs.declared.state.Subchannel.{Subchannel}
+use Rattle.subchannel_model.specs.declared.state.SubchannelState.{SubchannelState}
+use Rattle.subchannel_model.specs.Choosing.{chosen, reset_sent, halt_sent, offered}
+use Rattle.subchannel_model.specs.Causes.{without_waiting, with_cause}
+use Rattle.subchannel_model.specs.Functions.{resumed, halting, drops_status, dropped, halted, cleared, cancelled, ends_suspended, without_programs, tested_wholly}
+use Rattle.subchannel_model.specs.Instructions.{started, tested}
+use Rattle.machine_model.specs.State.{State, opening_of}
+use Rattle.subchannel_model.specs.Opening.{opened}
+use Rattle.subchannel_model.specs.Taking as taking
+use Rattle.subchannel_model.specs.Taking.{takes_up, goes_ahead, by_hold, reset_taken}
+use Rattle.machine_model.specs.Turns.{SubTurn, UpTurn, DownTurn}
+use Rattle.subchannel_model.specs.Sending.{is_full, finds_full}
+use Rattle.machine_model.specs.ChooseSteps.{choose_sub}
+use Rattle.machine_model.specs.UpSteps.{up_front, up_sub}
+use Rattle.machine_model.specs.DownSteps.{down_front, down_sub}
+use Rattle.machine_model.specs.ReportSteps.{report_taken, report_sub}
+use Rattle.machine_model.specs.Steps.{Run, Opened, Stepped}
+use Rattle.subchannel_model.specs.Losing.{has_any, is_offered_or_held, reset_with, reset_for}
 use Rattle.program_laws.specs.Stories as stories
 use Rattle.program_laws.specs.Stories.{Story, offered_for, resumed_for, chosen_at, met_with, met_at, meets, takes, taken_at, absorbs, reported, reported_at, story, story_after}
 use Rattle.program_laws.specs.Claims.{IsCopied}

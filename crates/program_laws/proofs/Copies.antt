@@ -23,12 +23,12 @@ use Rattle.transfer.specs.declared.Came.{Came}
 use Rattle.transfer.specs.declared.Came.TheVariants as came
 use Rattle.transfer.specs.Commands.{first_command, next_command, located, has_stopped}
 use Rattle.transfer.specs.Chunks.{chains_data, with_moved, with_answer, absorbed, fitting, is_answered}
-use Rattle.machine_model.specs.declared.state.Begun.{Begun}
-use Rattle.machine_model.specs.declared.state.Program.{Program}
-use Rattle.machine_model.specs.declared.state.Standing.{Standing}
-use Rattle.machine_model.specs.declared.state.SubchannelState.{SubchannelState}
-use Rattle.machine_model.specs.Statuses.{has_status_modifier, chains_command}
-use Rattle.machine_model.specs.Taking.{goes_ahead, bytes_of}
+use Rattle.subchannel_model.specs.declared.state.Begun.{Begun}
+use Rattle.subchannel_model.specs.declared.state.Program.{Program}
+use Rattle.subchannel_model.specs.declared.state.Standing.{Standing}
+use Rattle.subchannel_model.specs.declared.state.SubchannelState.{SubchannelState}
+use Rattle.subchannel_model.specs.Statuses.{has_status_modifier, chains_command}
+use Rattle.subchannel_model.specs.Taking.{goes_ahead, bytes_of}
 use Rattle.program_laws.specs.Doings as doing
 use Rattle.program_laws.specs.Doings.{Part, no_part, with_acts, with_places, with_copy, located_acts, chunk_of, chained_acts, answered, gives, with_arrival, storing, takes_in, first_acts, next_acts}
 use Rattle.program_laws.specs.Stories as stories

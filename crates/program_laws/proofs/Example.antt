@@ -9,10 +9,10 @@ use Rattle.chan_model.specs.declared.hold_state.HoldPhase.TheVariants as hold
 use Rattle.chan_model.specs.declared.signal.Load.TheVariants as load
 use Rattle.chan_model.specs.declared.signal.Up.TheVariants as up
 use Rattle.chan_model.specs.HoldTable.{free_hold}
-use Rattle.machine_model.specs.declared.state.Program.{Program}
-use Rattle.machine_model.specs.declared.state.SubchannelState.{SubchannelState}
-use Rattle.machine_model.specs.State.{opening_subchannel}
-use Rattle.machine_model.specs.Taking.{takes_up}
+use Rattle.subchannel_model.specs.declared.state.Program.{Program}
+use Rattle.subchannel_model.specs.declared.state.SubchannelState.{SubchannelState}
+use Rattle.subchannel_model.specs.Opening.{opening_subchannel}
+use Rattle.subchannel_model.specs.Taking.{takes_up}
 use Rattle.program_laws.specs.Stories.{Story, offered, resumed, meets}
 use Rattle.program_laws.specs.Claims.{codes}
 

@@ -15,7 +15,7 @@ use Rattle.chan_model.specs.declared.signal.Up.TheVariants as up
 use Rattle.chan_model.specs.HoldTable as hold_table
 use Rattle.chan_model.specs.HoldTable.{HoldStep, hold_takes, came_of, is_connected, is_on}
 use Rattle.chan_model.specs.Loads.{load_length}
-use Rattle.chan_model.specs.declared.status.Shown.{Shown}
+use Rattle.subchannel_model.specs.declared.status.Shown.{Shown}
 use Rattle.chan_model.specs.UnitReports.{is_outward, is_last_end, has_device_end, has_unit_check}
 use Rattle.channel_program.specs.declared.check.Check.{Check}
 use Rattle.channel_program.specs.declared.Ended.{Ended}
@@ -31,16 +31,16 @@ use Rattle.transfer.specs.declared.Came.{Came}
 use Rattle.transfer.specs.declared.Came.TheVariants as came
 use Rattle.transfer.specs.Commands.{first_command, next_command, goes_to, begun_with_room, with_room}
 use Rattle.transfer.specs.Chunks.{absorbed, next_given, brought, is_answered}
-use Rattle.machine_model.specs.declared.state.Begun.{Begun}
-use Rattle.machine_model.specs.declared.state.Program.{Program}
-use Rattle.machine_model.specs.declared.state.SubchannelState.{SubchannelState}
-use Rattle.machine_model.specs.declared.state.Standing.{Standing}
-use Rattle.machine_model.specs.declared.cause.Cause.TheVariants as cause
-use Rattle.machine_model.specs.Statuses.{with_status, fetch_fault_shown, has_status_modifier, chains_command, breaks_chain, shows_length, has_unit_exception, has_shown}
-use Rattle.machine_model.specs.Causes as causes
-use Rattle.machine_model.specs.Causes.{with_cause, without_begun, end_shown}
-use Rattle.machine_model.specs.Taking as taking
-use Rattle.machine_model.specs.Taking.{takes_up, goes_ahead, with_path, let_go, bytes_of, with_end, without_interruption, interrupted, taking_over, from_start, suspended_as, standing_as, standing_still, suspended_alone, suspending}
+use Rattle.subchannel_model.specs.declared.state.Begun.{Begun}
+use Rattle.subchannel_model.specs.declared.state.Program.{Program}
+use Rattle.subchannel_model.specs.declared.state.SubchannelState.{SubchannelState}
+use Rattle.subchannel_model.specs.declared.state.Standing.{Standing}
+use Rattle.subchannel_model.specs.declared.cause.Cause.TheVariants as cause
+use Rattle.subchannel_model.specs.Statuses.{with_status, fetch_fault_shown, has_status_modifier, chains_command, breaks_chain, shows_length, has_unit_exception, has_shown}
+use Rattle.subchannel_model.specs.Causes as causes
+use Rattle.subchannel_model.specs.Causes.{with_cause, without_begun, end_shown}
+use Rattle.subchannel_model.specs.Taking as taking
+use Rattle.subchannel_model.specs.Taking.{takes_up, goes_ahead, with_path, let_go, bytes_of, with_end, without_interruption, interrupted, taking_over, from_start, suspended_as, standing_as, standing_still, suspended_alone, suspending}
 use Rattle.program_laws.specs.Doings.{Part, no_part, with_acts, goes_acts, first_acts, next_acts, gives, takes_in}
 use Rattle.program_laws.specs.Stories as stories
 use Rattle.program_laws.specs.Stories.{Story, past_part, meets}
@@ -49,7 +49,7 @@ use Rattle.program_laws.specs.Reaches.{reaches}
 use Rattle.program_laws.proofs.Accesses.{AreAccesses}
 use Rattle.program_laws.proofs.Ties.{AreLaws, Tied, changed}
 use Rattle.program_laws.proofs.Parts.{IsDone, IsAtWork, done-of, arrived-none, gives-work, takes_in-work, WentOn, goes-on, IsSame, absorbed-same, next_given-same, located-same, brought-same, room-same}
-use Rattle.machine_model.specs.Losing.{has_any, is_offered_or_held, reset_with, reset_for}
+use Rattle.subchannel_model.specs.Losing.{has_any, is_offered_or_held, reset_with, reset_for}
 use Rattle.program_laws.proofs.Holds.{IsPhase, IsDrawn, HasWork, IsStanding, IsHeld, IsHold, done-held, phase-some, phase-none, busy-phase, left-phase, back-phase, released-phase, attended-phase, by_hold-held, back-held, attention-held, let_go-held, standing-some, none-stands, halt_done-held, reset_taken-held, nothing-done, past-done}
 
 module _ (laws : AreLaws) (accesses : AreAccesses) where

@@ -11,14 +11,14 @@ use Rattle.chan_model.specs.HoldTable.{HoldStep, hold_after, letting_go}
 use Rattle.chan_model.specs.UnitReports.{is_outward}
 use Rattle.channel_program.specs.Programs.{role_of}
 use Rattle.channel_program.specs.Walks.{place}
-use Rattle.machine_model.specs.declared.state.Begun.{Begun}
-use Rattle.machine_model.specs.declared.state.Program.{Program}
-use Rattle.machine_model.specs.declared.state.SubchannelState.{SubchannelState}
-use Rattle.machine_model.specs.declared.state.Standing.{Standing}
-use Rattle.machine_model.specs.declared.cause.Cause.TheVariants as cause
-use Rattle.machine_model.specs.Causes.{with_cause}
-use Rattle.machine_model.specs.Functions.{without_programs}
-use Rattle.machine_model.specs.Taking.{let_go, by_hold, back, halt_done, clear_done, with_attention, reset_taken}
+use Rattle.subchannel_model.specs.declared.state.Begun.{Begun}
+use Rattle.subchannel_model.specs.declared.state.Program.{Program}
+use Rattle.subchannel_model.specs.declared.state.SubchannelState.{SubchannelState}
+use Rattle.subchannel_model.specs.declared.state.Standing.{Standing}
+use Rattle.subchannel_model.specs.declared.cause.Cause.TheVariants as cause
+use Rattle.subchannel_model.specs.Causes.{with_cause}
+use Rattle.subchannel_model.specs.Functions.{without_programs}
+use Rattle.subchannel_model.specs.Taking.{let_go, by_hold, back, halt_done, clear_done, with_attention, reset_taken}
 use Rattle.program_laws.specs.Doings.{Part, no_part}
 use Rattle.program_laws.specs.Stories.{Story, past_part}
 use Rattle.program_laws.specs.Claims.{IsStored, places_of}

@@ -4,14 +4,14 @@ use Rattle.std.specs.Prelude.{if◌then◌else◌}
 use Rattle.chan_model.specs.declared.hold_state.HoldPhase.{HoldPhase}
 use Rattle.chan_model.specs.declared.hold_state.HoldPhase.TheVariants as hold
 use Rattle.allegiance.specs.PathUse.{is_any}
-use Rattle.machine_model.specs.declared.state.Candidate.{Candidate}
-use Rattle.machine_model.specs.declared.state.Chosen.{Chosen}
-use Rattle.machine_model.specs.declared.state.Chosen.TheVariants.{Idle, Resets, Clears, Halts, Ends, Over, Offers}
-use Rattle.machine_model.specs.declared.state.Program.{Program}
-use Rattle.machine_model.specs.declared.state.Standing.{Standing}
-use Rattle.machine_model.specs.declared.state.Subchannel.{Subchannel}
-use Rattle.machine_model.specs.declared.state.SubchannelState.{SubchannelState}
-use Rattle.machine_model.specs.Choosing.{allowed_paths, unsent_at, unsent_reset, candidate, candidate_of, resuming, chosen, chosen_for, chosen_free, chosen_halt, halting_away, chosen_unreset, chosen_by, idle_or_over}
+use Rattle.subchannel_model.specs.declared.state.Candidate.{Candidate}
+use Rattle.subchannel_model.specs.declared.state.Chosen.{Chosen}
+use Rattle.subchannel_model.specs.declared.state.Chosen.TheVariants.{Idle, Resets, Clears, Halts, Ends, Over, Offers}
+use Rattle.subchannel_model.specs.declared.state.Program.{Program}
+use Rattle.subchannel_model.specs.declared.state.Standing.{Standing}
+use Rattle.subchannel_model.specs.declared.state.Subchannel.{Subchannel}
+use Rattle.subchannel_model.specs.declared.state.SubchannelState.{SubchannelState}
+use Rattle.subchannel_model.specs.Choosing.{allowed_paths, unsent_at, unsent_reset, candidate, candidate_of, resuming, chosen, chosen_for, chosen_free, chosen_halt, halting_away, chosen_unreset, chosen_by, idle_or_over}
 
 -- a program is found that waits, or one that is suspended
 abbrev pub IsFound : Option Program → Option Standing → Bool → Program → Type 0

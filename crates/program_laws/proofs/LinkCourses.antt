@@ -7,7 +7,7 @@ use Rattle.chan_model.specs.declared.names.Side.{Side}
 use Rattle.chan_model.specs.declared.report.DeviceAnswer.{DeviceAnswer}
 use Rattle.chan_model.specs.declared.report.DeviceAnswer.TheVariants as answer
 use Rattle.chan_model.specs.declared.report.Report.{Report}
-use Rattle.chan_model.specs.declared.reply.Reply.TheVariants as reply
+use Rattle.chan_events.specs.declared.reply.Reply.TheVariants as reply
 use Rattle.chan_model.specs.declared.signal.Down.{Down}
 use Rattle.chan_model.specs.declared.signal.Down.TheVariants as down
 use Rattle.chan_model.specs.declared.signal.Load.{Load}
@@ -25,9 +25,9 @@ use Rattle.data_move.specs.Moving.{Moving, room, next_place}
 use Rattle.transfer.specs.declared.Transfer.{Transfer}
 use Rattle.transfer.specs.Chunks.{with_moved}
 use Rattle.wires.specs.Queues.{queue, taken}
-use Rattle.machine_model.specs.declared.state.Begun.{Begun}
-use Rattle.machine_model.specs.declared.state.SubchannelState.{SubchannelState}
-use Rattle.machine_model.specs.Steps.{with_any_sent}
+use Rattle.subchannel_model.specs.declared.state.Begun.{Begun}
+use Rattle.subchannel_model.specs.declared.state.SubchannelState.{SubchannelState}
+use Rattle.subchannel_model.specs.Sending.{with_any_sent}
 use Rattle.program_laws.specs.Doings.{Part}
 use Rattle.program_laws.specs.Reaches.{reaches}
 use Rattle.program_laws.specs.Stories.{Story, takes, taken_at, absorbs, reported}
@@ -35,7 +35,7 @@ use Rattle.program_laws.specs.Claims.{AbsorbsInOrder, IsBeginning, IsFirstOf, pl
 use Rattle.program_laws.proofs.Ties.{AreLaws, Tied, spot-begins, with_moved-tied}
 use Rattle.program_laws.proofs.Holds.{HasWork, HeldBy}
 use Rattle.program_laws.proofs.Caused.{IsUninterrupted, IsInterrupted, interrupted-work}
-use Rattle.machine_model.specs.Taking.{interrupted}
+use Rattle.subchannel_model.specs.Taking.{interrupted}
 use Rattle.program_laws.proofs.UnitOrders.{IsDown, IsNumbered, IsOrdered}
 use Rattle.program_laws.proofs.UnitFlows.{View, Flow, IsGive, IsData, IsLead, lead_places}
 use Rattle.program_laws.proofs.UnitGrowth.{codes_of}

@@ -19,15 +19,15 @@ use Rattle.transfer.specs.declared.Came.TheVariants as came
 use Rattle.transfer.specs.declared.Transfer.{Transfer}
 use Rattle.transfer.specs.Commands.{first_command, next_command, begun_with_room}
 use Rattle.transfer.specs.Chunks.{is_answered}
-use Rattle.machine_model.specs.declared.cause.Cause.TheVariants as cause
-use Rattle.machine_model.specs.declared.state.Begun.{Begun}
-use Rattle.machine_model.specs.declared.state.Standing.{Standing}
-use Rattle.machine_model.specs.declared.state.SubchannelState.{SubchannelState}
-use Rattle.machine_model.specs.declared.state.UpStep.{UpStep}
-use Rattle.machine_model.specs.Statuses.{has_status_modifier, chains_command}
-use Rattle.machine_model.specs.Taking.{Met, goes_ahead, standing, with_path, taking_over, moving_on, reset_taken, beginning, begin_standing, accepted_by, accept, move_bytes, move_data, with_end, chaining, goes_on, stops_at, end_of, takes_up}
-use Rattle.machine_model.specs.Losing.{has_any, is_offered_or_held, reset_with, reset_for}
-use Rattle.machine_model.specs.Taking as taking
+use Rattle.subchannel_model.specs.declared.cause.Cause.TheVariants as cause
+use Rattle.subchannel_model.specs.declared.state.Begun.{Begun}
+use Rattle.subchannel_model.specs.declared.state.Standing.{Standing}
+use Rattle.subchannel_model.specs.declared.state.SubchannelState.{SubchannelState}
+use Rattle.subchannel_model.specs.declared.state.UpStep.{UpStep}
+use Rattle.subchannel_model.specs.Statuses.{has_status_modifier, chains_command}
+use Rattle.subchannel_model.specs.Taking.{Met, goes_ahead, standing, with_path, taking_over, moving_on, reset_taken, beginning, begin_standing, accepted_by, accept, move_bytes, move_data, with_end, chaining, goes_on, stops_at, end_of, takes_up}
+use Rattle.subchannel_model.specs.Losing.{has_any, is_offered_or_held, reset_with, reset_for}
+use Rattle.subchannel_model.specs.Taking as taking
 use Rattle.program_laws.proofs.Caused.{cause-kept, interrupted-work, suspending-workless, halt-kept, clear-kept}
 
 module _ (storage : Contents) where

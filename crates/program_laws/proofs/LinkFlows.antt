@@ -8,7 +8,7 @@ use Rattle.chan_model.specs.declared.hold_state.HoldPhase.TheVariants as hold
 use Rattle.chan_model.specs.declared.names.Side.{Side}
 use Rattle.chan_model.specs.declared.report.DeviceAnswer.{DeviceAnswer}
 use Rattle.chan_model.specs.declared.report.Report.{Report}
-use Rattle.chan_model.specs.declared.reply.Reply.TheVariants as reply
+use Rattle.chan_events.specs.declared.reply.Reply.TheVariants as reply
 use Rattle.chan_model.specs.declared.signal.Up.TheVariants as up
 use Rattle.chan_model.specs.declared.signal.Down.{Down}
 use Rattle.chan_model.specs.declared.signal.Down.TheVariants as down
@@ -22,17 +22,21 @@ use Rattle.chan_model.specs.Sides.{same_side}
 use Rattle.chan_model.specs.UnitTable.{UnitStep, came_of, is_owner, unit_takes, unit_after}
 use Rattle.chan_model.specs.UnitReports.{unit_reports}
 use Rattle.wires.specs.Queues.{queue, taken}
-use Rattle.machine_model.specs.declared.state.Begun.{Begun}
-use Rattle.machine_model.specs.declared.state.Chosen.{Chosen}
-use Rattle.machine_model.specs.declared.state.Chosen.TheVariants.{Idle, Resets, Clears, Halts, Ends, Over, Offers}
-use Rattle.machine_model.specs.declared.state.Program.{Program}
-use Rattle.machine_model.specs.declared.state.Subchannel.{Subchannel}
-use Rattle.machine_model.specs.declared.state.SubchannelState.{SubchannelState}
-use Rattle.machine_model.specs.Choosing as choosing
-use Rattle.machine_model.specs.Taking.{takes_up}
-use Rattle.machine_model.specs.Steps.{with_any_sent, is_full, finds_full, choose_sub, up_front, up_sub, down_front, down_sub, report_taken}
-use Rattle.machine_model.specs.Losing.{has_any, is_offered_or_held, reset_with, reset_for}
-use Rattle.machine_model.specs.Taking as taking
+use Rattle.subchannel_model.specs.declared.state.Begun.{Begun}
+use Rattle.subchannel_model.specs.declared.state.Chosen.{Chosen}
+use Rattle.subchannel_model.specs.declared.state.Chosen.TheVariants.{Idle, Resets, Clears, Halts, Ends, Over, Offers}
+use Rattle.subchannel_model.specs.declared.state.Program.{Program}
+use Rattle.subchannel_model.specs.declared.state.Subchannel.{Subchannel}
+use Rattle.subchannel_model.specs.declared.state.SubchannelState.{SubchannelState}
+use Rattle.subchannel_model.specs.Choosing as choosing
+use Rattle.subchannel_model.specs.Taking.{takes_up}
+use Rattle.subchannel_model.specs.Sending.{with_any_sent, is_full, finds_full}
+use Rattle.machine_model.specs.ChooseSteps.{choose_sub}
+use Rattle.machine_model.specs.UpSteps.{up_front, up_sub}
+use Rattle.machine_model.specs.DownSteps.{down_front, down_sub}
+use Rattle.machine_model.specs.ReportSteps.{report_taken}
+use Rattle.subchannel_model.specs.Losing.{has_any, is_offered_or_held, reset_with, reset_for}
+use Rattle.subchannel_model.specs.Taking as taking
 use Rattle.program_laws.specs.Stories.{Story, offered, offered_for, resumed, chosen_at, meets, met_with, met_at, taken_at, reported_at}
 use Rattle.program_laws.proofs.Turns.{if-ok}
 use Rattle.program_laws.proofs.Ties.{AreLaws}

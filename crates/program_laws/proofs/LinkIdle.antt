@@ -10,12 +10,12 @@ use Rattle.chan_model.specs.declared.signal.Up.{Up}
 use Rattle.chan_model.specs.declared.signal.Up.TheVariants as up
 use Rattle.chan_model.specs.HoldTable as hold_table
 use Rattle.chan_model.specs.HoldTable.{HoldStep, hold_after, came_of, is_connected, is_on, left, asked_back, found_busy, released, cleared, noticed, attended}
-use Rattle.machine_model.specs.declared.state.Begun.{Begun}
-use Rattle.machine_model.specs.declared.state.SubchannelState.{SubchannelState}
-use Rattle.machine_model.specs.declared.state.UpStep.{UpStep}
-use Rattle.machine_model.specs.Taking as taking
-use Rattle.machine_model.specs.Taking.{goes_ahead, takes_up}
-use Rattle.machine_model.specs.Losing.{has_any, is_offered_or_held, reset_with, reset_for}
+use Rattle.subchannel_model.specs.declared.state.Begun.{Begun}
+use Rattle.subchannel_model.specs.declared.state.SubchannelState.{SubchannelState}
+use Rattle.subchannel_model.specs.declared.state.UpStep.{UpStep}
+use Rattle.subchannel_model.specs.Taking as taking
+use Rattle.subchannel_model.specs.Taking.{goes_ahead, takes_up}
+use Rattle.subchannel_model.specs.Losing.{has_any, is_offered_or_held, reset_with, reset_for}
 use Rattle.program_laws.specs.Stories as stories
 use Rattle.program_laws.specs.Stories.{Story, meets}
 use Rattle.program_laws.proofs.Caused.{clear-begun, attention-begun}

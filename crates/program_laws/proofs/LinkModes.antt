@@ -6,7 +6,7 @@ use Rattle.std.proofs.lemmas.Bool.{eqb-true, eq-eqb}
 use Rattle.std.proofs.lemmas.List.Elements.{All-nil}
 use Rattle.orb_block.specs.declared.Orb.{Orb}
 use Rattle.chan_model.specs.declared.names.Side.{Side}
-use Rattle.chan_model.specs.declared.reply.Reply.TheVariants as reply
+use Rattle.chan_events.specs.declared.reply.Reply.TheVariants as reply
 use Rattle.chan_model.specs.declared.signal.Down.{Down}
 use Rattle.chan_model.specs.declared.signal.Down.TheVariants as down
 use Rattle.chan_model.specs.declared.signal.Load.{Load}
@@ -19,8 +19,8 @@ use Rattle.chan_model.specs.UnitReports.{is_outward}
 use Rattle.data_move.specs.Moving.{room}
 use Rattle.transfer.specs.declared.Transfer.{Transfer}
 use Rattle.wires.specs.Queues.{queue, taken}
-use Rattle.machine_model.specs.declared.state.Begun.{Begun}
-use Rattle.machine_model.specs.Steps.{with_any_sent}
+use Rattle.subchannel_model.specs.declared.state.Begun.{Begun}
+use Rattle.subchannel_model.specs.Sending.{with_any_sent}
 use Rattle.program_laws.specs.Doings.{Part}
 use Rattle.program_laws.specs.Stories.{silent, silent_by, Story, taken_at}
 use Rattle.program_laws.specs.Claims.{AbsorbsInOrder, IsFirstOf}

@@ -7,8 +7,8 @@ use Rattle.chan_model.specs.declared.hold_state.HoldPhase.TheVariants as hold
 use Rattle.chan_model.specs.HoldTable.{is_connected, is_on}
 use Rattle.channel_program.specs.Programs.{Command, commands, code}
 use Rattle.transfer.specs.declared.Transfer.{Transfer}
-use Rattle.machine_model.specs.declared.state.Begun.{Begun}
-use Rattle.machine_model.specs.declared.state.SubchannelState.{SubchannelState}
+use Rattle.subchannel_model.specs.declared.state.Begun.{Begun}
+use Rattle.subchannel_model.specs.declared.state.SubchannelState.{SubchannelState}
 use Rattle.program_laws.specs.Stories.{Story}
 use Rattle.program_laws.proofs.Ties.{HasCode}
 use Rattle.program_laws.proofs.Holds.{IsPhase, IsDrawn, IsUnheld, IsUntold, HasWork, HeldBy}

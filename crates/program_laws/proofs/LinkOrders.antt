@@ -10,7 +10,7 @@ use Rattle.chan_model.specs.declared.names.Side.{Side}
 use Rattle.chan_model.specs.declared.report.DeviceAnswer.{DeviceAnswer}
 use Rattle.chan_model.specs.declared.report.DeviceAnswer.TheVariants as answer
 use Rattle.chan_model.specs.declared.report.Report.{Report}
-use Rattle.chan_model.specs.declared.reply.Reply.TheVariants as reply
+use Rattle.chan_events.specs.declared.reply.Reply.TheVariants as reply
 use Rattle.chan_model.specs.declared.signal.Down.{Down}
 use Rattle.chan_model.specs.declared.signal.Down.TheVariants as down
 use Rattle.chan_model.specs.declared.signal.OnPath.{OnPath}
@@ -23,18 +23,23 @@ use Rattle.chan_model.specs.UnitTable as unit_table
 use Rattle.chan_model.specs.UnitTable.{UnitStep, side_of, resets, unit_takes, unit_after}
 use Rattle.chan_model.specs.UnitReports.{unit_reports}
 use Rattle.wires.specs.Queues.{queue, first_of, taken}
-use Rattle.machine_model.specs.declared.state.Chosen.{Chosen}
-use Rattle.machine_model.specs.declared.state.Chosen.TheVariants.{Idle, Resets, Clears, Halts, Ends, Over, Offers}
-use Rattle.machine_model.specs.declared.cause.Cause.TheVariants as cause
-use Rattle.machine_model.specs.declared.state.Program.{Program}
-use Rattle.machine_model.specs.declared.state.Subchannel.{Subchannel}
-use Rattle.machine_model.specs.declared.state.SubchannelState.{SubchannelState}
+use Rattle.subchannel_model.specs.declared.state.Chosen.{Chosen}
+use Rattle.subchannel_model.specs.declared.state.Chosen.TheVariants.{Idle, Resets, Clears, Halts, Ends, Over, Offers}
+use Rattle.subchannel_model.specs.declared.cause.Cause.TheVariants as cause
+use Rattle.subchannel_model.specs.declared.state.Program.{Program}
+use Rattle.subchannel_model.specs.declared.state.Subchannel.{Subchannel}
+use Rattle.subchannel_model.specs.declared.state.SubchannelState.{SubchannelState}
 use Rattle.channel_config.specs.declared.parts.SubchannelSetup.{SubchannelSetup}
-use Rattle.machine_model.specs.Instructions.{started}
-use Rattle.machine_model.specs.Functions.{resumed, halted, cleared, cancelled, tested_wholly}
-use Rattle.machine_model.specs.Choosing.{chosen}
-use Rattle.machine_model.specs.Taking.{takes_up}
-use Rattle.machine_model.specs.Steps.{with_state, SubTurn, UpTurn, DownTurn, with_any_sent, is_full, finds_full, choose_sub, up_front, up_sub, down_front, down_sub, report_taken}
+use Rattle.subchannel_model.specs.Instructions.{started}
+use Rattle.subchannel_model.specs.Functions.{resumed, halted, cleared, cancelled, tested_wholly}
+use Rattle.subchannel_model.specs.Choosing.{chosen}
+use Rattle.subchannel_model.specs.Taking.{takes_up}
+use Rattle.machine_model.specs.Turns.{with_state, SubTurn, UpTurn, DownTurn}
+use Rattle.subchannel_model.specs.Sending.{with_any_sent, is_full, finds_full}
+use Rattle.machine_model.specs.ChooseSteps.{choose_sub}
+use Rattle.machine_model.specs.UpSteps.{up_front, up_sub}
+use Rattle.machine_model.specs.DownSteps.{down_front, down_sub}
+use Rattle.machine_model.specs.ReportSteps.{report_taken}
 use Rattle.program_laws.specs.Stories.{silent_by, Story, offered, offered_for, chosen_at, meets, met_with, met_at, taken_at, absorbs, reported, reported_at}
 use Rattle.program_laws.proofs.Turns.{Happening, Stays, Starts_with_orb, Is_tested, Is_resumed, Is_halted, Is_cleared, Is_cancelled, Is_modified, Is_chosen, Meets, Sinks, Is_reported, Other_sinks, Other_reported, if-ok}
 use Rattle.channel_program.specs.Programs.{Command, commands, code}

@@ -24,8 +24,8 @@ use Rattle.chan_model.specs.Loads.{load_length}
 use Rattle.chan_model.specs.Sides.{same_side}
 use Rattle.chan_model.specs.UnitTable.{UnitStep, is_owner}
 use Rattle.chan_model.specs.UnitReports.{is_outward, is_last_end, after_end, with_absorbed}
-use Rattle.machine_model.specs.declared.state.Begun.{Begun}
-use Rattle.machine_model.specs.Steps.{with_any_sent}
+use Rattle.subchannel_model.specs.declared.state.Begun.{Begun}
+use Rattle.subchannel_model.specs.Sending.{with_any_sent}
 use Rattle.program_laws.specs.Stories.{Story, absorbs, reported}
 use Rattle.program_laws.proofs.UnitOrders.{IsNumbered, one-number}
 use Rattle.program_laws.proofs.UnitFlows.{View, Hand, Level, Pending, Ahead, Flow, IsGive, IsData, IsStarted, absorbs-flow, none-flow, none-data}

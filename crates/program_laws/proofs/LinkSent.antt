@@ -23,14 +23,14 @@ use Rattle.transfer.specs.declared.Came.TheVariants as came
 use Rattle.transfer.specs.declared.Roomy.{Roomy}
 use Rattle.transfer.specs.Commands.{first_command, next_command, begun_with_room}
 use Rattle.transfer.specs.Chunks.{is_answered}
-use Rattle.machine_model.specs.declared.state.Begun.{Begun}
-use Rattle.machine_model.specs.declared.state.Standing.{Standing}
-use Rattle.machine_model.specs.declared.state.SubchannelState.{SubchannelState}
-use Rattle.machine_model.specs.declared.state.UpStep.{UpStep}
-use Rattle.machine_model.specs.Statuses.{has_status_modifier, chains_command}
-use Rattle.machine_model.specs.Taking as taking
-use Rattle.machine_model.specs.Losing.{reset_for}
-use Rattle.machine_model.specs.Taking.{Met, ignoring, by_hold, let_go, goes_ahead, standing, with_path, taking_over, moving_on, reset_taken, halt_done, clear_done, beginning, begin_standing, accepted_by, accept, move_bytes, move_data, take_data, with_end, chaining, goes_on, stops_at, command_ended, end_of, end_command, takes_up}
+use Rattle.subchannel_model.specs.declared.state.Begun.{Begun}
+use Rattle.subchannel_model.specs.declared.state.Standing.{Standing}
+use Rattle.subchannel_model.specs.declared.state.SubchannelState.{SubchannelState}
+use Rattle.subchannel_model.specs.declared.state.UpStep.{UpStep}
+use Rattle.subchannel_model.specs.Statuses.{has_status_modifier, chains_command}
+use Rattle.subchannel_model.specs.Taking as taking
+use Rattle.subchannel_model.specs.Losing.{reset_for}
+use Rattle.subchannel_model.specs.Taking.{Met, ignoring, by_hold, let_go, goes_ahead, standing, with_path, taking_over, moving_on, reset_taken, halt_done, clear_done, beginning, begin_standing, accepted_by, accept, move_bytes, move_data, take_data, with_end, chaining, goes_on, stops_at, command_ended, end_of, end_command, takes_up}
 use Rattle.program_laws.proofs.Caused.{IsInterrupted, interrupted-work}
 
 -- a Command is of the transfer at work

@@ -14,7 +14,7 @@ use Rattle.chan_model.specs.declared.unit_state.Progress.TheVariants as progress
 use Rattle.chan_model.specs.declared.unit_state.UnitState.{UnitState}
 use Rattle.chan_model.specs.UnitTable.{came_of, is_owner, unit_takes, unit_after}
 use Rattle.wires.specs.Queues.{queue, taken}
-use Rattle.machine_model.specs.Steps.{with_any_sent}
+use Rattle.subchannel_model.specs.Sending.{with_any_sent}
 use Rattle.program_laws.proofs.LinkSent.{IsOfHold}
 use Rattle.program_laws.proofs.UnitOrders.{AreOn, IsDown, IsNumbered, on-taken, on-sent, on-first, on-weaker}
 use Rattle.program_laws.specs.Stories.{silent}

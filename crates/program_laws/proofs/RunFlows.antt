@@ -9,21 +9,25 @@ use Rattle.channel_config.specs.Setup.{Setup}
 use Rattle.channel_config.specs.declared.parts.SubchannelSetup.{SubchannelSetup}
 use Rattle.chan_model.specs.declared.fault.Fault.{Fault}
 use Rattle.chan_model.specs.declared.names.Side.{Side}
-use Rattle.chan_model.specs.declared.reply.Entry.{Entry}
+use Rattle.chan_events.specs.declared.reply.Entry.{Entry}
 use Rattle.chan_model.specs.declared.signal.Down.{Down}
 use Rattle.chan_model.specs.declared.signal.Up.{Up}
 use Rattle.chan_model.specs.declared.unit_state.UnitState.{UnitState}
 use Rattle.chan_model.specs.UnitTable.{idle_unit}
 use Rattle.chan_model.specs.UnitReports.{unit_reports}
 use Rattle.wires.specs.Queues.{no_queues}
-use Rattle.machine_model.specs.declared.state.Begun.{Begun}
-use Rattle.machine_model.specs.declared.state.Subchannel.{Subchannel}
-use Rattle.machine_model.specs.declared.state.SubchannelState.{SubchannelState}
-use Rattle.machine_model.specs.Choosing.{chosen}
-use Rattle.machine_model.specs.Functions.{resumed, halted, cleared, cancelled, tested_wholly}
-use Rattle.machine_model.specs.Instructions.{started}
-use Rattle.machine_model.specs.State.{State, opening_of, opened}
-use Rattle.machine_model.specs.Steps.{with_state, SubTurn, UpTurn, DownTurn, choose_sub, up_sub, Run, Opened, Stepped}
+use Rattle.subchannel_model.specs.declared.state.Begun.{Begun}
+use Rattle.subchannel_model.specs.declared.state.Subchannel.{Subchannel}
+use Rattle.subchannel_model.specs.declared.state.SubchannelState.{SubchannelState}
+use Rattle.subchannel_model.specs.Choosing.{chosen}
+use Rattle.subchannel_model.specs.Functions.{resumed, halted, cleared, cancelled, tested_wholly}
+use Rattle.subchannel_model.specs.Instructions.{started}
+use Rattle.machine_model.specs.State.{State, opening_of}
+use Rattle.subchannel_model.specs.Opening.{opened}
+use Rattle.machine_model.specs.Turns.{with_state, SubTurn, UpTurn, DownTurn}
+use Rattle.machine_model.specs.ChooseSteps.{choose_sub}
+use Rattle.machine_model.specs.UpSteps.{up_sub}
+use Rattle.machine_model.specs.Steps.{Run, Opened, Stepped}
 use Rattle.program_laws.specs.Stories.{Story, chosen_at, met_at, taken_at, reported_at, story, story_after}
 use Rattle.program_laws.specs.Claims.{AbsorbsInOrder, part_of}
 use Rattle.program_laws.proofs.Turns.{Happening, Stays, Starts_with_orb, Is_tested, Is_resumed, Is_halted, Is_cleared, Is_cancelled, Is_modified, Is_chosen, Meets, Sinks, Is_reported, Other_sinks, Other_reported, step-happens}

@@ -6,7 +6,7 @@ use Rattle.std.proofs.lemmas.List.Elements.{All-nil}
 use Rattle.std.proofs.lemmas.Option.{slice_get-map, slice_get_within, get_or_from_slice_get}
 use Rattle.chan_model.specs.declared.names.Side.{Side}
 use Rattle.chan_model.specs.declared.names.Side.TheVariants.{First, Second}
-use Rattle.chan_model.specs.declared.reply.Entry.{Entry}
+use Rattle.chan_events.specs.declared.reply.Entry.{Entry}
 use Rattle.chan_model.specs.declared.signal.Down.{Down}
 use Rattle.chan_model.specs.declared.unit_state.UnitState.{UnitState}
 use Rattle.chan_model.specs.UnitTable.{idle_unit}
@@ -15,8 +15,9 @@ use Rattle.channel_config.specs.declared.parts.UnitKind.{UnitKind}
 use Rattle.channel_config.specs.Lawful.{IsPlaced, IsLawful}
 use Rattle.channel_config.specs.Setup.{Setup, set_count}
 use Rattle.wires.specs.Queues.{queue, no_queues}
-use Rattle.machine_model.specs.declared.state.Subchannel.{Subchannel}
-use Rattle.machine_model.specs.State.{State, opening_of, opened, idle_of}
+use Rattle.subchannel_model.specs.declared.state.Subchannel.{Subchannel}
+use Rattle.machine_model.specs.State.{State, opening_of, idle_of}
+use Rattle.subchannel_model.specs.Opening.{opened}
 use Rattle.machine_model.specs.Steps.{Run, Opened, Stepped}
 use Rattle.program_laws.specs.Stories.{Story, story, story_after}
 use Rattle.program_laws.specs.Claims.{codes, TakesInOrder}

@@ -6,13 +6,14 @@ use Rattle.std.proofs.lemmas.List.Sums.{sum_by-cons}
 use Rattle.std.proofs.lemmas.Option.{slice_get-map}
 use Rattle.chan_model.specs.declared.names.Side.{Side}
 use Rattle.chan_model.specs.declared.names.Side.TheVariants.{First, Second}
-use Rattle.chan_model.specs.declared.reply.Entry.{Entry}
+use Rattle.chan_events.specs.declared.reply.Entry.{Entry}
 use Rattle.chan_model.specs.Sides.{same_side}
 use Rattle.channel_config.specs.declared.parts.SubchannelSetup.{SubchannelSetup}
 use Rattle.channel_config.specs.Lawful.{IsShared, IsLawful, uses_by}
 use Rattle.channel_config.specs.Setup.{Setup}
-use Rattle.machine_model.specs.declared.state.Subchannel.{Subchannel}
-use Rattle.machine_model.specs.State.{State, opening_of, opened}
+use Rattle.subchannel_model.specs.declared.state.Subchannel.{Subchannel}
+use Rattle.machine_model.specs.State.{State, opening_of}
+use Rattle.subchannel_model.specs.Opening.{opened}
 use Rattle.machine_model.specs.Steps.{Run, Opened, Stepped}
 use Rattle.step_laws.specs.Walks.{AreWalks}
 use Rattle.program_laws.proofs.Turns.{IsOneSided, step-happens}

@@ -1,9 +1,9 @@
 -- What is told of the program of each subchannel, after each run.
 use Rattle.std.proofs.Common.{◌≡◌, subst, ◌+◌, Option, None, Some, List, length}
-use Rattle.chan_model.specs.declared.reply.Entry.{Entry}
+use Rattle.chan_events.specs.declared.reply.Entry.{Entry}
 use Rattle.channel_config.specs.Lawful.{IsLawful}
 use Rattle.channel_config.specs.Setup.{Setup}
-use Rattle.machine_model.specs.declared.state.Begun.{Begun}
+use Rattle.subchannel_model.specs.declared.state.Begun.{Begun}
 use Rattle.machine_model.specs.State.{State, opening_of}
 use Rattle.machine_model.specs.Steps.{Run}
 use Rattle.scsw_irb.specs.declared.scsw.Scsw.{Scsw}

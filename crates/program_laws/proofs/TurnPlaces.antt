@@ -2,8 +2,8 @@
 use Rattle.std.proofs.Common.{◌≡◌, ◌≢◌, refl, sym, ◌∙◌, ap, subst, ℕ, ◌+◌, ◌==◌, zero, suc, Bool, true, false, Option, None, Some, List, [], ◌∷◌, inl, inr, arith}
 use Rattle.std.specs.Prelude.{◌⊎◌, slice_get, slice_set, if◌then◌else◌}
 use Rattle.std.proofs.lemmas.Bool.{eq-eqb, eqb-true}
-use Rattle.machine_model.specs.declared.state.Subchannel.{Subchannel}
-use Rattle.machine_model.specs.State.{first_place, one_later}
+use Rattle.subchannel_model.specs.declared.state.Subchannel.{Subchannel}
+use Rattle.subchannel_model.specs.Places.{first_place, one_later}
 
 -- an element of a list in which one was set
 pub set-get : {A : Type 0} (xs : List A) (k : ℕ) (y : A) (i : ℕ) (x : A) → slice_get (slice_set xs k y) i ≡ Some x →

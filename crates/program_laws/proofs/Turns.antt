@@ -7,13 +7,13 @@ use Rattle.schib_block.specs.declared.pmcw.Pmcw as block
 use Rattle.storage_keys.specs.Storage.{Contents}
 use Rattle.chan_model.specs.declared.fault.Fault.{Fault}
 use Rattle.chan_model.specs.declared.fault.Fault.TheVariants as fault
-use Rattle.chan_model.specs.declared.event.Event.{Event}
-use Rattle.chan_model.specs.declared.event.Event.TheVariants as event
-use Rattle.chan_model.specs.declared.event.Instruction.TheVariants as instruction
-use Rattle.chan_model.specs.declared.reply.Reply.{Reply}
-use Rattle.chan_model.specs.declared.reply.Reply.TheVariants as reply
-use Rattle.chan_model.specs.declared.reply.ConditionCode.{ConditionCode}
-use Rattle.chan_model.specs.declared.reply.ConditionCode.TheVariants as code
+use Rattle.chan_events.specs.declared.event.Event.{Event}
+use Rattle.chan_events.specs.declared.event.Event.TheVariants as event
+use Rattle.chan_events.specs.declared.event.Instruction.TheVariants as instruction
+use Rattle.chan_events.specs.declared.reply.Reply.{Reply}
+use Rattle.chan_events.specs.declared.reply.Reply.TheVariants as reply
+use Rattle.chan_model.specs.declared.answer.ConditionCode.{ConditionCode}
+use Rattle.chan_model.specs.declared.answer.ConditionCode.TheVariants as code
 use Rattle.chan_model.specs.declared.report.Report.{Report}
 use Rattle.chan_model.specs.declared.signal.Down.{Down}
 use Rattle.chan_model.specs.declared.signal.Down.TheVariants as down
@@ -24,17 +24,24 @@ use Rattle.chan_model.specs.UnitTable as unit_table
 use Rattle.chan_model.specs.UnitTable.{UnitStep, unit_takes}
 use Rattle.chan_model.specs.UnitReports.{unit_reports}
 use Rattle.wires.specs.Queues.{queue}
-use Rattle.machine_model.specs.declared.state.Chosen.{Chosen}
-use Rattle.machine_model.specs.declared.state.Chosen.TheVariants.{Idle, Resets, Clears, Halts, Ends, Over, Offers}
-use Rattle.machine_model.specs.declared.state.Pmcw.{Pmcw}
-use Rattle.machine_model.specs.declared.state.Subchannel.{Subchannel}
-use Rattle.machine_model.specs.declared.state.SubchannelState.{SubchannelState}
-use Rattle.machine_model.specs.State.{State, place_of, reached_in}
-use Rattle.machine_model.specs.Instructions.{started}
-use Rattle.machine_model.specs.Functions.{resumed, halted, cleared, cancelled, tested_wholly}
-use Rattle.machine_model.specs.Choosing.{chosen}
-use Rattle.machine_model.specs.Taking.{takes_up}
-use Rattle.machine_model.specs.Steps.{SubTurn, UpTurn, DownTurn, with_state, start_with, test_with, modify_with, send_sub, choose_sub, function_sub, is_full, finds_full, up_front, up_sub, down_front, down_sub, report_taken, report_sub}
+use Rattle.subchannel_model.specs.declared.state.Chosen.{Chosen}
+use Rattle.subchannel_model.specs.declared.state.Chosen.TheVariants.{Idle, Resets, Clears, Halts, Ends, Over, Offers}
+use Rattle.subchannel_model.specs.declared.state.Pmcw.{Pmcw}
+use Rattle.subchannel_model.specs.declared.state.Subchannel.{Subchannel}
+use Rattle.subchannel_model.specs.declared.state.SubchannelState.{SubchannelState}
+use Rattle.machine_model.specs.State.{State, place_of}
+use Rattle.subchannel_model.specs.Places.{reached_in}
+use Rattle.subchannel_model.specs.Instructions.{started}
+use Rattle.subchannel_model.specs.Functions.{resumed, halted, cleared, cancelled, tested_wholly}
+use Rattle.subchannel_model.specs.Choosing.{chosen}
+use Rattle.subchannel_model.specs.Taking.{takes_up}
+use Rattle.machine_model.specs.Turns.{SubTurn, UpTurn, DownTurn, with_state}
+use Rattle.machine_model.specs.InstructionSteps.{start_with, test_with, modify_with, function_sub}
+use Rattle.machine_model.specs.ChooseSteps.{send_sub, choose_sub}
+use Rattle.subchannel_model.specs.Sending.{is_full, finds_full}
+use Rattle.machine_model.specs.UpSteps.{up_front, up_sub}
+use Rattle.machine_model.specs.DownSteps.{down_front, down_sub}
+use Rattle.machine_model.specs.ReportSteps.{report_taken, report_sub}
 use Rattle.step_laws.specs.Walks as walked
 use Rattle.step_laws.specs.Walks.{Walked, IsQuiet, OneSub, OneUnit, Function, effect_of}
 use Rattle.program_laws.specs.Stories.{Story, is_place, chosen_at, met_at, taken_at, reported_at, story_after}

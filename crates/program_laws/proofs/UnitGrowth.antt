@@ -29,12 +29,12 @@ use Rattle.transfer.specs.declared.Came.{Came}
 use Rattle.transfer.specs.declared.Came.TheVariants as came
 use Rattle.transfer.specs.Commands.{first_command, next_command, located, has_stopped}
 use Rattle.transfer.specs.Chunks.{with_moved, chains_data, with_answer, absorbed, fitting, brought, is_answered}
-use Rattle.machine_model.specs.declared.state.Begun.{Begun}
-use Rattle.machine_model.specs.declared.state.Program.{Program}
-use Rattle.machine_model.specs.declared.state.Standing.{Standing}
-use Rattle.machine_model.specs.declared.state.SubchannelState.{SubchannelState}
-use Rattle.machine_model.specs.Statuses.{has_status_modifier, chains_command}
-use Rattle.machine_model.specs.Taking.{goes_ahead, bytes_of}
+use Rattle.subchannel_model.specs.declared.state.Begun.{Begun}
+use Rattle.subchannel_model.specs.declared.state.Program.{Program}
+use Rattle.subchannel_model.specs.declared.state.Standing.{Standing}
+use Rattle.subchannel_model.specs.declared.state.SubchannelState.{SubchannelState}
+use Rattle.subchannel_model.specs.Statuses.{has_status_modifier, chains_command}
+use Rattle.subchannel_model.specs.Taking.{goes_ahead, bytes_of}
 use Rattle.program_laws.specs.Doings.{Part, no_part, with_acts, with_places, moved_on, answered, with_copy, copying, giving, gives, with_arrival, storing, arriving, takes_in, located_acts, chained_acts, chunk_of, first_acts, next_acts}
 use Rattle.program_laws.specs.Stories.{Story, past_part, goes_on, begins, begins_anew, begins_again, again_as, begins_as, accepted_at, accepted, moves, answers, chains, ends, meets}
 

@@ -1,13 +1,13 @@
 -- What is claimed of the program that a subchannel offered last (SA22-7832, chapter 15).
 use Rattle.std.specs.Prelude.{Bool, ◌≡◌, ◌⊎◌, ℕ, ◌+◌, ◌==◌, Option, None, Some, List, [], ◌∷◌, ◌++◌, length, map, reverse, take, drop, slice_get, if◌then◌else◌, All, Contains}
 use Rattle.std.specs.List.{flat_map}
-use Rattle.chan_model.specs.declared.reply.Entry.{Entry}
+use Rattle.chan_events.specs.declared.reply.Entry.{Entry}
 use Rattle.channel_config.specs.Lawful.{IsLawful}
 use Rattle.channel_config.specs.Setup.{Setup}
 use Rattle.orb_block.specs.declared.Orb.{Orb}
 use Rattle.scsw_irb.specs.declared.scsw.Scsw.{Scsw}
 use Rattle.scsw_irb.specs.declared.status.DeviceStatus.{DeviceStatus}
-use Rattle.chan_model.specs.declared.status.Shown.{Shown}
+use Rattle.subchannel_model.specs.declared.status.Shown.{Shown}
 use Rattle.channel_program.specs.declared.check.Check.{Check}
 use Rattle.channel_program.specs.Acts.{Act, Chunk}
 use Rattle.channel_program.specs.Programs.{IsProgram, commands, code}
@@ -15,9 +15,9 @@ use Rattle.idaw.specs.Lists.{kind_of, block}
 use Rattle.idaw.specs.Places.{places}
 use Rattle.data_move.specs.Accesses.{bytes_at}
 use Rattle.data_move.specs.Moving.{residual}
-use Rattle.machine_model.specs.Statuses.{channel_end_shown, last_end_shown, fetch_fault_shown}
-use Rattle.machine_model.specs.declared.state.Begun.{Begun}
-use Rattle.machine_model.specs.declared.state.Subchannel.{Subchannel}
+use Rattle.subchannel_model.specs.Statuses.{channel_end_shown, last_end_shown, fetch_fault_shown}
+use Rattle.subchannel_model.specs.declared.state.Begun.{Begun}
+use Rattle.subchannel_model.specs.declared.state.Subchannel.{Subchannel}
 use Rattle.machine_model.specs.State.{State, opening_of}
 use Rattle.machine_model.specs.Steps.{Run}
 use Rattle.program_laws.specs.Reaches.{reaches, counts}

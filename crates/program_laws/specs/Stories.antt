@@ -12,11 +12,11 @@ use Rattle.chan_model.specs.declared.signal.Down.TheVariants as down
 use Rattle.chan_model.specs.declared.signal.Load.{Load}
 use Rattle.chan_model.specs.declared.signal.Up.{Up}
 use Rattle.chan_model.specs.declared.signal.Up.TheVariants as up
-use Rattle.chan_model.specs.declared.event.Event.{Event}
-use Rattle.chan_model.specs.declared.event.Event.TheVariants as event
-use Rattle.chan_model.specs.declared.reply.Entry.{Entry}
-use Rattle.chan_model.specs.declared.reply.Reply.{Reply}
-use Rattle.chan_model.specs.declared.reply.Reply.TheVariants as reply
+use Rattle.chan_events.specs.declared.event.Event.{Event}
+use Rattle.chan_events.specs.declared.event.Event.TheVariants as event
+use Rattle.chan_events.specs.declared.reply.Entry.{Entry}
+use Rattle.chan_events.specs.declared.reply.Reply.{Reply}
+use Rattle.chan_events.specs.declared.reply.Reply.TheVariants as reply
 use Rattle.chan_model.specs.declared.report.DeviceAnswer.{DeviceAnswer}
 use Rattle.chan_model.specs.declared.report.DeviceAnswer.TheVariants.{Absorbed}
 use Rattle.chan_model.specs.declared.report.Report.{Report}
@@ -34,14 +34,15 @@ use Rattle.transfer.specs.declared.Came.TheVariants as came
 use Rattle.transfer.specs.Commands.{first_command, next_command}
 use Rattle.transfer.specs.Chunks.{is_answered}
 use Rattle.wires.specs.Queues.{first_of}
-use Rattle.machine_model.specs.declared.state.Begun.{Begun}
-use Rattle.machine_model.specs.declared.state.Program.{Program}
-use Rattle.machine_model.specs.declared.state.Standing.{Standing}
-use Rattle.machine_model.specs.declared.state.Subchannel.{Subchannel}
-use Rattle.machine_model.specs.declared.state.SubchannelState.{SubchannelState}
-use Rattle.machine_model.specs.State.{State, place_of, reached_in}
-use Rattle.machine_model.specs.Statuses.{has_status_modifier, chains_command}
-use Rattle.machine_model.specs.Taking.{goes_ahead, bytes_of}
+use Rattle.subchannel_model.specs.declared.state.Begun.{Begun}
+use Rattle.subchannel_model.specs.declared.state.Program.{Program}
+use Rattle.subchannel_model.specs.declared.state.Standing.{Standing}
+use Rattle.subchannel_model.specs.declared.state.Subchannel.{Subchannel}
+use Rattle.subchannel_model.specs.declared.state.SubchannelState.{SubchannelState}
+use Rattle.machine_model.specs.State.{State, place_of}
+use Rattle.subchannel_model.specs.Places.{reached_in}
+use Rattle.subchannel_model.specs.Statuses.{has_status_modifier, chains_command}
+use Rattle.subchannel_model.specs.Taking.{goes_ahead, bytes_of}
 use Rattle.machine_model.specs.Steps.{Run, Opened, Stepped}
 use Rattle.program_laws.specs.Doings.{Part, no_part, with_acts, first_acts, next_acts, gives, takes_in}
 

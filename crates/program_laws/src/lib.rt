@@ -2,7 +2,7 @@
 #![tactic(auto)]
 
 ghost use Rattle.std.specs.Prelude.{List};
-ghost use Rattle.chan_model.specs.declared.reply.Entry.{Entry};
+ghost use Rattle.chan_events.specs.declared.reply.Entry.{Entry};
 ghost use Rattle.channel_config.specs.Lawful.{IsLawful};
 ghost use Rattle.channel_config.specs.Setup.{Setup};
 ghost use Rattle.machine_model.specs.State.{State, opening_of};

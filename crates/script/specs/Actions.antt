@@ -1,9 +1,9 @@
 -- The rows of the lines that drive a machine (own).
 use Rattle.std.specs.Prelude.{ℕ, ◌%◌, ◌==◌, ◌&&◌, nat_le, List, [], ◌∷◌, Option, Some, None, Result, Ok, Err, codes, if◌then◌else◌}
 use Rattle.std.specs.Str.{bytes_eq}
-use Rattle.chan_model.specs.declared.event.Instruction.{Instruction}
-use Rattle.chan_model.specs.declared.event.Instruction.TheVariants.{Ssch, Tsch, Stsch, Msch, Rsch, Hsch, Csch, Xsch, Enable}
-use Rattle.chan_model.specs.declared.event.Event.TheVariants as event
+use Rattle.chan_events.specs.declared.event.Instruction.{Instruction}
+use Rattle.chan_events.specs.declared.event.Instruction.TheVariants.{Ssch, Tsch, Stsch, Msch, Rsch, Hsch, Csch, Xsch, Enable}
+use Rattle.chan_events.specs.declared.event.Event.TheVariants as event
 use Rattle.storage_keys.specs.Storage.{key_of_byte}
 use Rattle.storage_keys.specs.declared.key.Key.{Key}
 use Rattle.script.specs.declared.Action.{Action}

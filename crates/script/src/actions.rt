@@ -6,8 +6,8 @@ ghost use Rattle.script.specs.Actions as spec;
 
 use crate::Action;
 use crate::words::{hex_bytes, number, number_up_to, one, subchannel, three, two};
+use chan_events::event::{Event, Instruction};
 use chan_model::chunk::ChunkLength;
-use chan_model::event::{Event, Instruction};
 use chan_model::names::Cpu;
 use storage_keys::key::Key;
 

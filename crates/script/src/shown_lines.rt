@@ -2,9 +2,9 @@
 
 use crate::Told;
 use crate::text::{put_bad_line, put_event_line};
+use chan_events::reply::Reply;
 use chan_model::chunk::Chunk;
 use chan_model::fault::Fault;
-use chan_model::reply::Reply;
 use scsw_irb::serials::Serials;
 use std::io;
 use std::io::Write;

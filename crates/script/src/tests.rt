@@ -3,11 +3,12 @@
 use crate::text::{put_refusal, put_reply};
 use crate::{Action, Script, ScriptBad};
 use bitflags::Flags;
+use chan_events::event::{Event, Instruction};
+use chan_events::reply::Reply;
+use chan_model::answer::Answer;
 use chan_model::chunk::Chunk;
-use chan_model::event::{Event, Instruction};
 use chan_model::fault::Fault;
 use chan_model::names::Path;
-use chan_model::reply::{Answer, Reply};
 use chan_model::signal::{Down, Load, Up};
 use scsw_irb::scsw::{ActivityControl, DeferredCode, FunctionControl, Scsw, StatusControl};
 use scsw_irb::serials::Serials;

@@ -8,8 +8,9 @@ ghost use Rattle.streams.specs.Sinks.{Puts};
 
 use crate::Told;
 use crate::held::Held;
+use chan_events::reply::Reply;
+use chan_model::answer::Answer;
 use chan_model::fault::Fault;
-use chan_model::reply::{Answer, Reply};
 use chan_model::signal::{Down, Up};
 use itoa::Buffer;
 use scsw_irb::scsw::Scsw;

@@ -6,9 +6,9 @@ ghost use Rattle.serving.specs.Acting.{Acts, TakesTurn, HandsIn, kept_after, ope
 ghost use Rattle.machine_model.specs.State.{sub_of, serials_in};
 ghost use Rattle.device_models.specs.AnyDevices.{device_of};
 
-use chan_model::event::Event;
+use chan_events::event::Event;
+use chan_events::reply::Reply;
 use chan_model::fault::Fault;
-use chan_model::reply::Reply;
 use chan_model::report::{Call, DeviceAnswer, Report, Work};
 use channel_config::config::Config;
 use channel_config::parts::UnitKind;

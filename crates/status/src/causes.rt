@@ -1,21 +1,21 @@
 //! What each cause of status shows, and which programs are over with it (SA22-7832, chapter 16; own).
 
 ghost use Rattle.std.specs.Prelude.{◌≡◌, ◌<◌, ◌^◌};
-ghost use Rattle.chan_model.specs.Status as chan_spec;
+ghost use Rattle.subchannel_model.specs.Status as joined_spec;
 ghost use Rattle.chan_model.specs.UnitReports as report_spec;
-ghost use Rattle.machine_model.specs.Causes as spec;
-ghost use Rattle.machine_model.specs.Statuses as status_spec;
+ghost use Rattle.subchannel_model.specs.Causes as spec;
+ghost use Rattle.subchannel_model.specs.Statuses as status_spec;
 
 use crate::shown::{
     add_status, channel_end_shown, conditions, earlier_end_shown, fetch_fault_shown,
     last_end_shown, no_path_shown, shows_primary,
 };
 use crate::testing::end_programs;
-use chan_model::status::Shown;
-use machine_model::cause::Cause;
-use machine_model::state::{Begun, Program, SubchannelState};
 use scsw_irb::scsw::{ActivityControl, DeferredCode, FunctionControl, Scsw, StatusControl};
 use scsw_irb::status::{DeviceStatus, SubchannelStatus};
+use subchannel_model::cause::Cause;
+use subchannel_model::state::{Begun, Program, SubchannelState};
+use subchannel_model::status::Shown;
 
 fn plain_shown(command_address: u32, count: u16) -> Shown
     ensures { result ≡ spec.plain_shown command_address count }
@@ -284,7 +284,7 @@ fn join_scsw(enabled: bool, scsw: &mut Scsw, cause: &Cause)
 pub(crate) fn join(state: &mut SubchannelState, cause: &Cause)
     requires { state.old.serials.made < 2 ^ 63 }
     ensures state { state.new ≡ spec.with_cause state.old cause.now }
-    ensures made { state.new.serials ≡ chan_spec.serials_made state.old.pmcw.enabled state.old.serials }
+    ensures made { state.new.serials ≡ joined_spec.serials_made state.old.pmcw.enabled state.old.serials }
 {
     let shown = shown_of(state, cause);
     leave_programs(state, cause);

@@ -1,10 +1,10 @@
 //! What holds of status after each cause, and after TEST SUBCHANNEL; its code is empty.
 
-ghost use Rattle.machine_model.specs.declared.cause.Cause.{Cause};
-ghost use Rattle.machine_model.specs.declared.state.SubchannelState.{SubchannelState};
-ghost use Rattle.machine_model.specs.Causes.{with_cause};
+ghost use Rattle.subchannel_model.specs.declared.cause.Cause.{Cause};
+ghost use Rattle.subchannel_model.specs.declared.state.SubchannelState.{SubchannelState};
+ghost use Rattle.subchannel_model.specs.Causes.{with_cause};
 ghost use Rattle.functions.specs.Counted.{IsCounted};
-ghost use Rattle.machine_model.specs.Functions.{tested_wholly};
+ghost use Rattle.subchannel_model.specs.Functions.{tested_wholly};
 
 /// After each cause status is pending exactly where some status that was made is not cleared, if it was before; after TEST
 /// SUBCHANNEL with code 0 it is.

@@ -2,11 +2,11 @@
 #![tactic(auto)]
 
 ghost use Rattle.std.specs.Prelude.{◌≡◌, ◌<◌, ◌^◌};
-ghost use Rattle.chan_model.specs.ConditionCodes as code_spec;
-ghost use Rattle.chan_model.specs.Status as status_spec;
-ghost use Rattle.machine_model.specs.Causes as cause_spec;
-ghost use Rattle.machine_model.specs.Functions as spec;
-ghost use Rattle.machine_model.specs.Instructions.{condition_of};
+ghost use Rattle.subchannel_model.specs.SubchannelCodes as code_spec;
+ghost use Rattle.subchannel_model.specs.Status as status_spec;
+ghost use Rattle.subchannel_model.specs.Causes as cause_spec;
+ghost use Rattle.subchannel_model.specs.Functions as spec;
+ghost use Rattle.subchannel_model.specs.Instructions.{condition_of};
 
 pub mod causes;
 pub mod law;
@@ -15,10 +15,10 @@ pub mod testing;
 #[cfg(test)]
 mod tests;
 
-use chan_model::reply::ConditionCode;
+use chan_model::answer::ConditionCode;
 use functions::codes::tsch_code;
-use machine_model::cause::Cause;
-use machine_model::state::SubchannelState;
+use subchannel_model::cause::Cause;
+use subchannel_model::state::SubchannelState;
 
 /// Makes the status of a cause pending. A subchannel that is not enabled gets none (own), but its activity and its programs
 /// change. The request for an interruption is the caller's.

@@ -1,14 +1,14 @@
 //! How status is made, and what an End, a check and a missing path show (SA22-7832, chapter 16).
 
 ghost use Rattle.std.specs.Prelude.{◌≡◌, ◌<◌, ◌^◌};
-ghost use Rattle.chan_model.specs.Status as status_spec;
-ghost use Rattle.machine_model.specs.Statuses as spec;
+ghost use Rattle.subchannel_model.specs.Status as status_spec;
+ghost use Rattle.subchannel_model.specs.Statuses as spec;
 
-use chan_model::status::Shown;
 use channel_program::check::Check;
-use machine_model::state::{Begun, SubchannelState};
 use scsw_irb::scsw::{ActivityControl, DeferredCode, FunctionControl, Scsw, StatusControl};
 use scsw_irb::status::{DeviceStatus, SubchannelStatus};
+use subchannel_model::state::{Begun, SubchannelState};
+use subchannel_model::status::Shown;
 
 /// A status is made pending. A subchannel that is not enabled gets none, but its activity changes.
 pub(crate) fn add_status(state: &mut SubchannelState, shown: &Shown)

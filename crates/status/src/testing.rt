@@ -1,14 +1,14 @@
 //! What TEST SUBCHANNEL leaves of a subchannel (SA22-7832, chapters 14 and 16).
 
 ghost use Rattle.std.specs.Prelude.{◌≡◌};
-ghost use Rattle.chan_model.specs.Status as status_spec;
-ghost use Rattle.machine_model.specs.Functions as whole_spec;
-ghost use Rattle.machine_model.specs.Instructions as spec;
+ghost use Rattle.subchannel_model.specs.Status as status_spec;
+ghost use Rattle.subchannel_model.specs.Functions as whole_spec;
+ghost use Rattle.subchannel_model.specs.Instructions as spec;
 
 use functions::codes::is_intermediate_alone;
 use functions::effects::{clear_serials, drop_scsw};
-use machine_model::state::SubchannelState;
 use scsw_irb::scsw::{ActivityControl, DeferredCode, FunctionControl, Scsw, StatusControl};
+use subchannel_model::state::SubchannelState;
 
 fn active_alone(activity: ActivityControl) -> ActivityControl
     ensures { result ≡ status_spec.active_alone activity }

@@ -8,22 +8,30 @@ use Rattle.storage_keys.specs.Storage.{Contents, put, shown, key_set, prefix_set
 use Rattle.channel_config.specs.declared.names.SubchannelId.{SubchannelId}
 use Rattle.channel_config.specs.SubchannelWords.{subchannel_named}
 use Rattle.chan_model.specs.declared.fault.Fault.{Fault}
-use Rattle.chan_model.specs.declared.event.Event.{Event}
-use Rattle.chan_model.specs.declared.event.Event.TheVariants as event
-use Rattle.chan_model.specs.declared.event.Instruction.{Instruction}
-use Rattle.chan_model.specs.declared.event.Instruction.TheVariants as instruction
-use Rattle.chan_model.specs.declared.reply.Reply.{Reply}
-use Rattle.chan_model.specs.declared.reply.ConditionCode.{ConditionCode}
-use Rattle.chan_model.specs.declared.reply.ConditionCode.TheVariants as code
+use Rattle.chan_events.specs.declared.event.Event.{Event}
+use Rattle.chan_events.specs.declared.event.Event.TheVariants as event
+use Rattle.chan_events.specs.declared.event.Instruction.{Instruction}
+use Rattle.chan_events.specs.declared.event.Instruction.TheVariants as instruction
+use Rattle.chan_events.specs.declared.reply.Reply.{Reply}
+use Rattle.chan_model.specs.declared.answer.ConditionCode.{ConditionCode}
+use Rattle.chan_model.specs.declared.answer.ConditionCode.TheVariants as code
 use Rattle.chan_model.specs.declared.report.Report.{Report}
 use Rattle.chan_model.specs.declared.unit_state.UnitState.{UnitState}
-use Rattle.chan_model.specs.ConditionCodes.{ssch_code, msch_code, rsch_code, hsch_code, csch_code, xsch_code}
-use Rattle.machine_model.specs.declared.state.Subchannel.{Subchannel}
-use Rattle.machine_model.specs.State.{State, place_of, place_in, place_of_id, first_place, one_later, sub_at, with_sub, with_unit, reaches, reached_in}
-use Rattle.machine_model.specs.Instructions.{condition_of}
-use Rattle.machine_model.specs.Choosing.{chosen}
-use Rattle.machine_model.specs.SubchannelBlocks.{pmcw_of, enabling}
-use Rattle.machine_model.specs.Steps.{Outcome, SubTurn, UpTurn, DownTurn, at_sub, at_storage, at_unit, start_at, Starts, Starts_with, test_sub, test_code_of, tests, store_at, stores, modify_at, Modifies_by, Modifies, Enables_with, Enables, Executes_at, Executes_on, word_of, choose_sub, Chooses, up_sub, up_at, down_sub, down_unit, down_at, report_sub, report_to, report_at, function_at, resume_sub, halt_sub, clear_sub, cancel_sub, storage_turn, show_turn_of, does, Steps, Step}
+use Rattle.subchannel_model.specs.SubchannelCodes.{ssch_code, msch_code, rsch_code, hsch_code, csch_code, xsch_code}
+use Rattle.subchannel_model.specs.declared.state.Subchannel.{Subchannel}
+use Rattle.machine_model.specs.State.{State, place_of, with_sub, with_unit}
+use Rattle.subchannel_model.specs.Places.{place_in, place_of_id, first_place, one_later, sub_at, reaches, reached_in}
+use Rattle.subchannel_model.specs.Instructions.{condition_of}
+use Rattle.subchannel_model.specs.Choosing.{chosen}
+use Rattle.subchannel_model.specs.SubchannelBlocks.{pmcw_of, enabling}
+use Rattle.machine_model.specs.Turns.{Outcome, SubTurn, UpTurn, DownTurn, at_sub, at_storage, at_unit, does}
+use Rattle.machine_model.specs.InstructionSteps.{start_at, Starts, Starts_with, test_sub, test_code_of, tests, store_at, stores, modify_at, Modifies_by, Modifies, Enables_with, Enables, Executes_at, Executes_on, word_of, function_at, resume_sub, halt_sub, clear_sub, cancel_sub}
+use Rattle.machine_model.specs.ChooseSteps.{choose_sub, Chooses}
+use Rattle.machine_model.specs.UpSteps.{up_sub, up_at}
+use Rattle.machine_model.specs.DownSteps.{down_sub, down_unit, down_at}
+use Rattle.machine_model.specs.ReportSteps.{report_sub, report_to, report_at}
+use Rattle.machine_model.specs.StorageSteps.{storage_turn, show_turn_of}
+use Rattle.machine_model.specs.Steps.{Steps, Step}
 use Rattle.step_laws.specs.Walks as walked
 use Rattle.step_laws.specs.Walks.{Walked, IsQuiet, Function, Resumes, Halts, Clears, Cancels}
 

@@ -2,22 +2,29 @@
 use Rattle.std.specs.Prelude.{◌≡◌, ℕ, Bool, true, false, Option, Some, slice_get, slice_set, Ok}
 use Rattle.orb_block.specs.declared.Orb.{Orb}
 use Rattle.schib_block.specs.declared.pmcw.Pmcw as block
-use Rattle.chan_model.specs.declared.event.Event.{Event}
-use Rattle.chan_model.specs.declared.event.Event.TheVariants as event
-use Rattle.chan_model.specs.declared.event.Instruction.TheVariants as instruction
-use Rattle.chan_model.specs.declared.reply.Answer.TheVariants as answer
-use Rattle.chan_model.specs.declared.reply.ConditionCode.{ConditionCode}
-use Rattle.chan_model.specs.declared.reply.Reply.{Reply}
-use Rattle.chan_model.specs.declared.reply.Reply.TheVariants as reply
+use Rattle.chan_events.specs.declared.event.Event.{Event}
+use Rattle.chan_events.specs.declared.event.Event.TheVariants as event
+use Rattle.chan_events.specs.declared.event.Instruction.TheVariants as instruction
+use Rattle.chan_model.specs.declared.answer.Answer.TheVariants as answer
+use Rattle.chan_model.specs.declared.answer.ConditionCode.{ConditionCode}
+use Rattle.chan_events.specs.declared.reply.Reply.{Reply}
+use Rattle.chan_events.specs.declared.reply.Reply.TheVariants as reply
 use Rattle.chan_model.specs.declared.report.Report.{Report}
 use Rattle.chan_model.specs.declared.unit_state.UnitState.{UnitState}
 use Rattle.path_select.specs.Choice.{IsChoice}
-use Rattle.machine_model.specs.declared.state.Subchannel.{Subchannel}
-use Rattle.machine_model.specs.declared.state.SubchannelState.{SubchannelState}
-use Rattle.machine_model.specs.State.{State, place_of, reaches, reached_in}
-use Rattle.machine_model.specs.Functions.{resumed, halted, cleared, cancelled}
-use Rattle.machine_model.specs.Choosing.{chosen, paths_to_choose}
-use Rattle.machine_model.specs.Steps.{SubTurn, UpTurn, DownTurn, start_with, test_with, modify_with, function_sub, choose_sub, up_sub, down_sub, report_sub, Step}
+use Rattle.subchannel_model.specs.declared.state.Subchannel.{Subchannel}
+use Rattle.subchannel_model.specs.declared.state.SubchannelState.{SubchannelState}
+use Rattle.machine_model.specs.State.{State, place_of}
+use Rattle.subchannel_model.specs.Places.{reaches, reached_in}
+use Rattle.subchannel_model.specs.Functions.{resumed, halted, cleared, cancelled}
+use Rattle.subchannel_model.specs.Choosing.{chosen, paths_to_choose}
+use Rattle.machine_model.specs.Turns.{SubTurn, UpTurn, DownTurn}
+use Rattle.machine_model.specs.InstructionSteps.{start_with, test_with, modify_with, function_sub}
+use Rattle.machine_model.specs.ChooseSteps.{choose_sub}
+use Rattle.machine_model.specs.UpSteps.{up_sub}
+use Rattle.machine_model.specs.DownSteps.{down_sub}
+use Rattle.machine_model.specs.ReportSteps.{report_sub}
+use Rattle.machine_model.specs.Steps.{Step}
 
 -- an event by which no start is accepted, nothing is offered and no signal comes
 abbrev pub is_start : Reply → Bool

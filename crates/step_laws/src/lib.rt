@@ -1,8 +1,8 @@
 //! What kinds of steps a channel subsystem takes: a theorem over its definitions alone.
 #![tactic(auto)]
 
-ghost use Rattle.chan_model.specs.declared.event.Event.{Event};
-ghost use Rattle.chan_model.specs.declared.reply.Reply.{Reply};
+ghost use Rattle.chan_events.specs.declared.event.Event.{Event};
+ghost use Rattle.chan_events.specs.declared.reply.Reply.{Reply};
 ghost use Rattle.machine_model.specs.State.{State};
 ghost use Rattle.machine_model.specs.Steps.{Step};
 ghost use Rattle.step_laws.specs.Walks.{Walked};

@@ -21,15 +21,15 @@ use Rattle.transfer.specs.declared.Came.TheVariants as came
 use Rattle.transfer.specs.declared.Beginning.{Beginning}
 use Rattle.transfer.specs.Commands.{first_command, next_command}
 use Rattle.transfer.specs.Chunks.{is_answered}
-use Rattle.machine_model.specs.declared.state.Begun.{Begun}
-use Rattle.machine_model.specs.declared.state.Program.{Program}
-use Rattle.machine_model.specs.declared.state.Standing.{Standing}
-use Rattle.machine_model.specs.declared.state.SubchannelState.{SubchannelState}
-use Rattle.machine_model.specs.declared.state.UpStep.{UpStep}
-use Rattle.machine_model.specs.declared.cause.Cause.TheVariants as cause
-use Rattle.machine_model.specs.Causes.{with_cause, without_begun}
-use Rattle.machine_model.specs.Statuses.{has_status_modifier, chains_command}
-use Rattle.machine_model.specs.Taking.{Met, meets, ignoring, let_go, suspending, standing, goes_ahead, with_path, beginning, begin_standing, accepted_by, accept_by, move_bytes, move_data, chaining, goes_on, with_end, end_shown_at, stops_at, command_ended, end_of, reset_taken, notice, takes_up}
+use Rattle.subchannel_model.specs.declared.state.Begun.{Begun}
+use Rattle.subchannel_model.specs.declared.state.Program.{Program}
+use Rattle.subchannel_model.specs.declared.state.Standing.{Standing}
+use Rattle.subchannel_model.specs.declared.state.SubchannelState.{SubchannelState}
+use Rattle.subchannel_model.specs.declared.state.UpStep.{UpStep}
+use Rattle.subchannel_model.specs.declared.cause.Cause.TheVariants as cause
+use Rattle.subchannel_model.specs.Causes.{with_cause, without_begun}
+use Rattle.subchannel_model.specs.Statuses.{has_status_modifier, chains_command}
+use Rattle.subchannel_model.specs.Taking.{Met, meets, ignoring, let_go, suspending, standing, goes_ahead, with_path, beginning, begin_standing, accepted_by, accept_by, move_bytes, move_data, chaining, goes_on, with_end, end_shown_at, stops_at, command_ended, end_of, reset_taken, notice, takes_up}
 use Rattle.subchannel.specs.Answering.{path_of, only_if, held_path, accepted_path, moved_path, chained_path, going_path, ended_path, end_of_path, answer_path}
 
 abbrev answers : UpStep → Option ℕ

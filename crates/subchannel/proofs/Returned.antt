@@ -3,9 +3,9 @@ use Rattle.std.proofs.Common.{◌≡◌, refl, sym, ◌∙◌, ap, ℕ, Bool, tr
 use Rattle.chan_model.specs.declared.signal.Down.{Down}
 use Rattle.chan_model.specs.declared.signal.Taken.{Taken}
 use Rattle.chan_model.specs.HoldTable.{HoldStep, hold_after, came_of}
-use Rattle.machine_model.specs.declared.state.SubchannelState.{SubchannelState}
-use Rattle.machine_model.specs.declared.state.UpStep.{UpStep}
-use Rattle.machine_model.specs.Taking.{back, by_hold, is_granted, returned}
+use Rattle.subchannel_model.specs.declared.state.SubchannelState.{SubchannelState}
+use Rattle.subchannel_model.specs.declared.state.UpStep.{UpStep}
+use Rattle.subchannel_model.specs.Taking.{back, by_hold, is_granted, returned}
 use Rattle.subchannel.specs.Stepping.{stepped}
 
 ungranted : (s : SubchannelState) (came : Taken Down) (p : ℕ) (b : Bool) → b ≡ false → stepped s came ≡ stepped (returned s p b) came

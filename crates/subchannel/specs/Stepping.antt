@@ -3,8 +3,8 @@ use Rattle.std.specs.Prelude.{true, false, Option, None}
 use Rattle.chan_model.specs.declared.signal.Down.{Down}
 use Rattle.chan_model.specs.declared.signal.OnPath.{OnPath}
 use Rattle.chan_model.specs.declared.signal.Taken.{Taken}
-use Rattle.machine_model.specs.declared.state.SubchannelState.{SubchannelState}
-use Rattle.machine_model.specs.declared.state.UpStep.{UpStep}
+use Rattle.subchannel_model.specs.declared.state.SubchannelState.{SubchannelState}
+use Rattle.subchannel_model.specs.declared.state.UpStep.{UpStep}
 
 abbrev pub stepped : SubchannelState → Taken Down → UpStep
 stepped s came = record { state = s; came = came }

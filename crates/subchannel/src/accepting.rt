@@ -2,7 +2,7 @@
 
 ghost use Rattle.std.specs.Prelude.{◌≡◌, ◌<◌, ◌^◌};
 ghost use Rattle.chan_model.specs.HoldTable.{hold_takes};
-ghost use Rattle.machine_model.specs.Taking as spec;
+ghost use Rattle.subchannel_model.specs.Taking as spec;
 ghost use Rattle.subchannel.specs.Stepping.{stepped};
 ghost use Rattle.transfer.specs.Commands as transfer_spec;
 
@@ -13,11 +13,11 @@ use chan_model::hold_state::HoldPhase;
 use chan_model::names::Path;
 use chan_model::signal::{Down, Taken, Up};
 use hold::Hold;
-use machine_model::cause::Cause;
-use machine_model::state::{Begun, Pmcw, Program, Standing, SubchannelState};
 use scsw_irb::scsw::Scsw;
 use status::make_pending;
 use storage_keys::Storage;
+use subchannel_model::cause::Cause;
+use subchannel_model::state::{Begun, Pmcw, Program, Standing, SubchannelState};
 use transfer::commands::{begun_with_room, first_command};
 use transfer::{Came, Roomy, Transfer};
 

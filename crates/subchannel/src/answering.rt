@@ -2,7 +2,7 @@
 
 ghost use Rattle.std.specs.Prelude.{◌≡◌, ◌<◌, ◌^◌, false};
 ghost use Rattle.chan_model.specs.HoldTable.{hold_takes, came_of};
-ghost use Rattle.machine_model.specs.Taking as taking_spec;
+ghost use Rattle.subchannel_model.specs.Taking as taking_spec;
 ghost use Rattle.subchannel.specs.Answering as spec;
 ghost use Rattle.transfer.specs.Commands as transfer_spec;
 
@@ -13,11 +13,11 @@ use chan_model::hold_state::{HoldPhase, HoldState};
 use chan_model::names::Path;
 use chan_model::signal::{Down, OnPath, Up};
 use hold::Hold;
-use machine_model::state::{Begun, SubchannelState};
 use scsw_irb::status::DeviceStatus;
 use status::causes::is_last_end;
 use status::shown::chains_command;
 use storage_keys::Storage;
+use subchannel_model::state::{Begun, SubchannelState};
 use transfer::Came;
 use transfer::chunks::is_answered;
 use transfer::commands::next_command;

@@ -2,13 +2,13 @@
 
 ghost use Rattle.std.specs.Prelude.{◌≡◌, None, Some};
 ghost use Rattle.chan_model.specs.HoldTable.{hold_takes};
-ghost use Rattle.machine_model.specs.Taking as spec;
+ghost use Rattle.subchannel_model.specs.Taking as spec;
 ghost use Rattle.subchannel.specs.Stepping.{not_taken, stepped, taken_with};
 
 use chan_model::names::Path;
 use chan_model::signal::{Down, OnPath, Taken, Up};
 use hold::Hold;
-use machine_model::state::SubchannelState;
+use subchannel_model::state::SubchannelState;
 
 pub(crate) fn ignored() -> Taken<Down>
     ensures { result ≡ not_taken }

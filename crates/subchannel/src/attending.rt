@@ -2,17 +2,17 @@
 
 ghost use Rattle.std.specs.Prelude.{◌≡◌, ◌<◌, ◌^◌};
 ghost use Rattle.chan_model.specs.HoldTable.{hold_takes};
-ghost use Rattle.machine_model.specs.Taking as spec;
+ghost use Rattle.subchannel_model.specs.Taking as spec;
 ghost use Rattle.subchannel.specs.Stepping.{stepped};
 
 use crate::answers::by_hold;
 use chan_model::names::Path;
 use chan_model::signal::{Down, Taken, Up};
-use machine_model::cause::Cause;
-use machine_model::state::SubchannelState;
 use scsw_irb::scsw::ActivityControl;
 use scsw_irb::status::DeviceStatus;
 use status::make_pending;
+use subchannel_model::cause::Cause;
+use subchannel_model::state::SubchannelState;
 
 /// Whether nothing goes on but a start that waits.
 fn is_open(activity: &ActivityControl) -> bool

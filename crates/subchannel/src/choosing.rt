@@ -1,7 +1,7 @@
 //! What the subsystem does of itself for a subchannel (own).
 
 ghost use Rattle.std.specs.Prelude.{◌≡◌, ◌<◌, ◌^◌, IfSome};
-ghost use Rattle.machine_model.specs.Choosing as spec;
+ghost use Rattle.subchannel_model.specs.Choosing as spec;
 ghost use Rattle.chan_model.specs.declared.hold_state.HoldPhase.TheVariants as phase;
 ghost use Rattle.chan_model.specs.declared.hold_state.HoldState as hold_state;
 
@@ -11,8 +11,8 @@ use chan_model::names::Path;
 use chan_model::paths::PathSet;
 use finding::engines::Counted;
 use hold::Hold;
-use machine_model::state::{Candidate, Chosen, Program, Standing, Subchannel, SubchannelState};
 use scsw_irb::scsw::Scsw;
+use subchannel_model::state::{Candidate, Chosen, Program, Standing, Subchannel, SubchannelState};
 
 /// The number of a Reset that was not sent yet.
 fn unsent_reset(hold: &HoldState) -> Option<u64>

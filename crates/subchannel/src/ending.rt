@@ -1,7 +1,7 @@
 //! What a subchannel does as a command ends.
 
 ghost use Rattle.std.specs.Prelude.{◌≡◌, ◌<◌, ◌^◌};
-ghost use Rattle.machine_model.specs.Taking as spec;
+ghost use Rattle.subchannel_model.specs.Taking as spec;
 ghost use Rattle.subchannel.specs.Stepping.{stepped};
 ghost use Rattle.transfer.specs.Commands as transfer_spec;
 
@@ -11,13 +11,13 @@ use crate::moving::move_on;
 use chan_model::names::Path;
 use chan_model::signal::{Down, Taken};
 use hold::Hold;
-use machine_model::cause::Cause;
-use machine_model::state::{Begun, SubchannelState};
 use scsw_irb::status::DeviceStatus;
 use status::causes::is_last_end;
 use status::make_pending;
 use status::shown::chains_command;
 use storage_keys::Storage;
+use subchannel_model::cause::Cause;
+use subchannel_model::state::{Begun, SubchannelState};
 use transfer::commands::{begun_with_room, next_command};
 use transfer::{Came, Roomy};
 

@@ -2,14 +2,14 @@
 
 ghost use Rattle.std.specs.Prelude.{◌≡◌, ◌<◌, ◌^◌};
 ghost use Rattle.data_move.specs.Moving.{residual};
-ghost use Rattle.machine_model.specs.declared.cause.Cause.TheVariants as cause;
-ghost use Rattle.machine_model.specs.Taking as spec;
+ghost use Rattle.subchannel_model.specs.declared.cause.Cause.TheVariants as cause;
+ghost use Rattle.subchannel_model.specs.Taking as spec;
 
 use ccw_walk::Walk;
-use machine_model::cause::Cause;
-use machine_model::state::{Begun, Program, Standing, SubchannelState};
 use scsw_irb::scsw::{ActivityControl, Scsw};
 use status::make_pending;
+use subchannel_model::cause::Cause;
+use subchannel_model::state::{Begun, Program, Standing, SubchannelState};
 
 fn drop_interruption(begun: &mut Begun)
     ensures { begun.new ≡ spec.without_interruption begun.old }

@@ -1,13 +1,13 @@
 //! What a subchannel loses as its unit restarts (own).
 
 ghost use Rattle.std.specs.Prelude.{◌≡◌, ◌<◌, ◌^◌};
-ghost use Rattle.machine_model.specs.Losing as spec;
+ghost use Rattle.subchannel_model.specs.Losing as spec;
 
 use chan_model::hold_state::HoldPhase;
 use hold::Hold;
-use machine_model::cause::Cause;
-use machine_model::state::SubchannelState;
 use status::make_pending;
+use subchannel_model::cause::Cause;
+use subchannel_model::state::SubchannelState;
 
 fn is_offered_or_held(phase: HoldPhase) -> bool
     ensures { result ≡ spec.is_offered_or_held phase }

@@ -1,7 +1,7 @@
 //! What a subchannel does with the Data of a command.
 
 ghost use Rattle.std.specs.Prelude.{◌≡◌, ◌<◌, ◌≤◌, ◌^◌, length};
-ghost use Rattle.machine_model.specs.Taking as spec;
+ghost use Rattle.subchannel_model.specs.Taking as spec;
 ghost use Rattle.subchannel.specs.Stepping.{stepped};
 ghost use Rattle.transfer.specs.Chunks as chunk_spec;
 
@@ -10,8 +10,8 @@ use crate::intermediate::interrupt;
 use chan_model::names::Path;
 use chan_model::signal::{Down, Load, Taken};
 use hold::Hold;
-use machine_model::state::{Begun, SubchannelState};
 use storage_keys::Storage;
+use subchannel_model::state::{Begun, SubchannelState};
 use transfer::chunks::{absorbed, brought, is_answered, next_given};
 use transfer::commands::{is_outward, with_room};
 use transfer::{Given, Roomy, Transfer};

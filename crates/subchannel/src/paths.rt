@@ -3,14 +3,14 @@
 ghost use Rattle.std.specs.Prelude.{◌≡◌, ◌<◌, ◌&&◌, nat_lt, length};
 ghost use Rattle.allegiance.specs.Allegiances.{may_reconnect as may_reconnect_by};
 ghost use Rattle.allegiance.specs.PathUse as set_spec;
-ghost use Rattle.machine_model.specs.Choosing as spec;
-ghost use Rattle.machine_model.specs.SubchannelBlocks as block_spec;
+ghost use Rattle.subchannel_model.specs.Choosing as spec;
+ghost use Rattle.subchannel_model.specs.SubchannelBlocks as block_spec;
 
 use allegiance::allegiances::may_reconnect;
 use chan_model::names::Path;
 use chan_model::paths::PathSet;
 use finding::engines::Counted;
-use machine_model::state::Subchannel;
+use subchannel_model::state::Subchannel;
 
 fn keeps_dedicated(dedicated: Option<Path>, path: usize) -> bool
     ensures { result ≡ set_spec.keeps_dedicated dedicated path }

@@ -2,13 +2,13 @@
 
 ghost use Rattle.std.specs.Prelude.{◌≡◌, Some};
 ghost use Rattle.chan_model.specs.HoldTable.{hold_takes};
-ghost use Rattle.machine_model.specs.Taking as spec;
+ghost use Rattle.subchannel_model.specs.Taking as spec;
 ghost use Rattle.subchannel.specs.Stepping.{stepped};
 
 use crate::answers::by_hold;
 use chan_model::names::Path;
 use chan_model::signal::{Down, OnPath, Taken, Up};
-use machine_model::state::{Pmcw, SubchannelState};
+use subchannel_model::state::{Pmcw, SubchannelState};
 
 /// Back: the path of a Grant is the one that was used last, and the one that was chosen last.
 pub(crate) fn come_back(

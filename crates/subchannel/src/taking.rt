@@ -3,7 +3,7 @@
 ghost use Rattle.std.specs.Prelude.{◌≡◌, ◌<◌, ◌^◌, false};
 ghost use Rattle.chan_model.specs.HoldTable.{hold_takes};
 ghost use Rattle.subchannel.specs.Stepping.{stepped};
-ghost use Rattle.machine_model.specs.Taking as spec;
+ghost use Rattle.subchannel_model.specs.Taking as spec;
 
 use crate::accepting::accept;
 use crate::answers::{by_hold, ignored, quiet};
@@ -15,10 +15,10 @@ use crate::returning::come_back;
 use chan_model::names::Path;
 use chan_model::signal::{Down, Taken, Up};
 use hold::Hold;
-use machine_model::cause::Cause;
-use machine_model::state::SubchannelState;
 use status::make_pending;
 use storage_keys::Storage;
+use subchannel_model::cause::Cause;
+use subchannel_model::state::SubchannelState;
 
 /// Where a clear is pending, it is performed.
 fn do_clear(state: &mut SubchannelState)

@@ -3,7 +3,8 @@ use Rattle.std.proofs.Common.{◌≡◌, ◌<◌, refl, subst, ap, ℕ, Bool, fa
 use Rattle.chan_model.specs.declared.signal.Down.{Down}
 use Rattle.chan_model.specs.declared.signal.OnPath.{OnPath}
 use Rattle.wires.specs.Queues.{queue}
-use Rattle.machine_model.specs.Steps.{is_full, finds_full, HasRoom}
+use Rattle.subchannel_model.specs.Sending.{is_full, finds_full}
+use Rattle.subsystem.specs.Giving.{HasRoom}
 use Rattle.subchannel.specs.Answering.{path_of}
 
 pub finds_none : (queues : List (List Down)) (sends : Option (OnPath Down)) → path_of sends ≡ None → false ≡ finds_full queues sends

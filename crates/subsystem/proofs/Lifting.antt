@@ -5,19 +5,27 @@ use Rattle.std.proofs.lemmas.List.{set-get_or}
 use Rattle.storage_keys.specs.Storage.{Contents}
 use Rattle.channel_config.specs.declared.names.SubchannelId.{SubchannelId}
 use Rattle.channel_config.specs.SubchannelWords.{subchannel_named}
-use Rattle.chan_model.specs.declared.event.Instruction.{Instruction}
+use Rattle.chan_events.specs.declared.event.Instruction.{Instruction}
 use Rattle.chan_model.specs.declared.fault.Fault.{Fault}
-use Rattle.chan_model.specs.declared.event.Event.{Event}
-use Rattle.chan_model.specs.declared.event.Event.TheVariants as event
-use Rattle.chan_model.specs.declared.reply.Reply.{Reply}
+use Rattle.chan_events.specs.declared.event.Event.{Event}
+use Rattle.chan_events.specs.declared.event.Event.TheVariants as event
+use Rattle.chan_events.specs.declared.reply.Reply.{Reply}
 use Rattle.chan_model.specs.declared.report.Report.{Report}
 use Rattle.chan_model.specs.declared.unit_state.UnitState.{UnitState}
 use Rattle.path_select.specs.Choice.{Rule, IsChoice}
-use Rattle.machine_model.specs.declared.state.Subchannel.{Subchannel}
-use Rattle.machine_model.specs.State.{State, place_of, place_in, sub_at, with_sub, with_unit, reached_in}
-use Rattle.machine_model.specs.Choosing.{chosen, paths_to_choose}
+use Rattle.subchannel_model.specs.declared.state.Subchannel.{Subchannel}
+use Rattle.machine_model.specs.State.{State, place_of, with_sub, with_unit}
+use Rattle.subchannel_model.specs.Places.{place_in, sub_at, reached_in}
+use Rattle.subchannel_model.specs.Choosing.{chosen, paths_to_choose}
 use Rattle.machine_model.specs.Ruled.{RulesAt, GoesByRule, outcome_of}
-use Rattle.machine_model.specs.Steps.{Outcome, SubTurn, UpTurn, DownTurn, Steps, Performs, Gives, GivesSub, GivesStorage, GivesBoth, Chooses, does, at_sub, at_storage, at_unit, up_at, up_sub, down_at, down_unit, down_sub, choose_sub, report_at, report_to, report_sub, Executes_at, Executes_on, word_of}
+use Rattle.machine_model.specs.Turns.{Outcome, SubTurn, UpTurn, DownTurn, does, at_sub, at_storage, at_unit}
+use Rattle.machine_model.specs.Steps.{Steps, Performs}
+use Rattle.subsystem.specs.Giving.{Gives, GivesSub, GivesStorage, GivesBoth}
+use Rattle.machine_model.specs.ChooseSteps.{Chooses, choose_sub}
+use Rattle.machine_model.specs.UpSteps.{up_at, up_sub}
+use Rattle.machine_model.specs.DownSteps.{down_at, down_unit, down_sub}
+use Rattle.machine_model.specs.ReportSteps.{report_at, report_to, report_sub}
+use Rattle.machine_model.specs.InstructionSteps.{Executes_at, Executes_on, word_of}
 use Rattle.io_step.specs.Executing.{Executed, Executed_absent}
 
 -- an element that stands at a place

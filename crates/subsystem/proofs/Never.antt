@@ -5,34 +5,44 @@ use Rattle.storage_keys.specs.Storage.{Contents, put, key_set, prefix_set, shown
 use Rattle.storage_keys.specs.declared.StorageFault.{StorageFault}
 use Rattle.channel_config.specs.declared.names.SubchannelId.{SubchannelId}
 use Rattle.channel_config.specs.SubchannelWords.{subchannel_named}
-use Rattle.chan_model.specs.declared.event.Instruction.{Instruction}
-use Rattle.chan_model.specs.declared.event.Instruction.TheVariants as instruction
-use Rattle.chan_model.specs.declared.event.Event.{Event}
-use Rattle.chan_model.specs.declared.event.Event.TheVariants as event
+use Rattle.chan_events.specs.declared.event.Instruction.{Instruction}
+use Rattle.chan_events.specs.declared.event.Instruction.TheVariants as instruction
+use Rattle.chan_events.specs.declared.event.Event.{Event}
+use Rattle.chan_events.specs.declared.event.Event.TheVariants as event
 use Rattle.chan_model.specs.declared.fault.Fault.{Fault}
 use Rattle.chan_model.specs.declared.fault.Fault.TheVariants.{NoMemory, Storage, Operand, WireFull, NoSuchSubchannel, NoSuchPath}
 use Rattle.chan_model.specs.declared.signal.Down.{Down}
 use Rattle.chan_model.specs.declared.signal.Up.{Up}
 use Rattle.chan_model.specs.declared.report.Report.{Report}
-use Rattle.chan_model.specs.declared.reply.Reply.{Reply}
+use Rattle.chan_events.specs.declared.reply.Reply.{Reply}
 use Rattle.chan_model.specs.declared.unit_state.UnitState.{UnitState}
 use Rattle.chan_model.specs.UnitTable as unit_table
 use Rattle.chan_model.specs.UnitTable.{UnitStep, unit_takes, unit_after}
 use Rattle.chan_model.specs.declared.signal.Down.TheVariants as down
-use Rattle.chan_model.specs.declared.reply.Reply.TheVariants as reply
+use Rattle.chan_events.specs.declared.reply.Reply.TheVariants as reply
 use Rattle.orb_block.specs.declared.Orb.{Orb}
 use Rattle.schib_block.specs.declared.pmcw.Pmcw as block
 use Rattle.chan_model.specs.UnitReports.{unit_reports}
 use Rattle.wires.specs.Queues.{queue, sent, taken}
-use Rattle.machine_model.specs.declared.state.Chosen.{Chosen}
-use Rattle.machine_model.specs.declared.state.Chosen.TheVariants.{Idle, Resets, Clears, Halts, Ends, Over, Offers}
-use Rattle.machine_model.specs.declared.state.Subchannel.{Subchannel}
-use Rattle.machine_model.specs.declared.state.SubchannelState.{SubchannelState}
-use Rattle.machine_model.specs.State.{State, place_of, place_in, sub_at, reached_in}
-use Rattle.machine_model.specs.Choosing.{chosen, reset_sent, halt_sent, offered}
+use Rattle.subchannel_model.specs.declared.state.Chosen.{Chosen}
+use Rattle.subchannel_model.specs.declared.state.Chosen.TheVariants.{Idle, Resets, Clears, Halts, Ends, Over, Offers}
+use Rattle.subchannel_model.specs.declared.state.Subchannel.{Subchannel}
+use Rattle.subchannel_model.specs.declared.state.SubchannelState.{SubchannelState}
+use Rattle.machine_model.specs.State.{State, place_of}
+use Rattle.subchannel_model.specs.Places.{place_in, sub_at, reached_in}
+use Rattle.subchannel_model.specs.Choosing.{chosen, reset_sent, halt_sent, offered}
+use Rattle.machine_model.specs.StorageSteps as storage_spec
+use Rattle.machine_model.specs.InstructionSteps as instruction_steps
+use Rattle.machine_model.specs.ChooseSteps as choose_spec
+use Rattle.subchannel_model.specs.Sending as sending_spec
+use Rattle.machine_model.specs.Turns as turn_spec
+use Rattle.machine_model.specs.UpSteps as up_spec
+use Rattle.machine_model.specs.DownSteps as down_spec
+use Rattle.machine_model.specs.ReportSteps as report_spec
 use Rattle.machine_model.specs.Steps as spec
-use Rattle.machine_model.specs.Steps.{Outcome, SubTurn, UpTurn, DownTurn, IsRefused}
-use Rattle.machine_model.specs.Taking.{takes_up}
+use Rattle.machine_model.specs.Turns.{Outcome, SubTurn, UpTurn, DownTurn}
+use Rattle.machine_model.specs.Steps.{IsRefused}
+use Rattle.subchannel_model.specs.Taking.{takes_up}
 
 -- it is not want of memory
 abbrev Other : Fault → Type 0
@@ -50,99 +60,99 @@ either : {A : Type 0} (b : Bool) (x y : Result A Fault) → Sound x → Sound y 
 either true x y p q = p
 either false x y p q = q
 
-stored : (s : State) (x : Result Contents StorageFault) → Sound (spec.storage_turn s x)
+stored : (s : State) (x : Result Contents StorageFault) → Sound (storage_spec.storage_turn s x)
 stored s (Ok storage) = tt
 stored s (Err f) = tt
 
-told : (s : State) (x : Result (List ℕ) StorageFault) → Sound (spec.show_turn_of s x)
+told : (s : State) (x : Result (List ℕ) StorageFault) → Sound (storage_spec.show_turn_of s x)
 told s (Ok bytes) = tt
 told s (Err f) = tt
 
 -- instructions
-started_at : (s : State) (place : Option ℕ) (sub : Option Subchannel) (orb : Orb) → Sound (spec.start_at s place sub orb)
+started_at : (s : State) (place : Option ℕ) (sub : Option Subchannel) (orb : Orb) → Sound (instruction_steps.start_at s place sub orb)
 started_at s None sub orb = tt
 started_at s (Some place) None orb = tt
 started_at s (Some place) (Some sub) orb = tt
 
-starts : (s : State) (place : Option ℕ) (sub : Option Subchannel) (image : Result (List ℕ) StorageFault) (r : Outcome) → spec.Starts s place sub image r → Sound r
+starts : (s : State) (place : Option ℕ) (sub : Option Subchannel) (image : Result (List ℕ) StorageFault) (r : Outcome) → instruction_steps.Starts s place sub image r → Sound r
 starts s place sub (Err f) r e = is r (Err (Storage f)) tt e
 starts s place sub (Ok image) r e = elim e [
   | inl x ↦ is r (Err Operand) tt x.1
-  | inr x ↦ is r (spec.start_at s place sub x.0) (started_at s place sub x.0) x.2
+  | inr x ↦ is r (instruction_steps.start_at s place sub x.0) (started_at s place sub x.0) x.2
 ]
 
-tested_at : (s : State) (cpu address : ℕ) (place : Option ℕ) (sub : Option Subchannel) → Sound (spec.test_at s cpu address place sub)
+tested_at : (s : State) (cpu address : ℕ) (place : Option ℕ) (sub : Option Subchannel) → Sound (instruction_steps.test_at s cpu address place sub)
 tested_at s cpu address None sub = tt
 tested_at s cpu address (Some place) None = tt
 tested_at s cpu address (Some place) (Some sub) = tt
 
-tested : (s : State) (cpu address : ℕ) (place : Option ℕ) (sub : Option Subchannel) (x : Result (Unit {0}) StorageFault) → Sound (spec.tests s cpu address place sub x)
+tested : (s : State) (cpu address : ℕ) (place : Option ℕ) (sub : Option Subchannel) (x : Result (Unit {0}) StorageFault) → Sound (instruction_steps.tests s cpu address place sub x)
 tested s cpu address place sub (Err f) = tt
 tested s cpu address place sub (Ok u) = tested_at s cpu address place sub
 
-stored_at : (s : State) (cpu address : ℕ) (place : Option ℕ) (sub : Option Subchannel) → Sound (spec.store_at s cpu address place sub)
+stored_at : (s : State) (cpu address : ℕ) (place : Option ℕ) (sub : Option Subchannel) → Sound (instruction_steps.store_at s cpu address place sub)
 stored_at s cpu address None sub = tt
 stored_at s cpu address (Some place) None = tt
 stored_at s cpu address (Some place) (Some sub) = tt
 
-stores : (s : State) (cpu address : ℕ) (place : Option ℕ) (sub : Option Subchannel) (x : Result (Unit {0}) StorageFault) → Sound (spec.stores s cpu address place sub x)
+stores : (s : State) (cpu address : ℕ) (place : Option ℕ) (sub : Option Subchannel) (x : Result (Unit {0}) StorageFault) → Sound (instruction_steps.stores s cpu address place sub x)
 stores s cpu address place sub (Err f) = tt
 stores s cpu address place sub (Ok u) = stored_at s cpu address place sub
 
-modified_at : (s : State) (place : Option ℕ) (sub : Option Subchannel) (given : block.Pmcw) → Sound (spec.modify_at s place sub given)
+modified_at : (s : State) (place : Option ℕ) (sub : Option Subchannel) (given : block.Pmcw) → Sound (instruction_steps.modify_at s place sub given)
 modified_at s None sub given = tt
 modified_at s (Some place) None given = tt
 modified_at s (Some place) (Some sub) given = tt
 
-modifies_by : (s : State) (place : Option ℕ) (sub : Option Subchannel) (image : List ℕ) (r : Outcome) → spec.Modifies_by s place sub image r → Sound r
+modifies_by : (s : State) (place : Option ℕ) (sub : Option Subchannel) (image : List ℕ) (r : Outcome) → instruction_steps.Modifies_by s place sub image r → Sound r
 modifies_by s place sub image r e = elim e.2 [
   | inl x ↦ is r (Err Operand) tt x.1
-  | inr x ↦ is r (spec.modify_at s place sub e.0) (modified_at s place sub e.0) x.1
+  | inr x ↦ is r (instruction_steps.modify_at s place sub e.0) (modified_at s place sub e.0) x.1
 ]
 
-modifies : (s : State) (place : Option ℕ) (sub : Option Subchannel) (image : Result (List ℕ) StorageFault) (r : Outcome) → spec.Modifies s place sub image r → Sound r
+modifies : (s : State) (place : Option ℕ) (sub : Option Subchannel) (image : Result (List ℕ) StorageFault) (r : Outcome) → instruction_steps.Modifies s place sub image r → Sound r
 modifies s place sub (Err f) r e = is r (Err (Storage f)) tt e
 modifies s place sub (Ok image) r e = modifies_by s place sub image r e
 
 enables_with : (s : State) (cpu : ℕ) (place : Option ℕ) (sub : Option Subchannel) (subclass : ℕ) (multipath : Bool) (image : List ℕ) (r : Outcome) →
-    spec.Enables_with s cpu place sub subclass multipath image r → Sound r
-enables_with s cpu None sub subclass multipath image r e = modifies_by (spec.with_enabling s cpu image subclass multipath) None sub image r e
-enables_with s cpu (Some place) None subclass multipath image r e = modifies_by (spec.with_enabling s cpu image subclass multipath) (Some place) None image r e
-enables_with s cpu (Some place) (Some sub) subclass multipath image r e = is r (spec.enable_sub s cpu place sub subclass multipath) tt e
+    instruction_steps.Enables_with s cpu place sub subclass multipath image r → Sound r
+enables_with s cpu None sub subclass multipath image r e = modifies_by (instruction_steps.with_enabling s cpu image subclass multipath) None sub image r e
+enables_with s cpu (Some place) None subclass multipath image r e = modifies_by (instruction_steps.with_enabling s cpu image subclass multipath) (Some place) None image r e
+enables_with s cpu (Some place) (Some sub) subclass multipath image r e = is r (instruction_steps.enable_sub s cpu place sub subclass multipath) tt e
 
 enables : (s : State) (cpu : ℕ) (place : Option ℕ) (sub : Option Subchannel) (subclass : ℕ) (multipath : Bool) (image : Result (List ℕ) StorageFault) (r : Outcome) →
-    spec.Enables s cpu place sub subclass multipath image r → Sound r
+    instruction_steps.Enables s cpu place sub subclass multipath image r → Sound r
 enables s cpu place sub subclass multipath (Err f) r e = is r (Err (Storage f)) tt e
 enables s cpu place sub subclass multipath (Ok image) r e = enables_with s cpu place sub subclass multipath image r e
 
-function_at : (s : State) (place : Option ℕ) (sub : Option Subchannel) (turn : Subchannel → SubTurn) → Sound (spec.function_at s place sub turn)
+function_at : (s : State) (place : Option ℕ) (sub : Option Subchannel) (turn : Subchannel → SubTurn) → Sound (instruction_steps.function_at s place sub turn)
 function_at s None sub turn = tt
 function_at s (Some place) None turn = tt
 function_at s (Some place) (Some sub) turn = tt
 
-executes_at : (s : State) (cpu : ℕ) (i : Instruction) (place : Option ℕ) (sub : Option Subchannel) (r : Outcome) → spec.Executes_at s cpu i place sub r → Sound r
+executes_at : (s : State) (cpu : ℕ) (i : Instruction) (place : Option ℕ) (sub : Option Subchannel) (r : Outcome) → instruction_steps.Executes_at s cpu i place sub r → Sound r
 executes_at s cpu (instruction.Ssch word address) place sub r e = starts s place sub (operand_at s.storage cpu address 12 4) r e
 executes_at s cpu (instruction.Tsch word address) place sub r e =
-    is r (spec.tests s cpu address place sub (operand_check s.storage cpu address 64 4)) (tested s cpu address place sub (operand_check s.storage cpu address 64 4)) e
+    is r (instruction_steps.tests s cpu address place sub (operand_check s.storage cpu address 64 4)) (tested s cpu address place sub (operand_check s.storage cpu address 64 4)) e
 executes_at s cpu (instruction.Stsch word address) place sub r e =
-    is r (spec.stores s cpu address place sub (operand_check s.storage cpu address 52 4)) (stores s cpu address place sub (operand_check s.storage cpu address 52 4)) e
+    is r (instruction_steps.stores s cpu address place sub (operand_check s.storage cpu address 52 4)) (stores s cpu address place sub (operand_check s.storage cpu address 52 4)) e
 executes_at s cpu (instruction.Msch word address) place sub r e = modifies s place sub (operand_at s.storage cpu address 52 4) r e
 executes_at s cpu (instruction.Enable word subclass multipath) place sub r e = enables s cpu place sub subclass multipath (operand_at s.storage cpu 0xF00 52 4) r e
-executes_at s cpu (instruction.Rsch word) place sub r e = is r (spec.function_at s place sub spec.resume_sub) (function_at s place sub spec.resume_sub) e
-executes_at s cpu (instruction.Hsch word) place sub r e = is r (spec.function_at s place sub spec.halt_sub) (function_at s place sub spec.halt_sub) e
-executes_at s cpu (instruction.Csch word) place sub r e = is r (spec.function_at s place sub spec.clear_sub) (function_at s place sub spec.clear_sub) e
-executes_at s cpu (instruction.Xsch word) place sub r e = is r (spec.function_at s place sub spec.cancel_sub) (function_at s place sub spec.cancel_sub) e
+executes_at s cpu (instruction.Rsch word) place sub r e = is r (instruction_steps.function_at s place sub instruction_steps.resume_sub) (function_at s place sub instruction_steps.resume_sub) e
+executes_at s cpu (instruction.Hsch word) place sub r e = is r (instruction_steps.function_at s place sub instruction_steps.halt_sub) (function_at s place sub instruction_steps.halt_sub) e
+executes_at s cpu (instruction.Csch word) place sub r e = is r (instruction_steps.function_at s place sub instruction_steps.clear_sub) (function_at s place sub instruction_steps.clear_sub) e
+executes_at s cpu (instruction.Xsch word) place sub r e = is r (instruction_steps.function_at s place sub instruction_steps.cancel_sub) (function_at s place sub instruction_steps.cancel_sub) e
 
-executes_on : (s : State) (cpu : ℕ) (i : Instruction) (id : Option SubchannelId) (r : Outcome) → spec.Executes_on s cpu i id r → Sound r
+executes_on : (s : State) (cpu : ℕ) (i : Instruction) (id : Option SubchannelId) (r : Outcome) → instruction_steps.Executes_on s cpu i id r → Sound r
 executes_on s cpu i None r e = is r (Err Operand) tt e
 executes_on s cpu i (Some id) r e = executes_at s cpu i (place_in id s.subs) (sub_at s.subs (place_in id s.subs)) r e
 
 -- Choose
-sends : (sub : Subchannel) (state : SubchannelState) (path : ℕ) (signal : Down) (r : Reply) → Sound (spec.send_sub sub state path signal r)
-sends sub state path signal r = either (spec.is_full sub.wires.down path) (Err WireFull)
-    (Ok (spec.leaves r (record sub { state = state; wires = record sub.wires { down = sent sub.wires.down path signal } }))) tt tt
+sends : (sub : Subchannel) (state : SubchannelState) (path : ℕ) (signal : Down) (r : Reply) → Sound (choose_spec.send_sub sub state path signal r)
+sends sub state path signal r = either (sending_spec.is_full sub.wires.down path) (Err WireFull)
+    (Ok (turn_spec.leaves r (record sub { state = state; wires = record sub.wires { down = sent sub.wires.down path signal } }))) tt tt
 
-chooses_sub : (sub : Subchannel) (what : Chosen) → Sound (spec.choose_sub sub what)
+chooses_sub : (sub : Subchannel) (what : Chosen) → Sound (choose_spec.choose_sub sub what)
 chooses_sub sub Idle = tt
 chooses_sub sub (Resets r path) = sends sub (reset_sent sub.state path) path (down.Reset r sub.state.hold.known) (reply.ResetSent r path)
 chooses_sub sub Clears = tt
@@ -152,93 +162,93 @@ chooses_sub sub Over = tt
 chooses_sub sub (Offers c path) =
     sends sub (offered sub.state c.program path) path (down.Select (sub.state.drawn + 1)) (reply.Offered (sub.state.drawn + 1) path c.resumes)
 
-at_sub : (s : State) (place : ℕ) (x : Result SubTurn Fault) → Sound x → Sound (spec.at_sub s place x)
+at_sub : (s : State) (place : ℕ) (x : Result SubTurn Fault) → Sound x → Sound (turn_spec.at_sub s place x)
 at_sub s place (Ok t) sound = tt
 at_sub s place (Err f) sound = sound
 
-chooses : (s : State) (place : Option ℕ) (sub : Option Subchannel) (r : Outcome) → spec.Chooses s place sub r → Sound r
+chooses : (s : State) (place : Option ℕ) (sub : Option Subchannel) (r : Outcome) → choose_spec.Chooses s place sub r → Sound r
 chooses s None sub r e = is r (Err NoSuchSubchannel) tt e
 chooses s (Some place) None r e = is r (Err NoSuchSubchannel) tt e
 chooses s (Some place) (Some sub) r e =
-    let x = spec.choose_sub sub (chosen sub e.0) in
-    is r (spec.at_sub s place x) (at_sub s place x (chooses_sub sub (chosen sub e.0))) e.2
+    let x = choose_spec.choose_sub sub (chosen sub e.0) in
+    is r (turn_spec.at_sub s place x) (at_sub s place x (chooses_sub sub (chosen sub e.0))) e.2
 
 -- Up
-up_front : (returns : Bool) (storage : Contents) (sub : Subchannel) (path : ℕ) (signal : Option Up) → Sound (spec.up_front returns storage sub path signal)
+up_front : (returns : Bool) (storage : Contents) (sub : Subchannel) (path : ℕ) (signal : Option Up) → Sound (up_spec.up_front returns storage sub path signal)
 up_front returns storage sub path None = tt
 up_front returns storage sub path (Some signal) =
     let m = takes_up returns storage sub.state path signal in
-    either (spec.finds_full sub.wires.down m.step.came.sent) (Err WireFull)
-    (Ok (record { reply = reply.Up signal m.step.came.taken m.step.came.sent; sub = spec.with_met sub path m.step; storage = m.storage })) tt tt
+    either (sending_spec.finds_full sub.wires.down m.step.came.sent) (Err WireFull)
+    (Ok (record { reply = reply.Up signal m.step.came.taken m.step.came.sent; sub = up_spec.with_met sub path m.step; storage = m.storage })) tt tt
 
-up_sub : (returns : Bool) (storage : Contents) (sub : Subchannel) (path : ℕ) → Sound (spec.up_sub returns storage sub path)
+up_sub : (returns : Bool) (storage : Contents) (sub : Subchannel) (path : ℕ) → Sound (up_spec.up_sub returns storage sub path)
 up_sub returns storage sub path =
-    let x = spec.up_front returns storage sub path (slice_get (queue sub.wires.up path) 0) in
+    let x = up_spec.up_front returns storage sub path (slice_get (queue sub.wires.up path) 0) in
     either (nat_lt path (length sub.setup.paths)) x (Err NoSuchPath) (up_front returns storage sub path (slice_get (queue sub.wires.up path) 0)) tt
 
-at_storage : (s : State) (place : ℕ) (x : Result UpTurn Fault) → Sound x → Sound (spec.at_storage s place x)
+at_storage : (s : State) (place : ℕ) (x : Result UpTurn Fault) → Sound x → Sound (turn_spec.at_storage s place x)
 at_storage s place (Ok t) sound = tt
 at_storage s place (Err f) sound = sound
 
-up_at : (s : State) (place : Option ℕ) (sub : Option Subchannel) (path : ℕ) → Sound (spec.up_at s place sub path)
+up_at : (s : State) (place : Option ℕ) (sub : Option Subchannel) (path : ℕ) → Sound (up_spec.up_at s place sub path)
 up_at s None sub path = tt
 up_at s (Some place) None path = tt
-up_at s (Some place) (Some sub) path = at_storage s place (spec.up_sub false s.storage sub path) (up_sub false s.storage sub path)
+up_at s (Some place) (Some sub) path = at_storage s place (up_spec.up_sub false s.storage sub path) (up_sub false s.storage sub path)
 
 -- Down and Report
-down_front : (may : Bool) (sub : Subchannel) (path : ℕ) (u : UnitState) (signal : Option Down) → Sound (spec.down_front may sub path u signal)
+down_front : (may : Bool) (sub : Subchannel) (path : ℕ) (u : UnitState) (signal : Option Down) → Sound (down_spec.down_front may sub path u signal)
 down_front may sub path u None = tt
 down_front may sub path u (Some signal) =
     let step = unit_takes u sub.setup.side path signal may in
-    either (spec.finds_full sub.wires.up (unit_table.came_of step).sent) (Err WireFull)
+    either (sending_spec.finds_full sub.wires.up (unit_table.came_of step).sent) (Err WireFull)
     (Ok (record {
       reply = reply.Down signal (unit_table.came_of step).taken (unit_table.came_of step).sent;
-      sub = record sub { wires = record { down = taken sub.wires.down path; up = spec.with_any_sent sub.wires.up (unit_table.came_of step).sent } };
+      sub = record sub { wires = record { down = taken sub.wires.down path; up = sending_spec.with_any_sent sub.wires.up (unit_table.came_of step).sent } };
       «unit» = unit_after u step;
     })) tt tt
 
-down_sub : (may : Bool) (sub : Subchannel) (path : ℕ) (u : UnitState) → Sound (spec.down_sub may sub path u)
+down_sub : (may : Bool) (sub : Subchannel) (path : ℕ) (u : UnitState) → Sound (down_spec.down_sub may sub path u)
 down_sub may sub path u =
-    let x = spec.down_front may sub path u (slice_get (queue sub.wires.down path) 0) in
+    let x = down_spec.down_front may sub path u (slice_get (queue sub.wires.down path) 0) in
     either (nat_lt path (length sub.setup.paths)) x (Err NoSuchPath) (down_front may sub path u (slice_get (queue sub.wires.down path) 0)) tt
 
-at_unit : (s : State) (place k : ℕ) (x : Result DownTurn Fault) → Sound x → Sound (spec.at_unit s place k x)
+at_unit : (s : State) (place k : ℕ) (x : Result DownTurn Fault) → Sound x → Sound (turn_spec.at_unit s place k x)
 at_unit s place k (Ok t) sound = tt
 at_unit s place k (Err f) sound = sound
 
-down_unit : (s : State) (place : ℕ) (sub : Subchannel) (path : ℕ) (u : Option UnitState) → Sound (spec.down_unit s place sub path u)
+down_unit : (s : State) (place : ℕ) (sub : Subchannel) (path : ℕ) (u : Option UnitState) → Sound (down_spec.down_unit s place sub path u)
 down_unit s place sub path None = tt
-down_unit s place sub path (Some u) = at_unit s place sub.setup.«unit» (spec.down_sub true sub path u) (down_sub true sub path u)
+down_unit s place sub path (Some u) = at_unit s place sub.setup.«unit» (down_spec.down_sub true sub path u) (down_sub true sub path u)
 
-down_at : (s : State) (place : Option ℕ) (sub : Option Subchannel) (path : ℕ) → Sound (spec.down_at s place sub path)
+down_at : (s : State) (place : Option ℕ) (sub : Option Subchannel) (path : ℕ) → Sound (down_spec.down_at s place sub path)
 down_at s None sub path = tt
 down_at s (Some place) None path = tt
 down_at s (Some place) (Some sub) path = down_unit s place sub path (slice_get s.units sub.setup.«unit»)
 
-report_taken : (sub : Subchannel) (step : Option UnitStep) → Sound (spec.report_taken sub step)
+report_taken : (sub : Subchannel) (step : Option UnitStep) → Sound (report_spec.report_taken sub step)
 report_taken sub None = tt
-report_taken sub (Some step) = either (spec.finds_full sub.wires.up step.sent) (Err WireFull)
-    (Ok (record { reply = reply.Done; sub = spec.with_any_up sub step.sent; «unit» = step.state })) tt tt
+report_taken sub (Some step) = either (sending_spec.finds_full sub.wires.up step.sent) (Err WireFull)
+    (Ok (record { reply = reply.Done; sub = report_spec.with_any_up sub step.sent; «unit» = step.state })) tt tt
 
-report_to : (s : State) (place : ℕ) (u : UnitState) (report : Report) (at : Option ℕ) (sub : Option Subchannel) → Sound (spec.report_to s place u report at sub)
+report_to : (s : State) (place : ℕ) (u : UnitState) (report : Report) (at : Option ℕ) (sub : Option Subchannel) → Sound (report_spec.report_to s place u report at sub)
 report_to s place u report None sub = tt
 report_to s place u report (Some at) None = tt
-report_to s place u report (Some at) (Some sub) = at_unit s at place (spec.report_sub sub u report) (report_taken sub (unit_reports u report))
+report_to s place u report (Some at) (Some sub) = at_unit s at place (report_spec.report_sub sub u report) (report_taken sub (unit_reports u report))
 
-report_at : (s : State) (place : ℕ) (u : Option UnitState) (report : Report) → Sound (spec.report_at s place u report)
+report_at : (s : State) (place : ℕ) (u : Option UnitState) (report : Report) → Sound (report_spec.report_at s place u report)
 report_at s place None report = tt
 report_at s place (Some u) report = report_to s place u report (reached_in place report.side s.subs) (sub_at s.subs (reached_in place report.side s.subs))
 
 steps : (s : State) (e : Event) (r : Outcome) → spec.Steps s e r → Sound r
-steps s (event.Put address bytes) r e = is r (spec.put_turn s address bytes) (stored s (put s.storage address bytes)) e
-steps s (event.SetKey address key) r e = is r (spec.key_turn s address key) (stored s (key_set s.storage address key)) e
-steps s (event.SetPrefix cpu address) r e = is r (spec.prefix_turn s cpu address) (stored s (prefix_set s.storage cpu address)) e
-steps s (event.Show address count) r e = is r (spec.show_turn s address count) (told s (shown s.storage address count)) e
-steps s (event.Execute cpu i) r e = executes_on s cpu i (subchannel_named s.sets (spec.word_of i)) r e
+steps s (event.Put address bytes) r e = is r (storage_spec.put_turn s address bytes) (stored s (put s.storage address bytes)) e
+steps s (event.SetKey address key) r e = is r (storage_spec.key_turn s address key) (stored s (key_set s.storage address key)) e
+steps s (event.SetPrefix cpu address) r e = is r (storage_spec.prefix_turn s cpu address) (stored s (prefix_set s.storage cpu address)) e
+steps s (event.Show address count) r e = is r (storage_spec.show_turn s address count) (told s (shown s.storage address count)) e
+steps s (event.Execute cpu i) r e = executes_on s cpu i (subchannel_named s.sets (instruction_steps.word_of i)) r e
 steps s (event.Choose word) r e = chooses s (place_of s word) (sub_at s.subs (place_of s word)) r e
-steps s (event.Up word path) r e = is r (spec.up_at s (place_of s word) (sub_at s.subs (place_of s word)) path) (up_at s (place_of s word) (sub_at s.subs (place_of s word)) path) e
-steps s (event.Down word path) r e = is r (spec.down_at s (place_of s word) (sub_at s.subs (place_of s word)) path) (down_at s (place_of s word) (sub_at s.subs (place_of s word)) path) e
-steps s (event.Report place report) r e = is r (spec.report_at s place (slice_get s.units place) report) (report_at s place (slice_get s.units place) report) e
+steps s (event.Up word path) r e = is r (up_spec.up_at s (place_of s word) (sub_at s.subs (place_of s word)) path) (up_at s (place_of s word) (sub_at s.subs (place_of s word)) path) e
+steps s (event.Down word path) r e = is r (down_spec.down_at s (place_of s word) (sub_at s.subs (place_of s word)) path) (down_at s (place_of s word) (sub_at s.subs (place_of s word)) path) e
+steps s (event.Report place report) r e = is r (report_spec.report_at s place (slice_get s.units place) report) (report_at s place (slice_get s.units place) report) e
 
 pub never : (s : State) (e : Event) → ¬ IsRefused s e NoMemory
 never s e refused = steps s e (Err NoMemory) refused

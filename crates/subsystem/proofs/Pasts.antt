@@ -2,9 +2,9 @@
 use Rattle.std.proofs.Common.{◌≡◌, refl, ℕ, ◌∙◌, sym, subst, List, [], ◌∷◌, ◌++◌}
 use Rattle.channel_config.specs.Lawful.{IsLawful}
 use Rattle.channel_config.specs.Setup.{Setup, set_count}
-use Rattle.chan_model.specs.declared.event.Event.{Event}
-use Rattle.chan_model.specs.declared.reply.Entry.{Entry}
-use Rattle.chan_model.specs.declared.reply.Reply.{Reply}
+use Rattle.chan_events.specs.declared.event.Event.{Event}
+use Rattle.chan_events.specs.declared.reply.Entry.{Entry}
+use Rattle.chan_events.specs.declared.reply.Reply.{Reply}
 use Rattle.machine_laws.specs.Agreeing.{AllAgree}
 use Rattle.machine_laws.specs.Beginnings.{IsBegunOnce}
 use Rattle.program_laws.specs.Claims.{AllTold, HasTold}

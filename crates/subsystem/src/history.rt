@@ -2,7 +2,7 @@
 
 ghost use Rattle.std.specs.Prelude.{◌≡◌, ◌<◌, ◌↔◌, IsSome, IfSome, Some, length, slice_get, MatchOption};
 
-use chan_model::reply::Entry;
+use chan_events::reply::Entry;
 use std::marker::Model;
 
 /// The accepted events with their replies, the oldest first.
@@ -13,7 +13,7 @@ pub struct History<'a> {
 
 impl<'a> Model for History<'a> {
     ghost use Rattle.std.specs.Prelude.{List};
-    ghost use Rattle.chan_model.specs.declared.reply.Entry.{Entry};
+    ghost use Rattle.chan_events.specs.declared.reply.Entry.{Entry};
 
     ghost Value = { List Entry };
 

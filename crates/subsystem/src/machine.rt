@@ -1,38 +1,42 @@
 //! A channel subsystem without its history: what each event does to the whole.
 
 ghost use Rattle.std.specs.Prelude.{◌≡◌, ◌<◌, ◌≤◌, ◌+◌, ℕ, All, Err, None, Some, IfErr, IfOk, IfSome, OnErr, length, slice_index_or};
-ghost use Rattle.machine_model.specs.declared.state.Subchannel.{Subchannel};
+ghost use Rattle.subchannel_model.specs.declared.state.Subchannel.{Subchannel};
 ghost use Rattle.machine_model.specs.State as state_spec;
 ghost use Rattle.machine_model.specs.Ruled.{GoesByRule};
+ghost use Rattle.machine_model.specs.InstructionSteps as instruction_steps;
+ghost use Rattle.subsystem.specs.Giving as giving_spec;
+ghost use Rattle.machine_model.specs.StorageSteps as storage_spec;
 ghost use Rattle.machine_model.specs.Steps as spec;
 ghost use Rattle.machine_model.specs.Bounds.{IsRoomy, IsUnitRoomy};
-ghost use Rattle.chan_model.specs.declared.event.Event.TheVariants as event_spec;
+ghost use Rattle.chan_events.specs.declared.event.Event.TheVariants as event_spec;
 ghost use Rattle.finding.specs.Tables.{Fits};
 
 use crate::turns::{choose_sub, down_sub, report_sub, up_sub};
 use crate::unit_turns::turn_of_unit;
+use chan_events::event::{Event, Instruction};
+use chan_events::reply::Reply;
 use chan_model::chunk::{Chunk, ChunkLength};
-use chan_model::event::{Event, Instruction};
 use chan_model::fault::Fault;
 use chan_model::names::Cpu;
-use chan_model::reply::Reply;
 use chan_model::report::Report;
 use channel_config::names::subchannel_named;
 use finding::engines::{Counted, Engines, engaged};
 use finding::tables::Places;
 use io_step::{execute, execute_absent};
-use machine_model::state::{Subchannel, UnitTurn};
+use machine_model::state::UnitTurn;
 use path_select::PathChoice;
 use scsw_irb::serials::Serials;
 use std::marker::Model;
 use storage_keys::Storage;
 use storage_keys::key::Key;
 use subchannel::choosing::{chosen, paths_to_choose};
+use subchannel_model::state::Subchannel;
 use unit::Unit;
 
 /// General register 1: the word that names the subchannel of an instruction.
 fn word_of(instruction: Instruction) -> u32
-    ensures { result ≡ spec.word_of instruction }
+    ensures { result ≡ instruction_steps.word_of instruction }
 {
     match instruction {
         Instruction::Ssch { subchannel, .. }
@@ -105,7 +109,7 @@ impl Machine {
     }
 
     fn put(&mut self, address: u32, bytes: &Chunk) -> Result<Reply, Fault>
-        ensures { spec.Gives self.old (spec.put_turn self.old address bytes.now) result self.new }
+        ensures { giving_spec.Gives self.old (storage_spec.put_turn self.old address bytes.now) result self.new }
     {
         match self.storage.put(address, bytes.as_slice()) {
             Ok(()) => Ok(Reply::Done),
@@ -114,7 +118,7 @@ impl Machine {
     }
 
     fn set_key(&mut self, address: u32, key: Key) -> Result<Reply, Fault>
-        ensures { spec.Gives self.old (spec.key_turn self.old address key) result self.new }
+        ensures { giving_spec.Gives self.old (storage_spec.key_turn self.old address key) result self.new }
     {
         match self.storage.set_key(address, key) {
             Ok(()) => Ok(Reply::Done),
@@ -123,7 +127,7 @@ impl Machine {
     }
 
     fn set_prefix(&mut self, cpu: Cpu, address: u32) -> Result<Reply, Fault>
-        ensures { spec.Gives self.old (spec.prefix_turn self.old cpu address) result self.new }
+        ensures { giving_spec.Gives self.old (storage_spec.prefix_turn self.old cpu address) result self.new }
     {
         match self.storage.set_prefix(cpu.number(), address) {
             Ok(()) => Ok(Reply::Done),
@@ -132,7 +136,7 @@ impl Machine {
     }
 
     fn show(&self, address: u32, length: ChunkLength) -> Result<Reply, Fault>
-        ensures { spec.Gives self.now (spec.show_turn self.now address length) result self.now }
+        ensures { giving_spec.Gives self.now (storage_spec.show_turn self.now address length) result self.now }
     {
         match self.storage.show(address, length.get()) {
             Ok(bytes) => Ok(Reply::Shown {

@@ -3,6 +3,7 @@
 ghost use Rattle.std.specs.Prelude.{◌≡◌, ◌≢◌, ◌⊎◌, ◌+◌, ◌<◌, ◌≤◌, Err, ◌++◌, ◌∷◌, [], ℕ, IfOk, IfErr, OnErr, OnOk, All, length, map, true, vec_len, vec_capacity, option_map};
 ghost use Rattle.chan_model.specs.declared.fault.Fault.TheVariants as fault_spec;
 ghost use Rattle.machine_model.specs.State as state_spec;
+ghost use Rattle.subchannel_model.specs.Opening as opening_spec;
 ghost use Rattle.machine_model.specs.Ruled.{GoesByRule};
 ghost use Rattle.machine_model.specs.State.{IsAsBefore, LacksRoom};
 ghost use Rattle.machine_model.specs.Steps.{Step, IsRefused, HasRun};
@@ -18,16 +19,16 @@ ghost use Rattle.machine_laws.specs.Beginnings.{IsBegunOnce};
 
 use crate::history::History;
 use crate::machine::Machine;
-use chan_model::event::Event;
+use chan_events::event::Event;
+use chan_events::reply::{Entry, Reply};
 use chan_model::fault::Fault;
-use chan_model::reply::{Entry, Reply};
 use channel_config::config::Config;
 use channel_config::parts::{SubchannelSetup, UnitKind};
 use finding::engines::Engines;
 use finding::tables::Places;
 use hold::Hold;
 use machine_laws::{agreements, beginnings, numbers, serials, setups, steps};
-use machine_model::state::{Pmcw, Subchannel, SubchannelState, UnitTurn};
+use machine_model::state::UnitTurn;
 use path_select::PathChoice;
 use program_laws::programs;
 use scsw_irb::scsw::Scsw;
@@ -35,6 +36,7 @@ use scsw_irb::serials::Serials;
 use std::alloc::{AllocError, Global};
 use std::marker::Model;
 use storage_keys::Storage;
+use subchannel_model::state::{Pmcw, Subchannel, SubchannelState};
 use supply::{Given, Supply, push};
 use unit::Unit;
 use wires::Wires;
@@ -251,7 +253,7 @@ fn append(history: &mut Vec<Entry>, entry: Entry)
 
 /// A subchannel at the opening.
 fn opened(setup: &SubchannelSetup) -> Subchannel
-    ensures { result ≡ state_spec.opened setup.now }
+    ensures { result ≡ opening_spec.opened setup.now }
 {
     Subchannel {
         setup: setup.copy(),
@@ -261,7 +263,7 @@ fn opened(setup: &SubchannelSetup) -> Subchannel
 }
 
 fn opening_pmcw() -> Pmcw
-    ensures { result ≡ state_spec.opening_pmcw }
+    ensures { result ≡ opening_spec.opening_pmcw }
 {
     Pmcw {
         parameter: 0,
@@ -276,7 +278,7 @@ fn opening_pmcw() -> Pmcw
 }
 
 fn opening_subchannel() -> SubchannelState
-    ensures { result ≡ state_spec.opening_subchannel }
+    ensures { result ≡ opening_spec.opening_subchannel }
 {
     SubchannelState {
         pmcw: opening_pmcw(),
@@ -302,7 +304,7 @@ fn opened_all<S: Supply>(
     supply: &mut S,
     setups: &[SubchannelSetup],
 ) -> Result<Vec<Subchannel>, AllocError>
-    ensures opened { IfOk result (λ subs. subs.items ≡ map state_spec.opened setups.now) }
+    ensures opened { IfOk result (λ subs. subs.items ≡ map opening_spec.opened setups.now) }
     ensures given { OnOk result (S.refused supply.new ≡ S.refused supply.old) }
     ensures memory { OnErr result (S.refused supply.new ≡ true) }
 {

@@ -2,11 +2,12 @@
 //! turns of a unit.
 
 use crate::subsystem::{NotMade, Subsystem};
+use chan_events::event::{Event, Instruction};
+use chan_events::reply::Reply;
+use chan_model::answer::Answer;
 use chan_model::chunk::Chunk;
-use chan_model::event::{Event, Instruction};
 use chan_model::fault::Fault;
 use chan_model::names::{Cpu, Side};
-use chan_model::reply::{Answer, Reply};
 use chan_model::report::{Call, DeviceAnswer, Report, Work};
 use channel_config::config::Config;
 use channel_config::names::SubchannelId;

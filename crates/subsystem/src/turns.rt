@@ -1,34 +1,39 @@
 //! What an event does at one subchannel.
 
 ghost use Rattle.std.specs.Prelude.{◌≡◌, ◌<◌, ◌^◌, true, false, length};
-ghost use Rattle.machine_model.specs.Steps as spec;
-ghost use Rattle.machine_model.specs.Choosing as choosing_spec;
-ghost use Rattle.machine_model.specs.Taking.{IsBelow, takes_up};
-ghost use Rattle.machine_model.specs.declared.state.Chosen.TheVariants as chosen_spec;
+ghost use Rattle.subsystem.specs.Giving as giving_spec;
+ghost use Rattle.machine_model.specs.ChooseSteps as choose_spec;
+ghost use Rattle.subchannel_model.specs.Sending as sending_spec;
+ghost use Rattle.machine_model.specs.UpSteps as up_spec;
+ghost use Rattle.machine_model.specs.DownSteps as down_spec;
+ghost use Rattle.machine_model.specs.ReportSteps as report_spec;
+ghost use Rattle.subchannel_model.specs.Choosing as choosing_spec;
+ghost use Rattle.subchannel_model.specs.Taking.{IsBelow, takes_up};
+ghost use Rattle.subchannel_model.specs.declared.state.Chosen.TheVariants as chosen_spec;
 ghost use Rattle.machine_model.specs.Bounds.{IsRoomy, IsUnitRoomy};
 ghost use Rattle.chan_model.specs.UnitReports as reports_spec;
 ghost use Rattle.chan_model.specs.UnitTable as unit_spec;
 ghost use Rattle.wires.specs.Queues.{queue};
 ghost use Rattle.finding.specs.Tables.{engaged};
 
+use chan_events::reply::Reply;
 use chan_model::fault::Fault;
 use chan_model::names::{Path, Side};
-use chan_model::reply::Reply;
 use chan_model::report::{Report, ReportPath};
 use chan_model::signal::{Down, OnPath, Taken, Up};
-use machine_model::cause::Cause;
-use machine_model::state::{Candidate, Chosen, Subchannel};
 use status::make_pending;
 use storage_keys::Storage;
 use subchannel::answering::answer_path;
 use subchannel::choosing::{offer, send_halt, send_reset};
 use subchannel::taking::take_up;
+use subchannel_model::cause::Cause;
+use subchannel_model::state::{Candidate, Chosen, Subchannel};
 use unit::Unit;
 use wires::Wires;
 
 /// The Reset that is due is sent on a path.
 fn reset_sub(sub: &mut Subchannel, number: u64, path: Path) -> Result<Reply, Fault>
-    ensures { spec.GivesSub sub.old (spec.choose_sub sub.old (chosen_spec.Resets number path)) result sub.new }
+    ensures { giving_spec.GivesSub sub.old (choose_spec.choose_sub sub.old (chosen_spec.Resets number path)) result sub.new }
 {
     if sub.wires.down_is_full(path) {
         return Err(Fault::WireFull);
@@ -44,7 +49,7 @@ fn reset_sub(sub: &mut Subchannel, number: u64, path: Path) -> Result<Reply, Fau
 
 /// A Halt is sent on a path.
 fn halt_on(sub: &mut Subchannel, number: u64, path: Path) -> Result<Reply, Fault>
-    ensures { spec.GivesSub sub.old (spec.choose_sub sub.old (chosen_spec.Halts number path)) result sub.new }
+    ensures { giving_spec.GivesSub sub.old (choose_spec.choose_sub sub.old (chosen_spec.Halts number path)) result sub.new }
 {
     if sub.wires.down_is_full(path) {
         return Err(Fault::WireFull);
@@ -58,7 +63,7 @@ fn halt_on(sub: &mut Subchannel, number: u64, path: Path) -> Result<Reply, Fault
 fn offer_sub(sub: &mut Subchannel, candidate: Candidate, path: Path) -> Result<Reply, Fault>
     requires roomy { IsRoomy sub.old }
     requires free { choosing_spec.IsFitFor (chosen_spec.Offers candidate path) sub.old.state.hold }
-    ensures { spec.GivesSub sub.old (spec.choose_sub sub.old (chosen_spec.Offers candidate path)) result sub.new }
+    ensures { giving_spec.GivesSub sub.old (choose_spec.choose_sub sub.old (chosen_spec.Offers candidate path)) result sub.new }
 {
     if sub.wires.down_is_full(path) {
         return Err(Fault::WireFull);
@@ -76,7 +81,7 @@ fn offer_sub(sub: &mut Subchannel, candidate: Candidate, path: Path) -> Result<R
 /// A status is made pending.
 fn pend_sub(sub: &mut Subchannel, cause: &Cause) -> Result<Reply, Fault>
     requires { IsRoomy sub.old }
-    ensures { spec.GivesSub sub.old (spec.pend_sub sub.old cause.now) result sub.new }
+    ensures { giving_spec.GivesSub sub.old (choose_spec.pend_sub sub.old cause.now) result sub.new }
 {
     make_pending(&mut sub.state, cause);
     Ok(Reply::Pending)
@@ -86,7 +91,7 @@ fn pend_sub(sub: &mut Subchannel, cause: &Cause) -> Result<Reply, Fault>
 pub fn choose_sub(sub: &mut Subchannel, chosen: Chosen) -> Result<Reply, Fault>
     requires roomy { IsRoomy sub.old }
     requires fits { choosing_spec.IsFitFor chosen sub.old.state.hold }
-    ensures { spec.GivesSub sub.old (spec.choose_sub sub.old chosen) result sub.new }
+    ensures { giving_spec.GivesSub sub.old (choose_spec.choose_sub sub.old chosen) result sub.new }
 {
     match chosen {
         Chosen::Idle => Ok(Reply::Idle),
@@ -100,7 +105,7 @@ pub fn choose_sub(sub: &mut Subchannel, chosen: Chosen) -> Result<Reply, Fault>
 }
 
 fn finds_down_full(wires: &Wires, path: Path) -> bool
-    ensures full { result ≡ spec.is_full wires.now.down path }
+    ensures full { result ≡ sending_spec.is_full wires.now.down path }
     ensures room { result ≡ false → length (queue wires.now.down path) < 8 }
 {
     wires.down_is_full(path)
@@ -110,8 +115,8 @@ fn finds_down_full(wires: &Wires, path: Path) -> bool
 #[tactic(auto, using(crate::proofs::Answered::finds_none, crate::proofs::Answered::finds_some, crate::proofs::Answered::room_none, crate::proofs::Answered::room_some))]
 fn up_finds_full(storage: &Storage, sub: &Subchannel, path: Path, signal: &Up) -> bool
     requires { IsBelow sub.now.state.begun }
-    ensures full { result ≡ spec.finds_full sub.now.wires.down (takes_up false storage.now sub.now.state path signal.now).step.came.sent }
-    ensures room { spec.HasRoom sub.now.wires.down (takes_up false storage.now sub.now.state path signal.now).step.came.sent result }
+    ensures full { result ≡ sending_spec.finds_full sub.now.wires.down (takes_up false storage.now sub.now.state path signal.now).step.came.sent }
+    ensures room { giving_spec.HasRoom sub.now.wires.down (takes_up false storage.now sub.now.state path signal.now).step.came.sent result }
 {
     match answer_path(storage, &sub.state, path, signal, false) {
         None => false,
@@ -120,8 +125,8 @@ fn up_finds_full(storage: &Storage, sub: &Subchannel, path: Path, signal: &Up) -
 }
 
 fn send_any_down(wires: &mut Wires, sent: &Option<OnPath<Down>>)
-    requires { spec.HasRoom wires.old.down sent.now false }
-    ensures { wires.new ≡ record wires.old { down = spec.with_any_sent wires.old.down sent.now } }
+    requires { giving_spec.HasRoom wires.old.down sent.now false }
+    ensures { wires.new ≡ record wires.old { down = sending_spec.with_any_sent wires.old.down sent.now } }
 {
     if let Some(signal) = sent {
         wires.send_down(signal.path, signal.signal.copy());
@@ -130,7 +135,7 @@ fn send_any_down(wires: &mut Wires, sent: &Option<OnPath<Down>>)
 
 /// A path of the subchannel.
 fn path_of(sub: &Subchannel, path: u32) -> Option<Path>
-    ensures { spec.PathOf sub.now path result }
+    ensures { giving_spec.PathOf sub.now path result }
 {
     if (path as usize) < sub.setup.paths.as_slice().len() {
         Path::new(path)
@@ -143,7 +148,7 @@ fn path_of(sub: &Subchannel, path: u32) -> Option<Path>
 /// room.
 pub fn up_sub(storage: &mut Storage, sub: &mut Subchannel, path: u32) -> Result<Reply, Fault>
     requires { IsRoomy sub.old }
-    ensures { spec.GivesStorage storage.old sub.old (spec.up_sub false storage.old sub.old path) result storage.new sub.new }
+    ensures { giving_spec.GivesStorage storage.old sub.old (up_spec.up_sub false storage.old sub.old path) result storage.new sub.new }
 {
     let Some(path) = path_of(sub, path) else {
         return Err(Fault::NoSuchPath);
@@ -166,15 +171,15 @@ pub fn up_sub(storage: &mut Storage, sub: &mut Subchannel, path: u32) -> Result<
 
 /// Whether the answer of a unit to a signal finds its wire full.
 fn answer_finds_full(wires: &Wires, unit: &Unit, side: Side, path: Path, signal: &Down) -> bool
-    ensures full { result ≡ spec.finds_full wires.now.up (unit_spec.came_of (unit_spec.unit_takes «unit».now side path signal.now true)).sent }
-    ensures room { spec.HasRoom wires.now.up (unit_spec.came_of (unit_spec.unit_takes «unit».now side path signal.now true)).sent result }
+    ensures full { result ≡ sending_spec.finds_full wires.now.up (unit_spec.came_of (unit_spec.unit_takes «unit».now side path signal.now true)).sent }
+    ensures room { giving_spec.HasRoom wires.now.up (unit_spec.came_of (unit_spec.unit_takes «unit».now side path signal.now true)).sent result }
 {
     unit.answers(side, signal) && wires.up_is_full(path)
 }
 
 fn send_any_up(wires: &mut Wires, sent: &Option<OnPath<Up>>)
-    requires { spec.HasRoom wires.old.up sent.now false }
-    ensures { wires.new ≡ record wires.old { up = spec.with_any_sent wires.old.up sent.now } }
+    requires { giving_spec.HasRoom wires.old.up sent.now false }
+    ensures { wires.new ≡ record wires.old { up = sending_spec.with_any_sent wires.old.up sent.now } }
 {
     if let Some(signal) = sent {
         wires.send_up(signal.path, signal.signal.copy());
@@ -184,7 +189,7 @@ fn send_any_up(wires: &mut Wires, sent: &Option<OnPath<Up>>)
 /// The unit takes the signal that waits longest on the wire down of a path.
 pub fn down_sub(sub: &mut Subchannel, unit: &mut Unit, path: u32) -> Result<Reply, Fault>
     ensures engaged { engaged sub.new ≡ engaged sub.old }
-    ensures gives { spec.GivesBoth sub.old «unit».old (spec.down_sub true sub.old path «unit».old) result sub.new «unit».new }
+    ensures gives { giving_spec.GivesBoth sub.old «unit».old (down_spec.down_sub true sub.old path «unit».old) result sub.new «unit».new }
 {
     let Some(path) = path_of(sub, path) else {
         return Err(Fault::NoSuchPath);
@@ -207,7 +212,7 @@ pub fn down_sub(sub: &mut Subchannel, unit: &mut Unit, path: u32) -> Result<Repl
 }
 
 fn finds_up_full(wires: &Wires, path: Path) -> bool
-    ensures full { result ≡ spec.is_full wires.now.up path }
+    ensures full { result ≡ sending_spec.is_full wires.now.up path }
     ensures room { result ≡ false → length (queue wires.now.up path) < 8 }
 {
     wires.up_is_full(path)
@@ -215,8 +220,8 @@ fn finds_up_full(wires: &Wires, path: Path) -> bool
 
 /// Whether what comes of a report finds its wire full.
 fn report_finds_full(wires: &Wires, unit: &Unit, report: &Report) -> bool
-    ensures full { result ≡ spec.finds_full wires.now.up (unit_spec.came_of (reports_spec.unit_reports «unit».now report.now)).sent }
-    ensures room { spec.HasRoom wires.now.up (unit_spec.came_of (reports_spec.unit_reports «unit».now report.now)).sent result }
+    ensures full { result ≡ sending_spec.finds_full wires.now.up (unit_spec.came_of (reports_spec.unit_reports «unit».now report.now)).sent }
+    ensures room { giving_spec.HasRoom wires.now.up (unit_spec.came_of (reports_spec.unit_reports «unit».now report.now)).sent result }
 {
     match unit.report_path(report) {
         ReportPath::SentOn(path) => finds_up_full(wires, path),
@@ -228,7 +233,7 @@ fn report_finds_full(wires: &Wires, unit: &Unit, report: &Report) -> bool
 pub fn report_sub(sub: &mut Subchannel, unit: &mut Unit, report: &Report) -> Result<Reply, Fault>
     requires { IsUnitRoomy «unit».old }
     ensures engaged { engaged sub.new ≡ engaged sub.old }
-    ensures gives { spec.GivesBoth sub.old «unit».old (spec.report_sub sub.old «unit».old report.now) result sub.new «unit».new }
+    ensures gives { giving_spec.GivesBoth sub.old «unit».old (report_spec.report_sub sub.old «unit».old report.now) result sub.new «unit».new }
 {
     if let ReportPath::Refused = unit.report_path(report) {
         return Err(Fault::NotNow);

@@ -2,13 +2,15 @@
 
 ghost use Rattle.std.specs.Prelude.{◌≡◌, ◌<◌, MatchOption, None, Some};
 ghost use Rattle.machine_model.specs.State as state_spec;
+ghost use Rattle.subchannel_model.specs.Places as place_spec;
 ghost use Rattle.machine_model.specs.State.{State};
 ghost use Rattle.finding.specs.Tables.{Fits};
 
 use chan_model::names::{Path, Side};
 use chan_model::unit_state::{Own, Place};
 use finding::tables::Places;
-use machine_model::state::{Subchannel, UnitTurn};
+use machine_model::state::UnitTurn;
+use subchannel_model::state::Subchannel;
 use unit::Unit;
 use wires::Wires;
 
@@ -55,7 +57,7 @@ fn reached_sub<'a>(
     subs: &'a [Subchannel],
 ) -> Option<&'a Subchannel>
     requires { Fits places.now subs.now }
-    ensures { MatchOption result (state_spec.reached_sub «unit» side subs.now ≡ None) (λ sub. state_spec.reached_sub «unit» side subs.now ≡ Some sub.now) }
+    ensures { MatchOption result (place_spec.reached_sub «unit» side subs.now ≡ None) (λ sub. place_spec.reached_sub «unit» side subs.now ≡ Some sub.now) }
 {
     let place = places.reached_in(unit, side, subs)?;
     subs.get(place)
@@ -64,7 +66,7 @@ fn reached_sub<'a>(
 /// The signal that waits for a side of a unit, as what the unit is to do.
 fn taken_from(places: &Places, unit: usize, side: Side, subs: &[Subchannel]) -> Option<UnitTurn>
     requires { Fits places.now subs.now }
-    ensures { result ≡ state_spec.takes_from (state_spec.reached_sub «unit» side subs.now) }
+    ensures { result ≡ state_spec.takes_from (place_spec.reached_sub «unit» side subs.now) }
 {
     let sub = reached_sub(places, unit, side, subs)?;
     let path = signal_path(&sub.wires)?;
@@ -97,7 +99,7 @@ fn away_path(
     subs: &[Subchannel],
 ) -> Option<u32>
     requires { Fits places.now subs.now }
-    ensures { result ≡ state_spec.away_path (state_spec.reached_sub «unit» side subs.now) connection }
+    ensures { result ≡ state_spec.away_path (place_spec.reached_sub «unit» side subs.now) connection }
 {
     let sub = reached_sub(places, unit, side, subs)?;
     cyclic_path(sub.setup.paths.as_slice().len(), connection)

@@ -1,5 +1,5 @@
 use Rattle.std.specs.Prelude.{map}
-use Rattle.machine_model.specs.Losing.{loses}
+use Rattle.subchannel_model.specs.Losing.{loses}
 use Rattle.machine_laws.proofs.Growth.{AreLaws}
 use Rattle.machine_laws.proofs.RunAgrees.{run-told, linked-agree}
 use Rattle.machine_laws.proofs.Swept.{swept-told}

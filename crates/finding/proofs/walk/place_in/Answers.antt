@@ -1,5 +1,5 @@
 use Rattle.std.proofs.Common.{◌≡◌, ℕ, ◌+◌, suc, None, take, sym, ◌∙◌, subst, arith}
-use Rattle.machine_model.specs.State.{is_named, first_place}
+use Rattle.subchannel_model.specs.Places.{is_named, first_place}
 use Rattle.finding.proofs.FirstPlaces.{first_place-at, first_place-more}
 use Rattle.finding.proofs.walk.place_in.Goals as goal
 

@@ -1,5 +1,5 @@
 use Rattle.std.proofs.Common.{◌≡◌, None, take}
-use Rattle.machine_model.specs.State.{is_named, first_place}
+use Rattle.subchannel_model.specs.Places.{is_named, first_place}
 use Rattle.finding.proofs.walk.place_in.Given as goal
 
 -- none of the subchannels so far passes

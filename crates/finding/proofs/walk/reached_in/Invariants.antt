@@ -1,6 +1,6 @@
 use Rattle.std.proofs.Common.{◌≡◌, None, take}
-use Rattle.machine_model.specs.State.{first_place}
-use Rattle.machine_model.specs.State.{reaches}
+use Rattle.subchannel_model.specs.Places.{first_place}
+use Rattle.subchannel_model.specs.Places.{reaches}
 use Rattle.finding.proofs.walk.reached_in.Given as goal
 
 -- none of the subchannels so far passes

@@ -2,9 +2,10 @@ use Rattle.std.proofs.Common.{◌≡◌, ap, sym, ◌∙◌, subst, refl, ℕ, N
 use Rattle.storage_keys.specs.declared.StorageFault.{StorageFault}
 use Rattle.storage_keys.specs.Storage.{operand_at}
 use Rattle.chan_model.specs.declared.fault.Fault.TheVariants as fault
-use Rattle.chan_model.specs.declared.reply.Answer.TheVariants as answer
-use Rattle.chan_model.specs.declared.reply.Reply.TheVariants as reply
-use Rattle.machine_model.specs.Steps.{does, Enables}
+use Rattle.chan_model.specs.declared.answer.Answer.TheVariants as answer
+use Rattle.chan_events.specs.declared.reply.Reply.TheVariants as reply
+use Rattle.machine_model.specs.Turns.{does}
+use Rattle.machine_model.specs.InstructionSteps.{Enables}
 use Rattle.io_step.specs.Executing.{with_storage}
 use Rattle.io_step.proofs.Executions.{enables-none, not-allowed}
 use Rattle.io_step.proofs.absent.enable.Goals as goal

@@ -1,8 +1,8 @@
 use Rattle.std.proofs.Common.{refl, None}
 use Rattle.storage_keys.specs.Storage.{operand_at}
-use Rattle.chan_model.specs.declared.reply.Answer.TheVariants as answer
-use Rattle.chan_model.specs.declared.reply.Reply.TheVariants as reply
-use Rattle.machine_model.specs.Steps.{does}
+use Rattle.chan_model.specs.declared.answer.Answer.TheVariants as answer
+use Rattle.chan_events.specs.declared.reply.Reply.TheVariants as reply
+use Rattle.machine_model.specs.Turns.{does}
 use Rattle.io_step.specs.Executing.{with_storage}
 use Rattle.io_step.proofs.Executions.{modifies, modifies-not}
 use Rattle.io_step.proofs.absent.modify.Goals as goal

@@ -1,7 +1,7 @@
 use Rattle.std.proofs.Common.{ap, sym, Some}
 use Rattle.storage_keys.specs.Storage.{operand_at}
 use Rattle.machine_model.specs.State.{with_sub}
-use Rattle.machine_model.specs.Steps.{does, at_place}
+use Rattle.machine_model.specs.Turns.{does, at_place}
 use Rattle.io_step.specs.Executing.{with_storage}
 use Rattle.io_step.proofs.Executions.{starts}
 use Rattle.io_step.proofs.provided.start.Goals as goal

@@ -1,6 +1,6 @@
 use Rattle.std.proofs.Common.{◌≡◌, refl, sym, ◌∙◌, ap, ℕ, Bool, true, false}
 use Rattle.std.specs.Prelude.{if◌then◌else◌}
-use Rattle.machine_model.specs.Taking.{Met, meets, give_next, take_in, bytes_of}
+use Rattle.subchannel_model.specs.Taking.{Met, meets, give_next, take_in, bytes_of}
 use Rattle.transfer.specs.Chunks.{brought}
 use Rattle.subchannel.proofs.moving.move_bytes.Goals as goal
 

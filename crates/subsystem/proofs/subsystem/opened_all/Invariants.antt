@@ -1,5 +1,5 @@
 use Rattle.std.proofs.Common.{◌≡◌, take, map}
-use Rattle.machine_model.specs.State.{opened}
+use Rattle.subchannel_model.specs.Opening.{opened}
 use Rattle.subsystem.proofs.subsystem.opened_all.Given as goal
 
 -- the subchannels so far are opened

@@ -1,6 +1,6 @@
 use Rattle.std.proofs.Common.{◌==◌, ◌<◌, not, arith, ◌∙◌, ap, ℕ, List}
-use Rattle.machine_model.specs.declared.state.Subchannel.{Subchannel}
-use Rattle.machine_model.specs.Choosing.{any_engages, engages}
+use Rattle.subchannel_model.specs.declared.state.Subchannel.{Subchannel}
+use Rattle.subchannel_model.specs.Choosing.{any_engages, engages}
 use Rattle.finding.proofs.Changing.{counted-any}
 use Rattle.finding.proofs.engines.Counted.is_engaged.Goals as goal
 

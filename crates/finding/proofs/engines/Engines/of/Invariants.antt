@@ -1,6 +1,6 @@
 use Rattle.std.proofs.Common.{◌≡◌, ◌<◌, ℕ, take}
 use Rattle.std.specs.Prelude.{slice_index, count_by}
-use Rattle.machine_model.specs.Choosing.{engages}
+use Rattle.subchannel_model.specs.Choosing.{engages}
 use Rattle.finding.proofs.engines.Engines.of.Given as goal
 
 -- the counts are those of the subchannels so far

@@ -1,6 +1,6 @@
 use Rattle.std.proofs.Common.{◌∙◌, sym, ap, subst, ℕ, ◌<◌, Option, List, length}
 use Rattle.std.specs.Prelude.{IfSome, slice_get}
-use Rattle.machine_model.specs.State.{is_named}
+use Rattle.subchannel_model.specs.Places.{is_named}
 use Rattle.finding.specs.Tables.{Tables}
 use Rattle.finding.proofs.Lookups.{named-place, place-within}
 use Rattle.finding.proofs.tables.Places.place_in.Goals as goal

@@ -1,6 +1,6 @@
 use Rattle.std.proofs.Common.{◌∙◌, sym, ap, subst, ℕ, ◌<◌, Option, List, length}
 use Rattle.std.specs.Prelude.{IfSome, slice_get}
-use Rattle.machine_model.specs.State.{reaches}
+use Rattle.subchannel_model.specs.Places.{reaches}
 use Rattle.finding.proofs.Lookups.{place-within}
 use Rattle.finding.proofs.tables.Places.reached_in.Goals as goal
 

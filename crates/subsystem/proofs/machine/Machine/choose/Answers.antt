@@ -1,11 +1,13 @@
 use Rattle.std.proofs.Common.{◌≡◌, ◌<◌, ap, sym, ◌∙◌, subst, Some, length, List, Bool}
-use Rattle.chan_model.specs.declared.event.Event.TheVariants as event
+use Rattle.chan_events.specs.declared.event.Event.TheVariants as event
 use Rattle.path_select.specs.Choice.{IsChoice}
-use Rattle.machine_model.specs.declared.state.Chosen.{Chosen}
-use Rattle.machine_model.specs.declared.state.Subchannel.{Subchannel}
+use Rattle.subchannel_model.specs.declared.state.Chosen.{Chosen}
+use Rattle.subchannel_model.specs.declared.state.Subchannel.{Subchannel}
 use Rattle.machine_model.specs.State.{State, place_of, with_sub}
-use Rattle.machine_model.specs.Choosing.{chosen, paths_to_choose}
-use Rattle.machine_model.specs.Steps.{Performs, GivesSub, choose_sub}
+use Rattle.subchannel_model.specs.Choosing.{chosen, paths_to_choose}
+use Rattle.machine_model.specs.Steps.{Performs}
+use Rattle.subsystem.specs.Giving.{GivesSub}
+use Rattle.machine_model.specs.ChooseSteps.{choose_sub}
 use Rattle.finding.specs.Tables.{engaged}
 use Rattle.finding.proofs.Changing.{counts-some, counts-changed}
 use Rattle.subsystem.specs.contracts.machine.Machine.{the_view}

@@ -1,6 +1,6 @@
 use Rattle.std.proofs.Common.{◌≡◌, ◌<◌, ap, sym, ◌∙◌, subst, Some, length, arith}
-use Rattle.chan_model.specs.declared.event.Event.TheVariants as event
-use Rattle.machine_model.specs.declared.state.Subchannel.{Subchannel}
+use Rattle.chan_events.specs.declared.event.Event.TheVariants as event
+use Rattle.subchannel_model.specs.declared.state.Subchannel.{Subchannel}
 use Rattle.machine_model.specs.State.{State, place_of, with_sub, with_unit}
 use Rattle.machine_model.specs.Steps.{Performs}
 use Rattle.finding.specs.Tables.{engaged}

@@ -1,9 +1,11 @@
 use Rattle.std.proofs.Common.{◌≡◌, ◌<◌, ap, sym, ◌∙◌, subst, None, Some, List, length}
 use Rattle.channel_config.specs.SubchannelWords.{subchannel_named}
-use Rattle.chan_model.specs.declared.event.Event.TheVariants as event
-use Rattle.machine_model.specs.declared.state.Subchannel.{Subchannel}
-use Rattle.machine_model.specs.State.{State, place_in, with_sub}
-use Rattle.machine_model.specs.Steps.{Performs, word_of}
+use Rattle.chan_events.specs.declared.event.Event.TheVariants as event
+use Rattle.subchannel_model.specs.declared.state.Subchannel.{Subchannel}
+use Rattle.machine_model.specs.State.{State, with_sub}
+use Rattle.subchannel_model.specs.Places.{place_in}
+use Rattle.machine_model.specs.Steps.{Performs}
+use Rattle.machine_model.specs.InstructionSteps.{word_of}
 use Rattle.finding.specs.Tables.{engaged}
 use Rattle.finding.proofs.Changing.{counts-some, counts-changed}
 use Rattle.subsystem.specs.contracts.machine.Machine.{the_view}

@@ -1,7 +1,8 @@
 use Rattle.std.proofs.Common.{◌≡◌, ◌<◌, ap, sym, ◌∙◌, subst, Some, length, List, arith}
-use Rattle.chan_model.specs.declared.event.Event.TheVariants as event
-use Rattle.machine_model.specs.declared.state.Subchannel.{Subchannel}
-use Rattle.machine_model.specs.State.{State, reached_in, with_sub, with_unit}
+use Rattle.chan_events.specs.declared.event.Event.TheVariants as event
+use Rattle.subchannel_model.specs.declared.state.Subchannel.{Subchannel}
+use Rattle.machine_model.specs.State.{State, with_sub, with_unit}
+use Rattle.subchannel_model.specs.Places.{reached_in}
 use Rattle.machine_model.specs.Steps.{Performs}
 use Rattle.finding.specs.Tables.{engaged}
 use Rattle.finding.proofs.Changing.{counts-kept}

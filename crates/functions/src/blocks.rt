@@ -1,16 +1,15 @@
 //! The subchannel-information block of a subchannel, and what MODIFY SUBCHANNEL leaves of it (SA22-7832, chapters 14
 //! and 15).
-#![tactic(auto)]
 
 ghost use Rattle.std.specs.Prelude.{◌≡◌, ◌<◌, ◌≤◌, ◌^◌, ◌+◌, ◌-◌, nat_lt, slice_index};
 ghost use Rattle.schib_block.specs.Modify.{IsAllowed};
-ghost use Rattle.machine_model.specs.SubchannelBlocks as spec;
+ghost use Rattle.subchannel_model.specs.SubchannelBlocks as spec;
 ghost use Rattle.allegiance.specs.PathUse.{each_path};
 
 use chan_model::paths::{PathSet, mask_of_path, mask_of_paths};
-use machine_model::state::Subchannel;
 use schib_block::pmcw;
 use schib_block::schib::Schib;
+use subchannel_model::state::Subchannel;
 use zbits::set_field;
 
 /// The paths below a number.

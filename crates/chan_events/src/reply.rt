@@ -2,31 +2,12 @@
 
 ghost use Rattle.std.specs.Prelude.{◌≡◌};
 
-use crate::chunk::Chunk;
 use crate::event::Event;
-use crate::names::Path;
-use crate::signal::{Down, OnPath, Up};
+use chan_model::answer::Answer;
+use chan_model::chunk::Chunk;
+use chan_model::names::Path;
+use chan_model::signal::{Down, OnPath, Up};
 use scsw_irb::scsw::Scsw;
-use scsw_irb::serials::Serials;
-
-/// A condition code (SA22-7832, chapter 14).
-#[derive(Clone, Copy, Debug, PartialEq, Eq)]
-pub enum ConditionCode {
-    Zero,
-    One,
-    Two,
-    Three,
-}
-
-/// The condition code of an instruction on a subchannel (SA22-7832, chapter 14). The codes 0 and 1 bring the serials of
-/// the subchannel as the instruction leaves them.
-#[derive(Clone, Copy, Debug)]
-pub enum Answer {
-    Zero(Serials),
-    One(Serials),
-    Two,
-    Three,
-}
 
 /// What an accepted event answers.
 #[derive(Drop)]
@@ -82,34 +63,6 @@ pub enum Reply {
 pub struct Entry {
     pub event: Event,
     pub reply: Reply,
-}
-
-impl Answer {
-    ghost use Rattle.chan_model.specs.ConditionCodes.{answer_of, code_of};
-
-    /// The answer of a code, for a subchannel with these serials.
-    pub fn of(code: ConditionCode, serials: Serials) -> Self
-        ensures { result ≡ answer_of code serials }
-    {
-        match code {
-            ConditionCode::Zero => Answer::Zero(serials),
-            ConditionCode::One => Answer::One(serials),
-            ConditionCode::Two => Answer::Two,
-            ConditionCode::Three => Answer::Three,
-        }
-    }
-
-    /// The code.
-    pub fn code(self) -> ConditionCode
-        ensures { result ≡ code_of self }
-    {
-        match self {
-            Answer::Zero(_) => ConditionCode::Zero,
-            Answer::One(_) => ConditionCode::One,
-            Answer::Two => ConditionCode::Two,
-            Answer::Three => ConditionCode::Three,
-        }
-    }
 }
 
 impl Reply {

@@ -9,14 +9,14 @@ use Rattle.chan_model.specs.ResetCauses.{engaged_path}
 use Rattle.scsw_irb.specs.declared.scsw.Scsw.{Scsw}
 use Rattle.allegiance.specs.Allegiances.{may_reconnect}
 use Rattle.allegiance.specs.PathUse.{is_member, each_path, is_any, keeps_dedicated}
-use Rattle.machine_model.specs.declared.state.Candidate.{Candidate}
-use Rattle.machine_model.specs.declared.state.Chosen.{Chosen}
-use Rattle.machine_model.specs.declared.state.Chosen.TheVariants.{Idle, Resets, Clears, Halts, Ends, Over, Offers}
-use Rattle.machine_model.specs.declared.state.Program.{Program}
-use Rattle.machine_model.specs.declared.state.Standing.{Standing}
-use Rattle.machine_model.specs.declared.state.SubchannelState.{SubchannelState}
-use Rattle.machine_model.specs.declared.state.Subchannel.{Subchannel}
-use Rattle.machine_model.specs.SubchannelBlocks.{installed_paths}
+use Rattle.subchannel_model.specs.declared.state.Candidate.{Candidate}
+use Rattle.subchannel_model.specs.declared.state.Chosen.{Chosen}
+use Rattle.subchannel_model.specs.declared.state.Chosen.TheVariants.{Idle, Resets, Clears, Halts, Ends, Over, Offers}
+use Rattle.subchannel_model.specs.declared.state.Program.{Program}
+use Rattle.subchannel_model.specs.declared.state.Standing.{Standing}
+use Rattle.subchannel_model.specs.declared.state.SubchannelState.{SubchannelState}
+use Rattle.subchannel_model.specs.declared.state.Subchannel.{Subchannel}
+use Rattle.subchannel_model.specs.SubchannelBlocks.{installed_paths}
 
 -- a path is allowed where it is installed, logically available, and that of a dedicated allegiance where one stands
 abbrev pub is_allowed : Subchannel → ℕ → Bool

@@ -5,16 +5,16 @@ use Rattle.scsw_irb.specs.declared.scsw.Scsw.{Scsw}
 use Rattle.scsw_irb.specs.declared.status.DeviceStatus.{DeviceStatus}
 use Rattle.scsw_irb.specs.declared.status.SubchannelStatus.{SubchannelStatus}
 use Rattle.scsw_irb.specs.Empty.{no_activity}
-use Rattle.chan_model.specs.declared.status.Shown.{Shown}
-use Rattle.chan_model.specs.Status.{scsw_made, serials_made, conditions, shows_primary, no_device_status, no_subchannel_status}
+use Rattle.subchannel_model.specs.declared.status.Shown.{Shown}
+use Rattle.subchannel_model.specs.Status.{scsw_made, serials_made, conditions, shows_primary, no_device_status, no_subchannel_status}
 use Rattle.scsw_irb.specs.Status.{has}
 use Rattle.chan_model.specs.UnitReports.{has_channel_end, has_device_end, has_unit_check}
 use Rattle.channel_program.specs.declared.check.Check.{Check}
 use Rattle.channel_program.specs.declared.check.Check.TheVariants.{Program, Protection}
 use Rattle.data_move.specs.Moving.{residual, is_incorrect}
-use Rattle.machine_model.specs.declared.state.Begun.{Begun}
-use Rattle.machine_model.specs.declared.state.Program as state
-use Rattle.machine_model.specs.declared.state.SubchannelState.{SubchannelState}
+use Rattle.subchannel_model.specs.declared.state.Begun.{Begun}
+use Rattle.subchannel_model.specs.declared.state.Program as state
+use Rattle.subchannel_model.specs.declared.state.SubchannelState.{SubchannelState}
 
 -- a status is made pending
 abbrev pub with_status : SubchannelState → Shown → SubchannelState

@@ -9,9 +9,9 @@ use Rattle.schib_block.specs.declared.schib.Schib.{Schib}
 use Rattle.schib_block.specs.Modify.{modified}
 use Rattle.chan_model.specs.PathSets.{mask_of_path, mask_of_paths, paths_of_mask}
 use Rattle.allegiance.specs.PathUse.{each_path}
-use Rattle.machine_model.specs.declared.state.Pmcw.{Pmcw}
-use Rattle.machine_model.specs.declared.state.SubchannelState.{SubchannelState}
-use Rattle.machine_model.specs.declared.state.Subchannel.{Subchannel}
+use Rattle.subchannel_model.specs.declared.state.Pmcw.{Pmcw}
+use Rattle.subchannel_model.specs.declared.state.SubchannelState.{SubchannelState}
+use Rattle.subchannel_model.specs.declared.state.Subchannel.{Subchannel}
 
 -- the paths that are configured are installed, and available
 abbrev pub installed_paths : Subchannel → List Bool

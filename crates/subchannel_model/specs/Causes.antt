@@ -7,18 +7,18 @@ use Rattle.scsw_irb.specs.declared.scsw.Scsw.{Scsw}
 use Rattle.scsw_irb.specs.declared.scsw.StatusControl.{StatusControl}
 use Rattle.scsw_irb.specs.declared.status.DeviceStatus.{DeviceStatus}
 use Rattle.scsw_irb.specs.Empty.{no_functions, no_activity, no_status, zero_scsw}
-use Rattle.chan_model.specs.declared.status.Shown.{Shown}
-use Rattle.chan_model.specs.Status.{conditions, shows_primary, no_device_status, no_subchannel_status}
+use Rattle.subchannel_model.specs.declared.status.Shown.{Shown}
+use Rattle.subchannel_model.specs.Status.{conditions, shows_primary, no_device_status, no_subchannel_status}
 use Rattle.chan_model.specs.UnitReports.{is_last_end}
 use Rattle.data_move.specs.Moving.{residual}
-use Rattle.machine_model.specs.declared.cause.Cause.{Cause}
-use Rattle.machine_model.specs.declared.cause.Cause.TheVariants as cause
-use Rattle.machine_model.specs.declared.state.Program.{Program}
-use Rattle.machine_model.specs.declared.state.Begun.{Begun}
-use Rattle.machine_model.specs.declared.state.Standing.{Standing}
-use Rattle.machine_model.specs.declared.state.SubchannelState.{SubchannelState}
-use Rattle.machine_model.specs.Functions.{without_programs}
-use Rattle.machine_model.specs.Statuses.{with_status, channel_end_shown, fetch_fault_shown, no_path_shown, last_shown, has_shown}
+use Rattle.subchannel_model.specs.declared.cause.Cause.{Cause}
+use Rattle.subchannel_model.specs.declared.cause.Cause.TheVariants as cause
+use Rattle.subchannel_model.specs.declared.state.Program.{Program}
+use Rattle.subchannel_model.specs.declared.state.Begun.{Begun}
+use Rattle.subchannel_model.specs.declared.state.Standing.{Standing}
+use Rattle.subchannel_model.specs.declared.state.SubchannelState.{SubchannelState}
+use Rattle.subchannel_model.specs.Functions.{without_programs}
+use Rattle.subchannel_model.specs.Statuses.{with_status, channel_end_shown, fetch_fault_shown, no_path_shown, last_shown, has_shown}
 
 -- status is pending, and nothing else is shown
 abbrev pub plain_shown : ℕ → ℕ → Shown

@@ -5,15 +5,15 @@ use Rattle.schib_block.specs.declared.pmcw.Pmcw as block
 use Rattle.scsw_irb.specs.declared.scsw.ActivityControl.{ActivityControl}
 use Rattle.scsw_irb.specs.declared.scsw.Scsw.{Scsw}
 use Rattle.scsw_irb.specs.Empty.{no_functions, no_activity, zero_scsw}
-use Rattle.chan_model.specs.declared.reply.ConditionCode.{ConditionCode}
-use Rattle.chan_model.specs.declared.reply.ConditionCode.TheVariants.{Zero, One, Two, Three}
+use Rattle.chan_model.specs.declared.answer.ConditionCode.{ConditionCode}
+use Rattle.chan_model.specs.declared.answer.ConditionCode.TheVariants.{Zero, One, Two, Three}
 use Rattle.chan_model.specs.HoldTable.{resetting}
-use Rattle.chan_model.specs.Status.{intermediate_alone, without_status, serials_cleared}
-use Rattle.machine_model.specs.declared.state.Pmcw.{Pmcw}
-use Rattle.machine_model.specs.declared.state.SubchannelState.{SubchannelState}
-use Rattle.machine_model.specs.State.{all_paths, no_paths}
-use Rattle.machine_model.specs.Instructions.{tested}
-use Rattle.machine_model.specs.SubchannelBlocks.{with_word}
+use Rattle.subchannel_model.specs.Status.{intermediate_alone, without_status, serials_cleared}
+use Rattle.subchannel_model.specs.declared.state.Pmcw.{Pmcw}
+use Rattle.subchannel_model.specs.declared.state.SubchannelState.{SubchannelState}
+use Rattle.subchannel_model.specs.Opening.{all_paths, no_paths}
+use Rattle.subchannel_model.specs.Instructions.{tested}
+use Rattle.subchannel_model.specs.SubchannelBlocks.{with_word}
 
 -- an instruction that answered this code leaves its effect with code 0, and nothing changed otherwise
 abbrev pub left_by : ConditionCode → SubchannelState → SubchannelState → SubchannelState

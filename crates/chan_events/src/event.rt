@@ -2,9 +2,9 @@
 
 ghost use Rattle.std.specs.Prelude.{◌≡◌};
 
-use crate::chunk::{Chunk, ChunkLength};
-use crate::names::Cpu;
-use crate::report::Report;
+use chan_model::chunk::{Chunk, ChunkLength};
+use chan_model::names::Cpu;
+use chan_model::report::Report;
 use storage_keys::key::Key;
 
 /// An I/O instruction (SA22-7832, chapter 14). `subchannel` is general register 1: the subsystem-identification word.

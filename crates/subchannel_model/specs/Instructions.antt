@@ -4,12 +4,12 @@ use Rattle.orb_block.specs.declared.Orb.{Orb}
 use Rattle.scsw_irb.specs.declared.scsw.DeferredCode.TheVariants as deferred
 use Rattle.scsw_irb.specs.declared.scsw.Scsw.{Scsw}
 use Rattle.scsw_irb.specs.Empty.{no_functions, no_activity}
-use Rattle.chan_model.specs.declared.status.Condition.{Condition}
+use Rattle.subchannel_model.specs.declared.status.Condition.{Condition}
 use Rattle.chan_model.specs.PathSets.{paths_of_mask}
-use Rattle.chan_model.specs.Status.{no_device_status, no_subchannel_status, serials_cleared, tested_scsw}
-use Rattle.machine_model.specs.declared.state.Pmcw.{Pmcw}
-use Rattle.machine_model.specs.declared.state.SubchannelState.{SubchannelState}
-use Rattle.machine_model.specs.State.{no_paths}
+use Rattle.subchannel_model.specs.Status.{no_device_status, no_subchannel_status, serials_cleared, tested_scsw}
+use Rattle.subchannel_model.specs.declared.state.Pmcw.{Pmcw}
+use Rattle.subchannel_model.specs.declared.state.SubchannelState.{SubchannelState}
+use Rattle.subchannel_model.specs.Opening.{no_paths}
 
 -- what an instruction finds of a provided subchannel
 abbrev pub condition_of : SubchannelState → Condition

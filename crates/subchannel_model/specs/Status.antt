@@ -10,7 +10,7 @@ use Rattle.scsw_irb.specs.declared.scsw.Scsw.{Scsw}
 use Rattle.scsw_irb.specs.declared.serials.Serials.{Serials}
 use Rattle.scsw_irb.specs.declared.status.DeviceStatus.{DeviceStatus}
 use Rattle.scsw_irb.specs.declared.status.SubchannelStatus.{SubchannelStatus}
-use Rattle.chan_model.specs.declared.status.Shown.{Shown}
+use Rattle.subchannel_model.specs.declared.status.Shown.{Shown}
 
 abbrev pub no_device_status : DeviceStatus
 no_device_status = record { 0 = 0 }

@@ -1,0 +1,7 @@
+//! Events, which are all that may happen to a channel subsystem, and what an accepted event answers.
+#![tactic(auto)]
+
+pub mod event;
+pub mod reply;
+#[cfg(test)]
+mod tests;

@@ -1,0 +1,59 @@
+-- What an event answers and leaves, or why it is refused: of the whole, and of one subchannel.
+use Rattle.std.specs.Prelude.{ℕ, Result, Ok, Err}
+use Rattle.storage_keys.specs.Storage.{Contents}
+use Rattle.chan_model.specs.declared.fault.Fault.{Fault}
+use Rattle.chan_model.specs.declared.unit_state.UnitState.{UnitState}
+use Rattle.chan_events.specs.declared.reply.Reply.{Reply}
+use Rattle.subchannel_model.specs.declared.state.SubchannelState.{SubchannelState}
+use Rattle.subchannel_model.specs.declared.state.Subchannel.{Subchannel}
+use Rattle.machine_model.specs.State.{State, with_sub, with_unit}
+
+-- what an accepted event answers and leaves
+pub record Turn : Type 0 where
+  pub reply : Reply
+  pub state : State
+
+abbrev pub Outcome : Type 0
+Outcome = Result Turn Fault
+
+abbrev pub does : Reply → State → Outcome
+does r s = Ok (record { reply = r; state = s })
+
+-- what an event at one subchannel answers and leaves of it
+pub record SubTurn : Type 0 where
+  pub reply : Reply
+  pub sub : Subchannel
+
+-- the same of a signal that came up, which may leave other storage
+pub record UpTurn : Type 0 where
+  pub reply : Reply
+  pub sub : Subchannel
+  pub storage : Contents
+
+-- the same of an event at one subchannel and its unit
+pub record DownTurn : Type 0 where
+  pub reply : Reply
+  pub sub : Subchannel
+  pub «unit» : UnitState
+
+abbrev pub leaves : Reply → Subchannel → SubTurn
+leaves r sub = record { reply = r; sub = sub }
+
+abbrev pub with_state : Subchannel → SubchannelState → Subchannel
+with_state sub state = record sub { state = state }
+
+-- the same as a turn of the whole, the subchannel being at this place
+abbrev pub at_place : State → ℕ → SubTurn → Outcome
+at_place s place t = does t.reply (with_sub s place t.sub)
+
+abbrev pub at_sub : State → ℕ → Result SubTurn Fault → Outcome
+at_sub s place (Err f) = Err f
+at_sub s place (Ok t) = at_place s place t
+
+abbrev pub at_storage : State → ℕ → Result UpTurn Fault → Outcome
+at_storage s place (Err f) = Err f
+at_storage s place (Ok t) = does t.reply (with_sub (record s { storage = t.storage }) place t.sub)
+
+abbrev pub at_unit : State → ℕ → ℕ → Result DownTurn Fault → Outcome
+at_unit s place «unit» (Err f) = Err f
+at_unit s place «unit» (Ok t) = does t.reply (with_unit (with_sub s place t.sub) «unit» t.«unit»)

@@ -1,0 +1,37 @@
+-- The steps in which a subchannel takes the signal that waits longest on a wire up; the bytes of a read are stored (own).
+use Rattle.std.specs.Prelude.{ℕ, Bool, false, nat_lt, if◌then◌else◌, Option, None, Some, length, slice_get, Result, Ok, Err}
+use Rattle.storage_keys.specs.Storage.{Contents}
+use Rattle.chan_model.specs.declared.fault.Fault.{Fault}
+use Rattle.chan_model.specs.declared.fault.Fault.TheVariants as fault
+use Rattle.chan_model.specs.declared.signal.Up.{Up}
+use Rattle.chan_events.specs.declared.reply.Reply.TheVariants as reply
+use Rattle.wires.specs.Queues.{queue, taken}
+use Rattle.subchannel_model.specs.declared.state.Subchannel.{Subchannel}
+use Rattle.machine_model.specs.State.{State}
+use Rattle.subchannel_model.specs.declared.state.UpStep.{UpStep}
+use Rattle.subchannel_model.specs.Taking.{Met, takes_up}
+use Rattle.machine_model.specs.Turns.{Outcome, UpTurn, at_storage}
+use Rattle.subchannel_model.specs.Sending.{finds_full, with_any_sent}
+
+abbrev pub with_met : Subchannel → ℕ → UpStep → Subchannel
+with_met sub path step =
+    record sub { state = step.state; wires = record { down = with_any_sent sub.wires.down step.came.sent; up = taken sub.wires.up path } }
+
+abbrev pub up_with : Subchannel → ℕ → Up → Met → Result UpTurn Fault
+up_with sub path signal m =
+    if finds_full sub.wires.down m.step.came.sent then Err fault.WireFull
+    else Ok (record { reply = reply.Up signal m.step.came.taken m.step.came.sent; sub = with_met sub path m.step; storage = m.storage })
+
+abbrev pub up_front : Bool → Contents → Subchannel → ℕ → Option Up → Result UpTurn Fault
+up_front returns storage sub path None = Err fault.NotSent
+up_front returns storage sub path (Some signal) = up_with sub path signal (takes_up returns storage sub.state path signal)
+
+abbrev pub up_sub : Bool → Contents → Subchannel → ℕ → Result UpTurn Fault
+up_sub returns storage sub path =
+    if nat_lt path (length sub.setup.paths) then up_front returns storage sub path (slice_get (queue sub.wires.up path) 0)
+    else Err fault.NoSuchPath
+
+abbrev pub up_at : State → Option ℕ → Option Subchannel → ℕ → Outcome
+up_at s None sub path = Err fault.NoSuchSubchannel
+up_at s (Some place) None path = Err fault.NoSuchSubchannel
+up_at s (Some place) (Some sub) path = at_storage s place (up_sub false s.storage sub path)

@@ -1,0 +1,13 @@
+pub mod SubchannelCodes
+pub mod Status
+pub mod Opening
+pub mod Places
+pub mod Instructions
+pub mod SubchannelBlocks
+pub mod Functions
+pub mod Statuses
+pub mod Causes
+pub mod Choosing
+pub mod Sending
+pub mod Losing
+pub mod Taking

@@ -1,0 +1,38 @@
+-- A subchannel at the opening: not enabled, all its paths logically available and operational (own).
+use Rattle.std.proofs.Common.{lit<}
+use Rattle.std.specs.Prelude.{Bool, true, false, List, replicate, None}
+use Rattle.scsw_irb.specs.Empty.{zero_scsw}
+use Rattle.chan_model.specs.HoldTable.{free_hold}
+use Rattle.channel_config.specs.declared.parts.SubchannelSetup.{SubchannelSetup}
+use Rattle.wires.specs.Queues.{no_queues}
+use Rattle.subchannel_model.specs.declared.state.Pmcw.{Pmcw}
+use Rattle.subchannel_model.specs.declared.state.SubchannelState.{SubchannelState}
+use Rattle.subchannel_model.specs.declared.state.Subchannel.{Subchannel}
+
+abbrev pub all_paths : List Bool
+all_paths = replicate 8 true
+
+abbrev pub no_paths : List Bool
+no_paths = replicate 8 false
+
+abbrev pub opening_pmcw : Pmcw
+opening_pmcw = record { parameter = 0; subclass = 0; enabled = false; multipath = false; logical = all_paths; not_operational = no_paths; last_used = None; operational = all_paths; subclass_fits = lit< tt }
+
+abbrev pub opening_subchannel : SubchannelState
+opening_subchannel = record {
+  pmcw = opening_pmcw;
+  scsw = zero_scsw;
+  serials = record { made = 0; cleared = 0 };
+  drawn = 0;
+  starts = 0;
+  waiting = None;
+  begun = None;
+  suspended = None;
+  hold = free_hold;
+  offered = 0;
+  last_path = None;
+  dedicated = None;
+}
+
+abbrev pub opened : SubchannelSetup → Subchannel
+opened setup = record { setup = setup; state = opening_subchannel; wires = no_queues }

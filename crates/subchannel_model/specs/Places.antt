@@ -1,0 +1,40 @@
+-- Where a subchannel stands among all, by its name or by the side of a unit that it reaches.
+use Rattle.std.specs.Prelude.{ℕ, ◌+◌, ◌==◌, ◌&&◌, Bool, List, [], ◌∷◌, slice_get, Option, None, Some, if◌then◌else◌}
+use Rattle.channel_config.specs.declared.names.SubchannelId.{SubchannelId}
+use Rattle.chan_model.specs.declared.names.Side.{Side}
+use Rattle.chan_model.specs.Sides.{same_side}
+use Rattle.subchannel_model.specs.declared.state.Subchannel.{Subchannel}
+
+-- the subchannel has this name
+abbrev pub is_named : SubchannelId → Subchannel → Bool
+is_named id sub = (sub.setup.id.set == id.set) && (sub.setup.id.number == id.number)
+
+abbrev pub one_later : Option ℕ → Option ℕ
+one_later None = None
+one_later (Some place) = Some (place + 1)
+
+-- the place of the first subchannel that passes a test
+abbrev pub first_place : (Subchannel → Bool) → List Subchannel → Option ℕ
+first_place test [] = None
+first_place test (sub ∷ subs) = if test sub then Some 0 else one_later (first_place test subs)
+
+abbrev pub place_in : SubchannelId → List Subchannel → Option ℕ
+place_in id subs = first_place (is_named id) subs
+
+abbrev pub place_of_id : List Subchannel → Option SubchannelId → Option ℕ
+place_of_id subs None = None
+place_of_id subs (Some id) = place_in id subs
+
+abbrev pub sub_at : List Subchannel → Option ℕ → Option Subchannel
+sub_at subs None = None
+sub_at subs (Some place) = slice_get subs place
+
+-- the subchannel that reaches a side of a unit
+abbrev pub reaches : ℕ → Side → Subchannel → Bool
+reaches place side sub = (sub.setup.unit == place) && same_side sub.setup.side side
+
+abbrev pub reached_in : ℕ → Side → List Subchannel → Option ℕ
+reached_in place side subs = first_place (reaches place side) subs
+
+abbrev pub reached_sub : ℕ → Side → List Subchannel → Option Subchannel
+reached_sub place side subs = sub_at subs (reached_in place side subs)
