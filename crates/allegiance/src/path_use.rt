@@ -136,7 +136,7 @@ fn joined(first: &PathSet, second: &PathSet) -> PathSet
 }
 
 /// Whether the set has a path.
-fn is_any(set: &PathSet) -> bool
+pub fn is_any(set: &PathSet) -> bool
     ensures { result ≡ spec.is_any set.now }
 {
     let [a, b, c, d, e, f, g, h] = *set;

@@ -32,7 +32,6 @@ use Rattle.step_laws.specs.Walks as walked
 use Rattle.step_laws.specs.Walks.{Walked, OneSub, OneUnit}
 use Rattle.machine_laws.specs.Agreeing.{IsEnd, IsDownTo, EndsByReset}
 use Rattle.machine_laws.specs.Beginnings.{Starts, with_start, with_offer, with_taken}
-use Rattle.machine_laws.proofs.Choices.{chosen-fit, chosen-of}
 use Rattle.machine_laws.proofs.Growth.{IsLink, AreLaws}
 use Rattle.machine_laws.proofs.HoldEvents.{IsOfHold, up-turns, choose-turns}
 use Rattle.machine_laws.proofs.Linked.{IsLinked, AreApart, AreLinked}
@@ -161,10 +160,10 @@ module _ (laws : AreLaws) (s : State) (which : Option ℕ) (k : Starts) (linked 
   ends-walk _ _ _ (walked.Tested e r place sub c new q o) = sub-ends e r new place sub _ k o (test-hold sub c) (test-tells sub c k)
   ends-walk _ _ _ (walked.Modified e r place sub given c new q o) = sub-ends e r new place sub _ k o (modify-hold sub given c) (modify-tells sub given c k)
   ends-walk _ _ _ (walked.Performed e r place sub f c new q o) = sub-ends e r new place sub _ k o (function-hold laws sub f c) (function-tells sub f c k)
-  ends-walk _ _ _ (walked.Chosen word place sub choice t new n x h o) =
+  ends-walk _ _ _ (walked.Chosen word place sub choice t new n x w h o) =
       sub-ends (event.Choose word) _ new place sub t.sub (with_offer t.reply k) o
-      (subst (λ (r : Result SubTurn Fault). IfOk r (λ t. IsOfHold sub t.sub)) h (choose-turns laws.keeps sub (chosen sub choice) (chosen-fit sub choice)))
-      (subst (λ (r : Result SubTurn Fault). IfOk r (λ t. Tells sub t.sub.state k (with_offer t.reply k))) h (choose-tells sub (chosen sub choice) k (chosen-fit sub choice) (chosen-of sub choice)))
+      (subst (λ (r : Result SubTurn Fault). IfOk r (λ t. IsOfHold sub t.sub)) h (choose-turns laws.keeps sub (chosen sub choice) w.fits))
+      (subst (λ (r : Result SubTurn Fault). IfOk r (λ t. Tells sub t.sub.state k (with_offer t.reply k))) h (choose-tells sub (chosen sub choice) k w.fits w.found))
   ends-walk _ _ _ (walked.Met word path returns place sub t new n h o) =
       sub-ends (event.Up word path) _ new place sub t.sub k o
       (subst (λ (r : Result UpTurn Fault). IfOk r (λ t. IsOfHold sub t.sub)) h (up-turns laws.keeps returns s.storage sub path))

@@ -5,7 +5,6 @@ mod RunSerials
 mod Growth
 mod Places
 mod SameHold
-mod Choices
 mod HoldEvents
 mod UnitPlain
 mod UnitNumbers

@@ -183,7 +183,7 @@ module _ (R : SubchannelState → SubchannelState → Type 0) (k : IsKept R) whe
   step-moves s _ _ _ (walked.Tested e r place sub c new q one) = sub-moved s new place sub _ one (test-kept sub c)
   step-moves s _ _ _ (walked.Modified e r place sub given c new q one) = sub-moved s new place sub _ one (modify-kept sub given c)
   step-moves s _ _ _ (walked.Performed e r place sub f c new q one) = sub-moved s new place sub _ one (function-kept sub f c)
-  step-moves s _ _ _ (walked.Chosen word place sub choice t new n x h one) = sub-moved s new place sub t.sub one (subst (OkSub sub) h (choose-kept sub (chosen sub choice)))
+  step-moves s _ _ _ (walked.Chosen word place sub choice t new n x w h one) = sub-moved s new place sub t.sub one (subst (OkSub sub) h (choose-kept sub (chosen sub choice)))
   step-moves s _ _ _ (walked.Met word path returns place sub t new n h one) = sub-moved s new place sub t.sub one (subst (OkUp sub) h (up-kept returns s.storage sub path))
   step-moves s _ _ _ (walked.Sunk word path may place sub u t new n h one) = unit-moved s new place sub t.sub _ u t.«unit» one (subst (OkBoth sub) h (down-kept may sub path u))
   step-moves s _ _ _ (walked.Reported at place sub u report t new n k h one) =

@@ -49,7 +49,6 @@ use Rattle.machine_laws.proofs.Places.{first-passes}
 use Rattle.machine_laws.proofs.Moves.{sets-stay}
 use Rattle.machine_laws.proofs.Places.{both-true}
 use Rattle.machine_laws.proofs.Growth.{IsLink, covers-first, AreLaws}
-use Rattle.machine_laws.proofs.Choices.{chosen-fit, chosen-of}
 use Rattle.machine_laws.proofs.HoldEvents.{IsOfHold, up-turns, kept-turns, same-turns, choose-turns, clear-turns}
 use Rattle.machine_laws.proofs.RunSerials.{same-id}
 use Rattle.machine_laws.proofs.SameHold.{tested-same, halted-same}
@@ -271,10 +270,10 @@ module _ (laws : AreLaws) where
   links-walk id k s _ _ _ (walked.Tested e r place sub c new q one) l = quiet-at id s new e r place sub _ k q one (test-hold sub c) (test-tells sub c k) l
   links-walk id k s _ _ _ (walked.Modified e r place sub given c new q one) l = quiet-at id s new e r place sub _ k q one (modify-hold sub given c) (modify-tells sub given c k) l
   links-walk id k s _ _ _ (walked.Performed e r place sub f c new q one) l = quiet-at id s new e r place sub _ k q one (function-hold sub f c) (function-tells sub f c k) l
-  links-walk id k s _ _ _ (walked.Chosen word place sub choice t new n x h one) l =
+  links-walk id k s _ _ _ (walked.Chosen word place sub choice t new n x w h one) l =
       told-at id s new place sub t.sub k (with_offer t.reply k) _ one
-      (subst (λ (r : Result SubTurn Fault). IfOk r (λ t. IsOfHold sub t.sub)) h (choose-turns laws.keeps sub (chosen sub choice) (chosen-fit sub choice)))
-      (subst (λ (r : Result SubTurn Fault). IfOk r (λ t. Tells sub t.sub.state k (with_offer t.reply k))) h (choose-tells sub (chosen sub choice) k (chosen-fit sub choice) (chosen-of sub choice)))
+      (subst (λ (r : Result SubTurn Fault). IfOk r (λ t. IsOfHold sub t.sub)) h (choose-turns laws.keeps sub (chosen sub choice) w.fits))
+      (subst (λ (r : Result SubTurn Fault). IfOk r (λ t. Tells sub t.sub.state k (with_offer t.reply k))) h (choose-tells sub (chosen sub choice) k w.fits w.found))
       (named-about s.subs id (subchannel_named s.sets word) place sub k (with_offer t.reply k) n one.there)
       (if-rises (is_id (subchannel_named s.sets word) id) k (with_offer t.reply k) (offer-begun t.reply k)) l
   links-walk id k s _ _ _ (walked.Met word path returns place sub t new n h one) l =

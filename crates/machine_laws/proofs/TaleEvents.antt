@@ -44,12 +44,11 @@ use Rattle.subchannel_model.specs.Sending.{is_full, finds_full}
 use Rattle.machine_model.specs.UpSteps.{up_front, up_sub}
 use Rattle.subchannel_model.specs.Taking.{takes_up}
 use Rattle.machine_laws.specs.Beginnings.{Starts, with_start, with_offer, with_answer, with_sent, with_taken}
-use Rattle.machine_laws.proofs.Choices.{IsOfCandidate, candidate-waits}
 use Rattle.machine_laws.proofs.Moves.{if-ok}
 use Rattle.machine_laws.proofs.Tales.{IsAccepted, AreSpent, AreSpentBut, IsTold, told-wider, told-same, told-turned, told-start, told-offer, told-resume, busy-spent, begun-of}
 use Rattle.machine_laws.proofs.Waits.{IsBegunHeld, Waits, Turned, IsCalm, kept, none, cause-calm, without_waiting-begun, none-held, held-on, moved-as, calm-turned}
 use Rattle.machine_laws.proofs.WaitsUp.{takes-turned}
-use Rattle.step_laws.specs.Walks.{Function, Resumes, Halts, Clears, Cancels, effect_of}
+use Rattle.step_laws.specs.Walks.{Function, Resumes, Halts, Clears, Cancels, effect_of, IsFound, IsOfProgram}
 
 -- Select is answered by an Accept of its own number, or by no Accept
 abbrev IsAcceptOf : ℕ → Up → Type 0
@@ -237,11 +236,11 @@ reset-tells sub path k w side b t =
     t
 
 offer-tells : (sub : Subchannel) (c : Candidate) (path : ℕ) (resumes : Bool) (k : Starts) → c.resumes ≡ resumes → IsFitFor (chosen_is.Offers c path) sub.state.hold →
-    IsOfCandidate (chosen_is.Offers c path) sub.state → Tells sub (offered sub.state c.program path) k (with_offer (reply.Offered (sub.state.drawn + 1) path resumes) k)
+    IsOfProgram (chosen_is.Offers c path) sub.state → Tells sub (offered sub.state c.program path) k (with_offer (reply.Offered (sub.state.drawn + 1) path resumes) k)
 offer-tells sub c path true k e fit of w side b t = told-resume k sub.state c.program path w side fit t
-offer-tells sub c path false k e fit of w side b t = told-offer k sub.state c.program path w side (candidate-waits sub.state c of e) fit t
+offer-tells sub c path false k e fit of w side b t = told-offer k sub.state c.program path w side (subst (λ (b : Bool). IsFound sub.state.waiting sub.state.suspended b c.program) e of) fit t
 
-pub choose-tells : (sub : Subchannel) (c : Chosen) (k : Starts) → IsFitFor c sub.state.hold → IsOfCandidate c sub.state →
+pub choose-tells : (sub : Subchannel) (c : Chosen) (k : Starts) → IsFitFor c sub.state.hold → IsOfProgram c sub.state →
     IfOk (choose_sub sub c) (λ t. Tells sub t.sub.state k (with_offer t.reply k))
 choose-tells sub chosen_is.Idle k fit of = tells-same sub k
 choose-tells sub (chosen_is.Resets r path) k fit of =

@@ -56,6 +56,7 @@ use Rattle.machine_model.specs.DownSteps.{down_front, down_sub}
 use Rattle.machine_model.specs.ReportSteps.{report_taken, report_sub}
 use Rattle.machine_model.specs.Steps.{Run, Opened, Stepped}
 use Rattle.subchannel_model.specs.Losing.{has_any, is_offered_or_held, reset_with, reset_for}
+use Rattle.step_laws.specs.Walks.{IsFound, Suits}
 use Rattle.program_laws.specs.Stories as stories
 use Rattle.program_laws.specs.Stories.{Story, offered_for, resumed_for, chosen_at, met_with, met_at, meets, takes, taken_at, absorbs, reported, reported_at, story, story_after}
 use Rattle.program_laws.specs.Claims.{IsCopied}
@@ -65,7 +66,6 @@ use Rattle.program_laws.proofs.Ties.{AreLaws}
 use Rattle.program_laws.proofs.Holds.{IsPhase, IsDrawn, HasWork, IsStanding, IsHeld, IsUnheld, IsUntold, HeldBy, done-held, none-begun, none-stands, without-held, nothing-done, past-done}
 use Rattle.program_laws.proofs.HoldMeets.{signal-held}
 use Rattle.program_laws.proofs.Copies.{AreCopied, meets-copied}
-use Rattle.program_laws.proofs.LinkChosen.{IsFound, IsFitting, chosen-fits}
 use Rattle.program_laws.proofs.RunSides.{map-get, run-one-sided}
 
 -- what is kept of its program, and what was copied for it
@@ -181,7 +181,7 @@ reset-phase h (hold.Away t) path = refl
 reset-phase h (hold.Letting t p) path = refl
 reset-phase h (hold.Reset r) path = refl
 
-choose-held : (sub : Subchannel) (k : Option Story) (c : Chosen) → IsFitting sub.state c → KeptBy sub.state k →
+choose-held : (sub : Subchannel) (k : Option Story) (c : Chosen) → Suits c sub.state → KeptBy sub.state k →
     IfOk (choose_sub sub c) (λ t. KeptBy t.sub.state (chosen_at (Some sub) t.reply k))
 choose-held sub k Idle o h = h
 choose-held sub k (Resets r path) o h =
@@ -197,13 +197,13 @@ choose-held sub k Over o h =
     same-kept (without_waiting sub.state.waiting sub.state) (with_cause sub.state cause.NoPath) k refl refl refl refl refl (over-kept sub.state sub.state.waiting k refl h)
 choose-held sub k (Offers c path) o h =
     if-ok (λ t. KeptBy t.sub.state (chosen_at (Some sub) t.reply k)) (is_full sub.wires.down path) (Err fault.WireFull) _ tt
-    (found-held sub c.program path c.resumes k (none-begun sub.state k (kept-held sub.state k h) o.0) o.1 h)
+    (found-held sub c.program path c.resumes k (none-begun sub.state k (kept-held sub.state k h) o.fits) o.found h)
 
-pub chosen-held : (sub : Subchannel) (k : Option Story) (choice : Option ℕ) (t : SubTurn) → choose_sub sub (chosen sub choice) ≡ Ok t → KeptBy sub.state k →
+pub chosen-held : (sub : Subchannel) (k : Option Story) (choice : Option ℕ) (t : SubTurn) → Suits (chosen sub choice) sub.state → choose_sub sub (chosen sub choice) ≡ Ok t → KeptBy sub.state k →
     KeptBy t.sub.state (chosen_at (Some sub) t.reply k)
-chosen-held sub k choice t e h =
+chosen-held sub k choice t f e h =
     subst (λ (r : Result SubTurn Fault). IfOk r (λ t. KeptBy t.sub.state (chosen_at (Some sub) t.reply k))) e
-    (choose-held sub k (chosen sub choice) (chosen-fits sub choice) h)
+    (choose-held sub k (chosen sub choice) f h)
 
 -- the unit's doings leave it
 untaken-held : (s : SubchannelState) (k : Story) (taken : List ℕ) (absorbed : List ℕ) → IsKept s k → IsKept s (record k { taken = taken; absorbed = absorbed })
@@ -421,8 +421,8 @@ module _ (laws : AreLaws) (accesses : AreAccesses) where
   happens-held storage old new u v f (Is_cancelled e w g) k h = told new (cancelled old.state) f k k (ap state-of e) (g k) (cancelled-held old.state k h)
   happens-held storage old new u v f (Is_modified pmcw e w g) k h = told new (record old.state { pmcw = pmcw }) f k k (ap state-of e) (g k)
       (same-kept old.state (record old.state { pmcw = pmcw }) k refl refl refl refl refl h)
-  happens-held storage old new u v f (Is_chosen choice t c e w g) k h =
-      told new t.sub.state f k (chosen_at (Some old) t.reply k) (ap state-of e) (g k) (chosen-held old k choice t c h)
+  happens-held storage old new u v f (Is_chosen choice t x c e w g) k h =
+      told new t.sub.state f k (chosen_at (Some old) t.reply k) (ap state-of e) (g k) (chosen-held old k choice t x c h)
   happens-held storage old new u v f (Meets path returns t c e w g) k h =
       told new t.sub.state f k (met_at storage (Some old) path k) (ap state-of e) (g k) (met-held returns storage old path t k c h)
   happens-held storage old new u v f (Sinks path may x t a c e w g) k h =

@@ -15,7 +15,6 @@ mod UnitGrowth
 mod LinkSent
 mod LinkNeeds
 mod LinkDrawn
-mod LinkChosen
 mod LinkOrders
 mod RunSides
 mod RunOrders

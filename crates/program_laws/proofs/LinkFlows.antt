@@ -37,6 +37,7 @@ use Rattle.machine_model.specs.DownSteps.{down_front, down_sub}
 use Rattle.machine_model.specs.ReportSteps.{report_taken}
 use Rattle.subchannel_model.specs.Losing.{has_any, is_offered_or_held, reset_with, reset_for}
 use Rattle.subchannel_model.specs.Taking as taking
+use Rattle.step_laws.specs.Walks.{IsFound, Suits}
 use Rattle.program_laws.specs.Stories.{Story, offered, offered_for, resumed, chosen_at, meets, met_with, met_at, taken_at, reported_at}
 use Rattle.program_laws.proofs.Turns.{if-ok}
 use Rattle.program_laws.proofs.Ties.{AreLaws}
@@ -48,7 +49,6 @@ use Rattle.program_laws.proofs.UnitOrders.{IsDown, IsNumbered, on-first}
 use Rattle.program_laws.proofs.UnitHands.{IsCalm, other-calm}
 use Rattle.program_laws.proofs.UnitTold.{IsTold, Begins_out, Begins_in, Absorbs, Supplies, Tells_again, Ends, IsReportTaken, report-taken}
 use Rattle.program_laws.proofs.LinkNeeds.{held-needs}
-use Rattle.program_laws.proofs.LinkChosen.{IsFound, IsFitting}
 use Rattle.program_laws.proofs.LinkOrders.{IsLinked, number_of, took_of, number-drawn}
 use Rattle.program_laws.proofs.LinkIdle.{IsIdle, IsNoOffer, idle-meets}
 use Rattle.program_laws.proofs.LinkCourses.{Course, Follows, Cut, CourseOf, over-course, course-carried, course-down, course-reports}
@@ -126,7 +126,7 @@ sends-flows side begun k downs ups u path d g a =
     course-carried side begun k downs (with_any_sent downs one) ups ups u u
     (λ P Q R f w. wired-sends side (number_of k) (length (took_of k)) P Q R downs ups u one (g (number_of k) (length (took_of k)) Q) w) a
 
-pub choose-flows : (sub : Subchannel) (c : Chosen) (k : Option Story) (u : UnitState) → IsFitting sub.state c → HeldBy sub.state k → IsLinked sub.setup.side sub.state.drawn sub.wires.down k u →
+pub choose-flows : (sub : Subchannel) (c : Chosen) (k : Option Story) (u : UnitState) → Suits c sub.state → HeldBy sub.state k → IsLinked sub.setup.side sub.state.drawn sub.wires.down k u →
     AtSub sub.setup.side sub k u → IfOk (choose_sub sub c) (λ t. HeldBy t.sub.state (chosen_at (Some sub) t.reply k) → AtSub sub.setup.side t.sub (chosen_at (Some sub) t.reply k) u)
 choose-flows sub Idle k u w h l a = λ x. a
 choose-flows sub (Resets r path) k u w h l a =
@@ -145,7 +145,7 @@ choose-flows sub (Offers c path) k u w h l a =
       wires = record sub.wires { down = with_any_sent sub.wires.down (Some (record { path = path; signal = down.Select (sub.state.drawn + 1) })) };
     } in
     if-ok (λ t. HeldBy t.sub.state (chosen_at (Some sub) t.reply k) → AtSub sub.setup.side t.sub (chosen_at (Some sub) t.reply k) u) (is_full sub.wires.down path) (Err fault.WireFull) _ tt
-    (offers-flows sub c.program path c.resumes t k u w.1 h l a refl refl refl)
+    (offers-flows sub c.program path c.resumes t k u w.found h l a refl refl refl)
 
 -- Up: where nothing was offered, and where the program was over before the device was done
 untold-no-offer : (phase : HoldPhase) (drawn : ℕ) → IsUnheld phase drawn → IsNoOffer phase

@@ -40,6 +40,7 @@ use Rattle.machine_model.specs.ChooseSteps.{choose_sub}
 use Rattle.machine_model.specs.UpSteps.{up_front, up_sub}
 use Rattle.machine_model.specs.DownSteps.{down_front, down_sub}
 use Rattle.machine_model.specs.ReportSteps.{report_taken}
+use Rattle.step_laws.specs.Walks.{IsFound, Suits}
 use Rattle.program_laws.specs.Stories.{silent_by, Story, offered, offered_for, chosen_at, meets, met_with, met_at, taken_at, absorbs, reported, reported_at}
 use Rattle.program_laws.proofs.Turns.{Happening, Stays, Starts_with_orb, Is_tested, Is_resumed, Is_halted, Is_cleared, Is_cancelled, Is_modified, Is_chosen, Meets, Sinks, Is_reported, Other_sinks, Other_reported, if-ok}
 use Rattle.channel_program.specs.Programs.{Command, commands, code}
@@ -50,7 +51,6 @@ use Rattle.program_laws.proofs.UnitSides.{IsStillStep, other-still, report-still
 use Rattle.program_laws.proofs.UnitOrders.{IsAbove, IsDown, AreOn, IsOrdered, on-taken, on-first, hold-sends, hold-begins, hold-offers, hold-draws, ordered-still, took_after, unit-takes}
 use Rattle.program_laws.proofs.LinkNeeds.{IsLast, IsNeeded, Needs, reset-needs}
 use Rattle.program_laws.proofs.LinkDrawn.{up-drawn}
-use Rattle.program_laws.proofs.LinkChosen.{IsFound, IsFitting, chosen-fits}
 use Rattle.program_laws.proofs.UnitGrowth.{later_codes, later-none, codes_of, IsGrown, meets-grown}
 use Rattle.program_laws.proofs.LinkSent.{IsOf, IsAtWork, up-sends}
 
@@ -161,7 +161,7 @@ offered-linked sub path program true (Some k) u w n l =
     subst (λ (xs : List ℕ). IsOrdered sub.setup.side t t 0 xs [] wires u) (sym none) (offer-linked sub.setup.side sub.state.drawn path sub.wires.down (Some k) u n.number l)
 
 -- whatever is chosen
-choose-linked : (sub : Subchannel) (c : Chosen) (k : Option Story) (u : UnitState) → IsFitting sub.state c → Needs k sub.state →
+choose-linked : (sub : Subchannel) (c : Chosen) (k : Option Story) (u : UnitState) → Suits c sub.state → Needs k sub.state →
     IsLinked sub.setup.side sub.state.drawn sub.wires.down k u →
     IfOk (choose_sub sub c) (λ t. IsLinked sub.setup.side t.sub.state.drawn t.sub.wires.down (chosen_at (Some sub) t.reply k) u)
 choose-linked sub Idle k u w n l = l
@@ -177,7 +177,7 @@ choose-linked sub Over k u w n l =
     subst (λ (i : ℕ). IsLinked sub.setup.side i sub.wires.down k u) (sym (cause-kept sub.state cause.NoPath).drawn) l
 choose-linked sub (Offers c path) k u w n l =
     if-ok (λ t. IsLinked sub.setup.side t.sub.state.drawn t.sub.wires.down (chosen_at (Some sub) t.reply k) u) (is_full sub.wires.down path) (Err fault.WireFull) _ tt
-    (offered-linked sub path c.program c.resumes k u w.1 n l)
+    (offered-linked sub path c.program c.resumes k u w.found n l)
 
 -- Up
 met-linked : (returns : Bool) → (storage : Contents) (sub : Subchannel) (path : ℕ) (x : Up) (k : Option Story) (u : UnitState) (drawn : ℕ) →
@@ -393,12 +393,12 @@ drawn-of x y e = ap (λ (z : Subchannel). z.state.drawn) e
 down-of-sub : (x y : Subchannel) → x ≡ y → x.wires.down ≡ y.wires.down
 down-of-sub x y e = ap (λ (z : Subchannel). z.wires.down) e
 
-chosen-at : (sub : Subchannel) (choice : Option ℕ) (k : Option Story) (u : Option UnitState) (t : SubTurn) → choose_sub sub (chosen sub choice) ≡ Ok t → Needs k sub.state →
+chosen-at : (sub : Subchannel) (choice : Option ℕ) (k : Option Story) (u : Option UnitState) (t : SubTurn) → Suits (chosen sub choice) sub.state → choose_sub sub (chosen sub choice) ≡ Ok t → Needs k sub.state →
     AtUnit (IsLinked sub.setup.side sub.state.drawn sub.wires.down k) u → AtUnit (IsLinked sub.setup.side t.sub.state.drawn t.sub.wires.down (chosen_at (Some sub) t.reply k)) u
-chosen-at sub choice k None t e n l = absurd l
-chosen-at sub choice k (Some u) t e n l =
+chosen-at sub choice k None t f e n l = absurd l
+chosen-at sub choice k (Some u) t f e n l =
     subst (λ (r : Result SubTurn Fault). IfOk r (λ t. IsLinked sub.setup.side t.sub.state.drawn t.sub.wires.down (chosen_at (Some sub) t.reply k) u)) e
-    (choose-linked sub (chosen sub choice) k u (chosen-fits sub choice) n l)
+    (choose-linked sub (chosen sub choice) k u f n l)
 
 met-at : (returns : Bool) → (storage : Contents) (sub : Subchannel) (path : ℕ) (k : Option Story) (u : Option UnitState) (t : UpTurn) → up_sub returns storage sub path ≡ Ok t → Needs k sub.state →
     Needs (met_at storage (Some sub) path k) t.sub.state → AtUnit (IsLinked sub.setup.side sub.state.drawn sub.wires.down k) u →
@@ -437,9 +437,9 @@ happens-linked storage old new u v f (Is_cancelled e w s) i a k n m l =
 happens-linked storage old new u v f (Is_modified pmcw e w s) i a k n m l =
     at-same old.setup.side new.setup.side old.state.drawn new.state.drawn old.wires.down new.wires.down k (f k) u v (side-of new old i) (drawn-of new (with_state old (record old.state { pmcw = pmcw })) e)
     (down-of-sub new (with_state old (record old.state { pmcw = pmcw })) e) (s k) w l
-happens-linked storage old new u v f (Is_chosen choice t c e w s) i a k n m l =
+happens-linked storage old new u v f (Is_chosen choice t x c e w s) i a k n m l =
     at-same old.setup.side new.setup.side t.sub.state.drawn new.state.drawn t.sub.wires.down new.wires.down (chosen_at (Some old) t.reply k) (f k) u v (side-of new old i) (drawn-of new t.sub e) (down-of-sub new t.sub e) (s k) w
-    (chosen-at old choice k u t c n l)
+    (chosen-at old choice k u t x c n l)
 happens-linked storage old new u v f (Meets path returns t c e w s) i a k n m l =
     at-same old.setup.side new.setup.side t.sub.state.drawn new.state.drawn t.sub.wires.down new.wires.down (met_at storage (Some old) path k) (f k) u v (side-of new old i) (drawn-of new t.sub e) (down-of-sub new t.sub e) (s k) w
     (met-at returns storage old path k u t c n

@@ -28,6 +28,7 @@ use Rattle.machine_model.specs.Turns.{with_state, SubTurn, UpTurn, DownTurn}
 use Rattle.machine_model.specs.ChooseSteps.{choose_sub}
 use Rattle.machine_model.specs.UpSteps.{up_sub}
 use Rattle.machine_model.specs.Steps.{Run, Opened, Stepped}
+use Rattle.step_laws.specs.Walks.{Suits}
 use Rattle.program_laws.specs.Stories.{Story, chosen_at, met_at, taken_at, reported_at, story, story_after}
 use Rattle.program_laws.specs.Claims.{AbsorbsInOrder, part_of}
 use Rattle.program_laws.proofs.Turns.{Happening, Stays, Starts_with_orb, Is_tested, Is_resumed, Is_halted, Is_cleared, Is_cancelled, Is_modified, Is_chosen, Meets, Sinks, Is_reported, Other_sinks, Other_reported, step-happens}
@@ -36,7 +37,6 @@ use Rattle.program_laws.proofs.Accesses.{AreAccesses}
 use Rattle.program_laws.proofs.Holds.{HasWork, HeldBy}
 use Rattle.program_laws.proofs.UnitHands.{IsCalm}
 use Rattle.program_laws.proofs.LinkNeeds.{held-needs}
-use Rattle.program_laws.proofs.LinkChosen.{chosen-fits}
 use Rattle.program_laws.proofs.LinkOrders.{AtUnit, IsLinked}
 use Rattle.program_laws.proofs.Caused.{tested-begun, halted-begun}
 use Rattle.program_laws.proofs.LinkWires.{HandClosed, IsGiving, IsTelling, IsClosed, IsWired}
@@ -57,13 +57,13 @@ flows-as side new x k m u v a b c d l =
     (subst (λ (y : Option Story). Flows side x y v) (sym c)
     (subst (λ (y : Option UnitState). Flows side x k y) (sym d) l)))
 
-chosen-flows : (sub : Subchannel) (choice : Option ℕ) (k : Option Story) (u : Option UnitState) (t : SubTurn) → choose_sub sub (chosen sub choice) ≡ Ok t → HeldBy sub.state k →
+chosen-flows : (sub : Subchannel) (choice : Option ℕ) (k : Option Story) (u : Option UnitState) (t : SubTurn) → Suits (chosen sub choice) sub.state → choose_sub sub (chosen sub choice) ≡ Ok t → HeldBy sub.state k →
     HeldBy t.sub.state (chosen_at (Some sub) t.reply k) → AtUnit (IsLinked sub.setup.side sub.state.drawn sub.wires.down k) u → Flows sub.setup.side sub k u →
     Flows sub.setup.side t.sub (chosen_at (Some sub) t.reply k) u
-chosen-flows sub choice k None t e h i l a = absurd l
-chosen-flows sub choice k (Some u) t e h i l a =
+chosen-flows sub choice k None t f e h i l a = absurd l
+chosen-flows sub choice k (Some u) t f e h i l a =
     (subst (λ (r : Result SubTurn Fault). IfOk r (λ t. HeldBy t.sub.state (chosen_at (Some sub) t.reply k) → AtSub sub.setup.side t.sub (chosen_at (Some sub) t.reply k) u)) e
-    (choose-flows sub (chosen sub choice) k u (chosen-fits sub choice) h l a)) i
+    (choose-flows sub (chosen sub choice) k u f h l a)) i
 
 -- a state with the same program at work
 state-flows : (sub : Subchannel) (x : SubchannelState) (k : Option Story) (u : Option UnitState) → x.begun ≡ sub.state.begun → Flows sub.setup.side sub k u →
@@ -111,9 +111,9 @@ module _ (laws : AreLaws) (accesses : AreAccesses) where
   happens-flows storage old new u v f (Is_modified pmcw e w s) i k n m l a =
       flows-as old.setup.side new (with_state old (record old.state { pmcw = pmcw })) k (f k) u v (ap (λ (x : SubchannelSetup). x.side) i) e (s k) w
       (state-flows old (record old.state { pmcw = pmcw }) k u refl a)
-  happens-flows storage old new u v f (Is_chosen choice t c e w s) i k n m l a =
+  happens-flows storage old new u v f (Is_chosen choice t x c e w s) i k n m l a =
       flows-as old.setup.side new t.sub (chosen_at (Some old) t.reply k) (f k) u v (ap (λ (x : SubchannelSetup). x.side) i) e (s k) w
-      (chosen-flows old choice k u t c n
+      (chosen-flows old choice k u t x c n
       (subst (λ (x : Subchannel). HeldBy x.state (chosen_at (Some old) t.reply k)) e (subst (λ (x : Option Story). HeldBy new.state x) (s k) m)) l a)
   happens-flows storage old new u v f (Meets path returns t c e w s) i k n m l a =
       flows-as old.setup.side new t.sub (met_at storage (Some old) path k) (f k) u v (ap (λ (x : SubchannelSetup). x.side) i) e (s k) w (met-flows returns storage old path k u t c n a)

@@ -43,7 +43,7 @@ use Rattle.machine_model.specs.UpSteps.{up_front, up_sub}
 use Rattle.machine_model.specs.DownSteps.{down_front, down_sub}
 use Rattle.machine_model.specs.ReportSteps.{report_taken, report_sub}
 use Rattle.step_laws.specs.Walks as walked
-use Rattle.step_laws.specs.Walks.{Walked, IsQuiet, OneSub, OneUnit, Function, effect_of}
+use Rattle.step_laws.specs.Walks.{Walked, IsQuiet, Suits, OneSub, OneUnit, Function, effect_of}
 use Rattle.program_laws.specs.Stories.{Story, is_place, chosen_at, met_at, taken_at, reported_at, story_after}
 use Rattle.program_laws.proofs.TurnPlaces.{get-set, get-other, same-or-not}
 
@@ -64,7 +64,7 @@ pub data Happening (storage : Contents) (old new : Subchannel) (u v : Option Uni
   Is_cancelled : new ≡ with_state old (cancelled old.state) → v ≡ u → ((k : Option Story) → f k ≡ k) → Happening storage old new u v f
   Is_modified : (pmcw : Pmcw) → new ≡ with_state old (record old.state { pmcw = pmcw }) → v ≡ u → ((k : Option Story) → f k ≡ k) → Happening storage old new u v f
   -- the subsystem chooses a path
-  Is_chosen : (choice : Option ℕ) (t : SubTurn) → choose_sub old (chosen old choice) ≡ Ok t → new ≡ t.sub → v ≡ u →
+  Is_chosen : (choice : Option ℕ) (t : SubTurn) → Suits (chosen old choice) old.state → choose_sub old (chosen old choice) ≡ Ok t → new ≡ t.sub → v ≡ u →
       ((k : Option Story) → f k ≡ chosen_at (Some old) t.reply k) → Happening storage old new u v f
   -- a signal comes up
   Meets : (path : ℕ) (returns : Bool) (t : UpTurn) → up_sub returns storage old path ≡ Ok t → new ≡ t.sub → v ≡ u →
@@ -265,9 +265,9 @@ module _ (s : State) (one : IsOneSided s) (place : ℕ) where
   step-turns _ _ _ (walked.Tested e r at sub c new q o) = test-turns e r new at sub c q o
   step-turns _ _ _ (walked.Modified e r at sub given c new q o) = modify-turns e r new at sub given c q o
   step-turns _ _ _ (walked.Performed e r at sub f c new q o) = perform-turns e r new at sub f c q o
-  step-turns _ _ _ (walked.Chosen word at sub choice t new n x h o) =
+  step-turns _ _ _ (walked.Chosen word at sub choice t new n x f h o) =
       sub-turns new at sub t.sub _ o (subst (λ (o : Result SubTurn Fault). IfOk o (λ t. t.sub.setup ≡ sub.setup)) h (choose-setup sub (chosen sub choice)))
-      (λ there w. Is_chosen choice t h refl refl
+      (λ there w. Is_chosen choice t f h refl refl
       (λ k. here (place_of s word) at (chosen_at (slice_get s.subs place) t.reply) n w k ∙ ap (λ q. chosen_at q t.reply k) there))
       (λ w. elsewhere (place_of s word) at (chosen_at (slice_get s.subs place) t.reply) n w)
   step-turns _ _ _ (walked.Met word path returns at sub t new n h o) =

@@ -1,1 +1,2 @@
 mod Walk
+mod Suiting

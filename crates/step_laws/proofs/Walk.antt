@@ -33,6 +33,7 @@ use Rattle.machine_model.specs.ReportSteps.{report_sub, report_to, report_at}
 use Rattle.machine_model.specs.StorageSteps.{storage_turn, show_turn_of}
 use Rattle.machine_model.specs.Steps.{Steps, Step}
 use Rattle.step_laws.specs.Walks as walked
+use Rattle.step_laws.proofs.Suiting.{chosen-suits}
 use Rattle.step_laws.specs.Walks.{Walked, IsQuiet, Function, Resumes, Halts, Clears, Cancels}
 
 -- the subchannel at the first place that passes a test passes it
@@ -191,7 +192,7 @@ module _ (s : State) where
   chooses-walk word (Some place) None o n e w = subst (OkAll (event.Choose word)) (sym w) tt
   chooses-walk word (Some place) (Some sub) o n e w =
       subst (OkAll (event.Choose word)) (sym w.2)
-      (at_sub-walks (event.Choose word) place (choose_sub sub (chosen sub w.0)) (λ t h. walked.Chosen word place sub w.0 t _ n w.1 h (record { there = e; sets = refl; subs = refl; units = refl })))
+      (at_sub-walks (event.Choose word) place (choose_sub sub (chosen sub w.0)) (λ t h. walked.Chosen word place sub w.0 t _ n w.1 (chosen-suits sub w.0) h (record { there = e; sets = refl; subs = refl; units = refl })))
 
   ups-walk : (word : ℕ) (p : Option ℕ) (q : Option Subchannel) (path : ℕ) → place_of s word ≡ p → sub_at s.subs p ≡ q → OkAll (event.Up word path) (up_at s p q path)
   ups-walk word None q path n e = tt

@@ -12,12 +12,16 @@ use Rattle.chan_events.specs.declared.reply.Reply.TheVariants as reply
 use Rattle.chan_model.specs.declared.report.Report.{Report}
 use Rattle.chan_model.specs.declared.unit_state.UnitState.{UnitState}
 use Rattle.path_select.specs.Choice.{IsChoice}
+use Rattle.subchannel_model.specs.declared.state.Chosen as choosing
+use Rattle.subchannel_model.specs.declared.state.Chosen.TheVariants.{Offers}
+use Rattle.subchannel_model.specs.declared.state.Program.{Program}
+use Rattle.subchannel_model.specs.declared.state.Standing.{Standing}
 use Rattle.subchannel_model.specs.declared.state.Subchannel.{Subchannel}
 use Rattle.subchannel_model.specs.declared.state.SubchannelState.{SubchannelState}
 use Rattle.machine_model.specs.State.{State, place_of}
 use Rattle.subchannel_model.specs.Places.{reaches, reached_in}
 use Rattle.subchannel_model.specs.Functions.{resumed, halted, cleared, cancelled}
-use Rattle.subchannel_model.specs.Choosing.{chosen, paths_to_choose}
+use Rattle.subchannel_model.specs.Choosing.{IsFitFor, chosen, paths_to_choose}
 use Rattle.machine_model.specs.Turns.{SubTurn, UpTurn, DownTurn}
 use Rattle.machine_model.specs.InstructionSteps.{start_with, test_with, modify_with, function_sub}
 use Rattle.machine_model.specs.ChooseSteps.{choose_sub}
@@ -67,6 +71,20 @@ pub record OneUnit (s new : State) (place : ℕ) (sub after : Subchannel) (at : 
   pub subs : new.subs ≡ slice_set s.subs place after
   pub units : new.units ≡ slice_set s.units at v
 
+-- a program is there that waits, or one that is suspended
+abbrev pub IsFound : Option Program → Option Standing → Bool → Program → Type 0
+IsFound waiting suspended false program = waiting ≡ Some program
+IsFound waiting suspended true program = (st : Standing) × (suspended ≡ Some st)
+
+abbrev pub IsOfProgram : choosing.Chosen → SubchannelState → Type 0
+IsOfProgram (Offers c path) s = IsFound s.waiting s.suspended c.resumes c.program
+IsOfProgram c s = Unit {0}
+
+-- what is chosen suits the subchannel: it fits the hold, and what is offered is a program that is there
+pub record Suits (c : choosing.Chosen) (s : SubchannelState) : Type 0 where
+  pub fits : IsFitFor c s.hold
+  pub found : IsOfProgram c s
+
 pub data Walked (s : State) : Event → Reply → State → Type 0 where
   Stays : (e : Event) (r : Reply) (new : State) → IsQuiet e r → new.sets ≡ s.sets → new.subs ≡ s.subs → new.units ≡ s.units → Walked s e r new
   Started : (cpu word address place : ℕ) (sub : Subchannel) (orb : Orb) (c : ConditionCode) (new : State) → place_of s word ≡ Some place →
@@ -78,7 +96,8 @@ pub data Walked (s : State) : Event → Reply → State → Type 0 where
   Performed : (e : Event) (r : Reply) (place : ℕ) (sub : Subchannel) (f : Function) (c : ConditionCode) (new : State) → IsQuiet e r →
       OneSub s new place sub (function_sub sub c (effect_of f sub.state)).sub → Walked s e r new
   Chosen : (word place : ℕ) (sub : Subchannel) (choice : Option ℕ) (t : SubTurn) (new : State) → place_of s word ≡ Some place →
-      IsChoice (paths_to_choose s.subs sub) choice → choose_sub sub (chosen sub choice) ≡ Ok t → OneSub s new place sub t.sub →
+      IsChoice (paths_to_choose s.subs sub) choice → Suits (chosen sub choice) sub.state → choose_sub sub (chosen sub choice) ≡ Ok t →
+      OneSub s new place sub t.sub →
       Walked s (event.Choose word) t.reply new
   Met : (word path : ℕ) (returns : Bool) (place : ℕ) (sub : Subchannel) (t : UpTurn) (new : State) → place_of s word ≡ Some place →
       up_sub returns s.storage sub path ≡ Ok t → OneSub s new place sub t.sub → Walked s (event.Up word path) t.reply new

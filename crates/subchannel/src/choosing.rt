@@ -5,7 +5,8 @@ ghost use Rattle.subchannel_model.specs.Choosing as spec;
 ghost use Rattle.chan_model.specs.declared.hold_state.HoldPhase.TheVariants as phase;
 ghost use Rattle.chan_model.specs.declared.hold_state.HoldState as hold_state;
 
-use crate::paths::{allowed_paths, installed_paths, is_any, return_paths, usable_paths};
+use crate::paths::{engaged_paths, installed_paths, path_use, return_paths};
+use allegiance::path_use::is_any;
 use chan_model::hold_state::{HoldPhase, HoldState};
 use chan_model::names::Path;
 use chan_model::paths::PathSet;
@@ -37,7 +38,7 @@ fn paths_unreset(subs: &Counted<'_>, sub: &Subchannel) -> PathSet
     if sub.state.scsw.activity.halt_pending && is_away(sub.state.hold.phase) {
         return_paths(sub)
     } else {
-        usable_paths(subs, sub)
+        path_use(sub).usable(&engaged_paths(subs, sub))
     }
 }
 
@@ -49,6 +50,18 @@ pub fn paths_to_choose(subs: &Counted<'_>, sub: &Subchannel) -> PathSet
     match unsent_reset(&sub.state.hold) {
         None => paths_unreset(subs, sub),
         Some(_) => installed_paths(sub),
+    }
+}
+
+fn starting(start: bool, waiting: Option<Program>) -> Option<Candidate>
+    ensures { result ≡ spec.starting start waiting }
+{
+    match waiting {
+        Some(program) if start => Some(Candidate {
+            program,
+            resumes: false,
+        }),
+        _ => None,
     }
 }
 
@@ -68,96 +81,89 @@ fn resuming(resume: bool, suspended: Option<Standing>) -> Option<Candidate>
 fn candidate(state: &SubchannelState) -> Option<Candidate>
     ensures { result ≡ spec.candidate state.now }
 {
-    match state.waiting {
-        Some(program) if state.scsw.activity.start_pending => Some(Candidate {
-            program,
-            resumes: false,
+    match starting(state.scsw.activity.start_pending, state.waiting) {
+        Some(candidate) => Some(candidate),
+        None => resuming(state.scsw.activity.resume_pending, state.suspended),
+    }
+}
+
+/// The Reset that is due, where there is a path for it.
+fn reset_chosen(hold: &HoldState, choice: Option<Path>) -> Option<Chosen>
+    ensures chosen { result ≡ spec.reset_chosen (spec.unsent_reset hold.now) choice }
+    ensures fits { IfSome result (λ c. spec.IsFitFor c hold.now) }
+{
+    let number = unsent_reset(hold)?;
+    let path = choice?;
+    Some(Chosen::Resets { number, path })
+}
+
+/// A clear that is pending, where the Reset that is due has no path.
+fn clear_chosen(hold: &HoldState, pending: bool) -> Option<Chosen>
+    ensures chosen { result ≡ spec.clear_chosen (spec.unsent_reset hold.now) pending }
+    ensures fits { IfSome result (λ c. spec.IsFitFor c hold.now) }
+{
+    unsent_reset(hold)?;
+    if pending { Some(Chosen::Clears) } else { None }
+}
+
+/// A halt that is pending.
+fn halt_chosen(pending: bool, hold: &HoldState, choice: Option<Path>) -> Option<Chosen>
+    ensures chosen { result ≡ spec.halt_chosen pending hold.now.phase choice }
+    ensures fits { IfSome result (λ c. spec.IsFitFor c hold.now) }
+{
+    if !pending {
+        return None;
+    }
+    match hold.phase {
+        HoldPhase::Offer { .. } => None,
+        HoldPhase::On { number, path, .. } => Some(Chosen::Halts { number, path }),
+        HoldPhase::Away { number } => Some(Chosen::Halts {
+            number,
+            path: choice?,
         }),
-        _ => resuming(state.scsw.activity.resume_pending, state.suspended),
+        HoldPhase::Free | HoldPhase::Letting { .. } | HoldPhase::Reset { .. } => Some(Chosen::Ends),
     }
 }
 
-fn idle_or_over(any: bool) -> Chosen
-    ensures chosen { result ≡ spec.idle_or_over any }
-    ensures fits { (h : hold_state.HoldState) → spec.IsFitFor result h }
-{
-    if any { Chosen::Idle } else { Chosen::Over }
-}
-
-fn chosen_at(hold: &HoldState, candidate: Candidate, any: bool, choice: Option<Path>) -> Chosen
-    ensures chosen { result ≡ spec.chosen_at hold.now.phase candidate any choice }
-    ensures fits { spec.IsFitFor result hold.now }
-{
-    match (hold.phase, choice) {
-        (HoldPhase::Free, Some(path)) => Chosen::Offers { candidate, path },
-        (HoldPhase::Free | HoldPhase::Reset { .. }, _) => idle_or_over(any),
-        _ => Chosen::Idle,
-    }
-}
-
-fn chosen_for(
+/// A program that is to be offered, and where a path is within reach or none.
+fn offer_chosen(
     hold: &HoldState,
     candidate: Option<Candidate>,
-    any: bool,
+    reachable: bool,
     choice: Option<Path>,
-) -> Chosen
-    ensures chosen { result ≡ spec.chosen_for hold.now.phase candidate any choice }
-    ensures fits { spec.IsFitFor result hold.now }
+) -> Option<Chosen>
+    ensures chosen { result ≡ spec.offer_chosen hold.now.phase candidate reachable choice }
+    ensures fits { IfSome result (λ c. spec.IsFitFor c hold.now) }
 {
-    match candidate {
-        None => Chosen::Idle,
-        Some(candidate) => chosen_at(hold, candidate, any, choice),
+    let candidate = candidate?;
+    match (hold.phase, choice) {
+        (HoldPhase::Free, Some(path)) => Some(Chosen::Offers { candidate, path }),
+        (HoldPhase::Free | HoldPhase::Reset { .. }, _) if !reachable => Some(Chosen::Over),
+        _ => None,
     }
 }
 
-/// What is done where a halt is pending.
-fn chosen_halt(hold: &HoldState, choice: Option<Path>) -> Chosen
-    ensures chosen { result ≡ spec.chosen_halt hold.now.phase choice }
-    ensures fits { spec.IsFitFor result hold.now }
-{
-    match hold.phase {
-        HoldPhase::Offer { .. } => Chosen::Idle,
-        HoldPhase::On { number, path, .. } => Chosen::Halts { number, path },
-        HoldPhase::Away { number } => match choice {
-            None => Chosen::Idle,
-            Some(path) => Chosen::Halts { number, path },
-        },
-        HoldPhase::Free | HoldPhase::Letting { .. } | HoldPhase::Reset { .. } => Chosen::Ends,
-    }
-}
-
-fn chosen_unreset(sub: &Subchannel, choice: Option<Path>) -> Chosen
-    ensures chosen { result ≡ spec.chosen_unreset sub.now choice }
-    ensures fits { spec.IsFitFor result sub.now.state.hold }
-{
-    if sub.state.scsw.activity.halt_pending {
-        return chosen_halt(&sub.state.hold, choice);
-    }
-    let any = is_any(&allowed_paths(sub));
-    chosen_for(&sub.state.hold, candidate(&sub.state), any, choice)
-}
-
-/// What is done where a Reset is due and there is no path for it.
-fn chosen_without_path(sub: &Subchannel) -> Chosen
-    ensures chosen { result ≡ spec.chosen_without_path sub.now }
-    ensures fits { spec.IsFitFor result sub.now.state.hold }
-{
-    if sub.state.scsw.activity.clear_pending {
-        Chosen::Clears
-    } else {
-        chosen_unreset(sub, None)
-    }
-}
-
-/// What is done, where this path was chosen of those of `paths_to_choose`.
+/// What is done, where this path was chosen of those of `paths_to_choose`: the first that applies of a Reset that is due, a
+/// clear without a path for its Reset, a halt, and an offer.
 pub fn chosen(sub: &Subchannel, choice: Option<Path>) -> Chosen
     ensures chosen { result ≡ spec.chosen sub.now choice }
     ensures fits { spec.IsFitFor result sub.now.state.hold }
 {
-    match (unsent_reset(&sub.state.hold), choice) {
-        (None, _) => chosen_unreset(sub, choice),
-        (Some(_), None) => chosen_without_path(sub),
-        (Some(number), Some(path)) => Chosen::Resets { number, path },
+    let hold = &sub.state.hold;
+    let activity = &sub.state.scsw.activity;
+    if let Some(chosen) = reset_chosen(hold, choice) {
+        return chosen;
+    }
+    if let Some(chosen) = clear_chosen(hold, activity.clear_pending) {
+        return chosen;
+    }
+    if let Some(chosen) = halt_chosen(activity.halt_pending, hold, choice) {
+        return chosen;
+    }
+    let reachable = is_any(&path_use(sub).reachable());
+    match offer_chosen(hold, candidate(&sub.state), reachable, choice) {
+        Some(chosen) => chosen,
+        None => Chosen::Idle,
     }
 }
 

@@ -1,85 +1,22 @@
 //! The sets of paths of which one is chosen (own).
 
-ghost use Rattle.std.specs.Prelude.{◌≡◌, ◌<◌, ◌&&◌, nat_lt, length};
+ghost use Rattle.std.specs.Prelude.{◌≡◌, ◌<◌, ◌&&◌, nat_lt, length, slice_get};
 ghost use Rattle.allegiance.specs.Allegiances.{may_reconnect as may_reconnect_by};
 ghost use Rattle.allegiance.specs.PathUse as set_spec;
 ghost use Rattle.subchannel_model.specs.Choosing as spec;
 ghost use Rattle.subchannel_model.specs.SubchannelBlocks as block_spec;
 
 use allegiance::allegiances::may_reconnect;
+use allegiance::path_use::PathUse;
 use chan_model::names::Path;
 use chan_model::paths::PathSet;
 use finding::engines::Counted;
 use subchannel_model::state::Subchannel;
 
-fn keeps_dedicated(dedicated: Option<Path>, path: usize) -> bool
-    ensures { result ≡ set_spec.keeps_dedicated dedicated path }
-{
-    match dedicated {
-        None => true,
-        Some(allegiance) => allegiance.index() == path,
-    }
-}
-
 fn is_installed(sub: &Subchannel, path: usize) -> bool
     ensures { result ≡ nat_lt path (length sub.now.setup.paths) }
 {
     path < sub.setup.paths.as_slice().len()
-}
-
-/// Whether a path may be used: it is installed, logically available, and that of a dedicated allegiance where one stands.
-fn is_allowed(sub: &Subchannel, path: usize) -> bool
-    requires { path < 8 }
-    ensures { result ≡ spec.is_allowed sub.now path }
-{
-    is_installed(sub, path)
-        && sub.state.pmcw.logical[path]
-        && keeps_dedicated(sub.state.dedicated, path)
-}
-
-fn is_usable(subs: &Counted<'_>, sub: &Subchannel, path: usize) -> bool
-    requires { path < 8 }
-    ensures { result ≡ spec.is_usable subs.now sub.now path }
-{
-    if !is_allowed(sub, path) {
-        return false;
-    }
-    match sub.setup.paths.as_slice().get(path) {
-        None => true,
-        Some(chpid) => !subs.is_engaged(*chpid),
-    }
-}
-
-/// The paths that may be used.
-pub(crate) fn allowed_paths(sub: &Subchannel) -> PathSet
-    ensures { result ≡ spec.allowed_paths sub.now }
-{
-    [
-        is_allowed(sub, 0),
-        is_allowed(sub, 1),
-        is_allowed(sub, 2),
-        is_allowed(sub, 3),
-        is_allowed(sub, 4),
-        is_allowed(sub, 5),
-        is_allowed(sub, 6),
-        is_allowed(sub, 7),
-    ]
-}
-
-/// The paths that may be used and whose engines are free.
-pub(crate) fn usable_paths(subs: &Counted<'_>, sub: &Subchannel) -> PathSet
-    ensures { result ≡ spec.usable_paths subs.now sub.now }
-{
-    [
-        is_usable(subs, sub, 0),
-        is_usable(subs, sub, 1),
-        is_usable(subs, sub, 2),
-        is_usable(subs, sub, 3),
-        is_usable(subs, sub, 4),
-        is_usable(subs, sub, 5),
-        is_usable(subs, sub, 6),
-        is_usable(subs, sub, 7),
-    ]
 }
 
 /// The paths that are installed.
@@ -95,6 +32,47 @@ pub(crate) fn installed_paths(sub: &Subchannel) -> PathSet
         is_installed(sub, 5),
         is_installed(sub, 6),
         is_installed(sub, 7),
+    ]
+}
+
+/// What decides which paths the subchannel may use. Each path that is installed is available.
+pub(crate) fn path_use(sub: &Subchannel) -> PathUse
+    ensures { result ≡ spec.path_use sub.now }
+{
+    let pmcw = &sub.state.pmcw;
+    let installed = installed_paths(sub);
+    PathUse {
+        logical: pmcw.logical,
+        installed,
+        available: installed,
+        operational: pmcw.operational,
+        not_operational: pmcw.not_operational,
+        dedicated: sub.state.dedicated,
+    }
+}
+
+fn is_engaged(subs: &Counted<'_>, sub: &Subchannel, path: usize) -> bool
+    ensures { result ≡ spec.is_engaged subs.now (slice_get sub.now.setup.paths path) }
+{
+    match sub.setup.paths.as_slice().get(path) {
+        None => false,
+        Some(chpid) => subs.is_engaged(*chpid),
+    }
+}
+
+/// The paths of the subchannel whose engines serve some subchannel.
+pub(crate) fn engaged_paths(subs: &Counted<'_>, sub: &Subchannel) -> PathSet
+    ensures { result ≡ spec.engaged_paths subs.now sub.now }
+{
+    [
+        is_engaged(subs, sub, 0),
+        is_engaged(subs, sub, 1),
+        is_engaged(subs, sub, 2),
+        is_engaged(subs, sub, 3),
+        is_engaged(subs, sub, 4),
+        is_engaged(subs, sub, 5),
+        is_engaged(subs, sub, 6),
+        is_engaged(subs, sub, 7),
     ]
 }
 
@@ -124,11 +102,4 @@ pub(crate) fn return_paths(sub: &Subchannel) -> PathSet
         may_return(sub, &installed, 6),
         may_return(sub, &installed, 7),
     ]
-}
-
-pub(crate) fn is_any(set: &PathSet) -> bool
-    ensures { result ≡ set_spec.is_any set.now }
-{
-    let [a, b, c, d, e, f, g, h] = *set;
-    a || b || c || d || e || f || g || h
 }

@@ -1,5 +1,5 @@
 -- What the subsystem does of itself for a subchannel (own).
-use Rattle.std.specs.Prelude.{◌≡◌, ℕ, ◌+◌, Bool, true, false, not, ◌==◌, ◌&&◌, nat_lt, if◌then◌else◌, Option, None, Some, List, length, slice_get}
+use Rattle.std.specs.Prelude.{◌≡◌, ℕ, ◌+◌, Bool, true, false, ◌==◌, ◌&&◌, if◌then◌else◌, Option, None, Some, unwrap_or, List, [], ◌∷◌, slice_get}
 use Rattle.std.specs.List.{list_any}
 use Rattle.chan_model.specs.declared.hold_state.HoldPhase.{HoldPhase}
 use Rattle.chan_model.specs.declared.hold_state.HoldPhase.TheVariants as hold
@@ -8,7 +8,8 @@ use Rattle.chan_model.specs.HoldTable.{offering, sending_reset, hold_after}
 use Rattle.chan_model.specs.ResetCauses.{engaged_path}
 use Rattle.scsw_irb.specs.declared.scsw.Scsw.{Scsw}
 use Rattle.allegiance.specs.Allegiances.{may_reconnect}
-use Rattle.allegiance.specs.PathUse.{is_member, each_path, is_any, keeps_dedicated}
+use Rattle.allegiance.specs.declared.path_use.PathUse.{PathUse}
+use Rattle.allegiance.specs.PathUse.{is_member, each_path, is_any, reachable_paths, usable_paths}
 use Rattle.subchannel_model.specs.declared.state.Candidate.{Candidate}
 use Rattle.subchannel_model.specs.declared.state.Chosen.{Chosen}
 use Rattle.subchannel_model.specs.declared.state.Chosen.TheVariants.{Idle, Resets, Clears, Halts, Ends, Over, Offers}
@@ -17,12 +18,6 @@ use Rattle.subchannel_model.specs.declared.state.Standing.{Standing}
 use Rattle.subchannel_model.specs.declared.state.SubchannelState.{SubchannelState}
 use Rattle.subchannel_model.specs.declared.state.Subchannel.{Subchannel}
 use Rattle.subchannel_model.specs.SubchannelBlocks.{installed_paths}
-
--- a path is allowed where it is installed, logically available, and that of a dedicated allegiance where one stands
-abbrev pub is_allowed : Subchannel → ℕ → Bool
-is_allowed sub path =
-    nat_lt path (length sub.setup.paths)
-    && (is_member sub.state.pmcw.logical path && keeps_dedicated sub.state.dedicated path)
 
 -- the engine of a channel path serves one subchannel: the one whose hold is offered, connected or letting go there
 abbrev pub is_chpid : Option ℕ → ℕ → Bool
@@ -43,15 +38,20 @@ abbrev pub is_engaged : List Subchannel → Option ℕ → Bool
 is_engaged subs None = false
 is_engaged subs (Some chpid) = any_engages subs chpid
 
--- a path is usable where it is allowed and its engine is free
-abbrev pub is_usable : List Subchannel → Subchannel → ℕ → Bool
-is_usable subs sub path = is_allowed sub path && not (is_engaged subs (slice_get sub.setup.paths path))
+-- what decides which paths the subchannel may use; each path that is installed is available (own)
+abbrev pub path_use : Subchannel → PathUse
+path_use sub = record {
+  logical = sub.state.pmcw.logical;
+  installed = installed_paths sub;
+  available = installed_paths sub;
+  operational = sub.state.pmcw.operational;
+  not_operational = sub.state.pmcw.not_operational;
+  dedicated = sub.state.dedicated;
+}
 
-abbrev pub allowed_paths : Subchannel → List Bool
-allowed_paths sub = each_path (is_allowed sub)
-
-abbrev pub usable_paths : List Subchannel → Subchannel → List Bool
-usable_paths subs sub = each_path (is_usable subs sub)
+-- the paths of the subchannel whose engines serve some subchannel
+abbrev pub engaged_paths : List Subchannel → Subchannel → List Bool
+engaged_paths subs sub = each_path (λ p. is_engaged subs (slice_get sub.setup.paths p))
 
 -- the paths by which a program that is away may come back
 abbrev pub return_paths : Subchannel → List Bool
@@ -74,7 +74,8 @@ is_away phase = false
 -- program that is away, and otherwise the usable ones
 abbrev pub paths_unreset : List Subchannel → Subchannel → List Bool
 paths_unreset subs sub =
-    if sub.state.scsw.activity.halt_pending && is_away sub.state.hold.phase then return_paths sub else usable_paths subs sub
+    if sub.state.scsw.activity.halt_pending && is_away sub.state.hold.phase then return_paths sub
+    else usable_paths (path_use sub) (engaged_paths subs sub)
 
 abbrev pub paths_by : Option ℕ → List Subchannel → Subchannel → List Bool
 paths_by None subs sub = paths_unreset subs sub
@@ -83,74 +84,81 @@ paths_by (Some r) subs sub = installed_paths sub
 abbrev pub paths_to_choose : List Subchannel → Subchannel → List Bool
 paths_to_choose subs sub = paths_by (unsent_reset sub.state.hold) subs sub
 
--- the program that is to be offered: the one that waits with start pending, or with resume pending the suspended one
+-- the first that there is
+abbrev pub first_of : {A : Type 0} → List (Option A) → Option A
+first_of [] = None
+first_of (None ∷ later) = first_of later
+first_of (Some x ∷ later) = Some x
+
+-- the program that is to be offered: with start pending the one that waits, or else with resume pending the suspended one
+abbrev pub starting : Bool → Option Program → Option Candidate
+starting false waiting = None
+starting true None = None
+starting true (Some program) = Some (record { program = program; resumes = false })
+
 abbrev pub resuming : Bool → Option Standing → Option Candidate
-resuming resume None = None
-resuming resume (Some st) = if resume then Some (record { program = st.program; resumes = true }) else None
-
-abbrev pub starting : Bool → Program → Option Candidate → Option Candidate
-starting start program other = if start then Some (record { program = program; resumes = false }) else other
-
-abbrev pub candidate_of : Bool → Option Program → Option Candidate → Option Candidate
-candidate_of start None other = other
-candidate_of start (Some program) other = starting start program other
+resuming false suspended = None
+resuming true None = None
+resuming true (Some st) = Some (record { program = st.program; resumes = true })
 
 abbrev pub candidate : SubchannelState → Option Candidate
-candidate s = candidate_of s.scsw.activity.start_pending s.waiting (resuming s.scsw.activity.resume_pending s.suspended)
+candidate s =
+    first_of (starting s.scsw.activity.start_pending s.waiting ∷ resuming s.scsw.activity.resume_pending s.suspended ∷ [])
 
--- it is offered on the chosen path where the hold is free, and is over where the hold is free or to be reset and no path is
--- allowed
-abbrev pub idle_or_over : Bool → Chosen
-idle_or_over any = if any then Idle else Over
+-- 1. a Reset is due, and there is a path for it: it is sent
+abbrev pub reset_chosen : Option ℕ → Option ℕ → Option Chosen
+reset_chosen None choice = None
+reset_chosen (Some r) None = None
+reset_chosen (Some r) (Some path) = Some (Resets r path)
 
-abbrev pub chosen_free : Candidate → Bool → Option ℕ → Chosen
-chosen_free c any (Some path) = Offers c path
-chosen_free c any None = idle_or_over any
+-- 2. a Reset is due without a path for it, and a clear is pending: it is performed at once, and the hold stays as it is
+abbrev pub clear_chosen : Option ℕ → Bool → Option Chosen
+clear_chosen None pending = None
+clear_chosen (Some r) pending = if pending then Some Clears else None
 
-abbrev pub chosen_at : HoldPhase → Candidate → Bool → Option ℕ → Chosen
-chosen_at hold.Free c any choice = chosen_free c any choice
-chosen_at (hold.Reset r) c any choice = idle_or_over any
-chosen_at phase c any choice = Idle
+-- 3. a halt is pending: the program that is connected is told by the path of its connection, one that is away by the chosen
+-- path; an offer is waited for; otherwise no device is held, and the halt is performed
+abbrev pub halt_away : ℕ → Option ℕ → Option Chosen
+halt_away t None = None
+halt_away t (Some path) = Some (Halts t path)
 
-abbrev pub chosen_for : HoldPhase → Option Candidate → Bool → Option ℕ → Chosen
-chosen_for phase None any choice = Idle
-chosen_for phase (Some c) any choice = chosen_at phase c any choice
+abbrev pub halt_at : HoldPhase → Option ℕ → Option Chosen
+halt_at hold.Free choice = Some Ends
+halt_at (hold.Offer t p) choice = None
+halt_at (hold.On t p c) choice = Some (Halts t p)
+halt_at (hold.Away t) choice = halt_away t choice
+halt_at (hold.Letting t p) choice = Some Ends
+halt_at (hold.Reset r) choice = Some Ends
 
--- a halt that is pending: the program that is connected is told by the path of its connection, one that is away by the
--- chosen path; that of an offer waits for the answer; otherwise no device is held, and the halt is performed
-abbrev pub halting_away : ℕ → Option ℕ → Chosen
-halting_away t None = Idle
-halting_away t (Some path) = Halts t path
+abbrev pub halt_chosen : Bool → HoldPhase → Option ℕ → Option Chosen
+halt_chosen pending phase choice = if pending then halt_at phase choice else None
 
-abbrev pub chosen_halt : HoldPhase → Option ℕ → Chosen
-chosen_halt hold.Free choice = Ends
-chosen_halt (hold.Offer t p) choice = Idle
-chosen_halt (hold.On t p c) choice = Halts t p
-chosen_halt (hold.Away t) choice = halting_away t choice
-chosen_halt (hold.Letting t p) choice = Ends
-chosen_halt (hold.Reset r) choice = Ends
+-- 4. a program is to be offered: it is, on the chosen path, where the hold is free; where the hold is free or to be reset and
+-- no path is within reach, the program is over
+abbrev pub over_unless : Bool → Option Chosen
+over_unless reachable = if reachable then None else Some Over
 
-abbrev pub chosen_unreset : Subchannel → Option ℕ → Chosen
-chosen_unreset sub choice =
-    if sub.state.scsw.activity.halt_pending then chosen_halt sub.state.hold.phase choice
-    else chosen_for sub.state.hold.phase (candidate sub.state) (is_any (allowed_paths sub)) choice
+abbrev pub offer_free : Candidate → Bool → Option ℕ → Option Chosen
+offer_free c reachable None = over_unless reachable
+offer_free c reachable (Some path) = Some (Offers c path)
 
--- a Reset that is due is sent first; where there is no path for it, a clear that is pending is performed at once, and the
--- hold stays as it is
-abbrev pub chosen_without_path : Subchannel → Chosen
-chosen_without_path sub = if sub.state.scsw.activity.clear_pending then Clears else chosen_unreset sub None
+abbrev pub offer_at : HoldPhase → Candidate → Bool → Option ℕ → Option Chosen
+offer_at hold.Free c reachable choice = offer_free c reachable choice
+offer_at (hold.Reset r) c reachable choice = over_unless reachable
+offer_at phase c reachable choice = None
 
-abbrev pub chosen_reset : ℕ → Subchannel → Option ℕ → Chosen
-chosen_reset r sub None = chosen_without_path sub
-chosen_reset r sub (Some path) = Resets r path
+abbrev pub offer_chosen : HoldPhase → Option Candidate → Bool → Option ℕ → Option Chosen
+offer_chosen phase None reachable choice = None
+offer_chosen phase (Some c) reachable choice = offer_at phase c reachable choice
 
-abbrev pub chosen_by : Option ℕ → Subchannel → Option ℕ → Chosen
-chosen_by None sub choice = chosen_unreset sub choice
-chosen_by (Some r) sub choice = chosen_reset r sub choice
-
--- the first that applies of: a Reset that is due, a clear without a path for it, a halt, an offer
+-- the first of the four that applies, otherwise nothing
 abbrev pub chosen : Subchannel → Option ℕ → Chosen
-chosen sub choice = chosen_by (unsent_reset sub.state.hold) sub choice
+chosen sub choice = unwrap_or (first_of (
+    reset_chosen (unsent_reset sub.state.hold) choice
+    ∷ clear_chosen (unsent_reset sub.state.hold) sub.state.scsw.activity.clear_pending
+    ∷ halt_chosen sub.state.scsw.activity.halt_pending sub.state.hold.phase choice
+    ∷ offer_chosen sub.state.hold.phase (candidate sub.state) (is_any (reachable_paths (path_use sub))) choice
+    ∷ [])) Idle
 
 -- an offer is made where the hold is free, a Reset is sent where it is due, and a Halt goes to the program that is held
 abbrev pub IsHeldBy : HoldPhase → ℕ → Type 0
