@@ -16,6 +16,8 @@ use Rattle.interruptions.specs.Requests as requests
 use Rattle.channel_reports.specs.Queue as reports
 use Rattle.io_step.specs.declared.instruction.IoInstruction.{IoInstruction}
 use Rattle.io_step.specs.declared.instruction.IoInstruction.TheVariants as io
+use Rattle.io_step.specs.declared.instruction.OtherInstruction.{OtherInstruction}
+use Rattle.io_step.specs.declared.instruction.OtherInstruction.TheVariants as other
 use Rattle.io_step.specs.declared.instruction.Done.{Done}
 use Rattle.io_step.specs.declared.instruction.Done.TheVariants as done
 use Rattle.io_step.specs.declared.instruction.ChannelPaths.{ChannelPaths}
@@ -127,12 +129,15 @@ abbrev pub On_subchannel : Lent → ℕ → Instruction → Result Done Fault �
 On_subchannel old cpu i (Ok d) new = Replies old cpu i d new
 On_subchannel old cpu i (Err f) new = Leaves old.storage old.sub cpu i (Err f) new.storage new.sub × (new ≡ old)
 
+abbrev pub Performed_other : Lent → ChannelPaths → ℕ → OtherInstruction → Result Done Fault → Lent → Type 0
+Performed_other old paths cpu (other.Tpi mask address) r new = Comes old (tpi_lent old (tpi_turn old.storage old.requests cpu mask address)) r new
+Performed_other old paths cpu (other.Rchp path) r new = Comes old (rchp_lent old (rchp_turn old.reports paths.up path)) r new
+Performed_other old paths cpu (other.Stcrw address) r new = Comes old (stcrw_lent old (stcrw_turn old.storage old.reports cpu address)) r new
+Performed_other old paths cpu (other.Stcps address) r new = Comes old (stcps_lent old (stcps_turn old.storage paths.engaged cpu address)) r new
+
 abbrev pub Performed : Lent → ChannelPaths → ℕ → IoInstruction → Result Done Fault → Lent → Type 0
 Performed old paths cpu (io.Subchannel i) r new = On_subchannel old cpu i r new
-Performed old paths cpu (io.Tpi mask address) r new = Comes old (tpi_lent old (tpi_turn old.storage old.requests cpu mask address)) r new
-Performed old paths cpu (io.Rchp path) r new = Comes old (rchp_lent old (rchp_turn old.reports paths.up path)) r new
-Performed old paths cpu (io.Stcrw address) r new = Comes old (stcrw_lent old (stcrw_turn old.storage old.reports cpu address)) r new
-Performed old paths cpu (io.Stcps address) r new = Comes old (stcps_lent old (stcps_turn old.storage paths.engaged cpu address)) r new
+Performed old paths cpu (io.Other i) r new = Performed_other old paths cpu i r new
 
 -- the condition code that an instruction sets; STORE CHANNEL PATH STATUS sets none
 abbrev pub done_code : Done → Option ConditionCode

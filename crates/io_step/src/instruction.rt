@@ -10,11 +10,9 @@ use chan_model::answer::ConditionCode;
 use scsw_irb::code::IntCode;
 use scsw_irb::crw::Crw;
 
-/// An I/O instruction. Addresses are real.
+/// An I/O instruction that names no subchannel. Addresses are real.
 #[derive(Clone, Copy)]
-pub enum IoInstruction {
-    /// An instruction on a subchannel.
-    Subchannel(Instruction),
+pub enum OtherInstruction {
     /// TEST PENDING INTERRUPTION. `mask` is the byte of control register 6: hexadecimal 80 is subclass 0. With address 0 the
     /// code is stored at 184.
     Tpi { mask: u8, address: u32 },
@@ -24,6 +22,15 @@ pub enum IoInstruction {
     Stcrw { address: u32 },
     /// STORE CHANNEL PATH STATUS.
     Stcps { address: u32 },
+}
+
+/// An I/O instruction.
+#[derive(Clone, Copy)]
+pub enum IoInstruction {
+    /// An instruction on a subchannel.
+    Subchannel(Instruction),
+    /// An instruction that names none.
+    Other(OtherInstruction),
 }
 
 /// What an I/O instruction answered.

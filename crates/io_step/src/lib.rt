@@ -21,7 +21,7 @@ mod tests;
 mod turns;
 
 pub use absent::execute_absent;
-pub use instruction::{ChannelPaths, Done, IoInstruction};
+pub use instruction::{ChannelPaths, Done, IoInstruction, OtherInstruction};
 pub use others::{PathTable, rchp, stcps, stcrw, tpi};
 pub use performing::{perform, perform_absent, perform_provided};
 pub use provided::execute;

@@ -1,12 +1,13 @@
 //! Any I/O instruction, on all that it is lent.
 
-ghost use Rattle.std.specs.Prelude.{◌≡◌, IfOk, IfSome, OnErr, None, Some};
+ghost use Rattle.std.specs.Prelude.{◌≡◌, Option, IfOk, IfSome, OnErr, None, Some};
 ghost use Rattle.machine_model.specs.Bounds.{IsRoomy};
 ghost use Rattle.io_step.specs.Executing.{Executed};
 ghost use Rattle.io_step.specs.Performing as spec;
+ghost use Rattle.subchannel_model.specs.declared.state.Subchannel.{Subchannel};
 
 use crate::absent::execute_absent;
-use crate::instruction::{ChannelPaths, Done, IoInstruction, reply_code};
+use crate::instruction::{ChannelPaths, Done, IoInstruction, OtherInstruction, reply_code};
 use crate::others::{rchp, stcps, stcrw, tpi};
 use crate::provided::execute;
 use chan_events::event::Instruction;
@@ -62,6 +63,37 @@ fn execute_dropping(
     Ok(reply)
 }
 
+/// Performs an instruction that names no subchannel. A refusal changes nothing.
+pub fn perform_other(
+    storage: &mut Storage,
+    pending: &mut Pending,
+    reports: &mut Reports,
+    paths: &ChannelPaths,
+    cpu: Cpu,
+    instruction: OtherInstruction,
+) -> Result<Done, Fault>
+    ensures { (sub : Option Subchannel) → spec.Performed_other (spec.lent storage.old sub pending.old reports.old) paths.now cpu instruction result (spec.lent storage.new sub pending.new reports.new) }
+{
+    match instruction {
+        OtherInstruction::Tpi { mask, address } => match tpi(storage, pending, cpu, mask, address) {
+            Ok(found) => Ok(Done::Interruption(found)),
+            Err(fault) => Err(fault),
+        },
+        OtherInstruction::Rchp { path } => match rchp(reports, &paths.up, path) {
+            Ok(code) => Ok(Done::PathReset(code)),
+            Err(fault) => Err(fault),
+        },
+        OtherInstruction::Stcrw { address } => match stcrw(storage, reports, cpu, address) {
+            Ok(report) => Ok(Done::Report(report)),
+            Err(fault) => Err(fault),
+        },
+        OtherInstruction::Stcps { address } => match stcps(storage, &paths.engaged, cpu, address) {
+            Ok(()) => Ok(Done::Paths),
+            Err(fault) => Err(fault),
+        },
+    }
+}
+
 /// Performs an I/O instruction; the subchannel that it names, where it names one, is provided. A refusal changes nothing.
 pub fn perform_provided(
     storage: &mut Storage,
@@ -82,22 +114,9 @@ pub fn perform_provided(
                 Err(fault) => Err(fault),
             }
         }
-        IoInstruction::Tpi { mask, address } => match tpi(storage, pending, cpu, mask, address) {
-            Ok(found) => Ok(Done::Interruption(found)),
-            Err(fault) => Err(fault),
-        },
-        IoInstruction::Rchp { path } => match rchp(reports, &paths.up, path) {
-            Ok(code) => Ok(Done::PathReset(code)),
-            Err(fault) => Err(fault),
-        },
-        IoInstruction::Stcrw { address } => match stcrw(storage, reports, cpu, address) {
-            Ok(report) => Ok(Done::Report(report)),
-            Err(fault) => Err(fault),
-        },
-        IoInstruction::Stcps { address } => match stcps(storage, &paths.engaged, cpu, address) {
-            Ok(()) => Ok(Done::Paths),
-            Err(fault) => Err(fault),
-        },
+        IoInstruction::Other(instruction) => {
+            perform_other(storage, pending, reports, paths, cpu, instruction)
+        }
     }
 }
 
@@ -119,22 +138,9 @@ pub fn perform_absent(
                 Err(fault) => Err(fault),
             }
         }
-        IoInstruction::Tpi { mask, address } => match tpi(storage, pending, cpu, mask, address) {
-            Ok(found) => Ok(Done::Interruption(found)),
-            Err(fault) => Err(fault),
-        },
-        IoInstruction::Rchp { path } => match rchp(reports, &paths.up, path) {
-            Ok(code) => Ok(Done::PathReset(code)),
-            Err(fault) => Err(fault),
-        },
-        IoInstruction::Stcrw { address } => match stcrw(storage, reports, cpu, address) {
-            Ok(report) => Ok(Done::Report(report)),
-            Err(fault) => Err(fault),
-        },
-        IoInstruction::Stcps { address } => match stcps(storage, &paths.engaged, cpu, address) {
-            Ok(()) => Ok(Done::Paths),
-            Err(fault) => Err(fault),
-        },
+        IoInstruction::Other(instruction) => {
+            perform_other(storage, pending, reports, paths, cpu, instruction)
+        }
     }
 }
 

@@ -3,7 +3,7 @@
 ghost use Rattle.std.specs.Bool.{OnTrue};
 ghost use Rattle.machine_model.specs.Bounds.{IsRoomy};
 
-use crate::{ChannelPaths, Done, IoInstruction, perform};
+use crate::{ChannelPaths, Done, IoInstruction, OtherInstruction, perform};
 use chan_events::event::Instruction;
 use chan_model::answer::ConditionCode;
 use chan_model::fault::Fault;
@@ -128,6 +128,10 @@ fn performed(bench: &mut Lent, instruction: IoInstruction) -> Result<u8, Fault> 
     Ok(code_of(&done))
 }
 
+fn other(bench: &mut Lent, instruction: OtherInstruction) -> Result<u8, Fault> {
+    performed(bench, IoInstruction::Other(instruction))
+}
+
 /// The same where the subchannel is not provided.
 fn performed_absent(bench: &mut Lent, instruction: Instruction) -> Result<u8, Fault> {
     let Some(cpu) = Cpu::new(0) else {
@@ -197,7 +201,7 @@ fn post(bench: &mut Lent) {
     }
 }
 
-const TPI: IoInstruction = IoInstruction::Tpi {
+const TPI: OtherInstruction = OtherInstruction::Tpi {
     mask: 1,
     address: 0x1000,
 };
@@ -207,24 +211,24 @@ fn tpi_stores_the_code_and_takes_it_out(rt: HostRuntime) {
     let Some(mut bench) = made(rt.alloc()) else {
         return assert!(rt; false, "there is memory");
     };
-    assert!(rt; is_code(performed(&mut bench, TPI), 0));
+    assert!(rt; is_code(other(&mut bench, TPI), 0));
     assert!(rt; holds(&bench, 0x1000, &[0; 12]));
     post(&mut bench);
-    let masked = IoInstruction::Tpi {
+    let masked = OtherInstruction::Tpi {
         mask: 0xFE,
         address: 0x1000,
     };
-    assert!(rt; is_code(performed(&mut bench, masked), 0));
-    assert!(rt; is_code(performed(&mut bench, TPI), 1));
+    assert!(rt; is_code(other(&mut bench, masked), 0));
+    assert!(rt; is_code(other(&mut bench, TPI), 1));
     assert!(rt; holds(&bench, 0x1000, &[0, 1, 0, 1, 0, 0, 1, 1, 0, 0, 0, 0]));
     post(&mut bench);
-    let assigned = IoInstruction::Tpi {
+    let assigned = OtherInstruction::Tpi {
         mask: 1,
         address: 0,
     };
-    assert!(rt; is_code(performed(&mut bench, assigned), 1));
+    assert!(rt; is_code(other(&mut bench, assigned), 1));
     assert!(rt; holds(&bench, 184, &[0, 1, 0, 1, 0, 0, 1, 1, 0x38, 0, 0, 0]));
-    assert!(rt; is_code(performed(&mut bench, assigned), 0));
+    assert!(rt; is_code(other(&mut bench, assigned), 0));
 }
 
 #[test]
@@ -234,7 +238,7 @@ fn a_refused_tpi_leaves_the_request(rt: HostRuntime) {
     };
     for address in [2, 0x1_0000, 0xFFFC] {
         post(&mut bench);
-        let refused = performed(&mut bench, IoInstruction::Tpi { mask: 1, address });
+        let refused = other(&mut bench, OtherInstruction::Tpi { mask: 1, address });
         assert!(rt;
             if address == 2 {
                 is_specification(refused)
@@ -242,13 +246,13 @@ fn a_refused_tpi_leaves_the_request(rt: HostRuntime) {
                 is_addressing(refused)
             }
         );
-        assert!(rt; is_code(performed(&mut bench, TPI), 1));
+        assert!(rt; is_code(other(&mut bench, TPI), 1));
     }
-    let unstored = IoInstruction::Tpi {
+    let unstored = OtherInstruction::Tpi {
         mask: 1,
         address: 0xFFFC,
     };
-    assert!(rt; is_addressing(performed(&mut bench, unstored)));
+    assert!(rt; is_addressing(other(&mut bench, unstored)));
 }
 
 #[test]
@@ -256,13 +260,13 @@ fn stcrw_stores_a_report_or_zero(rt: HostRuntime) {
     let Some(mut bench) = made(rt.alloc()) else {
         return assert!(rt; false, "there is memory");
     };
-    let at = |address: u32| IoInstruction::Stcrw { address };
+    let at = |address: u32| OtherInstruction::Stcrw { address };
     bench.reports.path_lost(0x10);
-    assert!(rt; is_specification(performed(&mut bench, at(0x1001))));
-    assert!(rt; is_addressing(performed(&mut bench, at(0x1_0000))));
-    assert!(rt; is_code(performed(&mut bench, at(0x1000)), 0));
+    assert!(rt; is_specification(other(&mut bench, at(0x1001))));
+    assert!(rt; is_addressing(other(&mut bench, at(0x1_0000))));
+    assert!(rt; is_code(other(&mut bench, at(0x1000)), 0));
     assert!(rt; holds(&bench, 0x1000, &[4, 6, 0, 0x10]));
-    assert!(rt; is_code(performed(&mut bench, at(0x1000)), 1));
+    assert!(rt; is_code(other(&mut bench, at(0x1000)), 1));
     assert!(rt; holds(&bench, 0x1000, &[0; 4]));
 }
 
@@ -271,11 +275,11 @@ fn rchp_asks_for_a_path_that_is_up(rt: HostRuntime) {
     let Some(mut bench) = made(rt.alloc()) else {
         return assert!(rt; false, "there is memory");
     };
-    let of = |path: u32| IoInstruction::Rchp { path };
-    assert!(rt; is_operand(performed(&mut bench, of(0x110))));
-    assert!(rt; is_code(performed(&mut bench, of(0x10)), 0));
-    assert!(rt; is_code(performed(&mut bench, of(0x10)), 2));
-    assert!(rt; is_code(performed(&mut bench, of(0x11)), 3));
+    let of = |path: u32| OtherInstruction::Rchp { path };
+    assert!(rt; is_operand(other(&mut bench, of(0x110))));
+    assert!(rt; is_code(other(&mut bench, of(0x10)), 0));
+    assert!(rt; is_code(other(&mut bench, of(0x10)), 2));
+    assert!(rt; is_code(other(&mut bench, of(0x11)), 3));
 }
 
 #[test]
@@ -283,10 +287,10 @@ fn stcps_stores_a_bit_for_each_path(rt: HostRuntime) {
     let Some(mut bench) = made(rt.alloc()) else {
         return assert!(rt; false, "there is memory");
     };
-    let at = |address: u32| IoInstruction::Stcps { address };
-    assert!(rt; is_specification(performed(&mut bench, at(0x1010))));
-    assert!(rt; is_addressing(performed(&mut bench, at(0x1_0000))));
-    assert!(rt; is_code(performed(&mut bench, at(0x1000)), 9));
+    let at = |address: u32| OtherInstruction::Stcps { address };
+    assert!(rt; is_specification(other(&mut bench, at(0x1010))));
+    assert!(rt; is_addressing(other(&mut bench, at(0x1_0000))));
+    assert!(rt; is_code(other(&mut bench, at(0x1000)), 9));
     let mut bytes = [0; 33];
     bytes[2] = 0xC0;
     assert!(rt; holds(&bench, 0x1000, &bytes));
@@ -305,7 +309,7 @@ fn instructions_on_a_subchannel_are_executed(rt: HostRuntime) {
     };
     post(&mut bench);
     assert!(rt; is_code(on_subchannel(&mut bench, test), 1));
-    assert!(rt; is_code(performed(&mut bench, TPI), 0));
+    assert!(rt; is_code(other(&mut bench, TPI), 0));
     assert!(rt;
         is_code(
             on_subchannel(
@@ -384,7 +388,7 @@ fn instructions_on_a_subchannel_are_executed(rt: HostRuntime) {
             0
         )
     );
-    assert!(rt; is_code(performed(&mut bench, TPI), 0));
+    assert!(rt; is_code(other(&mut bench, TPI), 0));
 }
 
 #[test]
