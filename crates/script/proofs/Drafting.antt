@@ -7,8 +7,8 @@ use Rattle.std.proofs.lemmas.List.Folds.{list_any-append}
 use Rattle.std.proofs.lemmas.Grind.{flat_map-append}
 use Rattle.std.proofs.lemmas.Bool.Decides.{eqb_tells}
 use Rattle.channel_config.specs.Setup.{Setup, no_setup}
-use Rattle.script.specs.declared.settings.Setting.{Setting}
-use Rattle.script.specs.Settings.{configured}
+use Rattle.script_rows.specs.declared.settings.Setting.{Setting}
+use Rattle.script_rows.specs.Settings.{configured}
 use Rattle.script.specs.declared.Line.{Line}
 use Rattle.script.specs.declared.draft.Draft.{Draft}
 use Rattle.script.specs.Saying.{said, has_words}
@@ -25,7 +25,7 @@ or-false false = refl
 any-more : {A : Type 0} (f : A → Bool) (xs : List A) (x : A) → list_any f (xs ++ x ∷ []) ≡ (list_any f xs || f x)
 any-more f xs x = list_any-append f xs (x ∷ []) ∙ ap (λ (b : Bool). list_any f xs || b) (or-false (f x))
 
-pub flat-more : {A B : Type 0} (f : A → List B) (xs : List A) (x : A) → flat_map f (xs ++ x ∷ []) ≡ flat_map f xs ++ f x
+flat-more : {A B : Type 0} (f : A → List B) (xs : List A) (x : A) → flat_map f (xs ++ x ∷ []) ≡ flat_map f xs ++ f x
 flat-more {A} {B} f xs x = flat_map-append f xs (x ∷ []) ∙ ap (λ (t : List B). flat_map f xs ++ t) (append-nil (f x))
 
 set_up-append : (s : Setup) (xs ys : List Setting) → set_up s (xs ++ ys) ≡ set_up (set_up s xs) ys

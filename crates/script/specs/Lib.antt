@@ -1,9 +1,5 @@
 pub mod Pieces
-pub mod Words
-pub mod Settings
-pub mod Actions
 pub mod Saying
 pub mod Scripts
 pub mod Reading
 pub mod Drafts
-pub mod Text

@@ -1,13 +1,13 @@
 -- What one line says, by itself (own).
 use Rattle.std.specs.Prelude.{ℕ, ◌==◌, Bool, false, not, ◌||◌, nat_lt, List, [], ◌∷◌, length, Option, Some, None, Result, Ok, Err, codes, if◌then◌else◌}
 use Rattle.std.specs.Str.{is_utf8, bytes_eq}
-use Rattle.script.specs.declared.settings.Setting.{Setting}
-use Rattle.script.specs.declared.Action.{Action}
+use Rattle.script_rows.specs.declared.settings.Setting.{Setting}
+use Rattle.script_rows.specs.declared.Action.{Action}
 use Rattle.script.specs.declared.said.Said.{Said}
 use Rattle.script.specs.declared.said.Said.TheVariants.{Nothing, Sets, Does}
 use Rattle.script.specs.Pieces.{words_of}
-use Rattle.script.specs.Settings.{setting_row}
-use Rattle.script.specs.Actions.{action_row}
+use Rattle.script_rows.specs.Settings.{setting_row}
+use Rattle.script_rows.specs.Actions.{action_row}
 
 -- rule 1: the first word is unknown
 abbrev pub action_said : Option (Result Action ℕ) → Result Said ℕ

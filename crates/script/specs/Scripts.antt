@@ -2,12 +2,12 @@
 use Rattle.std.specs.Prelude.{◌≡◌, ℕ, ◌+◌, ◌<◌, Bool, true, false, not, ◌&&◌, List, [], ◌∷◌, ◌++◌, length, take, slice_index_or, Option, Some, None, Result, Ok, Err, ◌⊎◌, if◌then◌else◌}
 use Rattle.std.specs.List.{list_any, flat_map}
 use Rattle.channel_config.specs.Setup.{Setup, no_setup}
-use Rattle.script.specs.declared.settings.Setting.{Setting}
+use Rattle.script_rows.specs.declared.settings.Setting.{Setting}
 use Rattle.script.specs.declared.said.Said.{Said}
 use Rattle.script.specs.declared.said.Said.TheVariants.{Nothing, Sets, Does}
 use Rattle.script.specs.declared.Line.{Line}
 use Rattle.script.specs.Pieces.{words_of}
-use Rattle.script.specs.Settings.{configured}
+use Rattle.script_rows.specs.Settings.{configured}
 use Rattle.script.specs.Saying.{has_words, said, first_is_storage}
 
 -- the settings of a line, none or one

@@ -9,10 +9,10 @@ ghost use Rattle.script.specs.Reading.{BreaksRule, BadIn};
 
 use crate::pieces::pieces;
 use crate::said::{Said, has_words, say};
-use crate::settings::configure;
-use crate::words::LineFault;
 use crate::{Line, ScriptBad};
 use channel_config::config::{Config, ConfigFault};
+use script_rows::settings::configure;
+use script_rows::words::LineFault;
 use std::alloc::Global;
 use supply::Supply;
 

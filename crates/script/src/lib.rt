@@ -1,4 +1,4 @@
-//! Scripts: lines that configure a machine and drive it, and the texts that are printed.
+//! Scripts: lines that configure a machine and drive it.
 #![tactic(auto)]
 
 ghost use Rattle.std.specs.Prelude.{◌≡◌, true, Err, IfOk, IfErr, OnOk, map};
@@ -8,51 +8,22 @@ ghost use Rattle.script.specs.Pieces.{lines_of};
 ghost use Rattle.script.specs.Scripts.{IsScript};
 ghost use Rattle.script.specs.Reading.{BadAt};
 
-mod actions;
 mod draft;
-pub mod held;
 mod pieces;
 mod said;
-mod settings;
-#[cfg(test)]
-mod shown_lines;
 #[cfg(test)]
 mod tests;
-pub mod text;
-mod words;
 #[cfg(test)]
 mod wrong_lines;
 
 use crate::draft::draft_of;
 use crate::pieces::pieces;
 use crate::said::has_words;
-use chan_events::event::Event;
-use chan_events::reply::Reply;
 use channel_config::config::Config;
-use scsw_irb::serials::Serials;
+use script_rows::Action;
 use std::alloc::Global;
 use std::marker::Model;
 use supply::{Given, Supply};
-
-/// What a line asks the machine for.
-#[derive(Drop)]
-pub enum Action {
-    /// An event.
-    Event(Event),
-    /// The next turn of the device of the unit of this number.
-    Dev(u32),
-    /// The serials of the subchannel that this word names.
-    Glance(u32),
-}
-
-/// What an action that is not refused comes to.
-#[derive(Drop)]
-pub enum Told {
-    /// The reply of an event.
-    Reply(Reply),
-    /// How many statuses a subchannel made, and how many of these are cleared.
-    Serials(Serials),
-}
 
 /// One action, and the number of its line, from 1.
 #[derive(Drop)]

@@ -3,13 +3,13 @@
 ghost use Rattle.std.specs.Prelude.{◌≡◌, map, true, OnOk, MatchResult, Ok, Err};
 ghost use Rattle.std.specs.Str.{is_utf8};
 ghost use Rattle.script.specs.Saying as spec;
-ghost use Rattle.script.specs.Reading.{FaultOf};
+ghost use Rattle.script_rows.specs.Faults.{FaultOf};
 
-use crate::Action;
-use crate::actions::action_row;
 use crate::pieces::pieces;
-use crate::settings::{Setting, setting_row};
-use crate::words::LineFault;
+use script_rows::Action;
+use script_rows::actions::action_row;
+use script_rows::settings::{Setting, setting_row};
+use script_rows::words::LineFault;
 use std::alloc::Global;
 use std::str::from_utf8;
 use supply::Supply;

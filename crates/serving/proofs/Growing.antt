@@ -4,8 +4,8 @@ use Rattle.std.specs.Prelude.{zero, Some, slice_get, is_err}
 use Rattle.std.specs.List.{list_any}
 use Rattle.std.proofs.lemmas.List.{take_all, take_more}
 use Rattle.std.proofs.KnownBytes.{Appends-trans}
-use Rattle.script.specs.declared.Action.{Action}
-use Rattle.script.specs.Text.{event_line}
+use Rattle.script_rows.specs.declared.Action.{Action}
+use Rattle.script_text.specs.Text.{event_line}
 use Rattle.script.specs.declared.Line.{Line}
 use Rattle.serving.specs.declared.performing.Written.{Written}
 use Rattle.serving.specs.Acting.{Installed, Outcome, Acts, Runs}

@@ -21,10 +21,10 @@ use Rattle.machine_model.specs.Steps.{Step, IsRefused}
 use Rattle.machine_model.specs.declared.state.UnitTurn.{UnitTurn}
 use Rattle.machine_model.specs.declared.state.UnitTurn.TheVariants.{Takes, Works, Away, Rests}
 use Rattle.scsw_irb.specs.declared.serials.Serials.{Serials}
-use Rattle.script.specs.declared.Action.{Action}
-use Rattle.script.specs.declared.Action.TheVariants as action
-use Rattle.script.specs.declared.Told.{Told}
-use Rattle.script.specs.declared.Told.TheVariants as told
+use Rattle.script_rows.specs.declared.Action.{Action}
+use Rattle.script_rows.specs.declared.Action.TheVariants as action
+use Rattle.script_text.specs.declared.Told.{Told}
+use Rattle.script_text.specs.declared.Told.TheVariants as told
 
 -- what an action comes to, and what an event does
 abbrev pub Outcome : Type 0

@@ -2,7 +2,7 @@
 use Rattle.std.specs.Prelude.{◌≡◌, ℕ, Bool, true, false, ◌||◌, List, [], ◌∷◌, ◌++◌, take, map, slice_get, Some, is_err}
 use Rattle.std.specs.List.{list_any}
 use Rattle.streams.specs.Sinks.{Seen, Takes, Puts}
-use Rattle.script.specs.Text.{event_line}
+use Rattle.script_text.specs.Text.{event_line}
 use Rattle.script.specs.declared.Line.{Line}
 use Rattle.serving.specs.declared.performing.Written.{Written}
 use Rattle.serving.specs.declared.performing.Performed.{Performed}

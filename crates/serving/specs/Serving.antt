@@ -3,7 +3,7 @@ use Rattle.std.specs.Prelude.{◌≡◌, ℕ, Bool, true, false, List, codes, Op
 use Rattle.streams.specs.Sinks.{Seen, Puts, Takes, FailsIn}
 use Rattle.script.specs.Pieces.{lines_of}
 use Rattle.script.specs.Scripts.{Contents, IsScript, IsBad}
-use Rattle.script.specs.Text.{bad_text}
+use Rattle.script_text.specs.Text.{bad_text}
 use Rattle.serving.specs.declared.Ending.{Ending}
 use Rattle.serving.specs.declared.Ending.TheVariants.{NotRead, Bad, NoMemory, Done, Stopped}
 use Rattle.serving.specs.Acting.{Installed, opening}

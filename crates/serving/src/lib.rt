@@ -10,8 +10,8 @@ pub mod performing;
 
 use crate::installation::Installation;
 use crate::performing::{Performed, perform};
-use script::text::put_bad_line;
 use script::{Script, ScriptBad};
+use script_text::put_bad_line;
 use std::alloc::Global;
 use streams::{NoText, Sink, Source};
 use supply::{Given, Supply};

@@ -4,8 +4,8 @@ ghost use Rattle.serving.specs.Performing.{IsDone, Performs};
 
 use crate::installation::Installation;
 use script::Line;
-use script::held::Held;
-use script::text::put_event_line_at_once;
+use script_text::held::Held;
+use script_text::put_event_line_at_once;
 use streams::Sink;
 
 /// What came of the line of an action.

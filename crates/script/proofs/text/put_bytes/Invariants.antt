@@ -1,8 +1,0 @@
-use Rattle.std.proofs.Common.{take}
-use Rattle.std.specs.List.{flat_map}
-use Rattle.script.specs.Text as spec
-use Rattle.streams.specs.Sinks.{Takes}
-use Rattle.script.proofs.text.put_bytes.Given as goal
-
-abbrev pub invariant-loop-byte : goal.invariant-loop-byte
-invariant-loop-byte g l = Takes (g.S.Sink.seen l.fn.sink) (flat_map spec.byte_text (take l.byte-index l.bytes)) (g.S.Sink.seen l.sink)

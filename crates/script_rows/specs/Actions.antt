@@ -1,0 +1,163 @@
+-- The rows of the lines that drive a machine (own).
+use Rattle.std.specs.Prelude.{ℕ, ◌%◌, ◌==◌, ◌&&◌, nat_le, List, [], ◌∷◌, Option, Some, None, Result, Ok, Err, codes, if◌then◌else◌}
+use Rattle.std.specs.Str.{bytes_eq}
+use Rattle.chan_events.specs.declared.event.Instruction.{Instruction}
+use Rattle.chan_events.specs.declared.event.Instruction.TheVariants.{Ssch, Tsch, Stsch, Msch, Rsch, Hsch, Csch, Xsch, Enable}
+use Rattle.chan_events.specs.declared.event.Event.TheVariants as event
+use Rattle.storage_keys.specs.Storage.{key_of_byte}
+use Rattle.storage_keys.specs.declared.key.Key.{Key}
+use Rattle.script_rows.specs.declared.Action.{Action}
+use Rattle.script_rows.specs.declared.Action.TheVariants as action
+use Rattle.script_rows.specs.Words.{and_then, number, number_up_to, hex_bytes, subchannel, with_one, with_two, with_three}
+
+-- `enable SUBCHANNEL SUBCLASS MULTIPATH`
+abbrev pub enable_row : List (List ℕ) → Result Instruction ℕ
+enable_row = with_three (λ s c d. and_then (subchannel s) (λ s. and_then (number_up_to 7 c) (λ c. and_then (number_up_to 1 d) (λ d. Some (Enable s c (d == 1))))))
+
+-- a subchannel and the address of an operand
+abbrev pub operand_row : List (List ℕ) → Result (ℕ × ℕ) ℕ
+operand_row = with_two (λ s a. and_then (subchannel s) (λ s. and_then (number a) (λ a. Some (s, a))))
+
+abbrev pub with_operand : (ℕ → ℕ → Instruction) → Result (ℕ × ℕ) ℕ → Result Instruction ℕ
+with_operand instruction (Err rule) = Err rule
+with_operand instruction (Ok operand) = Ok (instruction operand.0 operand.1)
+
+-- `ssch SUBCHANNEL ADDRESS`
+abbrev pub ssch_row : List (List ℕ) → Result Instruction ℕ
+ssch_row ws = with_operand Ssch (operand_row ws)
+
+-- `tsch SUBCHANNEL ADDRESS`
+abbrev pub tsch_row : List (List ℕ) → Result Instruction ℕ
+tsch_row ws = with_operand Tsch (operand_row ws)
+
+-- `stsch SUBCHANNEL ADDRESS`
+abbrev pub stsch_row : List (List ℕ) → Result Instruction ℕ
+stsch_row ws = with_operand Stsch (operand_row ws)
+
+-- `msch SUBCHANNEL ADDRESS`
+abbrev pub msch_row : List (List ℕ) → Result Instruction ℕ
+msch_row ws = with_operand Msch (operand_row ws)
+
+-- `rsch SUBCHANNEL`
+abbrev pub rsch_row : List (List ℕ) → Result Instruction ℕ
+rsch_row = with_one (λ s. and_then (subchannel s) (λ s. Some (Rsch s)))
+
+-- `hsch SUBCHANNEL`
+abbrev pub hsch_row : List (List ℕ) → Result Instruction ℕ
+hsch_row = with_one (λ s. and_then (subchannel s) (λ s. Some (Hsch s)))
+
+-- `csch SUBCHANNEL`
+abbrev pub csch_row : List (List ℕ) → Result Instruction ℕ
+csch_row = with_one (λ s. and_then (subchannel s) (λ s. Some (Csch s)))
+
+-- `xsch SUBCHANNEL`
+abbrev pub xsch_row : List (List ℕ) → Result Instruction ℕ
+xsch_row = with_one (λ s. and_then (subchannel s) (λ s. Some (Xsch s)))
+
+-- the table of the instructions
+abbrev pub instruction_row : List ℕ → List (List ℕ) → Option (Result Instruction ℕ)
+instruction_row w ws = if bytes_eq w (codes "enable") then Some (enable_row ws)
+    else (if bytes_eq w (codes "ssch") then Some (ssch_row ws)
+    else (if bytes_eq w (codes "tsch") then Some (tsch_row ws)
+    else (if bytes_eq w (codes "stsch") then Some (stsch_row ws)
+    else (if bytes_eq w (codes "msch") then Some (msch_row ws)
+    else (if bytes_eq w (codes "rsch") then Some (rsch_row ws)
+    else (if bytes_eq w (codes "hsch") then Some (hsch_row ws)
+    else (if bytes_eq w (codes "csch") then Some (csch_row ws)
+    else (if bytes_eq w (codes "xsch") then Some (xsch_row ws)
+    else None))))))))
+
+-- a CPU executes what the words say; rule 3 where there is no such CPU
+abbrev pub on_cpu : Option ℕ → Result Instruction ℕ → Result Action ℕ
+on_cpu cpu (Err rule) = Err rule
+on_cpu None (Ok instruction) = Err 3
+on_cpu (Some cpu) (Ok instruction) = Ok (action.Event (event.Execute cpu instruction))
+
+-- rule 1: no instruction is named
+abbrev pub on_cpu_or_rule_1 : Option ℕ → Option (Result Instruction ℕ) → Result Action ℕ
+on_cpu_or_rule_1 cpu None = Err 1
+on_cpu_or_rule_1 cpu (Some said) = on_cpu cpu said
+
+-- `cpu NUMBER INSTRUCTION ..`
+abbrev pub cpu_row : List (List ℕ) → Result Action ℕ
+cpu_row [] = Err 1
+cpu_row (n ∷ []) = Err 1
+cpu_row (n ∷ w ∷ ws) = on_cpu_or_rule_1 (number_up_to 0xF n) (instruction_row w ws)
+
+-- `put ADDRESS BYTES`
+abbrev pub put_row : List (List ℕ) → Result Action ℕ
+put_row = with_two (λ a h. and_then (number a) (λ a. and_then (hex_bytes h) (λ bs. Some (action.Event (event.Put a bs)))))
+
+-- a storage key as an even byte
+abbrev pub key_named : List ℕ → Option Key
+key_named word = and_then (number_up_to 0xFF word) (λ n. if n % 2 == 0 then Some (key_of_byte n) else None)
+
+-- `key ADDRESS KEY`
+abbrev pub key_row : List (List ℕ) → Result Action ℕ
+key_row = with_two (λ a k. and_then (number a) (λ a. and_then (key_named k) (λ k. Some (action.Event (event.SetKey a k)))))
+
+-- `prefix CPU ADDRESS`
+abbrev pub prefix_row : List (List ℕ) → Result Action ℕ
+prefix_row = with_two (λ c a. and_then (number_up_to 0xF c) (λ c. and_then (number a) (λ a. Some (action.Event (event.SetPrefix c a)))))
+
+-- so many bytes as are shown at once
+abbrev pub show_length : List ℕ → Option ℕ
+show_length word = and_then (number word) (λ n. if nat_le 1 n && nat_le n 0x40 then Some n else None)
+
+-- `show ADDRESS LENGTH`
+abbrev pub show_row : List (List ℕ) → Result Action ℕ
+show_row = with_two (λ a n. and_then (number a) (λ a. and_then (show_length n) (λ n. Some (action.Event (event.Show a n)))))
+
+-- `choose SUBCHANNEL`
+abbrev pub choose_row : List (List ℕ) → Result Action ℕ
+choose_row = with_one (λ s. and_then (subchannel s) (λ s. Some (action.Event (event.Choose s))))
+
+-- `up SUBCHANNEL PATH`
+abbrev pub up_row : List (List ℕ) → Result Action ℕ
+up_row = with_two (λ s p. and_then (subchannel s) (λ s. and_then (number p) (λ p. Some (action.Event (event.Up s p)))))
+
+-- `down SUBCHANNEL PATH`
+abbrev pub down_row : List (List ℕ) → Result Action ℕ
+down_row = with_two (λ s p. and_then (subchannel s) (λ s. and_then (number p) (λ p. Some (action.Event (event.Down s p)))))
+
+-- `dev UNIT`
+abbrev pub dev_row : List (List ℕ) → Result Action ℕ
+dev_row = with_one (λ u. and_then (number u) (λ u. Some (action.Dev u)))
+
+-- `glance SUBCHANNEL`
+abbrev pub glance_row : List (List ℕ) → Result Action ℕ
+glance_row = with_one (λ s. and_then (subchannel s) (λ s. Some (action.Glance s)))
+
+-- the lines that set and show storage
+abbrev pub storage_row : List ℕ → List (List ℕ) → Option (Result Action ℕ)
+storage_row w ws = if bytes_eq w (codes "put") then Some (put_row ws)
+    else (if bytes_eq w (codes "key") then Some (key_row ws)
+    else (if bytes_eq w (codes "prefix") then Some (prefix_row ws)
+    else (if bytes_eq w (codes "show") then Some (show_row ws)
+    else None)))
+
+-- the lines of the subsystem and its devices
+abbrev pub subsystem_row : List ℕ → List (List ℕ) → Option (Result Action ℕ)
+subsystem_row w ws = if bytes_eq w (codes "cpu") then Some (cpu_row ws)
+    else (if bytes_eq w (codes "choose") then Some (choose_row ws)
+    else (if bytes_eq w (codes "up") then Some (up_row ws)
+    else (if bytes_eq w (codes "down") then Some (down_row ws)
+    else (if bytes_eq w (codes "dev") then Some (dev_row ws)
+    else (if bytes_eq w (codes "glance") then Some (glance_row ws)
+    else None)))))
+
+abbrev pub or_row : Option (Result Action ℕ) → Option (Result Action ℕ) → Option (Result Action ℕ)
+or_row (Some said) other = Some said
+or_row None other = other
+
+-- the table of the other lines
+abbrev pub event_row : List ℕ → List (List ℕ) → Option (Result Action ℕ)
+event_row w ws = or_row (storage_row w ws) (subsystem_row w ws)
+
+abbrev pub on_first_cpu : Option (Result Instruction ℕ) → Option (Result Action ℕ) → Option (Result Action ℕ)
+on_first_cpu (Some said) other = Some (on_cpu (Some 0) said)
+on_first_cpu None other = other
+
+-- an instruction without `cpu` is of CPU 0
+abbrev pub action_row : List ℕ → List (List ℕ) → Option (Result Action ℕ)
+action_row w ws = on_first_cpu (instruction_row w ws) (event_row w ws)

@@ -1,0 +1,4 @@
+pub mod Words
+pub mod Settings
+pub mod Actions
+pub mod Faults

@@ -1,0 +1,333 @@
+//! The lines that drive a machine.
+
+ghost use Rattle.std.specs.Prelude.{◌≡◌, ◌≤◌, map, IfSome, Some, None, Ok, Err};
+ghost use Rattle.script_rows.specs.Words.{number_up_to};
+ghost use Rattle.script_rows.specs.Actions as spec;
+
+use crate::Action;
+use crate::words::{hex_bytes, number, number_up_to, one, subchannel, three, two};
+use chan_events::event::{Event, Instruction};
+use chan_model::chunk::ChunkLength;
+use chan_model::names::Cpu;
+use storage_keys::key::Key;
+
+fn enable_row(words: &[&[u8]]) -> Result<Instruction, u8>
+    ensures { result ≡ spec.enable_row (map (λ w. w.now) words.now) }
+{
+    let (word, subclass, multipath) = three(words).ok_or(2)?;
+    let subchannel = subchannel(word).ok_or(3)?;
+    let subclass = number_up_to(7, subclass).ok_or(3)?;
+    let multipath = number_up_to(1, multipath).ok_or(3)?;
+    Ok(Instruction::Enable {
+        subchannel,
+        subclass: subclass as u8,
+        multipath: multipath == 1,
+    })
+}
+
+/// A subchannel and the address of an operand.
+fn operand_row(words: &[&[u8]]) -> Result<(u32, u32), u8>
+    ensures { result ≡ spec.operand_row (map (λ w. w.now) words.now) }
+{
+    let (word, address) = two(words).ok_or(2)?;
+    let subchannel = subchannel(word).ok_or(3)?;
+    let address = number(address).ok_or(3)?;
+    Ok((subchannel, address))
+}
+
+fn ssch_row(words: &[&[u8]]) -> Result<Instruction, u8>
+    ensures { result ≡ spec.ssch_row (map (λ w. w.now) words.now) }
+{
+    let (subchannel, address) = operand_row(words)?;
+    Ok(Instruction::Ssch {
+        subchannel,
+        address,
+    })
+}
+
+fn tsch_row(words: &[&[u8]]) -> Result<Instruction, u8>
+    ensures { result ≡ spec.tsch_row (map (λ w. w.now) words.now) }
+{
+    let (subchannel, address) = operand_row(words)?;
+    Ok(Instruction::Tsch {
+        subchannel,
+        address,
+    })
+}
+
+fn stsch_row(words: &[&[u8]]) -> Result<Instruction, u8>
+    ensures { result ≡ spec.stsch_row (map (λ w. w.now) words.now) }
+{
+    let (subchannel, address) = operand_row(words)?;
+    Ok(Instruction::Stsch {
+        subchannel,
+        address,
+    })
+}
+
+fn msch_row(words: &[&[u8]]) -> Result<Instruction, u8>
+    ensures { result ≡ spec.msch_row (map (λ w. w.now) words.now) }
+{
+    let (subchannel, address) = operand_row(words)?;
+    Ok(Instruction::Msch {
+        subchannel,
+        address,
+    })
+}
+
+fn rsch_row(words: &[&[u8]]) -> Result<Instruction, u8>
+    ensures { result ≡ spec.rsch_row (map (λ w. w.now) words.now) }
+{
+    let word = one(words).ok_or(2)?;
+    let subchannel = subchannel(word).ok_or(3)?;
+    Ok(Instruction::Rsch { subchannel })
+}
+
+fn hsch_row(words: &[&[u8]]) -> Result<Instruction, u8>
+    ensures { result ≡ spec.hsch_row (map (λ w. w.now) words.now) }
+{
+    let word = one(words).ok_or(2)?;
+    let subchannel = subchannel(word).ok_or(3)?;
+    Ok(Instruction::Hsch { subchannel })
+}
+
+fn csch_row(words: &[&[u8]]) -> Result<Instruction, u8>
+    ensures { result ≡ spec.csch_row (map (λ w. w.now) words.now) }
+{
+    let word = one(words).ok_or(2)?;
+    let subchannel = subchannel(word).ok_or(3)?;
+    Ok(Instruction::Csch { subchannel })
+}
+
+fn xsch_row(words: &[&[u8]]) -> Result<Instruction, u8>
+    ensures { result ≡ spec.xsch_row (map (λ w. w.now) words.now) }
+{
+    let word = one(words).ok_or(2)?;
+    let subchannel = subchannel(word).ok_or(3)?;
+    Ok(Instruction::Xsch { subchannel })
+}
+
+/// The instruction that a line's words ask for, where its first word names one.
+fn instruction_row(word: &[u8], words: &[&[u8]]) -> Option<Result<Instruction, u8>>
+    ensures { result ≡ spec.instruction_row word.now (map (λ w. w.now) words.now) }
+{
+    if word == b"enable".as_slice() {
+        return Some(enable_row(words));
+    }
+    if word == b"ssch".as_slice() {
+        return Some(ssch_row(words));
+    }
+    if word == b"tsch".as_slice() {
+        return Some(tsch_row(words));
+    }
+    if word == b"stsch".as_slice() {
+        return Some(stsch_row(words));
+    }
+    if word == b"msch".as_slice() {
+        return Some(msch_row(words));
+    }
+    if word == b"rsch".as_slice() {
+        return Some(rsch_row(words));
+    }
+    if word == b"hsch".as_slice() {
+        return Some(hsch_row(words));
+    }
+    if word == b"csch".as_slice() {
+        return Some(csch_row(words));
+    }
+    if word == b"xsch".as_slice() {
+        return Some(xsch_row(words));
+    }
+    None
+}
+
+fn cpu_named(word: &[u8]) -> Option<Cpu>
+    ensures { result ≡ number_up_to 0xF word.now }
+{
+    Cpu::new(number(word)?)
+}
+
+fn on_cpu(cpu: Option<Cpu>, said: Result<Instruction, u8>) -> Result<Action, u8>
+    ensures { result ≡ spec.on_cpu cpu said }
+{
+    let instruction = said?;
+    let cpu = cpu.ok_or(3)?;
+    Ok(Action::Event(Event::Execute { cpu, instruction }))
+}
+
+fn cpu_row(words: &[&[u8]]) -> Result<Action, u8>
+    ensures { result ≡ spec.cpu_row (map (λ w. w.now) words.now) }
+{
+    match words {
+        [] => Err(1),
+        [_] => Err(1),
+        [cpu, word, others @ ..] => match instruction_row(word, others) {
+            Some(said) => on_cpu(cpu_named(cpu), said),
+            None => Err(1),
+        },
+    }
+}
+
+fn put_row(words: &[&[u8]]) -> Result<Action, u8>
+    ensures { result ≡ spec.put_row (map (λ w. w.now) words.now) }
+{
+    let (address, bytes) = two(words).ok_or(2)?;
+    let address = number(address).ok_or(3)?;
+    let bytes = hex_bytes(bytes).ok_or(3)?;
+    Ok(Action::Event(Event::Put { address, bytes }))
+}
+
+fn key_named(word: &[u8]) -> Option<Key>
+    ensures { result ≡ spec.key_named word.now }
+{
+    let byte = number_up_to(0xFF, word)?;
+    if byte % 2 == 0 {
+        Some(Key::of_byte(byte as u8))
+    } else {
+        None
+    }
+}
+
+fn key_row(words: &[&[u8]]) -> Result<Action, u8>
+    ensures { result ≡ spec.key_row (map (λ w. w.now) words.now) }
+{
+    let (address, key) = two(words).ok_or(2)?;
+    let address = number(address).ok_or(3)?;
+    let key = key_named(key).ok_or(3)?;
+    Ok(Action::Event(Event::SetKey { address, key }))
+}
+
+fn prefix_row(words: &[&[u8]]) -> Result<Action, u8>
+    ensures { result ≡ spec.prefix_row (map (λ w. w.now) words.now) }
+{
+    let (cpu, address) = two(words).ok_or(2)?;
+    let cpu = cpu_named(cpu).ok_or(3)?;
+    let address = number(address).ok_or(3)?;
+    Ok(Action::Event(Event::SetPrefix { cpu, address }))
+}
+
+/// 1 to 40 (hexadecimal) bytes.
+fn show_length(word: &[u8]) -> Option<ChunkLength>
+    ensures { result ≡ spec.show_length word.now }
+{
+    let count = number(word)?;
+    if 1 <= count && count <= 0x40 {
+        ChunkLength::new(count)
+    } else {
+        None
+    }
+}
+
+fn show_row(words: &[&[u8]]) -> Result<Action, u8>
+    ensures { result ≡ spec.show_row (map (λ w. w.now) words.now) }
+{
+    let (address, length) = two(words).ok_or(2)?;
+    let address = number(address).ok_or(3)?;
+    let length = show_length(length).ok_or(3)?;
+    Ok(Action::Event(Event::Show { address, length }))
+}
+
+fn choose_row(words: &[&[u8]]) -> Result<Action, u8>
+    ensures { result ≡ spec.choose_row (map (λ w. w.now) words.now) }
+{
+    let word = one(words).ok_or(2)?;
+    let subchannel = subchannel(word).ok_or(3)?;
+    Ok(Action::Event(Event::Choose { subchannel }))
+}
+
+fn up_row(words: &[&[u8]]) -> Result<Action, u8>
+    ensures { result ≡ spec.up_row (map (λ w. w.now) words.now) }
+{
+    let (word, path) = two(words).ok_or(2)?;
+    let subchannel = subchannel(word).ok_or(3)?;
+    let path = number(path).ok_or(3)?;
+    Ok(Action::Event(Event::Up { subchannel, path }))
+}
+
+fn down_row(words: &[&[u8]]) -> Result<Action, u8>
+    ensures { result ≡ spec.down_row (map (λ w. w.now) words.now) }
+{
+    let (word, path) = two(words).ok_or(2)?;
+    let subchannel = subchannel(word).ok_or(3)?;
+    let path = number(path).ok_or(3)?;
+    Ok(Action::Event(Event::Down { subchannel, path }))
+}
+
+fn dev_row(words: &[&[u8]]) -> Result<Action, u8>
+    ensures { result ≡ spec.dev_row (map (λ w. w.now) words.now) }
+{
+    let unit = one(words).ok_or(2)?;
+    let unit = number(unit).ok_or(3)?;
+    Ok(Action::Dev(unit))
+}
+
+fn glance_row(words: &[&[u8]]) -> Result<Action, u8>
+    ensures { result ≡ spec.glance_row (map (λ w. w.now) words.now) }
+{
+    let word = one(words).ok_or(2)?;
+    let subchannel = subchannel(word).ok_or(3)?;
+    Ok(Action::Glance(subchannel))
+}
+
+/// The lines that set and show storage.
+fn storage_row(word: &[u8], words: &[&[u8]]) -> Option<Result<Action, u8>>
+    ensures { result ≡ spec.storage_row word.now (map (λ w. w.now) words.now) }
+{
+    if word == b"put".as_slice() {
+        return Some(put_row(words));
+    }
+    if word == b"key".as_slice() {
+        return Some(key_row(words));
+    }
+    if word == b"prefix".as_slice() {
+        return Some(prefix_row(words));
+    }
+    if word == b"show".as_slice() {
+        return Some(show_row(words));
+    }
+    None
+}
+
+/// The lines of the subsystem and its devices.
+fn subsystem_row(word: &[u8], words: &[&[u8]]) -> Option<Result<Action, u8>>
+    ensures { result ≡ spec.subsystem_row word.now (map (λ w. w.now) words.now) }
+{
+    if word == b"cpu".as_slice() {
+        return Some(cpu_row(words));
+    }
+    if word == b"choose".as_slice() {
+        return Some(choose_row(words));
+    }
+    if word == b"up".as_slice() {
+        return Some(up_row(words));
+    }
+    if word == b"down".as_slice() {
+        return Some(down_row(words));
+    }
+    if word == b"dev".as_slice() {
+        return Some(dev_row(words));
+    }
+    if word == b"glance".as_slice() {
+        return Some(glance_row(words));
+    }
+    None
+}
+
+fn event_row(word: &[u8], words: &[&[u8]]) -> Option<Result<Action, u8>>
+    ensures { result ≡ spec.event_row word.now (map (λ w. w.now) words.now) }
+{
+    match storage_row(word, words) {
+        Some(said) => Some(said),
+        None => subsystem_row(word, words),
+    }
+}
+
+/// What a line's words ask the machine for, where its first word is known. An instruction without `cpu` is of CPU 0.
+pub fn action_row(word: &[u8], words: &[&[u8]]) -> Option<Result<Action, u8>>
+    ensures { result ≡ spec.action_row word.now (map (λ w. w.now) words.now) }
+{
+    match instruction_row(word, words) {
+        Some(said) => Some(on_cpu(Cpu::new(0), said)),
+        None => event_row(word, words),
+    }
+}

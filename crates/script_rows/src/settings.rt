@@ -1,0 +1,171 @@
+//! The lines that configure a machine.
+
+ghost use Rattle.std.specs.Prelude.{◌≡◌, ◌≢◌, map, true, IfSome, OnOk, MatchOption, MatchResult, Some, None, Ok, Err};
+ghost use Rattle.script_rows.specs.Settings as spec;
+ghost use Rattle.script_rows.specs.Faults.{FaultOf, Says};
+ghost use Rattle.channel_config.specs.Refusing.{Configures};
+
+use crate::words::{LineFault, Numbers, number, numbers_of, one, subchannel, two};
+use channel_config::config::{Config, ConfigFault};
+use channel_config::parts::UnitKind;
+use std::alloc::Global;
+use supply::Supply;
+
+/// What a line says of the configuration.
+#[derive(Drop)]
+pub enum Setting {
+    Storage {
+        blocks: u32,
+    },
+    Sets {
+        count: u32,
+    },
+    Path {
+        chpid: u32,
+    },
+    Unit {
+        number: u32,
+        kind: UnitKind,
+    },
+    Subchannel {
+        word: u32,
+        device: u32,
+        unit: u32,
+        paths: Numbers,
+    },
+}
+
+fn kind_named(word: &[u8]) -> Option<UnitKind>
+    ensures { result ≡ spec.kind_named word.now }
+{
+    if word == b"block".as_slice() {
+        Some(UnitKind::Block)
+    } else if word == b"console".as_slice() {
+        Some(UnitKind::Console)
+    } else if word == b"reject".as_slice() {
+        Some(UnitKind::Rejecting)
+    } else {
+        None
+    }
+}
+
+fn storage_row(words: &[&[u8]]) -> Result<Setting, u8>
+    ensures { result ≡ spec.storage_row (map (λ w. w.now) words.now) }
+{
+    let blocks = one(words).ok_or(2)?;
+    let blocks = number(blocks).ok_or(3)?;
+    Ok(Setting::Storage { blocks })
+}
+
+fn sets_row(words: &[&[u8]]) -> Result<Setting, u8>
+    ensures { result ≡ spec.sets_row (map (λ w. w.now) words.now) }
+{
+    let count = one(words).ok_or(2)?;
+    let count = number(count).ok_or(3)?;
+    Ok(Setting::Sets { count })
+}
+
+fn path_row(words: &[&[u8]]) -> Result<Setting, u8>
+    ensures { result ≡ spec.path_row (map (λ w. w.now) words.now) }
+{
+    let chpid = one(words).ok_or(2)?;
+    let chpid = number(chpid).ok_or(3)?;
+    Ok(Setting::Path { chpid })
+}
+
+fn unit_row(words: &[&[u8]]) -> Result<Setting, u8>
+    ensures { result ≡ spec.unit_row (map (λ w. w.now) words.now) }
+{
+    let (unit, kind) = two(words).ok_or(2)?;
+    let unit = number(unit).ok_or(3)?;
+    let kind = kind_named(kind).ok_or(3)?;
+    Ok(Setting::Unit { number: unit, kind })
+}
+
+fn sub_row<S: Supply>(alloc: Global, supply: &mut S, words: &[&[u8]]) -> Result<Setting, LineFault>
+    ensures says { MatchResult result (λ s. spec.sub_row (map (λ w. w.now) words.now) ≡ Ok s) (λ f. FaultOf f (spec.sub_row (map (λ w. w.now) words.now))) }
+    ensures given { OnOk result (S.refused supply.new ≡ S.refused supply.old) }
+    ensures memory { result ≡ Err LineFault.NoMemory → S.refused supply.new ≡ true }
+{
+    match words {
+        [] => Err(LineFault::Rule(2)),
+        [_] => Err(LineFault::Rule(2)),
+        [_, _] => Err(LineFault::Rule(2)),
+        [word, device, unit, paths @ ..] => {
+            let word = subchannel(word).ok_or(LineFault::Rule(3))?;
+            let device = number(device).ok_or(LineFault::Rule(3))?;
+            let unit = number(unit).ok_or(LineFault::Rule(3))?;
+            let paths = numbers_of(alloc, supply, paths)?;
+            Ok(Setting::Subchannel {
+                word,
+                device,
+                unit,
+                paths,
+            })
+        }
+    }
+}
+
+/// The rule of a line that is not taken.
+fn ruled(said: Result<Setting, u8>) -> Result<Setting, LineFault>
+    ensures says { Says result (Some said) }
+    ensures never { result ≢ Err LineFault.NoMemory }
+{
+    match said {
+        Ok(setting) => Ok(setting),
+        Err(rule) => Err(LineFault::Rule(rule)),
+    }
+}
+
+/// What a line's words say of the configuration, where its first word is one of a configuration line.
+pub fn setting_row<S: Supply>(
+    alloc: Global,
+    supply: &mut S,
+    word: &[u8],
+    words: &[&[u8]],
+) -> Option<Result<Setting, LineFault>>
+    ensures says { MatchOption result (spec.setting_row word.now (map (λ w. w.now) words.now) ≡ None) (λ s. Says s (spec.setting_row word.now (map (λ w. w.now) words.now))) }
+    ensures given { MatchOption result (S.refused supply.new ≡ S.refused supply.old) (λ s. OnOk s (S.refused supply.new ≡ S.refused supply.old)) }
+    ensures memory { IfSome result (λ s. s ≡ Err LineFault.NoMemory → S.refused supply.new ≡ true) }
+{
+    if word == b"storage".as_slice() {
+        return Some(ruled(storage_row(words)));
+    }
+    if word == b"sets".as_slice() {
+        return Some(ruled(sets_row(words)));
+    }
+    if word == b"path".as_slice() {
+        return Some(ruled(path_row(words)));
+    }
+    if word == b"unit".as_slice() {
+        return Some(ruled(unit_row(words)));
+    }
+    if word == b"sub".as_slice() {
+        return Some(sub_row(alloc, supply, words));
+    }
+    None
+}
+
+/// Takes a setting. A setting that is refused changes nothing.
+pub fn configure<S: Supply>(
+    supply: &mut S,
+    config: &mut Config,
+    setting: &Setting,
+) -> Result<(), ConfigFault>
+    ensures does { Configures config.old config.new result (spec.configured config.old setting.now) }
+    ensures given { OnOk result (S.refused supply.new ≡ S.refused supply.old) }
+    ensures memory { result ≡ Err ConfigFault.NoMemory → S.refused supply.new ≡ true }
+{
+    match setting {
+        Setting::Storage { blocks } => config.storage(*blocks),
+        Setting::Sets { count } => config.sets(*count),
+        Setting::Path { chpid } => config.path_with(supply, *chpid),
+        Setting::Unit { number, kind } => config.unit_with(supply, *number, *kind),
+        Setting::Subchannel {
+            word,
+            device,
+            unit,
+            paths,
+        } => config.subchannel_with(supply, *word, *device, *unit, paths.as_slice()),
+    }
+}

@@ -1,0 +1,227 @@
+//! What a word of a line stands for.
+
+ghost use Rattle.std.specs.Prelude.{◌≡◌, ◌<◌, ◌≤◌, [], ◌∷◌, ◌++◌, map, length, true, IfSome, OnOk, IfErr, MatchOption, MatchResult, Some, None, Ok, Err};
+ghost use Rattle.script_rows.specs.Words as spec;
+ghost use Rattle.script_rows.specs.Faults.{FaultOf};
+
+use chan_model::chunk::Chunk;
+use std::alloc::{AllocError, Global};
+use std::marker::Model;
+use supply::{Supply, push};
+
+/// Why a line is not taken.
+#[derive(Clone, Copy, Debug, PartialEq, Eq)]
+pub enum LineFault {
+    /// A growth was refused.
+    NoMemory,
+    /// The rule of this number is broken (own).
+    Rule(u8),
+}
+
+impl From<AllocError> for LineFault {
+    ghost use Rattle.std.specs.Prelude.{◌≡◌};
+    ghost use Rattle.script_rows.specs.declared.words.LineFault.TheVariants.{NoMemory};
+
+    ghost from_gives = { λ _ fault. fault ≡ NoMemory };
+
+    fn from(_: AllocError) -> Self {
+        LineFault::NoMemory
+    }
+}
+
+/// The numbers of a line's last words.
+#[derive(Drop)]
+pub struct Numbers {
+    numbers: Vec<u32>,
+}
+
+impl Model for Numbers {
+    ghost use Rattle.std.specs.Prelude.{ℕ, List};
+
+    ghost Value = { List ℕ };
+
+    ghost view = { λ n. n.numbers.items };
+}
+
+impl Numbers {
+    /// No numbers.
+    pub fn new(alloc: Global) -> Self
+        ensures { result ≡ [] }
+    {
+        Numbers {
+            numbers: Vec::new(alloc),
+        }
+    }
+
+    /// One number more.
+    pub fn push<S: Supply>(&mut self, supply: &mut S, number: u32) -> Result<(), LineFault>
+        ensures ok { OnOk result (self.new ≡ self.old ++ number ∷ []) }
+        ensures err { IfErr result (λ f. (f ≡ LineFault.NoMemory) × (self.new ≡ self.old)) }
+        ensures given { OnOk result (S.refused supply.new ≡ S.refused supply.old) }
+        ensures memory { result ≡ Err LineFault.NoMemory → S.refused supply.new ≡ true }
+    {
+        push(supply, &mut self.numbers, number)?;
+        Ok(())
+    }
+
+    /// The numbers in order.
+    pub fn as_slice(&self) -> &[u32]
+        ensures { result.now ≡ self.now }
+    {
+        self.numbers.as_slice()
+    }
+}
+
+fn hex_value(byte: u8) -> Option<u8>
+    ensures value { result ≡ spec.hex_value byte }
+    ensures small { IfSome result (λ d. d < 16) }
+{
+    match byte {
+        b'0'..=b'9' => Some(byte - b'0'),
+        b'A'..=b'F' => Some(byte - b'A' + 10),
+        b'a'..=b'f' => Some(byte - b'a' + 10),
+        _ => None,
+    }
+}
+
+fn hex_from(word: &[u8]) -> Option<u32>
+    requires { length word.now ≤ 8 }
+    ensures value { result ≡ spec.hex_from 0 word.now }
+    ensures short { IfSome result (λ n. length word.now ≤ 4 → n < 0x10000) }
+{
+    let mut value = 0;
+    for byte in word {
+        match hex_value(*byte) {
+            Some(digit) => value = value * 16 + u32::from(digit),
+            None => return None,
+        }
+    }
+    Some(value)
+}
+
+/// A number of 1 to 8 hexadecimal digits.
+pub(crate) fn number(word: &[u8]) -> Option<u32>
+    ensures value { result ≡ spec.number word.now }
+    ensures short { IfSome result (λ n. length word.now ≤ 4 → n < 0x10000) }
+{
+    if word.is_empty() || word.len() > 8 {
+        return None;
+    }
+    hex_from(word)
+}
+
+/// A number that is at most `most`.
+pub(crate) fn number_up_to(most: u32, word: &[u8]) -> Option<u32>
+    ensures value { result ≡ spec.number_up_to most word.now }
+    ensures bound { IfSome result (λ n. n ≤ most) }
+{
+    match number(word) {
+        Some(n) if n <= most => Some(n),
+        _ => None,
+    }
+}
+
+/// The numbers of all these words, or rule 3.
+pub(crate) fn numbers_of<S: Supply>(
+    alloc: Global,
+    supply: &mut S,
+    words: &[&[u8]],
+) -> Result<Numbers, LineFault>
+    ensures says { MatchResult result (λ ns. spec.numbers_of (map (λ w. w.now) words.now) ≡ Some ns) (λ f. FaultOf f (spec.or_rule_3 (spec.numbers_of (map (λ w. w.now) words.now)))) }
+    ensures given { OnOk result (S.refused supply.new ≡ S.refused supply.old) }
+    ensures memory { result ≡ Err LineFault.NoMemory → S.refused supply.new ≡ true }
+{
+    let mut found = Numbers::new(alloc);
+    for word in words {
+        match number(word) {
+            Some(n) => found.push(supply, n)?,
+            None => return Err(LineFault::Rule(3)),
+        }
+    }
+    Ok(found)
+}
+
+fn pair(high: u8, low: u8) -> Option<u8>
+    ensures { result ≡ spec.pair_value high low }
+{
+    let high = hex_value(high)?;
+    let low = hex_value(low)?;
+    Some(high * 16 + low)
+}
+
+fn bytes_from(word: &[u8]) -> Option<Chunk>
+    requires { length word.now ≤ 512 }
+    ensures { result ≡ spec.bytes_from word.now }
+{
+    let mut chunk = Chunk::new();
+    let mut rest = word;
+    'pairs: loop {
+        match rest {
+            [] => return Some(chunk),
+            [_] => return None,
+            [high, low, others @ ..] => {
+                match pair(*high, *low) {
+                    Some(byte) => chunk.push(byte),
+                    None => return None,
+                }
+                rest = others;
+            }
+        }
+    }
+}
+
+/// 1 to 256 bytes of two hexadecimal digits each.
+pub(crate) fn hex_bytes(word: &[u8]) -> Option<Chunk>
+    ensures { result ≡ spec.hex_bytes word.now }
+{
+    if word.is_empty() || word.len() > 512 {
+        return None;
+    }
+    bytes_from(word)
+}
+
+/// The subsystem-identification word of a subchannel: 5 to 8 digits are the whole word, up to 4 digits its right half.
+pub(crate) fn subchannel(word: &[u8]) -> Option<u32>
+    ensures { result ≡ spec.subchannel word.now }
+{
+    match number(word) {
+        Some(n) if word.len() <= 4 => Some(0x1_0000 + n),
+        other => other,
+    }
+}
+
+/// The only word.
+pub(crate) fn one<'a>(words: &[&'a [u8]]) -> Option<&'a [u8]>
+    ensures { MatchOption result (spec.one_of (map (λ w. w.now) words.now) ≡ None) (λ w. spec.one_of (map (λ w. w.now) words.now) ≡ Some w.now) }
+{
+    match words {
+        [] => None,
+        [first] => Some(*first),
+        [_, _, ..] => None,
+    }
+}
+
+/// The only two words.
+pub(crate) fn two<'a>(words: &[&'a [u8]]) -> Option<(&'a [u8], &'a [u8])>
+    ensures { MatchOption result (spec.two_of (map (λ w. w.now) words.now) ≡ None) (λ p. spec.two_of (map (λ w. w.now) words.now) ≡ Some (p.0.now, p.1.now)) }
+{
+    match words {
+        [] => None,
+        [_] => None,
+        [first, second] => Some((*first, *second)),
+        [_, _, _, ..] => None,
+    }
+}
+
+/// The only three words.
+pub(crate) fn three<'a>(words: &[&'a [u8]]) -> Option<(&'a [u8], &'a [u8], &'a [u8])>
+    ensures { MatchOption result (spec.three_of (map (λ w. w.now) words.now) ≡ None) (λ p. spec.three_of (map (λ w. w.now) words.now) ≡ Some (p.0.now, p.1.now, p.2.now)) }
+{
+    match words {
+        [] => None,
+        [_] => None,
+        [_, _] => None,
+        [first, second, third] => Some((*first, *second, *third)),
+        [_, _, _, _, ..] => None,
+    }
+}

@@ -1,0 +1,44 @@
+-- Texts of a list's items, put one after the other.
+use Rattle.std.proofs.Common.{◌≡◌, ℕ, ◌+◌, ◌<◌, Bool, true, false, List, [], ◌∷◌, ◌++◌, take, drop, length, get_or, sym, ap, ◌∙◌, subst, append-nil}
+use Rattle.std.specs.List.{flat_map}
+use Rattle.std.proofs.lemmas.List.{take_more, take-append-drop}
+use Rattle.std.proofs.lemmas.Grind.{flat_map-append}
+use Rattle.std.specs.Prelude.{Option}
+use Rattle.std.specs.Io.KnownBytes.{Appends}
+use Rattle.std.proofs.KnownBytes.{Appends-nil}
+use Rattle.streams.specs.Sinks.{Seen, Takes, FailsIn, Puts}
+use Rattle.streams.proofs.Sinking.{takes_then, fails_then}
+
+pub same_text : (o n : Seen) (a b : List ℕ) (whole : Bool) → a ≡ b → Puts o a n whole → Puts o b n whole
+same_text o n a b whole e p = subst (λ (text : List ℕ). Puts o text n whole) e p
+
+pub failed_so : (o m : Seen) (a b : List ℕ) (whole : Bool) → whole ≡ false → FailsIn o a m → Puts o (a ++ b) m whole
+failed_so o m a b whole e f = subst (λ (r : Bool). Puts o (a ++ b) m r) (sym e) (fails_then o m a b f)
+
+flat-more : (f : ℕ → List ℕ) (xs : List ℕ) (x : ℕ) → flat_map f (xs ++ x ∷ []) ≡ flat_map f xs ++ f x
+flat-more f xs x = flat_map-append f xs (x ∷ []) ∙ ap (λ (t : List ℕ). flat_map f xs ++ t) (append-nil (f x))
+
+front : (f : ℕ → List ℕ) (xs : List ℕ) (i : ℕ) → i < length xs → flat_map f (take (i + 1) xs) ≡ flat_map f (take i xs) ++ f (get_or xs i 0)
+front f xs i lt = ap (flat_map f) (take_more xs i 0 lt) ∙ flat-more f (take i xs) (get_or xs i 0)
+
+pub taken_more : (o m n : Seen) (f : ℕ → List ℕ) (xs : List ℕ) (i : ℕ) → i < length xs
+    → Takes o (flat_map f (take i xs)) m → Puts m (f (get_or xs i 0)) n true → Puts o (flat_map f (take (i + 1) xs)) n true
+taken_more o m n f xs i lt t p =
+    subst (λ (text : List ℕ). Takes o text n) (sym (front f xs i lt)) (takes_then o m n _ _ true t p)
+
+pub failed_within : (o m n : Seen) (f : ℕ → List ℕ) (xs : List ℕ) (i : ℕ) → i < length xs
+    → Takes o (flat_map f (take i xs)) m → Puts m (f (get_or xs i 0)) n false → Puts o (flat_map f xs) n false
+failed_within o m n f xs i lt t p =
+    let whole : flat_map f xs ≡ (flat_map f (take i xs) ++ f (get_or xs i 0)) ++ flat_map f (drop (i + 1) xs) =
+    ap (flat_map f) (sym (take-append-drop (i + 1) xs)) ∙ flat_map-append f (take (i + 1) xs) (drop (i + 1) xs)
+    ∙ ap (λ (text : List ℕ). text ++ flat_map f (drop (i + 1) xs)) (front f xs i lt) in
+    subst (λ (text : List ℕ). Puts o text n false) (sym whole) (fails_then o n _ _ (takes_then o m n _ _ false t p))
+
+-- a sink that fails and takes none of a text
+pub took_none : (o n : Seen) (text : List ℕ) → 0 < length text → o.bytes ≡ n.bytes → n.failed ≡ true → FailsIn o text n
+took_none o n text lt same failed = record {
+  taken = 0;
+  fewer = lt;
+  bytes = subst (λ (b : Option (List ℕ)). Appends o.bytes b []) same (Appends-nil o.bytes);
+  failed = failed;
+}

@@ -1,0 +1,333 @@
+//! The texts that are printed. Each goes into a sink as it is made, so that printing takes no memory; a call answers
+//! whether the whole of its text went in, and a sink that fails has a beginning of it.
+#![tactic(auto)]
+
+ghost use Rattle.std.specs.Prelude.{◌≡◌, ◌<◌, ◌++◌, ◌∷◌, [], decimal};
+ghost use Rattle.std.specs.List.{flat_map};
+ghost use Rattle.script_text.specs.Text as spec;
+ghost use Rattle.streams.specs.Sinks.{Puts};
+
+pub mod held;
+#[cfg(test)]
+mod shown_lines;
+#[cfg(test)]
+mod tests;
+
+use crate::held::Held;
+use chan_events::reply::Reply;
+use chan_model::answer::Answer;
+use chan_model::fault::Fault;
+use chan_model::signal::{Down, Up};
+use itoa::Buffer;
+use scsw_irb::scsw::Scsw;
+use scsw_irb::serials::Serials;
+use storage_keys::StorageFault;
+use streams::Sink;
+
+/// What an action that is not refused comes to.
+#[derive(Drop)]
+pub enum Told {
+    /// The reply of an event.
+    Reply(Reply),
+    /// How many statuses a subchannel made, and how many of these are cleared.
+    Serials(Serials),
+}
+
+fn hex_digit(digit: u8) -> u8
+    requires { digit < 16 }
+    ensures { result ≡ spec.hex_digit digit }
+{
+    if digit < 10 {
+        b'0' + digit
+    } else {
+        b'A' - 10 + digit
+    }
+}
+
+/// A number in decimal digits.
+fn put_decimal<S: Sink>(sink: &mut S, number: u64) -> bool
+    ensures { Puts (S.seen sink.old) (decimal number) (S.seen sink.new) result }
+{
+    sink.put(Buffer::new().format(number).as_bytes())
+}
+
+/// A name and a number.
+#[tactic(auto, using(streams::proofs::Sinking::takes_then, streams::proofs::Sinking::fails_then))]
+fn put_named<S: Sink>(sink: &mut S, name: &[u8], number: u64) -> bool
+    ensures { Puts (S.seen sink.old) (name.now ++ decimal number) (S.seen sink.new) result }
+{
+    sink.put(name) && put_decimal(sink, number)
+}
+
+/// The two hexadecimal digits of a byte.
+fn put_byte<S: Sink>(sink: &mut S, byte: u8) -> bool
+    ensures { Puts (S.seen sink.old) (spec.byte_text byte) (S.seen sink.new) result }
+{
+    let digits = [hex_digit(byte / 0x10 % 16), hex_digit(byte % 16)];
+    sink.put(&digits)
+}
+
+fn put_bytes<S: Sink>(sink: &mut S, bytes: &[u8]) -> bool
+    ensures { Puts (S.seen sink.old) (flat_map spec.byte_text bytes.now) (S.seen sink.new) result }
+{
+    for byte in bytes {
+        if !put_byte(sink, *byte) {
+            return false;
+        }
+    }
+    true
+}
+
+/// A space and the eight hexadecimal digits of a word.
+fn put_word<S: Sink>(sink: &mut S, word: u32) -> bool
+    ensures { Puts (S.seen sink.old) (spec.word_text word) (S.seen sink.new) result }
+{
+    let digits = [
+        b' ',
+        hex_digit((word / 0x1000_0000 % 16) as u8),
+        hex_digit((word / 0x100_0000 % 16) as u8),
+        hex_digit((word / 0x10_0000 % 16) as u8),
+        hex_digit((word / 0x1_0000 % 16) as u8),
+        hex_digit((word / 0x1000 % 16) as u8),
+        hex_digit((word / 0x100 % 16) as u8),
+        hex_digit((word / 0x10 % 16) as u8),
+        hex_digit((word % 16) as u8),
+    ];
+    sink.put(&digits)
+}
+
+fn put_words<S: Sink>(sink: &mut S, words: &[u32]) -> bool
+    ensures { Puts (S.seen sink.old) (flat_map spec.word_text words.now) (S.seen sink.new) result }
+{
+    for word in words {
+        if !put_word(sink, *word) {
+            return false;
+        }
+    }
+    true
+}
+
+fn put_scsw<S: Sink>(sink: &mut S, scsw: &Scsw) -> bool
+    ensures { Puts (S.seen sink.old) (spec.scsw_text scsw.now) (S.seen sink.new) result }
+{
+    put_words(sink, &scsw.words())
+}
+
+fn put_answer<S: Sink>(sink: &mut S, answer: Answer) -> bool
+    ensures { Puts (S.seen sink.old) (spec.answer_text answer) (S.seen sink.new) result }
+{
+    sink.put(match answer {
+        Answer::Zero(_) => b"cc 0",
+        Answer::One(_) => b"cc 1",
+        Answer::Two => b"cc 2",
+        Answer::Three => b"cc 3",
+    })
+}
+
+fn put_down_name<S: Sink>(sink: &mut S, signal: &Down) -> bool
+    ensures { Puts (S.seen sink.old) (spec.down_name signal.now) (S.seen sink.new) result }
+{
+    sink.put(match signal {
+        Down::Select { .. } => b"select",
+        Down::Command { .. } => b"command",
+        Down::Grant { .. } => b"grant",
+        Down::Refuse { .. } => b"refuse",
+        Down::Took { .. } => b"took",
+        Down::Give { .. } => b"give",
+        Down::Halt { .. } => b"halt",
+        Down::Release { .. } => b"release",
+        Down::Reset { .. } => b"reset",
+        Down::Got { .. } => b"got",
+    })
+}
+
+fn put_up_name<S: Sink>(sink: &mut S, signal: &Up) -> bool
+    ensures { Puts (S.seen sink.old) (spec.up_name signal.now) (S.seen sink.new) result }
+{
+    sink.put(match signal {
+        Up::Accept { .. } => b"accept",
+        Up::Busy { .. } => b"busy",
+        Up::Leave { .. } => b"leave",
+        Up::Back { .. } => b"back",
+        Up::Data { .. } => b"data",
+        Up::End { .. } => b"end",
+        Up::Released { .. } => b"released",
+        Up::Cleared { .. } => b"cleared",
+        Up::Notice { .. } => b"notice",
+        Up::Attn { .. } => b"attn",
+    })
+}
+
+/// Whether a signal that was met was taken.
+fn put_taken<S: Sink>(sink: &mut S, taken: bool) -> bool
+    ensures { Puts (S.seen sink.old) (spec.taken_text taken) (S.seen sink.new) result }
+{
+    sink.put(if taken { b"took " } else { b"ignored " })
+}
+
+/// An answer and a status word.
+#[tactic(auto, using(streams::proofs::Sinking::takes_then, streams::proofs::Sinking::fails_then))]
+fn put_status<S: Sink>(sink: &mut S, answer: Answer, scsw: &Scsw) -> bool
+    ensures { Puts (S.seen sink.old) (spec.answer_text answer ++ spec.scsw_text scsw.now) (S.seen sink.new) result }
+{
+    put_answer(sink, answer) && put_scsw(sink, scsw)
+}
+
+/// A signal that was met on its way up.
+#[tactic(auto, using(streams::proofs::Sinking::takes_then, streams::proofs::Sinking::fails_then))]
+fn put_up<S: Sink>(sink: &mut S, taken: bool, signal: &Up) -> bool
+    ensures { Puts (S.seen sink.old) (spec.taken_text taken ++ spec.up_name signal.now) (S.seen sink.new) result }
+{
+    put_taken(sink, taken) && put_up_name(sink, signal)
+}
+
+/// A signal that was met on its way down.
+#[tactic(auto, using(streams::proofs::Sinking::takes_then, streams::proofs::Sinking::fails_then))]
+fn put_down<S: Sink>(sink: &mut S, taken: bool, signal: &Down) -> bool
+    ensures { Puts (S.seen sink.old) (spec.taken_text taken ++ spec.down_name signal.now) (S.seen sink.new) result }
+{
+    put_taken(sink, taken) && put_down_name(sink, signal)
+}
+
+/// What a reply prints.
+pub fn put_reply<S: Sink>(sink: &mut S, reply: &Reply) -> bool
+    ensures { Puts (S.seen sink.old) (spec.reply_text reply.now) (S.seen sink.new) result }
+{
+    match reply {
+        Reply::Done => sink.put(b"done"),
+        Reply::Shown { bytes } => put_bytes(sink, bytes.as_slice()),
+        Reply::Code(answer) => put_answer(sink, *answer),
+        Reply::Status { answer, scsw } => put_status(sink, *answer, scsw),
+        Reply::Offered { path, .. } => put_named(sink, b"offer ", path.index() as u64),
+        Reply::ResetSent { path, .. } => put_named(sink, b"reset ", path.index() as u64),
+        Reply::HaltSent { path, .. } => put_named(sink, b"halt ", path.index() as u64),
+        Reply::Pending => sink.put(b"status"),
+        Reply::Idle => sink.put(b"idle"),
+        Reply::Up { signal, taken, .. } => put_up(sink, *taken, signal),
+        Reply::Down { signal, taken, .. } => put_down(sink, *taken, signal),
+    }
+}
+
+fn put_storage_fault<S: Sink>(sink: &mut S, kind: StorageFault) -> bool
+    ensures { Puts (S.seen sink.old) (spec.storage_text kind) (S.seen sink.new) result }
+{
+    match kind {
+        StorageFault::Addressing => sink.put(b"refused 10 addressing"),
+        StorageFault::Protection => sink.put(b"refused 10 protection"),
+        StorageFault::Specification => sink.put(b"refused 10 specification"),
+    }
+}
+
+/// What a refusal prints: `refused` and its number, 1 to 11 in the order of `Fault`, and for storage its kind.
+pub fn put_refusal<S: Sink>(sink: &mut S, refusal: &Fault) -> bool
+    ensures { Puts (S.seen sink.old) (spec.refusal_text refusal.now) (S.seen sink.new) result }
+{
+    sink.put(match refusal {
+        Fault::NoMemory => b"refused 1",
+        Fault::WireFull => b"refused 2",
+        Fault::NotSent => b"refused 3",
+        Fault::NoSuchSubchannel => b"refused 4",
+        Fault::NoSuchPath => b"refused 5",
+        Fault::NoSuchUnit => b"refused 6",
+        Fault::NotNow => b"refused 7",
+        Fault::ConfigBad(_) => b"refused 8",
+        Fault::ScriptBad(_, _) => b"refused 9",
+        Fault::Storage(kind) => return put_storage_fault(sink, *kind),
+        Fault::Operand => b"refused 11",
+    })
+}
+
+/// A name, its number, and another name.
+#[tactic(auto, using(streams::proofs::Sinking::takes_then, streams::proofs::Sinking::fails_then))]
+fn put_between<S: Sink>(sink: &mut S, first: &[u8], number: u64, second: &[u8]) -> bool
+    ensures { Puts (S.seen sink.old) (first.now ++ decimal number ++ second.now) (S.seen sink.new) result }
+{
+    put_named(sink, first, number) && sink.put(second)
+}
+
+/// Two names, each with its number.
+#[tactic(auto, using(streams::proofs::Sinking::takes_then, streams::proofs::Sinking::fails_then))]
+fn put_numbers<S: Sink>(sink: &mut S, first: &[u8], a: u64, second: &[u8], b: u64) -> bool
+    ensures { Puts (S.seen sink.old) (first.now ++ decimal a ++ second.now ++ decimal b) (S.seen sink.new) result }
+{
+    put_between(sink, first, a, second) && put_decimal(sink, b)
+}
+
+/// `made` and `cleared`, each with its serial in decimal.
+fn put_serials<S: Sink>(sink: &mut S, serials: Serials) -> bool
+    ensures { Puts (S.seen sink.old) (spec.serials_text serials) (S.seen sink.new) result }
+{
+    put_numbers(sink, b"made ", serials.made, b" cleared ", serials.cleared)
+}
+
+fn put_told<S: Sink>(sink: &mut S, told: &Told) -> bool
+    ensures { Puts (S.seen sink.old) (spec.told_text told.now) (S.seen sink.new) result }
+{
+    match told {
+        Told::Reply(reply) => put_reply(sink, reply),
+        Told::Serials(serials) => put_serials(sink, *serials),
+    }
+}
+
+fn put_outcome<S: Sink>(sink: &mut S, outcome: &Result<Told, Fault>) -> bool
+    ensures { Puts (S.seen sink.old) (spec.outcome_text outcome.now) (S.seen sink.new) result }
+{
+    match outcome {
+        Ok(told) => put_told(sink, told),
+        Err(refusal) => put_refusal(sink, refusal),
+    }
+}
+
+/// What an action came to, after a space.
+fn put_spaced<S: Sink>(sink: &mut S, outcome: &Result<Told, Fault>) -> bool
+    ensures { Puts (S.seen sink.old) (32 ∷ spec.outcome_text outcome.now) (S.seen sink.new) result }
+{
+    sink.put(b" ") && put_outcome(sink, outcome)
+}
+
+/// The number of a line before that.
+#[tactic(auto, using(streams::proofs::Sinking::takes_then, streams::proofs::Sinking::fails_then))]
+fn put_numbered<S: Sink>(sink: &mut S, line: u64, outcome: &Result<Told, Fault>) -> bool
+    ensures { Puts (S.seen sink.old) (decimal line ++ 32 ∷ spec.outcome_text outcome.now) (S.seen sink.new) result }
+{
+    put_decimal(sink, line) && put_spaced(sink, outcome)
+}
+
+/// The line of one action, piece by piece.
+fn put_pieces<S: Sink>(sink: &mut S, line: u64, outcome: &Result<Told, Fault>) -> bool
+    ensures { Puts (S.seen sink.old) (spec.event_line line outcome.now) (S.seen sink.new) result }
+{
+    put_numbered(sink, line, outcome) && sink.put(b"\n")
+}
+
+/// The line of one action: the decimal number of its line, what it came to, and a line feed.
+pub fn put_event_line<S: Sink>(sink: &mut S, line: u64, outcome: &Result<Told, Fault>) -> bool
+    ensures { Puts (S.seen sink.old) (spec.event_line line outcome.now) (S.seen sink.new) result }
+{
+    put_event_line_at_once(sink, &mut Held::new(), line, outcome)
+}
+
+/// The same, through a place where the line waits until it is whole: it goes into the sink at once, where it is no longer
+/// than 640 bytes. What the place held before is forgotten.
+pub fn put_event_line_at_once<S: Sink>(
+    sink: &mut S,
+    held: &mut Held,
+    line: u64,
+    outcome: &Result<Told, Fault>,
+) -> bool
+    ensures { Puts (S.seen sink.old) (spec.event_line line outcome.now) (S.seen sink.new) result }
+{
+    held.clear();
+    if put_pieces(held, line, outcome) {
+        sink.put(held.bytes.as_slice())
+    } else {
+        put_pieces(sink, line, outcome)
+    }
+}
+
+/// The line of a bad script: the number of the line and that of the rule, in decimal.
+pub fn put_bad_line<S: Sink>(sink: &mut S, line: u64, rule: u8) -> bool
+    ensures { Puts (S.seen sink.old) (spec.bad_text line rule) (S.seen sink.new) result }
+{
+    put_numbers(sink, b"bad line ", line, b" rule ", u64::from(rule)) && sink.put(b"\n")
+}
