@@ -14,7 +14,7 @@ use Rattle.channel_program.specs.declared.Advance.{Advance}
 use Rattle.channel_program.specs.declared.Role.{Role}
 use Rattle.channel_program.specs.declared.Reading.{Reading}
 use Rattle.channel_program.specs.declared.Reading.TheVariants.{Transfers, Takes, Suspends, Shows}
-use Rattle.channel_program.specs.Acts.{Act, Block, Unfetched, Used_up, End, Connected, Took, Word, Moved}
+use Rattle.channel_program.specs.Acts.{Act, Block, Unfetched, Used_up, End, Word}
 use Rattle.channel_program.specs.Blocks.{reads, block_reads, command_reads, transfer_reads, is_misplaced_command, format_of}
 use Rattle.channel_program.specs.Programs.{next as next_of, next_after, role_of, role_after, IsProgram}
 use Rattle.channel_program.specs.Walks.{Place, place, after, after_block, after_acts, is_program_misplaced, act_of_fetch, fetch_act, with_target, acts_from, acts_at, block_advance, act_advance, advance_of}
@@ -25,10 +25,7 @@ after-place orb before (Block address bytes) = refl
 after-place orb before (Unfetched address check) = refl
 after-place orb before Used_up = refl
 after-place orb before (End ended) = refl
-after-place orb before (Connected number) = refl
-after-place orb before (Took number code) = refl
 after-place orb before (Word word) = refl
-after-place orb before (Moved chunk) = refl
 
 pub after_acts-place : (orb : Orb) (before acts : List Act) → after_acts (place orb before) acts ≡ place orb (acts ++ before)
 after_acts-place orb before [] = refl

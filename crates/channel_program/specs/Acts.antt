@@ -18,9 +18,5 @@ pub data Act : Type 0 where
   Used_up : Act
   -- the command ended
   End : (ended : Ended) → Act
-  -- the program was offered to the device under a number, and the device took a command under it
-  Connected : (number : ℕ) → Act
-  Took : (number : ℕ) → (code : ℕ) → Act
-  -- an indirect word was fetched, and bytes were moved
+  -- an indirect word was fetched
   Word : (word : ℕ) → Act
-  Moved : (chunk : Chunk) → Act

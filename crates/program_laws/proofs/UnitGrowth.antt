@@ -20,7 +20,7 @@ use Rattle.chan_model.specs.UnitReports.{is_outward, has_device_end}
 use Rattle.channel_program.specs.declared.check.Check.{Check}
 use Rattle.channel_program.specs.declared.Reading.{Reading}
 use Rattle.channel_program.specs.declared.Reading.TheVariants.{Transfers, Takes, Suspends, Shows}
-use Rattle.channel_program.specs.Acts.{Act, Block, Unfetched, Used_up, End, Connected, Took, Word, Moved}
+use Rattle.channel_program.specs.Acts.{Act, Block, Unfetched, Used_up, End, Word}
 use Rattle.channel_program.specs.Blocks.{reads}
 use Rattle.channel_program.specs.Programs.{Command, join_last, commands_after, commands, code, role_of}
 use Rattle.channel_program.specs.Walks.{Place, place}
@@ -92,10 +92,7 @@ acts-add orb (Block address bytes ∷ acts) before =
 acts-add orb (Unfetched address check ∷ acts) before = acts-add orb acts before
 acts-add orb (Used_up ∷ acts) before = acts-add orb acts before
 acts-add orb (End ended ∷ acts) before = acts-add orb acts before
-acts-add orb (Connected number ∷ acts) before = acts-add orb acts before
-acts-add orb (Took number c ∷ acts) before = acts-add orb acts before
 acts-add orb (Word word ∷ acts) before = acts-add orb acts before
-acts-add orb (Moved chunk ∷ acts) before = acts-add orb acts before
 
 later-adds : (earlier : ℕ) (xs ys : List ℕ) → Adds xs ys → Adds (later_codes earlier xs) (later_codes earlier ys)
 later-adds earlier xs ys a =
