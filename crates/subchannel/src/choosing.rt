@@ -88,12 +88,12 @@ fn candidate(state: &SubchannelState) -> Option<Candidate>
 }
 
 /// The Reset that is due, where there is a path for it.
-fn reset_chosen(hold: &HoldState, choice: Option<Path>) -> Option<Chosen>
-    ensures chosen { result ≡ spec.reset_chosen (spec.unsent_reset hold.now) choice }
+fn reset_chosen(hold: &HoldState, choice: &Option<Path>) -> Option<Chosen>
+    ensures chosen { result ≡ spec.reset_chosen (spec.unsent_reset hold.now) choice.now }
     ensures fits { IfSome result (λ c. spec.IsFitFor c hold.now) }
 {
     let number = unsent_reset(hold)?;
-    let path = choice?;
+    let path = (*choice)?;
     Some(Chosen::Resets { number, path })
 }
 
@@ -107,8 +107,8 @@ fn clear_chosen(hold: &HoldState, pending: bool) -> Option<Chosen>
 }
 
 /// A halt that is pending.
-fn halt_chosen(pending: bool, hold: &HoldState, choice: Option<Path>) -> Option<Chosen>
-    ensures chosen { result ≡ spec.halt_chosen pending hold.now.phase choice }
+fn halt_chosen(pending: bool, hold: &HoldState, choice: &Option<Path>) -> Option<Chosen>
+    ensures chosen { result ≡ spec.halt_chosen pending hold.now.phase choice.now }
     ensures fits { IfSome result (λ c. spec.IsFitFor c hold.now) }
 {
     if !pending {
@@ -119,7 +119,7 @@ fn halt_chosen(pending: bool, hold: &HoldState, choice: Option<Path>) -> Option<
         HoldPhase::On { number, path, .. } => Some(Chosen::Halts { number, path }),
         HoldPhase::Away { number } => Some(Chosen::Halts {
             number,
-            path: choice?,
+            path: (*choice)?,
         }),
         HoldPhase::Free | HoldPhase::Letting { .. } | HoldPhase::Reset { .. } => Some(Chosen::Ends),
     }
@@ -130,13 +130,13 @@ fn offer_chosen(
     hold: &HoldState,
     candidate: Option<Candidate>,
     reachable: bool,
-    choice: Option<Path>,
+    choice: &Option<Path>,
 ) -> Option<Chosen>
-    ensures chosen { result ≡ spec.offer_chosen hold.now.phase candidate reachable choice }
+    ensures chosen { result ≡ spec.offer_chosen hold.now.phase candidate reachable choice.now }
     ensures fits { IfSome result (λ c. spec.IsFitFor c hold.now) }
 {
     let candidate = candidate?;
-    match (hold.phase, choice) {
+    match (hold.phase, *choice) {
         (HoldPhase::Free, Some(path)) => Some(Chosen::Offers { candidate, path }),
         (HoldPhase::Free | HoldPhase::Reset { .. }, _) if !reachable => Some(Chosen::Over),
         _ => None,
@@ -149,19 +149,18 @@ pub fn chosen(sub: &Subchannel, choice: Option<Path>) -> Chosen
     ensures chosen { result ≡ spec.chosen sub.now choice }
     ensures fits { spec.IsFitFor result sub.now.state.hold }
 {
-    let hold = &sub.state.hold;
-    let activity = &sub.state.scsw.activity;
-    if let Some(chosen) = reset_chosen(hold, choice) {
+    let state = &sub.state;
+    if let Some(chosen) = reset_chosen(&state.hold, &choice) {
         return chosen;
     }
-    if let Some(chosen) = clear_chosen(hold, activity.clear_pending) {
+    if let Some(chosen) = clear_chosen(&state.hold, state.scsw.activity.clear_pending) {
         return chosen;
     }
-    if let Some(chosen) = halt_chosen(activity.halt_pending, hold, choice) {
+    if let Some(chosen) = halt_chosen(state.scsw.activity.halt_pending, &state.hold, &choice) {
         return chosen;
     }
     let reachable = is_any(&path_use(sub).reachable());
-    match offer_chosen(hold, candidate(&sub.state), reachable, choice) {
+    match offer_chosen(&state.hold, candidate(state), reachable, &choice) {
         Some(chosen) => chosen,
         None => Chosen::Idle,
     }

@@ -151,14 +151,21 @@ abbrev pub offer_chosen : HoldPhase → Option Candidate → Bool → Option ℕ
 offer_chosen phase None reachable choice = None
 offer_chosen phase (Some c) reachable choice = offer_at phase c reachable choice
 
--- the first of the four that applies, otherwise nothing
+abbrev pub offered_by : Subchannel → Option ℕ → Option Chosen
+offered_by sub choice =
+    offer_chosen sub.state.hold.phase (candidate sub.state) (is_any (reachable_paths (path_use sub))) choice
+
+-- the first that applies, otherwise nothing
+abbrev pub chosen_of : List (Option Chosen) → Chosen
+chosen_of acts = unwrap_or (first_of acts) Idle
+
 abbrev pub chosen : Subchannel → Option ℕ → Chosen
-chosen sub choice = unwrap_or (first_of (
+chosen sub choice = chosen_of (
     reset_chosen (unsent_reset sub.state.hold) choice
     ∷ clear_chosen (unsent_reset sub.state.hold) sub.state.scsw.activity.clear_pending
     ∷ halt_chosen sub.state.scsw.activity.halt_pending sub.state.hold.phase choice
-    ∷ offer_chosen sub.state.hold.phase (candidate sub.state) (is_any (reachable_paths (path_use sub))) choice
-    ∷ [])) Idle
+    ∷ offered_by sub choice
+    ∷ [])
 
 -- an offer is made where the hold is free, a Reset is sent where it is due, and a Halt goes to the program that is held
 abbrev pub IsHeldBy : HoldPhase → ℕ → Type 0
