@@ -167,7 +167,7 @@ choose-linked : (sub : Subchannel) (c : Chosen) (k : Option Story) (u : UnitStat
 choose-linked sub Idle k u w n l = l
 choose-linked sub (Resets r path) k u w n l =
     if-ok (λ t. IsLinked sub.setup.side t.sub.state.drawn t.sub.wires.down (chosen_at (Some sub) t.reply k) u) (is_full sub.wires.down path) (Err fault.WireFull) _ tt
-    (same-linked sub.setup.side sub.state.drawn path (down.Reset r sub.state.hold.known) sub.wires.down k u (reset-needs k sub.state r w n) l)
+    (same-linked sub.setup.side sub.state.drawn path (down.Reset r sub.state.hold.known) sub.wires.down k u (reset-needs k sub.state r w.fits n) l)
 choose-linked sub Clears k u w n l = l
 choose-linked sub (Halts t path) k u w n l =
     if-ok (λ t. IsLinked sub.setup.side t.sub.state.drawn t.sub.wires.down (chosen_at (Some sub) t.reply k) u) (is_full sub.wires.down path) (Err fault.WireFull) _ tt
