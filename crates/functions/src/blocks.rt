@@ -3,7 +3,8 @@
 
 ghost use Rattle.std.specs.Prelude.{◌≡◌, ◌<◌, ◌≤◌, ◌^◌, ◌+◌, ◌-◌, nat_lt, slice_index};
 ghost use Rattle.schib_block.specs.Modify.{IsAllowed};
-ghost use Rattle.subchannel_model.specs.SubchannelBlocks as spec;
+ghost use Rattle.subchannel_model.specs.Store as store_spec;
+ghost use Rattle.subchannel_model.specs.Enable as enable_spec;
 ghost use Rattle.allegiance.specs.PathUse.{each_path};
 
 use chan_model::paths::{PathSet, mask_of_path, mask_of_paths};
@@ -38,7 +39,7 @@ fn chpid_at(paths: &[u8], index: usize) -> u8
 }
 
 fn chpids_of(paths: &[u8]) -> [u8; 8]
-    ensures { result ≡ spec.chpids_of paths.now }
+    ensures { result ≡ store_spec.chpids_of paths.now }
 {
     [
         chpid_at(paths, 0),
@@ -55,7 +56,7 @@ fn chpids_of(paths: &[u8]) -> [u8; 8]
 /// The path-management-control word of a subchannel: V is one, and what there is not (limits, measurement, timing and
 /// concurrent sense) is zero.
 pub fn pmcw_of(sub: &Subchannel) -> pmcw::Pmcw
-    ensures { result ≡ spec.pmcw_of sub.now }
+    ensures { result ≡ store_spec.pmcw_of sub.now }
 {
     let state = sub.state.pmcw;
     let paths = sub.setup.paths.as_slice();
@@ -84,7 +85,7 @@ pub fn pmcw_of(sub: &Subchannel) -> pmcw::Pmcw
 
 /// What STORE SUBCHANNEL stores.
 pub fn schib_of(sub: &Subchannel) -> Schib
-    ensures { result ≡ spec.schib_of sub.now }
+    ensures { result ≡ store_spec.schib_of sub.now }
 {
     Schib {
         pmcw: pmcw_of(sub),
@@ -94,7 +95,7 @@ pub fn schib_of(sub: &Subchannel) -> Schib
 
 /// The word with ISC, D and E one placed in it. Of `subclass` the three rightmost bits are placed.
 fn enabling(word: pmcw::Pmcw, subclass: u8, multipath: bool) -> pmcw::Pmcw
-    ensures { result ≡ spec.enabling word subclass multipath }
+    ensures { result ≡ enable_spec.enabling word subclass multipath }
 {
     let mut enabling = word;
     enabling.subclass = subclass % 8;
@@ -105,7 +106,7 @@ fn enabling(word: pmcw::Pmcw, subclass: u8, multipath: bool) -> pmcw::Pmcw
 
 /// What STORE SUBCHANNEL stores, with ISC, D and E one placed in it.
 pub fn enabling_schib(sub: &Subchannel, subclass: u8, multipath: bool) -> Schib
-    ensures { result ≡ spec.enabling_schib sub.now subclass multipath }
+    ensures { result ≡ enable_spec.enabling_schib sub.now subclass multipath }
 {
     Schib {
         pmcw: enabling(pmcw_of(sub), subclass, multipath),
@@ -118,14 +119,14 @@ fn with_field(word: u32, first: u32, last: u32, value: u32) -> u32
     requires ordered { first ≤ last }
     requires within { last < 32 }
     requires fits { value < 2 ^ (last + 1 - first) }
-    ensures { result ≡ spec.with_field word first last value }
+    ensures { result ≡ enable_spec.with_field word first last value }
 {
     set_field(word, first, last, value)
 }
 
 /// The second word of a block, with ISC (bits 2 to 4), E one (bit 8) and D (bit 13) placed in it.
 pub fn enabling_word(word: u32, subclass: u8, multipath: bool) -> u32
-    ensures { result ≡ spec.enabling_word word subclass multipath }
+    ensures { result ≡ enable_spec.enabling_word word subclass multipath }
 {
     let word = with_field(word, 2, 4, u32::from(subclass % 8));
     let word = with_field(word, 8, 8, 1);

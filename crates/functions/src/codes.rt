@@ -1,10 +1,17 @@
 //! The condition codes of the instructions on a subchannel (SA22-7832, chapter 14): the table, a function for each row.
 
-ghost use Rattle.std.specs.Prelude.{◌≡◌};
+ghost use Rattle.std.specs.Prelude.{◌≡◌, Some};
 ghost use Rattle.chan_model.specs.ConditionCodes as code_spec;
-ghost use Rattle.subchannel_model.specs.SubchannelCodes as spec;
+ghost use Rattle.subchannel_model.specs.Conditions as condition_spec;
+ghost use Rattle.subchannel_model.specs.Start as start_spec;
+ghost use Rattle.subchannel_model.specs.Resume as resume_spec;
+ghost use Rattle.subchannel_model.specs.Halt as halt_spec;
+ghost use Rattle.subchannel_model.specs.Clear as clear_spec;
+ghost use Rattle.subchannel_model.specs.Cancel as cancel_spec;
+ghost use Rattle.subchannel_model.specs.Modify as modify_spec;
+ghost use Rattle.subchannel_model.specs.Store as store_spec;
+ghost use Rattle.subchannel_model.specs.Test as test_spec;
 ghost use Rattle.subchannel_model.specs.Status as status_spec;
-ghost use Rattle.subchannel_model.specs.Instructions as state_spec;
 
 use chan_model::answer::ConditionCode;
 use scsw_irb::scsw::{ActivityControl, FunctionControl, StatusControl};
@@ -13,7 +20,7 @@ use subchannel_model::status::Condition;
 
 /// What an instruction finds of a provided subchannel.
 pub fn condition_of(state: &SubchannelState) -> Condition
-    ensures { result ≡ state_spec.condition_of state.now }
+    ensures { result ≡ condition_spec.condition_of (Some state.now) }
 {
     Condition {
         provided: true,
@@ -41,26 +48,26 @@ fn in_order(operational: bool, one: bool, two: bool) -> ConditionCode
 }
 
 fn is_operational(condition: Condition) -> bool
-    ensures { result ≡ spec.is_operational condition }
+    ensures { result ≡ condition_spec.is_operational condition }
 {
     condition.provided && condition.enabled
 }
 
 fn any_function(functions: FunctionControl) -> bool
-    ensures { result ≡ spec.any_function functions }
+    ensures { result ≡ condition_spec.any_function functions }
 {
     functions.start || functions.halt || functions.clear
 }
 
 fn is_start_alone(functions: FunctionControl) -> bool
-    ensures { result ≡ spec.start_alone functions }
+    ensures { result ≡ condition_spec.start_alone functions }
 {
     functions.start && !functions.halt && !functions.clear
 }
 
 /// START SUBCHANNEL.
 pub fn ssch_code(condition: Condition) -> ConditionCode
-    ensures { result ≡ spec.ssch_code condition }
+    ensures { result ≡ start_spec.ssch_code condition }
 {
     in_order(
         is_operational(condition),
@@ -71,7 +78,7 @@ pub fn ssch_code(condition: Condition) -> ConditionCode
 
 /// RESUME SUBCHANNEL.
 pub fn rsch_code(condition: Condition) -> ConditionCode
-    ensures { result ≡ spec.rsch_code condition }
+    ensures { result ≡ resume_spec.rsch_code condition }
 {
     in_order(
         is_operational(condition),
@@ -84,14 +91,14 @@ pub fn rsch_code(condition: Condition) -> ConditionCode
 
 /// Status is pending that is not intermediate alone.
 fn shows_end(status: StatusControl) -> bool
-    ensures { result ≡ spec.shows_end status }
+    ensures { result ≡ halt_spec.shows_end status }
 {
     status.pending && (!status.intermediate || status.alert || status.primary || status.secondary)
 }
 
 /// HALT SUBCHANNEL.
 pub fn hsch_code(condition: Condition) -> ConditionCode
-    ensures { result ≡ spec.hsch_code condition }
+    ensures { result ≡ halt_spec.hsch_code condition }
 {
     in_order(
         is_operational(condition),
@@ -102,20 +109,20 @@ pub fn hsch_code(condition: Condition) -> ConditionCode
 
 /// CLEAR SUBCHANNEL.
 pub fn csch_code(condition: Condition) -> ConditionCode
-    ensures { result ≡ spec.csch_code condition }
+    ensures { result ≡ clear_spec.csch_code condition }
 {
     in_order(is_operational(condition), false, false)
 }
 
 fn waits(activity: ActivityControl) -> bool
-    ensures { result ≡ spec.waits activity }
+    ensures { result ≡ cancel_spec.waits activity }
 {
     activity.start_pending || activity.resume_pending || activity.suspended
 }
 
 /// CANCEL SUBCHANNEL.
 pub fn xsch_code(condition: Condition) -> ConditionCode
-    ensures { result ≡ spec.xsch_code condition }
+    ensures { result ≡ cancel_spec.xsch_code condition }
 {
     in_order(
         is_operational(condition),
@@ -128,7 +135,7 @@ pub fn xsch_code(condition: Condition) -> ConditionCode
 
 /// MODIFY SUBCHANNEL. It needs no enabled subchannel.
 pub fn msch_code(condition: Condition) -> ConditionCode
-    ensures { result ≡ spec.msch_code condition }
+    ensures { result ≡ modify_spec.msch_code condition }
 {
     in_order(
         condition.provided,
@@ -139,14 +146,14 @@ pub fn msch_code(condition: Condition) -> ConditionCode
 
 /// STORE SUBCHANNEL. It needs no enabled subchannel.
 pub fn stsch_code(condition: Condition) -> ConditionCode
-    ensures { result ≡ spec.stsch_code condition }
+    ensures { result ≡ store_spec.stsch_code condition }
 {
     in_order(condition.provided, false, false)
 }
 
 /// TEST SUBCHANNEL.
 pub fn tsch_code(condition: Condition) -> ConditionCode
-    ensures { result ≡ spec.tsch_code condition }
+    ensures { result ≡ test_spec.tsch_code condition }
 {
     in_order(is_operational(condition), !condition.status.pending, false)
 }

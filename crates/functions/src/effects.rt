@@ -2,9 +2,13 @@
 
 ghost use Rattle.std.specs.Prelude.{◌≡◌, ◌<◌, ◌^◌};
 ghost use Rattle.subchannel_model.specs.Status as status_spec;
-ghost use Rattle.subchannel_model.specs.Functions as spec;
-ghost use Rattle.subchannel_model.specs.Instructions as start_spec;
-ghost use Rattle.subchannel_model.specs.SubchannelBlocks as block_spec;
+ghost use Rattle.subchannel_model.specs.Conditions as condition_spec;
+ghost use Rattle.subchannel_model.specs.Resume as resume_spec;
+ghost use Rattle.subchannel_model.specs.Halt as halt_spec;
+ghost use Rattle.subchannel_model.specs.Clear as clear_spec;
+ghost use Rattle.subchannel_model.specs.Cancel as cancel_spec;
+ghost use Rattle.subchannel_model.specs.Modify as modify_spec;
+ghost use Rattle.subchannel_model.specs.Start as start_spec;
 
 use crate::codes::is_intermediate_alone;
 use chan_model::paths::paths_of_mask;
@@ -69,20 +73,20 @@ pub fn start(state: &mut SubchannelState, orb: &Orb)
 }
 
 fn find_operational(pmcw: &mut Pmcw)
-    ensures { pmcw.new ≡ spec.found_operational pmcw.old }
+    ensures { pmcw.new ≡ condition_spec.found_operational pmcw.old }
 {
     pmcw.not_operational = [false; 8];
 }
 
 fn resume_scsw(scsw: &mut Scsw)
-    ensures { scsw.new ≡ spec.resumed_scsw scsw.old }
+    ensures { scsw.new ≡ resume_spec.resumed_scsw scsw.old }
 {
     scsw.activity.resume_pending = true;
 }
 
 /// RESUME SUBCHANNEL with code 0.
 pub(crate) fn resume(state: &mut SubchannelState)
-    ensures { state.new ≡ spec.resumed state.old }
+    ensures { state.new ≡ resume_spec.resumed state.old }
 {
     if state.scsw.activity.suspended {
         find_operational(&mut state.pmcw);
@@ -91,7 +95,7 @@ pub(crate) fn resume(state: &mut SubchannelState)
 }
 
 fn drops_status(scsw: &Scsw) -> bool
-    ensures { result ≡ spec.drops_status scsw.now }
+    ensures { result ≡ halt_spec.drops_status scsw.now }
 {
     scsw.status.pending && is_intermediate_alone(scsw.status) && scsw.activity.subchannel_active
 }
@@ -104,14 +108,14 @@ pub fn clear_serials(serials: &mut Serials)
 }
 
 fn halt_scsw(scsw: &mut Scsw)
-    ensures { scsw.new ≡ spec.halted_scsw scsw.old }
+    ensures { scsw.new ≡ halt_spec.halted_scsw scsw.old }
 {
     scsw.functions.halt = true;
     scsw.activity.halt_pending = true;
 }
 
 fn halting(state: &mut SubchannelState)
-    ensures { state.new ≡ spec.halting state.old }
+    ensures { state.new ≡ halt_spec.halting state.old }
 {
     find_operational(&mut state.pmcw);
     halt_scsw(&mut state.scsw);
@@ -125,7 +129,7 @@ pub fn drop_scsw(scsw: &mut Scsw)
 }
 
 fn drop_status(state: &mut SubchannelState)
-    ensures { state.new ≡ spec.dropped state.old }
+    ensures { state.new ≡ halt_spec.dropped state.old }
 {
     drop_scsw(&mut state.scsw);
     clear_serials(&mut state.serials);
@@ -133,7 +137,7 @@ fn drop_status(state: &mut SubchannelState)
 
 /// HALT SUBCHANNEL with code 0.
 pub(crate) fn halt(state: &mut SubchannelState)
-    ensures { state.new ≡ spec.halted state.old }
+    ensures { state.new ≡ halt_spec.halted state.old }
 {
     let drops = drops_status(&state.scsw);
     halting(state);
@@ -143,7 +147,7 @@ pub(crate) fn halt(state: &mut SubchannelState)
 }
 
 fn cleared_scsw() -> Scsw
-    ensures { result ≡ spec.cleared_scsw }
+    ensures { result ≡ clear_spec.cleared_scsw }
 {
     let mut scsw = Scsw::zero();
     scsw.functions.clear = true;
@@ -152,7 +156,7 @@ fn cleared_scsw() -> Scsw
 }
 
 fn clear_pmcw(pmcw: &mut Pmcw)
-    ensures { pmcw.new ≡ spec.cleared_pmcw pmcw.old }
+    ensures { pmcw.new ≡ clear_spec.cleared_pmcw pmcw.old }
 {
     pmcw.not_operational = [false; 8];
     pmcw.last_used = None;
@@ -162,7 +166,7 @@ fn clear_pmcw(pmcw: &mut Pmcw)
 /// CLEAR SUBCHANNEL with code 0.
 pub(crate) fn clear(state: &mut SubchannelState)
     requires { state.old.drawn < 2 ^ 63 }
-    ensures { state.new ≡ spec.cleared state.old }
+    ensures { state.new ≡ clear_spec.cleared state.old }
 {
     clear_pmcw(&mut state.pmcw);
     state.scsw = cleared_scsw();
@@ -178,7 +182,7 @@ pub(crate) fn clear(state: &mut SubchannelState)
 }
 
 fn cancel_scsw(scsw: &mut Scsw)
-    ensures { scsw.new ≡ spec.cancelled_scsw scsw.old }
+    ensures { scsw.new ≡ cancel_spec.cancelled_scsw scsw.old }
 {
     scsw.path_not_operational = false;
     scsw.functions = FunctionControl::none();
@@ -189,7 +193,7 @@ fn cancel_scsw(scsw: &mut Scsw)
 
 /// CANCEL SUBCHANNEL with code 0.
 pub(crate) fn cancel(state: &mut SubchannelState)
-    ensures { state.new ≡ spec.cancelled state.old }
+    ensures { state.new ≡ cancel_spec.cancelled state.old }
 {
     cancel_scsw(&mut state.scsw);
     state.waiting = None;
@@ -197,7 +201,7 @@ pub(crate) fn cancel(state: &mut SubchannelState)
 }
 
 fn place_word(state: &mut Pmcw, word: &pmcw::Pmcw)
-    ensures { state.new ≡ block_spec.with_word state.old word.now }
+    ensures { state.new ≡ modify_spec.with_word state.old word.now }
 {
     state.parameter = word.parameter;
     state.subclass = word.subclass;
@@ -209,7 +213,7 @@ fn place_word(state: &mut Pmcw, word: &pmcw::Pmcw)
 
 /// MODIFY SUBCHANNEL with code 0.
 pub fn place(state: &mut SubchannelState, given: &pmcw::Pmcw)
-    ensures { state.new ≡ spec.placed state.old given.now }
+    ensures { state.new ≡ modify_spec.placed state.old given.now }
 {
     place_word(&mut state.pmcw, given);
 }

@@ -5,9 +5,12 @@ ghost use Rattle.orb_block.specs.declared.Orb.{Orb};
 ghost use Rattle.schib_block.specs.declared.pmcw.Pmcw as block;
 ghost use Rattle.subchannel_model.specs.declared.state.Subchannel.{Subchannel};
 ghost use Rattle.subchannel_model.specs.declared.state.SubchannelState.{SubchannelState};
-ghost use Rattle.subchannel_model.specs.Functions.{resumed, halted, cleared, cancelled, placed};
-ghost use Rattle.subchannel_model.specs.Instructions.{started};
-ghost use Rattle.subchannel_model.specs.SubchannelBlocks.{modified_state};
+ghost use Rattle.subchannel_model.specs.Resume.{resumed};
+ghost use Rattle.subchannel_model.specs.Halt.{halted};
+ghost use Rattle.subchannel_model.specs.Clear.{cleared};
+ghost use Rattle.subchannel_model.specs.Cancel.{cancelled};
+ghost use Rattle.subchannel_model.specs.Modify.{placed, modified_state};
+ghost use Rattle.subchannel_model.specs.Start.{started};
 ghost use Rattle.functions.specs.Counted.{IsCounted};
 
 /// MODIFY SUBCHANNEL leaves the same whatever else the word of its subchannel has.

@@ -2,10 +2,16 @@
 //! of its subchannel. The request for an interruption is the caller's, and so are the operands.
 #![tactic(auto)]
 
-ghost use Rattle.std.specs.Prelude.{◌≡◌, ◌<◌, ◌^◌};
-ghost use Rattle.subchannel_model.specs.SubchannelCodes as code_spec;
-ghost use Rattle.subchannel_model.specs.Functions as spec;
-ghost use Rattle.subchannel_model.specs.Instructions.{condition_of, started};
+ghost use Rattle.std.specs.Prelude.{◌≡◌, ◌<◌, ◌^◌, Some};
+ghost use Rattle.subchannel_model.specs.Start as start_spec;
+ghost use Rattle.subchannel_model.specs.Resume as resume_spec;
+ghost use Rattle.subchannel_model.specs.Halt as halt_spec;
+ghost use Rattle.subchannel_model.specs.Clear as clear_spec;
+ghost use Rattle.subchannel_model.specs.Cancel as cancel_spec;
+ghost use Rattle.subchannel_model.specs.Modify as modify_spec;
+ghost use Rattle.subchannel_model.specs.Conditions as condition_spec;
+ghost use Rattle.subchannel_model.specs.Conditions.{condition_of};
+ghost use Rattle.subchannel_model.specs.Start.{started};
 
 pub mod blocks;
 pub mod codes;
@@ -22,8 +28,8 @@ use subchannel_model::state::SubchannelState;
 /// START SUBCHANNEL with an ORB that is allowed.
 pub fn ssch(state: &mut SubchannelState, orb: Orb) -> ConditionCode
     requires { state.old.starts < 2 ^ 63 }
-    ensures code { result ≡ code_spec.ssch_code (condition_of state.old) }
-    ensures state { state.new ≡ spec.left_by result state.old (started state.old orb) }
+    ensures code { result ≡ start_spec.ssch_code (condition_of (Some state.old)) }
+    ensures state { state.new ≡ condition_spec.left_by result state.old (started state.old orb) }
 {
     let code = codes::ssch_code(codes::condition_of(state));
     if code == ConditionCode::Zero {
@@ -34,8 +40,8 @@ pub fn ssch(state: &mut SubchannelState, orb: Orb) -> ConditionCode
 
 /// RESUME SUBCHANNEL.
 pub fn rsch(state: &mut SubchannelState) -> ConditionCode
-    ensures code { result ≡ code_spec.rsch_code (condition_of state.old) }
-    ensures state { state.new ≡ spec.left_by result state.old (spec.resumed state.old) }
+    ensures code { result ≡ resume_spec.rsch_code (condition_of (Some state.old)) }
+    ensures state { state.new ≡ condition_spec.left_by result state.old (resume_spec.resumed state.old) }
 {
     let code = codes::rsch_code(codes::condition_of(state));
     if code == ConditionCode::Zero {
@@ -46,8 +52,8 @@ pub fn rsch(state: &mut SubchannelState) -> ConditionCode
 
 /// HALT SUBCHANNEL.
 pub fn hsch(state: &mut SubchannelState) -> ConditionCode
-    ensures code { result ≡ code_spec.hsch_code (condition_of state.old) }
-    ensures state { state.new ≡ spec.left_by result state.old (spec.halted state.old) }
+    ensures code { result ≡ halt_spec.hsch_code (condition_of (Some state.old)) }
+    ensures state { state.new ≡ condition_spec.left_by result state.old (halt_spec.halted state.old) }
 {
     let code = codes::hsch_code(codes::condition_of(state));
     if code == ConditionCode::Zero {
@@ -59,8 +65,8 @@ pub fn hsch(state: &mut SubchannelState) -> ConditionCode
 /// CLEAR SUBCHANNEL. The Reset that is then due is not sent here.
 pub fn csch(state: &mut SubchannelState) -> ConditionCode
     requires { state.old.drawn < 2 ^ 63 }
-    ensures code { result ≡ code_spec.csch_code (condition_of state.old) }
-    ensures state { state.new ≡ spec.left_by result state.old (spec.cleared state.old) }
+    ensures code { result ≡ clear_spec.csch_code (condition_of (Some state.old)) }
+    ensures state { state.new ≡ condition_spec.left_by result state.old (clear_spec.cleared state.old) }
 {
     let code = codes::csch_code(codes::condition_of(state));
     if code == ConditionCode::Zero {
@@ -71,8 +77,8 @@ pub fn csch(state: &mut SubchannelState) -> ConditionCode
 
 /// CANCEL SUBCHANNEL.
 pub fn xsch(state: &mut SubchannelState) -> ConditionCode
-    ensures code { result ≡ code_spec.xsch_code (condition_of state.old) }
-    ensures state { state.new ≡ spec.left_by result state.old (spec.cancelled state.old) }
+    ensures code { result ≡ cancel_spec.xsch_code (condition_of (Some state.old)) }
+    ensures state { state.new ≡ condition_spec.left_by result state.old (cancel_spec.cancelled state.old) }
 {
     let code = codes::xsch_code(codes::condition_of(state));
     if code == ConditionCode::Zero {
@@ -83,8 +89,8 @@ pub fn xsch(state: &mut SubchannelState) -> ConditionCode
 
 /// MODIFY SUBCHANNEL with a word that is allowed.
 pub fn msch(state: &mut SubchannelState, given: &pmcw::Pmcw) -> ConditionCode
-    ensures code { result ≡ code_spec.msch_code (condition_of state.old) }
-    ensures state { state.new ≡ spec.left_by result state.old (spec.placed state.old given.now) }
+    ensures code { result ≡ modify_spec.msch_code (condition_of (Some state.old)) }
+    ensures state { state.new ≡ condition_spec.left_by result state.old (modify_spec.placed state.old given.now) }
 {
     let code = codes::msch_code(codes::condition_of(state));
     if code == ConditionCode::Zero {

@@ -19,29 +19,32 @@ use Rattle.scsw_irb.specs.declared.irb.Irb.{Irb}
 use Rattle.scsw_irb.specs.ScswTable.{irb_tables}
 use Rattle.subchannel_model.specs.declared.state.Subchannel.{Subchannel}
 use Rattle.machine_model.specs.State.{State, with_sub}
-use Rattle.subchannel_model.specs.SubchannelBlocks.{pmcw_of, schib_of, enabling, enabling_schib, enabling_word}
+use Rattle.subchannel_model.specs.Store.{pmcw_of, schib_of}
+use Rattle.subchannel_model.specs.Enable.{enabling, enabling_schib, enabling_word}
+use Rattle.subchannel_model.specs.Places.{Found}
+use Rattle.subchannel_model.specs.Test.{tsch_code, irb_of}
 use Rattle.machine_model.specs.Turns.{Outcome, SubTurn, leaves, does, at_place}
-use Rattle.machine_model.specs.InstructionSteps.{Starts, Modifies, Enables, start_at, modify_at, modify_sub, enable_sub, store_answer, stores, tests, test_with, test_code_of, irb_of, with_irb, with_schib, with_enabling, stores_irb}
+use Rattle.machine_model.specs.InstructionSteps.{code_at, Starts, Modifies, Enables, start_at, modify_at, modify_sub, enable_sub, store_answer, stores, tests, test_with, with_irb, with_schib, with_enabling, stores_irb}
 use Rattle.io_step.specs.Executing.{with_storage}
 use Rattle.io_step.specs.Operands.{HasOrb, HasWord}
 
-pub starts : (s : State) (place : Option ℕ) (sub : Option Subchannel) (fetched : Result (List ℕ) StorageFault) (orb : Orb) (r : Outcome) →
-    HasOrb fetched (Ok orb) → r ≡ start_at s place sub orb → Starts s place sub fetched r
-starts s place sub (Ok image) orb r h e = inr (orb, h, e)
-starts s place sub (Err f) orb r h e = absurd (cc h)
+pub starts : (s : State) (found : Option Found) (fetched : Result (List ℕ) StorageFault) (orb : Orb) (r : Outcome) →
+    HasOrb fetched (Ok orb) → r ≡ start_at s found orb → Starts s found fetched r
+starts s found (Ok image) orb r h e = inr (orb, h, e)
+starts s found (Err f) orb r h e = absurd (cc h)
 
 err_inj : (f g : Fault) → ◌≡◌ {A = Result Pmcw Fault} (Err f) (Err g) → f ≡ g
 err_inj f g e = cc
 
-pub modifies : (s : State) (place : Option ℕ) (sub : Option Subchannel) (fetched : Result (List ℕ) StorageFault) (given : Pmcw) (r : Outcome) →
-    HasWord fetched (Ok given) → r ≡ modify_at s place sub given → Modifies s place sub fetched r
-modifies s place sub (Ok image) given r h e = (given, h.0, inr (h.1, e))
-modifies s place sub (Err f) given r h e = absurd (cc h)
+pub modifies : (s : State) (found : Option Found) (fetched : Result (List ℕ) StorageFault) (given : Pmcw) (r : Outcome) →
+    HasWord fetched (Ok given) → r ≡ modify_at s found given → Modifies s found fetched r
+modifies s found (Ok image) given r h e = (given, h.0, inr (h.1, e))
+modifies s found (Err f) given r h e = absurd (cc h)
 
-pub modifies-not : (s : State) (place : Option ℕ) (sub : Option Subchannel) (fetched : Result (List ℕ) StorageFault) (f : Fault) →
-    HasWord fetched (Err f) → Modifies s place sub fetched (Err f)
-modifies-not s place sub (Ok image) f h = (h.0, h.1, inl (h.2, ap (λ (g : Fault). Err g) h.3))
-modifies-not s place sub (Err g) f h = ap (λ (k : Fault). Err k) (err_inj f (fault.Storage g) h)
+pub modifies-not : (s : State) (found : Option Found) (fetched : Result (List ℕ) StorageFault) (f : Fault) →
+    HasWord fetched (Err f) → Modifies s found fetched (Err f)
+modifies-not s found (Ok image) f h = (h.0, h.1, inl (h.2, ap (λ (g : Fault). Err g) h.3))
+modifies-not s found (Err g) f h = ap (λ (k : Fault). Err k) (err_inj f (fault.Storage g) h)
 
 -- an operand that is on its boundary and in storage has bytes
 pub fetched : (before : Contents) (cpu number address count : ℕ) (u : Unit {0}) → number ≡ cpu → operand_check before number address count 4 ≡ Ok u →
@@ -62,23 +65,23 @@ set_there (y ∷ ys) (suc i) x e = ap (λ zs. y ∷ zs) (set_there ys i x e)
 
 pub tests-sub : (s : State) (before after : Contents) (cpu number address place : ℕ) (old new : Subchannel) (u : Unit {0}) (r : Reply) →
     number ≡ cpu → operand_check before number address 64 4 ≡ Ok u →
-    with_storage s after ≡ with_irb (with_storage s before) cpu address old (stores_irb (test_code_of old)) →
-    test_with old (test_code_of old) ≡ leaves r new →
-    does r (with_sub (with_storage s after) place new) ≡ tests (with_storage s before) cpu address (Some place) (Some old) (operand_check before cpu address 64 4)
+    with_storage s after ≡ with_irb (with_storage s before) cpu address old (stores_irb (code_at tsch_code old)) →
+    test_with old (code_at tsch_code old) ≡ leaves r new →
+    does r (with_sub (with_storage s after) place new) ≡ tests (with_storage s before) cpu address (Some (record { place = place; sub = old })) (operand_check before cpu address 64 4)
 tests-sub s before after cpu number address place old new u r named checked irb left =
     let check : operand_check before cpu address 64 4 ≡ Ok u = ap (λ (k : ℕ). operand_check before k address 64 4) (sym named) ∙ checked in
-    sym (ap (λ (x : Result (Unit {0}) StorageFault). tests (with_storage s before) cpu address (Some place) (Some old) x) check
-    ∙ (ap (λ (t : SubTurn). at_place (with_irb (with_storage s before) cpu address old (stores_irb (test_code_of old))) place t) left
+    sym (ap (λ (x : Result (Unit {0}) StorageFault). tests (with_storage s before) cpu address (Some (record { place = place; sub = old })) x) check
+    ∙ (ap (λ (t : SubTurn). at_place (with_irb (with_storage s before) cpu address old (stores_irb (code_at tsch_code old))) place t) left
     ∙ ap (λ (x : State). does r (with_sub x place new)) (sym irb)))
 
 -- the IRB is stored with code 0 and 1
 pub irb-stored : (s : State) (before after : Contents) (cpu number address : ℕ) (sub : Subchannel) (code : ConditionCode) (irb : Irb) (image : List ℕ) (b : Bool) →
-    code ≡ test_code_of sub → b ≡ stores_irb code → b ≡ true → irb ≡ irb_of sub.state → image ≡ image_of (irb_tables irb) → number ≡ cpu →
+    code ≡ code_at tsch_code sub → b ≡ stores_irb code → b ≡ true → irb ≡ irb_of sub.state → image ≡ image_of (irb_tables irb) → number ≡ cpu →
     after ≡ operand_stored before number address image →
-    with_storage s after ≡ with_irb (with_storage s before) cpu address sub (stores_irb (test_code_of sub))
+    with_storage s after ≡ with_irb (with_storage s before) cpu address sub (stores_irb (code_at tsch_code sub))
 irb-stored s before after cpu number address sub code irb image b tested is passes made written named stored =
     let bytes : image ≡ image_of (irb_tables (irb_of sub.state)) = written ∙ ap (λ (x : Irb). image_of (irb_tables x)) made in
-    let stores : stores_irb (test_code_of sub) ≡ true = ap stores_irb (sym tested) ∙ (sym is ∙ passes) in
+    let stores : stores_irb (code_at tsch_code sub) ≡ true = ap stores_irb (sym tested) ∙ (sym is ∙ passes) in
     ap (λ (x : Contents). with_storage s x)
     (stored ∙ (ap (λ (k : ℕ). operand_stored before k address image) named ∙ ap (λ (xs : List ℕ). operand_stored before cpu address xs) bytes))
     ∙ sym (ap (λ (x : Bool). with_irb (with_storage s before) cpu address sub x) stores)
@@ -87,7 +90,7 @@ pub stores-sub : (s : State) (before after : Contents) (cpu number other address
     slice_get s.subs place ≡ Some sub → number ≡ cpu → operand_check before number address 52 4 ≡ Ok u → other ≡ cpu → schib ≡ schib_of sub →
     image ≡ image_of (schib_tables schib) → after ≡ operand_stored before other address image →
     does (reply.Status (store_answer sub) sub.state.scsw) (with_sub (with_storage s after) place sub)
-    ≡ stores (with_storage s before) cpu address (Some place) (Some sub) (operand_check before cpu address 52 4)
+    ≡ stores (with_storage s before) cpu address (Some (record { place = place; sub = sub })) (operand_check before cpu address 52 4)
 stores-sub s before after cpu number other address place sub schib image u there named checked again made written stored =
     let check : operand_check before cpu address 52 4 ≡ Ok u = ap (λ (k : ℕ). operand_check before k address 52 4) (sym named) ∙ checked in
     let bytes : image_of (schib_tables (schib_of sub)) ≡ image = ap (λ (x : Schib). image_of (schib_tables x)) (sym made) ∙ sym written in
@@ -95,14 +98,14 @@ stores-sub s before after cpu number other address place sub schib image u there
     ap (λ (xs : List ℕ). operand_stored before cpu address xs) bytes
     ∙ (ap (λ (k : ℕ). operand_stored before k address image) (sym again) ∙ sym stored) in
     let shown = reply.Status (store_answer sub) sub.state.scsw in
-    sym (ap (λ (x : Result (Unit {0}) StorageFault). stores (with_storage s before) cpu address (Some place) (Some sub) x) check
+    sym (ap (λ (x : Result (Unit {0}) StorageFault). stores (with_storage s before) cpu address (Some (record { place = place; sub = sub })) x) check
     ∙ (ap (λ (x : Contents). does shown (with_storage s x)) all
     ∙ ap (λ (xs : List Subchannel). does shown (record s { storage = after; subs = xs })) (sym (set_there s.subs place sub there))))
 
 pub enables-sub : (s : State) (before after : Contents) (cpu number other subclass place : ℕ) (multipath : Bool) (old new : Subchannel) (schib : Schib) (image : List ℕ) (u : Unit {0}) (r : Reply) →
     number ≡ cpu → operand_check before number 0xF00 52 4 ≡ Ok u → other ≡ cpu → schib ≡ enabling_schib old subclass multipath →
     image ≡ image_of (schib_tables schib) → after ≡ operand_stored before other 0xF00 image → modify_sub old schib.pmcw ≡ leaves r new →
-    Enables (with_storage s before) cpu (Some place) (Some old) subclass multipath (operand_at before cpu 0xF00 52 4) (does r (with_sub (with_storage s after) place new))
+    Enables (with_storage s before) cpu (Some (record { place = place; sub = old })) subclass multipath (operand_at before cpu 0xF00 52 4) (does r (with_sub (with_storage s after) place new))
 enables-sub s before after cpu number other subclass place multipath old new schib image u r named checked again made written stored left =
     let given : modify_sub old (enabling (pmcw_of old) subclass multipath) ≡ leaves r new =
     ap (λ (x : Schib). modify_sub old x.pmcw) (sym made) ∙ left in
@@ -111,11 +114,11 @@ enables-sub s before after cpu number other subclass place multipath old new sch
     let all : operand_stored before cpu 0xF00 (image_of (schib_tables (enabling_schib old subclass multipath))) ≡ after =
     ap (λ (xs : List ℕ). operand_stored before cpu 0xF00 xs) bytes
     ∙ (ap (λ (k : ℕ). operand_stored before k 0xF00 image) (sym again) ∙ sym stored) in
-    let done : enable_sub (with_storage s before) cpu place old subclass multipath ≡ does r (with_sub (with_storage s after) place new) =
+    let done : enable_sub (with_storage s before) cpu (record { place = place; sub = old }) subclass multipath ≡ does r (with_sub (with_storage s after) place new) =
     ap (λ (t : SubTurn). at_place (with_schib (with_storage s before) cpu 0xF00 (enabling_schib old subclass multipath)) place t) given
     ∙ ap (λ (x : Contents). does r (with_sub (with_storage s x) place new)) all in
     let there = fetched before cpu number 0xF00 52 u named checked in
-    subst (λ (x : Result (List ℕ) StorageFault). Enables (with_storage s before) cpu (Some place) (Some old) subclass multipath x (does r (with_sub (with_storage s after) place new)))
+    subst (λ (x : Result (List ℕ) StorageFault). Enables (with_storage s before) cpu (Some (record { place = place; sub = old })) subclass multipath x (does r (with_sub (with_storage s after) place new)))
     (sym there.1) (sym done)
 
 -- what enabling leaves where nothing is provided

@@ -16,7 +16,7 @@ with_storage s storage = record s { storage = storage }
 -- what it answers, and the machine with what is left of both
 abbrev pub Comes_to : Contents → Subchannel → ℕ → Instruction → (State → ℕ → Outcome) → Type 0
 Comes_to storage sub cpu i outcome =
-    (s : State) (place : ℕ) → slice_get s.subs place ≡ Some sub → Executes_at (with_storage s storage) cpu i (Some place) (Some sub) (outcome s place)
+    (s : State) (place : ℕ) → slice_get s.subs place ≡ Some sub → Executes_at (with_storage s storage) cpu i (Some (record { place = place; sub = sub })) (outcome s place)
 
 abbrev pub Executed : Contents → Subchannel → ℕ → Instruction → Result Reply Fault → Contents → Subchannel → Type 0
 Executed before old cpu i (Ok r) after new = Comes_to before old cpu i (λ s place. does r (with_sub (with_storage s after) place new))
@@ -24,6 +24,6 @@ Executed before old cpu i (Err f) after new = Comes_to before old cpu i (λ s pl
 
 -- the same where the subchannel is not provided
 abbrev pub Executed_absent : Contents → ℕ → Instruction → Result Reply Fault → Contents → Type 0
-Executed_absent before cpu i (Ok r) after = (s : State) → Executes_at (with_storage s before) cpu i None None (does r (with_storage s after))
+Executed_absent before cpu i (Ok r) after = (s : State) → Executes_at (with_storage s before) cpu i None (does r (with_storage s after))
 Executed_absent before cpu i (Err f) after =
-    ((s : State) → Executes_at (with_storage s before) cpu i None None (Err f)) × (after ≡ before)
+    ((s : State) → Executes_at (with_storage s before) cpu i None (Err f)) × (after ≡ before)

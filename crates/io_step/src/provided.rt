@@ -5,6 +5,7 @@ ghost use Rattle.io_step.specs.Executing as spec;
 ghost use Rattle.machine_model.specs.State.{State};
 ghost use Rattle.machine_model.specs.InstructionSteps as steps;
 ghost use Rattle.machine_model.specs.Bounds.{IsRoomy};
+ghost use Rattle.subchannel_model.specs.Test.{tsch_code};
 ghost use Rattle.chan_events.specs.declared.event.Instruction.TheVariants as instruction_spec;
 
 use crate::operands::{orb_at, word_at};
@@ -37,7 +38,7 @@ fn start(storage: &Storage, sub: &mut Subchannel, cpu: Cpu, address: u32) -> Res
 /// The interruption-response block is stored where TEST SUBCHANNEL stores one.
 fn store_irb(storage: &mut Storage, sub: &Subchannel, cpu: Cpu, address: u32)
     requires inside { address + 64 ≤ length storage.old.bytes }
-    ensures { (s : State) → spec.with_storage s storage.new ≡ steps.with_irb (spec.with_storage s storage.old) cpu address sub.now (steps.stores_irb (steps.test_code_of sub.now)) }
+    ensures { (s : State) → spec.with_storage s storage.new ≡ steps.with_irb (spec.with_storage s storage.old) cpu address sub.now (steps.stores_irb (steps.code_at tsch_code sub.now)) }
 {
     if stores_irb(test_code_of(sub)) {
         let image = irb_of(&sub.state).write();

@@ -5,14 +5,19 @@ ghost use Rattle.machine_model.specs.InstructionSteps as spec;
 ghost use Rattle.machine_model.specs.Turns as turn_spec;
 ghost use Rattle.machine_model.specs.Bounds.{IsRoomy};
 ghost use Rattle.schib_block.specs.Modify.{IsAllowed};
+ghost use Rattle.subchannel_model.specs.Start.{ssch_code, started};
+ghost use Rattle.subchannel_model.specs.Resume.{rsch_code, resumed};
+ghost use Rattle.subchannel_model.specs.Halt.{hsch_code, halted};
+ghost use Rattle.subchannel_model.specs.Clear.{csch_code, cleared};
+ghost use Rattle.subchannel_model.specs.Cancel.{xsch_code, cancelled};
+ghost use Rattle.subchannel_model.specs.Test as test_spec;
 
 use chan_events::reply::Reply;
 use chan_model::answer::{Answer, ConditionCode};
 use chan_model::paths::mask_of_path;
-use functions::codes::{condition_of, msch_code, ssch_code, tsch_code};
-use functions::effects::{place, start};
+use functions::codes::condition_of;
 use functions::law::modified;
-use functions::{csch, hsch, rsch, xsch};
+use functions::{csch, hsch, msch, rsch, ssch, xsch};
 use orb_block::Orb;
 use schib_block::pmcw::Pmcw;
 use scsw_irb::irb::Irb;
@@ -22,30 +27,22 @@ use subchannel_model::state::{Subchannel, SubchannelState};
 /// START SUBCHANNEL with an allowed ORB.
 pub fn start_sub(sub: &mut Subchannel, orb: Orb) -> Reply
     requires { IsRoomy sub.old }
-    ensures { spec.start_sub sub.old orb ≡ turn_spec.leaves result sub.new }
+    ensures { spec.function_sub sub.old (spec.code_at ssch_code sub.old) (started sub.old.state orb) ≡ turn_spec.leaves result sub.new }
 {
-    let serials = sub.state.serials;
-    match ssch_code(condition_of(&sub.state)) {
-        ConditionCode::Zero => {
-            start(&mut sub.state, &orb);
-            Reply::Code(Answer::Zero(serials))
-        }
-        ConditionCode::One => Reply::Code(Answer::One(serials)),
-        ConditionCode::Two => Reply::Code(Answer::Two),
-        ConditionCode::Three => Reply::Code(Answer::Three),
-    }
+    let code = ssch(&mut sub.state, orb);
+    Reply::Code(Answer::of(code, sub.state.serials))
 }
 
 /// The condition code of TEST SUBCHANNEL.
 pub fn test_code_of(sub: &Subchannel) -> ConditionCode
-    ensures { result ≡ spec.test_code_of sub.now }
+    ensures { result ≡ spec.code_at test_spec.tsch_code sub.now }
 {
-    tsch_code(condition_of(&sub.state))
+    functions::codes::tsch_code(condition_of(&sub.state))
 }
 
 /// TEST SUBCHANNEL, but for the IRB.
 pub fn test_sub(sub: &mut Subchannel) -> Reply
-    ensures { spec.test_with sub.old (spec.test_code_of sub.old) ≡ turn_spec.leaves result sub.new }
+    ensures { spec.test_with sub.old (spec.code_at test_spec.tsch_code sub.old) ≡ turn_spec.leaves result sub.new }
 {
     let scsw = sub.state.scsw;
     let code = tsch(&mut sub.state);
@@ -58,7 +55,7 @@ pub fn test_sub(sub: &mut Subchannel) -> Reply
 
 /// The interruption-response block of a subchannel.
 pub fn irb_of(state: &SubchannelState) -> Irb
-    ensures { result ≡ spec.irb_of state.now }
+    ensures { result ≡ test_spec.irb_of state.now }
 {
     Irb {
         scsw: state.scsw,
@@ -81,22 +78,14 @@ pub fn modify_sub(sub: &mut Subchannel, given: &Pmcw) -> Reply
     requires { IsAllowed given.now }
     ensures { spec.modify_sub sub.old given.now ≡ turn_spec.leaves result sub.new }
 {
-    let serials = sub.state.serials;
-    match msch_code(condition_of(&sub.state)) {
-        ConditionCode::Zero => {
-            modified();
-            place(&mut sub.state, given);
-            Reply::Code(Answer::Zero(serials))
-        }
-        ConditionCode::One => Reply::Code(Answer::One(serials)),
-        ConditionCode::Two => Reply::Code(Answer::Two),
-        ConditionCode::Three => Reply::Code(Answer::Three),
-    }
+    modified();
+    let code = msch(&mut sub.state, given);
+    Reply::Code(Answer::of(code, sub.state.serials))
 }
 
 /// RESUME SUBCHANNEL.
 pub fn resume_sub(sub: &mut Subchannel) -> Reply
-    ensures { spec.resume_sub sub.old ≡ turn_spec.leaves result sub.new }
+    ensures { spec.function_sub sub.old (spec.code_at rsch_code sub.old) (resumed sub.old.state) ≡ turn_spec.leaves result sub.new }
 {
     let code = rsch(&mut sub.state);
     Reply::Code(Answer::of(code, sub.state.serials))
@@ -104,7 +93,7 @@ pub fn resume_sub(sub: &mut Subchannel) -> Reply
 
 /// HALT SUBCHANNEL.
 pub fn halt_sub(sub: &mut Subchannel) -> Reply
-    ensures { spec.halt_sub sub.old ≡ turn_spec.leaves result sub.new }
+    ensures { spec.function_sub sub.old (spec.code_at hsch_code sub.old) (halted sub.old.state) ≡ turn_spec.leaves result sub.new }
 {
     let code = hsch(&mut sub.state);
     Reply::Code(Answer::of(code, sub.state.serials))
@@ -113,7 +102,7 @@ pub fn halt_sub(sub: &mut Subchannel) -> Reply
 /// CLEAR SUBCHANNEL.
 pub fn clear_sub(sub: &mut Subchannel) -> Reply
     requires { IsRoomy sub.old }
-    ensures { spec.clear_sub sub.old ≡ turn_spec.leaves result sub.new }
+    ensures { spec.function_sub sub.old (spec.code_at csch_code sub.old) (cleared sub.old.state) ≡ turn_spec.leaves result sub.new }
 {
     let code = csch(&mut sub.state);
     Reply::Code(Answer::of(code, sub.state.serials))
@@ -121,7 +110,7 @@ pub fn clear_sub(sub: &mut Subchannel) -> Reply
 
 /// CANCEL SUBCHANNEL.
 pub fn cancel_sub(sub: &mut Subchannel) -> Reply
-    ensures { spec.cancel_sub sub.old ≡ turn_spec.leaves result sub.new }
+    ensures { spec.function_sub sub.old (spec.code_at xsch_code sub.old) (cancelled sub.old.state) ≡ turn_spec.leaves result sub.new }
 {
     let code = xsch(&mut sub.state);
     Reply::Code(Answer::of(code, sub.state.serials))

@@ -23,6 +23,8 @@ use Rattle.agreement_laws.specs.Invariant.{IsGood}
 use Rattle.agreement_laws.specs.Links.{Links, link_of, opening}
 use Rattle.subchannel_model.specs.declared.state.Subchannel.{Subchannel}
 use Rattle.subchannel_model.specs.Choosing.{chosen}
+use Rattle.subchannel_model.specs.Start.{started}
+use Rattle.machine_model.specs.InstructionSteps.{function_sub}
 use Rattle.machine_model.specs.State.{State, opening_of}
 use Rattle.machine_model.specs.Turns.{SubTurn, UpTurn, DownTurn}
 use Rattle.subchannel_model.specs.Sending.{finds_full}
@@ -156,7 +158,7 @@ module _ (laws : AreLaws) (s : State) (which : Option ℕ) (k : Starts) (linked 
       (some-same (slice_get s.units x.setup.«unit») u v eu (subst (λ (us : List UnitState). slice_get us x.setup.«unit» ≡ Some v) units ev))
       (subst (λ (w : Subchannel). IsOutstanding w.state.hold.phase (side_of u x.setup.side))
       (some-same (slice_get s.subs i) x y ex (subst (λ (xs : List Subchannel). slice_get xs i ≡ Some y) subs ey)) d))
-  ends-walk _ _ _ (walked.Started cpu word address place sub orb c new n o) = sub-ends (event.Execute cpu (instruction.Ssch word address)) _ new place sub _ (with_start _ k) o (start-hold sub orb c) (start-tells sub orb c k)
+  ends-walk _ _ _ (walked.Started cpu word address place sub orb c new n o) = sub-ends (event.Execute cpu (instruction.Ssch word address)) (function_sub sub c (started sub.state orb)).reply new place sub _ (with_start (function_sub sub c (started sub.state orb)).reply k) o (start-hold sub orb c) (start-tells sub orb c k)
   ends-walk _ _ _ (walked.Tested e r place sub c new q o) = sub-ends e r new place sub _ k o (test-hold sub c) (test-tells sub c k)
   ends-walk _ _ _ (walked.Modified e r place sub given c new q o) = sub-ends e r new place sub _ k o (modify-hold sub given c) (modify-tells sub given c k)
   ends-walk _ _ _ (walked.Performed e r place sub f c new q o) = sub-ends e r new place sub _ k o (function-hold laws sub f c) (function-tells sub f c k)

@@ -32,7 +32,7 @@ use Rattle.transfer.specs.declared.Given.{Given}
 use Rattle.transfer.specs.declared.Roomy.{Roomy}
 use Rattle.transfer.specs.Commands.{first_command, next_command, begun_with_room, with_room}
 use Rattle.transfer.specs.Chunks.{absorbed, next_given, brought, is_answered}
-use Rattle.subchannel_model.specs.Functions.{cleared}
+use Rattle.subchannel_model.specs.Clear.{cleared}
 use Rattle.subchannel_model.specs.declared.state.UpStep.{UpStep}
 use Rattle.subchannel_model.specs.declared.cause.Cause.TheVariants as cause
 use Rattle.subchannel_model.specs.declared.state.Standing.{Standing}

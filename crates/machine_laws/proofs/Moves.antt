@@ -29,11 +29,12 @@ use Rattle.machine_model.specs.State.{State}
 use Rattle.subchannel_model.specs.declared.cause.Cause.TheVariants as cause
 use Rattle.subchannel_model.specs.Causes.{with_cause}
 use Rattle.subchannel_model.specs.Choosing.{chosen, reset_sent, halt_sent, offered}
-use Rattle.subchannel_model.specs.Functions.{tested_wholly}
-use Rattle.subchannel_model.specs.Instructions.{started}
+use Rattle.subchannel_model.specs.Test.{tested_wholly}
+use Rattle.subchannel_model.specs.Start.{started}
 use Rattle.subchannel_model.specs.Taking.{takes_up}
 use Rattle.machine_model.specs.Turns.{SubTurn, UpTurn, DownTurn}
-use Rattle.machine_model.specs.InstructionSteps.{start_with, test_with, modify_with, function_sub}
+use Rattle.subchannel_model.specs.Modify.{modified_state}
+use Rattle.machine_model.specs.InstructionSteps.{test_with, function_sub}
 use Rattle.machine_model.specs.ChooseSteps.{choose_sub}
 use Rattle.subchannel_model.specs.Sending.{is_full, finds_full}
 use Rattle.machine_model.specs.UpSteps.{up_front, up_sub}
@@ -95,7 +96,7 @@ module _ (R : SubchannelState → SubchannelState → Type 0) (k : IsKept R) whe
   unchanged sub = record { setup = refl; state = k.same sub.state }
 
   -- at one subchannel
-  start-kept : (sub : Subchannel) (orb : Orb) (c : ConditionCode) → Changed R sub (start_with sub orb c).sub
+  start-kept : (sub : Subchannel) (orb : Orb) (c : ConditionCode) → Changed R sub (function_sub sub c (started sub.state orb)).sub
   start-kept sub orb code.Zero = record { setup = refl; state = k.starts sub.state orb }
   start-kept sub orb code.One = unchanged sub
   start-kept sub orb code.Two = unchanged sub
@@ -107,7 +108,7 @@ module _ (R : SubchannelState → SubchannelState → Type 0) (k : IsKept R) whe
   test-kept sub code.Two = unchanged sub
   test-kept sub code.Three = unchanged sub
 
-  modify-kept : (sub : Subchannel) (given : block.Pmcw) (c : ConditionCode) → Changed R sub (modify_with sub given c).sub
+  modify-kept : (sub : Subchannel) (given : block.Pmcw) (c : ConditionCode) → Changed R sub (function_sub sub c (modified_state sub given)).sub
   modify-kept sub given code.Zero = record { setup = refl; state = k.modifies sub.state _ }
   modify-kept sub given code.One = unchanged sub
   modify-kept sub given code.Two = unchanged sub

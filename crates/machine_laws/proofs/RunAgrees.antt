@@ -32,13 +32,16 @@ use Rattle.agreement_laws.specs.Invariant.{IsGood}
 use Rattle.agreement_laws.specs.Claims.{IsSound}
 use Rattle.subchannel_model.specs.declared.state.Subchannel.{Subchannel}
 use Rattle.subchannel_model.specs.Choosing.{chosen}
-use Rattle.subchannel_model.specs.Functions.{resumed, halted, cancelled, tested_wholly}
-use Rattle.subchannel_model.specs.Instructions.{started}
+use Rattle.subchannel_model.specs.Resume.{resumed}
+use Rattle.subchannel_model.specs.Halt.{halted}
+use Rattle.subchannel_model.specs.Cancel.{cancelled}
+use Rattle.subchannel_model.specs.Test.{tested_wholly}
+use Rattle.subchannel_model.specs.Start.{started}
 use Rattle.machine_model.specs.State.{State, opening_of}
 use Rattle.subchannel_model.specs.Places.{is_named, one_later, place_in, place_of_id}
-use Rattle.subchannel_model.specs.SubchannelBlocks.{modified_state}
+use Rattle.subchannel_model.specs.Modify.{modified_state}
 use Rattle.machine_model.specs.Turns.{SubTurn, UpTurn, DownTurn}
-use Rattle.machine_model.specs.InstructionSteps.{start_with, test_with, modify_with, function_sub}
+use Rattle.machine_model.specs.InstructionSteps.{test_with, function_sub}
 use Rattle.machine_model.specs.Steps.{Run, Opened, Stepped}
 use Rattle.machine_laws.specs.Agreeing.{IsAgreed, AllAgree, AreAbove, IsEnd}
 use Rattle.machine_laws.specs.Beginnings.{Starts, no_starts, with_start, with_offer, with_taken, starts_after, starts_by, starts, IsBegunOnce}
@@ -60,7 +63,7 @@ use Rattle.machine_laws.proofs.Linked.{IsLinked, IsAbout, AreLinked, hold-linked
 same-hold : (sub : Subchannel) → IsOfHold sub sub
 same-hold sub = kept-turns sub sub.state refl refl
 
-pub start-hold : (sub : Subchannel) (orb : Orb) (c : ConditionCode) → IsOfHold sub (start_with sub orb c).sub
+pub start-hold : (sub : Subchannel) (orb : Orb) (c : ConditionCode) → IsOfHold sub (function_sub sub c (started sub.state orb)).sub
 start-hold sub orb code.Zero = kept-turns sub (started sub.state orb) refl refl
 start-hold sub orb code.One = same-hold sub
 start-hold sub orb code.Two = same-hold sub
@@ -72,7 +75,7 @@ test-hold sub code.One = same-hold sub
 test-hold sub code.Two = same-hold sub
 test-hold sub code.Three = same-hold sub
 
-pub modify-hold : (sub : Subchannel) (given : block.Pmcw) (c : ConditionCode) → IsOfHold sub (modify_with sub given c).sub
+pub modify-hold : (sub : Subchannel) (given : block.Pmcw) (c : ConditionCode) → IsOfHold sub (function_sub sub c (modified_state sub given)).sub
 modify-hold sub given code.Zero = kept-turns sub (modified_state sub given) refl refl
 modify-hold sub given code.One = same-hold sub
 modify-hold sub given code.Two = same-hold sub
@@ -129,7 +132,7 @@ if-rises false k mine e = refl
 rises-same : (k next : Starts) → next.begun ≡ k.begun → AllPairs (λ x y. x < y) k.begun → AllPairs (λ x y. x < y) next.begun
 rises-same k next e r = subst (λ (xs : List ℕ). AllPairs (λ x y. x < y) xs) (sym e) r
 
-start-begun : (sub : Subchannel) (orb : Orb) (c : ConditionCode) (k : Starts) → (with_start (start_with sub orb c).reply k).begun ≡ k.begun
+start-begun : (sub : Subchannel) (orb : Orb) (c : ConditionCode) (k : Starts) → (with_start (function_sub sub c (started sub.state orb)).reply k).begun ≡ k.begun
 start-begun sub orb code.Zero k = refl
 start-begun sub orb code.One k = refl
 start-begun sub orb code.Two k = refl
@@ -264,9 +267,9 @@ module _ (laws : AreLaws) where
       (subst (λ (xs : List Subchannel). IsStateTold id (starts_after s.sets id e r k) xs s.units) (sym subs)
       (subst (λ (next : Starts). IsStateTold id next s.subs s.units) (sym (quiet-tells s.sets id e r k q)) l))
   links-walk id k s _ _ _ (walked.Started cpu word address place sub orb c new n one) l =
-      told-at id s new place sub _ k (with_start (start_with sub orb c).reply k) _ one (start-hold sub orb c) (start-tells sub orb c k)
-      (named-about s.subs id (subchannel_named s.sets word) place sub k (with_start (start_with sub orb c).reply k) n one.there)
-      (if-rises (is_id (subchannel_named s.sets word) id) k (with_start (start_with sub orb c).reply k) (start-begun sub orb c k)) l
+      told-at id s new place sub _ k (with_start (function_sub sub c (started sub.state orb)).reply k) _ one (start-hold sub orb c) (start-tells sub orb c k)
+      (named-about s.subs id (subchannel_named s.sets word) place sub k (with_start (function_sub sub c (started sub.state orb)).reply k) n one.there)
+      (if-rises (is_id (subchannel_named s.sets word) id) k (with_start (function_sub sub c (started sub.state orb)).reply k) (start-begun sub orb c k)) l
   links-walk id k s _ _ _ (walked.Tested e r place sub c new q one) l = quiet-at id s new e r place sub _ k q one (test-hold sub c) (test-tells sub c k) l
   links-walk id k s _ _ _ (walked.Modified e r place sub given c new q one) l = quiet-at id s new e r place sub _ k q one (modify-hold sub given c) (modify-tells sub given c k) l
   links-walk id k s _ _ _ (walked.Performed e r place sub f c new q one) l = quiet-at id s new e r place sub _ k q one (function-hold sub f c) (function-tells sub f c k) l

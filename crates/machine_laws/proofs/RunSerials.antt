@@ -20,15 +20,15 @@ use Rattle.chan_model.specs.declared.answer.ConditionCode.TheVariants as code
 use Rattle.chan_events.specs.declared.reply.Entry.{Entry}
 use Rattle.chan_events.specs.declared.reply.Reply.{Reply}
 use Rattle.chan_model.specs.ConditionCodes.{in_order}
-use Rattle.subchannel_model.specs.SubchannelCodes.{is_operational}
+use Rattle.subchannel_model.specs.Conditions.{is_operational, condition_of}
 use Rattle.subchannel_model.specs.declared.state.Subchannel.{Subchannel}
 use Rattle.machine_model.specs.State.{State, opening_of}
-use Rattle.subchannel_model.specs.Places.{is_named, one_later, place_in, sub_at}
+use Rattle.subchannel_model.specs.Places.{found_with, found_at, is_named, one_later, place_in, sub_at}
 use Rattle.subchannel_model.specs.declared.state.SubchannelState.{SubchannelState}
-use Rattle.subchannel_model.specs.Functions.{ends_suspended, without_programs, tested_wholly}
-use Rattle.subchannel_model.specs.Instructions.{condition_of, tested}
+use Rattle.subchannel_model.specs.Test.{tsch_code, ends_suspended, tested_wholly, tested}
+use Rattle.subchannel_model.specs.Programs.{without_programs}
 use Rattle.machine_model.specs.Turns.{Turn, does, with_state}
-use Rattle.machine_model.specs.InstructionSteps.{test_sub, test_code_of, tests, Executes_on, Executes}
+use Rattle.machine_model.specs.InstructionSteps.{code_at, test_sub, test_at, tests, Executes_on, Executes}
 use Rattle.machine_model.specs.Steps.{Step, Run, Opened, Stepped}
 use Rattle.step_laws.specs.Walks.{AreWalks}
 use Rattle.machine_laws.specs.Claims.{IsLater, is_same_id, is_id, serial_shown, serial_by, serial_of, serial_at, serials}
@@ -179,10 +179,10 @@ wholly-cleared s = if-cleared s (ends_suspended s.scsw) (without_programs (teste
 
 test-shows : (n : ℕ) (id : SubchannelId) (s : State) (cpu address place : ℕ) (sub : Subchannel) (c : ConditionCode) (r : Reply) (new : State) →
     SoundSub n sub → place_in id new.subs ≡ place_in id s.subs → place_in id s.subs ≡ Some place → slice_get s.subs place ≡ Some sub →
-    test_code_of sub ≡ c → does r new ≡ test_sub s cpu address place sub c → Shows id s new (serial_shown r)
+    code_at tsch_code sub ≡ c → does r new ≡ test_sub s cpu address (record { place = place; sub = sub }) c → Shows id s new (serial_shown r)
 test-shows n id s cpu address place sub code.Zero r new k stays at there is w =
     let pending : sub.state.scsw.status.pending ≡ true =
-    pending-from (is_operational (condition_of sub.state)) sub.state.scsw.status.pending is in
+    pending-from (is_operational (condition_of (Some sub.state))) sub.state.scsw.status.pending is in
     let all : IsAllCleared sub.state (tested_wholly sub.state) = wholly-cleared sub.state in
     inr (
       sub.state.serials.made,
@@ -201,14 +201,19 @@ test-shows n id s cpu address place sub code.One r new k stays at there is w = i
 test-shows n id s cpu address place sub code.Two r new k stays at there is w = inl (ap serial_shown (same-reply r _ new _ w))
 test-shows n id s cpu address place sub code.Three r new k stays at there is w = inl (ap serial_shown (same-reply r _ new _ w))
 
-tests-show : (n : ℕ) (id : SubchannelId) (s : State) (cpu address : ℕ) (p : Option ℕ) (q : Option Subchannel) (checked : Result (Unit {0}) StorageFault) (r : Reply) (new : State) →
-    All (SoundSub n) s.subs → place_in id new.subs ≡ place_in id s.subs → place_in id s.subs ≡ p → sub_at s.subs p ≡ q →
-    does r new ≡ tests s cpu address p q checked → Shows id s new (serial_shown r)
-tests-show n id s cpu address p q (Err f) r new a stays at there w = absurd (cc w)
-tests-show n id s cpu address None q (Ok u) r new a stays at there w = inl (ap serial_shown (same-reply r _ new _ w))
-tests-show n id s cpu address (Some place) None (Ok u) r new a stays at there w = inl (ap serial_shown (same-reply r _ new _ w))
-tests-show n id s cpu address (Some place) (Some sub) (Ok u) r new a stays at there w =
-    test-shows n id s cpu address place sub (test_code_of sub) r new (one-of n s.subs place sub a there) stays at there refl w
+found-shows : (n : ℕ) (id : SubchannelId) (s : State) (cpu address place : ℕ) (q : Option Subchannel) (r : Reply) (new : State) →
+    All (SoundSub n) s.subs → place_in id new.subs ≡ place_in id s.subs → place_in id s.subs ≡ Some place → slice_get s.subs place ≡ q →
+    does r new ≡ test_at s cpu address (found_with place q) → Shows id s new (serial_shown r)
+found-shows n id s cpu address place None r new a stays at there w = inl (ap serial_shown (same-reply r _ new _ w))
+found-shows n id s cpu address place (Some sub) r new a stays at there w =
+    test-shows n id s cpu address place sub (code_at tsch_code sub) r new (one-of n s.subs place sub a there) stays at there refl w
+
+tests-show : (n : ℕ) (id : SubchannelId) (s : State) (cpu address : ℕ) (p : Option ℕ) (checked : Result (Unit {0}) StorageFault) (r : Reply) (new : State) →
+    All (SoundSub n) s.subs → place_in id new.subs ≡ place_in id s.subs → place_in id s.subs ≡ p →
+    does r new ≡ tests s cpu address (found_at s.subs p) checked → Shows id s new (serial_shown r)
+tests-show n id s cpu address p (Err f) r new a stays at w = absurd (cc w)
+tests-show n id s cpu address None (Ok u) r new a stays at w = inl (ap serial_shown (same-reply r _ new _ w))
+tests-show n id s cpu address (Some place) (Ok u) r new a stays at w = found-shows n id s cpu address place (slice_get s.subs place) r new a stays at refl w
 
 pub same-id : (a b : SubchannelId) → is_same_id a b ≡ true → a ≡ b
 same-id a b e =
@@ -223,7 +228,7 @@ named-shows : (n : ℕ) (id named : SubchannelId) (s : State) (cpu word address 
     Executes_on s cpu (instruction.Tsch word address) (Some named) (does r new) → Shows id s new (if b then serial_shown r else [])
 named-shows n id named s cpu word address r new false a stays e w = inl refl
 named-shows n id named s cpu word address r new true a stays e w =
-    tests-show n id s cpu address (place_in id s.subs) (of_id id s.subs) (operand_check s.storage cpu address 64 4) r new a stays refl refl
+    tests-show n id s cpu address (place_in id s.subs) (operand_check s.storage cpu address 64 4) r new a stays refl
     (subst (λ (x : SubchannelId). Executes_on s cpu (instruction.Tsch word address) (Some x) (does r new)) (same-id named id e) w)
 
 word-shows : (n : ℕ) (id : SubchannelId) (s : State) (cpu word address : ℕ) (x : Option SubchannelId) (r : Reply) (new : State) →

@@ -11,8 +11,9 @@ use Rattle.subchannel_model.specs.declared.state.Begun.{Begun}
 use Rattle.subchannel_model.specs.declared.state.Program.{Program}
 use Rattle.subchannel_model.specs.declared.state.SubchannelState.{SubchannelState}
 use Rattle.subchannel_model.specs.Causes.{without_begun, without_waiting, after_end, with_cause}
-use Rattle.subchannel_model.specs.Functions.{without_programs, tested_wholly, ends_suspended, dropped, halting, halted, drops_status}
-use Rattle.subchannel_model.specs.Instructions.{tested}
+use Rattle.subchannel_model.specs.Programs.{without_programs}
+use Rattle.subchannel_model.specs.Test.{tested_wholly, ends_suspended, tested}
+use Rattle.subchannel_model.specs.Halt.{dropped, halting, halted, drops_status}
 use Rattle.subchannel_model.specs.Taking.{without_interruption, interrupted, interrupted_by, with_transfer, moving_on, suspended_alone, standing_still, suspending, halt_done, clear_done, with_attention}
 
 pub record IsSameHold (s x : SubchannelState) : Type 0 where

@@ -20,7 +20,8 @@ use Rattle.chan_model.specs.declared.signal.Up.TheVariants as up
 use Rattle.subchannel_model.specs.declared.status.Shown.{Shown}
 use Rattle.chan_model.specs.HoldTable.{HoldStep, hold_takes, hold_after, came_of, is_connected, is_on}
 use Rattle.chan_model.specs.Loads.{load_length}
-use Rattle.subchannel_model.specs.Status.{scsw_made, serials_made, serials_cleared, is_uncleared, intermediate_alone, ended_scsw, suspended_scsw, without_status}
+use Rattle.subchannel_model.specs.Status.{scsw_made, serials_made, serials_cleared, is_uncleared, intermediate_alone, without_status}
+use Rattle.subchannel_model.specs.Test.{ended_scsw, suspended_scsw, tested, tested_wholly, ends_suspended}
 use Rattle.chan_model.specs.UnitReports.{is_last_end, is_outward, has_device_end}
 use Rattle.data_move.specs.Moving.{residual}
 use Rattle.transfer.specs.declared.Transfer.{Transfer}
@@ -38,10 +39,12 @@ use Rattle.subchannel_model.specs.declared.state.Standing.{Standing}
 use Rattle.subchannel_model.specs.declared.state.SubchannelState.{SubchannelState}
 use Rattle.subchannel_model.specs.declared.state.UpStep.{UpStep}
 use Rattle.machine_model.specs.Bounds.{IsMovedWithin}
-use Rattle.subchannel_model.specs.Instructions.{started, tested}
+use Rattle.subchannel_model.specs.Start.{started}
 use Rattle.subchannel_model.specs.Causes.{joined_by, shown_of, without_begun, without_waiting, after_end, with_cause}
 use Rattle.subchannel_model.specs.Choosing.{reset_sent, halt_sent, offered}
-use Rattle.subchannel_model.specs.Functions.{halting, dropped, cleared_scsw, without_programs, tested_wholly, drops_status, ends_suspended}
+use Rattle.subchannel_model.specs.Halt.{halting, dropped, drops_status}
+use Rattle.subchannel_model.specs.Clear.{cleared_scsw}
+use Rattle.subchannel_model.specs.Programs.{without_programs}
 use Rattle.subchannel_model.specs.Statuses.{with_status, has_status_modifier, chains_command, has_shown}
 use Rattle.subchannel_model.specs.Losing.{has_any, is_offered_or_held, reset_drawn, reset_with, reset_for}
 use Rattle.subchannel_model.specs.Taking.{with_known, Met, meets, ignoring, quietly, without_interruption, interrupted_by, standing, goes_ahead, taking_over, suspended_alone, standing_still, suspending, beginning, begin_standing, halt_done, accepted_by, accept_by, with_transfer, moving_on, give_next, take_in, bytes_of, move_bytes, move_data, take_data, with_end, chaining, chain_with, goes_on, end_shown_at, stops_at, command_ended, end_of, end_command, reset_taken, may_attend, takes_up, with_path, let_go}

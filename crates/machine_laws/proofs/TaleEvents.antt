@@ -35,10 +35,15 @@ use Rattle.subchannel_model.specs.declared.state.Subchannel.{Subchannel}
 use Rattle.subchannel_model.specs.declared.state.SubchannelState.{SubchannelState}
 use Rattle.subchannel_model.specs.Causes.{with_cause}
 use Rattle.subchannel_model.specs.Choosing.{IsFitFor, reset_sent, halt_sent, offered}
-use Rattle.subchannel_model.specs.Functions.{ends_suspended, without_programs, resumed, drops_status, dropped, halting, cleared, cancelled}
-use Rattle.subchannel_model.specs.Instructions.{tested}
-use Rattle.subchannel_model.specs.SubchannelBlocks.{modified_state}
-use Rattle.machine_model.specs.InstructionSteps.{start_with, test_with, modify_with, function_sub}
+use Rattle.subchannel_model.specs.Test.{ends_suspended, tested}
+use Rattle.subchannel_model.specs.Programs.{without_programs}
+use Rattle.subchannel_model.specs.Resume.{resumed}
+use Rattle.subchannel_model.specs.Halt.{drops_status, dropped, halting}
+use Rattle.subchannel_model.specs.Clear.{cleared}
+use Rattle.subchannel_model.specs.Cancel.{cancelled}
+use Rattle.subchannel_model.specs.Modify.{modified_state}
+use Rattle.subchannel_model.specs.Start.{started}
+use Rattle.machine_model.specs.InstructionSteps.{test_with, function_sub}
 use Rattle.machine_model.specs.ChooseSteps.{choose_sub}
 use Rattle.subchannel_model.specs.Sending.{is_full, finds_full}
 use Rattle.machine_model.specs.UpSteps.{up_front, up_sub}
@@ -164,7 +169,7 @@ tells-turned : (sub : Subchannel) (x : SubchannelState) (k : Starts) →
 tells-turned sub x k f w side b t = told-turned k sub.state x w side (f w side t.waits) t
 
 -- instructions
-pub start-tells : (sub : Subchannel) (orb : Orb) (c : ConditionCode) (k : Starts) → Tells sub (start_with sub orb c).sub.state k (with_start (start_with sub orb c).reply k)
+pub start-tells : (sub : Subchannel) (orb : Orb) (c : ConditionCode) (k : Starts) → Tells sub (function_sub sub c (started sub.state orb)).sub.state k (with_start (function_sub sub c (started sub.state orb)).reply k)
 start-tells sub orb code.Zero k w side b t = told-start k sub.state orb w side t
 start-tells sub orb code.One k w side b t = t
 start-tells sub orb code.Two k w side b t = t
@@ -193,7 +198,7 @@ test-tells sub code.One k = tells-same sub k
 test-tells sub code.Two k = tells-same sub k
 test-tells sub code.Three k = tells-same sub k
 
-pub modify-tells : (sub : Subchannel) (given : block.Pmcw) (c : ConditionCode) (k : Starts) → Tells sub (modify_with sub given c).sub.state k k
+pub modify-tells : (sub : Subchannel) (given : block.Pmcw) (c : ConditionCode) (k : Starts) → Tells sub (function_sub sub c (modified_state sub given)).sub.state k k
 modify-tells sub given code.Zero k =
     calm-tells sub (modified_state sub given) k (kept sub.state (modified_state sub given) refl refl refl refl refl) (inr refl)
 modify-tells sub given code.One k = tells-same sub k

@@ -18,6 +18,7 @@ use Rattle.subchannel_model.specs.declared.state.Chosen.TheVariants.{Idle, Reset
 use Rattle.subchannel_model.specs.Causes.{with_cause}
 use Rattle.subchannel_model.specs.Choosing.{chosen, paths_to_choose, reset_sent, halt_sent, offered}
 use Rattle.machine_model.specs.Turns.{Outcome, SubTurn, leaves, with_state, at_sub}
+use Rattle.subchannel_model.specs.Places.{Found}
 use Rattle.subchannel_model.specs.Sending.{is_full}
 
 -- a signal is sent
@@ -40,8 +41,7 @@ choose_sub sub Over = pend_sub sub cause.NoPath
 choose_sub sub (Offers c path) =
     send_sub sub (offered sub.state c.program path) path (down.Select (sub.state.drawn + 1)) (reply.Offered (sub.state.drawn + 1) path c.resumes)
 
-abbrev pub Chooses : State → Option ℕ → Option Subchannel → Outcome → Type 0
-Chooses s None sub r = r ≡ Err fault.NoSuchSubchannel
-Chooses s (Some place) None r = r ≡ Err fault.NoSuchSubchannel
-Chooses s (Some place) (Some sub) r =
-    (choice : Option ℕ) × IsChoice (paths_to_choose s.subs sub) choice × (r ≡ at_sub s place (choose_sub sub (chosen sub choice)))
+abbrev pub Chooses : State → Option Found → Outcome → Type 0
+Chooses s None r = r ≡ Err fault.NoSuchSubchannel
+Chooses s (Some f) r =
+    (choice : Option ℕ) × IsChoice (paths_to_choose s.subs f.sub) choice × (r ≡ at_sub s f.place (choose_sub f.sub (chosen f.sub choice)))

@@ -11,6 +11,7 @@ use Rattle.wires.specs.Queues.{queue, taken}
 use Rattle.subchannel_model.specs.declared.state.Subchannel.{Subchannel}
 use Rattle.machine_model.specs.State.{State}
 use Rattle.machine_model.specs.Turns.{Outcome, DownTurn, at_unit}
+use Rattle.subchannel_model.specs.Places.{Found}
 use Rattle.subchannel_model.specs.Sending.{finds_full, with_any_sent}
 
 abbrev pub down_with : Subchannel → ℕ → Down → UnitState → Option UnitStep → Result DownTurn Fault
@@ -31,11 +32,10 @@ down_sub may sub path u =
     if nat_lt path (length sub.setup.paths) then down_front may sub path u (slice_get (queue sub.wires.down path) 0)
     else Err fault.NoSuchPath
 
-abbrev pub down_unit : State → ℕ → Subchannel → ℕ → Option UnitState → Outcome
-down_unit s place sub path None = Err fault.NoSuchUnit
-down_unit s place sub path (Some u) = at_unit s place sub.setup.unit (down_sub true sub path u)
+abbrev pub down_unit : State → Found → ℕ → Option UnitState → Outcome
+down_unit s f path None = Err fault.NoSuchUnit
+down_unit s f path (Some u) = at_unit s f.place f.sub.setup.unit (down_sub true f.sub path u)
 
-abbrev pub down_at : State → Option ℕ → Option Subchannel → ℕ → Outcome
-down_at s None sub path = Err fault.NoSuchSubchannel
-down_at s (Some place) None path = Err fault.NoSuchSubchannel
-down_at s (Some place) (Some sub) path = down_unit s place sub path (slice_get s.units sub.setup.unit)
+abbrev pub down_at : State → Option Found → ℕ → Outcome
+down_at s None path = Err fault.NoSuchSubchannel
+down_at s (Some f) path = down_unit s f path (slice_get s.units f.sub.setup.unit)

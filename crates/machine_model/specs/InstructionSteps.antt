@@ -5,7 +5,6 @@ use Rattle.zbits.specs.Words.{bytes_of_words, word_at}
 use Rattle.orb_block.specs.declared.Orb.{Orb}
 use Rattle.orb_block.specs.OrbTable.{tables, IsAllowed}
 use Rattle.scsw_irb.specs.ScswTable.{irb_tables}
-use Rattle.scsw_irb.specs.declared.irb.Irb.{Irb}
 use Rattle.schib_block.specs.declared.pmcw.Pmcw as block
 use Rattle.schib_block.specs.declared.schib.Schib.{Schib}
 use Rattle.schib_block.specs.Modify as modify
@@ -18,61 +17,62 @@ use Rattle.chan_events.specs.declared.event.Instruction.TheVariants as instructi
 use Rattle.chan_model.specs.declared.answer.ConditionCode.{ConditionCode}
 use Rattle.chan_model.specs.declared.answer.ConditionCode.TheVariants as code
 use Rattle.chan_model.specs.declared.answer.Answer.{Answer}
-use Rattle.chan_model.specs.declared.answer.Answer.TheVariants as answer
 use Rattle.chan_events.specs.declared.reply.Reply.TheVariants as reply
-use Rattle.subchannel_model.specs.SubchannelCodes.{ssch_code, tsch_code, msch_code, stsch_code, rsch_code, hsch_code, csch_code, xsch_code}
+use Rattle.subchannel_model.specs.Start.{ssch_code, started}
+use Rattle.subchannel_model.specs.Test.{tsch_code, tested_wholly, irb_of}
+use Rattle.subchannel_model.specs.Modify.{msch_code, modified_state}
+use Rattle.subchannel_model.specs.Store.{stsch_code, pmcw_of, schib_of}
+use Rattle.subchannel_model.specs.Resume.{rsch_code, resumed}
+use Rattle.subchannel_model.specs.Halt.{hsch_code, halted}
+use Rattle.subchannel_model.specs.Clear.{csch_code, cleared}
+use Rattle.subchannel_model.specs.Cancel.{xsch_code, cancelled}
 use Rattle.chan_model.specs.ConditionCodes.{answer_of}
-use Rattle.chan_model.specs.PathSets.{mask_of_path}
 use Rattle.channel_config.specs.declared.names.SubchannelId.{SubchannelId}
 use Rattle.channel_config.specs.SubchannelWords.{subchannel_named}
 use Rattle.subchannel_model.specs.declared.state.SubchannelState.{SubchannelState}
 use Rattle.subchannel_model.specs.declared.state.Subchannel.{Subchannel}
 use Rattle.machine_model.specs.State.{State}
-use Rattle.subchannel_model.specs.Places.{place_in, sub_at}
-use Rattle.subchannel_model.specs.Instructions.{condition_of, started}
-use Rattle.subchannel_model.specs.Functions.{left_by, resumed, halted, cleared, cancelled, tested_wholly}
-use Rattle.subchannel_model.specs.SubchannelBlocks.{pmcw_of, schib_of, modified_state, enabling, enabling_schib, enabling_word}
+use Rattle.subchannel_model.specs.declared.status.Condition.{Condition}
+use Rattle.scsw_irb.specs.declared.scsw.Scsw.{Scsw}
+use Rattle.chan_events.specs.declared.reply.Reply.{Reply}
+use Rattle.subchannel_model.specs.Places.{Found, place_in, found_at}
+use Rattle.subchannel_model.specs.Conditions.{condition_of, left_by}
+use Rattle.subchannel_model.specs.Enable.{enabling, enabling_schib, enabling_word}
 use Rattle.machine_model.specs.Turns.{Outcome, does, SubTurn, leaves, with_state, at_place}
 
--- START
-abbrev pub start_with : Subchannel → Orb → ConditionCode → SubTurn
-start_with sub orb code.Zero = leaves (reply.Code (answer.Zero sub.state.serials)) (with_state sub (started sub.state orb))
-start_with sub orb code.One = leaves (reply.Code (answer.One sub.state.serials)) sub
-start_with sub orb code.Two = leaves (reply.Code answer.Two) sub
-start_with sub orb code.Three = leaves (reply.Code answer.Three) sub
+-- an instruction answers the condition code that its table gives for what it finds, with the serials as they are left, and with
+-- code 0 its effect is left
+abbrev pub code_at : (Condition → ConditionCode) → Subchannel → ConditionCode
+code_at code sub = code (condition_of (Some sub.state))
 
-abbrev pub start_sub : Subchannel → Orb → SubTurn
-start_sub sub orb = start_with sub orb (ssch_code (condition_of sub.state))
+abbrev pub function_left : Subchannel → ConditionCode → SubchannelState → SubTurn
+function_left sub code state = leaves (reply.Code (answer_of code state.serials)) (with_state sub state)
 
--- a subchannel that is not provided answers 3
-abbrev pub not_provided : State → Outcome
-not_provided s = does (reply.Code answer.Three) s
+abbrev pub function_sub : Subchannel → ConditionCode → SubchannelState → SubTurn
+function_sub sub code effect = function_left sub code (left_by code sub.state effect)
 
-abbrev pub start_at : State → Option ℕ → Option Subchannel → Orb → Outcome
-start_at s None sub orb = not_provided s
-start_at s (Some place) None orb = not_provided s
-start_at s (Some place) (Some sub) orb = at_place s place (start_sub sub orb)
+-- of a subchannel that is not provided nothing is left
+abbrev pub not_provided : State → (Condition → ConditionCode) → Outcome
+not_provided s code = does (reply.Code (answer_of (code (condition_of None)) (record { made = 0; cleared = 0 }))) s
 
--- the contents of the ORB are tested before the condition code is
-abbrev pub Starts_with : State → Option ℕ → Option Subchannel → List ℕ → Outcome → Type 0
-Starts_with s place sub image r =
+abbrev pub function_at : State → Option Found → (Condition → ConditionCode) → (Subchannel → SubchannelState) → Outcome
+function_at s None code effect = not_provided s code
+function_at s (Some f) code effect = at_place s f.place (function_sub f.sub (code_at code f.sub) (effect f.sub))
+
+-- START: the contents of the ORB are tested before the condition code is
+abbrev pub start_at : State → Option Found → Orb → Outcome
+start_at s found orb = function_at s found ssch_code (λ sub. started sub.state orb)
+
+abbrev pub Starts_with : State → Option Found → List ℕ → Outcome → Type 0
+Starts_with s found image r =
     (¬ IsAllowed image × (r ≡ Err fault.Operand))
-    ⊎ ((orb : Orb) × (image ≡ image_of (tables orb)) × (r ≡ start_at s place sub orb))
+    ⊎ ((orb : Orb) × (image ≡ image_of (tables orb)) × (r ≡ start_at s found orb))
 
-abbrev pub Starts : State → Option ℕ → Option Subchannel → Result (List ℕ) StorageFault → Outcome → Type 0
-Starts s place sub (Err f) r = r ≡ Err (fault.Storage f)
-Starts s place sub (Ok image) r = Starts_with s place sub image r
+abbrev pub Starts : State → Option Found → Result (List ℕ) StorageFault → Outcome → Type 0
+Starts s found (Err f) r = r ≡ Err (fault.Storage f)
+Starts s found (Ok image) r = Starts_with s found image r
 
--- TEST: the IRB is stored with code 0 and 1
-abbrev pub irb_of : SubchannelState → Irb
-irb_of s = record { scsw = s.scsw; last_path_used = mask_of_path s.pmcw.last_used }
-
-abbrev pub test_with : Subchannel → ConditionCode → SubTurn
-test_with sub code.Zero = leaves (reply.Status (answer.Zero (tested_wholly sub.state).serials) sub.state.scsw) (with_state sub (tested_wholly sub.state))
-test_with sub code.One = leaves (reply.Status (answer.One sub.state.serials) sub.state.scsw) sub
-test_with sub code.Two = leaves (reply.Code answer.Two) sub
-test_with sub code.Three = leaves (reply.Code answer.Three) sub
-
+-- TEST: with code 0 and 1 the IRB is stored, and the reply shows the status word as it was
 abbrev pub stores_irb : ConditionCode → Bool
 stores_irb code.Zero = true
 stores_irb code.One = true
@@ -83,125 +83,98 @@ abbrev pub with_irb : State → ℕ → ℕ → Subchannel → Bool → State
 with_irb s cpu address sub stores =
     if stores then record s { storage = operand_stored s.storage cpu address (image_of (irb_tables (irb_of sub.state))) } else s
 
-abbrev pub test_sub : State → ℕ → ℕ → ℕ → Subchannel → ConditionCode → Outcome
-test_sub s cpu address place sub code = at_place (with_irb s cpu address sub (stores_irb code)) place (test_with sub code)
+abbrev pub status_reply : ConditionCode → Answer → Scsw → Reply
+status_reply code.Zero answer scsw = reply.Status answer scsw
+status_reply code.One answer scsw = reply.Status answer scsw
+status_reply code.Two answer scsw = reply.Code answer
+status_reply code.Three answer scsw = reply.Code answer
 
-abbrev pub test_code_of : Subchannel → ConditionCode
-test_code_of sub = tsch_code (condition_of sub.state)
+abbrev pub test_left : Subchannel → ConditionCode → SubchannelState → SubTurn
+test_left sub code state = leaves (status_reply code (answer_of code state.serials) sub.state.scsw) (with_state sub state)
 
-abbrev pub test_at : State → ℕ → ℕ → Option ℕ → Option Subchannel → Outcome
-test_at s cpu address None sub = not_provided s
-test_at s cpu address (Some place) None = not_provided s
-test_at s cpu address (Some place) (Some sub) = test_sub s cpu address place sub (test_code_of sub)
+abbrev pub test_with : Subchannel → ConditionCode → SubTurn
+test_with sub code = test_left sub code (left_by code sub.state (tested_wholly sub.state))
 
-abbrev pub tests : State → ℕ → ℕ → Option ℕ → Option Subchannel → Result (Unit {0}) StorageFault → Outcome
-tests s cpu address place sub (Err f) = Err (fault.Storage f)
-tests s cpu address place sub (Ok u) = test_at s cpu address place sub
+abbrev pub test_sub : State → ℕ → ℕ → Found → ConditionCode → Outcome
+test_sub s cpu address f code = at_place (with_irb s cpu address f.sub (stores_irb code)) f.place (test_with f.sub code)
+
+abbrev pub test_at : State → ℕ → ℕ → Option Found → Outcome
+test_at s cpu address None = not_provided s tsch_code
+test_at s cpu address (Some f) = test_sub s cpu address f (code_at tsch_code f.sub)
+
+abbrev pub tests : State → ℕ → ℕ → Option Found → Result (Unit {0}) StorageFault → Outcome
+tests s cpu address found (Err f) = Err (fault.Storage f)
+tests s cpu address found (Ok u) = test_at s cpu address found
 
 -- STORE: the SCHIB is stored with code 0, the only code of a subchannel that is provided
 abbrev pub with_schib : State → ℕ → ℕ → Schib → State
 with_schib s cpu address schib = record s { storage = operand_stored s.storage cpu address (image_of (schib_tables schib)) }
 
 abbrev pub store_answer : Subchannel → Answer
-store_answer sub = answer_of (stsch_code (condition_of sub.state)) sub.state.serials
+store_answer sub = answer_of (code_at stsch_code sub) sub.state.serials
 
-abbrev pub store_at : State → ℕ → ℕ → Option ℕ → Option Subchannel → Outcome
-store_at s cpu address None sub = not_provided s
-store_at s cpu address (Some place) None = not_provided s
-store_at s cpu address (Some place) (Some sub) = does (reply.Status (store_answer sub) sub.state.scsw) (with_schib s cpu address (schib_of sub))
+abbrev pub store_at : State → ℕ → ℕ → Option Found → Outcome
+store_at s cpu address None = not_provided s stsch_code
+store_at s cpu address (Some f) = does (reply.Status (store_answer f.sub) f.sub.state.scsw) (with_schib s cpu address (schib_of f.sub))
 
-abbrev pub stores : State → ℕ → ℕ → Option ℕ → Option Subchannel → Result (Unit {0}) StorageFault → Outcome
-stores s cpu address place sub (Err f) = Err (fault.Storage f)
-stores s cpu address place sub (Ok u) = store_at s cpu address place sub
+abbrev pub stores : State → ℕ → ℕ → Option Found → Result (Unit {0}) StorageFault → Outcome
+stores s cpu address found (Err f) = Err (fault.Storage f)
+stores s cpu address found (Ok u) = store_at s cpu address found
 
--- MODIFY
-abbrev pub modify_with : Subchannel → block.Pmcw → ConditionCode → SubTurn
-modify_with sub given code.Zero = leaves (reply.Code (answer.Zero sub.state.serials)) (with_state sub (modified_state sub given))
-modify_with sub given code.One = leaves (reply.Code (answer.One sub.state.serials)) sub
-modify_with sub given code.Two = leaves (reply.Code answer.Two) sub
-modify_with sub given code.Three = leaves (reply.Code answer.Three) sub
-
+-- MODIFY: the contents of the SCHIB are tested before the condition code is
 abbrev pub modify_sub : Subchannel → block.Pmcw → SubTurn
-modify_sub sub given = modify_with sub given (msch_code (condition_of sub.state))
+modify_sub sub given = function_sub sub (code_at msch_code sub) (modified_state sub given)
 
-abbrev pub modify_at : State → Option ℕ → Option Subchannel → block.Pmcw → Outcome
-modify_at s None sub given = not_provided s
-modify_at s (Some place) None given = not_provided s
-modify_at s (Some place) (Some sub) given = at_place s place (modify_sub sub given)
+abbrev pub modify_at : State → Option Found → block.Pmcw → Outcome
+modify_at s found given = function_at s found msch_code (λ sub. modified_state sub given)
 
--- the contents of the SCHIB are tested before the condition code is
-abbrev pub Modifies_with : State → Option ℕ → Option Subchannel → block.Pmcw → Outcome → Type 0
-Modifies_with s place sub given r =
-    (¬ modify.IsAllowed given × (r ≡ Err fault.Operand)) ⊎ (modify.IsAllowed given × (r ≡ modify_at s place sub given))
+abbrev pub Modifies_with : State → Option Found → block.Pmcw → Outcome → Type 0
+Modifies_with s found given r =
+    (¬ modify.IsAllowed given × (r ≡ Err fault.Operand)) ⊎ (modify.IsAllowed given × (r ≡ modify_at s found given))
 
 -- of the SCHIB, the path-management-control word counts
-abbrev pub Modifies_by : State → Option ℕ → Option Subchannel → List ℕ → Outcome → Type 0
-Modifies_by s place sub image r = (given : block.Pmcw) × ShowsPmcw image given × Modifies_with s place sub given r
+abbrev pub Modifies_by : State → Option Found → List ℕ → Outcome → Type 0
+Modifies_by s found image r = (given : block.Pmcw) × ShowsPmcw image given × Modifies_with s found given r
 
-abbrev pub Modifies : State → Option ℕ → Option Subchannel → Result (List ℕ) StorageFault → Outcome → Type 0
-Modifies s place sub (Err f) r = r ≡ Err (fault.Storage f)
-Modifies s place sub (Ok image) r = Modifies_by s place sub image r
+abbrev pub Modifies : State → Option Found → Result (List ℕ) StorageFault → Outcome → Type 0
+Modifies s found (Err f) r = r ≡ Err (fault.Storage f)
+Modifies s found (Ok image) r = Modifies_by s found image r
 
 -- enabling: STORE to real F00, which is in every storage; ISC, D and E one are placed there; MODIFY from F00 (own).
 -- The SCHIB that STORE stored has what MODIFY allows.
-abbrev pub enable_sub : State → ℕ → ℕ → Subchannel → ℕ → Bool → Outcome
-enable_sub s cpu place sub subclass multipath =
-    at_place (with_schib s cpu 0xF00 (enabling_schib sub subclass multipath)) place (modify_sub sub (enabling (pmcw_of sub) subclass multipath))
+abbrev pub enable_sub : State → ℕ → Found → ℕ → Bool → Outcome
+enable_sub s cpu f subclass multipath =
+    at_place (with_schib s cpu 0xF00 (enabling_schib f.sub subclass multipath)) f.place (modify_sub f.sub (enabling (pmcw_of f.sub) subclass multipath))
 
 -- where nothing was stored, they are placed in the word that stands at F04, and MODIFY tests what stands at F00
 abbrev pub with_enabling : State → ℕ → List ℕ → ℕ → Bool → State
 with_enabling s cpu image subclass multipath =
     record s { storage = operand_stored s.storage cpu 0xF04 (bytes_of_words (enabling_word (word_at image 1) subclass multipath ∷ [])) }
 
-abbrev pub Enables_with : State → ℕ → Option ℕ → Option Subchannel → ℕ → Bool → List ℕ → Outcome → Type 0
-Enables_with s cpu None sub subclass multipath image r = Modifies_by (with_enabling s cpu image subclass multipath) None sub image r
-Enables_with s cpu (Some place) None subclass multipath image r = Modifies_by (with_enabling s cpu image subclass multipath) (Some place) None image r
-Enables_with s cpu (Some place) (Some sub) subclass multipath image r = r ≡ enable_sub s cpu place sub subclass multipath
+abbrev pub Enables_with : State → ℕ → Option Found → ℕ → Bool → List ℕ → Outcome → Type 0
+Enables_with s cpu None subclass multipath image r = Modifies_by (with_enabling s cpu image subclass multipath) None image r
+Enables_with s cpu (Some f) subclass multipath image r = r ≡ enable_sub s cpu f subclass multipath
 
-abbrev pub Enables : State → ℕ → Option ℕ → Option Subchannel → ℕ → Bool → Result (List ℕ) StorageFault → Outcome → Type 0
-Enables s cpu place sub subclass multipath (Err f) r = r ≡ Err (fault.Storage f)
-Enables s cpu place sub subclass multipath (Ok image) r = Enables_with s cpu place sub subclass multipath image r
-
--- RESUME, HALT, CLEAR, CANCEL: with code 0 the effect is left
-abbrev pub function_left : Subchannel → ConditionCode → SubchannelState → SubTurn
-function_left sub code state = leaves (reply.Code (answer_of code state.serials)) (with_state sub state)
-
-abbrev pub function_sub : Subchannel → ConditionCode → SubchannelState → SubTurn
-function_sub sub code effect = function_left sub code (left_by code sub.state effect)
-
-abbrev pub resume_sub : Subchannel → SubTurn
-resume_sub sub = function_sub sub (rsch_code (condition_of sub.state)) (resumed sub.state)
-
-abbrev pub halt_sub : Subchannel → SubTurn
-halt_sub sub = function_sub sub (hsch_code (condition_of sub.state)) (halted sub.state)
-
-abbrev pub clear_sub : Subchannel → SubTurn
-clear_sub sub = function_sub sub (csch_code (condition_of sub.state)) (cleared sub.state)
-
-abbrev pub cancel_sub : Subchannel → SubTurn
-cancel_sub sub = function_sub sub (xsch_code (condition_of sub.state)) (cancelled sub.state)
-
-abbrev pub function_at : State → Option ℕ → Option Subchannel → (Subchannel → SubTurn) → Outcome
-function_at s None sub turn = not_provided s
-function_at s (Some place) None turn = not_provided s
-function_at s (Some place) (Some sub) turn = at_place s place (turn sub)
+abbrev pub Enables : State → ℕ → Option Found → ℕ → Bool → Result (List ℕ) StorageFault → Outcome → Type 0
+Enables s cpu found subclass multipath (Err f) r = r ≡ Err (fault.Storage f)
+Enables s cpu found subclass multipath (Ok image) r = Enables_with s cpu found subclass multipath image r
 
 -- the tests of an instruction: general register 1, alignment, addressing, contents, condition code
-abbrev pub Executes_at : State → ℕ → Instruction → Option ℕ → Option Subchannel → Outcome → Type 0
-Executes_at s cpu (instruction.Ssch word address) place sub r = Starts s place sub (operand_at s.storage cpu address 12 4) r
-Executes_at s cpu (instruction.Tsch word address) place sub r = r ≡ tests s cpu address place sub (operand_check s.storage cpu address 64 4)
-Executes_at s cpu (instruction.Stsch word address) place sub r = r ≡ stores s cpu address place sub (operand_check s.storage cpu address 52 4)
-Executes_at s cpu (instruction.Msch word address) place sub r = Modifies s place sub (operand_at s.storage cpu address 52 4) r
-Executes_at s cpu (instruction.Enable word subclass multipath) place sub r =
-    Enables s cpu place sub subclass multipath (operand_at s.storage cpu 0xF00 52 4) r
-Executes_at s cpu (instruction.Rsch word) place sub r = r ≡ function_at s place sub resume_sub
-Executes_at s cpu (instruction.Hsch word) place sub r = r ≡ function_at s place sub halt_sub
-Executes_at s cpu (instruction.Csch word) place sub r = r ≡ function_at s place sub clear_sub
-Executes_at s cpu (instruction.Xsch word) place sub r = r ≡ function_at s place sub cancel_sub
+abbrev pub Executes_at : State → ℕ → Instruction → Option Found → Outcome → Type 0
+Executes_at s cpu (instruction.Ssch word address) found r = Starts s found (operand_at s.storage cpu address 12 4) r
+Executes_at s cpu (instruction.Tsch word address) found r = r ≡ tests s cpu address found (operand_check s.storage cpu address 64 4)
+Executes_at s cpu (instruction.Stsch word address) found r = r ≡ stores s cpu address found (operand_check s.storage cpu address 52 4)
+Executes_at s cpu (instruction.Msch word address) found r = Modifies s found (operand_at s.storage cpu address 52 4) r
+Executes_at s cpu (instruction.Enable word subclass multipath) found r =
+    Enables s cpu found subclass multipath (operand_at s.storage cpu 0xF00 52 4) r
+Executes_at s cpu (instruction.Rsch word) found r = r ≡ function_at s found rsch_code (λ sub. resumed sub.state)
+Executes_at s cpu (instruction.Hsch word) found r = r ≡ function_at s found hsch_code (λ sub. halted sub.state)
+Executes_at s cpu (instruction.Csch word) found r = r ≡ function_at s found csch_code (λ sub. cleared sub.state)
+Executes_at s cpu (instruction.Xsch word) found r = r ≡ function_at s found xsch_code (λ sub. cancelled sub.state)
 
 abbrev pub Executes_on : State → ℕ → Instruction → Option SubchannelId → Outcome → Type 0
 Executes_on s cpu i None r = r ≡ Err fault.Operand
-Executes_on s cpu i (Some id) r = Executes_at s cpu i (place_in id s.subs) (sub_at s.subs (place_in id s.subs)) r
+Executes_on s cpu i (Some id) r = Executes_at s cpu i (found_at s.subs (place_in id s.subs)) r
 
 abbrev pub word_of : Instruction → ℕ
 word_of (instruction.Ssch word address) = word

@@ -11,7 +11,7 @@ use Rattle.chan_model.specs.UnitTable.{UnitStep}
 use Rattle.chan_model.specs.UnitReports.{unit_reports}
 use Rattle.subchannel_model.specs.declared.state.Subchannel.{Subchannel}
 use Rattle.machine_model.specs.State.{State}
-use Rattle.subchannel_model.specs.Places.{sub_at, reached_in}
+use Rattle.subchannel_model.specs.Places.{Found, found_at, reached_in}
 use Rattle.machine_model.specs.Turns.{Outcome, DownTurn, at_unit}
 use Rattle.subchannel_model.specs.Sending.{finds_full, with_any_sent}
 
@@ -28,12 +28,10 @@ report_taken sub (Some step) =
 abbrev pub report_sub : Subchannel → UnitState → Report → Result DownTurn Fault
 report_sub sub u report = report_taken sub (unit_reports u report)
 
-abbrev pub report_to : State → ℕ → UnitState → Report → Option ℕ → Option Subchannel → Outcome
-report_to s place u report None sub = Err fault.NotNow
-report_to s place u report (Some at) None = Err fault.NotNow
-report_to s place u report (Some at) (Some sub) = at_unit s at place (report_sub sub u report)
+abbrev pub report_to : State → ℕ → UnitState → Report → Option Found → Outcome
+report_to s place u report None = Err fault.NotNow
+report_to s place u report (Some f) = at_unit s f.place place (report_sub f.sub u report)
 
 abbrev pub report_at : State → ℕ → Option UnitState → Report → Outcome
 report_at s place None report = Err fault.NoSuchUnit
-report_at s place (Some u) report =
-    report_to s place u report (reached_in place report.side s.subs) (sub_at s.subs (reached_in place report.side s.subs))
+report_at s place (Some u) report = report_to s place u report (found_at s.subs (reached_in place report.side s.subs))

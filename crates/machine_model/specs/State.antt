@@ -23,7 +23,7 @@ use Rattle.chan_model.specs.declared.unit_state.Place.TheVariants.{Away}
 use Rattle.wires.specs.Queues.{queue}
 use Rattle.subchannel_model.specs.declared.state.Subchannel.{Subchannel}
 use Rattle.subchannel_model.specs.Opening.{opened}
-use Rattle.subchannel_model.specs.Places.{place_of_id, sub_at, reached_sub}
+use Rattle.subchannel_model.specs.Places.{place_of_id, sub_at, reached_sub, Found, found_at}
 
 -- storage, how many sets of subchannels there are, the subchannels in the order of their configuration, and the units
 pub record State : Type 0 where
@@ -72,6 +72,10 @@ place_of s word = place_of_id s.subs (subchannel_named s.sets word)
 -- the subchannel that a word names
 abbrev pub sub_of : State → ℕ → Option Subchannel
 sub_of s word = sub_at s.subs (place_of s word)
+
+-- the same with its place
+abbrev pub found_of : State → ℕ → Option Found
+found_of s word = found_at s.subs (place_of s word)
 
 -- the state with this subchannel at this place
 abbrev pub with_sub : State → ℕ → Subchannel → State

@@ -7,8 +7,7 @@ use Rattle.chan_events.specs.declared.reply.Reply.{Reply}
 use Rattle.chan_events.specs.declared.reply.Entry.{Entry}
 use Rattle.channel_config.specs.Lawful.{IsLawful}
 use Rattle.channel_config.specs.Setup.{Setup}
-use Rattle.machine_model.specs.State.{State, opening_of, place_of}
-use Rattle.subchannel_model.specs.Places.{sub_at}
+use Rattle.machine_model.specs.State.{State, opening_of, found_of}
 use Rattle.machine_model.specs.Turns.{Outcome, does}
 use Rattle.machine_model.specs.StorageSteps.{put_turn, key_turn, prefix_turn, show_turn}
 use Rattle.machine_model.specs.InstructionSteps.{Executes}
@@ -24,9 +23,9 @@ Steps s (event.SetKey address key) r = r ≡ key_turn s address key
 Steps s (event.SetPrefix cpu address) r = r ≡ prefix_turn s cpu address
 Steps s (event.Show address count) r = r ≡ show_turn s address count
 Steps s (event.Execute cpu i) r = Executes s cpu i r
-Steps s (event.Choose word) r = Chooses s (place_of s word) (sub_at s.subs (place_of s word)) r
-Steps s (event.Up word path) r = r ≡ up_at s (place_of s word) (sub_at s.subs (place_of s word)) path
-Steps s (event.Down word path) r = r ≡ down_at s (place_of s word) (sub_at s.subs (place_of s word)) path
+Steps s (event.Choose word) r = Chooses s (found_of s word) r
+Steps s (event.Up word path) r = r ≡ up_at s (found_of s word) path
+Steps s (event.Down word path) r = r ≡ down_at s (found_of s word) path
 Steps s (event.Report place report) r = r ≡ report_at s place (slice_get s.units place) report
 
 abbrev pub Step : State → Event → Reply → State → Type 0

@@ -11,6 +11,7 @@ use Rattle.machine_model.specs.State.{State}
 use Rattle.subchannel_model.specs.declared.state.UpStep.{UpStep}
 use Rattle.subchannel_model.specs.Taking.{Met, takes_up}
 use Rattle.machine_model.specs.Turns.{Outcome, UpTurn, at_storage}
+use Rattle.subchannel_model.specs.Places.{Found}
 use Rattle.subchannel_model.specs.Sending.{finds_full, with_any_sent}
 
 abbrev pub with_met : Subchannel → ℕ → UpStep → Subchannel
@@ -31,7 +32,6 @@ up_sub returns storage sub path =
     if nat_lt path (length sub.setup.paths) then up_front returns storage sub path (slice_get (queue sub.wires.up path) 0)
     else Err fault.NoSuchPath
 
-abbrev pub up_at : State → Option ℕ → Option Subchannel → ℕ → Outcome
-up_at s None sub path = Err fault.NoSuchSubchannel
-up_at s (Some place) None path = Err fault.NoSuchSubchannel
-up_at s (Some place) (Some sub) path = at_storage s place (up_sub false s.storage sub path)
+abbrev pub up_at : State → Option Found → ℕ → Outcome
+up_at s None path = Err fault.NoSuchSubchannel
+up_at s (Some f) path = at_storage s f.place (up_sub false s.storage f.sub path)

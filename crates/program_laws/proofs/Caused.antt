@@ -10,8 +10,9 @@ use Rattle.subchannel_model.specs.declared.state.Begun.{Begun}
 use Rattle.subchannel_model.specs.declared.state.Program.{Program}
 use Rattle.subchannel_model.specs.declared.state.SubchannelState.{SubchannelState}
 use Rattle.subchannel_model.specs.Causes.{with_cause, without_begun, without_waiting, after_end, programs_left}
-use Rattle.subchannel_model.specs.Functions.{without_programs, halting, drops_status, dropped, halted, ends_suspended, tested_wholly}
-use Rattle.subchannel_model.specs.Instructions.{tested}
+use Rattle.subchannel_model.specs.Programs.{without_programs}
+use Rattle.subchannel_model.specs.Halt.{halting, drops_status, dropped, halted}
+use Rattle.subchannel_model.specs.Test.{ends_suspended, tested_wholly, tested}
 use Rattle.subchannel_model.specs.Taking.{with_attention, without_interruption, interrupted, standing_still, suspended_alone, suspending, halt_done, clear_done}
 
 -- the hold, and the numbers that were drawn

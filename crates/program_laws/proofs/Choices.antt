@@ -42,8 +42,13 @@ use Rattle.subchannel_model.specs.declared.state.Subchannel.{Subchannel}
 use Rattle.subchannel_model.specs.declared.state.SubchannelState.{SubchannelState}
 use Rattle.subchannel_model.specs.Choosing.{chosen, reset_sent, halt_sent, offered}
 use Rattle.subchannel_model.specs.Causes.{without_waiting, with_cause}
-use Rattle.subchannel_model.specs.Functions.{resumed, halting, drops_status, dropped, halted, cleared, cancelled, ends_suspended, without_programs, tested_wholly}
-use Rattle.subchannel_model.specs.Instructions.{started, tested}
+use Rattle.subchannel_model.specs.Resume.{resumed}
+use Rattle.subchannel_model.specs.Halt.{halting, drops_status, dropped, halted}
+use Rattle.subchannel_model.specs.Clear.{cleared}
+use Rattle.subchannel_model.specs.Cancel.{cancelled}
+use Rattle.subchannel_model.specs.Test.{ends_suspended, tested_wholly, tested}
+use Rattle.subchannel_model.specs.Programs.{without_programs}
+use Rattle.subchannel_model.specs.Start.{started}
 use Rattle.machine_model.specs.State.{State, opening_of}
 use Rattle.subchannel_model.specs.Opening.{opened}
 use Rattle.subchannel_model.specs.Taking as taking

@@ -17,7 +17,7 @@ use Rattle.subchannel_model.specs.declared.state.SubchannelState.{SubchannelStat
 use Rattle.subchannel_model.specs.declared.state.Standing.{Standing}
 use Rattle.subchannel_model.specs.declared.cause.Cause.TheVariants as cause
 use Rattle.subchannel_model.specs.Causes.{with_cause}
-use Rattle.subchannel_model.specs.Functions.{without_programs}
+use Rattle.subchannel_model.specs.Programs.{without_programs}
 use Rattle.subchannel_model.specs.Taking.{let_go, by_hold, back, halt_done, clear_done, with_attention, reset_taken}
 use Rattle.program_laws.specs.Doings.{Part, no_part}
 use Rattle.program_laws.specs.Stories.{Story, past_part}

@@ -20,8 +20,12 @@ use Rattle.subchannel_model.specs.declared.state.Begun.{Begun}
 use Rattle.subchannel_model.specs.declared.state.Subchannel.{Subchannel}
 use Rattle.subchannel_model.specs.declared.state.SubchannelState.{SubchannelState}
 use Rattle.subchannel_model.specs.Choosing.{chosen}
-use Rattle.subchannel_model.specs.Functions.{resumed, halted, cleared, cancelled, tested_wholly}
-use Rattle.subchannel_model.specs.Instructions.{started}
+use Rattle.subchannel_model.specs.Resume.{resumed}
+use Rattle.subchannel_model.specs.Halt.{halted}
+use Rattle.subchannel_model.specs.Clear.{cleared}
+use Rattle.subchannel_model.specs.Cancel.{cancelled}
+use Rattle.subchannel_model.specs.Test.{tested_wholly}
+use Rattle.subchannel_model.specs.Start.{started}
 use Rattle.machine_model.specs.State.{State, opening_of}
 use Rattle.subchannel_model.specs.Opening.{opened}
 use Rattle.machine_model.specs.Turns.{with_state, SubTurn, UpTurn, DownTurn}

@@ -31,12 +31,17 @@ use Rattle.subchannel_model.specs.declared.state.Subchannel.{Subchannel}
 use Rattle.subchannel_model.specs.declared.state.SubchannelState.{SubchannelState}
 use Rattle.machine_model.specs.State.{State, place_of}
 use Rattle.subchannel_model.specs.Places.{reached_in}
-use Rattle.subchannel_model.specs.Instructions.{started}
-use Rattle.subchannel_model.specs.Functions.{resumed, halted, cleared, cancelled, tested_wholly}
+use Rattle.subchannel_model.specs.Start.{started}
+use Rattle.subchannel_model.specs.Resume.{resumed}
+use Rattle.subchannel_model.specs.Halt.{halted}
+use Rattle.subchannel_model.specs.Clear.{cleared}
+use Rattle.subchannel_model.specs.Cancel.{cancelled}
+use Rattle.subchannel_model.specs.Test.{tested_wholly}
 use Rattle.subchannel_model.specs.Choosing.{chosen}
 use Rattle.subchannel_model.specs.Taking.{takes_up}
 use Rattle.machine_model.specs.Turns.{SubTurn, UpTurn, DownTurn, with_state}
-use Rattle.machine_model.specs.InstructionSteps.{start_with, test_with, modify_with, function_sub}
+use Rattle.subchannel_model.specs.Modify.{modified_state}
+use Rattle.machine_model.specs.InstructionSteps.{test_with, function_sub}
 use Rattle.machine_model.specs.ChooseSteps.{send_sub, choose_sub}
 use Rattle.subchannel_model.specs.Sending.{is_full, finds_full}
 use Rattle.machine_model.specs.UpSteps.{up_front, up_sub}
@@ -226,7 +231,7 @@ module _ (s : State) (one : IsOneSided s) (place : ℕ) where
       ]
 
   start-turns : (e : Event) (r : Reply) (new : State) (at : ℕ) (sub : Subchannel) (orb : Orb) (c : ConditionCode) → ((k : Option Story) → story_after place s e r k ≡ k) →
-      OneSub s new at sub (start_with sub orb c).sub → At new (story_after place s e r)
+      OneSub s new at sub (function_sub sub c (started sub.state orb)).sub → At new (story_after place s e r)
   start-turns e r new at sub orb code.Zero q o = sub-turns new at sub _ _ o refl (λ there w. Starts_with_orb orb refl refl q) (λ w. q)
   start-turns e r new at sub orb code.One q o = sub-turns new at sub _ _ o refl (λ there w. Stays refl refl q) (λ w. q)
   start-turns e r new at sub orb code.Two q o = sub-turns new at sub _ _ o refl (λ there w. Stays refl refl q) (λ w. q)
@@ -238,7 +243,7 @@ module _ (s : State) (one : IsOneSided s) (place : ℕ) where
   test-turns e r new at sub code.Two q o = quiet-turns new e r at sub _ o refl q (Stays refl refl (quiet-story place s e r q))
   test-turns e r new at sub code.Three q o = quiet-turns new e r at sub _ o refl q (Stays refl refl (quiet-story place s e r q))
 
-  modify-turns : (e : Event) (r : Reply) (new : State) (at : ℕ) (sub : Subchannel) (given : block.Pmcw) (c : ConditionCode) → IsQuiet e r → OneSub s new at sub (modify_with sub given c).sub →
+  modify-turns : (e : Event) (r : Reply) (new : State) (at : ℕ) (sub : Subchannel) (given : block.Pmcw) (c : ConditionCode) → IsQuiet e r → OneSub s new at sub (function_sub sub c (modified_state sub given)).sub →
       At new (story_after place s e r)
   modify-turns e r new at sub given code.Zero q o = quiet-turns new e r at sub _ o refl q (Is_modified _ refl refl (quiet-story place s e r q))
   modify-turns e r new at sub given code.One q o = quiet-turns new e r at sub _ o refl q (Stays refl refl (quiet-story place s e r q))
@@ -261,7 +266,7 @@ module _ (s : State) (one : IsOneSided s) (place : ℕ) where
 
   step-turns : (e : Event) (r : Reply) (new : State) → Walked s e r new → At new (story_after place s e r)
   step-turns _ _ _ (walked.Stays e r new q sets subs units) = stays new (story_after place s e r) subs units (quiet-story place s e r q)
-  step-turns _ _ _ (walked.Started cpu word address at sub orb c new n o) = start-turns (event.Execute cpu (instruction.Ssch word address)) (start_with sub orb c).reply new at sub orb c (λ k. refl) o
+  step-turns _ _ _ (walked.Started cpu word address at sub orb c new n o) = start-turns (event.Execute cpu (instruction.Ssch word address)) (function_sub sub c (started sub.state orb)).reply new at sub orb c (λ k. refl) o
   step-turns _ _ _ (walked.Tested e r at sub c new q o) = test-turns e r new at sub c q o
   step-turns _ _ _ (walked.Modified e r at sub given c new q o) = modify-turns e r new at sub given c q o
   step-turns _ _ _ (walked.Performed e r at sub f c new q o) = perform-turns e r new at sub f c q o

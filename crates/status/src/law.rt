@@ -4,7 +4,7 @@ ghost use Rattle.subchannel_model.specs.declared.cause.Cause.{Cause};
 ghost use Rattle.subchannel_model.specs.declared.state.SubchannelState.{SubchannelState};
 ghost use Rattle.subchannel_model.specs.Causes.{with_cause};
 ghost use Rattle.functions.specs.Counted.{IsCounted};
-ghost use Rattle.subchannel_model.specs.Functions.{tested_wholly};
+ghost use Rattle.subchannel_model.specs.Test.{tested_wholly};
 
 /// After each cause status is pending exactly where some status that was made is not cleared, if it was before; after TEST
 /// SUBCHANNEL with code 0 it is.

@@ -1,12 +1,12 @@
 //! Status: what makes it pending at a subchannel, and what TEST SUBCHANNEL leaves of it (SA22-7832, chapters 14 and 16).
 #![tactic(auto)]
 
-ghost use Rattle.std.specs.Prelude.{◌≡◌, ◌<◌, ◌^◌};
-ghost use Rattle.subchannel_model.specs.SubchannelCodes as code_spec;
+ghost use Rattle.std.specs.Prelude.{◌≡◌, ◌<◌, ◌^◌, Some};
+ghost use Rattle.subchannel_model.specs.Test as test_spec;
 ghost use Rattle.subchannel_model.specs.Status as status_spec;
 ghost use Rattle.subchannel_model.specs.Causes as cause_spec;
-ghost use Rattle.subchannel_model.specs.Functions as spec;
-ghost use Rattle.subchannel_model.specs.Instructions.{condition_of};
+ghost use Rattle.subchannel_model.specs.Conditions as condition_spec;
+ghost use Rattle.subchannel_model.specs.Conditions.{condition_of};
 
 pub mod causes;
 pub mod law;
@@ -32,8 +32,8 @@ pub fn make_pending(state: &mut SubchannelState, cause: &Cause)
 
 /// TEST SUBCHANNEL: the status word that is stored is the one before.
 pub fn tsch(state: &mut SubchannelState) -> ConditionCode
-    ensures code { result ≡ code_spec.tsch_code (condition_of state.old) }
-    ensures state { state.new ≡ spec.left_by result state.old (spec.tested_wholly state.old) }
+    ensures code { result ≡ test_spec.tsch_code (condition_of (Some state.old)) }
+    ensures state { state.new ≡ condition_spec.left_by result state.old (test_spec.tested_wholly state.old) }
 {
     let code = tsch_code(functions::codes::condition_of(state));
     if code == ConditionCode::Zero {

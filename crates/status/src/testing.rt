@@ -1,9 +1,8 @@
 //! What TEST SUBCHANNEL leaves of a subchannel (SA22-7832, chapters 14 and 16).
 
 ghost use Rattle.std.specs.Prelude.{◌≡◌};
-ghost use Rattle.subchannel_model.specs.Status as status_spec;
-ghost use Rattle.subchannel_model.specs.Functions as whole_spec;
-ghost use Rattle.subchannel_model.specs.Instructions as spec;
+ghost use Rattle.subchannel_model.specs.Test as test_spec;
+ghost use Rattle.subchannel_model.specs.Programs as program_spec;
 
 use functions::codes::is_intermediate_alone;
 use functions::effects::{clear_serials, drop_scsw};
@@ -11,7 +10,7 @@ use scsw_irb::scsw::{ActivityControl, DeferredCode, FunctionControl, Scsw, Statu
 use subchannel_model::state::SubchannelState;
 
 fn active_alone(activity: ActivityControl) -> ActivityControl
-    ensures { result ≡ status_spec.active_alone activity }
+    ensures { result ≡ test_spec.active_alone activity }
 {
     ActivityControl {
         subchannel_active: activity.subchannel_active,
@@ -21,7 +20,7 @@ fn active_alone(activity: ActivityControl) -> ActivityControl
 }
 
 fn end_scsw(scsw: &mut Scsw)
-    ensures { scsw.new ≡ status_spec.ended_scsw scsw.old }
+    ensures { scsw.new ≡ test_spec.ended_scsw scsw.old }
 {
     scsw.functions = FunctionControl::none();
     scsw.activity = active_alone(scsw.activity);
@@ -31,7 +30,7 @@ fn end_scsw(scsw: &mut Scsw)
 }
 
 fn suspend_scsw(scsw: &mut Scsw)
-    ensures { scsw.new ≡ status_spec.suspended_scsw scsw.old }
+    ensures { scsw.new ≡ test_spec.suspended_scsw scsw.old }
 {
     scsw.activity.resume_pending = false;
     scsw.status = StatusControl::none();
@@ -40,7 +39,7 @@ fn suspend_scsw(scsw: &mut Scsw)
 }
 
 fn clear_intermediate(scsw: &mut Scsw)
-    ensures { scsw.new ≡ status_spec.intermediate_cleared scsw.old }
+    ensures { scsw.new ≡ test_spec.intermediate_cleared scsw.old }
 {
     if !scsw.activity.suspended {
         drop_scsw(scsw);
@@ -52,7 +51,7 @@ fn clear_intermediate(scsw: &mut Scsw)
 }
 
 fn test_scsw(scsw: &mut Scsw)
-    ensures { scsw.new ≡ status_spec.tested_scsw scsw.old }
+    ensures { scsw.new ≡ test_spec.tested_scsw scsw.old }
 {
     if !scsw.status.pending {
         return;
@@ -66,14 +65,14 @@ fn test_scsw(scsw: &mut Scsw)
 
 /// TEST SUBCHANNEL with code 0: the status word and the counts.
 pub(crate) fn clear_status(state: &mut SubchannelState)
-    ensures { state.new ≡ spec.tested state.old }
+    ensures { state.new ≡ test_spec.tested state.old }
 {
     test_scsw(&mut state.scsw);
     clear_serials(&mut state.serials);
 }
 
 fn ends_suspended(scsw: &Scsw) -> bool
-    ensures { result ≡ whole_spec.ends_suspended scsw.now }
+    ensures { result ≡ test_spec.ends_suspended scsw.now }
 {
     scsw.status.pending
         && is_intermediate_alone(scsw.status)
@@ -83,7 +82,7 @@ fn ends_suspended(scsw: &Scsw) -> bool
 
 /// All its programs are over.
 pub(crate) fn end_programs(state: &mut SubchannelState)
-    ensures { state.new ≡ whole_spec.without_programs state.old }
+    ensures { state.new ≡ program_spec.without_programs state.old }
 {
     state.waiting = None;
     state.begun = None;
@@ -92,7 +91,7 @@ pub(crate) fn end_programs(state: &mut SubchannelState)
 
 /// TEST SUBCHANNEL with code 0.
 pub(crate) fn test_wholly(state: &mut SubchannelState)
-    ensures { state.new ≡ whole_spec.tested_wholly state.old }
+    ensures { state.new ≡ test_spec.tested_wholly state.old }
 {
     let ends = ends_suspended(&state.scsw);
     clear_status(state);

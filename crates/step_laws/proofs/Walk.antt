@@ -17,15 +17,23 @@ use Rattle.chan_model.specs.declared.answer.ConditionCode.{ConditionCode}
 use Rattle.chan_model.specs.declared.answer.ConditionCode.TheVariants as code
 use Rattle.chan_model.specs.declared.report.Report.{Report}
 use Rattle.chan_model.specs.declared.unit_state.UnitState.{UnitState}
-use Rattle.subchannel_model.specs.SubchannelCodes.{ssch_code, msch_code, rsch_code, hsch_code, csch_code, xsch_code}
+use Rattle.subchannel_model.specs.declared.status.Condition.{Condition}
+use Rattle.subchannel_model.specs.declared.state.SubchannelState.{SubchannelState}
+use Rattle.subchannel_model.specs.Start.{ssch_code}
+use Rattle.subchannel_model.specs.Test.{tsch_code}
+use Rattle.subchannel_model.specs.Modify.{msch_code}
+use Rattle.subchannel_model.specs.Resume.{rsch_code}
+use Rattle.subchannel_model.specs.Halt.{hsch_code}
+use Rattle.subchannel_model.specs.Clear.{csch_code}
+use Rattle.subchannel_model.specs.Cancel.{xsch_code}
 use Rattle.subchannel_model.specs.declared.state.Subchannel.{Subchannel}
-use Rattle.machine_model.specs.State.{State, place_of, with_sub, with_unit}
-use Rattle.subchannel_model.specs.Places.{place_in, place_of_id, first_place, one_later, sub_at, reaches, reached_in}
-use Rattle.subchannel_model.specs.Instructions.{condition_of}
+use Rattle.machine_model.specs.State.{State, place_of, found_of, with_sub, with_unit}
+use Rattle.subchannel_model.specs.Places.{Found, found_with, found_at, place_in, place_of_id, first_place, one_later, reaches, reached_in}
 use Rattle.subchannel_model.specs.Choosing.{chosen}
-use Rattle.subchannel_model.specs.SubchannelBlocks.{pmcw_of, enabling}
+use Rattle.subchannel_model.specs.Store.{pmcw_of}
+use Rattle.subchannel_model.specs.Enable.{enabling}
 use Rattle.machine_model.specs.Turns.{Outcome, SubTurn, UpTurn, DownTurn, at_sub, at_storage, at_unit, does}
-use Rattle.machine_model.specs.InstructionSteps.{start_at, Starts, Starts_with, test_sub, test_code_of, tests, store_at, stores, modify_at, Modifies_by, Modifies, Enables_with, Enables, Executes_at, Executes_on, word_of, function_at, resume_sub, halt_sub, clear_sub, cancel_sub}
+use Rattle.machine_model.specs.InstructionSteps.{code_at, function_sub, function_at, not_provided, start_at, Starts, Starts_with, test_sub, tests, store_at, stores, modify_at, Modifies_by, Modifies, Enables_with, Enables, Executes_at, Executes_on, word_of}
 use Rattle.machine_model.specs.ChooseSteps.{choose_sub, Chooses}
 use Rattle.machine_model.specs.UpSteps.{up_sub, up_at}
 use Rattle.machine_model.specs.DownSteps.{down_sub, down_unit, down_at}
@@ -34,7 +42,7 @@ use Rattle.machine_model.specs.StorageSteps.{storage_turn, show_turn_of}
 use Rattle.machine_model.specs.Steps.{Steps, Step}
 use Rattle.step_laws.specs.Walks as walked
 use Rattle.step_laws.proofs.Suiting.{chosen-suits}
-use Rattle.step_laws.specs.Walks.{Walked, IsQuiet, Function, Resumes, Halts, Clears, Cancels}
+use Rattle.step_laws.specs.Walks.{Walked, IsQuiet, Function, Resumes, Halts, Clears, Cancels, effect_of}
 
 -- the subchannel at the first place that passes a test passes it
 first-cases : (b : Bool) (o : Option ℕ) (place : ℕ) → (if b then Some 0 else one_later o) ≡ Some place →
@@ -51,6 +59,18 @@ first-passes test (x ∷ xs) place sub e there =
       | inl h ↦ let same : x ≡ sub = cc (subst (λ (k : ℕ). slice_get (x ∷ xs) k ≡ Some sub) h.1 there) in sym (ap test same) ∙ h.0
       | inr h ↦ first-passes test xs h.0 sub h.1 (subst (λ (k : ℕ). slice_get (x ∷ xs) k ≡ Some sub) h.2 there)
     ]
+
+-- the subchannel that was found stands at its place
+found_with-there : (place : ℕ) (o : Option Subchannel) (f : Found) → found_with place o ≡ Some f → (place ≡ f.place) × (o ≡ Some f.sub)
+found_with-there place None f e = absurd (cc e)
+found_with-there place (Some sub) f e =
+    let same : record { place = place; sub = sub } ≡ f = cc e in (ap (λ (x : Found). x.place) same, ap (λ (x : Found). Some x.sub) same)
+
+found-there : (subs : List Subchannel) (p : Option ℕ) (f : Found) → found_at subs p ≡ Some f → (p ≡ Some f.place) × (slice_get subs f.place ≡ Some f.sub)
+found-there subs None f e = absurd (cc e)
+found-there subs (Some place) f e =
+    let there : (place ≡ f.place) × (slice_get subs place ≡ Some f.sub) = found_with-there place (slice_get subs place) f e in
+    (ap (λ (k : ℕ). Some k) there.0, subst (λ (k : ℕ). slice_get subs k ≡ Some f.sub) there.0 there.1)
 
 module _ (s : State) where
   abbrev OkAll : Event → Outcome → Type 0
@@ -70,159 +90,162 @@ module _ (s : State) where
   at_unit-walks v place at (Ok t) f = f t refl
   at_unit-walks v place at (Err e) f = tt
 
-  start-walks : (cpu word address : ℕ) (id : SubchannelId) (p : Option ℕ) (q : Option Subchannel) (orb : Orb) → subchannel_named s.sets word ≡ Some id →
-      place_in id s.subs ≡ p → sub_at s.subs p ≡ q → OkAll (event.Execute cpu (instruction.Ssch word address)) (start_at s p q orb)
-  start-walks cpu word address id None q orb n f e = walked.Stays _ _ _ refl refl refl refl
-  start-walks cpu word address id (Some place) None orb n f e = walked.Stays _ _ _ refl refl refl refl
-  start-walks cpu word address id (Some place) (Some sub) orb n f e = walked.Started cpu word address place sub orb (ssch_code (condition_of sub.state)) _ (ap (place_of_id s.subs) n ∙ f) (record { there = e; sets = refl; subs = refl; units = refl })
+  -- what an instruction leaves of a subchannel that is found
+  function-walks : (v : Event) (q : Option Found) (code : Condition → ConditionCode) (effect : Subchannel → SubchannelState) → OkAll v (not_provided s code) →
+      ((f : Found) → q ≡ Some f → Walked s v (function_sub f.sub (code_at code f.sub) (effect f.sub)).reply (with_sub s f.place (function_sub f.sub (code_at code f.sub) (effect f.sub)).sub)) →
+      OkAll v (function_at s q code effect)
+  function-walks v None code effect n g = n
+  function-walks v (Some f) code effect n g = g f refl
 
-  test_code-walks : (cpu word address place : ℕ) (sub : Subchannel) (c : ConditionCode) → slice_get s.subs place ≡ Some sub →
-      OkAll (event.Execute cpu (instruction.Tsch word address)) (test_sub s cpu address place sub c)
-  test_code-walks cpu word address place sub code.Zero e = walked.Tested _ _ place sub code.Zero _ tt (record { there = e; sets = refl; subs = refl; units = refl })
-  test_code-walks cpu word address place sub code.One e = walked.Tested _ _ place sub code.One _ tt (record { there = e; sets = refl; subs = refl; units = refl })
-  test_code-walks cpu word address place sub code.Two e = walked.Tested _ _ place sub code.Two _ tt (record { there = e; sets = refl; subs = refl; units = refl })
-  test_code-walks cpu word address place sub code.Three e = walked.Tested _ _ place sub code.Three _ tt (record { there = e; sets = refl; subs = refl; units = refl })
+  start-walks : (cpu word address : ℕ) (id : SubchannelId) (q : Option Found) (orb : Orb) → subchannel_named s.sets word ≡ Some id →
+      found_at s.subs (place_in id s.subs) ≡ q → OkAll (event.Execute cpu (instruction.Ssch word address)) (start_at s q orb)
+  start-walks cpu word address id None orb n e = walked.Stays _ _ _ refl refl refl refl
+  start-walks cpu word address id (Some f) orb n e =
+      let there : (place_in id s.subs ≡ Some f.place) × (slice_get s.subs f.place ≡ Some f.sub) = found-there s.subs (place_in id s.subs) f e in
+      walked.Started cpu word address f.place f.sub orb (code_at ssch_code f.sub) _ (ap (place_of_id s.subs) n ∙ there.0) (record { there = there.1; sets = refl; subs = refl; units = refl })
 
-  tests-walk : (cpu word address : ℕ) (p : Option ℕ) (q : Option Subchannel) (r : Result (Unit {0}) StorageFault) → sub_at s.subs p ≡ q →
-      OkAll (event.Execute cpu (instruction.Tsch word address)) (tests s cpu address p q r)
+  test_code-walks : (cpu word address : ℕ) (f : Found) (c : ConditionCode) → slice_get s.subs f.place ≡ Some f.sub →
+      OkAll (event.Execute cpu (instruction.Tsch word address)) (test_sub s cpu address f c)
+  test_code-walks cpu word address f code.Zero e = walked.Tested _ _ f.place f.sub code.Zero _ tt (record { there = e; sets = refl; subs = refl; units = refl })
+  test_code-walks cpu word address f code.One e = walked.Tested _ _ f.place f.sub code.One _ tt (record { there = e; sets = refl; subs = refl; units = refl })
+  test_code-walks cpu word address f code.Two e = walked.Tested _ _ f.place f.sub code.Two _ tt (record { there = e; sets = refl; subs = refl; units = refl })
+  test_code-walks cpu word address f code.Three e = walked.Tested _ _ f.place f.sub code.Three _ tt (record { there = e; sets = refl; subs = refl; units = refl })
+
+  tests-walk : (cpu word address : ℕ) (p : Option ℕ) (q : Option Found) (r : Result (Unit {0}) StorageFault) → found_at s.subs p ≡ q →
+      OkAll (event.Execute cpu (instruction.Tsch word address)) (tests s cpu address q r)
   tests-walk cpu word address p q (Err f) e = tt
-  tests-walk cpu word address None q (Ok u) e = walked.Stays _ _ _ tt refl refl refl
-  tests-walk cpu word address (Some place) None (Ok u) e = walked.Stays _ _ _ tt refl refl refl
-  tests-walk cpu word address (Some place) (Some sub) (Ok u) e = test_code-walks cpu word address place sub (test_code_of sub) e
+  tests-walk cpu word address p None (Ok u) e = walked.Stays _ _ _ tt refl refl refl
+  tests-walk cpu word address p (Some f) (Ok u) e = test_code-walks cpu word address f (code_at tsch_code f.sub) (found-there s.subs p f e).1
 
-  store-walks : (cpu word address : ℕ) (p : Option ℕ) (q : Option Subchannel) → OkAll (event.Execute cpu (instruction.Stsch word address)) (store_at s cpu address p q)
-  store-walks cpu word address None q = walked.Stays _ _ _ tt refl refl refl
-  store-walks cpu word address (Some place) None = walked.Stays _ _ _ tt refl refl refl
-  store-walks cpu word address (Some place) (Some sub) = walked.Stays _ _ _ tt refl refl refl
+  store-walks : (cpu word address : ℕ) (q : Option Found) → OkAll (event.Execute cpu (instruction.Stsch word address)) (store_at s cpu address q)
+  store-walks cpu word address None = walked.Stays _ _ _ tt refl refl refl
+  store-walks cpu word address (Some f) = walked.Stays _ _ _ tt refl refl refl
 
-  stores-walk : (cpu word address : ℕ) (p : Option ℕ) (q : Option Subchannel) (r : Result (Unit {0}) StorageFault) →
-      OkAll (event.Execute cpu (instruction.Stsch word address)) (stores s cpu address p q r)
-  stores-walk cpu word address p q (Err f) = tt
-  stores-walk cpu word address p q (Ok u) = store-walks cpu word address p q
+  stores-walk : (cpu word address : ℕ) (q : Option Found) (r : Result (Unit {0}) StorageFault) →
+      OkAll (event.Execute cpu (instruction.Stsch word address)) (stores s cpu address q r)
+  stores-walk cpu word address q (Err f) = tt
+  stores-walk cpu word address q (Ok u) = store-walks cpu word address q
 
-  modify-walks : (v : Event) (storage : Contents) (p : Option ℕ) (q : Option Subchannel) (given : block.Pmcw) → ((r : Reply) → IsQuiet v r) → sub_at s.subs p ≡ q →
-      OkAll v (modify_at (record s { storage = storage }) p q given)
-  modify-walks v storage None q given n e = walked.Stays _ _ _ (n _) refl refl refl
-  modify-walks v storage (Some place) None given n e = walked.Stays _ _ _ (n _) refl refl refl
-  modify-walks v storage (Some place) (Some sub) given n e = walked.Modified _ _ place sub given (msch_code (condition_of sub.state)) _ (n _) (record { there = e; sets = refl; subs = refl; units = refl })
+  modify-walks : (v : Event) (storage : Contents) (p : Option ℕ) (q : Option Found) (given : block.Pmcw) → ((r : Reply) → IsQuiet v r) → found_at s.subs p ≡ q →
+      OkAll v (modify_at (record s { storage = storage }) q given)
+  modify-walks v storage p None given n e = walked.Stays _ _ _ (n _) refl refl refl
+  modify-walks v storage p (Some f) given n e =
+      walked.Modified _ _ f.place f.sub given (code_at msch_code f.sub) _ (n _) (record { there = (found-there s.subs p f e).1; sets = refl; subs = refl; units = refl })
 
-  modified-walks : (v : Event) (storage : Contents) (p : Option ℕ) (q : Option Subchannel) (image : List ℕ) (o : Outcome) → ((r : Reply) → IsQuiet v r) → sub_at s.subs p ≡ q →
-      Modifies_by (record s { storage = storage }) p q image o → OkAll v o
+  modified-walks : (v : Event) (storage : Contents) (p : Option ℕ) (q : Option Found) (image : List ℕ) (o : Outcome) → ((r : Reply) → IsQuiet v r) → found_at s.subs p ≡ q →
+      Modifies_by (record s { storage = storage }) q image o → OkAll v o
   modified-walks v storage p q image o n e w =
       elim w.2 [
         | inl x ↦ subst (OkAll v) (sym x.1) tt
         | inr x ↦ subst (OkAll v) (sym x.1) (modify-walks v storage p q w.0 n e)
       ]
 
-  modifies-walk : (cpu word address : ℕ) (p : Option ℕ) (q : Option Subchannel) (r : Result (List ℕ) StorageFault) (o : Outcome) → sub_at s.subs p ≡ q → Modifies s p q r o →
+  modifies-walk : (cpu word address : ℕ) (p : Option ℕ) (q : Option Found) (r : Result (List ℕ) StorageFault) (o : Outcome) → found_at s.subs p ≡ q → Modifies s q r o →
       OkAll (event.Execute cpu (instruction.Msch word address)) o
   modifies-walk cpu word address p q (Err f) o e w = subst (OkAll (event.Execute cpu (instruction.Msch word address))) (sym w) tt
   modifies-walk cpu word address p q (Ok image) o e w =
       modified-walks (event.Execute cpu (instruction.Msch word address)) s.storage p q image o (λ r. tt) e w
 
-  enabled-walks : (v : Event) (cpu : ℕ) (p : Option ℕ) (q : Option Subchannel) (subclass : ℕ) (multipath : Bool) (image : List ℕ) (o : Outcome) → ((r : Reply) → IsQuiet v r) →
-      sub_at s.subs p ≡ q → Enables_with s cpu p q subclass multipath image o → OkAll v o
-  enabled-walks v cpu None q subclass multipath image o n e w = modified-walks v _ None q image o n e w
-  enabled-walks v cpu (Some place) None subclass multipath image o n e w = modified-walks v _ (Some place) None image o n e w
-  enabled-walks v cpu (Some place) (Some sub) subclass multipath image o n e w =
-      subst (OkAll v) (sym w) (walked.Modified _ _ place sub (enabling (pmcw_of sub) subclass multipath) (msch_code (condition_of sub.state)) _ (n _) (record { there = e; sets = refl; subs = refl; units = refl }))
+  enabled-walks : (v : Event) (cpu : ℕ) (p : Option ℕ) (q : Option Found) (subclass : ℕ) (multipath : Bool) (image : List ℕ) (o : Outcome) → ((r : Reply) → IsQuiet v r) →
+      found_at s.subs p ≡ q → Enables_with s cpu q subclass multipath image o → OkAll v o
+  enabled-walks v cpu p None subclass multipath image o n e w = modified-walks v _ p None image o n e w
+  enabled-walks v cpu p (Some f) subclass multipath image o n e w =
+      subst (OkAll v) (sym w)
+      (walked.Modified _ _ f.place f.sub (enabling (pmcw_of f.sub) subclass multipath) (code_at msch_code f.sub) _ (n _)
+      (record { there = (found-there s.subs p f e).1; sets = refl; subs = refl; units = refl }))
 
-  enables-walk : (v : Event) (cpu : ℕ) (p : Option ℕ) (q : Option Subchannel) (subclass : ℕ) (multipath : Bool) (r : Result (List ℕ) StorageFault) (o : Outcome) →
-      ((r : Reply) → IsQuiet v r) → sub_at s.subs p ≡ q → Enables s cpu p q subclass multipath r o → OkAll v o
+  enables-walk : (v : Event) (cpu : ℕ) (p : Option ℕ) (q : Option Found) (subclass : ℕ) (multipath : Bool) (r : Result (List ℕ) StorageFault) (o : Outcome) →
+      ((r : Reply) → IsQuiet v r) → found_at s.subs p ≡ q → Enables s cpu q subclass multipath r o → OkAll v o
   enables-walk v cpu p q subclass multipath (Err f) o n e w = subst (OkAll v) (sym w) tt
   enables-walk v cpu p q subclass multipath (Ok image) o n e w = enabled-walks v cpu p q subclass multipath image o n e w
 
-  started-walks : (cpu word address : ℕ) (id : SubchannelId) (p : Option ℕ) (q : Option Subchannel) (image : List ℕ) (o : Outcome) → subchannel_named s.sets word ≡ Some id →
-      place_in id s.subs ≡ p → sub_at s.subs p ≡ q → Starts_with s p q image o → OkAll (event.Execute cpu (instruction.Ssch word address)) o
-  started-walks cpu word address id p q image o n f e w =
+  started-walks : (cpu word address : ℕ) (id : SubchannelId) (q : Option Found) (image : List ℕ) (o : Outcome) → subchannel_named s.sets word ≡ Some id →
+      found_at s.subs (place_in id s.subs) ≡ q → Starts_with s q image o → OkAll (event.Execute cpu (instruction.Ssch word address)) o
+  started-walks cpu word address id q image o n e w =
       elim w [
         | inl x ↦ subst (OkAll (event.Execute cpu (instruction.Ssch word address))) (sym x.1) tt
-        | inr x ↦ subst (OkAll (event.Execute cpu (instruction.Ssch word address))) (sym x.2) (start-walks cpu word address id p q x.0 n f e)
+        | inr x ↦ subst (OkAll (event.Execute cpu (instruction.Ssch word address))) (sym x.2) (start-walks cpu word address id q x.0 n e)
       ]
 
-  starts-walk : (cpu word address : ℕ) (id : SubchannelId) (p : Option ℕ) (q : Option Subchannel) (r : Result (List ℕ) StorageFault) (o : Outcome) →
-      subchannel_named s.sets word ≡ Some id → place_in id s.subs ≡ p → sub_at s.subs p ≡ q → Starts s p q r o → OkAll (event.Execute cpu (instruction.Ssch word address)) o
-  starts-walk cpu word address id p q (Err x) o n f e w = subst (OkAll (event.Execute cpu (instruction.Ssch word address))) (sym w) tt
-  starts-walk cpu word address id p q (Ok image) o n f e w = started-walks cpu word address id p q image o n f e w
+  starts-walk : (cpu word address : ℕ) (id : SubchannelId) (q : Option Found) (r : Result (List ℕ) StorageFault) (o : Outcome) →
+      subchannel_named s.sets word ≡ Some id → found_at s.subs (place_in id s.subs) ≡ q → Starts s q r o → OkAll (event.Execute cpu (instruction.Ssch word address)) o
+  starts-walk cpu word address id q (Err x) o n e w = subst (OkAll (event.Execute cpu (instruction.Ssch word address))) (sym w) tt
+  starts-walk cpu word address id q (Ok image) o n e w = started-walks cpu word address id q image o n e w
 
-  function-walks : (v : Event) (p : Option ℕ) (q : Option Subchannel) (turn : Subchannel → SubTurn) → ((r : Reply) → IsQuiet v r) → sub_at s.subs p ≡ q →
-      ((place : ℕ) (sub : Subchannel) → slice_get s.subs place ≡ Some sub → Walked s v (turn sub).reply (with_sub s place (turn sub).sub)) → OkAll v (function_at s p q turn)
-  function-walks v None q turn n e f = walked.Stays _ _ _ (n _) refl refl refl
-  function-walks v (Some place) None turn n e f = walked.Stays _ _ _ (n _) refl refl refl
-  function-walks v (Some place) (Some sub) turn n e f = f place sub e
+  -- RESUME, HALT, CLEAR and CANCEL
+  performs-walk : (v : Event) (p : Option ℕ) (q : Option Found) (code : Condition → ConditionCode) (f : Function) → ((r : Reply) → IsQuiet v r) → found_at s.subs p ≡ q →
+      OkAll v (function_at s q code (λ sub. effect_of f sub.state))
+  performs-walk v p q code f n e =
+      function-walks v q code (λ sub. effect_of f sub.state) (walked.Stays _ _ _ (n _) refl refl refl)
+      (λ x there. walked.Performed _ _ x.place x.sub f (code_at code x.sub) _ (n _)
+      (record { there = (found-there s.subs p x (e ∙ there)).1; sets = refl; subs = refl; units = refl }))
 
-  executes-walk : (cpu : ℕ) (i : Instruction) (id : SubchannelId) (q : Option Subchannel) (o : Outcome) → subchannel_named s.sets (word_of i) ≡ Some id →
-      sub_at s.subs (place_in id s.subs) ≡ q → Executes_at s cpu i (place_in id s.subs) q o → OkAll (event.Execute cpu i) o
-  executes-walk cpu (instruction.Ssch word address) id q o n e w =
-      starts-walk cpu word address id (place_in id s.subs) q (operand_at s.storage cpu address 12 4) o n refl e w
+  executes-walk : (cpu : ℕ) (i : Instruction) (id : SubchannelId) (q : Option Found) (o : Outcome) → subchannel_named s.sets (word_of i) ≡ Some id →
+      found_at s.subs (place_in id s.subs) ≡ q → Executes_at s cpu i q o → OkAll (event.Execute cpu i) o
+  executes-walk cpu (instruction.Ssch word address) id q o n e w = starts-walk cpu word address id q (operand_at s.storage cpu address 12 4) o n e w
   executes-walk cpu (instruction.Tsch word address) id q o n e w =
       subst (OkAll (event.Execute cpu (instruction.Tsch word address))) (sym w)
       (tests-walk cpu word address (place_in id s.subs) q (operand_check s.storage cpu address 64 4) e)
   executes-walk cpu (instruction.Stsch word address) id q o n e w =
-      subst (OkAll (event.Execute cpu (instruction.Stsch word address))) (sym w)
-      (stores-walk cpu word address (place_in id s.subs) q (operand_check s.storage cpu address 52 4))
+      subst (OkAll (event.Execute cpu (instruction.Stsch word address))) (sym w) (stores-walk cpu word address q (operand_check s.storage cpu address 52 4))
   executes-walk cpu (instruction.Msch word address) id q o n e w = modifies-walk cpu word address (place_in id s.subs) q (operand_at s.storage cpu address 52 4) o e w
   executes-walk cpu (instruction.Enable word subclass multipath) id q o n e w =
       enables-walk (event.Execute cpu (instruction.Enable word subclass multipath)) cpu (place_in id s.subs) q subclass multipath
       (operand_at s.storage cpu 0xF00 52 4) o (λ r. tt) e w
   executes-walk cpu (instruction.Rsch word) id q o n e w =
-      subst (OkAll (event.Execute cpu (instruction.Rsch word))) (sym w)
-      (function-walks (event.Execute cpu (instruction.Rsch word)) (place_in id s.subs) q resume_sub (λ r. tt) e
-      (λ place sub there. walked.Performed _ _ place sub Resumes (rsch_code (condition_of sub.state)) _ tt (record { there = there; sets = refl; subs = refl; units = refl })))
+      subst (OkAll (event.Execute cpu (instruction.Rsch word))) (sym w) (performs-walk (event.Execute cpu (instruction.Rsch word)) (place_in id s.subs) q rsch_code Resumes (λ r. tt) e)
   executes-walk cpu (instruction.Hsch word) id q o n e w =
-      subst (OkAll (event.Execute cpu (instruction.Hsch word))) (sym w)
-      (function-walks (event.Execute cpu (instruction.Hsch word)) (place_in id s.subs) q halt_sub (λ r. tt) e
-      (λ place sub there. walked.Performed _ _ place sub Halts (hsch_code (condition_of sub.state)) _ tt (record { there = there; sets = refl; subs = refl; units = refl })))
+      subst (OkAll (event.Execute cpu (instruction.Hsch word))) (sym w) (performs-walk (event.Execute cpu (instruction.Hsch word)) (place_in id s.subs) q hsch_code Halts (λ r. tt) e)
   executes-walk cpu (instruction.Csch word) id q o n e w =
-      subst (OkAll (event.Execute cpu (instruction.Csch word))) (sym w)
-      (function-walks (event.Execute cpu (instruction.Csch word)) (place_in id s.subs) q clear_sub (λ r. tt) e
-      (λ place sub there. walked.Performed _ _ place sub Clears (csch_code (condition_of sub.state)) _ tt (record { there = there; sets = refl; subs = refl; units = refl })))
+      subst (OkAll (event.Execute cpu (instruction.Csch word))) (sym w) (performs-walk (event.Execute cpu (instruction.Csch word)) (place_in id s.subs) q csch_code Clears (λ r. tt) e)
   executes-walk cpu (instruction.Xsch word) id q o n e w =
-      subst (OkAll (event.Execute cpu (instruction.Xsch word))) (sym w)
-      (function-walks (event.Execute cpu (instruction.Xsch word)) (place_in id s.subs) q cancel_sub (λ r. tt) e
-      (λ place sub there. walked.Performed _ _ place sub Cancels (xsch_code (condition_of sub.state)) _ tt (record { there = there; sets = refl; subs = refl; units = refl })))
+      subst (OkAll (event.Execute cpu (instruction.Xsch word))) (sym w) (performs-walk (event.Execute cpu (instruction.Xsch word)) (place_in id s.subs) q xsch_code Cancels (λ r. tt) e)
 
   executes_on-walk : (cpu : ℕ) (i : Instruction) (x : Option SubchannelId) (o : Outcome) → subchannel_named s.sets (word_of i) ≡ x → Executes_on s cpu i x o →
       OkAll (event.Execute cpu i) o
   executes_on-walk cpu i None o n w = subst (OkAll (event.Execute cpu i)) (sym w) tt
-  executes_on-walk cpu i (Some id) o n w = executes-walk cpu i id (sub_at s.subs (place_in id s.subs)) o n refl w
+  executes_on-walk cpu i (Some id) o n w = executes-walk cpu i id (found_at s.subs (place_in id s.subs)) o n refl w
 
-  chooses-walk : (word : ℕ) (p : Option ℕ) (q : Option Subchannel) (o : Outcome) → place_of s word ≡ p → sub_at s.subs p ≡ q → Chooses s p q o → OkAll (event.Choose word) o
-  chooses-walk word None q o n e w = subst (OkAll (event.Choose word)) (sym w) tt
-  chooses-walk word (Some place) None o n e w = subst (OkAll (event.Choose word)) (sym w) tt
-  chooses-walk word (Some place) (Some sub) o n e w =
+  chooses-walk : (word : ℕ) (q : Option Found) (o : Outcome) → found_of s word ≡ q → Chooses s q o → OkAll (event.Choose word) o
+  chooses-walk word None o e w = subst (OkAll (event.Choose word)) (sym w) tt
+  chooses-walk word (Some f) o e w =
+      let there : (place_of s word ≡ Some f.place) × (slice_get s.subs f.place ≡ Some f.sub) = found-there s.subs (place_of s word) f e in
       subst (OkAll (event.Choose word)) (sym w.2)
-      (at_sub-walks (event.Choose word) place (choose_sub sub (chosen sub w.0)) (λ t h. walked.Chosen word place sub w.0 t _ n w.1 (chosen-suits sub w.0) h (record { there = e; sets = refl; subs = refl; units = refl })))
+      (at_sub-walks (event.Choose word) f.place (choose_sub f.sub (chosen f.sub w.0))
+      (λ t h. walked.Chosen word f.place f.sub w.0 t _ there.0 w.1 (chosen-suits f.sub w.0) h (record { there = there.1; sets = refl; subs = refl; units = refl })))
 
-  ups-walk : (word : ℕ) (p : Option ℕ) (q : Option Subchannel) (path : ℕ) → place_of s word ≡ p → sub_at s.subs p ≡ q → OkAll (event.Up word path) (up_at s p q path)
-  ups-walk word None q path n e = tt
-  ups-walk word (Some place) None path n e = tt
-  ups-walk word (Some place) (Some sub) path n e =
-      at_storage-walks (event.Up word path) place (up_sub false s.storage sub path) (λ t h. walked.Met word path false place sub t _ n h (record { there = e; sets = refl; subs = refl; units = refl }))
+  ups-walk : (word : ℕ) (q : Option Found) (path : ℕ) → found_of s word ≡ q → OkAll (event.Up word path) (up_at s q path)
+  ups-walk word None path e = tt
+  ups-walk word (Some f) path e =
+      let there : (place_of s word ≡ Some f.place) × (slice_get s.subs f.place ≡ Some f.sub) = found-there s.subs (place_of s word) f e in
+      at_storage-walks (event.Up word path) f.place (up_sub false s.storage f.sub path)
+      (λ t h. walked.Met word path false f.place f.sub t _ there.0 h (record { there = there.1; sets = refl; subs = refl; units = refl }))
 
-  down_unit-walks : (word place : ℕ) (sub : Subchannel) (path : ℕ) (v : Option UnitState) → place_of s word ≡ Some place → slice_get s.subs place ≡ Some sub →
-      slice_get s.units sub.setup.«unit» ≡ v → OkAll (event.Down word path) (down_unit s place sub path v)
-  down_unit-walks word place sub path None n e f = tt
-  down_unit-walks word place sub path (Some u) n e f =
-      at_unit-walks (event.Down word path) place sub.setup.«unit» (down_sub true sub path u) (λ t h. walked.Sunk word path true place sub u t _ n h (record { there = e; found = f; sets = refl; subs = refl; units = refl }))
+  down_unit-walks : (word : ℕ) (f : Found) (path : ℕ) (v : Option UnitState) → place_of s word ≡ Some f.place → slice_get s.subs f.place ≡ Some f.sub →
+      slice_get s.units f.sub.setup.«unit» ≡ v → OkAll (event.Down word path) (down_unit s f path v)
+  down_unit-walks word f path None n e h = tt
+  down_unit-walks word f path (Some u) n e h =
+      at_unit-walks (event.Down word path) f.place f.sub.setup.«unit» (down_sub true f.sub path u)
+      (λ t g. walked.Sunk word path true f.place f.sub u t _ n g (record { there = e; found = h; sets = refl; subs = refl; units = refl }))
 
-  downs-walk : (word : ℕ) (p : Option ℕ) (q : Option Subchannel) (path : ℕ) → place_of s word ≡ p → sub_at s.subs p ≡ q → OkAll (event.Down word path) (down_at s p q path)
-  downs-walk word None q path n e = tt
-  downs-walk word (Some place) None path n e = tt
-  downs-walk word (Some place) (Some sub) path n e = down_unit-walks word place sub path (slice_get s.units sub.setup.«unit») n e refl
+  downs-walk : (word : ℕ) (q : Option Found) (path : ℕ) → found_of s word ≡ q → OkAll (event.Down word path) (down_at s q path)
+  downs-walk word None path e = tt
+  downs-walk word (Some f) path e =
+      let there : (place_of s word ≡ Some f.place) × (slice_get s.subs f.place ≡ Some f.sub) = found-there s.subs (place_of s word) f e in
+      down_unit-walks word f path (slice_get s.units f.sub.setup.«unit») there.0 there.1 refl
 
-  report_to-walks : (place : ℕ) (u : UnitState) (report : Report) (p : Option ℕ) (q : Option Subchannel) → slice_get s.units place ≡ Some u →
-      reached_in place report.side s.subs ≡ p → sub_at s.subs p ≡ q → OkAll (event.Report place report) (report_to s place u report p q)
-  report_to-walks place u report None q f r e = tt
-  report_to-walks place u report (Some at) None f r e = tt
-  report_to-walks place u report (Some at) (Some sub) f r e =
-      at_unit-walks (event.Report place report) at place (report_sub sub u report)
-      (λ t h. walked.Reported place at sub u report t _ r (first-passes (reaches place report.side) s.subs at sub r e) h (record { there = e; found = f; sets = refl; subs = refl; units = refl }))
+  report_to-walks : (place : ℕ) (u : UnitState) (report : Report) (q : Option Found) → slice_get s.units place ≡ Some u →
+      found_at s.subs (reached_in place report.side s.subs) ≡ q → OkAll (event.Report place report) (report_to s place u report q)
+  report_to-walks place u report None h e = tt
+  report_to-walks place u report (Some f) h e =
+      let there : (reached_in place report.side s.subs ≡ Some f.place) × (slice_get s.subs f.place ≡ Some f.sub) = found-there s.subs (reached_in place report.side s.subs) f e in
+      at_unit-walks (event.Report place report) f.place place (report_sub f.sub u report)
+      (λ t g. walked.Reported place f.place f.sub u report t _ there.0 (first-passes (reaches place report.side) s.subs f.place f.sub there.0 there.1) g
+      (record { there = there.1; found = h; sets = refl; subs = refl; units = refl }))
 
   reports-walk : (place : ℕ) (v : Option UnitState) (report : Report) → slice_get s.units place ≡ v → OkAll (event.Report place report) (report_at s place v report)
-  reports-walk place None report f = tt
-  reports-walk place (Some u) report f =
-      report_to-walks place u report (reached_in place report.side s.subs) (sub_at s.subs (reached_in place report.side s.subs)) f refl refl
+  reports-walk place None report h = tt
+  reports-walk place (Some u) report h = report_to-walks place u report (found_at s.subs (reached_in place report.side s.subs)) h refl
 
   storage-walks : (v : Event) (r : Result Contents StorageFault) → ((r : Reply) → IsQuiet v r) → OkAll v (storage_turn s r)
   storage-walks v (Ok storage) n = walked.Stays _ _ _ (n _) refl refl refl
@@ -241,10 +264,10 @@ module _ (s : State) where
       subst (OkAll (event.SetPrefix cpu address)) (sym w) (storage-walks (event.SetPrefix cpu address) (prefix_set s.storage cpu address) (λ r. tt))
   steps-walk (event.Show address count) o w = subst (OkAll (event.Show address count)) (sym w) (show-walks address count (shown s.storage address count))
   steps-walk (event.Execute cpu i) o w = executes_on-walk cpu i _ o refl w
-  steps-walk (event.Choose word) o w = chooses-walk word (place_of s word) (sub_at s.subs (place_of s word)) o refl refl w
-  steps-walk (event.Up word path) o w = subst (OkAll (event.Up word path)) (sym w) (ups-walk word (place_of s word) (sub_at s.subs (place_of s word)) path refl refl)
+  steps-walk (event.Choose word) o w = chooses-walk word (found_of s word) o refl w
+  steps-walk (event.Up word path) o w = subst (OkAll (event.Up word path)) (sym w) (ups-walk word (found_of s word) path refl)
   steps-walk (event.Down word path) o w =
-      subst (OkAll (event.Down word path)) (sym w) (downs-walk word (place_of s word) (sub_at s.subs (place_of s word)) path refl refl)
+      subst (OkAll (event.Down word path)) (sym w) (downs-walk word (found_of s word) path refl)
   steps-walk (event.Report place report) o w = subst (OkAll (event.Report place report)) (sym w) (reports-walk place (slice_get s.units place) report refl)
 
   pub step-walks : (e : Event) (r : Reply) (new : State) → Step s e r new → Walked s e r new

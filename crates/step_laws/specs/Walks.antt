@@ -20,10 +20,15 @@ use Rattle.subchannel_model.specs.declared.state.Subchannel.{Subchannel}
 use Rattle.subchannel_model.specs.declared.state.SubchannelState.{SubchannelState}
 use Rattle.machine_model.specs.State.{State, place_of}
 use Rattle.subchannel_model.specs.Places.{reaches, reached_in}
-use Rattle.subchannel_model.specs.Functions.{resumed, halted, cleared, cancelled}
+use Rattle.subchannel_model.specs.Resume.{resumed}
+use Rattle.subchannel_model.specs.Halt.{halted}
+use Rattle.subchannel_model.specs.Clear.{cleared}
+use Rattle.subchannel_model.specs.Cancel.{cancelled}
 use Rattle.subchannel_model.specs.Choosing.{IsFitFor, chosen, paths_to_choose}
 use Rattle.machine_model.specs.Turns.{SubTurn, UpTurn, DownTurn}
-use Rattle.machine_model.specs.InstructionSteps.{start_with, test_with, modify_with, function_sub}
+use Rattle.subchannel_model.specs.Start.{started}
+use Rattle.subchannel_model.specs.Modify.{modified_state}
+use Rattle.machine_model.specs.InstructionSteps.{test_with, function_sub}
 use Rattle.machine_model.specs.ChooseSteps.{choose_sub}
 use Rattle.machine_model.specs.UpSteps.{up_sub}
 use Rattle.machine_model.specs.DownSteps.{down_sub}
@@ -88,11 +93,11 @@ pub record Suits (c : choosing.Chosen) (s : SubchannelState) : Type 0 where
 pub data Walked (s : State) : Event → Reply → State → Type 0 where
   Stays : (e : Event) (r : Reply) (new : State) → IsQuiet e r → new.sets ≡ s.sets → new.subs ≡ s.subs → new.units ≡ s.units → Walked s e r new
   Started : (cpu word address place : ℕ) (sub : Subchannel) (orb : Orb) (c : ConditionCode) (new : State) → place_of s word ≡ Some place →
-      OneSub s new place sub (start_with sub orb c).sub → Walked s (event.Execute cpu (instruction.Ssch word address)) (start_with sub orb c).reply new
+      OneSub s new place sub (function_sub sub c (started sub.state orb)).sub → Walked s (event.Execute cpu (instruction.Ssch word address)) (function_sub sub c (started sub.state orb)).reply new
   Tested : (e : Event) (r : Reply) (place : ℕ) (sub : Subchannel) (c : ConditionCode) (new : State) → IsQuiet e r →
       OneSub s new place sub (test_with sub c).sub → Walked s e r new
   Modified : (e : Event) (r : Reply) (place : ℕ) (sub : Subchannel) (given : block.Pmcw) (c : ConditionCode) (new : State) → IsQuiet e r →
-      OneSub s new place sub (modify_with sub given c).sub → Walked s e r new
+      OneSub s new place sub (function_sub sub c (modified_state sub given)).sub → Walked s e r new
   Performed : (e : Event) (r : Reply) (place : ℕ) (sub : Subchannel) (f : Function) (c : ConditionCode) (new : State) → IsQuiet e r →
       OneSub s new place sub (function_sub sub c (effect_of f sub.state)).sub → Walked s e r new
   Chosen : (word place : ℕ) (sub : Subchannel) (choice : Option ℕ) (t : SubTurn) (new : State) → place_of s word ≡ Some place →

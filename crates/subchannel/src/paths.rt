@@ -4,7 +4,7 @@ ghost use Rattle.std.specs.Prelude.{◌≡◌, ◌<◌, ◌&&◌, nat_lt, length
 ghost use Rattle.allegiance.specs.Allegiances.{may_reconnect as may_reconnect_by};
 ghost use Rattle.allegiance.specs.PathUse as set_spec;
 ghost use Rattle.subchannel_model.specs.Choosing as spec;
-ghost use Rattle.subchannel_model.specs.SubchannelBlocks as block_spec;
+ghost use Rattle.subchannel_model.specs.Store as block_spec;
 
 use allegiance::allegiances::may_reconnect;
 use allegiance::path_use::PathUse;

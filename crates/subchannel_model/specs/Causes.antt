@@ -17,7 +17,7 @@ use Rattle.subchannel_model.specs.declared.state.Program.{Program}
 use Rattle.subchannel_model.specs.declared.state.Begun.{Begun}
 use Rattle.subchannel_model.specs.declared.state.Standing.{Standing}
 use Rattle.subchannel_model.specs.declared.state.SubchannelState.{SubchannelState}
-use Rattle.subchannel_model.specs.Functions.{without_programs}
+use Rattle.subchannel_model.specs.Programs.{without_programs}
 use Rattle.subchannel_model.specs.Statuses.{with_status, channel_end_shown, fetch_fault_shown, no_path_shown, last_shown, has_shown}
 
 -- status is pending, and nothing else is shown

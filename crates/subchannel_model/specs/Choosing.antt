@@ -17,7 +17,7 @@ use Rattle.subchannel_model.specs.declared.state.Program.{Program}
 use Rattle.subchannel_model.specs.declared.state.Standing.{Standing}
 use Rattle.subchannel_model.specs.declared.state.SubchannelState.{SubchannelState}
 use Rattle.subchannel_model.specs.declared.state.Subchannel.{Subchannel}
-use Rattle.subchannel_model.specs.SubchannelBlocks.{installed_paths}
+use Rattle.subchannel_model.specs.Store.{installed_paths}
 
 -- the engine of a channel path serves one subchannel: the one whose hold is offered, connected or letting go there
 abbrev pub is_chpid : Option ℕ → ℕ → Bool

@@ -38,3 +38,17 @@ reached_in place side subs = first_place (reaches place side) subs
 
 abbrev pub reached_sub : ℕ → Side → List Subchannel → Option Subchannel
 reached_sub place side subs = sub_at subs (reached_in place side subs)
+
+-- a subchannel, and its place among all
+pub record Found : Type 0 where
+  pub place : ℕ
+  pub sub : Subchannel
+
+abbrev pub found_with : ℕ → Option Subchannel → Option Found
+found_with place None = None
+found_with place (Some sub) = Some (record { place = place; sub = sub })
+
+-- the subchannel of a place, where there is one
+abbrev pub found_at : List Subchannel → Option ℕ → Option Found
+found_at subs None = None
+found_at subs (Some place) = found_with place (slice_get subs place)

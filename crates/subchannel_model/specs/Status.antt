@@ -1,5 +1,4 @@
--- Status: what makes it pending, and what TEST SUBCHANNEL leaves of it (SA22-7832, chapter 16; the bits that each cause
--- shows are this project's own choice).
+-- Status: how it joins what is pending, and how it is counted (SA22-7832, chapter 16).
 use Rattle.std.specs.Prelude.{◌+◌, Bool, true, false, not, ◌&&◌, ◌||◌, nat_lt, if◌then◌else◌, unwrap_or, bit_or}
 use Rattle.scsw_irb.specs.Empty.{no_functions, no_activity, no_status}
 use Rattle.scsw_irb.specs.declared.scsw.DeferredCode.TheVariants as deferred
@@ -68,42 +67,9 @@ shows_primary functions shown_before = functions.start && (not functions.clear &
 abbrev pub conditions : Bool → Bool → Bool → StatusControl
 conditions alert primary secondary = record no_status { alert = alert; primary = primary; secondary = secondary }
 
--- TEST SUBCHANNEL of pending status: intermediate status alone leaves the functions
+-- intermediate status alone
 abbrev pub intermediate_alone : StatusControl → Bool
 intermediate_alone s = s.intermediate && (not s.alert && (not s.primary && not s.secondary))
 
-abbrev pub active_alone : ActivityControl → ActivityControl
-active_alone a = record no_activity { subchannel_active = a.subchannel_active; device_active = a.device_active }
-
--- the whole is cleared but what is active
-abbrev pub ended_scsw : Scsw → Scsw
-ended_scsw scsw = record scsw {
-  functions = no_functions;
-  activity = active_alone scsw.activity;
-  status = no_status;
-  path_not_operational = false;
-  deferred = deferred.Zero;
-}
-
--- intermediate status alone: of a suspended program resume pending, N and the deferred code go too
-abbrev pub suspended_scsw : Scsw → Scsw
-suspended_scsw scsw = record scsw {
-  activity = record scsw.activity { resume_pending = false };
-  status = no_status;
-  path_not_operational = false;
-  deferred = deferred.Zero;
-}
-
 abbrev pub without_status : Scsw → Scsw
 without_status scsw = record scsw { status = no_status }
-
-abbrev pub intermediate_cleared : Scsw → Scsw
-intermediate_cleared scsw =
-    if not scsw.activity.suspended then without_status scsw
-    else (if scsw.functions.halt then ended_scsw scsw else suspended_scsw scsw)
-
--- the status word that TEST SUBCHANNEL leaves
-abbrev pub tested_scsw : Scsw → Scsw
-tested_scsw scsw =
-    if not scsw.status.pending then scsw
-    else (if intermediate_alone scsw.status then intermediate_cleared scsw else ended_scsw scsw)

@@ -14,8 +14,8 @@ use Rattle.chan_model.specs.declared.report.Report.{Report}
 use Rattle.chan_model.specs.declared.unit_state.UnitState.{UnitState}
 use Rattle.path_select.specs.Choice.{Rule, IsChoice}
 use Rattle.subchannel_model.specs.declared.state.Subchannel.{Subchannel}
-use Rattle.machine_model.specs.State.{State, place_of, with_sub, with_unit}
-use Rattle.subchannel_model.specs.Places.{place_in, sub_at, reached_in}
+use Rattle.machine_model.specs.State.{State, place_of, found_of, with_sub, with_unit}
+use Rattle.subchannel_model.specs.Places.{Found, found_with, found_at, place_in, reached_in}
 use Rattle.subchannel_model.specs.Choosing.{chosen, paths_to_choose}
 use Rattle.machine_model.specs.Ruled.{RulesAt, GoesByRule, outcome_of}
 use Rattle.machine_model.specs.Turns.{Outcome, SubTurn, UpTurn, DownTurn, does, at_sub, at_storage, at_unit}
@@ -39,10 +39,10 @@ pub set_back : {A : Type 0} (xs : List A) (i : ℕ) (x y d : A) → x ≡ slice_
 set_back xs i x y d e f = ap (slice_set xs i) (f ∙ e) ∙ set-get_or xs i d
 
 -- a fact of the subchannel at a place is one of the subchannel that a word names
-pub named : (s : State) (word place : ℕ) (sub : Subchannel) (T : Option ℕ → Option Subchannel → Type 0) →
-    place_of s word ≡ Some place → slice_get s.subs place ≡ Some sub → T (Some place) (Some sub) → T (place_of s word) (sub_at s.subs (place_of s word))
+pub named : (s : State) (word place : ℕ) (sub : Subchannel) (T : Option Found → Type 0) →
+    place_of s word ≡ Some place → slice_get s.subs place ≡ Some sub → T (Some (record { place = place; sub = sub })) → T (found_of s word)
 named s word place sub T at there t =
-    subst (λ (p : Option ℕ). T p (sub_at s.subs p)) (sym at) (subst (λ (q : Option Subchannel). T (Some place) q) (sym there) t)
+    subst (λ (p : Option ℕ). T (found_at s.subs p)) (sym at) (subst (λ (q : Option Subchannel). T (found_with place q)) (sym there) t)
 
 performed : (s : State) (e : Event) (outcome : Outcome) (r : Result Reply Fault) (new : State) →
     ((o : Outcome) → o ≡ outcome → Steps s e o) → Gives s outcome r new → Performs s e r new
@@ -81,7 +81,7 @@ pub up-performs : (s : State) (word path place : ℕ) (sub new d : Subchannel) (
 up-performs s word path place sub new d after r at within there g =
     let outcome = up_sub false s.storage sub path in
     let steps : (o : Outcome) → o ≡ at_storage s place outcome → Steps s (event.Up word path) o =
-    λ o e. named s word place sub (λ (p : Option ℕ) (q : Option Subchannel). o ≡ up_at s p q path) at (at_place s.subs place sub d within there) e in
+    λ o e. named s word place sub (λ (f : Option Found). o ≡ up_at s f path) at (at_place s.subs place sub d within there) e in
     performed s (event.Up word path) (at_storage s place outcome) r (with_sub (record s { storage = after }) place new) steps
     (lifted_storage s place sub new d after outcome r there g)
 
@@ -91,7 +91,7 @@ pub choose-performs : (s : State) (word place : ℕ) (sub new d : Subchannel) (c
 choose-performs s word place sub new d choice r at within there chose g =
     let outcome = choose_sub sub (chosen sub choice) in
     let steps : (o : Outcome) → o ≡ at_sub s place outcome → Steps s (event.Choose word) o =
-    λ o e. named s word place sub (λ (p : Option ℕ) (q : Option Subchannel). Chooses s p q o) at (at_place s.subs place sub d within there) (choice, chose, e) in
+    λ o e. named s word place sub (λ (f : Option Found). Chooses s f o) at (at_place s.subs place sub d within there) (choice, chose, e) in
     performed s (event.Choose word) (at_sub s place outcome) r (with_sub s place new) steps (lifted s place sub new d outcome r there g)
 
 outcome-given : (s : State) (outcome : Outcome) (r : Result Reply Fault) (new : State) → Gives s outcome r new → outcome_of r new ≡ outcome
@@ -105,7 +105,7 @@ pub choose-ruled : (picks : Rule) (s : State) (word place : ℕ) (sub new d : Su
 choose-ruled picks s word place sub new d choice r at within there chose picked g =
     let outcome = choose_sub sub (chosen sub choice) in
     let after = with_sub s place new in
-    named s word place sub (λ (p : Option ℕ) (q : Option Subchannel). RulesAt picks s p q (outcome_of r after)) at (at_place s.subs place sub d within there)
+    named s word place sub (λ (f : Option Found). RulesAt picks s f (outcome_of r after)) at (at_place s.subs place sub d within there)
     (record { choice = choice; member = chose; picked = picked; gives = outcome-given s (at_sub s place outcome) r after (lifted s place sub new d outcome r there g) })
 
 down-performs : (s : State) (word path place : ℕ) (sub new d : Subchannel) (u v w : UnitState) (r : Result Reply Fault) → place_of s word ≡ Some place →
@@ -115,8 +115,8 @@ down-performs s word path place sub new d u v w r at within there inside here g 
     let k = sub.setup.«unit» in
     let outcome = down_sub true sub path u in
     let steps : (o : Outcome) → o ≡ at_unit s place k outcome → Steps s (event.Down word path) o =
-    λ o e. named s word place sub (λ (p : Option ℕ) (q : Option Subchannel). o ≡ down_at s p q path) at (at_place s.subs place sub d within there)
-    (subst (λ (x : Option UnitState). o ≡ down_unit s place sub path x) (sym (at_place s.units k u w inside here)) e) in
+    λ o e. named s word place sub (λ (f : Option Found). o ≡ down_at s f path) at (at_place s.subs place sub d within there)
+    (subst (λ (x : Option UnitState). o ≡ down_unit s (record { place = place; sub = sub }) path x) (sym (at_place s.units k u w inside here)) e) in
     performed s (event.Down word path) (at_unit s place k outcome) r (with_unit (with_sub s place new) k v) steps
     (lifted_both s place k sub new d u v w outcome r there here g)
 
@@ -128,8 +128,8 @@ report-performs s k place report sub new d u v w r at within there inside here g
     let outcome = report_sub sub u report in
     let steps : (o : Outcome) → o ≡ at_unit s place k outcome → Steps s (event.Report k report) o =
     λ o e. subst (λ (x : Option UnitState). o ≡ report_at s k x report) (sym (at_place s.units k u w inside here))
-    (subst (λ (p : Option ℕ). o ≡ report_to s k u report p (sub_at s.subs p)) (sym at)
-    (subst (λ (q : Option Subchannel). o ≡ report_to s k u report (Some place) q) (sym (at_place s.subs place sub d within there)) e)) in
+    (subst (λ (p : Option ℕ). o ≡ report_to s k u report (found_at s.subs p)) (sym at)
+    (subst (λ (q : Option Subchannel). o ≡ report_to s k u report (found_with place q)) (sym (at_place s.subs place sub d within there)) e)) in
     performed s (event.Report k report) (at_unit s place k outcome) r (with_unit (with_sub s place new) k v) steps
     (lifted_both s place k sub new d u v w outcome r there here g)
 
@@ -149,7 +149,7 @@ down-performs-at s word path place k sub new d u v w r same at within there insi
     (λ inside' here'. down-performs s word path place sub new d u v w r at within there inside' here' g) inside here
 
 executed : (s : State) (cpu place : ℕ) (i : Instruction) (sub new d : Subchannel) (after : Contents) (r : Result Reply Fault) →
-    slice_get s.subs place ≡ Some sub → sub ≡ slice_index_or s.subs place d → ((o : Outcome) → Executes_at s cpu i (Some place) (Some sub) o → Steps s (event.Execute cpu i) o) →
+    slice_get s.subs place ≡ Some sub → sub ≡ slice_index_or s.subs place d → ((o : Outcome) → Executes_at s cpu i (Some (record { place = place; sub = sub })) o → Steps s (event.Execute cpu i) o) →
     Executed s.storage sub cpu i r after new → Performs s (event.Execute cpu i) r (with_sub (record s { storage = after }) place new)
 executed s cpu place i sub new d after (Ok reply) at there lift g = lift (does reply (with_sub (record s { storage = after }) place new)) (g s place at)
 executed s cpu place i sub new d after (Err f) at there lift g = (
@@ -159,7 +159,7 @@ executed s cpu place i sub new d after (Err f) at there lift g = (
 )
 
 executed-absent : (s : State) (cpu : ℕ) (i : Instruction) (after : Contents) (r : Result Reply Fault) →
-    ((o : Outcome) → Executes_at s cpu i None None o → Steps s (event.Execute cpu i) o) → Executed_absent s.storage cpu i r after →
+    ((o : Outcome) → Executes_at s cpu i None o → Steps s (event.Execute cpu i) o) → Executed_absent s.storage cpu i r after →
     Performs s (event.Execute cpu i) r (record s { storage = after })
 executed-absent s cpu i after (Ok reply) lift g = lift (does reply (record s { storage = after })) (g s)
 executed-absent s cpu i after (Err f) lift g = (lift (Err f) (g.0 s), ap (λ (storage : Contents). record s { storage = storage }) g.1)
@@ -170,17 +170,17 @@ pub executes : (s : State) (cpu place : ℕ) (i : Instruction) (id : SubchannelI
     Executed s.storage sub cpu i r after new → Performs s (event.Execute cpu i) r (with_sub (record s { storage = after }) place new)
 executes s cpu place i id sub new d after r named placed within there g =
     let at : slice_get s.subs place ≡ Some sub = at_place s.subs place sub d within there in
-    let lift : (o : Outcome) → Executes_at s cpu i (Some place) (Some sub) o → Steps s (event.Execute cpu i) o =
+    let lift : (o : Outcome) → Executes_at s cpu i (Some (record { place = place; sub = sub })) o → Steps s (event.Execute cpu i) o =
     λ o e. subst (λ (x : Option SubchannelId). Executes_on s cpu i x o) (sym named)
-    (subst (λ (p : Option ℕ). Executes_at s cpu i p (sub_at s.subs p) o) (sym placed)
-    (subst (λ (q : Option Subchannel). Executes_at s cpu i (Some place) q o) (sym at) e)) in
+    (subst (λ (p : Option ℕ). Executes_at s cpu i (found_at s.subs p) o) (sym placed)
+    (subst (λ (q : Option Subchannel). Executes_at s cpu i (found_with place q) o) (sym at) e)) in
     executed s cpu place i sub new d after r at there lift g
 
 pub executes-absent : (s : State) (cpu : ℕ) (i : Instruction) (id : SubchannelId) (after : Contents) (r : Result Reply Fault) →
     subchannel_named s.sets (word_of i) ≡ Some id → place_in id s.subs ≡ None → Executed_absent s.storage cpu i r after →
     Performs s (event.Execute cpu i) r (record s { storage = after })
 executes-absent s cpu i id after r named placed g =
-    let lift : (o : Outcome) → Executes_at s cpu i None None o → Steps s (event.Execute cpu i) o =
+    let lift : (o : Outcome) → Executes_at s cpu i None o → Steps s (event.Execute cpu i) o =
     λ o e. subst (λ (x : Option SubchannelId). Executes_on s cpu i x o) (sym named)
-    (subst (λ (p : Option ℕ). Executes_at s cpu i p (sub_at s.subs p) o) (sym placed) e) in
+    (subst (λ (p : Option ℕ). Executes_at s cpu i (found_at s.subs p) o) (sym placed) e) in
     executed-absent s cpu i after r lift g

@@ -28,8 +28,14 @@ use Rattle.subchannel_model.specs.declared.state.Chosen.{Chosen}
 use Rattle.subchannel_model.specs.declared.state.Chosen.TheVariants.{Idle, Resets, Clears, Halts, Ends, Over, Offers}
 use Rattle.subchannel_model.specs.declared.state.Subchannel.{Subchannel}
 use Rattle.subchannel_model.specs.declared.state.SubchannelState.{SubchannelState}
-use Rattle.machine_model.specs.State.{State, place_of}
-use Rattle.subchannel_model.specs.Places.{place_in, sub_at, reached_in}
+use Rattle.machine_model.specs.State.{State, found_of}
+use Rattle.subchannel_model.specs.declared.status.Condition.{Condition}
+use Rattle.chan_model.specs.declared.answer.ConditionCode.{ConditionCode}
+use Rattle.subchannel_model.specs.Resume.{rsch_code, resumed}
+use Rattle.subchannel_model.specs.Halt.{hsch_code, halted}
+use Rattle.subchannel_model.specs.Clear.{csch_code, cleared}
+use Rattle.subchannel_model.specs.Cancel.{xsch_code, cancelled}
+use Rattle.subchannel_model.specs.Places.{Found, found_at, place_in, reached_in}
 use Rattle.subchannel_model.specs.Choosing.{chosen, reset_sent, halt_sent, offered}
 use Rattle.machine_model.specs.StorageSteps as storage_spec
 use Rattle.machine_model.specs.InstructionSteps as instruction_steps
@@ -69,83 +75,77 @@ told s (Ok bytes) = tt
 told s (Err f) = tt
 
 -- instructions
-started_at : (s : State) (place : Option ℕ) (sub : Option Subchannel) (orb : Orb) → Sound (instruction_steps.start_at s place sub orb)
-started_at s None sub orb = tt
-started_at s (Some place) None orb = tt
-started_at s (Some place) (Some sub) orb = tt
+function_at : (s : State) (found : Option Found) (code : Condition → ConditionCode) (effect : Subchannel → SubchannelState) → Sound (instruction_steps.function_at s found code effect)
+function_at s None code effect = tt
+function_at s (Some f) code effect = tt
 
-starts : (s : State) (place : Option ℕ) (sub : Option Subchannel) (image : Result (List ℕ) StorageFault) (r : Outcome) → instruction_steps.Starts s place sub image r → Sound r
-starts s place sub (Err f) r e = is r (Err (Storage f)) tt e
-starts s place sub (Ok image) r e = elim e [
+started_at : (s : State) (found : Option Found) (orb : Orb) → Sound (instruction_steps.start_at s found orb)
+started_at s None orb = tt
+started_at s (Some f) orb = tt
+
+starts : (s : State) (found : Option Found) (image : Result (List ℕ) StorageFault) (r : Outcome) → instruction_steps.Starts s found image r → Sound r
+starts s found (Err f) r e = is r (Err (Storage f)) tt e
+starts s found (Ok image) r e = elim e [
   | inl x ↦ is r (Err Operand) tt x.1
-  | inr x ↦ is r (instruction_steps.start_at s place sub x.0) (started_at s place sub x.0) x.2
+  | inr x ↦ is r (instruction_steps.start_at s found x.0) (started_at s found x.0) x.2
 ]
 
-tested_at : (s : State) (cpu address : ℕ) (place : Option ℕ) (sub : Option Subchannel) → Sound (instruction_steps.test_at s cpu address place sub)
-tested_at s cpu address None sub = tt
-tested_at s cpu address (Some place) None = tt
-tested_at s cpu address (Some place) (Some sub) = tt
+tested_at : (s : State) (cpu address : ℕ) (found : Option Found) → Sound (instruction_steps.test_at s cpu address found)
+tested_at s cpu address None = tt
+tested_at s cpu address (Some f) = tt
 
-tested : (s : State) (cpu address : ℕ) (place : Option ℕ) (sub : Option Subchannel) (x : Result (Unit {0}) StorageFault) → Sound (instruction_steps.tests s cpu address place sub x)
-tested s cpu address place sub (Err f) = tt
-tested s cpu address place sub (Ok u) = tested_at s cpu address place sub
+tested : (s : State) (cpu address : ℕ) (found : Option Found) (x : Result (Unit {0}) StorageFault) → Sound (instruction_steps.tests s cpu address found x)
+tested s cpu address found (Err f) = tt
+tested s cpu address found (Ok u) = tested_at s cpu address found
 
-stored_at : (s : State) (cpu address : ℕ) (place : Option ℕ) (sub : Option Subchannel) → Sound (instruction_steps.store_at s cpu address place sub)
-stored_at s cpu address None sub = tt
-stored_at s cpu address (Some place) None = tt
-stored_at s cpu address (Some place) (Some sub) = tt
+stored_at : (s : State) (cpu address : ℕ) (found : Option Found) → Sound (instruction_steps.store_at s cpu address found)
+stored_at s cpu address None = tt
+stored_at s cpu address (Some f) = tt
 
-stores : (s : State) (cpu address : ℕ) (place : Option ℕ) (sub : Option Subchannel) (x : Result (Unit {0}) StorageFault) → Sound (instruction_steps.stores s cpu address place sub x)
-stores s cpu address place sub (Err f) = tt
-stores s cpu address place sub (Ok u) = stored_at s cpu address place sub
+stores : (s : State) (cpu address : ℕ) (found : Option Found) (x : Result (Unit {0}) StorageFault) → Sound (instruction_steps.stores s cpu address found x)
+stores s cpu address found (Err f) = tt
+stores s cpu address found (Ok u) = stored_at s cpu address found
 
-modified_at : (s : State) (place : Option ℕ) (sub : Option Subchannel) (given : block.Pmcw) → Sound (instruction_steps.modify_at s place sub given)
-modified_at s None sub given = tt
-modified_at s (Some place) None given = tt
-modified_at s (Some place) (Some sub) given = tt
+modified_at : (s : State) (found : Option Found) (given : block.Pmcw) → Sound (instruction_steps.modify_at s found given)
+modified_at s None given = tt
+modified_at s (Some f) given = tt
 
-modifies_by : (s : State) (place : Option ℕ) (sub : Option Subchannel) (image : List ℕ) (r : Outcome) → instruction_steps.Modifies_by s place sub image r → Sound r
-modifies_by s place sub image r e = elim e.2 [
+modifies_by : (s : State) (found : Option Found) (image : List ℕ) (r : Outcome) → instruction_steps.Modifies_by s found image r → Sound r
+modifies_by s found image r e = elim e.2 [
   | inl x ↦ is r (Err Operand) tt x.1
-  | inr x ↦ is r (instruction_steps.modify_at s place sub e.0) (modified_at s place sub e.0) x.1
+  | inr x ↦ is r (instruction_steps.modify_at s found e.0) (modified_at s found e.0) x.1
 ]
 
-modifies : (s : State) (place : Option ℕ) (sub : Option Subchannel) (image : Result (List ℕ) StorageFault) (r : Outcome) → instruction_steps.Modifies s place sub image r → Sound r
-modifies s place sub (Err f) r e = is r (Err (Storage f)) tt e
-modifies s place sub (Ok image) r e = modifies_by s place sub image r e
+modifies : (s : State) (found : Option Found) (image : Result (List ℕ) StorageFault) (r : Outcome) → instruction_steps.Modifies s found image r → Sound r
+modifies s found (Err f) r e = is r (Err (Storage f)) tt e
+modifies s found (Ok image) r e = modifies_by s found image r e
 
-enables_with : (s : State) (cpu : ℕ) (place : Option ℕ) (sub : Option Subchannel) (subclass : ℕ) (multipath : Bool) (image : List ℕ) (r : Outcome) →
-    instruction_steps.Enables_with s cpu place sub subclass multipath image r → Sound r
-enables_with s cpu None sub subclass multipath image r e = modifies_by (instruction_steps.with_enabling s cpu image subclass multipath) None sub image r e
-enables_with s cpu (Some place) None subclass multipath image r e = modifies_by (instruction_steps.with_enabling s cpu image subclass multipath) (Some place) None image r e
-enables_with s cpu (Some place) (Some sub) subclass multipath image r e = is r (instruction_steps.enable_sub s cpu place sub subclass multipath) tt e
+enables_with : (s : State) (cpu : ℕ) (found : Option Found) (subclass : ℕ) (multipath : Bool) (image : List ℕ) (r : Outcome) →
+    instruction_steps.Enables_with s cpu found subclass multipath image r → Sound r
+enables_with s cpu None subclass multipath image r e = modifies_by (instruction_steps.with_enabling s cpu image subclass multipath) None image r e
+enables_with s cpu (Some f) subclass multipath image r e = is r (instruction_steps.enable_sub s cpu f subclass multipath) tt e
 
-enables : (s : State) (cpu : ℕ) (place : Option ℕ) (sub : Option Subchannel) (subclass : ℕ) (multipath : Bool) (image : Result (List ℕ) StorageFault) (r : Outcome) →
-    instruction_steps.Enables s cpu place sub subclass multipath image r → Sound r
-enables s cpu place sub subclass multipath (Err f) r e = is r (Err (Storage f)) tt e
-enables s cpu place sub subclass multipath (Ok image) r e = enables_with s cpu place sub subclass multipath image r e
+enables : (s : State) (cpu : ℕ) (found : Option Found) (subclass : ℕ) (multipath : Bool) (image : Result (List ℕ) StorageFault) (r : Outcome) →
+    instruction_steps.Enables s cpu found subclass multipath image r → Sound r
+enables s cpu found subclass multipath (Err f) r e = is r (Err (Storage f)) tt e
+enables s cpu found subclass multipath (Ok image) r e = enables_with s cpu found subclass multipath image r e
 
-function_at : (s : State) (place : Option ℕ) (sub : Option Subchannel) (turn : Subchannel → SubTurn) → Sound (instruction_steps.function_at s place sub turn)
-function_at s None sub turn = tt
-function_at s (Some place) None turn = tt
-function_at s (Some place) (Some sub) turn = tt
-
-executes_at : (s : State) (cpu : ℕ) (i : Instruction) (place : Option ℕ) (sub : Option Subchannel) (r : Outcome) → instruction_steps.Executes_at s cpu i place sub r → Sound r
-executes_at s cpu (instruction.Ssch word address) place sub r e = starts s place sub (operand_at s.storage cpu address 12 4) r e
-executes_at s cpu (instruction.Tsch word address) place sub r e =
-    is r (instruction_steps.tests s cpu address place sub (operand_check s.storage cpu address 64 4)) (tested s cpu address place sub (operand_check s.storage cpu address 64 4)) e
-executes_at s cpu (instruction.Stsch word address) place sub r e =
-    is r (instruction_steps.stores s cpu address place sub (operand_check s.storage cpu address 52 4)) (stores s cpu address place sub (operand_check s.storage cpu address 52 4)) e
-executes_at s cpu (instruction.Msch word address) place sub r e = modifies s place sub (operand_at s.storage cpu address 52 4) r e
-executes_at s cpu (instruction.Enable word subclass multipath) place sub r e = enables s cpu place sub subclass multipath (operand_at s.storage cpu 0xF00 52 4) r e
-executes_at s cpu (instruction.Rsch word) place sub r e = is r (instruction_steps.function_at s place sub instruction_steps.resume_sub) (function_at s place sub instruction_steps.resume_sub) e
-executes_at s cpu (instruction.Hsch word) place sub r e = is r (instruction_steps.function_at s place sub instruction_steps.halt_sub) (function_at s place sub instruction_steps.halt_sub) e
-executes_at s cpu (instruction.Csch word) place sub r e = is r (instruction_steps.function_at s place sub instruction_steps.clear_sub) (function_at s place sub instruction_steps.clear_sub) e
-executes_at s cpu (instruction.Xsch word) place sub r e = is r (instruction_steps.function_at s place sub instruction_steps.cancel_sub) (function_at s place sub instruction_steps.cancel_sub) e
+executes_at : (s : State) (cpu : ℕ) (i : Instruction) (found : Option Found) (r : Outcome) → instruction_steps.Executes_at s cpu i found r → Sound r
+executes_at s cpu (instruction.Ssch word address) found r e = starts s found (operand_at s.storage cpu address 12 4) r e
+executes_at s cpu (instruction.Tsch word address) found r e =
+    is r (instruction_steps.tests s cpu address found (operand_check s.storage cpu address 64 4)) (tested s cpu address found (operand_check s.storage cpu address 64 4)) e
+executes_at s cpu (instruction.Stsch word address) found r e =
+    is r (instruction_steps.stores s cpu address found (operand_check s.storage cpu address 52 4)) (stores s cpu address found (operand_check s.storage cpu address 52 4)) e
+executes_at s cpu (instruction.Msch word address) found r e = modifies s found (operand_at s.storage cpu address 52 4) r e
+executes_at s cpu (instruction.Enable word subclass multipath) found r e = enables s cpu found subclass multipath (operand_at s.storage cpu 0xF00 52 4) r e
+executes_at s cpu (instruction.Rsch word) found r e = is r _ (function_at s found rsch_code (λ sub. resumed sub.state)) e
+executes_at s cpu (instruction.Hsch word) found r e = is r _ (function_at s found hsch_code (λ sub. halted sub.state)) e
+executes_at s cpu (instruction.Csch word) found r e = is r _ (function_at s found csch_code (λ sub. cleared sub.state)) e
+executes_at s cpu (instruction.Xsch word) found r e = is r _ (function_at s found xsch_code (λ sub. cancelled sub.state)) e
 
 executes_on : (s : State) (cpu : ℕ) (i : Instruction) (id : Option SubchannelId) (r : Outcome) → instruction_steps.Executes_on s cpu i id r → Sound r
 executes_on s cpu i None r e = is r (Err Operand) tt e
-executes_on s cpu i (Some id) r e = executes_at s cpu i (place_in id s.subs) (sub_at s.subs (place_in id s.subs)) r e
+executes_on s cpu i (Some id) r e = executes_at s cpu i (found_at s.subs (place_in id s.subs)) r e
 
 -- Choose
 sends : (sub : Subchannel) (state : SubchannelState) (path : ℕ) (signal : Down) (r : Reply) → Sound (choose_spec.send_sub sub state path signal r)
@@ -166,12 +166,11 @@ at_sub : (s : State) (place : ℕ) (x : Result SubTurn Fault) → Sound x → So
 at_sub s place (Ok t) sound = tt
 at_sub s place (Err f) sound = sound
 
-chooses : (s : State) (place : Option ℕ) (sub : Option Subchannel) (r : Outcome) → choose_spec.Chooses s place sub r → Sound r
-chooses s None sub r e = is r (Err NoSuchSubchannel) tt e
-chooses s (Some place) None r e = is r (Err NoSuchSubchannel) tt e
-chooses s (Some place) (Some sub) r e =
-    let x = choose_spec.choose_sub sub (chosen sub e.0) in
-    is r (turn_spec.at_sub s place x) (at_sub s place x (chooses_sub sub (chosen sub e.0))) e.2
+chooses : (s : State) (found : Option Found) (r : Outcome) → choose_spec.Chooses s found r → Sound r
+chooses s None r e = is r (Err NoSuchSubchannel) tt e
+chooses s (Some f) r e =
+    let x = choose_spec.choose_sub f.sub (chosen f.sub e.0) in
+    is r (turn_spec.at_sub s f.place x) (at_sub s f.place x (chooses_sub f.sub (chosen f.sub e.0))) e.2
 
 -- Up
 up_front : (returns : Bool) (storage : Contents) (sub : Subchannel) (path : ℕ) (signal : Option Up) → Sound (up_spec.up_front returns storage sub path signal)
@@ -190,10 +189,9 @@ at_storage : (s : State) (place : ℕ) (x : Result UpTurn Fault) → Sound x →
 at_storage s place (Ok t) sound = tt
 at_storage s place (Err f) sound = sound
 
-up_at : (s : State) (place : Option ℕ) (sub : Option Subchannel) (path : ℕ) → Sound (up_spec.up_at s place sub path)
-up_at s None sub path = tt
-up_at s (Some place) None path = tt
-up_at s (Some place) (Some sub) path = at_storage s place (up_spec.up_sub false s.storage sub path) (up_sub false s.storage sub path)
+up_at : (s : State) (found : Option Found) (path : ℕ) → Sound (up_spec.up_at s found path)
+up_at s None path = tt
+up_at s (Some f) path = at_storage s f.place (up_spec.up_sub false s.storage f.sub path) (up_sub false s.storage f.sub path)
 
 -- Down and Report
 down_front : (may : Bool) (sub : Subchannel) (path : ℕ) (u : UnitState) (signal : Option Down) → Sound (down_spec.down_front may sub path u signal)
@@ -216,28 +214,26 @@ at_unit : (s : State) (place k : ℕ) (x : Result DownTurn Fault) → Sound x �
 at_unit s place k (Ok t) sound = tt
 at_unit s place k (Err f) sound = sound
 
-down_unit : (s : State) (place : ℕ) (sub : Subchannel) (path : ℕ) (u : Option UnitState) → Sound (down_spec.down_unit s place sub path u)
-down_unit s place sub path None = tt
-down_unit s place sub path (Some u) = at_unit s place sub.setup.«unit» (down_spec.down_sub true sub path u) (down_sub true sub path u)
+down_unit : (s : State) (f : Found) (path : ℕ) (u : Option UnitState) → Sound (down_spec.down_unit s f path u)
+down_unit s f path None = tt
+down_unit s f path (Some u) = at_unit s f.place f.sub.setup.«unit» (down_spec.down_sub true f.sub path u) (down_sub true f.sub path u)
 
-down_at : (s : State) (place : Option ℕ) (sub : Option Subchannel) (path : ℕ) → Sound (down_spec.down_at s place sub path)
-down_at s None sub path = tt
-down_at s (Some place) None path = tt
-down_at s (Some place) (Some sub) path = down_unit s place sub path (slice_get s.units sub.setup.«unit»)
+down_at : (s : State) (found : Option Found) (path : ℕ) → Sound (down_spec.down_at s found path)
+down_at s None path = tt
+down_at s (Some f) path = down_unit s f path (slice_get s.units f.sub.setup.«unit»)
 
 report_taken : (sub : Subchannel) (step : Option UnitStep) → Sound (report_spec.report_taken sub step)
 report_taken sub None = tt
 report_taken sub (Some step) = either (sending_spec.finds_full sub.wires.up step.sent) (Err WireFull)
     (Ok (record { reply = reply.Done; sub = report_spec.with_any_up sub step.sent; «unit» = step.state })) tt tt
 
-report_to : (s : State) (place : ℕ) (u : UnitState) (report : Report) (at : Option ℕ) (sub : Option Subchannel) → Sound (report_spec.report_to s place u report at sub)
-report_to s place u report None sub = tt
-report_to s place u report (Some at) None = tt
-report_to s place u report (Some at) (Some sub) = at_unit s at place (report_spec.report_sub sub u report) (report_taken sub (unit_reports u report))
+report_to : (s : State) (place : ℕ) (u : UnitState) (report : Report) (found : Option Found) → Sound (report_spec.report_to s place u report found)
+report_to s place u report None = tt
+report_to s place u report (Some f) = at_unit s f.place place (report_spec.report_sub f.sub u report) (report_taken f.sub (unit_reports u report))
 
 report_at : (s : State) (place : ℕ) (u : Option UnitState) (report : Report) → Sound (report_spec.report_at s place u report)
 report_at s place None report = tt
-report_at s place (Some u) report = report_to s place u report (reached_in place report.side s.subs) (sub_at s.subs (reached_in place report.side s.subs))
+report_at s place (Some u) report = report_to s place u report (found_at s.subs (reached_in place report.side s.subs))
 
 steps : (s : State) (e : Event) (r : Outcome) → spec.Steps s e r → Sound r
 steps s (event.Put address bytes) r e = is r (storage_spec.put_turn s address bytes) (stored s (put s.storage address bytes)) e
@@ -245,9 +241,9 @@ steps s (event.SetKey address key) r e = is r (storage_spec.key_turn s address k
 steps s (event.SetPrefix cpu address) r e = is r (storage_spec.prefix_turn s cpu address) (stored s (prefix_set s.storage cpu address)) e
 steps s (event.Show address count) r e = is r (storage_spec.show_turn s address count) (told s (shown s.storage address count)) e
 steps s (event.Execute cpu i) r e = executes_on s cpu i (subchannel_named s.sets (instruction_steps.word_of i)) r e
-steps s (event.Choose word) r e = chooses s (place_of s word) (sub_at s.subs (place_of s word)) r e
-steps s (event.Up word path) r e = is r (up_spec.up_at s (place_of s word) (sub_at s.subs (place_of s word)) path) (up_at s (place_of s word) (sub_at s.subs (place_of s word)) path) e
-steps s (event.Down word path) r e = is r (down_spec.down_at s (place_of s word) (sub_at s.subs (place_of s word)) path) (down_at s (place_of s word) (sub_at s.subs (place_of s word)) path) e
+steps s (event.Choose word) r e = chooses s (found_of s word) r e
+steps s (event.Up word path) r e = is r (up_spec.up_at s (found_of s word) path) (up_at s (found_of s word) path) e
+steps s (event.Down word path) r e = is r (down_spec.down_at s (found_of s word) path) (down_at s (found_of s word) path) e
 steps s (event.Report place report) r e = is r (report_spec.report_at s place (slice_get s.units place) report) (report_at s place (slice_get s.units place) report) e
 
 pub never : (s : State) (e : Event) → ¬ IsRefused s e NoMemory

@@ -1,6 +1,5 @@
 use Rattle.std.proofs.Common.{◌≡◌, ℕ, ◌+◌, suc, None, take, sym, ◌∙◌, subst, arith}
-use Rattle.subchannel_model.specs.Places.{first_place}
-use Rattle.subchannel_model.specs.Places.{reaches}
+use Rattle.subchannel_model.specs.Places.{first_place, reaches}
 use Rattle.finding.proofs.FirstPlaces.{first_place-at, first_place-more}
 use Rattle.finding.proofs.walk.reached_in.Goals as goal
 

@@ -1,6 +1,5 @@
 use Rattle.std.proofs.Common.{◌≡◌, None, take}
-use Rattle.subchannel_model.specs.Places.{first_place}
-use Rattle.subchannel_model.specs.Places.{reaches}
+use Rattle.subchannel_model.specs.Places.{first_place, reaches}
 use Rattle.finding.proofs.walk.reached_in.Given as goal
 
 -- none of the subchannels so far passes

@@ -2,7 +2,7 @@ use Rattle.std.proofs.Common.{◌≡◌, sym, ℕ, Bool, true, false, nat_lt, ar
 use Rattle.std.specs.Prelude.{if◌then◌else◌}
 use Rattle.std.proofs.lemmas.Bool.{le-ltb}
 use Rattle.subchannel_model.specs.declared.state.SubchannelState.{SubchannelState}
-use Rattle.subchannel_model.specs.Functions.{drops_status, dropped, halting}
+use Rattle.subchannel_model.specs.Halt.{drops_status, dropped, halting}
 use Rattle.functions.specs.Counted.{IsCounted}
 use Rattle.functions.proofs.law.counts.Goals as goal
 

@@ -14,7 +14,7 @@ pub returns-then-not-is_allowed : goal.returns-then-not-is_allowed
 returns-then-not-is_allowed c = λ word.
     let fetched : operand_at c.args.storage.now c.args.cpu 0xF00 52 4 ≡ Ok c.in-Ok.image =
     ap (λ (k : ℕ). operand_at c.args.storage.now k 0xF00 52 4) (sym c.number-2.ensures.value) ∙ (sym c.operand.ensures ∙ c.in-Ok.is) in (
-      λ s. subst (λ (x : Result (List ℕ) StorageFault). Enables (with_storage s c.args.storage.now) c.args.cpu None None c.args.subclass c.args.multipath x (Err fault.Operand)) (sym fetched)
+      λ s. subst (λ (x : Result (List ℕ) StorageFault). Enables (with_storage s c.args.storage.now) c.args.cpu None c.args.subclass c.args.multipath x (Err fault.Operand)) (sym fetched)
           (c.of_schib.result, c.of_schib.ensures.shown, inl (not-allowed c.of_schib.result c.is_allowed.result c.if-not-is_allowed.true c.is_allowed.ensures.1, refl)),
       refl,
     )
@@ -25,6 +25,6 @@ returns c = λ word s.
     ap (λ (k : ℕ). operand_at c.args.storage.now k 0xF00 52 4) (sym c.number-2.ensures.value) ∙ (sym c.operand.ensures ∙ c.in-Ok.is) in
     let left = enables-none s c.args.storage.now c.store_operand.new.self c.args.cpu c.number-3.result c.args.subclass c.args.multipath c.in-Ok.image c.be_bytes-placed.result _ c.enabling_word.result
     (c.be_words-words.ensures.words 1 (omega arith)) c.enabling_word.ensures c.be_bytes-placed.ensures c.number-3.ensures.value c.store_operand.ensures in
-    subst (λ (x : Result (List ℕ) StorageFault). Enables (with_storage s c.args.storage.now) c.args.cpu None None c.args.subclass c.args.multipath x
+    subst (λ (x : Result (List ℕ) StorageFault). Enables (with_storage s c.args.storage.now) c.args.cpu None c.args.subclass c.args.multipath x
     (does (reply.Code answer.Three) (with_storage s c.store_operand.new.self))) (sym fetched)
     (c.of_schib.result, c.of_schib.ensures.shown, inr (c.is_allowed.ensures.0 c.if-not-is_allowed.false, ap (does (reply.Code answer.Three)) left))

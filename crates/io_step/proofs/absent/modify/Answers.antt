@@ -9,11 +9,11 @@ use Rattle.io_step.proofs.absent.modify.Goals as goal
 
 pub returns-in-Ok : goal.returns-in-Ok
 returns-in-Ok c = λ word s.
-    modifies (with_storage s c.args.storage.now) None None (operand_at c.args.storage.now c.args.cpu c.args.address 52 4) c.in-Ok.field-0
+    modifies (with_storage s c.args.storage.now) None (operand_at c.args.storage.now c.args.cpu c.args.address 52 4) c.in-Ok.field-0
     (does (reply.Code answer.Three) (with_storage s c.args.storage.now)) c.in-Ok.ensures.word refl
 
 pub returns-in-Err : goal.returns-in-Err
 returns-in-Err c = λ word. (
-  λ s. modifies-not (with_storage s c.args.storage.now) None None (operand_at c.args.storage.now c.args.cpu c.args.address 52 4) c.in-Err.fault c.in-Err.ensures.word,
+  λ s. modifies-not (with_storage s c.args.storage.now) None (operand_at c.args.storage.now c.args.cpu c.args.address 52 4) c.in-Err.fault c.in-Err.ensures.word,
   refl,
 )

@@ -9,5 +9,5 @@ use Rattle.io_step.proofs.absent.start.Goals as goal
 
 pub returns-in-Ok : goal.returns-in-Ok
 returns-in-Ok c = λ word s.
-    starts (with_storage s c.args.storage.now) None None (operand_at c.args.storage.now c.args.cpu c.args.address 12 4) c.in-Ok.field-0
+    starts (with_storage s c.args.storage.now) None (operand_at c.args.storage.now c.args.cpu c.args.address 12 4) c.in-Ok.field-0
     (does (reply.Code answer.Three) (with_storage s c.args.storage.now)) c.in-Ok.ensures refl

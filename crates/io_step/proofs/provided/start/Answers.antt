@@ -9,5 +9,5 @@ use Rattle.io_step.proofs.provided.start.Goals as goal
 pub returns-in-Ok : goal.returns-in-Ok
 returns-in-Ok c = λ word s place there.
     let now = with_storage s c.args.storage.now in
-    starts now (Some place) (Some c.args.sub.now) (operand_at c.args.storage.now c.args.cpu c.args.address 12 4) c.in-Ok.orb
+    starts now (Some (record { place = place; sub = c.args.sub.now })) (operand_at c.args.storage.now c.args.cpu c.args.address 12 4) c.in-Ok.orb
     (does c.start_sub.result (with_sub now place c.start_sub.new.sub)) c.in-Ok.ensures (sym (ap (at_place now place) c.start_sub.ensures))

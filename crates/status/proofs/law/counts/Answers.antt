@@ -4,7 +4,8 @@ use Rattle.std.proofs.lemmas.Bool.{lt-ltb, le-ltb}
 use Rattle.scsw_irb.specs.declared.scsw.Scsw.{Scsw}
 use Rattle.scsw_irb.specs.declared.serials.Serials.{Serials}
 use Rattle.subchannel_model.specs.declared.status.Shown.{Shown}
-use Rattle.subchannel_model.specs.Status.{scsw_made, serials_made, is_uncleared, intermediate_alone, ended_scsw, suspended_scsw, without_status}
+use Rattle.subchannel_model.specs.Status.{scsw_made, serials_made, is_uncleared, intermediate_alone, without_status}
+use Rattle.subchannel_model.specs.Test.{ended_scsw, suspended_scsw, ends_suspended, tested}
 use Rattle.chan_model.specs.UnitReports.{is_last_end}
 use Rattle.subchannel_model.specs.declared.cause.Cause.{Cause}
 use Rattle.subchannel_model.specs.declared.cause.Cause.TheVariants as cause
@@ -12,8 +13,7 @@ use Rattle.subchannel_model.specs.declared.state.Begun.{Begun}
 use Rattle.subchannel_model.specs.declared.state.Program.{Program}
 use Rattle.subchannel_model.specs.declared.state.SubchannelState.{SubchannelState}
 use Rattle.subchannel_model.specs.Causes.{programs_left, without_begun, without_waiting, joined_by, shown_of}
-use Rattle.subchannel_model.specs.Functions.{without_programs, ends_suspended}
-use Rattle.subchannel_model.specs.Instructions.{tested}
+use Rattle.subchannel_model.specs.Programs.{without_programs}
 use Rattle.subchannel_model.specs.Statuses.{has_shown}
 use Rattle.functions.specs.Counted.{IsCounted}
 use Rattle.status.proofs.law.counts.Goals as goal

@@ -1,28 +1,25 @@
--- What the instructions leave of a subchannel (SA22-7832, chapter 14; the effects are this project's own choice).
+-- START SUBCHANNEL (SA22-7832, chapter 14; the effect is this project's own choice): the contents of the ORB are tested before the
+-- condition code is. The reply is the code.
 use Rattle.std.specs.Prelude.{◌+◌, true, false, not, None, Some}
 use Rattle.orb_block.specs.declared.Orb.{Orb}
 use Rattle.scsw_irb.specs.declared.scsw.DeferredCode.TheVariants as deferred
 use Rattle.scsw_irb.specs.declared.scsw.Scsw.{Scsw}
 use Rattle.scsw_irb.specs.Empty.{no_functions, no_activity}
-use Rattle.subchannel_model.specs.declared.status.Condition.{Condition}
+use Rattle.chan_model.specs.declared.answer.ConditionCode.{ConditionCode}
+use Rattle.chan_model.specs.ConditionCodes.{in_order}
 use Rattle.chan_model.specs.PathSets.{paths_of_mask}
-use Rattle.subchannel_model.specs.Status.{no_device_status, no_subchannel_status, serials_cleared, tested_scsw}
+use Rattle.subchannel_model.specs.declared.status.Condition.{Condition}
 use Rattle.subchannel_model.specs.declared.state.Pmcw.{Pmcw}
 use Rattle.subchannel_model.specs.declared.state.SubchannelState.{SubchannelState}
+use Rattle.subchannel_model.specs.Conditions.{is_operational, any_function}
 use Rattle.subchannel_model.specs.Opening.{no_paths}
+use Rattle.subchannel_model.specs.Status.{no_device_status, no_subchannel_status}
 
--- what an instruction finds of a provided subchannel
-abbrev pub condition_of : SubchannelState → Condition
-condition_of s = record {
-  provided = true;
-  enabled = s.pmcw.enabled;
-  functions = s.scsw.functions;
-  activity = s.scsw.activity;
-  status = s.scsw.status;
-  may_suspend = s.scsw.suspend;
-}
+-- condition code: 1 status pending; 2 start, halt or clear in progress
+abbrev pub ssch_code : Condition → ConditionCode
+ssch_code c = in_order (is_operational c) c.status.pending (any_function c.functions)
 
--- START: the status word shows the ORB's fields, the start function and start pending; an earlier program's device active
+-- effect: the status word shows the ORB's fields, the start function and start pending; an earlier program's device active
 -- stays
 abbrev pub started_scsw : Scsw → Orb → Scsw
 started_scsw scsw orb = record scsw {
@@ -56,7 +53,3 @@ started s orb = record s {
   waiting = Some (record { start = s.starts + 1; orb = orb; single_path = not s.pmcw.multipath });
   suspended = None;
 }
-
--- TEST: all status that was made is cleared
-abbrev pub tested : SubchannelState → SubchannelState
-tested s = record s { scsw = tested_scsw s.scsw; serials = serials_cleared s.serials }
