@@ -39,9 +39,11 @@ fn a_right_script_is_read(rt: HostRuntime) {
     ];
     assert_eq!(rt; script.config().set_count(), 2);
     assert_eq!(rt; script.lines().len(), wanted.len());
-    for (line, (number, kind, said)) in script.lines().iter().zip(wanted) {
+    for (line, (number, name, value)) in script.lines().iter().zip(wanted) {
+        let (kind, said) = shown(&line.action);
         assert_eq!(rt; line.number, number);
-        assert_eq!(rt; shown(&line.action), (kind, said));
+        assert_eq!(rt; kind, name);
+        assert_eq!(rt; said, value);
     }
     let (config, lines) = script.into_parts();
     assert_eq!(rt; config.blocks(), Some(0x10));
