@@ -1,6 +1,3 @@
-pub mod Answered
-mod Lifting
 mod Pasts
 mod Answering
-mod Cycles
 mod Never

@@ -2,9 +2,6 @@
 #![tactic(auto)]
 
 pub mod history;
-mod machine;
 pub mod subsystem;
 #[cfg(test)]
 mod tests;
-mod turns;
-mod unit_turns;

@@ -1,6 +1,6 @@
 use Rattle.std.proofs.Common.{◌≡◌, ◌∙◌, ◌+◌, ◌-◌, suc, arith}
-use Rattle.subsystem.proofs.Cycles.{path-later}
-use Rattle.subsystem.proofs.unit_turns.cyclic_path.Goals as goal
+use Rattle.machine_steps.proofs.Cycles.{path-later}
+use Rattle.machine_steps.proofs.unit_turns.cyclic_path.Goals as goal
 
 pub loop-preserved : goal.loop-preserved
 loop-preserved c =

@@ -4,7 +4,7 @@ use Rattle.chan_model.specs.declared.signal.Down.{Down}
 use Rattle.chan_model.specs.declared.signal.OnPath.{OnPath}
 use Rattle.wires.specs.Queues.{queue}
 use Rattle.subchannel_model.specs.Sending.{is_full, finds_full}
-use Rattle.subsystem.specs.Giving.{HasRoom}
+use Rattle.machine_steps.specs.Giving.{HasRoom}
 use Rattle.subchannel.specs.Answering.{path_of}
 
 pub finds_none : (queues : List (List Down)) (sends : Option (OnPath Down)) → path_of sends ≡ None → false ≡ finds_full queues sends

@@ -20,7 +20,7 @@ use Rattle.subchannel_model.specs.Choosing.{chosen, paths_to_choose}
 use Rattle.machine_model.specs.Ruled.{RulesAt, GoesByRule, outcome_of}
 use Rattle.machine_model.specs.Turns.{Outcome, SubTurn, UpTurn, DownTurn, does, at_sub, at_storage, at_unit}
 use Rattle.machine_model.specs.Steps.{Steps, Performs}
-use Rattle.subsystem.specs.Giving.{Gives, GivesSub, GivesStorage, GivesBoth}
+use Rattle.machine_steps.specs.Giving.{Gives, GivesSub, GivesStorage, GivesBoth}
 use Rattle.machine_model.specs.ChooseSteps.{Chooses, choose_sub}
 use Rattle.machine_model.specs.UpSteps.{up_at, up_sub}
 use Rattle.machine_model.specs.DownSteps.{down_at, down_unit, down_sub}

@@ -6,9 +6,9 @@ use Rattle.subchannel_model.specs.Places.{reached_in}
 use Rattle.machine_model.specs.Steps.{Performs}
 use Rattle.finding.specs.Tables.{engaged}
 use Rattle.finding.proofs.Changing.{counts-kept}
-use Rattle.subsystem.specs.contracts.machine.Machine.{the_view}
-use Rattle.subsystem.proofs.Lifting.{report-performs}
-use Rattle.subsystem.proofs.machine.Machine.report.Goals as goal
+use Rattle.machine_steps.specs.contracts.machine.Machine.{the_view}
+use Rattle.machine_steps.proofs.Lifting.{report-performs}
+use Rattle.machine_steps.proofs.machine.Machine.report.Goals as goal
 
 pub returns : goal.returns
 returns c =

@@ -5,7 +5,7 @@ use Rattle.channel_config.specs.declared.parts.UnitKind.TheVariants.{Block}
 use Rattle.chan_model.specs.UnitTable.{idle_unit}
 use Rattle.chan_model.specs.declared.unit_state.UnitState.{UnitState}
 use Rattle.machine_model.specs.State.{idle_of}
-use Rattle.subsystem.proofs.subsystem.idle_units.Goals as goal
+use Rattle.machine_steps.proofs.opening.idle_units.Goals as goal
 
 pub loop-kind-preserved : goal.loop-kind-preserved
 loop-kind-preserved g c =

@@ -5,9 +5,9 @@ use Rattle.machine_model.specs.State.{State, place_of, with_sub, with_unit}
 use Rattle.machine_model.specs.Steps.{Performs}
 use Rattle.finding.specs.Tables.{engaged}
 use Rattle.finding.proofs.Changing.{counts-kept}
-use Rattle.subsystem.specs.contracts.machine.Machine.{the_view}
-use Rattle.subsystem.proofs.Lifting.{down-performs-at, one_there}
-use Rattle.subsystem.proofs.machine.Machine.down.Goals as goal
+use Rattle.machine_steps.specs.contracts.machine.Machine.{the_view}
+use Rattle.machine_steps.proofs.Lifting.{down-performs-at, one_there}
+use Rattle.machine_steps.proofs.machine.Machine.down.Goals as goal
 
 pub returns : goal.returns
 returns c =

@@ -1,6 +1,6 @@
 use Rattle.std.proofs.Common.{◌≡◌, take, map}
 use Rattle.subchannel_model.specs.Opening.{opened}
-use Rattle.subsystem.proofs.subsystem.opened_all.Given as goal
+use Rattle.machine_steps.proofs.opening.opened_all.Given as goal
 
 -- the subchannels so far are opened
 abbrev pub invariant-loop-setup : goal.invariant-loop-setup

@@ -8,9 +8,9 @@ use Rattle.machine_model.specs.Steps.{Performs}
 use Rattle.machine_model.specs.InstructionSteps.{word_of}
 use Rattle.finding.specs.Tables.{engaged}
 use Rattle.finding.proofs.Changing.{counts-some, counts-changed}
-use Rattle.subsystem.specs.contracts.machine.Machine.{the_view}
-use Rattle.subsystem.proofs.Lifting.{executes, executes-absent}
-use Rattle.subsystem.proofs.machine.Machine.execute.Goals as goal
+use Rattle.machine_steps.specs.contracts.machine.Machine.{the_view}
+use Rattle.machine_steps.proofs.Lifting.{executes, executes-absent}
+use Rattle.machine_steps.proofs.machine.Machine.execute.Goals as goal
 
 pub returns-in_default-place_in : goal.returns-in_default-place_in
 returns-in_default-place_in c =

@@ -6,14 +6,14 @@ use Rattle.subchannel_model.specs.declared.state.Subchannel.{Subchannel}
 use Rattle.machine_model.specs.State.{State, place_of, with_sub}
 use Rattle.subchannel_model.specs.Choosing.{chosen, paths_to_choose}
 use Rattle.machine_model.specs.Steps.{Performs}
-use Rattle.subsystem.specs.Giving.{GivesSub}
+use Rattle.machine_steps.specs.Giving.{GivesSub}
 use Rattle.machine_model.specs.ChooseSteps.{choose_sub}
 use Rattle.finding.specs.Tables.{engaged}
 use Rattle.finding.proofs.Changing.{counts-some, counts-changed}
-use Rattle.subsystem.specs.contracts.machine.Machine.{the_view}
+use Rattle.machine_steps.specs.contracts.machine.Machine.{the_view}
 use Rattle.machine_model.specs.Ruled.{GoesByRule}
-use Rattle.subsystem.proofs.Lifting.{choose-performs, choose-ruled, one_there}
-use Rattle.subsystem.proofs.machine.Machine.choose.Goals as goal
+use Rattle.machine_steps.proofs.Lifting.{choose-performs, choose-ruled, one_there}
+use Rattle.machine_steps.proofs.machine.Machine.choose.Goals as goal
 
 pub returns-clause-performs : goal.returns-clause-performs
 returns-clause-performs g c =

@@ -1,6 +1,6 @@
 use Rattle.std.proofs.Common.{◌≡◌, ◌<◌, ◌-◌}
 use Rattle.machine_model.specs.State.{cyclic_path}
-use Rattle.subsystem.proofs.unit_turns.cyclic_path.Given as goal
+use Rattle.machine_steps.proofs.unit_turns.cyclic_path.Given as goal
 
 -- none of the paths so far is one of the subchannel
 abbrev pub invariant-loop : goal.invariant-loop

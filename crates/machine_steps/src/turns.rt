@@ -1,7 +1,7 @@
 //! What an event does at one subchannel.
 
 ghost use Rattle.std.specs.Prelude.{◌≡◌, ◌<◌, ◌^◌, true, false, length};
-ghost use Rattle.subsystem.specs.Giving as giving_spec;
+ghost use Rattle.machine_steps.specs.Giving as giving_spec;
 ghost use Rattle.machine_model.specs.ChooseSteps as choose_spec;
 ghost use Rattle.subchannel_model.specs.Sending as sending_spec;
 ghost use Rattle.machine_model.specs.UpSteps as up_spec;

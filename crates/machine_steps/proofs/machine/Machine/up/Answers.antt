@@ -4,9 +4,9 @@ use Rattle.machine_model.specs.State.{State, place_of, with_sub}
 use Rattle.machine_model.specs.Steps.{Performs}
 use Rattle.finding.specs.Tables.{engaged}
 use Rattle.finding.proofs.Changing.{counts-some, counts-changed}
-use Rattle.subsystem.specs.contracts.machine.Machine.{the_view}
-use Rattle.subsystem.proofs.Lifting.{up-performs}
-use Rattle.subsystem.proofs.machine.Machine.up.Goals as goal
+use Rattle.machine_steps.specs.contracts.machine.Machine.{the_view}
+use Rattle.machine_steps.proofs.Lifting.{up-performs}
+use Rattle.machine_steps.proofs.machine.Machine.up.Goals as goal
 
 pub returns : goal.returns
 returns c =

@@ -5,7 +5,7 @@ ghost use Rattle.subchannel_model.specs.declared.state.Subchannel.{Subchannel};
 ghost use Rattle.machine_model.specs.State as state_spec;
 ghost use Rattle.machine_model.specs.Ruled.{GoesByRule};
 ghost use Rattle.machine_model.specs.InstructionSteps as instruction_steps;
-ghost use Rattle.subsystem.specs.Giving as giving_spec;
+ghost use Rattle.machine_steps.specs.Giving as giving_spec;
 ghost use Rattle.machine_model.specs.StorageSteps as storage_spec;
 ghost use Rattle.machine_model.specs.Steps as spec;
 ghost use Rattle.machine_model.specs.Bounds.{IsRoomy, IsUnitRoomy};
@@ -54,11 +54,11 @@ fn word_of(instruction: Instruction) -> u32
 /// Storage, subchannels and units.
 #[derive(Drop)]
 pub struct Machine {
-    pub storage: Storage,
-    pub sets: u8,
-    pub subs: Vec<Subchannel>,
-    pub units: Vec<Unit>,
-    pub engines: Engines,
+    pub(crate) storage: Storage,
+    pub(crate) sets: u8,
+    pub(crate) subs: Vec<Subchannel>,
+    pub(crate) units: Vec<Unit>,
+    pub(crate) engines: Engines,
 }
 
 impl Model for Machine {

@@ -1,6 +1,6 @@
 use Rattle.std.proofs.Common.{◌≡◌, take, map}
 use Rattle.machine_model.specs.State.{idle_of}
-use Rattle.subsystem.proofs.subsystem.idle_units.Given as goal
+use Rattle.machine_steps.proofs.opening.idle_units.Given as goal
 
 -- the units so far are idle
 abbrev pub invariant-loop-kind : goal.invariant-loop-kind
