@@ -2,8 +2,8 @@
 //!
 //! Used alone, this crate promises: a type that keeps the law of `ControlUnit` serves a unit where no other is begun, and
 //! says that a control-unit end is owed just where a unit was refused since the last was over. `Sharing` serves a unit
-//! exactly where no other of its group is begun. `Sharing::new` alone takes memory, and fails only for want of it; nothing
-//! else refuses.
+//! exactly where no other of its group is begun. `Sharing::new` and `Sharing::new_with` alone take memory, and fail only
+//! for want of it, the latter only where its supply refused; nothing else refuses.
 #![tactic(auto)]
 
 pub mod sharing;

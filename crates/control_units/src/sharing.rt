@@ -1,12 +1,13 @@
 //! Groups of units of which one is served at a time.
 
-ghost use Rattle.std.specs.Prelude.{◌≡◌, ◌<◌, ◌≤◌, IfOk, length, map, slice_get, true, false};
+ghost use Rattle.std.specs.Prelude.{◌≡◌, ◌<◌, ◌≤◌, IfOk, OnOk, OnErr, length, map, slice_get, true, false};
 ghost use Rattle.std.specs.List.{list_any};
 ghost use Rattle.control_units.specs.Units as spec;
 
 use crate::{ControlUnit, Member};
 use std::alloc::{AllocError, Global};
 use std::marker::Model;
+use supply::{Given, Supply, push};
 
 /// Groups of units of which one is served at a time (own).
 #[derive(Drop)]
@@ -28,8 +29,22 @@ impl Sharing {
     pub fn new(alloc: Global, groups: &[u16]) -> Result<Sharing, AllocError>
         ensures { IfOk result (λ sharing. sharing ≡ map spec.idle_member groups.now) }
     {
+        Sharing::new_with(alloc, &mut Given { refused: false }, groups)
+    }
+
+    /// Units of these groups, by their numbers, in what room a supply has; none is begun. Where the supply refuses a growth,
+    /// and only there, it is not made.
+    pub fn new_with<S: Supply>(
+        alloc: Global,
+        supply: &mut S,
+        groups: &[u16],
+    ) -> Result<Sharing, AllocError>
+        ensures made { IfOk result (λ sharing. sharing ≡ map spec.idle_member groups.now) }
+        ensures given { OnOk result (S.refused supply.new ≡ S.refused supply.old) }
+        ensures memory { OnErr result (S.refused supply.new ≡ true) }
+    {
         Ok(Sharing {
-            members: idle_members(alloc, groups)?,
+            members: idle_members(alloc, supply, groups)?,
         })
     }
 }
@@ -160,16 +175,23 @@ fn tell_one(member: &mut Member, group: u16)
 }
 
 /// Units of these groups; none is begun.
-fn idle_members(alloc: Global, groups: &[u16]) -> Result<Vec<Member>, AllocError>
-    ensures { IfOk result (λ members. members.items ≡ map spec.idle_member groups.now) }
+fn idle_members<S: Supply>(
+    alloc: Global,
+    supply: &mut S,
+    groups: &[u16],
+) -> Result<Vec<Member>, AllocError>
+    ensures idle { IfOk result (λ members. members.items ≡ map spec.idle_member groups.now) }
+    ensures given { OnOk result (S.refused supply.new ≡ S.refused supply.old) }
+    ensures memory { OnErr result (S.refused supply.new ≡ true) }
 {
     let mut members = Vec::new(alloc);
     for group in groups {
-        members.push(Member {
+        let member = Member {
             group: *group,
             begun: false,
             refused: false,
-        })?;
+        };
+        push(supply, &mut members, member)?;
     }
     Ok(members)
 }

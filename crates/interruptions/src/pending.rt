@@ -1,11 +1,12 @@
 //! The list of requests.
 
-ghost use Rattle.std.specs.Prelude.{◌≡◌, ◌<◌, IfOk, if◌then◌else◌, min, slice_get};
+ghost use Rattle.std.specs.Prelude.{◌≡◌, ◌<◌, IfOk, OnOk, OnErr, if◌then◌else◌, min, slice_get, true};
 ghost use Rattle.interruptions.specs.Requests as spec;
 
 use scsw_irb::code::IntCode;
 use std::alloc::{AllocError, Global};
 use std::marker::Model;
+use supply::{Given, Supply, make_room};
 use zbits::flag;
 
 /// The requests for I/O interruptions that wait, in the order of posting, at most one of each subchannel. A request is the
@@ -35,7 +36,22 @@ impl Pending {
     pub fn new(alloc: Global, numbers: u16) -> Result<Self, AllocError>
         ensures { IfOk result (λ pending. pending ≡ spec.nothing_waits numbers) }
     {
-        let requests = Vec::with_capacity(alloc, 4 * usize::from(numbers))?;
+        Pending::new_with(alloc, &mut Given { refused: false }, numbers)
+    }
+
+    /// No request waits. There is room for one of each subchannel whose number is below `numbers`, in each of the four
+    /// subchannel sets, from a supply. An error comes where the supply refuses that room, and only there.
+    pub fn new_with<S: Supply>(
+        alloc: Global,
+        supply: &mut S,
+        numbers: u16,
+    ) -> Result<Self, AllocError>
+        ensures made { IfOk result (λ pending. pending ≡ spec.nothing_waits numbers) }
+        ensures given { OnOk result (S.refused supply.new ≡ S.refused supply.old) }
+        ensures memory { OnErr result (S.refused supply.new ≡ true) }
+    {
+        let mut requests = Vec::new(alloc);
+        make_room(supply, &mut requests, 4 * usize::from(numbers))?;
         Ok(Pending { requests, numbers })
     }
 

@@ -3,6 +3,7 @@
 use crate::Pending;
 use scsw_irb::code::IntCode;
 use std::alloc::AllocError;
+use supply::{Given, Refusing};
 
 /// A request of a subchannel of set 0.
 fn request(number: u16, subclass: u8) -> Option<IntCode> {
@@ -66,5 +67,36 @@ fn a_subchannel_has_one_request(rt: HostRuntime) -> Result<(), AllocError> {
     pending.drop_all();
     assert_eq!(rt; answered(&mut pending, 0xFF), None);
     assert_eq!(rt; pending.numbers(), 2);
+    Ok(())
+}
+
+#[test]
+fn the_one_request_for_room_is_refused(rt: HostRuntime) -> Result<(), AllocError> {
+    for left in 0..2 {
+        let mut supply = Refusing {
+            left,
+            refused: false,
+        };
+        let made = Pending::new_with(rt.alloc(), &mut supply, 2);
+        assert_eq!(rt; made.is_err(), left == 0);
+        assert_eq!(rt; supply.refused, left == 0);
+        let mut supply = Given { refused: false };
+        let mut pending = Pending::new_with(rt.alloc(), &mut supply, 2)?;
+        assert!(rt; !supply.refused);
+        post(&mut pending, 1, 7);
+        assert_eq!(rt; answered(&mut pending, 0x01), Some(1));
+    }
+    Ok(())
+}
+
+#[test]
+fn room_for_no_subchannel_is_not_asked_for(rt: HostRuntime) -> Result<(), AllocError> {
+    let mut supply = Refusing {
+        left: 0,
+        refused: false,
+    };
+    let pending = Pending::new_with(rt.alloc(), &mut supply, 0)?;
+    assert_eq!(rt; pending.numbers(), 0);
+    assert!(rt; !supply.refused);
     Ok(())
 }

@@ -1,5 +1,5 @@
 -- How a list of events is answered, one after another.
-use Rattle.std.specs.Prelude.{◌≡◌, ◌<◌, ◌⊎◌, ℕ, Result, Ok, Err, List, [], ◌∷◌, ◌++◌, length, take}
+use Rattle.std.specs.Prelude.{◌≡◌, ◌<◌, ◌⊎◌, ℕ, Bool, true, Result, Ok, Err, List, [], ◌∷◌, ◌++◌, length, take}
 use Rattle.chan_events.specs.declared.event.Event.{Event}
 use Rattle.chan_model.specs.declared.fault.Fault.{Fault}
 use Rattle.chan_events.specs.declared.reply.Entry.{Entry}
@@ -30,11 +30,11 @@ pub record HasAnswered (picks : Rule) (old : Past) (events : List Event) (answer
   pub answered : Answered picks old.state events answers new.state
   pub history : new.history ≡ old.history ++ accepted events answers
 
--- the first of the events were, but not all: none where there was no memory for the answers, else up to the first for which
--- there was neither room nor a number
-pub record HasBegun (picks : Rule) (old : Past) (events : List Event) (new : Past) : Type 0 where
+-- the first of the events were, but not all: none where a growth was refused before them, else up to the first for which there
+-- was neither room nor a number
+pub record HasBegun (picks : Rule) (refused : Bool) (old : Past) (events : List Event) (new : Past) : Type 0 where
   pub done : ℕ
   pub answers : List (Result Reply Fault)
   pub fewer : done < length events
-  pub why : (done ≡ 0) ⊎ IsSpent new
+  pub why : ((done ≡ 0) × (refused ≡ true)) ⊎ IsSpent new
   pub answered : HasAnswered picks old (take done events) answers new

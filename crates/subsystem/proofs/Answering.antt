@@ -1,5 +1,5 @@
 -- The events of a run and their answers, as they grow at their end.
-use Rattle.std.proofs.Common.{◌≡◌, refl, sym, ◌∙◌, ap, subst, ℕ, ◌+◌, ◌<◌, Result, Ok, Err, List, [], ◌∷◌, ◌++◌, length, take, slice_index_or, append_assoc, inl, inr}
+use Rattle.std.proofs.Common.{◌≡◌, refl, sym, ◌∙◌, ap, subst, ℕ, ◌+◌, ◌<◌, Bool, true, Result, Ok, Err, List, [], ◌∷◌, ◌++◌, length, take, slice_index_or, append_assoc, inl, inr}
 use Rattle.std.proofs.lemmas.List.{take_more, append-nil}
 use Rattle.std.specs.Prelude.{IfOk, IfErr, OnErr, ◌⊎◌}
 use Rattle.path_select.specs.Choice.{Rule}
@@ -71,19 +71,19 @@ has-more picks first old new events i e d answers more a within there done step 
           ∙ (ap (λ (es : List Event). accepted es (answers ++ a ∷ [])) longer ∙ ap (λ (xs : List (Result Reply Fault)). accepted (take (i + 1) events) xs) (sym pushed)))));
     }
 
--- a run that found no memory for its answers did nothing
-pub begun-none : (picks : Rule) (p : Past) (events : List Event) → 0 < length events → HasBegun picks p events p
-begun-none picks p events some = record {
+-- a run whose answers were refused room did nothing
+pub begun-none : (picks : Rule) (refused : Bool) (p : Past) (events : List Event) → 0 < length events → refused ≡ true → HasBegun picks refused p events p
+begun-none picks refused p events some is = record {
   done = 0;
   answers = [];
   fewer = some;
-  why = inl refl;
+  why = inl (refl, is);
   answered = record { answered = refl; history = sym (append-nil p.history) };
 }
 
 -- an event for which there was no room ends a run
-pub begun-at : (picks : Rule) (first old new : Past) (events : List Event) (i : ℕ) (answers : List (Result Reply Fault)) → i < length events →
-    HasAnswered picks first (take i events) answers old → LacksRoom old new → HasBegun picks first events new
-begun-at picks first old new events i answers within done lacks =
-    subst (λ (p : Past). HasBegun picks first events p) (sym lacks.0)
+pub begun-at : (picks : Rule) (refused : Bool) (first old new : Past) (events : List Event) (i : ℕ) (answers : List (Result Reply Fault)) → i < length events →
+    HasAnswered picks first (take i events) answers old → LacksRoom old new → HasBegun picks refused first events new
+begun-at picks refused first old new events i answers within done lacks =
+    subst (λ (p : Past). HasBegun picks refused first events p) (sym lacks.0)
     (record { done = i; answers = answers; fewer = within; why = inr lacks.1; answered = done })

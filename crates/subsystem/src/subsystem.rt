@@ -30,7 +30,7 @@ use program_laws::programs;
 use scsw_irb::serials::Serials;
 use std::alloc::Global;
 use std::marker::Model;
-use supply::{Given, Supply, push};
+use supply::{Given, Supply, make_room};
 
 /// A channel subsystem with its subchannels, units and storage (SA22-7832, chapters 13 to 17).
 #[derive(Drop)]
@@ -138,7 +138,34 @@ impl<P: PathChoice + Drop> Subsystem<P> {
     ) -> Result<Vec<Result<Reply, Fault>>, Fault>
         ensures answered { IfOk result (λ answers. HasAnswered P.picks self.old events.now answers.items self.new) }
         ensures ended { IfErr result (λ f. f ≡ fault_spec.NoMemory) }
-        ensures begun { OnErr result (HasBegun P.picks self.old events.now self.new) }
+        // Where it ended before the first event, a growth may have been refused.
+        ensures begun { OnErr result (HasBegun P.picks true self.old events.now self.new) }
+        ensures room { self.old.room ≤ self.new.room + length events.now }
+        ensures replays { HasRun self.new.history self.new.state }
+        // Of two TEST SUBCHANNEL of one subchannel that answered 0, the later carries a strictly greater count of statuses made.
+        ensures cleared_once { IsClearedOnce self.new.state.sets self.new.history }
+        // Each start begins at most one program at its device.
+        ensures begun_once { IsBegunOnce self.new.state.sets self.new.history }
+        // Each subchannel and its unit agree on the program that holds the device, or a reset is due; by one path.
+        ensures agree { AllAgree self.new.state }
+        // What is told of the program that each subchannel offered last: its blocks, its commands and its bytes.
+        ensures told { HasTold self.new.history self.new.state }
+    {
+        self.run_with(alloc, &mut Given { refused: false }, events)
+    }
+
+    /// The events in order, as `run` has them, with room for the answers from a supply. It ends before its first event only
+    /// where the supply refused that room, and then nothing is changed.
+    pub fn run_with<S: Supply>(
+        &mut self,
+        alloc: Global,
+        supply: &mut S,
+        events: &[Event],
+    ) -> Result<Vec<Result<Reply, Fault>>, Fault>
+        ensures answered { IfOk result (λ answers. HasAnswered P.picks self.old events.now answers.items self.new) }
+        ensures ended { IfErr result (λ f. f ≡ fault_spec.NoMemory) }
+        ensures begun { OnErr result (HasBegun P.picks (S.refused supply.new) self.old events.now self.new) }
+        ensures given { OnOk result (S.refused supply.new ≡ S.refused supply.old) }
         ensures room { self.old.room ≤ self.new.room + length events.now }
         ensures replays { HasRun self.new.history self.new.state }
         // Of two TEST SUBCHANNEL of one subchannel that answered 0, the later carries a strictly greater count of statuses made.
@@ -151,7 +178,7 @@ impl<P: PathChoice + Drop> Subsystem<P> {
         ensures told { HasTold self.new.history self.new.state }
     {
         let mut answers = Vec::new(alloc);
-        if answers.reserve(events.len()).is_err() {
+        if make_room(supply, &mut answers, events.len()).is_err() {
             self.recalls();
             return Err(Fault::NoMemory);
         }

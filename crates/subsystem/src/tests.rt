@@ -446,3 +446,53 @@ fn each_request_of_an_opening_is_refused_in_turn(rt: HostRuntime) {
         }
     }
 }
+
+#[test]
+fn a_run_whose_answers_are_refused_changes_nothing(rt: HostRuntime) {
+    let alloc = rt.alloc();
+    let Some(mut subsystem) = begun(alloc, 6) else {
+        assert!(rt; false, "the events are accepted");
+        return;
+    };
+    let events = script(alloc);
+    let rest = &events.as_slice()[6..];
+    for left in 0..2 {
+        let mut supply = Refusing {
+            left,
+            refused: false,
+        };
+        match subsystem.run_with(alloc, &mut supply, rest) {
+            Err(fault) => {
+                assert!(rt; left == 0 && supply.refused);
+                assert!(rt; matches!(fault, Fault::NoMemory));
+                assert_eq!(rt; subsystem.history().len(), 6);
+                assert_eq!(rt; path_to_take(&subsystem), Some(0));
+            }
+            Ok(answers) => {
+                assert!(rt; left == 1 && !supply.refused);
+                assert_eq!(rt; answers.iter().filter(|answer| answer.is_ok()).count(), 11);
+                assert_eq!(rt; subsystem.history().len(), 17);
+            }
+        }
+    }
+    match subsystem.serials(WORD) {
+        Some(serials) => assert!(rt; serials.made == 1 && serials.cleared == 0),
+        None => assert!(rt; false, "the subchannel is configured"),
+    }
+}
+
+#[test]
+fn a_run_of_no_event_asks_for_no_room(rt: HostRuntime) {
+    let Some(mut subsystem) = begun(rt.alloc(), 6) else {
+        assert!(rt; false, "the events are accepted");
+        return;
+    };
+    let mut supply = Refusing {
+        left: 0,
+        refused: false,
+    };
+    match subsystem.run_with(rt.alloc(), &mut supply, &[]) {
+        Ok(answers) => assert!(rt; answers.is_empty() && !supply.refused),
+        Err(_) => assert!(rt; false, "no room is asked for"),
+    }
+}

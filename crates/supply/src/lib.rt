@@ -2,13 +2,16 @@
 //! A call that answers want of memory only where its supply refused cannot answer it for another reason.
 #![tactic(auto)]
 
-ghost use Rattle.std.specs.Prelude.{◌≡◌, ◌<◌, ◌≤◌, ◌+◌, ◌++◌, ◌∷◌, [], Bool, true, OnOk, OnErr, vec_len, vec_capacity, length};
+ghost use Rattle.std.specs.Prelude.{◌≡◌, ◌<◌, ◌≤◌, ◌+◌, ◌-◌, ◌++◌, ◌∷◌, [], Bool, true, OnOk, OnErr, vec_len, vec_capacity, length};
 ghost use Rattle.supply.specs.Requests.{IsModest};
 
 #[cfg(test)]
 mod tests;
 
 use std::alloc::AllocError;
+
+/// How many items room is asked for at a time: the most that one request may ask for.
+const PORTION: usize = 0x100_0000;
 
 /// Room for lists. That it refused a growth can be seen from then on.
 pub trait Supply {
@@ -17,12 +20,12 @@ pub trait Supply {
     // A growth was refused.
     ghost refused: { Self → Bool };
 
-    /// Room for so many items more than the list has, which are at most 16,777,216. Where it is refused the list has the
-    /// room that it had, or more.
+    /// Room for so many items more than the list has. They are at most 16,777,216 more than there is room for. Where it is
+    /// refused the list has the room that it had, or more.
     fn reserve<T>(&mut self, list: &mut Vec<T>, more: usize) -> Result<(), AllocError>
     where
         Self: Sized,
-        requires modest { IsModest more }
+        requires modest { IsModest (more - (vec_capacity list.old - vec_len list.old)) }
         ensures items { list.new.items ≡ list.old.items }
         ensures len { vec_len list.new ≡ vec_len list.old }
         ensures kept { vec_capacity list.old ≤ vec_capacity list.new }
@@ -71,6 +74,28 @@ impl Supply for Refusing {
         self.left -= 1;
         Ok(())
     }
+}
+
+/// Room for so many items more than the list has, however many. The supply is asked once for every 16,777,216 of them, or
+/// fewer that are left. Where it refuses, the list keeps what room it has by then.
+pub fn make_room<S: Supply, T: Drop>(
+    supply: &mut S,
+    list: &mut Vec<T>,
+    count: usize,
+) -> Result<(), AllocError>
+    ensures items { list.new.items ≡ list.old.items }
+    ensures kept { vec_capacity list.old ≤ vec_capacity list.new }
+    ensures room { OnOk result (vec_len list.new + count ≤ vec_capacity list.new) }
+    ensures asked { OnErr result (0 < count) }
+    ensures given { OnOk result (S.refused supply.new ≡ S.refused supply.old) }
+    ensures taken { OnErr result (S.refused supply.new ≡ true) }
+{
+    let mut room = 0;
+    while room < count {
+        room += (count - room).min(PORTION);
+        supply.reserve(list, room)?;
+    }
+    Ok(())
 }
 
 /// One item more. Where the growth is refused the items stay and the new one is lost.

@@ -1,6 +1,6 @@
 //! Each request refused in turn.
 
-use crate::{Given, Refusing, Supply, extend, push};
+use crate::{Given, Refusing, Supply, extend, make_room, push};
 use std::alloc::{AllocError, Global};
 
 /// Three requests: two bytes one by one, and two together.
@@ -41,4 +41,38 @@ fn what_was_there_stays_where_a_request_is_refused(rt: HostRuntime) {
     assert!(rt; push(&mut supply, &mut list, 2).is_err());
     assert!(rt; extend(&mut supply, &mut list, &[3]).is_err());
     assert_eq!(rt; list.as_slice(), [1].as_slice());
+}
+
+/// One item more than two requests are for at the most: so many take three.
+const THREE_PORTIONS: usize = 0x200_0001;
+
+#[test]
+fn each_portion_of_room_is_refused_in_turn(rt: HostRuntime) {
+    for left in 0..5 {
+        let mut list = Vec::new(rt.alloc());
+        assert!(rt; push(&mut Given { refused: false }, &mut list, 7).is_ok());
+        let mut supply = Refusing {
+            left,
+            refused: false,
+        };
+        let made = make_room(&mut supply, &mut list, THREE_PORTIONS);
+        assert_eq!(rt; made.is_err(), left < 3);
+        assert_eq!(rt; supply.refused, left < 3);
+        let mut supply = Given { refused: false };
+        assert!(rt; make_room(&mut supply, &mut list, THREE_PORTIONS).is_ok());
+        assert!(rt; !supply.refused);
+        assert!(rt; list.capacity() > THREE_PORTIONS);
+        assert_eq!(rt; list.as_slice(), [7u8].as_slice());
+    }
+}
+
+#[test]
+fn room_for_nothing_is_not_asked_for(rt: HostRuntime) {
+    let mut list = Vec::<u8>::new(rt.alloc());
+    let mut supply = Refusing {
+        left: 0,
+        refused: false,
+    };
+    assert!(rt; make_room(&mut supply, &mut list, 0).is_ok());
+    assert!(rt; !supply.refused);
 }

@@ -1,11 +1,11 @@
-use Rattle.std.proofs.Common.{◌+◌, ◌≤◌, length, take, vec_len, vec_capacity}
+use Rattle.std.proofs.Common.{◌≡◌, ◌+◌, ◌≤◌, length, take, vec_len, vec_capacity}
 use Rattle.machine_model.specs.Answering.{HasAnswered}
 use Rattle.machine_model.specs.Steps.{HasRun}
 use Rattle.machine_laws.specs.Agreeing.{AllAgree}
 use Rattle.program_laws.specs.Claims.{HasTold}
 use Rattle.machine_laws.specs.Beginnings.{IsBegunOnce}
 use Rattle.machine_laws.specs.Claims.{IsClearedOnce}
-use Rattle.subsystem.proofs.subsystem.Subsystem.run.Given as goal
+use Rattle.subsystem.proofs.subsystem.Subsystem.run_with.Given as goal
 
 abbrev pub invariant-loop-event : goal.invariant-loop-event
 invariant-loop-event g l = record {
@@ -17,4 +17,5 @@ invariant-loop-event g l = record {
   begun_once : IsBegunOnce l.self.state.sets l.self.history;
   agree : AllAgree l.self.state;
   told : HasTold l.self.history l.self.state;
+  given : g.S.Supply.refused l.supply ≡ g.S.Supply.refused l.fn.supply;
 }

@@ -1,6 +1,6 @@
 use Rattle.std.proofs.Common.{length, arith, length-append, ap, ◌∷◌, []}
-use Rattle.subsystem.proofs.Answering.{has-more, begun-none, begun-at}
-use Rattle.subsystem.proofs.subsystem.Subsystem.run.Goals as goal
+use Rattle.subsystem.proofs.Answering.{has-more}
+use Rattle.subsystem.proofs.subsystem.Subsystem.run_with.Goals as goal
 
 pub loop-event-preserved : goal.loop-event-preserved
 loop-event-preserved g c = record {
@@ -15,4 +15,5 @@ loop-event-preserved g c = record {
   begun_once = c.recalls-in-loop-event.ensures.begun_once;
   agree = c.recalls-in-loop-event.ensures.agree;
   told = c.recalls-in-loop-event.ensures.told;
+  given = c.loop-event.invariant.given;
 }
