@@ -2,7 +2,6 @@
 //! and 15).
 
 ghost use Rattle.std.specs.Prelude.{◌≡◌, ◌<◌, ◌≤◌, ◌^◌, ◌+◌, ◌-◌, nat_lt, slice_index};
-ghost use Rattle.schib_block.specs.Modify.{IsAllowed};
 ghost use Rattle.subchannel_model.specs.Store as store_spec;
 ghost use Rattle.subchannel_model.specs.Enable as enable_spec;
 ghost use Rattle.allegiance.specs.PathUse.{each_path};

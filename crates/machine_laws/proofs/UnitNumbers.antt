@@ -11,7 +11,7 @@ use Rattle.chan_events.specs.declared.reply.Reply.{Reply}
 use Rattle.chan_model.specs.declared.signal.Down.{Down}
 use Rattle.chan_model.specs.declared.unit_state.UnitState.{UnitState}
 use Rattle.chan_model.specs.UnitTable as unit_table
-use Rattle.chan_model.specs.UnitTable.{UnitStep, unit_takes, unit_after}
+use Rattle.chan_model.specs.UnitTable.{UnitStep, unit_takes}
 use Rattle.chan_model.specs.UnitReports.{unit_reports}
 use Rattle.channel_config.specs.Setup.{Setup}
 use Rattle.channel_config.specs.declared.parts.UnitKind.{UnitKind}

@@ -1,6 +1,6 @@
 //! A channel subsystem without its history: what each event does to the whole.
 
-ghost use Rattle.std.specs.Prelude.{◌≡◌, ◌<◌, ◌≤◌, ◌+◌, ℕ, All, Err, None, Some, IfErr, IfOk, IfSome, OnErr, length, slice_index_or};
+ghost use Rattle.std.specs.Prelude.{◌≡◌, ◌<◌, All, Err, None, Some, IfSome, length};
 ghost use Rattle.subchannel_model.specs.declared.state.Subchannel.{Subchannel};
 ghost use Rattle.machine_model.specs.State as state_spec;
 ghost use Rattle.machine_model.specs.Ruled.{GoesByRule};

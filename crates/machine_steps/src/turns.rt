@@ -1,6 +1,6 @@
 //! What an event does at one subchannel.
 
-ghost use Rattle.std.specs.Prelude.{◌≡◌, ◌<◌, ◌^◌, true, false, length};
+ghost use Rattle.std.specs.Prelude.{◌≡◌, ◌<◌, true, false, length};
 ghost use Rattle.machine_steps.specs.Giving as giving_spec;
 ghost use Rattle.machine_model.specs.ChooseSteps as choose_spec;
 ghost use Rattle.subchannel_model.specs.Sending as sending_spec;

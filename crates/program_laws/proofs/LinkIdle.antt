@@ -9,7 +9,7 @@ use Rattle.chan_model.specs.declared.signal.Load.{Load}
 use Rattle.chan_model.specs.declared.signal.Up.{Up}
 use Rattle.chan_model.specs.declared.signal.Up.TheVariants as up
 use Rattle.chan_model.specs.HoldTable as hold_table
-use Rattle.chan_model.specs.HoldTable.{HoldStep, hold_after, came_of, is_connected, is_on, left, asked_back, found_busy, released, cleared, noticed, attended}
+use Rattle.chan_model.specs.HoldTable.{HoldStep, hold_after, came_of, is_connected, is_on, left, asked_back, found_busy, released, cleared, attended}
 use Rattle.subchannel_model.specs.declared.state.Begun.{Begun}
 use Rattle.subchannel_model.specs.declared.state.SubchannelState.{SubchannelState}
 use Rattle.subchannel_model.specs.declared.state.UpStep.{UpStep}

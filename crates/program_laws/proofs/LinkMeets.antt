@@ -19,7 +19,7 @@ use Rattle.chan_model.specs.declared.signal.Up.TheVariants as up
 use Rattle.chan_model.specs.declared.unit_state.AtHand.{AtHand}
 use Rattle.chan_model.specs.declared.unit_state.UnitState.{UnitState}
 use Rattle.chan_model.specs.HoldTable as hold_table
-use Rattle.chan_model.specs.HoldTable.{HoldStep, hold_after, came_of, is_connected, is_on, letting_go, left, asked_back, found_busy, released, cleared, noticed, attended}
+use Rattle.chan_model.specs.HoldTable.{HoldStep, hold_after, came_of, is_connected, is_on, letting_go, left, asked_back, found_busy, released, cleared, attended}
 use Rattle.chan_model.specs.Loads.{load_length}
 use Rattle.chan_model.specs.UnitReports.{is_outward, is_last_end, has_device_end}
 use Rattle.channel_program.specs.Acts.{Act, End}
@@ -43,7 +43,7 @@ use Rattle.subchannel_model.specs.Causes as causes
 use Rattle.subchannel_model.specs.Causes.{with_cause}
 use Rattle.subchannel_model.specs.declared.cause.Cause.TheVariants as cause
 use Rattle.subchannel_model.specs.Taking as taking
-use Rattle.subchannel_model.specs.Taking.{Met, goes_ahead, from_start, bytes_of, takes_up, with_end}
+use Rattle.subchannel_model.specs.Taking.{goes_ahead, from_start, bytes_of, takes_up, with_end}
 use Rattle.subchannel_model.specs.Sending.{with_any_sent}
 use Rattle.wires.specs.Queues.{taken}
 use Rattle.program_laws.specs.Reaches.{reaches}

@@ -15,7 +15,7 @@ use Rattle.chan_model.specs.declared.signal.Taken.{Taken}
 use Rattle.chan_model.specs.declared.signal.Up.{Up}
 use Rattle.chan_model.specs.declared.signal.Up.TheVariants as up
 use Rattle.chan_model.specs.HoldTable as hold_table
-use Rattle.chan_model.specs.HoldTable.{HoldStep, refusing, granting, begun, accepted, left, asked_back, found_busy, released, cleared, noticed, attended, hold_takes, hold_after, came_of, is_connected, is_on, letting_go}
+use Rattle.chan_model.specs.HoldTable.{HoldStep, refusing, granting, begun, accepted, left, asked_back, found_busy, released, cleared, noticed, attended, hold_after, came_of, is_connected, is_on, letting_go}
 use Rattle.chan_model.specs.UnitReports.{is_last_end, is_outward, has_device_end}
 use Rattle.channel_program.specs.Walks.{Place}
 use Rattle.transfer.specs.declared.Came.{Came}

@@ -1,6 +1,6 @@
 //! The lines that drive a machine.
 
-ghost use Rattle.std.specs.Prelude.{◌≡◌, ◌≤◌, map, IfSome, Some, None, Ok, Err};
+ghost use Rattle.std.specs.Prelude.{◌≡◌, map, Some, None, Ok, Err};
 ghost use Rattle.script_rows.specs.Words.{number_up_to};
 ghost use Rattle.script_rows.specs.Actions as spec;
 

@@ -1,10 +1,9 @@
 -- What is chosen for a subchannel suits it.
-use Rattle.std.proofs.Common.{◌≡◌, refl, sym, subst, ap, ℕ, Bool, true, false, List, [], ◌∷◌, Option, None, Some}
+use Rattle.std.proofs.Common.{◌≡◌, refl, sym, subst, ap, ℕ, Bool, true, false, List, ◌∷◌, Option, None, Some}
 use Rattle.std.specs.Prelude.{unwrap_or}
 use Rattle.allegiance.specs.PathUse.{is_any, reachable_paths}
 use Rattle.chan_model.specs.declared.hold_state.HoldPhase.{HoldPhase}
 use Rattle.chan_model.specs.declared.hold_state.HoldPhase.TheVariants as hold
-use Rattle.chan_model.specs.declared.hold_state.HoldState.{HoldState}
 use Rattle.subchannel_model.specs.declared.state.Candidate.{Candidate}
 use Rattle.subchannel_model.specs.declared.state.Chosen.{Chosen}
 use Rattle.subchannel_model.specs.declared.state.Chosen.TheVariants as chosen_is
@@ -12,7 +11,7 @@ use Rattle.subchannel_model.specs.declared.state.Program.{Program}
 use Rattle.subchannel_model.specs.declared.state.Standing.{Standing}
 use Rattle.subchannel_model.specs.declared.state.Subchannel.{Subchannel}
 use Rattle.subchannel_model.specs.declared.state.SubchannelState.{SubchannelState}
-use Rattle.subchannel_model.specs.Choosing.{IsHeldBy, unsent_at, unsent_reset, first_of, starting, resuming, candidate, path_use, reset_chosen, clear_chosen, halt_at, halt_chosen, over_unless, offer_free, offer_at, offer_chosen, chosen}
+use Rattle.subchannel_model.specs.Choosing.{IsHeldBy, unsent_at, unsent_reset, first_of, starting, resuming, candidate, path_use, reset_chosen, clear_chosen, halt_at, halt_chosen, over_unless, offer_at, offer_chosen, chosen}
 use Rattle.step_laws.specs.Walks.{IsFound, Suits}
 
 -- what holds of the thing that is there

@@ -3,7 +3,6 @@
 ghost use Rattle.std.specs.Prelude.{◌≡◌, ◌<◌, ◌^◌, IfSome};
 ghost use Rattle.subchannel_model.specs.Choosing as spec;
 ghost use Rattle.chan_model.specs.declared.hold_state.HoldPhase.TheVariants as phase;
-ghost use Rattle.chan_model.specs.declared.hold_state.HoldState as hold_state;
 
 use crate::paths::{engaged_paths, installed_paths, path_use, return_paths};
 use allegiance::path_use::is_any;

@@ -1,9 +1,7 @@
 -- Status: how it joins what is pending, and how it is counted (SA22-7832, chapter 16).
-use Rattle.std.specs.Prelude.{◌+◌, Bool, true, false, not, ◌&&◌, ◌||◌, nat_lt, if◌then◌else◌, unwrap_or, bit_or}
-use Rattle.scsw_irb.specs.Empty.{no_functions, no_activity, no_status}
-use Rattle.scsw_irb.specs.declared.scsw.DeferredCode.TheVariants as deferred
+use Rattle.std.specs.Prelude.{◌+◌, Bool, true, not, ◌&&◌, ◌||◌, nat_lt, if◌then◌else◌, unwrap_or, bit_or}
+use Rattle.scsw_irb.specs.Empty.{no_status}
 use Rattle.scsw_irb.specs.declared.scsw.FunctionControl.{FunctionControl}
-use Rattle.scsw_irb.specs.declared.scsw.ActivityControl.{ActivityControl}
 use Rattle.scsw_irb.specs.declared.scsw.StatusControl.{StatusControl}
 use Rattle.scsw_irb.specs.declared.scsw.Scsw.{Scsw}
 use Rattle.scsw_irb.specs.declared.serials.Serials.{Serials}

@@ -1,6 +1,6 @@
 -- TEST SUBCHANNEL (SA22-7832, chapters 14 and 16; the effect is this project's own choice): with code 0 and 1 the interruption-response
 -- block is stored, and the reply shows the status word as it was.
-use Rattle.std.specs.Prelude.{Bool, true, false, not, ◌&&◌, if◌then◌else◌}
+use Rattle.std.specs.Prelude.{Bool, false, not, ◌&&◌, if◌then◌else◌}
 use Rattle.scsw_irb.specs.Empty.{no_functions, no_activity, no_status}
 use Rattle.scsw_irb.specs.declared.irb.Irb.{Irb}
 use Rattle.scsw_irb.specs.declared.scsw.DeferredCode.TheVariants as deferred

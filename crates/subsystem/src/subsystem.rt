@@ -1,6 +1,6 @@
 //! The channel subsystem: its machine, and the history that led there.
 
-ghost use Rattle.std.specs.Prelude.{◌≡◌, ◌≢◌, ◌⊎◌, ◌+◌, ◌<◌, ◌≤◌, Err, ◌++◌, ◌∷◌, [], ℕ, IfOk, IfErr, OnErr, OnOk, All, length, map, true, vec_len, vec_capacity, option_map};
+ghost use Rattle.std.specs.Prelude.{◌≡◌, ◌≢◌, ◌⊎◌, ◌+◌, ◌<◌, ◌≤◌, Err, ◌++◌, ◌∷◌, [], IfOk, IfErr, OnErr, OnOk, length, true, vec_len, vec_capacity};
 ghost use Rattle.chan_model.specs.declared.fault.Fault.TheVariants as fault_spec;
 ghost use Rattle.machine_model.specs.State as state_spec;
 ghost use Rattle.machine_model.specs.Ruled.{GoesByRule};
@@ -8,7 +8,6 @@ ghost use Rattle.machine_model.specs.State.{IsAsBefore, LacksRoom};
 ghost use Rattle.machine_model.specs.Steps.{Step, IsRefused, HasRun};
 ghost use Rattle.machine_model.specs.Answering.{HasAnswered, HasBegun};
 ghost use Rattle.std.specs.Bool.{OnTrue, OnFalse};
-ghost use Rattle.machine_model.specs.Bounds.{IsRoomy, IsUnitRoomy};
 ghost use Rattle.finding.specs.Tables.{Fits};
 ghost use Rattle.machine_laws.specs.Agreeing.{AllAgree};
 ghost use Rattle.program_laws.specs.Claims.{HasTold};
