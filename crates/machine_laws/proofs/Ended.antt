@@ -38,10 +38,10 @@ use Rattle.machine_laws.proofs.Growth.{IsLink, AreLaws}
 use Rattle.machine_laws.proofs.HoldEvents.{IsOfHold, up-turns, choose-turns}
 use Rattle.machine_laws.proofs.Linked.{IsLinked, AreApart, AreLinked}
 use Rattle.machine_laws.proofs.Moves.{if-ok}
-use Rattle.machine_laws.proofs.Places.{set-get}
 use Rattle.machine_laws.proofs.RunAgrees.{start-hold, test-hold, modify-hold, function-hold, run-told}
 use Rattle.machine_laws.proofs.TaleEvents.{Tells, start-tells, test-tells, modify-tells, function-tells, choose-tells, up_sub-tells}
 use Rattle.machine_laws.proofs.UnitEvents.{Follows, IsKept, hold-kept, down-kept, report-kept}
+use Rattle.step_laws.proofs.Places.{set-get}
 
 -- what is due of links is due of the subchannel and the unit for which they stand
 due-of : (w : Links) (side : Side) (h : HoldState) (u : UnitState) → (link_of w side).hold ≡ h → w.«unit» ≡ u → IsResetDue w side → IsOutstanding h.phase (side_of u side)

@@ -3,7 +3,6 @@ mod Moves
 mod RunSound
 mod RunSerials
 mod Growth
-mod Places
 mod SameHold
 mod HoldEvents
 mod UnitPlain

@@ -20,12 +20,12 @@ use Rattle.subchannel_model.specs.declared.state.Subchannel.{Subchannel}
 use Rattle.machine_model.specs.State.{opening_of, idle_of}
 use Rattle.subchannel_model.specs.Opening.{opened}
 use Rattle.machine_laws.specs.Beginnings.{Starts, no_starts}
-use Rattle.machine_laws.proofs.Places.{set-get, map-get, one-place}
 use Rattle.machine_laws.proofs.Growth.{Covers, IsLink, link-wider, AreLaws}
 use Rattle.machine_laws.proofs.HoldEvents.{IsOfHold}
 use Rattle.machine_laws.proofs.TaleEvents.{Tells}
 use Rattle.machine_laws.proofs.Tales.{IsTold, told-opened, told-wider}
 use Rattle.machine_laws.proofs.UnitEvents.{Follows, IsKept, hold-kept}
+use Rattle.step_laws.proofs.Places.{set-get, map-get, one-place}
 
 -- the links of the unit at a place, and what is told of one subchannel
 pub record IsLinked (subs : List Subchannel) (at : ℕ) (u : UnitState) (which : Option ℕ) (k : Starts) : Type 0 where

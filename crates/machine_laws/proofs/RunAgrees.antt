@@ -48,9 +48,7 @@ use Rattle.machine_laws.specs.Beginnings.{Starts, no_starts, with_start, with_of
 use Rattle.machine_laws.specs.Claims.{is_same_id, is_id}
 use Rattle.step_laws.specs.Walks as walked
 use Rattle.step_laws.specs.Walks.{Walked, IsQuiet, is_start, OneSub, OneUnit, Function, Resumes, Halts, Clears, Cancels, effect_of}
-use Rattle.machine_laws.proofs.Places.{first-passes}
 use Rattle.machine_laws.proofs.Moves.{sets-stay}
-use Rattle.machine_laws.proofs.Places.{both-true}
 use Rattle.machine_laws.proofs.Growth.{IsLink, covers-first, AreLaws}
 use Rattle.machine_laws.proofs.HoldEvents.{IsOfHold, up-turns, kept-turns, same-turns, choose-turns, clear-turns}
 use Rattle.machine_laws.proofs.RunSerials.{same-id}
@@ -58,6 +56,7 @@ use Rattle.machine_laws.proofs.SameHold.{tested-same, halted-same}
 use Rattle.machine_laws.proofs.TaleEvents.{Tells, start-tells, test-tells, modify-tells, function-tells, choose-tells, up_sub-tells}
 use Rattle.machine_laws.proofs.UnitEvents.{Follows, IsKept, down-kept, report-kept}
 use Rattle.machine_laws.proofs.Linked.{IsLinked, IsAbout, AreLinked, hold-linked, unit-linked, opens-linked}
+use Rattle.step_laws.proofs.Places.{first-passes, both-true}
 
 -- the instructions leave the hold
 same-hold : (sub : Subchannel) → IsOfHold sub sub

@@ -36,8 +36,8 @@ use Rattle.machine_laws.proofs.Growth.{one-wider, one-within, Covers, covers-tak
 use Rattle.machine_laws.specs.Beginnings.{Starts, with_taken}
 use Rattle.machine_laws.proofs.Tales.{IsAccepted, IsTold, told-wider}
 use Rattle.machine_laws.proofs.TaleEvents.{takes-of, accepted-wider, Wide, taken-told, AreBusyPassed, Tells}
-use Rattle.machine_laws.proofs.Places.{same-side, one-side}
 use Rattle.machine_laws.proofs.HoldEvents.{IsOfHold}
+use Rattle.step_laws.proofs.Places.{same-side, one-side}
 
 -- the links of a unit after an event at the subchannel of this side, and what is told of the subchannel before and after it
 pub record Follows (T : Type 0) (w : Links) (side : Side) (sub new : Subchannel) (v : UnitState) (k next : Starts) : Type 0 where

@@ -71,7 +71,8 @@ use Rattle.program_laws.proofs.Ties.{AreLaws}
 use Rattle.program_laws.proofs.Holds.{IsPhase, IsDrawn, HasWork, IsStanding, IsHeld, IsUnheld, IsUntold, HeldBy, done-held, none-begun, none-stands, without-held, nothing-done, past-done}
 use Rattle.program_laws.proofs.HoldMeets.{signal-held}
 use Rattle.program_laws.proofs.Copies.{AreCopied, meets-copied}
-use Rattle.program_laws.proofs.RunSides.{map-get, run-one-sided}
+use Rattle.program_laws.proofs.RunSides.{run-one-sided}
+use Rattle.step_laws.proofs.Places.{map-get}
 
 -- what is kept of its program, and what was copied for it
 abbrev pub IsKept : SubchannelState → Story → Type 0

@@ -1,4 +1,3 @@
-mod TurnPlaces
 mod Turns
 mod Lists
 mod Advances

@@ -47,8 +47,9 @@ use Rattle.program_laws.proofs.LinkWires.{HandClosed, IsGiving, IsTelling, IsClo
 use Rattle.program_laws.proofs.LinkModes.{AnyGive, AnyData, Mode, Waits, Over, Reads, Writes, absorbs-none}
 use Rattle.program_laws.proofs.LinkCourses.{Course, CourseOf, Follows, Cut, over-course, flow-absorbs}
 use Rattle.program_laws.proofs.LinkFlows.{AtSub, choose-flows, up-flows, down-flows, report-flows, calm-flows, other-down, other-told}
-use Rattle.program_laws.proofs.RunSides.{map-get, run-one-sided}
+use Rattle.program_laws.proofs.RunSides.{run-one-sided}
 use Rattle.program_laws.proofs.RunOrders.{AllNeeds, on-none, unit-there, idle-there, run-linked}
+use Rattle.step_laws.proofs.Places.{map-get}
 
 -- at one place
 abbrev Flows : Side → Subchannel → Option Story → Option UnitState → Type 0

@@ -27,7 +27,8 @@ use Rattle.program_laws.proofs.Turns.{step-happens}
 use Rattle.program_laws.proofs.UnitOrders.{IsDown, AreOn, IsOrdered}
 use Rattle.program_laws.proofs.LinkNeeds.{Needs}
 use Rattle.program_laws.proofs.LinkOrders.{IsLinked, AtUnit, happens-linked}
-use Rattle.program_laws.proofs.RunSides.{map-get, run-one-sided}
+use Rattle.program_laws.proofs.RunSides.{run-one-sided}
+use Rattle.step_laws.proofs.Places.{map-get}
 
 -- what is to be known of each subchannel after each run
 -- what agreement says of the Resets that wait

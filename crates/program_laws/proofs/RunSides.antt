@@ -1,15 +1,10 @@
 -- After each run of a lawful set-up no two subchannels reach the same side of a unit, and each reaches a unit that there is.
-use Rattle.std.proofs.Common.{◌≡◌, refl, sym, ◌∙◌, ap, ℕ, ◌+◌, ◌≤◌, ◌==◌, ◌&&◌, zero, suc, Bool, true, false, Option, None, Some, List, [], ◌∷◌, map, arith}
-use Rattle.std.specs.Prelude.{slice_get, option_map, count_by, cond}
-use Rattle.std.proofs.lemmas.Bool.{eq-eqb}
-use Rattle.std.proofs.lemmas.List.Sums.{sum_by-cons}
-use Rattle.std.proofs.lemmas.Option.{slice_get-map}
-use Rattle.chan_model.specs.declared.names.Side.{Side}
-use Rattle.chan_model.specs.declared.names.Side.TheVariants.{First, Second}
+use Rattle.std.proofs.Common.{◌≡◌, sym, ◌∙◌, ap, Some, List}
+use Rattle.std.specs.Prelude.{slice_get}
 use Rattle.chan_events.specs.declared.reply.Entry.{Entry}
 use Rattle.chan_model.specs.Sides.{same_side}
 use Rattle.channel_config.specs.declared.parts.SubchannelSetup.{SubchannelSetup}
-use Rattle.channel_config.specs.Lawful.{IsShared, IsLawful, uses_by}
+use Rattle.channel_config.specs.Lawful.{IsLawful}
 use Rattle.channel_config.specs.Setup.{Setup}
 use Rattle.subchannel_model.specs.declared.state.Subchannel.{Subchannel}
 use Rattle.machine_model.specs.State.{State, opening_of}
@@ -17,72 +12,7 @@ use Rattle.subchannel_model.specs.Opening.{opened}
 use Rattle.machine_model.specs.Steps.{Run, Opened, Stepped}
 use Rattle.step_laws.specs.Walks.{AreWalks}
 use Rattle.program_laws.proofs.Turns.{IsOneSided, step-happens}
-
--- an element of a list that was mapped
-some-mapped : {A B : Type 0} (f : A → B) (o : Option A) (y : B) → option_map f o ≡ Some y → (x : A) × (o ≡ Some x) × (f x ≡ y)
-some-mapped f None y e = absurd (cc e)
-some-mapped f (Some x) y e = (x, refl, cc e)
-
-pub map-get : {A B : Type 0} (f : A → B) (xs : List A) (i : ℕ) (y : B) → slice_get (map f xs) i ≡ Some y → (x : A) × (slice_get xs i ≡ Some x) × (f x ≡ y)
-map-get f xs i y e = some-mapped f (slice_get xs i) y (sym (slice_get-map f xs i) ∙ e)
-
--- where at most one element passes a test, those that pass it are at one place
-count-more : {A : Type 0} (test : A → Bool) (x : A) (xs : List A) → count_by test xs ≤ count_by test (x ∷ xs)
-count-more test x xs = let e : count_by test (x ∷ xs) ≡ cond (test x) 1 0 + count_by test xs = sum_by-cons (λ y. cond (test y) 1 0) x xs in omega (arith, e)
-
-count-one : {A : Type 0} (test : A → Bool) (x : A) (xs : List A) → test x ≡ true → count_by test (x ∷ xs) ≡ 1 + count_by test xs
-count-one test x xs e = sum_by-cons (λ y. cond (test y) 1 0) x xs ∙ ap (λ (b : Bool). cond b 1 0 + count_by test xs) e
-
-counted : {A : Type 0} (test : A → Bool) (xs : List A) (i : ℕ) (x : A) → slice_get xs i ≡ Some x → test x ≡ true → 1 ≤ count_by test xs
-counted test [] i x e h = absurd (cc e)
-counted test (z ∷ xs) zero x e h = let same : z ≡ x = cc e in let n : count_by test (z ∷ xs) ≡ 1 + count_by test xs = count-one test z xs (ap test same ∙ h) in omega (arith, n)
-counted test (z ∷ xs) (suc i) x e h = let n : 1 ≤ count_by test xs = counted test xs i x e h in let m : count_by test xs ≤ count_by test (z ∷ xs) = count-more test z xs in omega (arith, n, m)
-
-pub alone : {A : Type 0} (test : A → Bool) (xs : List A) (i j : ℕ) (x y : A) → count_by test xs ≤ 1 → slice_get xs i ≡ Some x → slice_get xs j ≡ Some y →
-    test x ≡ true → test y ≡ true → i ≡ j
-alone test [] i j x y le e f g h = absurd (cc e)
-alone test (z ∷ xs) zero zero x y le e f g h = refl
-alone test (z ∷ xs) zero (suc j) x y le e f g h =
-    let same : z ≡ x = cc e in
-    let one : count_by test (z ∷ xs) ≡ 1 + count_by test xs = count-one test z xs (ap test same ∙ g) in
-    let other : 1 ≤ count_by test xs = counted test xs j y f h in
-    absurd (omega (arith, le, one, other))
-alone test (z ∷ xs) (suc i) zero x y le e f g h =
-    let same : z ≡ y = cc f in
-    let one : count_by test (z ∷ xs) ≡ 1 + count_by test xs = count-one test z xs (ap test same ∙ h) in
-    let other : 1 ≤ count_by test xs = counted test xs i x e g in
-    absurd (omega (arith, le, one, other))
-alone test (z ∷ xs) (suc i) (suc j) x y le e f g h =
-    let more : count_by test xs ≤ count_by test (z ∷ xs) = count-more test z xs in
-    ap suc (alone test xs i j x y (omega (arith, le, more)) e f g h)
-
--- each side of a unit is reached by one subchannel at most
-pub same-side : (k : Side) → same_side k k ≡ true
-same-side First = refl
-same-side Second = refl
-
-pub one-side : (a b : Side) → same_side a b ≡ true → a ≡ b
-one-side First First e = refl
-one-side First Second e = absurd (cc e)
-one-side Second First e = absurd (cc e)
-one-side Second Second e = refl
-
-both-true : (a b : Bool) → a ≡ true → b ≡ true → (a && b) ≡ true
-both-true true b e f = f
-both-true false b e f = absurd (cc e)
-
-is-used : (s x : SubchannelSetup) → x.«unit» ≡ s.«unit» → same_side x.side s.side ≡ true → (x.«unit» == s.«unit» && same_side x.side s.side) ≡ true
-is-used s x e f = both-true (x.«unit» == s.«unit») (same_side x.side s.side) (eq-eqb x.«unit» s.«unit» e) f
-
-used-once : (subs : List SubchannelSetup) (place : ℕ) (side : Side) → IsShared subs place → uses_by subs place side ≤ 1
-used-once subs place First k = k.first
-used-once subs place Second k = omega (arith, k.first, k.second)
-
-pub one-place : (subs : List SubchannelSetup) (i j : ℕ) (x y : SubchannelSetup) → ((n : ℕ) → IsShared subs n) → slice_get subs i ≡ Some x → slice_get subs j ≡ Some y →
-    x.«unit» ≡ y.«unit» → same_side x.side y.side ≡ true → i ≡ j
-one-place subs i j x y shared e f u k =
-    alone (λ sub. sub.«unit» == y.«unit» && same_side sub.side y.side) subs i j x y (used-once subs y.«unit» y.side (shared y.«unit»)) e f
-    (is-used y x u k) (is-used y y refl (same-side y.side))
+use Rattle.step_laws.proofs.Places.{map-get, one-place}
 
 -- at the opening, and after each step
 opens-one-sided : (setup : Setup) → IsLawful setup → IsOneSided (opening_of setup)

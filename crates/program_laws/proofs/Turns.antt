@@ -50,7 +50,7 @@ use Rattle.machine_model.specs.ReportSteps.{report_taken, report_sub}
 use Rattle.step_laws.specs.Walks as walked
 use Rattle.step_laws.specs.Walks.{Walked, IsQuiet, Suits, OneSub, OneUnit, Function, effect_of}
 use Rattle.program_laws.specs.Stories.{Story, is_place, chosen_at, met_at, taken_at, reported_at, story_after}
-use Rattle.program_laws.proofs.TurnPlaces.{get-set, get-other, same-or-not}
+use Rattle.step_laws.proofs.Places.{same-or-not, get-set, get-other}
 
 -- no two subchannels reach the same side of a unit
 abbrev pub IsOneSided : State → Type 0

@@ -1,2 +1,3 @@
 mod Walk
 mod Suiting
+pub mod Places

@@ -1,6 +1,6 @@
 -- Each step of a channel subsystem is of one of the kinds.
-use Rattle.std.proofs.Common.{◌≡◌, refl, sym, ◌∙◌, ap, subst, ℕ, ◌+◌, zero, suc, Bool, true, false, Option, None, Some, Result, Ok, Err, List, [], ◌∷◌, inl, inr, arith}
-use Rattle.std.specs.Prelude.{◌⊎◌, slice_get, if◌then◌else◌, IfOk}
+use Rattle.std.proofs.Common.{◌≡◌, refl, sym, ◌∙◌, ap, subst, ℕ, Bool, true, false, Option, None, Some, Result, Ok, Err, List, inl, inr}
+use Rattle.std.specs.Prelude.{slice_get, IfOk}
 use Rattle.orb_block.specs.declared.Orb.{Orb}
 use Rattle.schib_block.specs.declared.pmcw.Pmcw as block
 use Rattle.storage_keys.specs.declared.StorageFault.{StorageFault}
@@ -28,7 +28,7 @@ use Rattle.subchannel_model.specs.Clear.{csch_code}
 use Rattle.subchannel_model.specs.Cancel.{xsch_code}
 use Rattle.subchannel_model.specs.declared.state.Subchannel.{Subchannel}
 use Rattle.machine_model.specs.State.{State, place_of, found_of, with_sub, with_unit}
-use Rattle.subchannel_model.specs.Places.{Found, found_with, found_at, place_in, place_of_id, first_place, one_later, reaches, reached_in}
+use Rattle.subchannel_model.specs.Places.{Found, found_with, found_at, place_in, place_of_id, reaches, reached_in}
 use Rattle.subchannel_model.specs.Choosing.{chosen}
 use Rattle.subchannel_model.specs.Store.{pmcw_of}
 use Rattle.subchannel_model.specs.Enable.{enabling}
@@ -43,22 +43,7 @@ use Rattle.machine_model.specs.Steps.{Steps, Step}
 use Rattle.step_laws.specs.Walks as walked
 use Rattle.step_laws.proofs.Suiting.{chosen-suits}
 use Rattle.step_laws.specs.Walks.{Walked, IsQuiet, Function, Resumes, Halts, Clears, Cancels, effect_of}
-
--- the subchannel at the first place that passes a test passes it
-first-cases : (b : Bool) (o : Option ℕ) (place : ℕ) → (if b then Some 0 else one_later o) ≡ Some place →
-    ((b ≡ true) × (place ≡ zero)) ⊎ ((i : ℕ) × (o ≡ Some i) × (place ≡ suc i))
-first-cases true o place e = let z : 0 ≡ place = cc e in inl (refl, omega (arith, z))
-first-cases false None place e = absurd (cc e)
-first-cases false (Some i) place e = let z : i + 1 ≡ place = cc e in inr (i, refl, omega (arith, z))
-
-first-passes : (test : Subchannel → Bool) (subs : List Subchannel) (place : ℕ) (sub : Subchannel) → first_place test subs ≡ Some place →
-    slice_get subs place ≡ Some sub → test sub ≡ true
-first-passes test [] place sub e there = absurd (cc e)
-first-passes test (x ∷ xs) place sub e there =
-    elim (first-cases (test x) (first_place test xs) place e) [
-      | inl h ↦ let same : x ≡ sub = cc (subst (λ (k : ℕ). slice_get (x ∷ xs) k ≡ Some sub) h.1 there) in sym (ap test same) ∙ h.0
-      | inr h ↦ first-passes test xs h.0 sub h.1 (subst (λ (k : ℕ). slice_get (x ∷ xs) k ≡ Some sub) h.2 there)
-    ]
+use Rattle.step_laws.proofs.Places.{first-passes}
 
 -- the subchannel that was found stands at its place
 found_with-there : (place : ℕ) (o : Option Subchannel) (f : Found) → found_with place o ≡ Some f → (place ≡ f.place) × (o ≡ Some f.sub)

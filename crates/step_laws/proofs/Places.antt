@@ -1,7 +1,8 @@
--- No two subchannels reach the same side of a unit: at the opening of a lawful set-up.
+-- Elements of lists: where one was set or mapped, where at most one passes a test, and the first that passes one; and which
+-- subchannel reaches a side of a unit that is lawfully set up.
 use Rattle.std.proofs.Common.{◌≡◌, ◌≢◌, refl, sym, ◌∙◌, ap, subst, ℕ, ◌+◌, ◌≤◌, ◌==◌, ◌&&◌, zero, suc, Bool, true, false, Option, None, Some, List, [], ◌∷◌, map, inl, inr, arith}
 use Rattle.std.specs.Prelude.{◌⊎◌, slice_get, slice_set, option_map, count_by, cond, if◌then◌else◌}
-use Rattle.std.proofs.lemmas.Bool.{eq-eqb}
+use Rattle.std.proofs.lemmas.Bool.{eq-eqb, eqb-true}
 use Rattle.std.proofs.lemmas.List.Sums.{sum_by-cons}
 use Rattle.std.proofs.lemmas.Option.{slice_get-map}
 use Rattle.chan_model.specs.declared.names.Side.{Side}
@@ -24,6 +25,18 @@ set-get (z ∷ xs) (suc k) y (suc i) x e =
       | inl p ↦ inl (ap suc p.0, p.1)
       | inr p ↦ inr (λ h. p.0 (omega (arith, h)), p.1)
     ]
+
+pub get-set : {A : Type 0} (xs : List A) (k : ℕ) (x y : A) → slice_get xs k ≡ Some x → slice_get (slice_set xs k y) k ≡ Some y
+get-set [] k x y e = absurd (cc e)
+get-set (z ∷ xs) zero x y e = refl
+get-set (z ∷ xs) (suc k) x y e = get-set xs k x y e
+
+pub get-other : {A : Type 0} (xs : List A) (k : ℕ) (y : A) (i : ℕ) → i ≢ k → slice_get (slice_set xs k y) i ≡ slice_get xs i
+get-other [] k y i n = refl
+get-other (z ∷ xs) zero y zero n = absurd (n refl)
+get-other (z ∷ xs) zero y (suc i) n = refl
+get-other (z ∷ xs) (suc k) y zero n = refl
+get-other (z ∷ xs) (suc k) y (suc i) n = get-other xs k y i (λ h. n (ap suc h))
 
 -- an element of a list that was mapped
 some-mapped : {A B : Type 0} (f : A → B) (o : Option A) (y : B) → option_map f o ≡ Some y → (x : A) × (o ≡ Some x) × (f x ≡ y)
@@ -106,3 +119,11 @@ first-passes test (x ∷ xs) place sub e there =
       | inl h ↦ let same : x ≡ sub = cc (subst (λ (k : ℕ). slice_get (x ∷ xs) k ≡ Some sub) h.1 there) in sym (ap test same) ∙ h.0
       | inr h ↦ first-passes test xs h.0 sub h.1 (subst (λ (k : ℕ). slice_get (x ∷ xs) k ≡ Some sub) h.2 there)
     ]
+
+-- two numbers are the same or not
+pub same-or-not : (i k : ℕ) → ((i ≡ k) × ((i == k) ≡ true)) ⊎ ((i ≢ k) × ((i == k) ≡ false))
+same-or-not i k = by (i == k) refl
+  where
+    by : (b : Bool) → (i == k) ≡ b → ((i ≡ k) × ((i == k) ≡ true)) ⊎ ((i ≢ k) × ((i == k) ≡ false))
+    by true e = inl (eqb-true i k e, e)
+    by false e = inr (λ h. absurd (cc (sym (eq-eqb i k h) ∙ e)), e)
