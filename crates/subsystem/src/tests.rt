@@ -451,8 +451,7 @@ fn each_request_of_an_opening_is_refused_in_turn(rt: HostRuntime) {
 fn a_run_whose_answers_are_refused_changes_nothing(rt: HostRuntime) {
     let alloc = rt.alloc();
     let Some(mut subsystem) = begun(alloc, 6) else {
-        assert!(rt; false, "the events are accepted");
-        return;
+        return assert!(rt; false, "the events are accepted");
     };
     let events = script(alloc);
     if events.len() < 6 {
@@ -487,8 +486,7 @@ fn a_run_whose_answers_are_refused_changes_nothing(rt: HostRuntime) {
 #[test]
 fn a_run_of_no_event_asks_for_no_room(rt: HostRuntime) {
     let Some(mut subsystem) = begun(rt.alloc(), 6) else {
-        assert!(rt; false, "the events are accepted");
-        return;
+        return assert!(rt; false, "the events are accepted");
     };
     let mut supply = Refusing {
         left: 0,
