@@ -84,12 +84,12 @@ pub record IsTold (k : Story) : Type 0 where
   pub arrived : All IsStored k.now.arrived
   pub arrives : IsBeginning (places_arrived k.now.arrived) (places_of k.orb k.now.acts)
 
--- the count that a status shows: the sum of the counts of the command's blocks, less the bytes that were moved
+-- the count of what would be shown: the sum of the counts of the command's blocks, less the bytes that were moved
 abbrev pub IsRest : Shown → Story → Type 0
 IsRest shown k = counts (reaches k.orb k.now.acts) ≡ length k.now.moved + shown.count
 
--- an End of the command at work shows that count: channel end alone, the last of its program, or one after which the next
--- block shows a check
+-- an End of the command at work would be shown with that count, by the definitions of what is shown: channel end alone, the
+-- last of its program, or one after which the next block shows a check. Nothing is said of the status word itself
 abbrev pub IsCounted : Scsw → Option Begun → Story → Type 0
 IsCounted scsw None k = Unit {0}
 IsCounted scsw (Some b) k =
