@@ -40,12 +40,12 @@ use Rattle.subchannel_model.specs.declared.state.SubchannelState.{SubchannelStat
 use Rattle.subchannel_model.specs.declared.state.UpStep.{UpStep}
 use Rattle.machine_model.specs.Bounds.{IsMovedWithin}
 use Rattle.subchannel_model.specs.Start.{started}
-use Rattle.subchannel_model.specs.Causes.{joined_by, shown_of, without_begun, without_waiting, after_end, with_cause}
+use Rattle.subchannel_model.specs.Causes.{row_of, scsw_joined, clear_scsw, without_intermediate, with_status, without_begun, without_waiting, after_end, with_cause}
 use Rattle.subchannel_model.specs.Choosing.{reset_sent, halt_sent, offered}
 use Rattle.subchannel_model.specs.Halt.{halting, dropped, drops_status}
 use Rattle.subchannel_model.specs.Clear.{cleared_scsw}
 use Rattle.subchannel_model.specs.Programs.{without_programs}
-use Rattle.subchannel_model.specs.Statuses.{with_status, has_status_modifier, chains_command, has_shown}
+use Rattle.subchannel_model.specs.Ends.{has_status_modifier, chains_command, has_shown}
 use Rattle.subchannel_model.specs.Losing.{has_any, is_offered_or_held, reset_drawn, reset_with, reset_for}
 use Rattle.subchannel_model.specs.Taking.{with_known, Met, meets, ignoring, quietly, without_interruption, interrupted_by, standing, goes_ahead, taking_over, suspended_alone, standing_still, suspending, beginning, begin_standing, halt_done, accepted_by, accept_by, with_transfer, moving_on, give_next, take_in, bytes_of, move_bytes, move_data, take_data, with_end, chaining, chain_with, goes_on, end_shown_at, stops_at, command_ended, end_of, end_command, reset_taken, may_attend, takes_up, with_path, let_go}
 use Rattle.step_laws.specs.Walks.{Function, Resumes, Halts, Clears, Cancels, effect_of}
@@ -72,18 +72,10 @@ joined-pending : (b : Bool) (x y : Scsw) → x.status.pending ≡ true → y.sta
 joined-pending true x y e f = e
 joined-pending false x y e f = f
 
-made-pending : (e : Bool) (scsw : Scsw) (x : Serials) (c : Cause) (shown : Shown) → scsw.status.pending ≡ is_uncleared x → x.cleared ≤ x.made →
-    (scsw_made e (joined_by e scsw c) shown).status.pending ≡ is_uncleared (serials_made e x)
-made-pending true scsw x c shown p o = joined-pending (joined_by true scsw c).status.pending _ _ refl refl ∙ sym (lt-ltb x.cleared (x.made + 1) (omega (arith, o)))
-made-pending false scsw x (cause.End b status more) shown p o = p
-made-pending false scsw x (cause.FetchFault tried check count) shown p o = p
-made-pending false scsw x cause.Attention shown p o = p
-made-pending false scsw x cause.NoPath shown p o = p
-made-pending false scsw x cause.InterfaceControlCheck shown p o = p
-made-pending false scsw x (cause.Interruption tried count) shown p o = p
-made-pending false scsw x (cause.Suspension tried count) shown p o = p
-made-pending false scsw x cause.ClearDone shown p o = p
-made-pending false scsw x cause.HaltDone shown p o = p
+made-pending : (e : Bool) (scsw joins : Scsw) (x : Serials) (shown : Shown) → scsw.status.pending ≡ is_uncleared x → x.cleared ≤ x.made →
+    (scsw_made e (scsw_joined e scsw joins) shown).status.pending ≡ is_uncleared (serials_made e x)
+made-pending true scsw joins x shown p o = joined-pending joins.status.pending _ _ refl refl ∙ sym (lt-ltb x.cleared (x.made + 1) (omega (arith, o)))
+made-pending false scsw joins x shown p o = p
 
 made-above : (e : Bool) (floor x : Serials) → floor.cleared ≤ x.cleared → floor.made ≤ x.made →
     (floor.cleared ≤ (serials_made e x).cleared) × (floor.made ≤ (serials_made e x).made)
@@ -107,35 +99,35 @@ to-ready floor n s k = (omega (arith, k.0), omega (arith, k.1), k.2, moved-later
 ready-sound : (floor : Serials) (n : ℕ) (s : SubchannelState) → Ready floor n s → Sound floor (n + 1) s
 ready-sound floor n s k = (k.0, k.1, omega (arith, k.2), k.3, k.4, k.5, k.6, k.7)
 
-left-sound : (floor : Serials) (n : ℕ) (s : SubchannelState) (w : Option Program) (b : Option Begun) (st : Option Standing) (c : Cause) (shown : Shown) →
+left-sound : (floor : Serials) (n : ℕ) (s : SubchannelState) (w : Option Program) (b : Option Begun) (st : Option Standing) (joins : Scsw) (shown : Shown) →
     IsMovedWithin (n + 1) b → Ready floor n s →
-    Sound floor (n + 1) (with_status (record s { waiting = w; begun = b; suspended = st; scsw = joined_by s.pmcw.enabled s.scsw c }) shown)
-left-sound floor n s w b st c shown m k =
+    Sound floor (n + 1) (with_status (record s { waiting = w; begun = b; suspended = st; scsw = scsw_joined s.pmcw.enabled s.scsw joins }) shown)
+left-sound floor n s w b st joins shown m k =
     let above = made-above s.pmcw.enabled floor s.serials k.6 k.7 in (
       k.0,
       k.1,
       made-le s.pmcw.enabled s.serials n k.2,
       m,
-      made-pending s.pmcw.enabled s.scsw s.serials c shown k.4 k.5,
+      made-pending s.pmcw.enabled s.scsw joins s.serials shown k.4 k.5,
       made-order s.pmcw.enabled s.serials k.5,
       above.0,
       above.1,
     )
 
-after_end-sound : (floor : Serials) (n : ℕ) (s : SubchannelState) (b : Begun) (last : Bool) (c : Cause) (shown : Shown) → IsMovedWithin (n + 1) (Some b) → Ready floor n s →
-    Sound floor (n + 1) (with_status (record (after_end s b last) { scsw = joined_by s.pmcw.enabled s.scsw c }) shown)
-after_end-sound floor n s b true c shown m k = left-sound floor n s None None None c shown tt k
-after_end-sound floor n s b false c shown m k = left-sound floor n s s.waiting (Some (has_shown b)) s.suspended c shown m k
+after_end-sound : (floor : Serials) (n : ℕ) (s : SubchannelState) (b : Begun) (last : Bool) (joins : Scsw) (shown : Shown) → IsMovedWithin (n + 1) (Some b) → Ready floor n s →
+    Sound floor (n + 1) (with_status (record (after_end s b last) { scsw = scsw_joined s.pmcw.enabled s.scsw joins }) shown)
+after_end-sound floor n s b true joins shown m k = left-sound floor n s None None None joins shown tt k
+after_end-sound floor n s b false joins shown m k = left-sound floor n s s.waiting (Some (has_shown b)) s.suspended joins shown m k
 
-without_begun-sound : (floor : Serials) (n : ℕ) (s : SubchannelState) (b : Option Begun) (c : Cause) (shown : Shown) → Ready floor n s →
-    Sound floor (n + 1) (with_status (record (without_begun b s) { scsw = joined_by s.pmcw.enabled s.scsw c }) shown)
-without_begun-sound floor n s None c shown k = left-sound floor n s None s.begun None c shown k.3 k
-without_begun-sound floor n s (Some b) c shown k = left-sound floor n s s.waiting None s.suspended c shown tt k
+without_begun-sound : (floor : Serials) (n : ℕ) (s : SubchannelState) (b : Option Begun) (joins : Scsw) (shown : Shown) → Ready floor n s →
+    Sound floor (n + 1) (with_status (record (without_begun b s) { scsw = scsw_joined s.pmcw.enabled s.scsw joins }) shown)
+without_begun-sound floor n s None joins shown k = left-sound floor n s None s.begun None joins shown k.3 k
+without_begun-sound floor n s (Some b) joins shown k = left-sound floor n s s.waiting None s.suspended joins shown tt k
 
-without_waiting-sound : (floor : Serials) (n : ℕ) (s : SubchannelState) (w : Option Program) (c : Cause) (shown : Shown) → Ready floor n s →
-    Sound floor (n + 1) (with_status (record (without_waiting w s) { scsw = joined_by s.pmcw.enabled s.scsw c }) shown)
-without_waiting-sound floor n s None c shown k = left-sound floor n s s.waiting s.begun None c shown k.3 k
-without_waiting-sound floor n s (Some w) c shown k = left-sound floor n s None s.begun s.suspended c shown k.3 k
+without_waiting-sound : (floor : Serials) (n : ℕ) (s : SubchannelState) (w : Option Program) (joins : Scsw) (shown : Shown) → Ready floor n s →
+    Sound floor (n + 1) (with_status (record (without_waiting w s) { scsw = scsw_joined s.pmcw.enabled s.scsw joins }) shown)
+without_waiting-sound floor n s None joins shown k = left-sound floor n s s.waiting s.begun None joins shown k.3 k
+without_waiting-sound floor n s (Some w) joins shown k = left-sound floor n s None s.begun s.suspended joins shown k.3 k
 
 -- the program that ends
 abbrev IsEndWithin : ℕ → Cause → Type 0
@@ -143,15 +135,22 @@ IsEndWithin n (cause.End b status more) = IsMovedWithin n (Some b)
 IsEndWithin n c = Unit {0}
 
 cause-sound : (floor : Serials) (n : ℕ) (s : SubchannelState) (c : Cause) → IsEndWithin (n + 1) c → Ready floor n s → Sound floor (n + 1) (with_cause s c)
-cause-sound floor n s (cause.End b status more) m k = after_end-sound floor n s b (is_last_end status) (cause.End b status more) (shown_of s (cause.End b status more)) m k
-cause-sound floor n s (cause.FetchFault tried check count) m k = without_begun-sound floor n s s.begun (cause.FetchFault tried check count) (shown_of s (cause.FetchFault tried check count)) k
-cause-sound floor n s cause.Attention m k = left-sound floor n s None s.begun s.suspended cause.Attention (shown_of s cause.Attention) k.3 k
-cause-sound floor n s cause.NoPath m k = without_waiting-sound floor n s s.waiting cause.NoPath (shown_of s cause.NoPath) k
-cause-sound floor n s cause.InterfaceControlCheck m k = left-sound floor n s None None None cause.InterfaceControlCheck (shown_of s cause.InterfaceControlCheck) tt k
-cause-sound floor n s (cause.Interruption tried count) m k = left-sound floor n s s.waiting s.begun s.suspended (cause.Interruption tried count) (shown_of s (cause.Interruption tried count)) k.3 k
-cause-sound floor n s (cause.Suspension tried count) m k = left-sound floor n s s.waiting s.begun s.suspended (cause.Suspension tried count) (shown_of s (cause.Suspension tried count)) k.3 k
-cause-sound floor n s cause.ClearDone m k = left-sound floor n s s.waiting s.begun s.suspended cause.ClearDone (shown_of s cause.ClearDone) k.3 k
-cause-sound floor n s cause.HaltDone m k = left-sound floor n s None None None cause.HaltDone (shown_of s cause.HaltDone) tt k
+cause-sound floor n s (cause.End b status more) m k =
+    after_end-sound floor n s b (is_last_end status) s.scsw (row_of s (cause.End b status more)).shown m k
+cause-sound floor n s (cause.FetchFault tried check count) m k =
+    without_begun-sound floor n s s.begun s.scsw (row_of s (cause.FetchFault tried check count)).shown k
+cause-sound floor n s cause.Attention m k = left-sound floor n s None s.begun s.suspended s.scsw (row_of s cause.Attention).shown k.3 k
+cause-sound floor n s cause.NoPath m k = without_waiting-sound floor n s s.waiting s.scsw (row_of s cause.NoPath).shown k
+cause-sound floor n s cause.InterfaceControlCheck m k =
+    left-sound floor n s None None None s.scsw (row_of s cause.InterfaceControlCheck).shown tt k
+cause-sound floor n s (cause.Interruption tried count) m k =
+    left-sound floor n s s.waiting s.begun s.suspended s.scsw (row_of s (cause.Interruption tried count)).shown k.3 k
+cause-sound floor n s (cause.Suspension tried count) m k =
+    left-sound floor n s s.waiting s.begun s.suspended s.scsw (row_of s (cause.Suspension tried count)).shown k.3 k
+cause-sound floor n s cause.ClearDone m k =
+    left-sound floor n s s.waiting s.begun s.suspended clear_scsw (row_of s cause.ClearDone).shown k.3 k
+cause-sound floor n s cause.HaltDone m k =
+    left-sound floor n s None None None (without_intermediate s.scsw) (row_of s cause.HaltDone).shown tt k
 
 -- instructions and choosing
 pub started-sound : (floor : Serials) (n : ℕ) (s : SubchannelState) (orb : Orb) → Sound floor n s → Sound floor (n + 1) (started s orb)

@@ -9,7 +9,7 @@ use Rattle.subchannel_model.specs.declared.cause.Cause.TheVariants as cause
 use Rattle.subchannel_model.specs.declared.state.Begun.{Begun}
 use Rattle.subchannel_model.specs.declared.state.Program.{Program}
 use Rattle.subchannel_model.specs.declared.state.SubchannelState.{SubchannelState}
-use Rattle.subchannel_model.specs.Causes.{with_cause, without_begun, without_waiting, after_end, programs_left}
+use Rattle.subchannel_model.specs.Causes.{row_of, with_cause, without_begun, without_waiting, after_end}
 use Rattle.subchannel_model.specs.Programs.{without_programs}
 use Rattle.subchannel_model.specs.Halt.{halting, drops_status, dropped, halted}
 use Rattle.subchannel_model.specs.Test.{ends_suspended, tested_wholly, tested}
@@ -35,7 +35,7 @@ waiting-kept : (s : SubchannelState) (p : Option Program) → IsHoldKept s (with
 waiting-kept s None = record { hold = refl; drawn = refl }
 waiting-kept s (Some p) = record { hold = refl; drawn = refl }
 
-programs-kept : (s : SubchannelState) (c : Cause) → IsHoldKept s (programs_left s c)
+programs-kept : (s : SubchannelState) (c : Cause) → IsHoldKept s (row_of s c).left
 programs-kept s (cause.End b status more) = end-kept s b (is_last_end status)
 programs-kept s (cause.FetchFault tried check count) = begun-kept s s.begun
 programs-kept s cause.Attention = record { hold = refl; drawn = refl }
@@ -47,7 +47,7 @@ programs-kept s cause.ClearDone = same-kept s
 programs-kept s cause.HaltDone = record { hold = refl; drawn = refl }
 
 pub cause-kept : (s : SubchannelState) (c : Cause) → IsHoldKept s (with_cause s c)
-cause-kept s c = let k : IsHoldKept s (programs_left s c) = programs-kept s c in record { hold = k.hold; drawn = k.drawn }
+cause-kept s c = let k : IsHoldKept s (row_of s c).left = programs-kept s c in record { hold = k.hold; drawn = k.drawn }
 
 -- a path that is missing leaves the program at work
 pub path-begun : (s : SubchannelState) (p : Option Program) → (without_waiting p s).begun ≡ s.begun

@@ -27,7 +27,7 @@ use Rattle.subchannel_model.specs.declared.state.Begun.{Begun}
 use Rattle.subchannel_model.specs.declared.state.Program.{Program}
 use Rattle.subchannel_model.specs.declared.state.Standing.{Standing}
 use Rattle.subchannel_model.specs.declared.state.SubchannelState.{SubchannelState}
-use Rattle.subchannel_model.specs.Statuses.{has_status_modifier, chains_command}
+use Rattle.subchannel_model.specs.Ends.{has_status_modifier, chains_command}
 use Rattle.subchannel_model.specs.Taking.{goes_ahead, bytes_of}
 use Rattle.program_laws.specs.Doings as doing
 use Rattle.program_laws.specs.Doings.{Part, no_part, with_acts, with_places, with_copy, located_acts, chunk_of, chained_acts, answered, gives, with_arrival, storing, takes_in, first_acts, next_acts}

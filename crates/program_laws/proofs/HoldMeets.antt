@@ -36,9 +36,9 @@ use Rattle.subchannel_model.specs.declared.state.Program.{Program}
 use Rattle.subchannel_model.specs.declared.state.SubchannelState.{SubchannelState}
 use Rattle.subchannel_model.specs.declared.state.Standing.{Standing}
 use Rattle.subchannel_model.specs.declared.cause.Cause.TheVariants as cause
-use Rattle.subchannel_model.specs.Statuses.{with_status, fetch_fault_shown, has_status_modifier, chains_command, breaks_chain, shows_length, has_unit_exception, has_shown}
+use Rattle.subchannel_model.specs.Ends.{has_status_modifier, chains_command, breaks_chain, shows_length, has_unit_exception, has_shown, end_shown}
 use Rattle.subchannel_model.specs.Causes as causes
-use Rattle.subchannel_model.specs.Causes.{with_cause, without_begun, end_shown}
+use Rattle.subchannel_model.specs.Causes.{with_cause, with_row, without_begun, fetch_fault_shown}
 use Rattle.subchannel_model.specs.Taking as taking
 use Rattle.subchannel_model.specs.Taking.{takes_up, goes_ahead, with_path, let_go, bytes_of, with_end, without_interruption, interrupted, taking_over, from_start, suspended_as, standing_as, standing_still, suspended_alone, suspending}
 use Rattle.program_laws.specs.Doings.{Part, no_part, with_acts, goes_acts, first_acts, next_acts, gives, takes_in}
@@ -102,7 +102,8 @@ module _ (laws : AreLaws) (accesses : AreAccesses) where
           let_go-held (with_cause (standing_still s program walk count) (cause.Suspension walk.tried count)) k n (phase-none s.hold.phase k.number s.begun k.sent p.0, p.1) refl d (refl, refl, w, c)
 
   abbrev fault-left : SubchannelState → Option Begun → ℕ → Check → ℕ → SubchannelState
-  fault-left s b tried check count = with_status (record (without_begun b s) { scsw = s.scsw }) (fetch_fault_shown tried check count)
+  fault-left s b tried check count =
+      with_row s (record { shown = fetch_fault_shown tried check count; left = without_begun b s; joins = s.scsw })
 
   fault-by : (s : SubchannelState) (b : Option Begun) (tried : ℕ) (check : Check) (count : ℕ) (k : Story) → s.begun ≡ b → k.number ≤ s.drawn →
       IsHold s.drawn k.number s.begun k.sent s.hold.phase → IsDone k.orb k.now → ((c : Begun) → s.begun ≡ Some c → s.suspended ≡ None) →
@@ -363,7 +364,10 @@ module _ (laws : AreLaws) (accesses : AreAccesses) where
       }
 
   abbrev end-left : SubchannelState → Begun → ℕ → DeviceStatus → Shown → Bool → SubchannelState
-  end-left s b p status shown last = record (with_status (record (causes.after_end s b last) { scsw = s.scsw }) shown) { dedicated = taking.dedicated_after status p }
+  end-left s b p status shown last =
+      record (with_row s (record { shown = shown; left = causes.after_end s b last; joins = s.scsw })) {
+        dedicated = taking.dedicated_after status p;
+      }
 
   stops-held : (s : SubchannelState) (b : Begun) (k : Story) (p : ℕ) (status : DeviceStatus) (shown : Shown) (last : Bool) → s.begun ≡ Some b → IsHeld s k →
       IsAtWork k.earlier k.orb k.now b.transfer (is_outward b.transfer.code) → (b.transfer.command ≡ k.sent) × (1 ≤ k.sent) →

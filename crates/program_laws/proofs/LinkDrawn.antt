@@ -24,7 +24,7 @@ use Rattle.subchannel_model.specs.declared.state.Begun.{Begun}
 use Rattle.subchannel_model.specs.declared.state.Standing.{Standing}
 use Rattle.subchannel_model.specs.declared.state.SubchannelState.{SubchannelState}
 use Rattle.subchannel_model.specs.declared.state.UpStep.{UpStep}
-use Rattle.subchannel_model.specs.Statuses.{has_status_modifier, chains_command}
+use Rattle.subchannel_model.specs.Ends.{has_status_modifier, chains_command}
 use Rattle.subchannel_model.specs.Taking.{Met, goes_ahead, standing, with_path, taking_over, moving_on, reset_taken, beginning, begin_standing, accepted_by, accept, move_bytes, move_data, with_end, chaining, goes_on, stops_at, end_of, takes_up}
 use Rattle.subchannel_model.specs.Losing.{has_any, is_offered_or_held, reset_with, reset_for}
 use Rattle.subchannel_model.specs.Taking as taking

@@ -27,7 +27,7 @@ use Rattle.subchannel_model.specs.declared.state.Begun.{Begun}
 use Rattle.subchannel_model.specs.declared.state.Standing.{Standing}
 use Rattle.subchannel_model.specs.declared.state.SubchannelState.{SubchannelState}
 use Rattle.subchannel_model.specs.declared.state.UpStep.{UpStep}
-use Rattle.subchannel_model.specs.Statuses.{has_status_modifier, chains_command}
+use Rattle.subchannel_model.specs.Ends.{has_status_modifier, chains_command}
 use Rattle.subchannel_model.specs.Taking as taking
 use Rattle.subchannel_model.specs.Losing.{reset_for}
 use Rattle.subchannel_model.specs.Taking.{Met, ignoring, by_hold, let_go, goes_ahead, standing, with_path, taking_over, moving_on, reset_taken, halt_done, clear_done, beginning, begin_standing, accepted_by, accept, move_bytes, move_data, take_data, with_end, chaining, goes_on, stops_at, command_ended, end_of, end_command, takes_up}

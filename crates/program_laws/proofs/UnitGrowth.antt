@@ -33,7 +33,7 @@ use Rattle.subchannel_model.specs.declared.state.Begun.{Begun}
 use Rattle.subchannel_model.specs.declared.state.Program.{Program}
 use Rattle.subchannel_model.specs.declared.state.Standing.{Standing}
 use Rattle.subchannel_model.specs.declared.state.SubchannelState.{SubchannelState}
-use Rattle.subchannel_model.specs.Statuses.{has_status_modifier, chains_command}
+use Rattle.subchannel_model.specs.Ends.{has_status_modifier, chains_command}
 use Rattle.subchannel_model.specs.Taking.{goes_ahead, bytes_of}
 use Rattle.program_laws.specs.Doings.{Part, no_part, with_acts, with_places, moved_on, answered, with_copy, copying, giving, gives, with_arrival, storing, arriving, takes_in, located_acts, chained_acts, chunk_of, first_acts, next_acts}
 use Rattle.program_laws.specs.Stories.{Story, past_part, goes_on, begins, begins_anew, begins_again, again_as, begins_as, accepted_at, accepted, moves, answers, chains, ends, meets}

@@ -15,7 +15,8 @@ use Rattle.idaw.specs.Lists.{kind_of, block}
 use Rattle.idaw.specs.Places.{places}
 use Rattle.data_move.specs.Accesses.{bytes_at}
 use Rattle.data_move.specs.Moving.{residual}
-use Rattle.subchannel_model.specs.Statuses.{channel_end_shown, last_end_shown, fetch_fault_shown}
+use Rattle.subchannel_model.specs.Causes.{fetch_fault_shown}
+use Rattle.subchannel_model.specs.Ends.{channel_end_shown, last_end_shown}
 use Rattle.subchannel_model.specs.declared.state.Begun.{Begun}
 use Rattle.subchannel_model.specs.declared.state.Subchannel.{Subchannel}
 use Rattle.machine_model.specs.State.{State, opening_of}

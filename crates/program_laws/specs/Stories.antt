@@ -41,7 +41,7 @@ use Rattle.subchannel_model.specs.declared.state.Subchannel.{Subchannel}
 use Rattle.subchannel_model.specs.declared.state.SubchannelState.{SubchannelState}
 use Rattle.machine_model.specs.State.{State, place_of}
 use Rattle.subchannel_model.specs.Places.{reached_in}
-use Rattle.subchannel_model.specs.Statuses.{has_status_modifier, chains_command}
+use Rattle.subchannel_model.specs.Ends.{has_status_modifier, chains_command}
 use Rattle.subchannel_model.specs.Taking.{goes_ahead, bytes_of}
 use Rattle.machine_model.specs.Steps.{Run, Opened, Stepped}
 use Rattle.program_laws.specs.Doings.{Part, no_part, with_acts, first_acts, next_acts, gives, takes_in}

@@ -1,22 +1,21 @@
-//! What each cause of status shows, and which programs are over with it (SA22-7832, chapter 16; own).
+//! The causes of status, in the order of their table: what each shows, which programs it leaves, and which status word its
+//! status joins (SA22-7832, chapter 16; own).
 
 ghost use Rattle.std.specs.Prelude.{◌≡◌, ◌<◌, ◌^◌};
 ghost use Rattle.subchannel_model.specs.Status as joined_spec;
-ghost use Rattle.chan_model.specs.UnitReports as report_spec;
 ghost use Rattle.subchannel_model.specs.Causes as spec;
-ghost use Rattle.subchannel_model.specs.Statuses as status_spec;
 
-use crate::shown::{
-    add_status, channel_end_shown, conditions, earlier_end_shown, fetch_fault_shown,
-    last_end_shown, no_path_shown, shows_primary,
-};
+use crate::ends::{end_shown, is_last_end, show_primary};
+use crate::shown::{add_status, check_status, conditions, shows_primary};
 use crate::testing::end_programs;
-use scsw_irb::scsw::{ActivityControl, DeferredCode, FunctionControl, Scsw, StatusControl};
+use channel_program::check::Check;
+use scsw_irb::scsw::{ActivityControl, DeferredCode, Scsw, StatusControl};
 use scsw_irb::status::{DeviceStatus, SubchannelStatus};
 use subchannel_model::cause::Cause;
 use subchannel_model::state::{Begun, Program, SubchannelState};
 use subchannel_model::status::Shown;
 
+/// Status is pending, and nothing else is shown.
 fn plain_shown(command_address: u32, count: u16) -> Shown
     ensures { result ≡ spec.plain_shown command_address count }
 {
@@ -31,7 +30,7 @@ fn plain_shown(command_address: u32, count: u16) -> Shown
     }
 }
 
-/// The address of the program of which a status speaks.
+/// The command address of the program of which a status speaks.
 fn address_shown(state: &SubchannelState) -> u32
     ensures { result ≡ spec.address_shown state.now }
 {
@@ -45,7 +44,7 @@ fn address_shown(state: &SubchannelState) -> u32
     }
 }
 
-/// Its count.
+/// The count of the program of which a status speaks.
 fn count_shown(state: &SubchannelState) -> u16
     ensures { result ≡ spec.count_shown state.now }
 {
@@ -59,7 +58,14 @@ fn count_shown(state: &SubchannelState) -> u16
     }
 }
 
-/// Whether it showed its primary status.
+/// Nothing but the address and the count of that program is shown.
+fn program_shown(state: &SubchannelState) -> Shown
+    ensures { result ≡ spec.program_shown state.now }
+{
+    plain_shown(address_shown(state), count_shown(state))
+}
+
+/// Whether that program showed its primary status.
 fn was_shown(state: &SubchannelState) -> bool
     ensures { result ≡ spec.was_shown state.now.waiting state.now.begun }
 {
@@ -69,36 +75,14 @@ fn was_shown(state: &SubchannelState) -> bool
     }
 }
 
-/// Whether an End is the last of its program: it has device end or unit check, or no channel end.
-pub fn is_last_end(status: DeviceStatus) -> bool
-    ensures { result ≡ report_spec.is_last_end status }
+/// A command could not be fetched, or may not take control.
+fn fetch_fault_shown(tried: u32, check: Check, count: u16) -> Shown
+    ensures { result ≡ spec.fetch_fault_shown tried check count }
 {
-    !status.has_channel_end() || status.has_device_end() || status.has_check()
-}
-
-/// The last End of a program, or of an earlier one while a start waits.
-fn last_shown(
-    scsw: Scsw,
-    begun: &Begun,
-    waiting: Option<Program>,
-    status: DeviceStatus,
-    more: bool,
-) -> Shown
-    ensures { result ≡ status_spec.last_shown scsw begun.now waiting status more }
-{
-    match waiting {
-        None => last_end_shown(scsw, begun, status, more),
-        Some(_) => earlier_end_shown(scsw, begun, status, more),
-    }
-}
-
-fn end_shown(state: &SubchannelState, begun: &Begun, status: DeviceStatus, more: bool) -> Shown
-    ensures { result ≡ spec.end_shown state.now begun.now status more }
-{
-    if is_last_end(status) {
-        last_shown(state.scsw, begun, state.waiting, status, more)
-    } else {
-        channel_end_shown(state.scsw, begun, status, more)
+    Shown {
+        conditions: conditions(true, true, true),
+        subchannel: check_status(Some(check)),
+        ..plain_shown(tried, count)
     }
 }
 
@@ -122,13 +106,14 @@ fn attention_shown(state: &SubchannelState) -> Shown
     }
 }
 
-fn path_missing_shown(state: &SubchannelState) -> Shown
-    ensures { result ≡ spec.path_missing_shown state.now }
+/// A program that is to be offered found no path.
+fn no_path_shown(state: &SubchannelState) -> Shown
+    ensures { result ≡ spec.no_path_shown state.now }
 {
     Shown {
-        command_address: address_shown(state),
-        count: count_shown(state),
-        ..no_path_shown(state.scsw)
+        conditions: conditions(true, true, true),
+        deferred: Some(DeferredCode::Three),
+        ..program_shown(state)
     }
 }
 
@@ -139,7 +124,7 @@ fn interface_shown(state: &SubchannelState) -> Shown
     Shown {
         conditions: conditions(true, primary, true),
         subchannel: SubchannelStatus::INTERFACE_CONTROL_CHECK,
-        ..plain_shown(address_shown(state), count_shown(state))
+        ..program_shown(state)
     }
 }
 
@@ -178,7 +163,7 @@ fn suspension_shown(tried: u32, count: u16) -> Shown
 
 /// What a cause shows.
 pub(crate) fn shown_of(state: &SubchannelState, cause: &Cause) -> Shown
-    ensures { result ≡ spec.shown_of state.now cause.now }
+    ensures { result ≡ (spec.row_of state.now cause.now).shown }
 {
     match cause {
         Cause::End {
@@ -192,16 +177,16 @@ pub(crate) fn shown_of(state: &SubchannelState, cause: &Cause) -> Shown
             count,
         } => fetch_fault_shown(*tried, *check, *count),
         Cause::Attention => attention_shown(state),
-        Cause::NoPath => path_missing_shown(state),
+        Cause::NoPath => no_path_shown(state),
         Cause::InterfaceControlCheck => interface_shown(state),
         Cause::Interruption { tried, count } => interruption_shown(state, *tried, *count),
         Cause::Suspension { tried, count } => suspension_shown(*tried, *count),
         Cause::ClearDone => plain_shown(0, 0),
-        Cause::HaltDone => plain_shown(address_shown(state), count_shown(state)),
+        Cause::HaltDone => program_shown(state),
     }
 }
 
-/// The program that was begun is over, or where none was the one that was to be.
+/// The program that was begun is over, or where none was begun the one that was to be.
 fn end_begun(state: &mut SubchannelState)
     ensures { state.new ≡ spec.without_begun state.old.begun state.old }
 {
@@ -224,15 +209,6 @@ fn end_waiting(state: &mut SubchannelState)
     }
 }
 
-/// A program that showed its primary status with channel end alone: nothing is chained to its command.
-fn show_primary(begun: &mut Begun)
-    ensures { begun.new ≡ status_spec.has_shown begun.old }
-{
-    begun.primary_shown = true;
-    begun.transfer.ended = true;
-    begun.transfer.unchained = true;
-}
-
 fn leave_end(state: &mut SubchannelState, begun: &Begun, last: bool)
     ensures { state.new ≡ spec.after_end state.old begun.now last }
 {
@@ -245,8 +221,9 @@ fn leave_end(state: &mut SubchannelState, begun: &Begun, last: bool)
     state.begun = Some(next);
 }
 
+/// The programs that are over with a cause end.
 fn leave_programs(state: &mut SubchannelState, cause: &Cause)
-    ensures state { state.new ≡ spec.programs_left state.old cause.now }
+    ensures state { state.new ≡ (spec.row_of state.old cause.now).left }
     ensures counts { state.new.serials ≡ state.old.serials }
     ensures enabled { state.new.pmcw.enabled ≡ state.old.pmcw.enabled }
     ensures word { state.new.scsw ≡ state.old.scsw }
@@ -256,8 +233,9 @@ fn leave_programs(state: &mut SubchannelState, cause: &Cause)
         Cause::FetchFault { .. } => end_begun(state),
         Cause::Attention => state.waiting = None,
         Cause::NoPath => end_waiting(state),
-        Cause::InterfaceControlCheck | Cause::HaltDone => end_programs(state),
+        Cause::InterfaceControlCheck => end_programs(state),
         Cause::Interruption { .. } | Cause::Suspension { .. } | Cause::ClearDone => {}
+        Cause::HaltDone => end_programs(state),
     }
 }
 
@@ -269,14 +247,22 @@ fn clear_scsw() -> Scsw
     scsw
 }
 
-/// The status word that the status of a cause joins.
-fn join_scsw(enabled: bool, scsw: &mut Scsw, cause: &Cause)
-    ensures { scsw.new ≡ spec.joined_by enabled scsw.old cause.now }
+fn without_intermediate(scsw: Scsw) -> Scsw
+    ensures { result ≡ spec.without_intermediate scsw }
+{
+    let mut next = scsw;
+    next.status.intermediate = false;
+    next
+}
+
+/// The status word that the status of a cause joins; that of a subchannel that is not enabled stays as it is.
+fn scsw_joined(state: &SubchannelState, cause: &Cause) -> Scsw
+    ensures { result ≡ spec.scsw_joined state.now.pmcw.enabled state.now.scsw (spec.row_of state.now cause.now).joins }
 {
     match cause {
-        Cause::ClearDone if enabled => *scsw = clear_scsw(),
-        Cause::HaltDone if enabled => scsw.status.intermediate = false,
-        _ => {}
+        Cause::ClearDone if state.pmcw.enabled => clear_scsw(),
+        Cause::HaltDone if state.pmcw.enabled => without_intermediate(state.scsw),
+        _ => state.scsw,
     }
 }
 
@@ -287,7 +273,8 @@ pub(crate) fn join(state: &mut SubchannelState, cause: &Cause)
     ensures made { state.new.serials ≡ joined_spec.serials_made state.old.pmcw.enabled state.old.serials }
 {
     let shown = shown_of(state, cause);
+    let scsw = scsw_joined(state, cause);
     leave_programs(state, cause);
-    join_scsw(state.pmcw.enabled, &mut state.scsw, cause);
+    state.scsw = scsw;
     add_status(state, &shown);
 }

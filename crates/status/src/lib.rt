@@ -9,6 +9,7 @@ ghost use Rattle.subchannel_model.specs.Conditions as condition_spec;
 ghost use Rattle.subchannel_model.specs.Conditions.{condition_of};
 
 pub mod causes;
+pub mod ends;
 pub mod law;
 pub mod shown;
 pub mod testing;

@@ -1,7 +1,7 @@
 //! Status words that are known from elsewhere, cause by cause.
 
 use crate::causes::shown_of;
-use crate::shown::chains_command;
+use crate::ends::chains_command;
 use crate::{law, make_pending, tsch};
 use ccw_walk::Walk;
 use chan_model::answer::ConditionCode;

@@ -28,7 +28,7 @@ use Rattle.subchannel_model.specs.declared.state.SubchannelState.{SubchannelStat
 use Rattle.subchannel_model.specs.declared.state.UpStep.{UpStep}
 use Rattle.subchannel_model.specs.declared.cause.Cause.TheVariants as cause
 use Rattle.subchannel_model.specs.Causes.{with_cause, without_begun}
-use Rattle.subchannel_model.specs.Statuses.{has_status_modifier, chains_command}
+use Rattle.subchannel_model.specs.Ends.{has_status_modifier, chains_command}
 use Rattle.subchannel_model.specs.Taking.{Met, meets, ignoring, let_go, suspending, standing, goes_ahead, with_path, beginning, begin_standing, accepted_by, accept_by, move_bytes, move_data, chaining, goes_on, with_end, end_shown_at, stops_at, command_ended, end_of, reset_taken, notice, takes_up}
 use Rattle.subchannel.specs.Answering.{path_of, only_if, held_path, accepted_path, moved_path, chained_path, going_path, ended_path, end_of_path, answer_path}
 

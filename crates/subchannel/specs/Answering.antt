@@ -17,7 +17,7 @@ use Rattle.transfer.specs.Commands.{next_command}
 use Rattle.transfer.specs.Chunks.{is_answered}
 use Rattle.subchannel_model.specs.declared.state.Begun.{Begun}
 use Rattle.subchannel_model.specs.declared.state.SubchannelState.{SubchannelState}
-use Rattle.subchannel_model.specs.Statuses.{has_status_modifier, chains_command}
+use Rattle.subchannel_model.specs.Ends.{has_status_modifier, chains_command}
 use Rattle.subchannel_model.specs.Taking.{standing, goes_ahead, with_end, may_attend}
 
 abbrev pub path_of : Option (OnPath Down) → Option ℕ

@@ -1,15 +1,23 @@
--- The causes of status: what each shows, and which programs are over with it, row by row (SA22-7832, chapter 16; the bits are
--- this project's own choice).
+-- The causes of status as one table: what each shows, which programs it leaves, and which status word its status joins
+-- (SA22-7832, chapter 16; the bits are this project's own choice). What an End shows is in `Ends`.
 use Rattle.std.specs.Prelude.{ℕ, Bool, true, false, if◌then◌else◌, Option, None, Some}
 use Rattle.scsw_irb.specs.declared.scsw.DeferredCode.{DeferredCode}
 use Rattle.scsw_irb.specs.declared.scsw.DeferredCode.TheVariants as deferred
 use Rattle.scsw_irb.specs.declared.scsw.Scsw.{Scsw}
 use Rattle.scsw_irb.specs.declared.scsw.StatusControl.{StatusControl}
-use Rattle.scsw_irb.specs.declared.status.DeviceStatus.{DeviceStatus}
 use Rattle.scsw_irb.specs.Empty.{no_functions, no_activity, no_status, zero_scsw}
 use Rattle.subchannel_model.specs.declared.status.Shown.{Shown}
-use Rattle.subchannel_model.specs.Status.{conditions, shows_primary, no_device_status, no_subchannel_status}
+use Rattle.subchannel_model.specs.Status.{
+  check_bits,
+  conditions,
+  no_device_status,
+  no_subchannel_status,
+  scsw_made,
+  serials_made,
+  shows_primary,
+}
 use Rattle.chan_model.specs.UnitReports.{is_last_end}
+use Rattle.channel_program.specs.declared.check.Check.{Check}
 use Rattle.data_move.specs.Moving.{residual}
 use Rattle.subchannel_model.specs.declared.cause.Cause.{Cause}
 use Rattle.subchannel_model.specs.declared.cause.Cause.TheVariants as cause
@@ -17,8 +25,8 @@ use Rattle.subchannel_model.specs.declared.state.Program.{Program}
 use Rattle.subchannel_model.specs.declared.state.Begun.{Begun}
 use Rattle.subchannel_model.specs.declared.state.Standing.{Standing}
 use Rattle.subchannel_model.specs.declared.state.SubchannelState.{SubchannelState}
+use Rattle.subchannel_model.specs.Ends.{end_shown, has_shown}
 use Rattle.subchannel_model.specs.Programs.{without_programs}
-use Rattle.subchannel_model.specs.Statuses.{with_status, channel_end_shown, fetch_fault_shown, no_path_shown, last_shown, has_shown}
 
 -- status is pending, and nothing else is shown
 abbrev pub plain_shown : ℕ → ℕ → Shown
@@ -32,8 +40,8 @@ plain_shown address count = record {
   count = count;
 }
 
--- the words of the program of which a status speaks: where a start waits, or no program is there, they stand as they were
--- left; otherwise they are those of the program that holds the device, or of the suspended one
+-- the command address of the program of which a status speaks: where a start waits, or no program is there, it stands as it
+-- was left; otherwise it is that of the program that holds the device, or of the suspended one
 abbrev pub address_at : ℕ → Option Standing → ℕ
 address_at stands None = stands
 address_at stands (Some st) = st.walk.tried
@@ -49,6 +57,7 @@ address_by stands (Some program) begun suspended = stands
 abbrev pub address_shown : SubchannelState → ℕ
 address_shown s = address_by s.scsw.command_address s.waiting s.begun s.suspended
 
+-- the count of the program of which a status speaks, by the same cases
 abbrev pub count_at : ℕ → Option Standing → ℕ
 count_at stands None = stands
 count_at stands (Some st) = st.count
@@ -64,16 +73,22 @@ count_by stands (Some program) begun suspended = stands
 abbrev pub count_shown : SubchannelState → ℕ
 count_shown s = count_by s.scsw.count s.waiting s.begun s.suspended
 
--- that program showed its primary status: one that waits or is suspended did not
+-- nothing but the address and the count of that program is shown
+abbrev pub program_shown : SubchannelState → Shown
+program_shown s = plain_shown (address_shown s) (count_shown s)
+
+-- that program showed its primary status; one that waits or is suspended did not
 abbrev pub was_shown : Option Program → Option Begun → Bool
 was_shown None None = false
 was_shown None (Some b) = b.primary_shown
 was_shown (Some program) begun = false
 
--- End: channel end alone; otherwise the last of its program, or of an earlier one while a start waits
-abbrev pub end_shown : SubchannelState → Begun → DeviceStatus → Bool → Shown
-end_shown s b status more =
-    if is_last_end status then last_shown s.scsw b s.waiting status more else channel_end_shown s.scsw b status more
+-- a command could not be fetched, or may not take control; the count is that of the command before, where there is one
+abbrev pub fetch_fault_shown : ℕ → Check → ℕ → Shown
+fetch_fault_shown tried check count = record (plain_shown tried count) {
+  conditions = conditions true true true;
+  subchannel = record { 0 = check_bits (Some check) };
+}
 
 -- attention: deferred condition code 1 where a start waits
 abbrev pub attention_deferred : Option Program → Option DeferredCode
@@ -87,13 +102,13 @@ attention_shown s = record (plain_shown s.scsw.command_address s.scsw.count) {
   deferred = attention_deferred s.waiting;
 }
 
--- no path: of a program that is to go on, its own words
-abbrev pub path_missing_shown : SubchannelState → Shown
-path_missing_shown s = record (no_path_shown s.scsw) { command_address = address_shown s; count = count_shown s }
+-- a program that is to be offered found no path: deferred condition code 3
+abbrev pub no_path_shown : SubchannelState → Shown
+no_path_shown s = record (program_shown s) { conditions = conditions true true true; deferred = Some deferred.Three }
 
 -- interface-control check: primary status too where its program has not shown it, as where a start waits
 abbrev pub interface_shown : SubchannelState → Shown
-interface_shown s = record (plain_shown (address_shown s) (count_shown s)) {
+interface_shown s = record (program_shown s) {
   conditions = conditions true (shows_primary s.scsw.functions (was_shown s.waiting s.begun)) true;
   subchannel = record { 0 = 0x02 };
 }
@@ -109,25 +124,18 @@ interruption_shown s tried count = record (plain_shown tried count) {
   subchannel = record { 0 = 0x80 };
 }
 
+-- a program is suspended: no activity but that is left
 abbrev pub suspension_shown : ℕ → ℕ → Shown
 suspension_shown tried count = record (plain_shown tried count) {
   conditions = intermediate;
   activity = record no_activity { suspended = true };
 }
 
--- the table
-abbrev pub shown_of : SubchannelState → Cause → Shown
-shown_of s (cause.End b status more) = end_shown s b status more
-shown_of s (cause.FetchFault tried check count) = fetch_fault_shown tried check count
-shown_of s cause.Attention = attention_shown s
-shown_of s cause.NoPath = path_missing_shown s
-shown_of s cause.InterfaceControlCheck = interface_shown s
-shown_of s (cause.Interruption tried count) = interruption_shown s tried count
-shown_of s (cause.Suspension tried count) = suspension_shown tried count
-shown_of s cause.ClearDone = plain_shown 0 0
-shown_of s cause.HaltDone = plain_shown (address_shown s) (count_shown s)
+-- after channel end alone the program works on, and showed its primary status
+abbrev pub after_end : SubchannelState → Begun → Bool → SubchannelState
+after_end s b last = if last then without_programs s else record s { begun = Some (has_shown b) }
 
--- the program that was begun is over, or where none was the one that was to be
+-- the program that was begun is over, or where none was begun the one that was to be
 abbrev pub without_begun : Option Begun → SubchannelState → SubchannelState
 without_begun None s = record s { waiting = None; suspended = None }
 without_begun (Some b) s = record s { begun = None }
@@ -137,35 +145,81 @@ abbrev pub without_waiting : Option Program → SubchannelState → SubchannelSt
 without_waiting None s = record s { suspended = None }
 without_waiting (Some program) s = record s { waiting = None }
 
--- after channel end alone the program works on, and showed its primary status
-abbrev pub after_end : SubchannelState → Begun → Bool → SubchannelState
-after_end s b last = if last then without_programs s else record s { begun = Some (has_shown b) }
-
-abbrev pub programs_left : SubchannelState → Cause → SubchannelState
-programs_left s (cause.End b status more) = after_end s b (is_last_end status)
-programs_left s (cause.FetchFault tried check count) = without_begun s.begun s
-programs_left s cause.Attention = record s { waiting = None }
-programs_left s cause.NoPath = without_waiting s.waiting s
-programs_left s cause.InterfaceControlCheck = without_programs s
-programs_left s (cause.Interruption tried count) = s
-programs_left s (cause.Suspension tried count) = s
-programs_left s cause.ClearDone = s
-programs_left s cause.HaltDone = without_programs s
-
--- the status word that the status joins: with a clear nothing but the clear function is left; with a halt an intermediate
--- status that stands is turned off; one that is not enabled gets no status, but its activity and its programs change
+-- with a clear nothing but the clear function is left of the status word
 abbrev pub clear_scsw : Scsw
 clear_scsw = record zero_scsw { functions = record no_functions { clear = true } }
 
+-- with a halt an intermediate status that stands is turned off
 abbrev pub without_intermediate : Scsw → Scsw
 without_intermediate scsw = record scsw { status = record scsw.status { intermediate = false } }
 
-abbrev pub joined_by : Bool → Scsw → Cause → Scsw
-joined_by enabled scsw cause.ClearDone = if enabled then clear_scsw else scsw
-joined_by enabled scsw cause.HaltDone = if enabled then without_intermediate scsw else scsw
-joined_by enabled scsw other = scsw
+-- a row of the table: what the status shows, the subchannel without the programs that are over, and the status word that the
+-- status joins
+pub record CauseRow : Type 0 where
+  pub shown : Shown
+  pub left : SubchannelState
+  pub joins : Scsw
+
+-- the table
+abbrev pub row_of : SubchannelState → Cause → CauseRow
+row_of s (cause.End b status more) = record {
+  shown = end_shown s b status more;
+  left = after_end s b (is_last_end status);
+  joins = s.scsw;
+}
+row_of s (cause.FetchFault tried check count) = record {
+  shown = fetch_fault_shown tried check count;
+  left = without_begun s.begun s;
+  joins = s.scsw;
+}
+row_of s cause.Attention = record {
+  shown = attention_shown s;
+  left = record s { waiting = None };
+  joins = s.scsw;
+}
+row_of s cause.NoPath = record {
+  shown = no_path_shown s;
+  left = without_waiting s.waiting s;
+  joins = s.scsw;
+}
+row_of s cause.InterfaceControlCheck = record {
+  shown = interface_shown s;
+  left = without_programs s;
+  joins = s.scsw;
+}
+row_of s (cause.Interruption tried count) = record {
+  shown = interruption_shown s tried count;
+  left = s;
+  joins = s.scsw;
+}
+row_of s (cause.Suspension tried count) = record {
+  shown = suspension_shown tried count;
+  left = s;
+  joins = s.scsw;
+}
+row_of s cause.ClearDone = record {
+  shown = plain_shown 0 0;
+  left = s;
+  joins = clear_scsw;
+}
+row_of s cause.HaltDone = record {
+  shown = program_shown s;
+  left = without_programs s;
+  joins = without_intermediate s.scsw;
+}
+
+-- a status is made pending, and counted
+abbrev pub with_status : SubchannelState → Shown → SubchannelState
+with_status s shown = record s { scsw = scsw_made s.pmcw.enabled s.scsw shown; serials = serials_made s.pmcw.enabled s.serials }
+
+-- a subchannel that is not enabled gets no status, and joins none to its status word; its programs and its activity change
+-- as if it were enabled (own)
+abbrev pub scsw_joined : Bool → Scsw → Scsw → Scsw
+scsw_joined enabled scsw joins = if enabled then joins else scsw
+
+abbrev pub with_row : SubchannelState → CauseRow → SubchannelState
+with_row s row = with_status (record row.left { scsw = scsw_joined s.pmcw.enabled s.scsw row.joins }) row.shown
 
 -- the subchannel after the cause
 abbrev pub with_cause : SubchannelState → Cause → SubchannelState
-with_cause s cause =
-    with_status (record (programs_left s cause) { scsw = joined_by s.pmcw.enabled s.scsw cause }) (shown_of s cause)
+with_cause s c = with_row s (row_of s c)

@@ -12,7 +12,7 @@ pub mod Test
 pub mod Store
 pub mod Modify
 pub mod Enable
-pub mod Statuses
+pub mod Ends
 pub mod Causes
 pub mod Choosing
 pub mod Sending

@@ -1,5 +1,5 @@
 -- Status: how it joins what is pending, and how it is counted (SA22-7832, chapter 16).
-use Rattle.std.specs.Prelude.{◌+◌, Bool, true, not, ◌&&◌, ◌||◌, nat_lt, if◌then◌else◌, unwrap_or, bit_or}
+use Rattle.std.specs.Prelude.{ℕ, ◌+◌, Bool, true, not, ◌&&◌, ◌||◌, nat_lt, if◌then◌else◌, Option, None, Some, unwrap_or, bit_or}
 use Rattle.scsw_irb.specs.Empty.{no_status}
 use Rattle.scsw_irb.specs.declared.scsw.FunctionControl.{FunctionControl}
 use Rattle.scsw_irb.specs.declared.scsw.StatusControl.{StatusControl}
@@ -7,6 +7,8 @@ use Rattle.scsw_irb.specs.declared.scsw.Scsw.{Scsw}
 use Rattle.scsw_irb.specs.declared.serials.Serials.{Serials}
 use Rattle.scsw_irb.specs.declared.status.DeviceStatus.{DeviceStatus}
 use Rattle.scsw_irb.specs.declared.status.SubchannelStatus.{SubchannelStatus}
+use Rattle.channel_program.specs.declared.check.Check.{Check}
+use Rattle.channel_program.specs.declared.check.Check.TheVariants.{Program, Protection}
 use Rattle.subchannel_model.specs.declared.status.Shown.{Shown}
 
 abbrev pub no_device_status : DeviceStatus
@@ -14,6 +16,12 @@ no_device_status = record { 0 = 0 }
 
 abbrev pub no_subchannel_status : SubchannelStatus
 no_subchannel_status = record { 0 = 0 }
+
+-- the subchannel status of a check
+abbrev pub check_bits : Option Check → ℕ
+check_bits None = 0
+check_bits (Some Program) = 0x20
+check_bits (Some Protection) = 0x10
 
 -- status joins the status that is pending, and begins from nothing where none is
 abbrev pub joined_conditions : StatusControl → StatusControl → StatusControl

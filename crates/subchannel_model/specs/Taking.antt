@@ -38,7 +38,7 @@ use Rattle.subchannel_model.specs.declared.cause.Cause.TheVariants as cause
 use Rattle.subchannel_model.specs.declared.state.Standing.{Standing}
 use Rattle.subchannel_model.specs.Causes.{with_cause}
 use Rattle.subchannel_model.specs.Losing.{reset_for}
-use Rattle.subchannel_model.specs.Statuses.{has_status_modifier, chains_command}
+use Rattle.subchannel_model.specs.Ends.{has_status_modifier, chains_command}
 
 -- a subchannel after a signal, what came of the signal, and storage
 pub record Met : Type 0 where

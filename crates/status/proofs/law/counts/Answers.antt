@@ -12,9 +12,9 @@ use Rattle.subchannel_model.specs.declared.cause.Cause.TheVariants as cause
 use Rattle.subchannel_model.specs.declared.state.Begun.{Begun}
 use Rattle.subchannel_model.specs.declared.state.Program.{Program}
 use Rattle.subchannel_model.specs.declared.state.SubchannelState.{SubchannelState}
-use Rattle.subchannel_model.specs.Causes.{programs_left, without_begun, without_waiting, joined_by, shown_of}
+use Rattle.subchannel_model.specs.Causes.{CauseRow, row_of, scsw_joined, without_begun, without_waiting}
 use Rattle.subchannel_model.specs.Programs.{without_programs}
-use Rattle.subchannel_model.specs.Statuses.{has_shown}
+use Rattle.subchannel_model.specs.Ends.{has_shown}
 use Rattle.functions.specs.Counted.{IsCounted}
 use Rattle.status.proofs.law.counts.Goals as goal
 
@@ -34,8 +34,9 @@ waiting-same : (w : Option Program) (s : SubchannelState) → Same s (without_wa
 waiting-same None s = (refl, refl)
 waiting-same (Some w) s = (refl, refl)
 
-same : (s : SubchannelState) (c : Cause) → Same s (programs_left s c)
-same s (cause.End b status more) = pick-same (is_last_end status) s (without_programs s) (record s { begun = Some (has_shown b) }) (refl, refl) (refl, refl)
+same : (s : SubchannelState) (c : Cause) → Same s (row_of s c).left
+same s (cause.End b status more) =
+    pick-same (is_last_end status) s (without_programs s) (record s { begun = Some (has_shown b) }) (refl, refl) (refl, refl)
 same s (cause.FetchFault tried check count) = begun-same s.begun s
 same s cause.Attention = (refl, refl)
 same s cause.NoPath = waiting-same s.waiting s
@@ -52,35 +53,27 @@ joined-pending : (b : Bool) (x y : Scsw) → x.status.pending ≡ true → y.sta
 joined-pending true x y e f = e
 joined-pending false x y e f = f
 
-unjoined : (scsw : Scsw) (c : Cause) → (joined_by false scsw c).status.pending ≡ scsw.status.pending
-unjoined scsw (cause.End b status more) = refl
-unjoined scsw (cause.FetchFault tried check count) = refl
-unjoined scsw cause.Attention = refl
-unjoined scsw cause.NoPath = refl
-unjoined scsw cause.InterfaceControlCheck = refl
-unjoined scsw (cause.Interruption tried count) = refl
-unjoined scsw (cause.Suspension tried count) = refl
-unjoined scsw cause.ClearDone = refl
-unjoined scsw cause.HaltDone = refl
+made : (e : Bool) (scsw joins : Scsw) (x : Serials) (shown : Shown) → Counted scsw x →
+    Counted (scsw_made e (scsw_joined e scsw joins) shown) (serials_made e x)
+made true scsw joins x shown k =
+    let o : x.cleared ≤ x.made = k.0 in (
+      omega (arith, o),
+      joined-pending joins.status.pending _ _ refl refl ∙ sym (lt-ltb x.cleared (x.made + 1) (omega (arith, o))),
+    )
+made false scsw joins x shown k = k
 
-made : (e : Bool) (scsw : Scsw) (x : Serials) (c : Cause) (shown : Shown) → Counted scsw x →
-    Counted (scsw_made e (joined_by e scsw c) shown) (serials_made e x)
-made true scsw x c shown k =
-    let o : x.cleared ≤ x.made = k.0 in
-    (omega (arith, o), joined-pending (joined_by true scsw c).status.pending _ _ refl refl ∙ sym (lt-ltb x.cleared (x.made + 1) (omega (arith, o))))
-made false scsw x c shown k = (k.0, unjoined scsw c ∙ k.1)
-
-made-after : (s : SubchannelState) (c : Cause) (shown : Shown) (e : Bool) (x : Serials) → s.pmcw.enabled ≡ e → s.serials ≡ x → IsCounted s →
-    Counted (scsw_made e (joined_by s.pmcw.enabled s.scsw c) shown) (serials_made e x)
-made-after s c shown e x f g k =
-    subst (λ v. Counted (scsw_made v (joined_by s.pmcw.enabled s.scsw c) shown) (serials_made v x)) f
-    (subst (λ v. Counted (scsw_made s.pmcw.enabled (joined_by s.pmcw.enabled s.scsw c) shown) (serials_made s.pmcw.enabled v)) g
-    (made s.pmcw.enabled s.scsw s.serials c shown k))
+made-after : (s : SubchannelState) (joins : Scsw) (shown : Shown) (e : Bool) (x : Serials) → s.pmcw.enabled ≡ e → s.serials ≡ x →
+    IsCounted s → Counted (scsw_made e (scsw_joined s.pmcw.enabled s.scsw joins) shown) (serials_made e x)
+made-after s joins shown e x f g k =
+    subst (λ v. Counted (scsw_made v (scsw_joined s.pmcw.enabled s.scsw joins) shown) (serials_made v x)) f
+    (subst (λ v. Counted (scsw_made s.pmcw.enabled (scsw_joined s.pmcw.enabled s.scsw joins) shown) (serials_made s.pmcw.enabled v)) g
+    (made s.pmcw.enabled s.scsw joins s.serials shown k))
 
 pub returns-clause-made : goal.returns-clause-made
 returns-clause-made c = λ s x k.
-    let kept : Same s (programs_left s x) = same s x in
-    made-after s x (shown_of s x) (programs_left s x).pmcw.enabled (programs_left s x).serials kept.0 kept.1 k
+    let row : CauseRow = row_of s x in
+    let kept : Same s row.left = same s x in
+    made-after s row.joins row.shown row.left.pmcw.enabled row.left.serials kept.0 kept.1 k
 
 -- TEST clears all status
 not-below : (m : ℕ) → false ≡ nat_lt m m

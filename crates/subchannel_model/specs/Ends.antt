@@ -1,24 +1,19 @@
--- The statuses of a subchannel, by their causes (SA22-7832, chapter 16; the bits are this project's own choice).
-use Rattle.std.specs.Prelude.{ℕ, Bool, true, false, not, ◌&&◌, ◌||◌, Option, None, Some, is_some, bit_or}
+-- What an End of a command shows, and whether the next command is chained to (SA22-7832, chapter 16; the bits are this
+-- project's own choice).
+use Rattle.std.specs.Prelude.{ℕ, Bool, true, false, not, ◌&&◌, ◌||◌, if◌then◌else◌, Option, None, Some, is_some, bit_or}
 use Rattle.scsw_irb.specs.declared.scsw.DeferredCode.TheVariants as deferred
 use Rattle.scsw_irb.specs.declared.scsw.Scsw.{Scsw}
 use Rattle.scsw_irb.specs.declared.status.DeviceStatus.{DeviceStatus}
 use Rattle.scsw_irb.specs.declared.status.SubchannelStatus.{SubchannelStatus}
 use Rattle.scsw_irb.specs.Empty.{no_activity}
 use Rattle.subchannel_model.specs.declared.status.Shown.{Shown}
-use Rattle.subchannel_model.specs.Status.{scsw_made, serials_made, conditions, shows_primary, no_device_status, no_subchannel_status}
+use Rattle.subchannel_model.specs.Status.{check_bits, conditions, shows_primary}
 use Rattle.scsw_irb.specs.Status.{has}
-use Rattle.chan_model.specs.UnitReports.{has_channel_end, has_device_end, has_unit_check}
-use Rattle.channel_program.specs.declared.check.Check.{Check}
-use Rattle.channel_program.specs.declared.check.Check.TheVariants.{Program, Protection}
+use Rattle.chan_model.specs.UnitReports.{has_channel_end, has_device_end, has_unit_check, is_last_end}
 use Rattle.data_move.specs.Moving.{residual, is_incorrect}
 use Rattle.subchannel_model.specs.declared.state.Begun.{Begun}
-use Rattle.subchannel_model.specs.declared.state.Program as state
+use Rattle.subchannel_model.specs.declared.state.Program.{Program}
 use Rattle.subchannel_model.specs.declared.state.SubchannelState.{SubchannelState}
-
--- a status is made pending
-abbrev pub with_status : SubchannelState → Shown → SubchannelState
-with_status s shown = record s { scsw = scsw_made s.pmcw.enabled s.scsw shown; serials = serials_made s.pmcw.enabled s.serials }
 
 -- two more bits of a device status (SA22-7832, chapter 16)
 abbrev pub has_status_modifier : DeviceStatus → Bool
@@ -26,40 +21,6 @@ has_status_modifier status = has status.0 0x40
 
 abbrev pub has_unit_exception : DeviceStatus → Bool
 has_unit_exception status = has status.0 0x01
-
--- the subchannel status of a check, and of an incorrect length
-abbrev pub check_bits : Option Check → ℕ
-check_bits None = 0
-check_bits (Some Program) = 0x20
-check_bits (Some Protection) = 0x10
-
-abbrev pub length_bits : Bool → ℕ
-length_bits true = 0x40
-length_bits false = 0
-
--- a start found no path: deferred condition code 3
-abbrev pub no_path_shown : Scsw → Shown
-no_path_shown scsw = record {
-  conditions = conditions true true true;
-  activity = no_activity;
-  device = no_device_status;
-  subchannel = no_subchannel_status;
-  deferred = Some deferred.Three;
-  command_address = scsw.command_address;
-  count = scsw.count;
-}
-
--- a command could not be fetched, or may not take control; the count is that of the command before, where there is one
-abbrev pub fetch_fault_shown : ℕ → Check → ℕ → Shown
-fetch_fault_shown tried check count = record {
-  conditions = conditions true true true;
-  activity = no_activity;
-  device = no_device_status;
-  subchannel = record { 0 = check_bits (Some check) };
-  deferred = None;
-  command_address = tried;
-  count = count;
-}
 
 -- an incorrect length is shown at the first End of a command, where bytes are left on one side; not with unit check alone
 -- (own), nor where a halt is specified (own), nor where SLI is one and CD zero; for a command that ended at once only in
@@ -83,6 +44,11 @@ shows_length scsw b status more =
     && (not (is_unit_check_alone status)
     && (not scsw.functions.halt
     && (not (suppresses_length b) && shows_immediate b status))))
+
+-- the subchannel status of an End: an incorrect length, and the check that was kept
+abbrev pub length_bits : Bool → ℕ
+length_bits true = 0x40
+length_bits false = 0
 
 abbrev pub end_bits : Scsw → Begun → DeviceStatus → Bool → SubchannelStatus
 end_bits scsw b status more = record { 0 = bit_or (length_bits (shows_length scsw b status more)) (check_bits b.transfer.fault) }
@@ -140,10 +106,15 @@ earlier_end_shown scsw b status more = record {
   count = scsw.count;
 }
 
-abbrev pub last_shown : Scsw → Begun → Option state.Program → DeviceStatus → Bool → Shown
+abbrev pub last_shown : Scsw → Begun → Option Program → DeviceStatus → Bool → Shown
 last_shown scsw b None status more = last_end_shown scsw b status more
 last_shown scsw b (Some waiting) status more = earlier_end_shown scsw b status more
 
--- channel end alone where nothing is chained
+-- an End of a program where a start may wait: channel end alone, or the last End of the program
+abbrev pub end_shown : SubchannelState → Begun → DeviceStatus → Bool → Shown
+end_shown s b status more =
+    if is_last_end status then last_shown s.scsw b s.waiting status more else channel_end_shown s.scsw b status more
+
+-- a program whose command showed channel end alone has shown its primary status, and chains nothing to that command
 abbrev pub has_shown : Begun → Begun
 has_shown b = record b { primary_shown = true; transfer = record b.transfer { ended = true; unchained = true } }
