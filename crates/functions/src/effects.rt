@@ -11,6 +11,7 @@ ghost use Rattle.subchannel_model.specs.Modify as modify_spec;
 ghost use Rattle.subchannel_model.specs.Start as start_spec;
 
 use crate::codes::is_intermediate_alone;
+use allegiance::allegiances::{Cause, dedicated};
 use chan_model::paths::paths_of_mask;
 use hold::Hold;
 use orb_block::Orb;
@@ -178,7 +179,7 @@ pub(crate) fn clear(state: &mut SubchannelState)
     let mut hold = Hold::of(state.hold);
     hold.reset(state.drawn);
     state.hold = hold.state();
-    state.dedicated = None;
+    state.dedicated = dedicated(state.dedicated, Cause::Clear);
 }
 
 fn cancel_scsw(scsw: &mut Scsw)

@@ -15,9 +15,10 @@ use Rattle.chan_model.specs.declared.signal.Up.TheVariants as up
 use Rattle.chan_model.specs.HoldTable.{HoldStep, begun, hold_after, hold_takes, is_connected, is_on, letting_go, sending_reset, came_of}
 use Rattle.chan_model.specs.UnitReports.{is_last_end, is_outward, has_device_end}
 use Rattle.wires.specs.Queues.{queue}
-use Rattle.scsw_irb.specs.declared.status.DeviceStatus.{DeviceStatus}
 use Rattle.agreement_laws.specs.Links.{Link}
 use Rattle.agreement_laws.specs.Moving.{reset_again, Offers, Sends_reset, Lets_go, Is_reset, Takes, Sends, HoldActed, still, stepped, offered, hold_acts}
+use Rattle.subchannel_model.specs.declared.signals.DataSignal.{DataSignal}
+use Rattle.subchannel_model.specs.declared.signals.EndSignal.{EndSignal}
 use Rattle.subchannel_model.specs.declared.state.Begun.{Begun}
 use Rattle.channel_program.specs.Walks.{Place}
 use Rattle.subchannel_model.specs.declared.state.Chosen.{Chosen}
@@ -43,7 +44,7 @@ use Rattle.machine_model.specs.Turns.{SubTurn, UpTurn}
 use Rattle.machine_model.specs.ChooseSteps.{choose_sub}
 use Rattle.subchannel_model.specs.Sending.{is_full, finds_full}
 use Rattle.machine_model.specs.UpSteps.{up_front, up_sub}
-use Rattle.subchannel_model.specs.Taking.{Met, with_known, meets, ignoring, quietly, sending, let_go, by_hold, moving_on, giving, give_next, answering, take_in, bytes_of, standing, goes_ahead, with_path, taking_over, interrupted, suspending, beginning, begin_standing, halt_done, accept, move_bytes, move_data, with_end, chaining, chain_with, goes_on, end_shown_at, stops_at, command_ended, end_of, reset_taken, may_attend, with_attention, takes_up}
+use Rattle.subchannel_model.specs.Taking.{Met, with_known, meets, ignoring, quietly, sending, let_go, by_hold, moving_on, giving, give_next, answering, take_in, bytes_of, standing, goes_ahead, with_path, taking_over, interrupted, suspending, beginning, begin_standing, halt_done, accept, move_bytes, move_data, with_end, end_taken, chaining, chain_with, goes_on, end_shown_at, stops_at, command_ended, end_of, reset_taken, may_attend, with_attention, takes_up}
 use Rattle.subchannel_model.specs.Losing.{has_any, is_offered_or_held, reset_for}
 use Rattle.machine_laws.proofs.Resetting.{reset-acted}
 use Rattle.machine_laws.proofs.SameHold.{IsSameHold, same-hold, same-then, cause-same, interrupted-same, moving-same, suspending-same, halt_done-same, clear_done-same, attention-same}
@@ -182,53 +183,53 @@ module _ (keeps : Keeps) where
   accept-leaves storage l s h (hold.Reset r) p u may c at = stays l s.drawn (record h { phase = hold.Reset r }) at
 
   -- Data
-  given-leaves : (l : Link) (s : SubchannelState) (b : Begun) (p t c n seq : ℕ) (given : Given) → IsOf l s → Leaves l (giving s b p t c n seq given)
-  given-leaves l s b p t c n seq given at =
+  given-leaves : (l : Link) (s : SubchannelState) (b : Begun) (signal : DataSignal) (given : Given) → IsOf l s → Leaves l (giving s b signal given)
+  given-leaves l s b signal given at =
       let x = moving_on s b given.transfer in acts keeps l x.drawn x.hold (Sends _) _ tt (still-of l s x (moving-same s b given.transfer) at) refl
 
-  answer-leaves : (l : Link) (s : SubchannelState) (b : Begun) (p t n seq : ℕ) (roomy : Roomy) → IsOf l s → Leaves l (answering s b p t n seq roomy)
-  answer-leaves l s b p t n seq roomy at =
+  answer-leaves : (l : Link) (s : SubchannelState) (b : Begun) (signal : DataSignal) (roomy : Roomy) → IsOf l s → Leaves l (answering s b signal roomy)
+  answer-leaves l s b signal roomy at =
       let x = moving_on s b roomy.transfer in acts keeps l x.drawn x.hold (Sends _) _ tt (still-of l s x (moving-same s b roomy.transfer) at) refl
 
-  move-leaves : (storage : Contents) (l : Link) (s : SubchannelState) (b : Option Begun) (p t c n seq : ℕ) (load : Load) → IsOf l s →
-      Leaves l (move_data storage s b p t c n seq load).step
-  move-leaves storage l s None p t c n seq load at = ignored l s at
-  move-leaves storage l s (Some b) p t c n seq load at =
-      if-meets l (is_answered b.transfer n seq) (move_bytes storage s b p t c n seq load) (meets storage (ignoring s))
-      (if-meets l (is_outward b.transfer.code) (meets storage (give_next storage s b p t c n seq (load_length load))) (take_in s b p t n seq (brought storage b.transfer seq (bytes_of load)))
-      (given-leaves l s b p t c n seq (next_given storage (absorbed storage b.transfer seq (load_length load))) at)
-      (answer-leaves l s b p t n seq (with_room (brought storage b.transfer seq (bytes_of load)).storage (brought storage b.transfer seq (bytes_of load)).transfer) at))
+  move-leaves : (storage : Contents) (l : Link) (s : SubchannelState) (b : Option Begun) (signal : DataSignal) (load : Load) → IsOf l s →
+      Leaves l (move_data storage s b signal load).step
+  move-leaves storage l s None signal load at = ignored l s at
+  move-leaves storage l s (Some b) signal load at =
+      if-meets l (is_answered b.transfer signal.command signal.sequence) (move_bytes storage s b signal load) (meets storage (ignoring s))
+      (if-meets l (is_outward b.transfer.code) (meets storage (give_next storage s b signal (load_length load))) (take_in s b signal (brought storage b.transfer signal.sequence (bytes_of load)))
+      (given-leaves l s b signal (next_given storage (absorbed storage b.transfer signal.sequence (load_length load))) at)
+      (answer-leaves l s b signal (with_room (brought storage b.transfer signal.sequence (bytes_of load)).storage (brought storage b.transfer signal.sequence (bytes_of load)).transfer) at))
       (ignored l s at)
 
   -- End
-  chaining-leaves : (storage : Contents) (l : Link) (s : SubchannelState) (b : Begun) (p t : ℕ) (walk : Place) (r : Came) → IsOf l s →
-      Leaves l (chaining storage s b p t walk r)
-  chaining-leaves storage l s b p t walk (came.Begins transfer) at =
+  chaining-leaves : (storage : Contents) (l : Link) (s : SubchannelState) (b : Begun) (signal : EndSignal) (walk : Place) (r : Came) → IsOf l s →
+      Leaves l (chaining storage s b signal walk r)
+  chaining-leaves storage l s b signal walk (came.Begins transfer) at =
       let x = moving_on s b (begun_with_room storage transfer).transfer in
-      command-leaves l s x p t _ _ _ (moving-same s b (begun_with_room storage transfer).transfer) at
-  chaining-leaves storage l s b p t walk came.Suspends at =
-      let x = suspending (record s { dedicated = None }) b.program walk (residual b.transfer.moving) in
-      let-leaves l (record s { dedicated = None }) x (suspending-same (record s { dedicated = None }) b.program walk (residual b.transfer.moving)) at
-  chaining-leaves storage l s b p t walk (came.Stops check) at =
-      let x = with_cause (record s { dedicated = None }) (cause.FetchFault walk.tried check (residual b.transfer.moving)) in
-      let-leaves l (record s { dedicated = None }) x (cause-same (record s { dedicated = None }) (cause.FetchFault walk.tried check (residual b.transfer.moving))) at
+      command-leaves l s x signal.path signal.number _ _ _ (moving-same s b (begun_with_room storage transfer).transfer) at
+  chaining-leaves storage l s b signal walk came.Suspends at =
+      let x = suspending (end_taken s signal) b.program walk (residual b.transfer.moving) in
+      let-leaves l (end_taken s signal) x (suspending-same (end_taken s signal) b.program walk (residual b.transfer.moving)) at
+  chaining-leaves storage l s b signal walk (came.Stops check) at =
+      let x = with_cause (end_taken s signal) (cause.FetchFault walk.tried check (residual b.transfer.moving)) in
+      let-leaves l (end_taken s signal) x (cause-same (end_taken s signal) (cause.FetchFault walk.tried check (residual b.transfer.moving))) at
 
-  stops-leaves : (l : Link) (s : SubchannelState) (b : Begun) (p : ℕ) (status : DeviceStatus) (more : Bool) → IsOf l s → Leaves l (stops_at s b p status more)
-  stops-leaves l s b p status more at =
-      let e : IsSameHold s (with_cause s (cause.End b status more)) = cause-same s (cause.End b status more) in
-      let x = end_shown_at s b p status more in
+  stops-leaves : (l : Link) (s : SubchannelState) (b : Begun) (signal : EndSignal) → IsOf l s → Leaves l (stops_at s b signal)
+  stops-leaves l s b signal at =
+      let e : IsSameHold s (with_cause s (cause.End b signal.status signal.more)) = cause-same s (cause.End b signal.status signal.more) in
+      let x = end_shown_at s b signal in
       let same : IsSameHold s x = same-hold s x e.drawn e.hold in
-      if-leaves l (is_last_end status) (let_go x) (quietly x) (let-leaves l s x same at) (quiet-leaves l s x same at)
+      if-leaves l (is_last_end signal.status) (let_go x) (quietly x) (let-leaves l s x same at) (quiet-leaves l s x same at)
 
-  end_of-leaves : (storage : Contents) (l : Link) (s : SubchannelState) (b : Option Begun) (p t n : ℕ) (status : DeviceStatus) (more : Bool) → IsOf l s →
-      Leaves l (end_of storage s b p t n status more)
-  end_of-leaves storage l s None p t n status more at = ignored l s at
-  end_of-leaves storage l s (Some b) p t n status more at =
-      if-leaves l (n == b.transfer.command) (command_ended storage s b p t status more) (ignoring s)
-      (if-leaves l (chains_command s.scsw b status more) (goes_on storage s (with_end b) p t status) (stops_at s b p status more)
-      (if-leaves l (has_device_end status) (chain_with storage s (with_end b) p t (next_command storage (with_end b).transfer (has_status_modifier status))) _
-      (chaining-leaves storage l s (with_end b) p t _ _ at) (stays l s.drawn s.hold at))
-      (stops-leaves l s b p status more at))
+  end_of-leaves : (storage : Contents) (l : Link) (s : SubchannelState) (b : Option Begun) (signal : EndSignal) → IsOf l s →
+      Leaves l (end_of storage s b signal)
+  end_of-leaves storage l s None signal at = ignored l s at
+  end_of-leaves storage l s (Some b) signal at =
+      if-leaves l (signal.command == b.transfer.command) (command_ended storage s b signal) (ignoring s)
+      (if-leaves l (chains_command s.scsw b signal.status signal.more) (goes_on storage s (with_end b) signal) (stops_at s b signal)
+      (if-leaves l (has_device_end signal.status) (chain_with storage s (with_end b) signal (next_command storage (with_end b).transfer (has_status_modifier signal.status))) _
+      (chaining-leaves storage l s (with_end b) signal _ _ at) (stays l s.drawn s.hold at))
+      (stops-leaves l s b signal at))
       (ignored l s at)
 
   takes-leaves : (returns : Bool) → (storage : Contents) (l : Link) (s : SubchannelState) (p : ℕ) (x : Up) → Contains l.ups (record { path = p; signal = x }) → IsOf l s →
@@ -238,10 +239,10 @@ module _ (keeps : Keeps) where
   takes-leaves returns storage l s p (up.Leave t d) c at = by_hold-leaves false l s p (up.Leave t d) c at refl
   takes-leaves returns storage l s p (up.Back t d) c at = by_hold-leaves returns l s p (up.Back t d) c at refl
   takes-leaves returns storage l s p (up.Data t d n seq load) c at =
-      if-meets l (is_connected s.hold.phase p t d) (move_data storage s s.begun p t d n seq load) (meets storage (ignoring s))
-      (move-leaves storage l s s.begun p t d n seq load at) (ignored l s at)
+      if-meets l (is_connected s.hold.phase p t d) (move_data storage s s.begun (record { path = p; number = t; connection = d; command = n; sequence = seq }) load) (meets storage (ignoring s))
+      (move-leaves storage l s s.begun (record { path = p; number = t; connection = d; command = n; sequence = seq }) load at) (ignored l s at)
   takes-leaves returns storage l s p (up.End t n status more) c at =
-      if-leaves l (is_on s.hold.phase t) _ (ignoring s) (end_of-leaves storage l s s.begun p t n status more at) (ignored l s at)
+      if-leaves l (is_on s.hold.phase t) _ (ignoring s) (end_of-leaves storage l s s.begun (record { path = p; number = t; command = n; status = status; more = more }) at) (ignored l s at)
   takes-leaves returns storage l s p (up.Released t) c at = by_hold-leaves false l s p (up.Released t) c at refl
   takes-leaves returns storage l s p (up.Cleared r) c at = reset-leaves l s (hold_takes s.hold p (up.Cleared r) false) (by_hold-leaves false l s p (up.Cleared r) c at refl)
   takes-leaves returns storage l s p (up.Notice b) c at = notice-leaves l s p b (nat_lt s.hold.known b) c at refl

@@ -6,7 +6,6 @@ use Rattle.std.proofs.lemmas.Bool.{lt-ltb, le-ltb}
 use Rattle.orb_block.specs.declared.Orb.{Orb}
 use Rattle.scsw_irb.specs.declared.scsw.Scsw.{Scsw}
 use Rattle.scsw_irb.specs.declared.serials.Serials.{Serials}
-use Rattle.scsw_irb.specs.declared.status.DeviceStatus.{DeviceStatus}
 use Rattle.storage_keys.specs.Storage.{Contents}
 use Rattle.channel_program.specs.Walks.{Place}
 use Rattle.chan_model.specs.declared.hold_state.HoldPhase.{HoldPhase}
@@ -32,6 +31,8 @@ use Rattle.transfer.specs.declared.Came.TheVariants as came
 use Rattle.transfer.specs.Numbers.{IsSame, IsLater, IsNew, IfBegins}
 use Rattle.subchannel_model.specs.declared.cause.Cause.{Cause}
 use Rattle.subchannel_model.specs.declared.cause.Cause.TheVariants as cause
+use Rattle.subchannel_model.specs.declared.signals.DataSignal.{DataSignal}
+use Rattle.subchannel_model.specs.declared.signals.EndSignal.{EndSignal}
 use Rattle.subchannel_model.specs.declared.state.Begun.{Begun}
 use Rattle.subchannel_model.specs.declared.state.Pmcw.{Pmcw}
 use Rattle.subchannel_model.specs.declared.state.Program.{Program}
@@ -47,7 +48,7 @@ use Rattle.subchannel_model.specs.Clear.{cleared_scsw}
 use Rattle.subchannel_model.specs.Programs.{without_programs}
 use Rattle.subchannel_model.specs.Ends.{has_status_modifier, chains_command, has_shown}
 use Rattle.subchannel_model.specs.Losing.{has_any, is_offered_or_held, reset_drawn, reset_with, reset_for}
-use Rattle.subchannel_model.specs.Taking.{with_known, Met, meets, ignoring, quietly, without_interruption, interrupted_by, standing, goes_ahead, taking_over, suspended_alone, standing_still, suspending, beginning, begin_standing, halt_done, accepted_by, accept_by, with_transfer, moving_on, give_next, take_in, bytes_of, move_bytes, move_data, take_data, with_end, chaining, chain_with, goes_on, end_shown_at, stops_at, command_ended, end_of, end_command, reset_taken, may_attend, takes_up, with_path, let_go}
+use Rattle.subchannel_model.specs.Taking.{with_known, Met, meets, ignoring, quietly, without_interruption, interrupted_by, standing, goes_ahead, taking_over, suspended_alone, standing_still, suspending, beginning, begin_standing, halt_done, accepted_by, accept_by, with_transfer, moving_on, give_next, take_in, bytes_of, move_bytes, move_data, take_data, with_end, end_taken, chaining, chain_with, goes_on, end_shown_at, stops_at, command_ended, end_of, end_command, reset_taken, may_attend, takes_up, with_path, let_go}
 use Rattle.step_laws.specs.Walks.{Function, Resumes, Halts, Clears, Cancels, effect_of}
 
 abbrev pub Sound : Serials → ℕ → SubchannelState → Type 0
@@ -303,77 +304,77 @@ module _ (numbered : AreNumbered) where
       (accepted_by-sound floor n storage (record s { hold = h }) h.phase taken k) (later floor n s k)
 
   -- Data
-  given-sound : (floor : Serials) (n : ℕ) (storage : Contents) (s : SubchannelState) (b : Begun) (p t c m seq count : ℕ) → IsMovedWithin n (Some b) → Sound floor n s →
-      Sound floor (n + 1) (give_next storage s b p t c m seq count).state
-  given-sound floor n storage s b p t c m seq count w k =
-      let a : IsLater b.transfer (absorbed storage b.transfer seq count) = numbered.absorbed storage b.transfer seq count in
-      let g : IsSame (absorbed storage b.transfer seq count) (next_given storage (absorbed storage b.transfer seq count)).transfer =
-      numbered.given storage (absorbed storage b.transfer seq count) in
-      transferred floor n s b (next_given storage (absorbed storage b.transfer seq count)).transfer (omega (arith, w.0, a.sequence, g.sequence)) (omega (arith, w.1, a.command, g.command))
+  given-sound : (floor : Serials) (n : ℕ) (storage : Contents) (s : SubchannelState) (b : Begun) (signal : DataSignal) (count : ℕ) → IsMovedWithin n (Some b) → Sound floor n s →
+      Sound floor (n + 1) (give_next storage s b signal count).state
+  given-sound floor n storage s b signal count w k =
+      let a : IsLater b.transfer (absorbed storage b.transfer signal.sequence count) = numbered.absorbed storage b.transfer signal.sequence count in
+      let g : IsSame (absorbed storage b.transfer signal.sequence count) (next_given storage (absorbed storage b.transfer signal.sequence count)).transfer =
+      numbered.given storage (absorbed storage b.transfer signal.sequence count) in
+      transferred floor n s b (next_given storage (absorbed storage b.transfer signal.sequence count)).transfer (omega (arith, w.0, a.sequence, g.sequence)) (omega (arith, w.1, a.command, g.command))
       (to-ready floor n s k)
 
-  taken-sound : (floor : Serials) (n : ℕ) (storage : Contents) (s : SubchannelState) (b : Begun) (p t m seq : ℕ) (bytes : List ℕ) → IsMovedWithin n (Some b) → Sound floor n s →
-      Sound floor (n + 1) (take_in s b p t m seq (brought storage b.transfer seq bytes)).step.state
-  taken-sound floor n storage s b p t m seq bytes w k =
-      let x = brought storage b.transfer seq bytes in
-      let a : IsLater b.transfer x.transfer = numbered.brought storage b.transfer seq bytes in
+  taken-sound : (floor : Serials) (n : ℕ) (storage : Contents) (s : SubchannelState) (b : Begun) (signal : DataSignal) (bytes : List ℕ) → IsMovedWithin n (Some b) → Sound floor n s →
+      Sound floor (n + 1) (take_in s b signal (brought storage b.transfer signal.sequence bytes)).step.state
+  taken-sound floor n storage s b signal bytes w k =
+      let x = brought storage b.transfer signal.sequence bytes in
+      let a : IsLater b.transfer x.transfer = numbered.brought storage b.transfer signal.sequence bytes in
       let r : IsSame x.transfer (with_room x.storage x.transfer).transfer = numbered.room x.storage x.transfer in
       transferred floor n s b (with_room x.storage x.transfer).transfer (omega (arith, w.0, a.sequence, r.sequence)) (omega (arith, w.1, a.command, r.command))
       (to-ready floor n s k)
 
-  move-sound : (floor : Serials) (n : ℕ) (storage : Contents) (s : SubchannelState) (b : Option Begun) (p t c m seq : ℕ) (load : Load) → IsMovedWithin n b → Sound floor n s →
-      Sound floor (n + 1) (move_data storage s b p t c m seq load).step.state
-  move-sound floor n storage s None p t c m seq load w k = later floor n s k
-  move-sound floor n storage s (Some b) p t c m seq load w k =
-      pick-met floor (n + 1) (is_answered b.transfer m seq) (move_bytes storage s b p t c m seq load) (meets storage (ignoring s))
-      (pick-met floor (n + 1) (is_outward b.transfer.code) (meets storage (give_next storage s b p t c m seq (load_length load))) _
-      (given-sound floor n storage s b p t c m seq (load_length load) w k) (taken-sound floor n storage s b p t m seq (bytes_of load) w k))
+  move-sound : (floor : Serials) (n : ℕ) (storage : Contents) (s : SubchannelState) (b : Option Begun) (signal : DataSignal) (load : Load) → IsMovedWithin n b → Sound floor n s →
+      Sound floor (n + 1) (move_data storage s b signal load).step.state
+  move-sound floor n storage s None signal load w k = later floor n s k
+  move-sound floor n storage s (Some b) signal load w k =
+      pick-met floor (n + 1) (is_answered b.transfer signal.command signal.sequence) (move_bytes storage s b signal load) (meets storage (ignoring s))
+      (pick-met floor (n + 1) (is_outward b.transfer.code) (meets storage (give_next storage s b signal (load_length load))) _
+      (given-sound floor n storage s b signal (load_length load) w k) (taken-sound floor n storage s b signal (bytes_of load) w k))
       (later floor n s k)
 
-  data-sound : (floor : Serials) (n : ℕ) (storage : Contents) (s : SubchannelState) (p t c m seq : ℕ) (load : Load) → Sound floor n s →
-      Sound floor (n + 1) (take_data storage s p t c m seq load).step.state
-  data-sound floor n storage s p t c m seq load k =
-      pick-met floor (n + 1) (is_connected s.hold.phase p t c) (move_data storage s s.begun p t c m seq load) (meets storage (ignoring s))
-      (move-sound floor n storage s s.begun p t c m seq load k.3 k) (later floor n s k)
+  data-sound : (floor : Serials) (n : ℕ) (storage : Contents) (s : SubchannelState) (signal : DataSignal) (load : Load) → Sound floor n s →
+      Sound floor (n + 1) (take_data storage s signal load).step.state
+  data-sound floor n storage s signal load k =
+      pick-met floor (n + 1) (is_connected s.hold.phase signal.path signal.number signal.connection) (move_data storage s s.begun signal load) (meets storage (ignoring s))
+      (move-sound floor n storage s s.begun signal load k.3 k) (later floor n s k)
 
   -- End
-  chaining-sound : (floor : Serials) (n : ℕ) (storage : Contents) (s : SubchannelState) (b : Begun) (p t : ℕ) (walk : Place) (r : Came) → b.transfer.command ≤ n →
-      IfBegins r (IsNew (b.transfer.command + 1)) → Ready floor n s → Sound floor (n + 1) (chaining storage s b p t walk r).state
-  chaining-sound floor n storage s b p t walk (came.Begins transfer) w f k =
+  chaining-sound : (floor : Serials) (n : ℕ) (storage : Contents) (s : SubchannelState) (b : Begun) (signal : EndSignal) (walk : Place) (r : Came) → b.transfer.command ≤ n →
+      IfBegins r (IsNew (b.transfer.command + 1)) → Ready floor n s → Sound floor (n + 1) (chaining storage s b signal walk r).state
+  chaining-sound floor n storage s b signal walk (came.Begins transfer) w f k =
       let g : IsSame transfer (begun_with_room storage transfer).transfer = numbered.begun storage transfer in
       transferred floor n s b (begun_with_room storage transfer).transfer (omega (arith, f.sequence, g.sequence)) (omega (arith, w, f.command, g.command)) k
-  chaining-sound floor n storage s b p t walk came.Suspends w f k =
-      suspending-sound floor n (record s { dedicated = None }) b.program walk (residual b.transfer.moving) k
-  chaining-sound floor n storage s b p t walk (came.Stops check) w f k =
-      cause-sound floor n (record s { dedicated = None }) (cause.FetchFault walk.tried check (residual b.transfer.moving)) tt k
+  chaining-sound floor n storage s b signal walk came.Suspends w f k =
+      suspending-sound floor n (end_taken s signal) b.program walk (residual b.transfer.moving) k
+  chaining-sound floor n storage s b signal walk (came.Stops check) w f k =
+      cause-sound floor n (end_taken s signal) (cause.FetchFault walk.tried check (residual b.transfer.moving)) tt k
 
-  goes_on-sound : (floor : Serials) (n : ℕ) (storage : Contents) (s : SubchannelState) (b : Begun) (p t : ℕ) (st : DeviceStatus) → IsMovedWithin n (Some b) → Sound floor n s →
-      Sound floor (n + 1) (goes_on storage s b p t st).state
-  goes_on-sound floor n storage s b p t st w k =
-      pick floor (n + 1) (has_device_end st) (chain_with storage s b p t (next_command storage b.transfer (has_status_modifier st)))
-      (quietly (record s { begun = Some b; dedicated = None }))
-      (chaining-sound floor n storage s b p t _ _ w.1 (numbered.next storage b.transfer (has_status_modifier st)) (to-ready floor n s k))
+  goes_on-sound : (floor : Serials) (n : ℕ) (storage : Contents) (s : SubchannelState) (b : Begun) (signal : EndSignal) → IsMovedWithin n (Some b) → Sound floor n s →
+      Sound floor (n + 1) (goes_on storage s b signal).state
+  goes_on-sound floor n storage s b signal w k =
+      pick floor (n + 1) (has_device_end signal.status) (chain_with storage s b signal (next_command storage b.transfer (has_status_modifier signal.status)))
+      (quietly (record (end_taken s signal) { begun = Some b }))
+      (chaining-sound floor n storage s b signal _ _ w.1 (numbered.next storage b.transfer (has_status_modifier signal.status)) (to-ready floor n s k))
       (omega (arith, k.0), omega (arith, k.1), omega (arith, k.2), moved-later n (Some b) w, k.4, k.5, k.6, k.7)
 
-  stops-sound : (floor : Serials) (n : ℕ) (s : SubchannelState) (b : Begun) (p : ℕ) (st : DeviceStatus) (more : Bool) → IsMovedWithin n (Some b) → Sound floor n s →
-      Sound floor (n + 1) (stops_at s b p st more).state
-  stops-sound floor n s b p st more w k =
-      let e : Sound floor (n + 1) (with_cause s (cause.End b st more)) = made-sound floor n s (cause.End b st more) (moved-later n (Some b) w) k in
-      pick floor (n + 1) (is_last_end st) (let_go (end_shown_at s b p st more)) (quietly (end_shown_at s b p st more)) e e
+  stops-sound : (floor : Serials) (n : ℕ) (s : SubchannelState) (b : Begun) (signal : EndSignal) → IsMovedWithin n (Some b) → Sound floor n s →
+      Sound floor (n + 1) (stops_at s b signal).state
+  stops-sound floor n s b signal w k =
+      let e : Sound floor (n + 1) (with_cause s (cause.End b signal.status signal.more)) = made-sound floor n s (cause.End b signal.status signal.more) (moved-later n (Some b) w) k in
+      pick floor (n + 1) (is_last_end signal.status) (let_go (end_shown_at s b signal)) (quietly (end_shown_at s b signal)) e e
 
-  end_of-sound : (floor : Serials) (n : ℕ) (storage : Contents) (s : SubchannelState) (b : Option Begun) (p t m : ℕ) (st : DeviceStatus) (more : Bool) → IsMovedWithin n b → Sound floor n s →
-      Sound floor (n + 1) (end_of storage s b p t m st more).state
-  end_of-sound floor n storage s None p t m st more w k = later floor n s k
-  end_of-sound floor n storage s (Some b) p t m st more w k =
-      pick floor (n + 1) (m == b.transfer.command) (command_ended storage s b p t st more) (ignoring s)
-      (pick floor (n + 1) (chains_command s.scsw b st more) (goes_on storage s (with_end b) p t st) (stops_at s b p st more)
-      (goes_on-sound floor n storage s (with_end b) p t st w k) (stops-sound floor n s b p st more w k))
+  end_of-sound : (floor : Serials) (n : ℕ) (storage : Contents) (s : SubchannelState) (b : Option Begun) (signal : EndSignal) → IsMovedWithin n b → Sound floor n s →
+      Sound floor (n + 1) (end_of storage s b signal).state
+  end_of-sound floor n storage s None signal w k = later floor n s k
+  end_of-sound floor n storage s (Some b) signal w k =
+      pick floor (n + 1) (signal.command == b.transfer.command) (command_ended storage s b signal) (ignoring s)
+      (pick floor (n + 1) (chains_command s.scsw b signal.status signal.more) (goes_on storage s (with_end b) signal) (stops_at s b signal)
+      (goes_on-sound floor n storage s (with_end b) signal w k) (stops-sound floor n s b signal w k))
       (later floor n s k)
 
-  end-sound : (floor : Serials) (n : ℕ) (storage : Contents) (s : SubchannelState) (p t m : ℕ) (st : DeviceStatus) (more : Bool) → Sound floor n s →
-      Sound floor (n + 1) (end_command storage s p t m st more).state
-  end-sound floor n storage s p t m st more k =
-      pick floor (n + 1) (is_on s.hold.phase t) (end_of storage s s.begun p t m st more) (ignoring s) (end_of-sound floor n storage s s.begun p t m st more k.3 k) (later floor n s k)
+  end-sound : (floor : Serials) (n : ℕ) (storage : Contents) (s : SubchannelState) (signal : EndSignal) → Sound floor n s →
+      Sound floor (n + 1) (end_command storage s signal).state
+  end-sound floor n storage s signal k =
+      pick floor (n + 1) (is_on s.hold.phase signal.number) (end_of storage s s.begun signal) (ignoring s) (end_of-sound floor n storage s s.begun signal k.3 k) (later floor n s k)
 
   reset-sound : (floor : Serials) (n : ℕ) (s : SubchannelState) (step : Option HoldStep) → Sound floor n s → Sound floor (n + 1) (reset_taken s step).state
   reset-sound floor n s None k = later floor n s k
@@ -395,8 +396,8 @@ module _ (numbered : AreNumbered) where
   up-sound returns floor n storage s p (up.Busy t) k = later floor n s k
   up-sound returns floor n storage s p (up.Leave t c) k = later floor n s k
   up-sound returns floor n storage s p (up.Back t c) k = later floor n s k
-  up-sound returns floor n storage s p (up.Data t c m seq load) k = data-sound floor n storage s p t c m seq load k
-  up-sound returns floor n storage s p (up.End t m st more) k = end-sound floor n storage s p t m st more k
+  up-sound returns floor n storage s p (up.Data t c m seq load) k = data-sound floor n storage s (record { path = p; number = t; connection = c; command = m; sequence = seq }) load k
+  up-sound returns floor n storage s p (up.End t m st more) k = end-sound floor n storage s (record { path = p; number = t; command = m; status = st; more = more }) k
   up-sound returns floor n storage s p (up.Released t) k = later floor n s k
   up-sound returns floor n storage s p (up.Cleared r) k = reset-sound floor n s (hold_takes s.hold p (up.Cleared r) false) k
   up-sound returns floor n storage s p (up.Notice b) k =

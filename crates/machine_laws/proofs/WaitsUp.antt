@@ -3,7 +3,6 @@ use Rattle.std.proofs.Common.{◌≡◌, refl, sym, ◌∙◌, ap, subst, ℕ, B
 use Rattle.std.specs.Prelude.{◌&&◌, nat_lt, if◌then◌else◌}
 use Rattle.std.proofs.lemmas.Bool.{eqb-true, eq-eqb, and_parts}
 use Rattle.storage_keys.specs.Storage.{Contents}
-use Rattle.scsw_irb.specs.declared.status.DeviceStatus.{DeviceStatus}
 use Rattle.chan_model.specs.declared.hold_state.HoldPhase.{HoldPhase}
 use Rattle.chan_model.specs.declared.hold_state.HoldPhase.TheVariants as hold
 use Rattle.chan_model.specs.declared.hold_state.HoldState.{HoldState}
@@ -22,6 +21,8 @@ use Rattle.transfer.specs.declared.Transfer.{Transfer}
 use Rattle.transfer.specs.Commands.{first_command, next_command, begun_with_room, with_room}
 use Rattle.transfer.specs.Chunks.{absorbed, next_given, brought, is_answered}
 use Rattle.subchannel_model.specs.declared.cause.Cause.TheVariants as cause
+use Rattle.subchannel_model.specs.declared.signals.DataSignal.{DataSignal}
+use Rattle.subchannel_model.specs.declared.signals.EndSignal.{EndSignal}
 use Rattle.subchannel_model.specs.declared.state.Begun.{Begun}
 use Rattle.subchannel_model.specs.declared.state.Program.{Program}
 use Rattle.subchannel_model.specs.declared.state.Standing.{Standing}
@@ -30,7 +31,7 @@ use Rattle.subchannel_model.specs.declared.state.UpStep.{UpStep}
 use Rattle.scsw_irb.specs.declared.scsw.Scsw.{Scsw}
 use Rattle.subchannel_model.specs.Causes.{with_cause}
 use Rattle.subchannel_model.specs.Ends.{has_status_modifier, chains_command}
-use Rattle.subchannel_model.specs.Taking.{back, may_attend, with_attention, Met, meets, ignoring, quietly, let_go, by_hold, without_interruption, interrupted_by, from_start, suspended_as, standing_as, standing, goes_ahead, with_path, taking_over, suspended_alone, standing_still, suspending, beginning, begin_standing, halt_done, accept, with_transfer, moving_on, give_next, take_in, bytes_of, move_bytes, move_data, with_end, chaining, chain_with, goes_on, end_shown_at, stops_at, command_ended, end_of, reset_taken, takes_up}
+use Rattle.subchannel_model.specs.Taking.{back, may_attend, with_attention, Met, meets, ignoring, quietly, let_go, by_hold, without_interruption, interrupted_by, from_start, suspended_as, standing_as, standing, goes_ahead, with_path, taking_over, suspended_alone, standing_still, suspending, beginning, begin_standing, halt_done, accept, with_transfer, moving_on, give_next, take_in, bytes_of, move_bytes, move_data, with_end, end_taken, chaining, chain_with, goes_on, end_shown_at, stops_at, command_ended, end_of, reset_taken, takes_up}
 use Rattle.machine_laws.proofs.Resetting.{notice-turned}
 use Rattle.machine_laws.proofs.Waits.{no-less, WaitsAs, IsBegunHeld, Waits, Turned, IsCalm, kept, cause-calm, fault-begun, fault-waiting, end-held, end-begun, not-begun, none-held, held-by, held-on, let-offer, moved-as, calm-as, calm-turned, same-turned, if-turned}
 
@@ -335,55 +336,55 @@ module _ (A : Type 0) (B : ℕ → Type 0) where
   busy-turned s h (hold.Reset r) u f k = same-turned A B _ k
 
   -- Data
-  move-turned : (storage : Contents) (s : SubchannelState) (b : Option Begun) (p t c n seq : ℕ) (load : Load) → s.begun ≡ b → Waits A B s →
-      Turned A B s (move_data storage s b p t c n seq load).step.state
-  move-turned storage s None p t c n seq load e k = same-turned A B s k
-  move-turned storage s (Some b) p t c n seq load e k =
+  move-turned : (storage : Contents) (s : SubchannelState) (b : Option Begun) (signal : DataSignal) (load : Load) → s.begun ≡ b → Waits A B s →
+      Turned A B s (move_data storage s b signal load).step.state
+  move-turned storage s None signal load e k = same-turned A B s k
+  move-turned storage s (Some b) signal load e k =
       let held : is_held s.hold.phase ≡ true = held-by s.begun b s.hold.phase e k.begun in
-      if-met s (is_answered b.transfer n seq) (move_bytes storage s b p t c n seq load) (meets storage (ignoring s))
-      (if-met s (is_outward b.transfer.code) (meets storage (give_next storage s b p t c n seq (load_length load))) (take_in s b p t n seq (brought storage b.transfer seq (bytes_of load)))
-      (moving-turned s b (next_given storage (absorbed storage b.transfer seq (load_length load))).transfer k.waiting held)
-      (moving-turned s b (with_room (brought storage b.transfer seq (bytes_of load)).storage (brought storage b.transfer seq (bytes_of load)).transfer).transfer k.waiting held))
+      if-met s (is_answered b.transfer signal.command signal.sequence) (move_bytes storage s b signal load) (meets storage (ignoring s))
+      (if-met s (is_outward b.transfer.code) (meets storage (give_next storage s b signal (load_length load))) (take_in s b signal (brought storage b.transfer signal.sequence (bytes_of load)))
+      (moving-turned s b (next_given storage (absorbed storage b.transfer signal.sequence (load_length load))).transfer k.waiting held)
+      (moving-turned s b (with_room (brought storage b.transfer signal.sequence (bytes_of load)).storage (brought storage b.transfer signal.sequence (bytes_of load)).transfer).transfer k.waiting held))
       (same-turned A B s k)
 
   -- End
-  chaining-turned : (storage : Contents) (s : SubchannelState) (b : Begun) (p t : ℕ) (walk : Place) (r : Came) → is_held s.hold.phase ≡ true →
-      WaitsAs A B s s.waiting → Turned A B s (chaining storage s b p t walk r).state
-  chaining-turned storage s b p t walk (came.Begins transfer) h k = moving-turned s b (begun_with_room storage transfer).transfer k h
-  chaining-turned storage s b p t walk came.Suspends h k =
-      let x = suspending (record s { dedicated = None }) b.program walk (residual b.transfer.moving) in
-      let n : IsNumbered (record s { dedicated = None }) x = suspending-numbered (record s { dedicated = None }) b.program walk (residual b.transfer.moving) in
-      let-bare s x (suspending-bare (record s { dedicated = None }) b.program walk (residual b.transfer.moving)) (record { starts = n.starts; drawn = n.drawn })
-  chaining-turned storage s b p t walk (came.Stops check) h k =
-      let x = with_cause (record s { dedicated = None }) (cause.FetchFault walk.tried check (residual b.transfer.moving)) in
-      let c : IsCalm (record s { dedicated = None }) x = cause-calm (record s { dedicated = None }) (cause.FetchFault walk.tried check (residual b.transfer.moving)) in
+  chaining-turned : (storage : Contents) (s : SubchannelState) (b : Begun) (signal : EndSignal) (walk : Place) (r : Came) → is_held s.hold.phase ≡ true →
+      WaitsAs A B s s.waiting → Turned A B s (chaining storage s b signal walk r).state
+  chaining-turned storage s b signal walk (came.Begins transfer) h k = moving-turned s b (begun_with_room storage transfer).transfer k h
+  chaining-turned storage s b signal walk came.Suspends h k =
+      let x = suspending (end_taken s signal) b.program walk (residual b.transfer.moving) in
+      let n : IsNumbered (end_taken s signal) x = suspending-numbered (end_taken s signal) b.program walk (residual b.transfer.moving) in
+      let-bare s x (suspending-bare (end_taken s signal) b.program walk (residual b.transfer.moving)) (record { starts = n.starts; drawn = n.drawn })
+  chaining-turned storage s b signal walk (came.Stops check) h k =
+      let x = with_cause (end_taken s signal) (cause.FetchFault walk.tried check (residual b.transfer.moving)) in
+      let c : IsCalm (end_taken s signal) x = cause-calm (end_taken s signal) (cause.FetchFault walk.tried check (residual b.transfer.moving)) in
       let-turned s x (record { starts = c.starts; drawn = c.drawn; offered = c.offered; waiting = c.waiting; hold = c.hold })
-      (fault-begun (record s { dedicated = None }) s.begun refl) k
+      (fault-begun (end_taken s signal) s.begun refl) k
 
-  stops-turned : (s : SubchannelState) (b : Begun) (p : ℕ) (status : DeviceStatus) (more : Bool) → is_held s.hold.phase ≡ true → WaitsAs A B s s.waiting →
-      Turned A B s (stops_at s b p status more).state
-  stops-turned s b p status more h k =
-      let x = end_shown_at s b p status more in
-      let c : IsCalm s (with_cause s (cause.End b status more)) = cause-calm s (cause.End b status more) in
+  stops-turned : (s : SubchannelState) (b : Begun) (signal : EndSignal) → is_held s.hold.phase ≡ true → WaitsAs A B s s.waiting →
+      Turned A B s (stops_at s b signal).state
+  stops-turned s b signal h k =
+      let x = end_shown_at s b signal in
+      let c : IsCalm s (with_cause s (cause.End b signal.status signal.more)) = cause-calm s (cause.End b signal.status signal.more) in
       let calm : IsCalm s x = record { starts = c.starts; drawn = c.drawn; offered = c.offered; waiting = c.waiting; hold = c.hold } in
-      if-step s (is_last_end status) (let_go x) (quietly x)
-      (λ e. let-turned s x calm (end-begun s b (is_last_end status) e) k)
+      if-step s (is_last_end signal.status) (let_go x) (quietly x)
+      (λ e. let-turned s x calm (end-begun s b (is_last_end signal.status) e) k)
       (λ e. calm-turned A B s x calm k
-      (subst (λ (g : HoldState). IsBegunHeld x.begun g.phase) (sym c.hold) (end-held s b (is_last_end status) s.hold.phase h)))
+      (subst (λ (g : HoldState). IsBegunHeld x.begun g.phase) (sym c.hold) (end-held s b (is_last_end signal.status) s.hold.phase h)))
 
-  end_of-turned : (storage : Contents) (s : SubchannelState) (b : Option Begun) (p t n : ℕ) (status : DeviceStatus) (more : Bool) → s.begun ≡ b → Waits A B s →
-      Turned A B s (end_of storage s b p t n status more).state
-  end_of-turned storage s None p t n status more e k = same-turned A B s k
-  end_of-turned storage s (Some b) p t n status more e k =
+  end_of-turned : (storage : Contents) (s : SubchannelState) (b : Option Begun) (signal : EndSignal) → s.begun ≡ b → Waits A B s →
+      Turned A B s (end_of storage s b signal).state
+  end_of-turned storage s None signal e k = same-turned A B s k
+  end_of-turned storage s (Some b) signal e k =
       let held : is_held s.hold.phase ≡ true = held-by s.begun b s.hold.phase e k.begun in
-      if-step s (n == b.transfer.command) (command_ended storage s b p t status more) (ignoring s)
-      (λ c. if-step s (chains_command s.scsw b status more) (goes_on storage s (with_end b) p t status) (stops_at s b p status more)
-      (λ d. if-step s (has_device_end status) (chain_with storage s (with_end b) p t (next_command storage (with_end b).transfer (has_status_modifier status)))
-      (quietly (record s { begun = Some (with_end b); dedicated = None }))
-      (λ f. chaining-turned storage s (with_end b) p t (next_command storage (with_end b).transfer (has_status_modifier status)).walk
-      (next_command storage (with_end b).transfer (has_status_modifier status)).came held k.waiting)
+      if-step s (signal.command == b.transfer.command) (command_ended storage s b signal) (ignoring s)
+      (λ c. if-step s (chains_command s.scsw b signal.status signal.more) (goes_on storage s (with_end b) signal) (stops_at s b signal)
+      (λ d. if-step s (has_device_end signal.status) (chain_with storage s (with_end b) signal (next_command storage (with_end b).transfer (has_status_modifier signal.status)))
+      (quietly (record (end_taken s signal) { begun = Some (with_end b) }))
+      (λ f. chaining-turned storage s (with_end b) signal (next_command storage (with_end b).transfer (has_status_modifier signal.status)).walk
+      (next_command storage (with_end b).transfer (has_status_modifier signal.status)).came held k.waiting)
       (λ f. calm-turned A B s _ (kept s _ refl refl refl refl refl) k.waiting held))
-      (λ d. stops-turned s b p status more held k.waiting))
+      (λ d. stops-turned s b signal held k.waiting))
       (λ c. same-turned A B s k)
 
   pub takes-turned : (returns : Bool) → (storage : Contents) (s : SubchannelState) (p : ℕ) (x : Up) → ((u : ℕ) → x ≡ up.Busy u → B u → A) → Waits A B s → Turned A B s (takes_up returns storage s p x).step.state
@@ -396,11 +397,11 @@ module _ (A : Type 0) (B : ℕ → Type 0) where
       calm-then s (by_hold s step).state (back s p step).state (kept (by_hold s step).state (back s p step).state refl refl refl refl refl)
       turned.waits.begun turned
   takes-turned returns storage s p (up.Data t c n seq load) f k =
-      if-met s (is_connected s.hold.phase p t c) (move_data storage s s.begun p t c n seq load) (meets storage (ignoring s))
-      (move-turned storage s s.begun p t c n seq load refl k) (same-turned A B s k)
+      if-met s (is_connected s.hold.phase p t c) (move_data storage s s.begun (record { path = p; number = t; connection = c; command = n; sequence = seq }) load) (meets storage (ignoring s))
+      (move-turned storage s s.begun (record { path = p; number = t; connection = c; command = n; sequence = seq }) load refl k) (same-turned A B s k)
   takes-turned returns storage s p (up.End t n status more) f k =
-      if-step s (is_on s.hold.phase t) (end_of storage s s.begun p t n status more) (ignoring s)
-      (λ e. end_of-turned storage s s.begun p t n status more refl k) (λ e. same-turned A B s k)
+      if-step s (is_on s.hold.phase t) (end_of storage s s.begun (record { path = p; number = t; command = n; status = status; more = more })) (ignoring s)
+      (λ e. end_of-turned storage s s.begun (record { path = p; number = t; command = n; status = status; more = more }) refl k) (λ e. same-turned A B s k)
   takes-turned returns storage s p (up.Released t) f k = still-turned s (released s.hold s.hold.phase t) (released-still s.hold s.hold.phase t refl) k
   takes-turned returns storage s p (up.Cleared r) f k =
       reset-turned s (cleared s.hold s.hold.phase r) (still-turned s (cleared s.hold s.hold.phase r) (cleared-still s.hold s.hold.phase r refl) k)

@@ -346,9 +346,9 @@ module _ (laws : AreLaws) (accesses : AreAccesses) where
   untold-met returns storage s p (up.Leave t c) u = unmet s (λ x. (by_hold s (hold_table.left s.hold x t c)).state) u u (λ r. u)
   untold-met returns storage s p (up.Back t c) u = unmet s (λ x. (taking.back s p (hold_table.asked_back s.hold x p t c returns)).state) u u (λ r. u)
   untold-met returns storage s p (up.Data t c n seq load) u =
-      unmet s (λ x. (if is_connected x p t c then taking.move_data storage s s.begun p t c n seq load else taking.meets storage (taking.ignoring s)).step.state) u u (λ r. u)
+      unmet s (λ x. (if is_connected x p t c then taking.move_data storage s s.begun (record { path = p; number = t; connection = c; command = n; sequence = seq }) load else taking.meets storage (taking.ignoring s)).step.state) u u (λ r. u)
   untold-met returns storage s p (up.End t n status more) u =
-      unmet s (λ x. (if is_on x t then taking.end_of storage s s.begun p t n status more else taking.ignoring s).state) u u (λ r. u)
+      unmet s (λ x. (if is_on x t then taking.end_of storage s s.begun (record { path = p; number = t; command = n; status = status; more = more }) else taking.ignoring s).state) u u (λ r. u)
   untold-met returns storage s p (up.Released t) u = unmet s (λ x. (by_hold s (hold_table.released s.hold x t)).state) u u (λ r. u)
   untold-met returns storage s p (up.Cleared r) u = unmet s (λ x. (reset_taken s (hold_table.cleared s.hold x r)).state) u u (λ q. cleared-if s (r == q) u)
   untold-met returns storage s p (up.Notice b) u = noticed-untold s b (nat_lt s.hold.known b) u

@@ -31,6 +31,8 @@ use Rattle.transfer.specs.declared.Came.{Came}
 use Rattle.transfer.specs.declared.Came.TheVariants as came
 use Rattle.transfer.specs.Commands.{first_command, next_command, goes_to, begun_with_room, with_room}
 use Rattle.transfer.specs.Chunks.{absorbed, next_given, brought, is_answered}
+use Rattle.subchannel_model.specs.declared.signals.DataSignal.{DataSignal}
+use Rattle.subchannel_model.specs.declared.signals.EndSignal.{EndSignal}
 use Rattle.subchannel_model.specs.declared.state.Begun.{Begun}
 use Rattle.subchannel_model.specs.declared.state.Program.{Program}
 use Rattle.subchannel_model.specs.declared.state.SubchannelState.{SubchannelState}
@@ -224,47 +226,47 @@ module _ (laws : AreLaws) (accesses : AreAccesses) where
         standing = none-stands s.waiting (Some (record b { transfer = t })) s.suspended (record k { now = now }) (standing-some s.waiting s.begun b s.suspended k e h.standing);
       })
 
-  out-held : (storage : Contents) (s : SubchannelState) (b : Begun) (k : Story) (p t c n seq : ℕ) (load : Load) (x : Bool) → is_outward b.transfer.code ≡ x → s.begun ≡ Some b → IsHeld s k →
+  out-held : (storage : Contents) (s : SubchannelState) (b : Begun) (k : Story) (signal : DataSignal) (load : Load) (x : Bool) → is_outward b.transfer.code ≡ x → s.begun ≡ Some b → IsHeld s k →
       IsAtWork k.earlier k.orb k.now b.transfer (is_outward b.transfer.code) → (b.transfer.command ≡ k.sent) × (1 ≤ k.sent) →
-      IsHeld (if x then taking.meets storage (taking.give_next storage s b p t c n seq (load_length load))
-      else taking.take_in s b p t n seq (brought storage b.transfer seq (bytes_of load))).step.state
-      (if x then record k { now = gives storage b.transfer seq (load_length load) k.now } else record k { now = takes_in storage b.transfer seq (bytes_of load) k.now })
-  out-held storage s b k p t c n seq load true d e h w m =
-      let a : Transfer = absorbed storage b.transfer seq (load_length load) in
+      IsHeld (if x then taking.meets storage (taking.give_next storage s b signal (load_length load))
+      else taking.take_in s b signal (brought storage b.transfer signal.sequence (bytes_of load))).step.state
+      (if x then record k { now = gives storage b.transfer signal.sequence (load_length load) k.now } else record k { now = takes_in storage b.transfer signal.sequence (bytes_of load) k.now })
+  out-held storage s b k signal load true d e h w m =
+      let a : Transfer = absorbed storage b.transfer signal.sequence (load_length load) in
       let u : Transfer = (next_given storage a).transfer in
-      let f : IsSame b.transfer a = absorbed-same storage b.transfer seq (load_length load) in
+      let f : IsSame b.transfer a = absorbed-same storage b.transfer signal.sequence (load_length load) in
       let g : IsSame a u = next_given-same storage a in
-      transfer-held s b k u (gives storage b.transfer seq (load_length load) k.now) e h (g.0 ∙ f.0, g.1 ∙ f.1)
-      (subst (λ (y : Bool). IsAtWork k.earlier k.orb (gives storage b.transfer seq (load_length load) k.now) u y) (sym d)
-      (gives-work k.earlier laws storage k.orb k.now b.transfer seq (load_length load) (subst (λ (y : Bool). IsAtWork k.earlier k.orb k.now b.transfer y) d w)))
+      transfer-held s b k u (gives storage b.transfer signal.sequence (load_length load) k.now) e h (g.0 ∙ f.0, g.1 ∙ f.1)
+      (subst (λ (y : Bool). IsAtWork k.earlier k.orb (gives storage b.transfer signal.sequence (load_length load) k.now) u y) (sym d)
+      (gives-work k.earlier laws storage k.orb k.now b.transfer signal.sequence (load_length load) (subst (λ (y : Bool). IsAtWork k.earlier k.orb k.now b.transfer y) d w)))
       m
-  out-held storage s b k p t c n seq load false d e h w m =
-      let a = brought storage b.transfer seq (bytes_of load) in
+  out-held storage s b k signal load false d e h w m =
+      let a = brought storage b.transfer signal.sequence (bytes_of load) in
       let u : Transfer = (with_room a.storage a.transfer).transfer in
-      let f : IsSame b.transfer a.transfer = brought-same storage b.transfer seq (bytes_of load) in
+      let f : IsSame b.transfer a.transfer = brought-same storage b.transfer signal.sequence (bytes_of load) in
       let g : IsSame a.transfer u = located-same a.storage a.transfer in
-      transfer-held s b k u (takes_in storage b.transfer seq (bytes_of load) k.now) e h (g.0 ∙ f.0, g.1 ∙ f.1)
-      (subst (λ (y : Bool). IsAtWork k.earlier k.orb (takes_in storage b.transfer seq (bytes_of load) k.now) u y) (sym d)
-      (takes_in-work k.earlier laws accesses storage k.orb k.now b.transfer seq (bytes_of load) (subst (λ (y : Bool). IsAtWork k.earlier k.orb k.now b.transfer y) d w)))
+      transfer-held s b k u (takes_in storage b.transfer signal.sequence (bytes_of load) k.now) e h (g.0 ∙ f.0, g.1 ∙ f.1)
+      (subst (λ (y : Bool). IsAtWork k.earlier k.orb (takes_in storage b.transfer signal.sequence (bytes_of load) k.now) u y) (sym d)
+      (takes_in-work k.earlier laws accesses storage k.orb k.now b.transfer signal.sequence (bytes_of load) (subst (λ (y : Bool). IsAtWork k.earlier k.orb k.now b.transfer y) d w)))
       m
 
-  answered-held : (storage : Contents) (s : SubchannelState) (b : Begun) (k : Story) (p t c n seq : ℕ) (load : Load) (x : Bool) → s.begun ≡ Some b → IsHeld s k →
+  answered-held : (storage : Contents) (s : SubchannelState) (b : Begun) (k : Story) (signal : DataSignal) (load : Load) (x : Bool) → s.begun ≡ Some b → IsHeld s k →
       IsAtWork k.earlier k.orb k.now b.transfer (is_outward b.transfer.code) → (b.transfer.command ≡ k.sent) × (1 ≤ k.sent) →
-      IsHeld (if x then taking.move_bytes storage s b p t c n seq load else taking.meets storage (taking.ignoring s)).step.state
-      (if x then stories.moves storage b.transfer seq load k else k)
-  answered-held storage s b k p t c n seq load true e h w m = out-held storage s b k p t c n seq load (is_outward b.transfer.code) refl e h w m
-  answered-held storage s b k p t c n seq load false e h w m = h
+      IsHeld (if x then taking.move_bytes storage s b signal load else taking.meets storage (taking.ignoring s)).step.state
+      (if x then stories.moves storage b.transfer signal.sequence load k else k)
+  answered-held storage s b k signal load true e h w m = out-held storage s b k signal load (is_outward b.transfer.code) refl e h w m
+  answered-held storage s b k signal load false e h w m = h
 
-  data-held : (storage : Contents) (s : SubchannelState) (b : Option Begun) (k : Story) (p t c n seq : ℕ) (load : Load) → s.begun ≡ b → IsHeld s k → HasWork b k →
-      IsHeld (taking.move_data storage s b p t c n seq load).step.state (stories.answers storage b n seq load k)
-  data-held storage s None k p t c n seq load e h w = h
-  data-held storage s (Some b) k p t c n seq load e h w = answered-held storage s b k p t c n seq load (is_answered b.transfer n seq) e h w.0 (w.1, w.2)
+  data-held : (storage : Contents) (s : SubchannelState) (b : Option Begun) (k : Story) (signal : DataSignal) (load : Load) → s.begun ≡ b → IsHeld s k → HasWork b k →
+      IsHeld (taking.move_data storage s b signal load).step.state (stories.answers storage b signal.command signal.sequence load k)
+  data-held storage s None k signal load e h w = h
+  data-held storage s (Some b) k signal load e h w = answered-held storage s b k signal load (is_answered b.transfer signal.command signal.sequence) e h w.0 (w.1, w.2)
 
-  connected-held : (storage : Contents) (s : SubchannelState) (k : Story) (p t c n seq : ℕ) (load : Load) (x : Bool) → IsHeld s k →
-      IsHeld (if x then taking.move_data storage s s.begun p t c n seq load else taking.meets storage (taking.ignoring s)).step.state
-      (if x then stories.answers storage s.begun n seq load k else k)
-  connected-held storage s k p t c n seq load true h = data-held storage s s.begun k p t c n seq load refl h h.work
-  connected-held storage s k p t c n seq load false h = h
+  connected-held : (storage : Contents) (s : SubchannelState) (k : Story) (signal : DataSignal) (load : Load) (x : Bool) → IsHeld s k →
+      IsHeld (if x then taking.move_data storage s s.begun signal load else taking.meets storage (taking.ignoring s)).step.state
+      (if x then stories.answers storage s.begun signal.command signal.sequence load k else k)
+  connected-held storage s k signal load true h = data-held storage s s.begun k signal load refl h h.work
+  connected-held storage s k signal load false h = h
 
   -- End
   not-true : (b : Bool) → not b ≡ true → b ≡ false
@@ -313,10 +315,10 @@ module _ (laws : AreLaws) (accesses : AreAccesses) where
       (subst (λ (xs : List Act). WentOn earlier laws storage orb before xs n (goes_to storage n old).walk (goes_to storage n old).came)
       (sym (append_assoc (goes_acts storage n old) (End (ending modifier) ∷ []) p.acts)) went)
 
-  chains-held : (storage : Contents) (s : SubchannelState) (b : Begun) (k : Story) (p t : ℕ) (walk : Place) (c : Came) (acts before : List Act) (n : ℕ) →
+  chains-held : (storage : Contents) (s : SubchannelState) (b : Begun) (k : Story) (signal : EndSignal) (walk : Place) (c : Came) (acts before : List Act) (n : ℕ) →
       s.begun ≡ Some b → IsHeld s k → IsDone k.orb k.now → WentOn k.earlier laws storage k.orb before (acts ++ k.now.acts) n walk c →
-      reaches k.orb before ≡ reaches k.orb k.now.acts → n ≡ k.sent + 1 → IsHeld (taking.chaining storage s (with_end b) p t walk c).state (stories.goes_on c acts k)
-  chains-held storage s b k p t walk (came.Begins transfer) acts before n e h d w r m =
+      reaches k.orb before ≡ reaches k.orb k.now.acts → n ≡ k.sent + 1 → IsHeld (taking.chaining storage s (with_end b) signal walk c).state (stories.goes_on c acts k)
+  chains-held storage s b k signal walk (came.Begins transfer) acts before n e h d w r m =
       let u : Transfer = (begun_with_room storage transfer).transfer in
       let next : Begun = record (with_end b) { transfer = u } in
       interrupted-held (taking.with_transfer s (with_end b) u) (Some next) (stories.goes_on (came.Begins transfer) acts k) refl
@@ -331,11 +333,11 @@ module _ (laws : AreLaws) (accesses : AreAccesses) where
         );
         standing = none-stands s.waiting (Some next) s.suspended (stories.goes_on (came.Begins transfer) acts k) (standing-some s.waiting s.begun b s.suspended k e h.standing);
       })
-  chains-held storage s b k p t walk came.Suspends acts before n e h d w r m =
-      suspends-held (record s { dedicated = None }) b.program walk (residual b.transfer.moving) (record k { now = with_acts k.now acts }) h.number (h.phase, h.drawn)
+  chains-held storage s b k signal walk came.Suspends acts before n e h d w r m =
+      suspends-held (taking.end_taken s signal) b.program walk (residual b.transfer.moving) (record k { now = with_acts k.now acts }) h.number (h.phase, h.drawn)
       (over-done k.orb before (acts ++ k.now.acts) k.now w.0 w.1 r d) w.4 w.3
-  chains-held storage s b k p t walk (came.Stops check) acts before n e h d w r m =
-      fault-held (record s { dedicated = None }) walk.tried check (residual b.transfer.moving) (record k { now = with_acts k.now acts }) h.number (h.phase, h.drawn)
+  chains-held storage s b k signal walk (came.Stops check) acts before n e h d w r m =
+      fault-held (taking.end_taken s signal) walk.tried check (residual b.transfer.moving) (record k { now = with_acts k.now acts }) h.number (h.phase, h.drawn)
       (over-done k.orb before (acts ++ k.now.acts) k.now w.0 w.1 r d) (λ c f. standing-some s.waiting s.begun c s.suspended k f h.standing)
 
   -- the transfer has ended
@@ -363,53 +365,53 @@ module _ (laws : AreLaws) (accesses : AreAccesses) where
         standing = none-stands u.waiting u.begun u.suspended k (v ∙ standing-some s.waiting s.begun b s.suspended k e h.standing);
       }
 
-  abbrev end-left : SubchannelState → Begun → ℕ → DeviceStatus → Shown → Bool → SubchannelState
-  end-left s b p status shown last =
+  abbrev end-left : SubchannelState → Begun → EndSignal → Shown → Bool → SubchannelState
+  end-left s b signal shown last =
       record (with_row s (record { shown = shown; left = causes.after_end s b last; joins = s.scsw })) {
-        dedicated = taking.dedicated_after status p;
+        dedicated = taking.dedicated_by_end s.dedicated signal;
       }
 
-  stops-held : (s : SubchannelState) (b : Begun) (k : Story) (p : ℕ) (status : DeviceStatus) (shown : Shown) (last : Bool) → s.begun ≡ Some b → IsHeld s k →
+  stops-held : (s : SubchannelState) (b : Begun) (k : Story) (signal : EndSignal) (shown : Shown) (last : Bool) → s.begun ≡ Some b → IsHeld s k →
       IsAtWork k.earlier k.orb k.now b.transfer (is_outward b.transfer.code) → (b.transfer.command ≡ k.sent) × (1 ≤ k.sent) →
-      IsHeld (if last then let_go (end-left s b p status shown last) else taking.quietly (end-left s b p status shown last)).state k
-  stops-held s b k p status shown true e h w m =
-      let_go-held (end-left s b p status shown true) k h.number (phase-none s.hold.phase k.number s.begun k.sent h.phase, h.drawn) refl
+      IsHeld (if last then let_go (end-left s b signal shown last) else taking.quietly (end-left s b signal shown last)).state k
+  stops-held s b k signal shown true e h w m =
+      let_go-held (end-left s b signal shown true) k h.number (phase-none s.hold.phase k.number s.begun k.sent h.phase, h.drawn) refl
       (done-of k.earlier k.orb k.now b.transfer (is_outward b.transfer.code) w) tt
-  stops-held s b k p status shown false e h w m =
-      shown-held s b (has_shown b) k (end-left s b p status shown false) e h w m refl refl refl refl refl refl refl refl refl
+  stops-held s b k signal shown false e h w m =
+      shown-held s b (has_shown b) k (end-left s b signal shown false) e h w m refl refl refl refl refl refl refl refl refl
 
-  goes-held : (storage : Contents) (s : SubchannelState) (b : Begun) (k : Story) (p t : ℕ) (status : DeviceStatus) (more : Bool) (x y : Bool) → chains_command s.scsw b status more ≡ x →
+  goes-held : (storage : Contents) (s : SubchannelState) (b : Begun) (k : Story) (signal : EndSignal) (x y : Bool) → chains_command s.scsw b signal.status signal.more ≡ x →
       s.begun ≡ Some b → IsHeld s k → IsAtWork k.earlier k.orb k.now b.transfer (is_outward b.transfer.code) → (b.transfer.command ≡ k.sent) × (1 ≤ k.sent) →
-      IsHeld (if x then (if y then taking.chain_with storage s (with_end b) p t (next_command storage (with_end b).transfer (has_status_modifier status))
-      else taking.quietly (record s { begun = Some (with_end b); dedicated = None }))
-      else taking.stops_at s b p status more).state
-      (if x && y then stories.goes_on (next_command storage b.transfer (has_status_modifier status)).came (next_acts storage b.transfer (has_status_modifier status)) k else k)
-  goes-held storage s b k p t status more true true c e h w m =
-      let f : (_ : b.transfer.moving.ccw.chain_data ≡ false) × (is_some b.transfer.fault ≡ false) = chains-facts s.scsw b status more c in
-      let modifier : Bool = has_status_modifier status in
+      IsHeld (if x then (if y then taking.chain_with storage s (with_end b) signal (next_command storage (with_end b).transfer (has_status_modifier signal.status))
+      else taking.quietly (record (taking.end_taken s signal) { begun = Some (with_end b) }))
+      else taking.stops_at s b signal).state
+      (if x && y then stories.goes_on (next_command storage b.transfer (has_status_modifier signal.status)).came (next_acts storage b.transfer (has_status_modifier signal.status)) k else k)
+  goes-held storage s b k signal true true c e h w m =
+      let f : (_ : b.transfer.moving.ccw.chain_data ≡ false) × (is_some b.transfer.fault ≡ false) = chains-facts s.scsw b signal.status signal.more c in
+      let modifier : Bool = has_status_modifier signal.status in
       let next : Beginning = next_command storage b.transfer modifier in
-      chains-held storage s b k p t next.walk next.came (next_acts storage b.transfer modifier) (End (ending modifier) ∷ k.now.acts) (b.transfer.command + 1) e h
+      chains-held storage s b k signal next.walk next.came (next_acts storage b.transfer modifier) (End (ending modifier) ∷ k.now.acts) (b.transfer.command + 1) e h
       (done-of k.earlier k.orb k.now b.transfer (is_outward b.transfer.code) w) (next-went k.earlier storage k.orb k.now b.transfer modifier w.tied f.0 f.1) refl
       (ap (λ (n : ℕ). n + 1) m.0)
-  goes-held storage s b k p t status more true false c e h w m =
-      shown-held s b (with_end b) k (record s { begun = Some (with_end b); dedicated = None }) e h w m refl refl refl refl refl refl refl refl refl
-  goes-held storage s b k p t status more false y c e h w m = stops-held s b k p status (end_shown s b status more) (is_last_end status) e h w m
+  goes-held storage s b k signal true false c e h w m =
+      shown-held s b (with_end b) k (record (taking.end_taken s signal) { begun = Some (with_end b) }) e h w m refl refl refl refl refl refl refl refl refl
+  goes-held storage s b k signal false y c e h w m = stops-held s b k signal (end_shown s b signal.status signal.more) (is_last_end signal.status) e h w m
 
-  same-command-held : (storage : Contents) (s : SubchannelState) (b : Begun) (k : Story) (p t : ℕ) (status : DeviceStatus) (more x : Bool) → s.begun ≡ Some b → IsHeld s k →
+  same-command-held : (storage : Contents) (s : SubchannelState) (b : Begun) (k : Story) (signal : EndSignal) (x : Bool) → s.begun ≡ Some b → IsHeld s k →
       IsAtWork k.earlier k.orb k.now b.transfer (is_outward b.transfer.code) → (b.transfer.command ≡ k.sent) × (1 ≤ k.sent) →
-      IsHeld (if x then taking.command_ended storage s b p t status more else taking.ignoring s).state (if x then stories.chains storage s b status more k else k)
-  same-command-held storage s b k p t status more true e h w m = goes-held storage s b k p t status more (chains_command s.scsw b status more) (has_device_end status) refl e h w m
-  same-command-held storage s b k p t status more false e h w m = h
+      IsHeld (if x then taking.command_ended storage s b signal else taking.ignoring s).state (if x then stories.chains storage s b signal.status signal.more k else k)
+  same-command-held storage s b k signal true e h w m = goes-held storage s b k signal (chains_command s.scsw b signal.status signal.more) (has_device_end signal.status) refl e h w m
+  same-command-held storage s b k signal false e h w m = h
 
-  end-held : (storage : Contents) (s : SubchannelState) (b : Option Begun) (k : Story) (p t n : ℕ) (status : DeviceStatus) (more : Bool) → s.begun ≡ b → IsHeld s k → HasWork b k →
-      IsHeld (taking.end_of storage s b p t n status more).state (stories.ends storage s b n status more k)
-  end-held storage s None k p t n status more e h w = h
-  end-held storage s (Some b) k p t n status more e h w = same-command-held storage s b k p t status more (n == b.transfer.command) e h w.0 (w.1, w.2)
+  end-held : (storage : Contents) (s : SubchannelState) (b : Option Begun) (k : Story) (signal : EndSignal) → s.begun ≡ b → IsHeld s k → HasWork b k →
+      IsHeld (taking.end_of storage s b signal).state (stories.ends storage s b signal.command signal.status signal.more k)
+  end-held storage s None k signal e h w = h
+  end-held storage s (Some b) k signal e h w = same-command-held storage s b k signal (signal.command == b.transfer.command) e h w.0 (w.1, w.2)
 
-  on-held : (storage : Contents) (s : SubchannelState) (k : Story) (p t n : ℕ) (status : DeviceStatus) (more x : Bool) → IsHeld s k →
-      IsHeld (if x then taking.end_of storage s s.begun p t n status more else taking.ignoring s).state (if x then stories.ends storage s s.begun n status more k else k)
-  on-held storage s k p t n status more true h = end-held storage s s.begun k p t n status more refl h h.work
-  on-held storage s k p t n status more false h = h
+  on-held : (storage : Contents) (s : SubchannelState) (k : Story) (signal : EndSignal) (x : Bool) → IsHeld s k →
+      IsHeld (if x then taking.end_of storage s s.begun signal else taking.ignoring s).state (if x then stories.ends storage s s.begun signal.command signal.status signal.more k else k)
+  on-held storage s k signal true h = end-held storage s s.begun k signal refl h h.work
+  on-held storage s k signal false h = h
 
   -- the hold is to be reset: no program is begun any more
   unshown-begun : (phase : HoldPhase) (n sent : ℕ) (w : Option Program) (b : Option Begun) (d : Option Standing) → (is_offered_or_held phase && has_any w b d) ≡ false →
@@ -454,8 +456,9 @@ module _ (laws : AreLaws) (accesses : AreAccesses) where
       by_hold-held s k (hold_takes s.hold p (up.Leave t c) false) h (left-phase s.drawn k.number s.begun k.sent s.hold s.hold.phase t c refl (h.phase, h.drawn))
   signal-held returns storage s p (up.Back t c) k h =
       back-held s k p (hold_takes s.hold p (up.Back t c) returns) h (back-phase s.drawn k.number s.begun k.sent s.hold s.hold.phase p t c returns refl (h.phase, h.drawn))
-  signal-held returns storage s p (up.Data t c n seq load) k h = connected-held storage s k p t c n seq load (is_connected s.hold.phase p t c) h
-  signal-held returns storage s p (up.End t n status more) k h = on-held storage s k p t n status more (is_on s.hold.phase t) h
+  signal-held returns storage s p (up.Data t c n seq load) k h = connected-held storage s k (record { path = p; number = t; connection = c; command = n; sequence = seq }) load
+      (is_connected s.hold.phase p t c) h
+  signal-held returns storage s p (up.End t n status more) k h = on-held storage s k (record { path = p; number = t; command = n; status = status; more = more }) (is_on s.hold.phase t) h
   signal-held returns storage s p (up.Released t) k h =
       by_hold-held s k (hold_takes s.hold p (up.Released t) false) h (released-phase s.drawn k.number s.begun k.sent s.hold s.hold.phase t refl (h.phase, h.drawn))
   signal-held returns storage s p (up.Cleared r) k h = reset_taken-held s k r s.hold.phase refl h

@@ -1,7 +1,6 @@
 -- A signal draws no number.
 use Rattle.std.proofs.Common.{◌≡◌, refl, ℕ, Bool, true, false, not, ◌==◌, Option, None, Some, ◌≤◌, ◌&&◌, nat_lt, arith}
 use Rattle.std.specs.Prelude.{if◌then◌else◌}
-use Rattle.scsw_irb.specs.declared.status.DeviceStatus.{DeviceStatus}
 use Rattle.storage_keys.specs.Storage.{Contents}
 use Rattle.chan_model.specs.declared.hold_state.HoldPhase.{HoldPhase}
 use Rattle.chan_model.specs.declared.hold_state.HoldPhase.TheVariants as hold
@@ -20,12 +19,14 @@ use Rattle.transfer.specs.declared.Transfer.{Transfer}
 use Rattle.transfer.specs.Commands.{first_command, next_command, begun_with_room}
 use Rattle.transfer.specs.Chunks.{is_answered}
 use Rattle.subchannel_model.specs.declared.cause.Cause.TheVariants as cause
+use Rattle.subchannel_model.specs.declared.signals.DataSignal.{DataSignal}
+use Rattle.subchannel_model.specs.declared.signals.EndSignal.{EndSignal}
 use Rattle.subchannel_model.specs.declared.state.Begun.{Begun}
 use Rattle.subchannel_model.specs.declared.state.Standing.{Standing}
 use Rattle.subchannel_model.specs.declared.state.SubchannelState.{SubchannelState}
 use Rattle.subchannel_model.specs.declared.state.UpStep.{UpStep}
 use Rattle.subchannel_model.specs.Ends.{has_status_modifier, chains_command}
-use Rattle.subchannel_model.specs.Taking.{Met, goes_ahead, standing, with_path, taking_over, moving_on, reset_taken, beginning, begin_standing, accepted_by, accept, move_bytes, move_data, with_end, chaining, goes_on, stops_at, end_of, takes_up}
+use Rattle.subchannel_model.specs.Taking.{Met, goes_ahead, standing, with_path, taking_over, with_transfer, moving_on, reset_taken, beginning, begin_standing, accepted_by, accept, move_bytes, move_data, with_end, end_taken, chaining, goes_on, stops_at, end_of, takes_up}
 use Rattle.subchannel_model.specs.Losing.{has_any, is_offered_or_held, reset_with, reset_for}
 use Rattle.subchannel_model.specs.Taking as taking
 use Rattle.program_laws.proofs.Caused.{cause-kept, interrupted-work, suspending-workless, halt-kept, clear-kept}
@@ -66,34 +67,34 @@ module _ (storage : Contents) where
 
   -- Data
   moving-same : (s : SubchannelState) (b : Begun) (t : Transfer) → (moving_on s b t).drawn ≡ s.drawn
-  moving-same s b t = (interrupted-work (record s { begun = Some (record b { transfer = t }); dedicated = None }) (record b { transfer = t }) refl).kept.drawn
+  moving-same s b t = (interrupted-work (with_transfer s b t) (record b { transfer = t }) refl).kept.drawn
 
-  move_bytes-same : (s : SubchannelState) (b : Begun) (p t c n q : ℕ) (load : Load) → IsSame s (move_bytes storage s b p t c n q load).step
-  move_bytes-same s b p t c n q load = if-met s (is_outward b.transfer.code) _ _ (moving-same s b _) (moving-same s b _)
+  move_bytes-same : (s : SubchannelState) (b : Begun) (signal : DataSignal) (load : Load) → IsSame s (move_bytes storage s b signal load).step
+  move_bytes-same s b signal load = if-met s (is_outward b.transfer.code) _ _ (moving-same s b _) (moving-same s b _)
 
-  move_data-same : (s : SubchannelState) (b : Option Begun) (p t c n q : ℕ) (load : Load) → IsSame s (move_data storage s b p t c n q load).step
-  move_data-same s None p t c n q load = refl
-  move_data-same s (Some b) p t c n q load = if-met s (is_answered b.transfer n q) _ _ (move_bytes-same s b p t c n q load) refl
+  move_data-same : (s : SubchannelState) (b : Option Begun) (signal : DataSignal) (load : Load) → IsSame s (move_data storage s b signal load).step
+  move_data-same s None signal load = refl
+  move_data-same s (Some b) signal load = if-met s (is_answered b.transfer signal.command signal.sequence) _ _ (move_bytes-same s b signal load) refl
 
   -- End
-  chaining-same : (s : SubchannelState) (b : Begun) (p t : ℕ) (walk : Place) (r : Came) → IsSame s (chaining storage s b p t walk r)
-  chaining-same s b p t walk (came.Begins transfer) = moving-same s b (begun_with_room storage transfer).transfer
-  chaining-same s b p t walk came.Suspends = (suspending-workless (record s { dedicated = None }) b.program walk (residual b.transfer.moving)).kept.drawn
-  chaining-same s b p t walk (came.Stops check) = (cause-kept (record s { dedicated = None }) (cause.FetchFault walk.tried check (residual b.transfer.moving))).drawn
+  chaining-same : (s : SubchannelState) (b : Begun) (signal : EndSignal) (walk : Place) (r : Came) → IsSame s (chaining storage s b signal walk r)
+  chaining-same s b signal walk (came.Begins transfer) = moving-same s b (begun_with_room storage transfer).transfer
+  chaining-same s b signal walk came.Suspends = (suspending-workless (end_taken s signal) b.program walk (residual b.transfer.moving)).kept.drawn
+  chaining-same s b signal walk (came.Stops check) = (cause-kept (end_taken s signal) (cause.FetchFault walk.tried check (residual b.transfer.moving))).drawn
 
-  goes_on-same : (s : SubchannelState) (b : Begun) (p t : ℕ) (status : DeviceStatus) → IsSame s (goes_on storage s b p t status)
-  goes_on-same s b p t status =
-      if-same s (has_device_end status) _ _
-      (chaining-same s b p t (next_command storage b.transfer (has_status_modifier status)).walk (next_command storage b.transfer (has_status_modifier status)).came) refl
+  goes_on-same : (s : SubchannelState) (b : Begun) (signal : EndSignal) → IsSame s (goes_on storage s b signal)
+  goes_on-same s b signal =
+      if-same s (has_device_end signal.status) _ _
+      (chaining-same s b signal (next_command storage b.transfer (has_status_modifier signal.status)).walk (next_command storage b.transfer (has_status_modifier signal.status)).came) refl
 
-  stops_at-same : (s : SubchannelState) (b : Begun) (p : ℕ) (status : DeviceStatus) (more : Bool) → IsSame s (stops_at s b p status more)
-  stops_at-same s b p status more = if-same s (is_last_end status) _ _ (cause-kept s (cause.End b status more)).drawn (cause-kept s (cause.End b status more)).drawn
+  stops_at-same : (s : SubchannelState) (b : Begun) (signal : EndSignal) → IsSame s (stops_at s b signal)
+  stops_at-same s b signal = if-same s (is_last_end signal.status) _ _ (cause-kept s (cause.End b signal.status signal.more)).drawn (cause-kept s (cause.End b signal.status signal.more)).drawn
 
-  end_of-same : (s : SubchannelState) (b : Option Begun) (p t n : ℕ) (status : DeviceStatus) (more : Bool) → IsSame s (end_of storage s b p t n status more)
-  end_of-same s None p t n status more = refl
-  end_of-same s (Some b) p t n status more =
-      if-same s (n == b.transfer.command) _ _
-      (if-same s (chains_command s.scsw b status more) _ _ (goes_on-same s (with_end b) p t status) (stops_at-same s b p status more)) refl
+  end_of-same : (s : SubchannelState) (b : Option Begun) (signal : EndSignal) → IsSame s (end_of storage s b signal)
+  end_of-same s None signal = refl
+  end_of-same s (Some b) signal =
+      if-same s (signal.command == b.transfer.command) _ _
+      (if-same s (chains_command s.scsw b signal.status signal.more) _ _ (goes_on-same s (with_end b) signal) (stops_at-same s b signal)) refl
 
   -- Cleared
   reset-same : (s : SubchannelState) (step : Option HoldStep) → IsSame s (reset_taken s step)
@@ -117,8 +118,8 @@ module _ (storage : Contents) where
 
   pub up-drawn : (returns : Bool) → (s : SubchannelState) (p : ℕ) (x : Up) → s.drawn ≤ (takes_up returns storage s p x).step.state.drawn
   up-drawn returns s p (up.Accept t) = no-less s.drawn _ (accept-same s (hold_takes s.hold p (up.Accept t) (goes_ahead s)))
-  up-drawn returns s p (up.Data t c n q load) = no-less s.drawn _ (if-met s (is_connected s.hold.phase p t c) _ _ (move_data-same s s.begun p t c n q load) refl)
-  up-drawn returns s p (up.End t n status more) = no-less s.drawn _ (if-same s (is_on s.hold.phase t) _ _ (end_of-same s s.begun p t n status more) refl)
+  up-drawn returns s p (up.Data t c n q load) = no-less s.drawn _ (if-met s (is_connected s.hold.phase p t c) _ _ (move_data-same s s.begun (record { path = p; number = t; connection = c; command = n; sequence = q }) load) refl)
+  up-drawn returns s p (up.End t n status more) = no-less s.drawn _ (if-same s (is_on s.hold.phase t) _ _ (end_of-same s s.begun (record { path = p; number = t; command = n; status = status; more = more })) refl)
   up-drawn returns s p (up.Busy t) = omega arith
   up-drawn returns s p (up.Leave t c) = omega arith
   up-drawn returns s p (up.Back t c) = omega arith

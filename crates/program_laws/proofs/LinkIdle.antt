@@ -10,6 +10,8 @@ use Rattle.chan_model.specs.declared.signal.Up.{Up}
 use Rattle.chan_model.specs.declared.signal.Up.TheVariants as up
 use Rattle.chan_model.specs.HoldTable as hold_table
 use Rattle.chan_model.specs.HoldTable.{HoldStep, hold_after, came_of, is_connected, is_on, left, asked_back, found_busy, released, cleared, attended}
+use Rattle.subchannel_model.specs.declared.signals.DataSignal.{DataSignal}
+use Rattle.subchannel_model.specs.declared.signals.EndSignal.{EndSignal}
 use Rattle.subchannel_model.specs.declared.state.Begun.{Begun}
 use Rattle.subchannel_model.specs.declared.state.SubchannelState.{SubchannelState}
 use Rattle.subchannel_model.specs.declared.state.UpStep.{UpStep}
@@ -43,17 +45,17 @@ module _ (storage : Contents) (s : SubchannelState) (none : s.begun ≡ None) wh
   accept-idle (hold.Letting v p) t may n = record { begun = refl; sends = tt; same = λ k. refl }
   accept-idle (hold.Reset r) t may n = record { begun = refl; sends = tt; same = λ k. refl }
 
-  data-idle : (p t c n q : ℕ) (l : Load) (x : Bool) (b : Option Begun) → b ≡ None →
-      IsIdle s (if x then taking.move_data storage s b p t c n q l else taking.meets storage (taking.ignoring s)).step (λ k. if x then stories.answers storage b n q l k else k)
-  data-idle p t c n q l true None e = record { begun = refl; sends = tt; same = λ k. refl }
-  data-idle p t c n q l true (Some b) e = absurd (cc e)
-  data-idle p t c n q l false b e = record { begun = refl; sends = tt; same = λ k. refl }
+  data-idle : (signal : DataSignal) (l : Load) (x : Bool) (b : Option Begun) → b ≡ None →
+      IsIdle s (if x then taking.move_data storage s b signal l else taking.meets storage (taking.ignoring s)).step (λ k. if x then stories.answers storage b signal.command signal.sequence l k else k)
+  data-idle signal l true None e = record { begun = refl; sends = tt; same = λ k. refl }
+  data-idle signal l true (Some b) e = absurd (cc e)
+  data-idle signal l false b e = record { begun = refl; sends = tt; same = λ k. refl }
 
-  end-idle : (p t n : ℕ) (status : DeviceStatus) (more : Bool) (x : Bool) (b : Option Begun) → b ≡ None →
-      IsIdle s (if x then taking.end_of storage s b p t n status more else taking.ignoring s) (λ k. if x then stories.ends storage s b n status more k else k)
-  end-idle p t n status more true None e = record { begun = refl; sends = tt; same = λ k. refl }
-  end-idle p t n status more true (Some b) e = absurd (cc e)
-  end-idle p t n status more false b e = record { begun = refl; sends = tt; same = λ k. refl }
+  end-idle : (signal : EndSignal) (x : Bool) (b : Option Begun) → b ≡ None →
+      IsIdle s (if x then taking.end_of storage s b signal else taking.ignoring s) (λ k. if x then stories.ends storage s b signal.command signal.status signal.more k else k)
+  end-idle signal true None e = record { begun = refl; sends = tt; same = λ k. refl }
+  end-idle signal true (Some b) e = absurd (cc e)
+  end-idle signal false b e = record { begun = refl; sends = tt; same = λ k. refl }
 
   reset-idle : (step : Option HoldStep) → Mutters step → IsIdle s (taking.reset_taken s step) (λ k. k)
   reset-idle None m = record { begun = refl; sends = tt; same = λ k. refl }
@@ -79,8 +81,8 @@ module _ (storage : Contents) (s : SubchannelState) (none : s.begun ≡ None) wh
 
   pub idle-meets : (returns : Bool) → IsNoOffer s.hold.phase → (p : ℕ) (x : Up) → IsIdle s (takes_up returns storage s p x).step (meets storage s p x)
   idle-meets returns n p (up.Accept t) = accept-idle s.hold.phase t (goes_ahead s) n
-  idle-meets returns n p (up.Data t c i q l) = data-idle p t c i q l (is_connected s.hold.phase p t c) s.begun none
-  idle-meets returns n p (up.End t i status more) = end-idle p t i status more (is_on s.hold.phase t) s.begun none
+  idle-meets returns n p (up.Data t c i q l) = data-idle (record { path = p; number = t; connection = c; command = i; sequence = q }) l (is_connected s.hold.phase p t c) s.begun none
+  idle-meets returns n p (up.End t i status more) = end-idle (record { path = p; number = t; command = i; status = status; more = more }) (is_on s.hold.phase t) s.begun none
   idle-meets returns n p (up.Busy t) = by_hold-idle (found_busy s.hold s.hold.phase t) (busy-mutters s.hold s.hold.phase t)
   idle-meets returns n p (up.Leave t c) = by_hold-idle (left s.hold s.hold.phase t c) (left-mutters s.hold s.hold.phase t c)
   idle-meets returns n p (up.Back t c) = back-idle p (asked_back s.hold s.hold.phase p t c returns) (back-mutters s.hold s.hold.phase p t c returns)

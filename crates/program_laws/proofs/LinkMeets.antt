@@ -33,6 +33,8 @@ use Rattle.transfer.specs.declared.Came.TheVariants as came
 use Rattle.transfer.specs.declared.Given.{Given}
 use Rattle.transfer.specs.Commands.{first_command, next_command, begun_with_room, with_room}
 use Rattle.transfer.specs.Chunks.{Brought, absorbed, next_given, brought, is_answered}
+use Rattle.subchannel_model.specs.declared.signals.DataSignal.{DataSignal}
+use Rattle.subchannel_model.specs.declared.signals.EndSignal.{EndSignal}
 use Rattle.subchannel_model.specs.declared.state.Begun.{Begun}
 use Rattle.subchannel_model.specs.declared.state.Program.{Program}
 use Rattle.subchannel_model.specs.declared.state.Standing.{Standing}
@@ -208,13 +210,13 @@ module _ (laws : AreLaws) (accesses : AreAccesses) (storage : Contents) (side : 
   now-wires P W Q X R Y one f g h d w = wired-holds side k.number m P W Q X R Y downs ups u one path f g h d w
 
   -- a read
-  reads-goes : (b : Begun) (p t n seq : ℕ) (x : Brought) (now : Part) → IsSame b.transfer x.transfer → length k.taken ≡ k.sent → is_outward b.transfer.code ≡ false → k.absorbed ≡ [] →
-      IsWired side k.number m HandPlain NoGive AnyData downs ups u → Goes (taking.take_in s b p t n seq x).step (record k { now = now })
-  reads-goes b p t n seq x now same l out z w =
+  reads-goes : (b : Begun) (signal : DataSignal) (x : Brought) (now : Part) → IsSame b.transfer x.transfer → length k.taken ≡ k.sent → is_outward b.transfer.code ≡ false → k.absorbed ≡ [] →
+      IsWired side k.number m HandPlain NoGive AnyData downs ups u → Goes (taking.take_in s b signal x).step (record k { now = now })
+  reads-goes b signal x now same l out z w =
       let y : Transfer = (with_room x.storage x.transfer).transfer in
       let code : y.code ≡ b.transfer.code = (located-same x.storage x.transfer).0 ∙ same.0 in
       let c : Begun = record b { transfer = y } in
-      let one : Option (OnPath Down) = Some (record { path = p; signal = down.Took t n seq (with_room x.storage x.transfer).room }) in
+      let one : Option (OnPath Down) = Some (record { path = signal.path; signal = down.Took signal.number signal.command signal.sequence (with_room x.storage x.transfer).room }) in
       let made : Mode side (Some c) (record k { now = now }) (with_any_sent downs one) (taken ups path) u =
       Reads c refl l (ap is_outward code ∙ out) z (now-wires HandPlain HandPlain NoGive NoGive AnyData AnyData one (λ h r. r) (λ i bytes r. r) (λ i r q. q) tt w) in
       interrupted-mode side (taking.with_transfer s b y) c (record k { now = now }) (with_any_sent downs one) (taken ups path) u refl made
@@ -228,107 +230,107 @@ module _ (laws : AreLaws) (accesses : AreAccesses) (storage : Contents) (side : 
   same-hand c d v w lead after e f None r = tt
   same-hand c d v w lead after e f (Some x) r = (r.0 ∙ sym e, f x r.1)
 
-  module _ (b : Begun) (seq : ℕ) (l : Load) where
+  module _ (b : Begun) (signal : DataSignal) (l : Load) where
     abbrev v : View
     v = view_of b.transfer k.now
 
     abbrev x : Given
-    x = next_given storage (absorbed storage b.transfer seq (load_length l))
+    x = next_given storage (absorbed storage b.transfer signal.sequence (load_length l))
 
     abbrev now : Part
-    now = gives storage b.transfer seq (load_length l) k.now
+    now = gives storage b.transfer signal.sequence (load_length l) k.now
 
     abbrev w : View
     w = view_of x.transfer now
 
     code : x.transfer.code ≡ b.transfer.code
-    code = (next_given-same storage (absorbed storage b.transfer seq (load_length l))).0 ∙ (absorbed-same storage b.transfer seq (load_length l)).0
+    code = (next_given-same storage (absorbed storage b.transfer signal.sequence (load_length l))).0 ∙ (absorbed-same storage b.transfer signal.sequence (load_length l)).0
 
-    given : (p t c n : ℕ) →
-        Mode side (Some (record b { transfer = x.transfer })) (with_now now) (with_any_sent downs (Some (record { path = p; signal = down.Give t c n (seq + 1) x.bytes }))) (taken ups path) u →
-        Goes (taking.give_next storage s b p t c n seq (load_length l)) (with_now now)
-    given p t c n g =
-        interrupted-mode side (taking.with_transfer s b x.transfer) (record b { transfer = x.transfer }) (with_now now) (with_any_sent downs (Some (record { path = p; signal = down.Give t c n (seq + 1) x.bytes })))
+    given :
+        Mode side (Some (record b { transfer = x.transfer })) (with_now now) (with_any_sent downs (Some (record { path = signal.path; signal = down.Give signal.number signal.connection signal.command (signal.sequence + 1) x.bytes }))) (taken ups path) u →
+        Goes (taking.give_next storage s b signal (load_length l)) (with_now now)
+    given g =
+        interrupted-mode side (taking.with_transfer s b x.transfer) (record b { transfer = x.transfer }) (with_now now) (with_any_sent downs (Some (record { path = signal.path; signal = down.Give signal.number signal.connection signal.command (signal.sequence + 1) x.bytes })))
         (taken ups path) u refl g
 
-    writes-goes : (p t c n : ℕ) (lead : Option ℕ) → s.begun ≡ Some b → t ≡ k.number → n ≤ m → length k.taken ≡ k.sent → is_outward b.transfer.code ≡ true →
-        (seq ≡ b.transfer.sequence) ⊎ (seq ≡ b.transfer.sequence + 1) → IsData (view_of b.transfer k.now) lead seq l → Flow (view_of b.transfer k.now) k.absorbed lead →
+    writes-goes : (lead : Option ℕ) → s.begun ≡ Some b → signal.number ≡ k.number → signal.command ≤ m → length k.taken ≡ k.sent → is_outward b.transfer.code ≡ true →
+        (signal.sequence ≡ b.transfer.sequence) ⊎ (signal.sequence ≡ b.transfer.sequence + 1) → IsData (view_of b.transfer k.now) lead signal.sequence l → Flow (view_of b.transfer k.now) k.absorbed lead →
         IsWired side k.number m (HandFlow b.transfer.code (view_of b.transfer k.now) lead) (IsGive (view_of b.transfer k.now)) (IsData (view_of b.transfer k.now) lead) downs ups u →
-        Goes (taking.give_next storage s b p t c n seq (load_length l)) (with_now (gives storage b.transfer seq (load_length l) k.now))
-    writes-goes p t c n lead e z le taken-all out at d f wired = by (seq == b.transfer.sequence + 1) refl
+        Goes (taking.give_next storage s b signal (load_length l)) (with_now (gives storage b.transfer signal.sequence (load_length l) k.now))
+    writes-goes lead e z le taken-all out at d f wired = by (signal.sequence == b.transfer.sequence + 1) refl
       where
         outward : is_outward x.transfer.code ≡ true
         outward = ap is_outward code ∙ out
 
-        by : (y : Bool) → (seq == b.transfer.sequence + 1) ≡ y → Goes (taking.give_next storage s b p t c n seq (load_length l)) (with_now now)
+        by : (y : Bool) → (signal.sequence == b.transfer.sequence + 1) ≡ y → Goes (taking.give_next storage s b signal (load_length l)) (with_now now)
         by true y =
-            let is : seq ≡ b.transfer.sequence + 1 = eqb-true seq (b.transfer.sequence + 1) y in
-            let a = answers-view accesses storage b.transfer seq (load_length l) k.now y in
+            let is : signal.sequence ≡ b.transfer.sequence + 1 = eqb-true signal.sequence (b.transfer.sequence + 1) y in
+            let a = answers-view accesses storage b.transfer signal.sequence (load_length l) k.now y in
             let j : ℕ = load_length l in
             let ahead : lead ≡ Some j = d.1 is in
             let flow : Flow v k.absorbed (Some j) = subst (Flow v k.absorbed) ahead f in
             let all : min j (room b.transfer.moving) ≡ j = least j (room b.transfer.moving) flow.within in
             let moved : w.moved ≡ v.moved ++ each_below v.next j = a.0.moved ∙ ap (λ (i : ℕ). v.moved ++ each_below v.next i) all in
-            given p t c n (Writes (record b { transfer = x.transfer }) refl taken-all outward None (answered-flow v w k.absorbed j a.0.copied moved flow)
-            (now-wires (HandFlow b.transfer.code v lead) (HandFlow x.transfer.code w None) (IsGive v) (IsGive w) (IsData v lead) (IsData w None) (Some (record { path = p; signal = down.Give t c n (seq + 1) x.bytes }))
+            given (Writes (record b { transfer = x.transfer }) refl taken-all outward None (answered-flow v w k.absorbed j a.0.copied moved flow)
+            (now-wires (HandFlow b.transfer.code v lead) (HandFlow x.transfer.code w None) (IsGive v) (IsGive w) (IsData v lead) (IsData w None) (Some (record { path = signal.path; signal = down.Give signal.number signal.connection signal.command (signal.sequence + 1) x.bytes }))
             (same-hand b.transfer.code x.transfer.code v w lead None code (λ h r. answered-hand v w j h a.0.seq (subst (λ (i : Option ℕ). flows.Hand v i h) ahead r)))
-            (λ i bytes r. answered-give v w i bytes a.0.seq r) (λ i r q. answered-data v w lead i r a.0.seq q) (given-signal w t c n seq x.bytes z le (is ∙ sym a.0.seq) a.1) wired))
+            (λ i bytes r. answered-give v w i bytes a.0.seq r) (λ i r q. answered-data v w lead i r a.0.seq q) (given-signal w signal.number signal.connection signal.command signal.sequence x.bytes z le (is ∙ sym a.0.seq) a.1) wired))
         by false y =
-            let not : seq ≡ b.transfer.sequence + 1 → ⊥ = eqb-false seq (b.transfer.sequence + 1) y in
-            let is : seq ≡ b.transfer.sequence = elim at [ inl h ↦ h | inr h ↦ absurd (not h) ] in
-            let a = repeats-view accesses storage b.transfer seq (load_length l) k.now y in
-            given p t c n (Writes (record b { transfer = x.transfer }) refl taken-all outward lead (located-flow v w k.absorbed lead a.located f)
-            (now-wires (HandFlow b.transfer.code v lead) (HandFlow x.transfer.code w lead) (IsGive v) (IsGive w) (IsData v lead) (IsData w lead) (Some (record { path = p; signal = down.Give t c n (seq + 1) x.bytes }))
+            let not : signal.sequence ≡ b.transfer.sequence + 1 → ⊥ = eqb-false signal.sequence (b.transfer.sequence + 1) y in
+            let is : signal.sequence ≡ b.transfer.sequence = elim at [ inl h ↦ h | inr h ↦ absurd (not h) ] in
+            let a = repeats-view accesses storage b.transfer signal.sequence (load_length l) k.now y in
+            given (Writes (record b { transfer = x.transfer }) refl taken-all outward lead (located-flow v w k.absorbed lead a.located f)
+            (now-wires (HandFlow b.transfer.code v lead) (HandFlow x.transfer.code w lead) (IsGive v) (IsGive w) (IsData v lead) (IsData w lead) (Some (record { path = signal.path; signal = down.Give signal.number signal.connection signal.command (signal.sequence + 1) x.bytes }))
             (same-hand b.transfer.code x.transfer.code v w lead lead code (λ h r. located-hand v w lead h a.located r)) (λ i bytes r. located-give v w i bytes a.located r)
-            (λ i r q. located-data v w lead i r a.located q) (given-signal w t c n seq x.bytes z le (is ∙ sym a.located.seq) a.good) wired))
+            (λ i r q. located-data v w lead i r a.located q) (given-signal w signal.number signal.connection signal.command signal.sequence x.bytes z le (is ∙ sym a.located.seq) a.good) wired))
 
   -- by the direction
-  moves-goes : (b : Begun) (p t c n seq : ℕ) (l : Load) → s.begun ≡ Some b → t ≡ k.number → n ≡ b.transfer.command → (seq ≡ b.transfer.sequence) ⊎ (seq ≡ b.transfer.sequence + 1) →
-      ((P : Option AtHand → Type 0) (Q : ℕ → List ℕ → Type 0) (R : ℕ → Load → Type 0) → IsWired side k.number m P Q R downs ups u → Front R (up.Data t c n seq l)) →
-      Goes (taking.move_bytes storage s b p t c n seq l).step (stories.moves storage b.transfer seq l k)
-  moves-goes b p t c n seq l e z i at f = by mode
+  moves-goes : (b : Begun) (signal : DataSignal) (l : Load) → s.begun ≡ Some b → signal.number ≡ k.number → signal.command ≡ b.transfer.command → (signal.sequence ≡ b.transfer.sequence) ⊎ (signal.sequence ≡ b.transfer.sequence + 1) →
+      ((P : Option AtHand → Type 0) (Q : ℕ → List ℕ → Type 0) (R : ℕ → Load → Type 0) → IsWired side k.number m P Q R downs ups u → Front R (up.Data signal.number signal.connection signal.command signal.sequence l)) →
+      Goes (taking.move_bytes storage s b signal l).step (stories.moves storage b.transfer signal.sequence l k)
+  moves-goes b signal l e z i at f = by mode
     where
-      by : Mode side s.begun k downs ups u → Goes (taking.move_bytes storage s b p t c n seq l).step (stories.moves storage b.transfer seq l k)
+      by : Mode side s.begun k downs ups u → Goes (taking.move_bytes storage s b signal l).step (stories.moves storage b.transfer signal.sequence l k)
       by (Waits d h g q y a w) =
-          let r = data-front AnyData b t c n seq l e z i (f HandClosed AnyGive AnyData w) in
+          let r = data-front AnyData b signal.number signal.connection signal.command signal.sequence l e z i (f HandClosed AnyGive AnyData w) in
           absurd (omega (arith, r.0, r.2, g))
       by (Over h g q a w) = absurd (cc (sym e ∙ h))
       by (Reads d h g o q w) =
           let same : d ≡ b = cc (sym h ∙ e) in
           let out : is_outward b.transfer.code ≡ false = subst (λ (x : Begun). is_outward x.transfer.code ≡ false) same o in
-          subst (λ (x : Bool). Goes (if x then taking.meets storage (taking.give_next storage s b p t c n seq (load_length l)) else taking.take_in s b p t n seq (brought storage b.transfer seq (bytes_of l))).step
-          (if x then with_now (gives storage b.transfer seq (load_length l) k.now) else with_now (takes_in storage b.transfer seq (bytes_of l) k.now))) (sym out)
-          (reads-goes b p t n seq (brought storage b.transfer seq (bytes_of l)) (takes_in storage b.transfer seq (bytes_of l) k.now) (brought-same storage b.transfer seq (bytes_of l)) g out q w)
+          subst (λ (x : Bool). Goes (if x then taking.meets storage (taking.give_next storage s b signal (load_length l)) else taking.take_in s b signal (brought storage b.transfer signal.sequence (bytes_of l))).step
+          (if x then with_now (gives storage b.transfer signal.sequence (load_length l) k.now) else with_now (takes_in storage b.transfer signal.sequence (bytes_of l) k.now))) (sym out)
+          (reads-goes b signal (brought storage b.transfer signal.sequence (bytes_of l)) (takes_in storage b.transfer signal.sequence (bytes_of l) k.now) (brought-same storage b.transfer signal.sequence (bytes_of l)) g out q w)
       by (Writes d h g o lead y w) =
           let same : d ≡ b = cc (sym h ∙ e) in
           let out : is_outward b.transfer.code ≡ true = subst (λ (x : Begun). is_outward x.transfer.code ≡ true) same o in
           let y' : Flow (view_of b.transfer k.now) k.absorbed lead = subst (λ (x : Begun). Flow (view_of x.transfer k.now) k.absorbed lead) same y in
           let w' : IsWired side k.number m (HandFlow b.transfer.code (view_of b.transfer k.now) lead) (IsGive (view_of b.transfer k.now)) (IsData (view_of b.transfer k.now) lead) downs ups u =
           subst (λ (x : Begun). IsWired side k.number m (HandFlow x.transfer.code (view_of x.transfer k.now) lead) (IsGive (view_of x.transfer k.now)) (IsData (view_of x.transfer k.now) lead) downs ups u) same w in
-          let r = data-front (IsData (view_of b.transfer k.now) lead) b t c n seq l e z i
+          let r = data-front (IsData (view_of b.transfer k.now) lead) b signal.number signal.connection signal.command signal.sequence l e z i
           (f (HandFlow b.transfer.code (view_of b.transfer k.now) lead) (IsGive (view_of b.transfer k.now)) (IsData (view_of b.transfer k.now) lead) w') in
-          subst (λ (x : Bool). Goes (if x then taking.meets storage (taking.give_next storage s b p t c n seq (load_length l)) else taking.take_in s b p t n seq (brought storage b.transfer seq (bytes_of l))).step
-          (if x then with_now (gives storage b.transfer seq (load_length l) k.now) else with_now (takes_in storage b.transfer seq (bytes_of l) k.now))) (sym out)
-          (writes-goes b seq l p t c n lead e z r.0 g out at (r.1 (r.2 ∙ sym g)) y' w')
+          subst (λ (x : Bool). Goes (if x then taking.meets storage (taking.give_next storage s b signal (load_length l)) else taking.take_in s b signal (brought storage b.transfer signal.sequence (bytes_of l))).step
+          (if x then with_now (gives storage b.transfer signal.sequence (load_length l) k.now) else with_now (takes_in storage b.transfer signal.sequence (bytes_of l) k.now))) (sym out)
+          (writes-goes b signal l lead e z r.0 g out at (r.1 (r.2 ∙ sym g)) y' w')
 
-  module _ (p t c n seq : ℕ) (l : Load) (front : (P : Option AtHand → Type 0) (Q : ℕ → List ℕ → Type 0) (R : ℕ → Load → Type 0) → IsWired side k.number m P Q R downs ups u → Front R (up.Data t c n seq l)) where
-    answers-goes : (begun : Option Begun) → s.begun ≡ begun → t ≡ k.number → Goes (taking.move_data storage s begun p t c n seq l).step (stories.answers storage begun n seq l k)
+  module _ (signal : DataSignal) (l : Load) (front : (P : Option AtHand → Type 0) (Q : ℕ → List ℕ → Type 0) (R : ℕ → Load → Type 0) → IsWired side k.number m P Q R downs ups u → Front R (up.Data signal.number signal.connection signal.command signal.sequence l)) where
+    answers-goes : (begun : Option Begun) → s.begun ≡ begun → signal.number ≡ k.number → Goes (taking.move_data storage s begun signal l).step (stories.answers storage begun signal.command signal.sequence l k)
     answers-goes None e z = quiet s.begun None refl tt
-    answers-goes (Some b) e z = by (is_answered b.transfer n seq) refl
+    answers-goes (Some b) e z = by (is_answered b.transfer signal.command signal.sequence) refl
       where
-        by : (x : Bool) → is_answered b.transfer n seq ≡ x →
-            Goes (if x then taking.move_bytes storage s b p t c n seq l else taking.meets storage (taking.ignoring s)).step (if x then stories.moves storage b.transfer seq l k else k)
+        by : (x : Bool) → is_answered b.transfer signal.command signal.sequence ≡ x →
+            Goes (if x then taking.move_bytes storage s b signal l else taking.meets storage (taking.ignoring s)).step (if x then stories.moves storage b.transfer signal.sequence l k else k)
         by true x =
-            let f = current-facts b.transfer n seq (is_outward b.transfer.code || not (seq == 0)) x in
-            moves-goes b p t c n seq l e z f.0 f.1 front
+            let f = current-facts b.transfer signal.command signal.sequence (is_outward b.transfer.code || not (signal.sequence == 0)) x in
+            moves-goes b signal l e z f.0 f.1 front
         by false x = quiet s.begun None refl tt
 
-    data-goes : Goes (taking.take_data storage s p t c n seq l).step (if is_connected s.hold.phase p t c then stories.answers storage s.begun n seq l k else k)
-    data-goes = by (is_connected s.hold.phase p t c) refl
+    data-goes : Goes (taking.take_data storage s signal l).step (if is_connected s.hold.phase signal.path signal.number signal.connection then stories.answers storage s.begun signal.command signal.sequence l k else k)
+    data-goes = by (is_connected s.hold.phase signal.path signal.number signal.connection) refl
       where
-        by : (x : Bool) → is_connected s.hold.phase p t c ≡ x →
-            Goes (if x then taking.move_data storage s s.begun p t c n seq l else taking.meets storage (taking.ignoring s)).step (if x then stories.answers storage s.begun n seq l k else k)
-        by true x = answers-goes s.begun refl (connected-number s.hold.phase k.number s.begun k.sent p t c held.phase x)
+        by : (x : Bool) → is_connected s.hold.phase signal.path signal.number signal.connection ≡ x →
+            Goes (if x then taking.move_data storage s s.begun signal l else taking.meets storage (taking.ignoring s)).step (if x then stories.answers storage s.begun signal.command signal.sequence l k else k)
+        by true x = answers-goes s.begun refl (connected-number s.hold.phase k.number s.begun k.sent signal.path signal.number signal.connection held.phase x)
         by false x = quiet s.begun None refl tt
 
   -- the device's command is over
@@ -389,87 +391,87 @@ module _ (laws : AreLaws) (accesses : AreAccesses) (storage : Contents) (side : 
       let one : Option (OnPath Down) = (came_of (letting_go x.hold x.hold.phase)).sent in
       Over e o.taken_all o.some (absorbs-on laws k (with_acts k.now acts) refl r o.absorbs) (o.wires one (sent-hold k.number m AnyGive one (letting-mutters x.hold x.hold.phase)))
 
-  chains-goes : (b : Begun) (p t : ℕ) (walk : Place) (status : DeviceStatus) (c : Came) → (next_command storage b.transfer (has_status_modifier status)).walk ≡ walk →
-      (next_command storage b.transfer (has_status_modifier status)).came ≡ c → s.begun ≡ Some b → IsOver b →
+  chains-goes : (b : Begun) (signal : EndSignal) (walk : Place) (c : Came) → (next_command storage b.transfer (has_status_modifier signal.status)).walk ≡ walk →
+      (next_command storage b.transfer (has_status_modifier signal.status)).came ≡ c → s.begun ≡ Some b → IsOver b →
       b.transfer.moving.ccw.chain_data ≡ false → is_some b.transfer.fault ≡ false →
-      Goes (taking.chaining storage s (with_end b) p t walk c) (stories.goes_on c (next_acts storage b.transfer (has_status_modifier status)) k)
-  chains-goes b p t walk status c at is e o d f = by c is
+      Goes (taking.chaining storage s (with_end b) signal walk c) (stories.goes_on c (next_acts storage b.transfer (has_status_modifier signal.status)) k)
+  chains-goes b signal walk c at is e o d f = by c is
     where
       acts : List Act
-      acts = next_acts storage b.transfer (has_status_modifier status)
+      acts = next_acts storage b.transfer (has_status_modifier signal.status)
 
-      went : WentOn k.earlier laws storage k.orb (End (record { goes_on = true; modifier = has_status_modifier status }) ∷ k.now.acts) (acts ++ k.now.acts) (b.transfer.command + 1)
-          (next_command storage b.transfer (has_status_modifier status)).walk (next_command storage b.transfer (has_status_modifier status)).came
-      went = next-went laws accesses k.earlier storage k.orb k.now b.transfer (has_status_modifier status) (at-work b e).0.tied d f
+      went : WentOn k.earlier laws storage k.orb (End (record { goes_on = true; modifier = has_status_modifier signal.status }) ∷ k.now.acts) (acts ++ k.now.acts) (b.transfer.command + 1)
+          (next_command storage b.transfer (has_status_modifier signal.status)).walk (next_command storage b.transfer (has_status_modifier signal.status)).came
+      went = next-went laws accesses k.earlier storage k.orb k.now b.transfer (has_status_modifier signal.status) (at-work b e).0.tied d f
 
       Went : Came → Type 0
       Went c =
-          WentOn k.earlier laws storage k.orb (End (record { goes_on = true; modifier = has_status_modifier status }) ∷ k.now.acts) (acts ++ k.now.acts) (b.transfer.command + 1)
-          (next_command storage b.transfer (has_status_modifier status)).walk c
+          WentOn k.earlier laws storage k.orb (End (record { goes_on = true; modifier = has_status_modifier signal.status }) ∷ k.now.acts) (acts ++ k.now.acts) (b.transfer.command + 1)
+          (next_command storage b.transfer (has_status_modifier signal.status)).walk c
 
-      by : (c : Came) → (next_command storage b.transfer (has_status_modifier status)).came ≡ c → Goes (taking.chaining storage s (with_end b) p t walk c) (stories.goes_on c acts k)
+      by : (c : Came) → (next_command storage b.transfer (has_status_modifier signal.status)).came ≡ c → Goes (taking.chaining storage s (with_end b) signal walk c) (stories.goes_on c acts k)
       by (came.Begins tr) c =
           let x : Transfer = (begun_with_room storage tr).transfer in
           let n : Begun = record (with_end b) { transfer = x } in
-          let one : Option (OnPath Down) = Some (record { path = p; signal = down.Command t x.command x.code (begun_with_room storage tr).room }) in
+          let one : Option (OnPath Down) = Some (record { path = signal.path; signal = down.Command signal.number x.command x.code (begun_with_room storage tr).room }) in
           let new : Story = stories.goes_on (came.Begins tr) acts k in
           let made : Mode side (Some n) new (with_any_sent downs one) (taken ups path) u =
           Waits n refl (ap (λ (i : ℕ). i + 1) o.taken_all)
-          (room-seq storage tr ∙ goes-new storage (b.transfer.command + 1) (after_end b.transfer.walk (record { goes_on = true; modifier = has_status_modifier status })) tr c) refl o.absorbs (o.wires one tt) in
+          (room-seq storage tr ∙ goes-new storage (b.transfer.command + 1) (after_end b.transfer.walk (record { goes_on = true; modifier = has_status_modifier signal.status })) tr c) refl o.absorbs (o.wires one tt) in
           interrupted-mode side (taking.with_transfer s (with_end b) x) n new (with_any_sent downs one) (taken ups path) u refl made
       by came.Suspends c =
-          next-over b (taking.suspending (record s { dedicated = None }) (with_end b).program walk (residual (with_end b).transfer.moving)) acts
-          (suspending-workless (record s { dedicated = None }) (with_end b).program walk (residual (with_end b).transfer.moving)).begun o (subst Went c went).1
+          next-over b (taking.suspending (taking.end_taken s signal) (with_end b).program walk (residual (with_end b).transfer.moving)) acts
+          (suspending-workless (taking.end_taken s signal) (with_end b).program walk (residual (with_end b).transfer.moving)).begun o (subst Went c went).1
       by (came.Stops check) c =
-          next-over b (with_cause (record s { dedicated = None }) (cause.FetchFault walk.tried check (residual (with_end b).transfer.moving))) acts
-          (fault-begun (record s { dedicated = None }) s.begun refl) o (subst Went c went).1
+          next-over b (with_cause (taking.end_taken s signal) (cause.FetchFault walk.tried check (residual (with_end b).transfer.moving))) acts
+          (fault-begun (taking.end_taken s signal) s.begun refl) o (subst Went c went).1
 
-  end-begun : (b : Begun) (p : ℕ) (status : DeviceStatus) (more last : Bool) → is_last_end status ≡ last →
-      (taking.end_shown_at s b p status more).begun ≡ (if last then None else Some (has_shown b))
-  end-begun b p status more last e = ap (λ (x : Bool). (causes.after_end s b x).begun) e ∙ by last
+  end-begun : (b : Begun) (signal : EndSignal) (last : Bool) → is_last_end signal.status ≡ last →
+      (taking.end_shown_at s b signal).begun ≡ (if last then None else Some (has_shown b))
+  end-begun b signal last e = ap (λ (x : Bool). (causes.after_end s b x).begun) e ∙ by last
     where
       by : (x : Bool) → (causes.after_end s b x).begun ≡ (if x then None else Some (has_shown b))
       by true = refl
       by false = refl
 
-  ends-by : (b : Begun) (p t : ℕ) (status : DeviceStatus) (more : Bool) (x y : Bool) → chains_command s.scsw b status more ≡ x → s.begun ≡ Some b → IsOver b →
+  ends-by : (b : Begun) (signal : EndSignal) (x y : Bool) → chains_command s.scsw b signal.status signal.more ≡ x → s.begun ≡ Some b → IsOver b →
       Goes
-      (if x then (if y then taking.chain_with storage s (with_end b) p t (next_command storage (with_end b).transfer (has_status_modifier status))
-      else taking.quietly (record s { begun = Some (with_end b); dedicated = None }))
-      else taking.stops_at s b p status more)
-      (if x && y then stories.goes_on (next_command storage b.transfer (has_status_modifier status)).came (next_acts storage b.transfer (has_status_modifier status)) k else k)
-  ends-by b p t status more true true c e o =
-      let f = chains-facts laws accesses s.scsw b status more c in
-      chains-goes b p t (next_command storage b.transfer (has_status_modifier status)).walk status (next_command storage b.transfer (has_status_modifier status)).came refl refl e o f.0 f.1
-  ends-by b p t status more true false c e o = marked b (with_end b) (Some (with_end b)) None e refl (record { code = refl; command = refl; sequence = refl; moving = refl }) tt
-  ends-by b p t status more false y c e o = stops (is_last_end status) refl
+      (if x then (if y then taking.chain_with storage s (with_end b) signal (next_command storage (with_end b).transfer (has_status_modifier signal.status))
+      else taking.quietly (record (taking.end_taken s signal) { begun = Some (with_end b) }))
+      else taking.stops_at s b signal)
+      (if x && y then stories.goes_on (next_command storage b.transfer (has_status_modifier signal.status)).came (next_acts storage b.transfer (has_status_modifier signal.status)) k else k)
+  ends-by b signal true true c e o =
+      let f = chains-facts laws accesses s.scsw b signal.status signal.more c in
+      chains-goes b signal (next_command storage b.transfer (has_status_modifier signal.status)).walk (next_command storage b.transfer (has_status_modifier signal.status)).came refl refl e o f.0 f.1
+  ends-by b signal true false c e o = marked b (with_end b) (Some (with_end b)) None e refl (record { code = refl; command = refl; sequence = refl; moving = refl }) tt
+  ends-by b signal false y c e o = stops (is_last_end signal.status) refl
     where
       x : SubchannelState
-      x = taking.end_shown_at s b p status more
+      x = taking.end_shown_at s b signal
 
-      stops : (last : Bool) → is_last_end status ≡ last → Goes (if last then taking.let_go x else taking.quietly x) k
+      stops : (last : Bool) → is_last_end signal.status ≡ last → Goes (if last then taking.let_go x else taking.quietly x) k
       stops true l =
           let one : Option (OnPath Down) = (came_of (letting_go x.hold x.hold.phase)).sent in
-          Over (end-begun b p status more true l) o.taken_all o.some o.absorbs (o.wires one (sent-hold k.number m AnyGive one (letting-mutters x.hold x.hold.phase)))
-      stops false l = marked b (has_shown b) x.begun None e (end-begun b p status more false l) (record { code = refl; command = refl; sequence = refl; moving = refl }) tt
+          Over (end-begun b signal true l) o.taken_all o.some o.absorbs (o.wires one (sent-hold k.number m AnyGive one (letting-mutters x.hold x.hold.phase)))
+      stops false l = marked b (has_shown b) x.begun None e (end-begun b signal false l) (record { code = refl; command = refl; sequence = refl; moving = refl }) tt
 
-  module _ (p t n : ℕ) (status : DeviceStatus) (more : Bool)
-      (front : (P : Option AtHand → Type 0) (Q : ℕ → List ℕ → Type 0) (R : ℕ → Load → Type 0) → IsWired side k.number m P Q R downs ups u → Front R (up.End t n status more)) where
-    ended-goes : (begun : Option Begun) → s.begun ≡ begun → t ≡ k.number → Goes (taking.end_of storage s begun p t n status more) (stories.ends storage s begun n status more k)
+  module _ (signal : EndSignal)
+      (front : (P : Option AtHand → Type 0) (Q : ℕ → List ℕ → Type 0) (R : ℕ → Load → Type 0) → IsWired side k.number m P Q R downs ups u → Front R (up.End signal.number signal.command signal.status signal.more)) where
+    ended-goes : (begun : Option Begun) → s.begun ≡ begun → signal.number ≡ k.number → Goes (taking.end_of storage s begun signal) (stories.ends storage s begun signal.command signal.status signal.more k)
     ended-goes None e z = quiet s.begun None refl tt
-    ended-goes (Some b) e z = by (n == b.transfer.command) refl
+    ended-goes (Some b) e z = by (signal.command == b.transfer.command) refl
       where
-        by : (x : Bool) → (n == b.transfer.command) ≡ x →
-            Goes (if x then taking.command_ended storage s b p t status more else taking.ignoring s) (if x then stories.chains storage s b status more k else k)
-        by true x = ends-by b p t status more (chains_command s.scsw b status more) (has_device_end status) refl e (is-over b t n status more e z (eqb-true n b.transfer.command x) front)
+        by : (x : Bool) → (signal.command == b.transfer.command) ≡ x →
+            Goes (if x then taking.command_ended storage s b signal else taking.ignoring s) (if x then stories.chains storage s b signal.status signal.more k else k)
+        by true x = ends-by b signal (chains_command s.scsw b signal.status signal.more) (has_device_end signal.status) refl e (is-over b signal.number signal.command signal.status signal.more e z (eqb-true signal.command b.transfer.command x) front)
         by false x = quiet s.begun None refl tt
 
-    end-goes : Goes (taking.end_command storage s p t n status more) (if is_on s.hold.phase t then stories.ends storage s s.begun n status more k else k)
-    end-goes = by (is_on s.hold.phase t) refl
+    end-goes : Goes (taking.end_command storage s signal) (if is_on s.hold.phase signal.number then stories.ends storage s s.begun signal.command signal.status signal.more k else k)
+    end-goes = by (is_on s.hold.phase signal.number) refl
       where
-        by : (x : Bool) → is_on s.hold.phase t ≡ x →
-            Goes (if x then taking.end_of storage s s.begun p t n status more else taking.ignoring s) (if x then stories.ends storage s s.begun n status more k else k)
-        by true x = ended-goes s.begun refl (on-number s.hold.phase k.number s.begun k.sent t held.phase x)
+        by : (x : Bool) → is_on s.hold.phase signal.number ≡ x →
+            Goes (if x then taking.end_of storage s s.begun signal else taking.ignoring s) (if x then stories.ends storage s s.begun signal.command signal.status signal.more k else k)
+        by true x = ended-goes s.begun refl (on-number s.hold.phase k.number s.begun k.sent signal.number held.phase x)
         by false x = quiet s.begun None refl tt
 
   reset-goes : (step : Option HoldStep) → Mutters step → Goes (taking.reset_taken s step) k
@@ -481,8 +483,8 @@ module _ (laws : AreLaws) (accesses : AreAccesses) (storage : Contents) (side : 
   pub mode-meets : (returns : Bool) → (x : Up) → ((P : Option AtHand → Type 0) (Q : ℕ → List ℕ → Type 0) (R : ℕ → Load → Type 0) → IsWired side k.number m P Q R downs ups u → Front R x) → IsNoNotice x →
       Goes (takes_up returns storage s path x).step (meets storage s path x k)
   mode-meets returns (up.Accept t) f other = accepts-goes s.hold s.hold.phase t (goes_ahead s) held.phase
-  mode-meets returns (up.Data t c n seq l) f other = data-goes path t c n seq l f
-  mode-meets returns (up.End t n status more) f other = end-goes path t n status more f
+  mode-meets returns (up.Data t c n seq l) f other = data-goes (record { path = path; number = t; connection = c; command = n; sequence = seq }) l f
+  mode-meets returns (up.End t n status more) f other = end-goes (record { path = path; number = t; command = n; status = status; more = more }) f
   mode-meets returns (up.Busy t) f other = by_hold-goes (found_busy s.hold s.hold.phase t) (busy-mutters s.hold s.hold.phase t)
   mode-meets returns (up.Leave t c) f other = by_hold-goes (left s.hold s.hold.phase t c) (left-mutters s.hold s.hold.phase t c)
   mode-meets returns (up.Back t c) f other = by_hold-goes (asked_back s.hold s.hold.phase path t c returns) (back-mutters s.hold s.hold.phase path t c returns)

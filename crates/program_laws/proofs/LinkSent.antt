@@ -2,7 +2,6 @@
 use Rattle.std.proofs.Common.{◌≡◌, refl, sym, ◌∙◌, ap, ℕ, Bool, true, false, ◌==◌, ◌&&◌, nat_lt, Option, None, Some}
 use Rattle.std.specs.Prelude.{if◌then◌else◌, IfSome}
 use Rattle.std.proofs.lemmas.Bool.{eq-eqb}
-use Rattle.scsw_irb.specs.declared.status.DeviceStatus.{DeviceStatus}
 use Rattle.storage_keys.specs.Storage.{Contents}
 use Rattle.chan_model.specs.declared.hold_state.HoldPhase.{HoldPhase}
 use Rattle.chan_model.specs.declared.hold_state.HoldPhase.TheVariants as hold
@@ -23,6 +22,8 @@ use Rattle.transfer.specs.declared.Came.TheVariants as came
 use Rattle.transfer.specs.declared.Roomy.{Roomy}
 use Rattle.transfer.specs.Commands.{first_command, next_command, begun_with_room}
 use Rattle.transfer.specs.Chunks.{is_answered}
+use Rattle.subchannel_model.specs.declared.signals.DataSignal.{DataSignal}
+use Rattle.subchannel_model.specs.declared.signals.EndSignal.{EndSignal}
 use Rattle.subchannel_model.specs.declared.state.Begun.{Begun}
 use Rattle.subchannel_model.specs.declared.state.Standing.{Standing}
 use Rattle.subchannel_model.specs.declared.state.SubchannelState.{SubchannelState}
@@ -30,7 +31,7 @@ use Rattle.subchannel_model.specs.declared.state.UpStep.{UpStep}
 use Rattle.subchannel_model.specs.Ends.{has_status_modifier, chains_command}
 use Rattle.subchannel_model.specs.Taking as taking
 use Rattle.subchannel_model.specs.Losing.{reset_for}
-use Rattle.subchannel_model.specs.Taking.{Met, ignoring, by_hold, let_go, goes_ahead, standing, with_path, taking_over, moving_on, reset_taken, halt_done, clear_done, beginning, begin_standing, accepted_by, accept, move_bytes, move_data, take_data, with_end, chaining, goes_on, stops_at, command_ended, end_of, end_command, takes_up}
+use Rattle.subchannel_model.specs.Taking.{Met, ignoring, by_hold, let_go, goes_ahead, standing, with_path, taking_over, with_transfer, moving_on, reset_taken, halt_done, clear_done, beginning, begin_standing, accepted_by, accept, move_bytes, move_data, take_data, with_end, chaining, goes_on, stops_at, command_ended, end_of, end_command, takes_up}
 use Rattle.program_laws.proofs.Caused.{IsInterrupted, interrupted-work}
 
 -- a Command is of the transfer at work
@@ -230,50 +231,50 @@ accept-sends storage s step m =
     if-sends (came_of step).taken _ _ (accepted_by-sends storage (record s { hold = hold_after s.hold step }) (hold_after s.hold step).phase (came_of step) refl m) tt
 
 -- Data
-move_bytes-sends : (storage : Contents) (s : SubchannelState) (b : Begun) (p t c n q : ℕ) (load : Load) → Sends (move_bytes storage s b p t c n q load).step
-move_bytes-sends storage s b p t c n q load = if-met (is_outward b.transfer.code) _ _ tt tt
+move_bytes-sends : (storage : Contents) (s : SubchannelState) (b : Begun) (signal : DataSignal) (load : Load) → Sends (move_bytes storage s b signal load).step
+move_bytes-sends storage s b signal load = if-met (is_outward b.transfer.code) _ _ tt tt
 
-move_data-sends : (storage : Contents) (s : SubchannelState) (b : Option Begun) (p t c n q : ℕ) (load : Load) → Sends (move_data storage s b p t c n q load).step
-move_data-sends storage s None p t c n q load = tt
-move_data-sends storage s (Some b) p t c n q load = if-met (is_answered b.transfer n q) _ _ (move_bytes-sends storage s b p t c n q load) tt
+move_data-sends : (storage : Contents) (s : SubchannelState) (b : Option Begun) (signal : DataSignal) (load : Load) → Sends (move_data storage s b signal load).step
+move_data-sends storage s None signal load = tt
+move_data-sends storage s (Some b) signal load = if-met (is_answered b.transfer signal.command signal.sequence) _ _ (move_bytes-sends storage s b signal load) tt
 
-take_data-sends : (storage : Contents) (s : SubchannelState) (p t c n q : ℕ) (load : Load) → Sends (take_data storage s p t c n q load).step
-take_data-sends storage s p t c n q load = if-met (is_connected s.hold.phase p t c) _ _ (move_data-sends storage s s.begun p t c n q load) tt
+take_data-sends : (storage : Contents) (s : SubchannelState) (signal : DataSignal) (load : Load) → Sends (take_data storage s signal load).step
+take_data-sends storage s signal load = if-met (is_connected s.hold.phase signal.path signal.number signal.connection) _ _ (move_data-sends storage s s.begun signal load) tt
 
 -- End
-chaining-sends : (storage : Contents) (s : SubchannelState) (b : Begun) (p t : ℕ) (walk : Place) (r : Came) → is_on s.hold.phase t ≡ true →
-    Sends (chaining storage s b p t walk r)
-chaining-sends storage s b p t walk (came.Begins transfer) e =
+chaining-sends : (storage : Contents) (s : SubchannelState) (b : Begun) (signal : EndSignal) (walk : Place) (r : Came) → is_on s.hold.phase signal.number ≡ true →
+    Sends (chaining storage s b signal walk r)
+chaining-sends storage s b signal walk (came.Begins transfer) e =
     let x : Roomy = begun_with_room storage transfer in
     let c : Begun = record b { transfer = x.transfer } in
-    let next : SubchannelState = record s { begun = Some c; dedicated = None } in
-    work-sends next (moving_on s b x.transfer) c t (interrupted-work next c refl) e
-chaining-sends storage s b p t walk came.Suspends e = let_go-sends _
-chaining-sends storage s b p t walk (came.Stops check) e = let_go-sends _
+    let next : SubchannelState = with_transfer s b x.transfer in
+    work-sends next (moving_on s b x.transfer) c signal.number (interrupted-work next c refl) e
+chaining-sends storage s b signal walk came.Suspends e = let_go-sends _
+chaining-sends storage s b signal walk (came.Stops check) e = let_go-sends _
 
-goes_on-sends : (storage : Contents) (s : SubchannelState) (b : Begun) (p t : ℕ) (status : DeviceStatus) → is_on s.hold.phase t ≡ true → Sends (goes_on storage s b p t status)
-goes_on-sends storage s b p t status e =
-    if-sends (has_device_end status) _ _
-    (chaining-sends storage s b p t (next_command storage b.transfer (has_status_modifier status)).walk (next_command storage b.transfer (has_status_modifier status)).came e) tt
+goes_on-sends : (storage : Contents) (s : SubchannelState) (b : Begun) (signal : EndSignal) → is_on s.hold.phase signal.number ≡ true → Sends (goes_on storage s b signal)
+goes_on-sends storage s b signal e =
+    if-sends (has_device_end signal.status) _ _
+    (chaining-sends storage s b signal (next_command storage b.transfer (has_status_modifier signal.status)).walk (next_command storage b.transfer (has_status_modifier signal.status)).came e) tt
 
-stops_at-sends : (s : SubchannelState) (b : Begun) (p : ℕ) (status : DeviceStatus) (more : Bool) → Sends (stops_at s b p status more)
-stops_at-sends s b p status more = if-sends (is_last_end status) _ _ (let_go-sends _) tt
+stops_at-sends : (s : SubchannelState) (b : Begun) (signal : EndSignal) → Sends (stops_at s b signal)
+stops_at-sends s b signal = if-sends (is_last_end signal.status) _ _ (let_go-sends _) tt
 
-command_ended-sends : (storage : Contents) (s : SubchannelState) (b : Begun) (p t : ℕ) (status : DeviceStatus) (more : Bool) → is_on s.hold.phase t ≡ true →
-    Sends (command_ended storage s b p t status more)
-command_ended-sends storage s b p t status more e =
-    if-sends (chains_command s.scsw b status more) _ _ (goes_on-sends storage s (with_end b) p t status e) (stops_at-sends s b p status more)
+command_ended-sends : (storage : Contents) (s : SubchannelState) (b : Begun) (signal : EndSignal) → is_on s.hold.phase signal.number ≡ true →
+    Sends (command_ended storage s b signal)
+command_ended-sends storage s b signal e =
+    if-sends (chains_command s.scsw b signal.status signal.more) _ _ (goes_on-sends storage s (with_end b) signal e) (stops_at-sends s b signal)
 
-end_of-sends : (storage : Contents) (s : SubchannelState) (b : Option Begun) (p t n : ℕ) (status : DeviceStatus) (more : Bool) → is_on s.hold.phase t ≡ true →
-    Sends (end_of storage s b p t n status more)
-end_of-sends storage s None p t n status more e = tt
-end_of-sends storage s (Some b) p t n status more e = if-sends (n == b.transfer.command) _ _ (command_ended-sends storage s b p t status more e) tt
+end_of-sends : (storage : Contents) (s : SubchannelState) (b : Option Begun) (signal : EndSignal) → is_on s.hold.phase signal.number ≡ true →
+    Sends (end_of storage s b signal)
+end_of-sends storage s None signal e = tt
+end_of-sends storage s (Some b) signal e = if-sends (signal.command == b.transfer.command) _ _ (command_ended-sends storage s b signal e) tt
 
-end_command-sends : (storage : Contents) (s : SubchannelState) (p t n : ℕ) (status : DeviceStatus) (more : Bool) → Sends (end_command storage s p t n status more)
-end_command-sends storage s p t n status more = by (is_on s.hold.phase t) refl
+end_command-sends : (storage : Contents) (s : SubchannelState) (signal : EndSignal) → Sends (end_command storage s signal)
+end_command-sends storage s signal = by (is_on s.hold.phase signal.number) refl
   where
-    by : (c : Bool) → is_on s.hold.phase t ≡ c → Sends (if c then end_of storage s s.begun p t n status more else ignoring s)
-    by true e = end_of-sends storage s s.begun p t n status more e
+    by : (c : Bool) → is_on s.hold.phase signal.number ≡ c → Sends (if c then end_of storage s s.begun signal else ignoring s)
+    by true e = end_of-sends storage s s.begun signal e
     by false e = tt
 
 reset-sends : (s : SubchannelState) (step : Option HoldStep) → Mutters step → Sends (reset_taken s step)
@@ -286,8 +287,8 @@ notice-sends s b false = tt
 
 pub up-sends : (returns : Bool) → (storage : Contents) (s : SubchannelState) (p : ℕ) (x : Up) → Sends (takes_up returns storage s p x).step
 up-sends returns storage s p (up.Accept t) = accept-sends storage s (accepted s.hold s.hold.phase t (goes_ahead s)) (accepted-mutters s.hold s.hold.phase t (goes_ahead s))
-up-sends returns storage s p (up.Data t c n q load) = take_data-sends storage s p t c n q load
-up-sends returns storage s p (up.End t n status more) = end_command-sends storage s p t n status more
+up-sends returns storage s p (up.Data t c n q load) = take_data-sends storage s (record { path = p; number = t; connection = c; command = n; sequence = q }) load
+up-sends returns storage s p (up.End t n status more) = end_command-sends storage s (record { path = p; number = t; command = n; status = status; more = more })
 up-sends returns storage s p (up.Busy t) = by_hold-sends s (found_busy s.hold s.hold.phase t) (busy-mutters s.hold s.hold.phase t)
 up-sends returns storage s p (up.Leave t c) = by_hold-sends s (left s.hold s.hold.phase t c) (left-mutters s.hold s.hold.phase t c)
 up-sends returns storage s p (up.Back t c) =

@@ -58,14 +58,14 @@ fn count_shown(state: &SubchannelState) -> u16
     }
 }
 
-/// Nothing but the address and the count of that program is shown.
+/// Nothing but the address and the count of the program of which a status speaks is shown.
 fn program_shown(state: &SubchannelState) -> Shown
     ensures { result ≡ spec.program_shown state.now }
 {
     plain_shown(address_shown(state), count_shown(state))
 }
 
-/// Whether that program showed its primary status.
+/// Whether the program of which a status speaks showed its primary status.
 fn was_shown(state: &SubchannelState) -> bool
     ensures { result ≡ spec.was_shown state.now.waiting state.now.begun }
 {

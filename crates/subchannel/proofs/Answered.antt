@@ -1,7 +1,6 @@
 -- The path that is found before a signal is taken is that of what is sent.
 use Rattle.std.proofs.Common.{◌≡◌, refl, ◌∙◌, ap, ℕ, Bool, true, false, Option, None, Some}
 use Rattle.std.specs.Prelude.{if◌then◌else◌, is_some, nat_lt}
-use Rattle.scsw_irb.specs.declared.status.DeviceStatus.{DeviceStatus}
 use Rattle.storage_keys.specs.Storage.{Contents}
 use Rattle.chan_model.specs.declared.hold_state.HoldPhase.{HoldPhase}
 use Rattle.chan_model.specs.declared.hold_state.HoldPhase.TheVariants as hold
@@ -21,6 +20,8 @@ use Rattle.transfer.specs.declared.Came.TheVariants as came
 use Rattle.transfer.specs.declared.Beginning.{Beginning}
 use Rattle.transfer.specs.Commands.{first_command, next_command}
 use Rattle.transfer.specs.Chunks.{is_answered}
+use Rattle.subchannel_model.specs.declared.signals.DataSignal.{DataSignal}
+use Rattle.subchannel_model.specs.declared.signals.EndSignal.{EndSignal}
 use Rattle.subchannel_model.specs.declared.state.Begun.{Begun}
 use Rattle.subchannel_model.specs.declared.state.Program.{Program}
 use Rattle.subchannel_model.specs.declared.state.Standing.{Standing}
@@ -29,7 +30,7 @@ use Rattle.subchannel_model.specs.declared.state.UpStep.{UpStep}
 use Rattle.subchannel_model.specs.declared.cause.Cause.TheVariants as cause
 use Rattle.subchannel_model.specs.Causes.{with_cause, without_begun}
 use Rattle.subchannel_model.specs.Ends.{has_status_modifier, chains_command}
-use Rattle.subchannel_model.specs.Taking.{Met, meets, ignoring, let_go, suspending, standing, goes_ahead, with_path, beginning, begin_standing, accepted_by, accept_by, move_bytes, move_data, chaining, goes_on, with_end, end_shown_at, stops_at, command_ended, end_of, reset_taken, notice, takes_up}
+use Rattle.subchannel_model.specs.Taking.{end_taken, Met, meets, ignoring, let_go, suspending, standing, goes_ahead, with_path, beginning, begin_standing, accepted_by, accept_by, move_bytes, move_data, chaining, goes_on, with_end, end_shown_at, stops_at, command_ended, end_of, reset_taken, notice, takes_up}
 use Rattle.subchannel.specs.Answering.{path_of, only_if, held_path, accepted_path, moved_path, chained_path, going_path, ended_path, end_of_path, answer_path}
 
 abbrev answers : UpStep → Option ℕ
@@ -73,8 +74,8 @@ begun-hold (Some b) s = refl
 fault-hold : (s : SubchannelState) (tried : ℕ) (check : Check) (count : ℕ) → (with_cause s (cause.FetchFault tried check count)).hold ≡ s.hold
 fault-hold s tried check count = begun-hold s.begun s
 
-end-hold : (s : SubchannelState) (b : Begun) (p : ℕ) (status : DeviceStatus) (more : Bool) → (end_shown_at s b p status more).hold ≡ s.hold
-end-hold s b p status more = hold-if (is_last_end status) _ _ s.hold refl refl
+end-hold : (s : SubchannelState) (b : Begun) (signal : EndSignal) → (end_shown_at s b signal).hold ≡ s.hold
+end-hold s b signal = hold-if (is_last_end signal.status) _ _ s.hold refl refl
 
 -- Accept
 begun-answers : (storage : Contents) (s : SubchannelState) (p t c : ℕ) (st : Standing) (walk : Place) (x : Came) → s.hold.phase ≡ hold.On t p c →
@@ -106,41 +107,42 @@ accept-answers storage s h taken =
     answers-if taken.taken _ _ (accepted_path s h.phase taken) None (accepted-answers storage (record s { hold = h }) h.phase taken refl) refl
 
 -- Data
-move-answers : (storage : Contents) (s : SubchannelState) (b : Option Begun) (p t c n seq : ℕ) (load : Load) →
-    answers (move_data storage s b p t c n seq load).step ≡ moved_path b p n seq
-move-answers storage s None p t c n seq load = refl
-move-answers storage s (Some b) p t c n seq load =
-    met-if (is_answered b.transfer n seq) (move_bytes storage s b p t c n seq load) (meets storage (ignoring s)) (Some p) None
-    (both (is_outward b.transfer.code) _ _ (Some p) refl refl) refl
+move-answers : (storage : Contents) (s : SubchannelState) (b : Option Begun) (signal : DataSignal) (load : Load) →
+    answers (move_data storage s b signal load).step ≡ moved_path b signal
+move-answers storage s None signal load = refl
+move-answers storage s (Some b) signal load =
+    met-if (is_answered b.transfer signal.command signal.sequence) (move_bytes storage s b signal load) (meets storage (ignoring s)) (Some signal.path) None
+    (both (is_outward b.transfer.code) _ _ (Some signal.path) refl refl) refl
 
 -- End
-chain-answers : (storage : Contents) (s : SubchannelState) (b : Begun) (p t : ℕ) (walk : Place) (x : Came) →
-    answers (chaining storage s b p t walk x) ≡ chained_path x p (held_path s.hold.phase)
-chain-answers storage s b p t walk (came.Begins transfer) = refl
-chain-answers storage s b p t walk came.Suspends = let-go (suspending (record s { dedicated = None }) b.program walk (residual b.transfer.moving)) s.hold (suspending-hold (record s { dedicated = None }) b.program walk (residual b.transfer.moving))
-chain-answers storage s b p t walk (came.Stops check) =
-    let-go (with_cause (record s { dedicated = None }) (cause.FetchFault walk.tried check (residual b.transfer.moving))) s.hold (fault-hold (record s { dedicated = None }) walk.tried check (residual b.transfer.moving))
+chain-answers : (storage : Contents) (s : SubchannelState) (b : Begun) (signal : EndSignal) (walk : Place) (x : Came) →
+    answers (chaining storage s b signal walk x) ≡ chained_path x signal.path (held_path s.hold.phase)
+chain-answers storage s b signal walk (came.Begins transfer) = refl
+chain-answers storage s b signal walk came.Suspends = let-go (suspending (end_taken s signal) b.program walk (residual b.transfer.moving)) s.hold (suspending-hold (end_taken s signal) b.program walk (residual b.transfer.moving))
+chain-answers storage s b signal walk (came.Stops check) =
+    let-go (with_cause (end_taken s signal) (cause.FetchFault walk.tried check (residual b.transfer.moving))) s.hold (fault-hold (end_taken s signal) walk.tried check (residual b.transfer.moving))
 
-going-answers : (storage : Contents) (s : SubchannelState) (b : Begun) (p t : ℕ) (status : DeviceStatus) →
-    answers (goes_on storage s b p t status) ≡ going_path storage s b p status
-going-answers storage s b p t status =
-    let next : Beginning = next_command storage b.transfer (has_status_modifier status) in
-    answers-if (has_device_end status) _ _ (chained_path next.came p (held_path s.hold.phase)) None (chain-answers storage s b p t next.walk next.came) refl
+going-answers : (storage : Contents) (s : SubchannelState) (b : Begun) (signal : EndSignal) →
+    answers (goes_on storage s b signal) ≡ going_path storage s b signal
+going-answers storage s b signal =
+    let next : Beginning = next_command storage b.transfer (has_status_modifier signal.status) in
+    answers-if (has_device_end signal.status) _ _ (chained_path next.came signal.path (held_path s.hold.phase)) None
+    (chain-answers storage s b signal next.walk next.came) refl
 
-stop-answers : (s : SubchannelState) (b : Begun) (p : ℕ) (status : DeviceStatus) (more : Bool) →
-    answers (stops_at s b p status more) ≡ (if is_last_end status then held_path s.hold.phase else None)
-stop-answers s b p status more =
-    answers-if (is_last_end status) _ _ (held_path s.hold.phase) None (let-go (end_shown_at s b p status more) s.hold (end-hold s b p status more)) refl
+stop-answers : (s : SubchannelState) (b : Begun) (signal : EndSignal) →
+    answers (stops_at s b signal) ≡ (if is_last_end signal.status then held_path s.hold.phase else None)
+stop-answers s b signal =
+    answers-if (is_last_end signal.status) _ _ (held_path s.hold.phase) None (let-go (end_shown_at s b signal) s.hold (end-hold s b signal)) refl
 
-ended-answers : (storage : Contents) (s : SubchannelState) (b : Begun) (p t : ℕ) (status : DeviceStatus) (more : Bool) →
-    answers (command_ended storage s b p t status more) ≡ ended_path storage s b p status more
-ended-answers storage s b p t status more =
-    answers-if (chains_command s.scsw b status more) _ _ _ _ (going-answers storage s (with_end b) p t status) (stop-answers s b p status more)
+ended-answers : (storage : Contents) (s : SubchannelState) (b : Begun) (signal : EndSignal) →
+    answers (command_ended storage s b signal) ≡ ended_path storage s b signal
+ended-answers storage s b signal =
+    answers-if (chains_command s.scsw b signal.status signal.more) _ _ _ _ (going-answers storage s (with_end b) signal) (stop-answers s b signal)
 
-end-of-answers : (storage : Contents) (s : SubchannelState) (b : Option Begun) (p t n : ℕ) (status : DeviceStatus) (more : Bool) →
-    answers (end_of storage s b p t n status more) ≡ end_of_path storage s b p n status more
-end-of-answers storage s None p t n status more = refl
-end-of-answers storage s (Some b) p t n status more = answers-if _ _ _ _ None (ended-answers storage s b p t status more) refl
+end-of-answers : (storage : Contents) (s : SubchannelState) (b : Option Begun) (signal : EndSignal) →
+    answers (end_of storage s b signal) ≡ end_of_path storage s b signal
+end-of-answers storage s None signal = refl
+end-of-answers storage s (Some b) signal = answers-if _ _ _ _ None (ended-answers storage s b signal) refl
 
 -- Cleared
 reset-answers : (s : SubchannelState) (step : Option HoldStep) → answers (reset_taken s step) ≡ path_of (came_of step).sent
@@ -162,9 +164,11 @@ takes_answers returns storage s p (up.Busy t) = refl
 takes_answers returns storage s p (up.Leave t c) = refl
 takes_answers returns storage s p (up.Back t c) = refl
 takes_answers returns storage s p (up.Data t c n seq load) =
-    met-if (is_connected s.hold.phase p t c) _ _ (moved_path s.begun p n seq) None (move-answers storage s s.begun p t c n seq load) refl
+    met-if (is_connected s.hold.phase p t c) _ _ (moved_path s.begun (record { path = p; number = t; connection = c; command = n; sequence = seq })) None
+    (move-answers storage s s.begun (record { path = p; number = t; connection = c; command = n; sequence = seq }) load) refl
 takes_answers returns storage s p (up.End t n status more) =
-    answers-if (is_on s.hold.phase t) _ _ (end_of_path storage s s.begun p n status more) None (end-of-answers storage s s.begun p t n status more) refl
+    answers-if (is_on s.hold.phase t) _ _ (end_of_path storage s s.begun (record { path = p; number = t; command = n; status = status; more = more })) None
+    (end-of-answers storage s s.begun (record { path = p; number = t; command = n; status = status; more = more })) refl
 takes_answers returns storage s p (up.Released t) = refl
 takes_answers returns storage s p (up.Cleared r) = reset-answers s (hold_takes s.hold p (up.Cleared r) false)
 takes_answers returns storage s p (up.Notice b) = notice-answers s b

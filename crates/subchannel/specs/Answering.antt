@@ -1,6 +1,5 @@
 -- The path by which a subchannel answers a signal, if it does.
 use Rattle.std.specs.Prelude.{ℕ, Bool, false, ◌==◌, if◌then◌else◌, Option, None, Some, is_some}
-use Rattle.scsw_irb.specs.declared.status.DeviceStatus.{DeviceStatus}
 use Rattle.storage_keys.specs.Storage.{Contents}
 use Rattle.chan_model.specs.declared.hold_state.HoldPhase.{HoldPhase}
 use Rattle.chan_model.specs.declared.hold_state.HoldPhase.TheVariants as hold
@@ -15,6 +14,8 @@ use Rattle.transfer.specs.declared.Came.{Came}
 use Rattle.transfer.specs.declared.Came.TheVariants as came
 use Rattle.transfer.specs.Commands.{next_command}
 use Rattle.transfer.specs.Chunks.{is_answered}
+use Rattle.subchannel_model.specs.declared.signals.DataSignal.{DataSignal}
+use Rattle.subchannel_model.specs.declared.signals.EndSignal.{EndSignal}
 use Rattle.subchannel_model.specs.declared.state.Begun.{Begun}
 use Rattle.subchannel_model.specs.declared.state.SubchannelState.{SubchannelState}
 use Rattle.subchannel_model.specs.Ends.{has_status_modifier, chains_command}
@@ -38,39 +39,44 @@ accepted_path s phase taken = path_of taken.sent
 abbrev pub accept_path : SubchannelState → Option HoldStep → Option ℕ
 accept_path s step = if (came_of step).taken then accepted_path s (hold_after s.hold step).phase (came_of step) else None
 
-abbrev pub moved_path : Option Begun → ℕ → ℕ → ℕ → Option ℕ
-moved_path None p n seq = None
-moved_path (Some b) p n seq = only_if (is_answered b.transfer n seq) p
+abbrev pub moved_path : Option Begun → DataSignal → Option ℕ
+moved_path None signal = None
+moved_path (Some b) signal = only_if (is_answered b.transfer signal.command signal.sequence) signal.path
 
-abbrev pub data_path : SubchannelState → ℕ → ℕ → ℕ → ℕ → ℕ → Option ℕ
-data_path s p t c n seq = if is_connected s.hold.phase p t c then moved_path s.begun p n seq else None
+abbrev pub data_path : SubchannelState → DataSignal → Option ℕ
+data_path s signal =
+    if is_connected s.hold.phase signal.path signal.number signal.connection then moved_path s.begun signal else None
 
 abbrev pub chained_path : Came → ℕ → Option ℕ → Option ℕ
 chained_path (came.Begins transfer) p held = Some p
 chained_path came.Suspends p held = held
 chained_path (came.Stops check) p held = held
 
-abbrev pub going_path : Contents → SubchannelState → Begun → ℕ → DeviceStatus → Option ℕ
-going_path storage s b p status =
-    if has_device_end status then chained_path (next_command storage b.transfer (has_status_modifier status)).came p (held_path s.hold.phase)
+abbrev pub going_path : Contents → SubchannelState → Begun → EndSignal → Option ℕ
+going_path storage s b signal =
+    if has_device_end signal.status
+    then chained_path (next_command storage b.transfer (has_status_modifier signal.status)).came signal.path (held_path s.hold.phase)
     else None
 
-abbrev pub ended_path : Contents → SubchannelState → Begun → ℕ → DeviceStatus → Bool → Option ℕ
-ended_path storage s b p status more =
-    if chains_command s.scsw b status more then going_path storage s (with_end b) p status
-    else (if is_last_end status then held_path s.hold.phase else None)
+abbrev pub ended_path : Contents → SubchannelState → Begun → EndSignal → Option ℕ
+ended_path storage s b signal =
+    if chains_command s.scsw b signal.status signal.more then going_path storage s (with_end b) signal
+    else (if is_last_end signal.status then held_path s.hold.phase else None)
 
-abbrev pub end_of_path : Contents → SubchannelState → Option Begun → ℕ → ℕ → DeviceStatus → Bool → Option ℕ
-end_of_path storage s None p n status more = None
-end_of_path storage s (Some b) p n status more = if n == b.transfer.command then ended_path storage s b p status more else None
+abbrev pub end_of_path : Contents → SubchannelState → Option Begun → EndSignal → Option ℕ
+end_of_path storage s None signal = None
+end_of_path storage s (Some b) signal =
+    if signal.command == b.transfer.command then ended_path storage s b signal else None
 
-abbrev pub end_path : Contents → SubchannelState → ℕ → ℕ → ℕ → DeviceStatus → Bool → Option ℕ
-end_path storage s p t n status more = if is_on s.hold.phase t then end_of_path storage s s.begun p n status more else None
+abbrev pub end_path : Contents → SubchannelState → EndSignal → Option ℕ
+end_path storage s signal = if is_on s.hold.phase signal.number then end_of_path storage s s.begun signal else None
 
 abbrev pub answer_path : Bool → Contents → SubchannelState → ℕ → Up → Option ℕ
 answer_path returns storage s p (up.Accept t) = accept_path s (hold_takes s.hold p (up.Accept t) (goes_ahead s))
-answer_path returns storage s p (up.Data t c n seq load) = data_path s p t c n seq
-answer_path returns storage s p (up.End t n status more) = end_path storage s p t n status more
+answer_path returns storage s p (up.Data t c n seq load) =
+    data_path s (record { path = p; number = t; connection = c; command = n; sequence = seq })
+answer_path returns storage s p (up.End t n status more) =
+    end_path storage s (record { path = p; number = t; command = n; status = status; more = more })
 answer_path returns storage s p (up.Back t c) = path_of (came_of (hold_takes s.hold p (up.Back t c) returns)).sent
 answer_path returns storage s p (up.Notice b) = None
 answer_path returns storage s p (up.Attn a status) = path_of (came_of (hold_takes s.hold p (up.Attn a status) (may_attend s))).sent

@@ -54,14 +54,14 @@ fn standing_as(
     }
 }
 
-/// The program that was offered, where it isn't over.
+/// The program that was offered, where it is not over.
 pub(crate) fn standing(state: &SubchannelState) -> Option<Standing>
     ensures { result ≡ spec.standing state.now }
 {
     standing_as(state.waiting, state.suspended, state.offered)
 }
 
-/// Whether it takes the device.
+/// Whether the program that was offered takes the device.
 pub(crate) fn goes_ahead(state: &SubchannelState) -> bool
     ensures { result ≡ spec.goes_ahead state.now }
 {
@@ -170,7 +170,7 @@ fn begin_standing(
     }
 }
 
-/// Where a halt is pending, it is performed as the device is let go.
+/// A halt that is pending is performed as the device is let go.
 fn do_halt(state: &mut SubchannelState)
     requires { state.old.serials.made < 2 ^ 63 }
     ensures { state.new ≡ spec.halt_done state.old }

@@ -13,9 +13,9 @@ use chan_model::hold_state::{HoldPhase, HoldState};
 use chan_model::names::Path;
 use chan_model::signal::{Down, OnPath, Up};
 use hold::Hold;
-use scsw_irb::status::DeviceStatus;
 use status::ends::{chains_command, is_last_end};
 use storage_keys::Storage;
+use subchannel_model::signals::{DataSignal, EndSignal};
 use subchannel_model::state::{Begun, SubchannelState};
 use transfer::Came;
 use transfer::chunks::is_answered;
@@ -69,25 +69,18 @@ fn accept_path(state: &SubchannelState, path: Path, signal: &Up) -> Option<Path>
     }
 }
 
-fn data_path(
-    state: &SubchannelState,
-    path: Path,
-    number: u64,
-    connection: u64,
-    command: u64,
-    sequence: u64,
-) -> Option<Path>
+fn data_path(state: &SubchannelState, signal: DataSignal) -> Option<Path>
     requires { taking_spec.IsBelow state.now.begun }
-    ensures { result ≡ spec.data_path state.now path number connection command sequence }
+    ensures { result ≡ spec.data_path state.now signal }
 {
-    if !Hold::of(state.hold).is_connected(path, number, connection) {
+    if !Hold::of(state.hold).is_connected(signal.path, signal.number, signal.connection) {
         return None;
     }
     let Some(begun) = &state.begun else {
         return None;
     };
-    if is_answered(&begun.transfer, command, sequence) {
-        Some(path)
+    if is_answered(&begun.transfer, signal.command, signal.sequence) {
+        Some(signal.path)
     } else {
         None
     }
@@ -132,19 +125,18 @@ fn going_path(
     storage: &Storage,
     state: &SubchannelState,
     begun: &Begun,
-    path: Path,
-    status: DeviceStatus,
+    signal: EndSignal,
 ) -> Option<Path>
     requires { begun.now.transfer.command < 2 ^ 63 }
-    ensures { result ≡ spec.going_path storage.now state.now begun.now path status }
+    ensures { result ≡ spec.going_path storage.now state.now begun.now signal }
 {
-    if status.has_device_end() {
+    if signal.status.has_device_end() {
         chained_path(
             storage,
             begun,
-            path,
+            signal.path,
             held_path(&state.hold),
-            status.has_modifier(),
+            signal.status.has_modifier(),
         )
     } else {
         None
@@ -155,44 +147,34 @@ fn ended_path(
     storage: &Storage,
     state: &SubchannelState,
     begun: &Begun,
-    path: Path,
-    status: DeviceStatus,
-    more: bool,
+    signal: EndSignal,
 ) -> Option<Path>
     requires { begun.now.transfer.command < 2 ^ 63 }
-    ensures { result ≡ spec.ended_path storage.now state.now begun.now path status more }
+    ensures { result ≡ spec.ended_path storage.now state.now begun.now signal }
 {
-    if chains_command(state.scsw, begun, status, more) {
-        going_path(storage, state, &with_end(begun), path, status)
-    } else if is_last_end(status) {
+    if chains_command(state.scsw, begun, signal.status, signal.more) {
+        going_path(storage, state, &with_end(begun), signal)
+    } else if is_last_end(signal.status) {
         held_path(&state.hold)
     } else {
         None
     }
 }
 
-fn end_path(
-    storage: &Storage,
-    state: &SubchannelState,
-    path: Path,
-    number: u64,
-    command: u64,
-    status: DeviceStatus,
-    more: bool,
-) -> Option<Path>
+fn end_path(storage: &Storage, state: &SubchannelState, signal: EndSignal) -> Option<Path>
     requires { taking_spec.IsBelow state.now.begun }
-    ensures { result ≡ spec.end_path storage.now state.now path number command status more }
+    ensures { result ≡ spec.end_path storage.now state.now signal }
 {
-    if !Hold::of(state.hold).is_on(number) {
+    if !Hold::of(state.hold).is_on(signal.number) {
         return None;
     }
     let Some(begun) = &state.begun else {
         return None;
     };
-    if command != begun.transfer.command {
+    if signal.command != begun.transfer.command {
         return None;
     }
-    ended_path(storage, state, begun, path, status, more)
+    ended_path(storage, state, begun, signal)
 }
 
 fn path_by_signal(
@@ -213,13 +195,31 @@ fn path_by_signal(
             command,
             sequence,
             ..
-        } => data_path(state, path, *number, *connection, *command, *sequence),
+        } => {
+            let data = DataSignal {
+                path,
+                number: *number,
+                connection: *connection,
+                command: *command,
+                sequence: *sequence,
+            };
+            data_path(state, data)
+        }
         Up::End {
             number,
             command,
             status,
             more,
-        } => end_path(storage, state, path, *number, *command, *status, *more),
+        } => {
+            let end = EndSignal {
+                path,
+                number: *number,
+                command: *command,
+                status: *status,
+                more: *more,
+            };
+            end_path(storage, state, end)
+        }
         Up::Back { .. } => hold_path(state, path, signal, returns),
         Up::Notice { .. } => None,
         Up::Attn { .. } => hold_path(state, path, signal, may_attend(state)),

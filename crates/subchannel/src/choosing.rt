@@ -42,7 +42,7 @@ fn paths_unreset(subs: &Counted<'_>, sub: &Subchannel) -> PathSet
 }
 
 /// The paths of which one is chosen: for a Reset each that is installed, for a Halt of a program that is away those by which
-/// it may come back, and otherwise those that may be used and whose engines are free.
+/// the program may come back, and otherwise those that may be used and whose engines are free.
 pub fn paths_to_choose(subs: &Counted<'_>, sub: &Subchannel) -> PathSet
     ensures { result ≡ spec.paths_to_choose subs.now sub.now }
 {
@@ -165,7 +165,7 @@ pub fn chosen(sub: &Subchannel, choice: Option<Path>) -> Chosen
     }
 }
 
-/// Its Reset is sent on a path.
+/// The Reset that is due is sent on a path.
 pub fn send_reset(state: &mut SubchannelState, path: Path)
     ensures { state.new ≡ spec.reset_sent state.old path }
 {
@@ -181,14 +181,14 @@ fn tell_halt(scsw: &mut Scsw)
     scsw.activity.halt_pending = false;
 }
 
-/// Its program is told of a halt: it is no longer pending.
+/// The program at work is told of a halt, which is no longer pending.
 pub fn send_halt(state: &mut SubchannelState)
     ensures { state.new ≡ spec.halt_sent state.old }
 {
     tell_halt(&mut state.scsw);
 }
 
-/// Its program is offered on a path.
+/// A program is offered on a path under a fresh number.
 pub fn offer(state: &mut SubchannelState, program: &Program, path: Path)
     requires drawn { state.old.drawn < 2 ^ 63 }
     requires free { state.old.hold.phase ≡ phase.Free }

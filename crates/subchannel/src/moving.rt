@@ -7,32 +7,33 @@ ghost use Rattle.transfer.specs.Chunks as chunk_spec;
 
 use crate::answers::{ignored, sent};
 use crate::intermediate::interrupt;
+use allegiance::allegiances::{Cause, dedicated};
 use chan_model::names::Path;
 use chan_model::signal::{Down, Load, Taken};
 use hold::Hold;
 use storage_keys::Storage;
+use subchannel_model::signals::DataSignal;
 use subchannel_model::state::{Begun, SubchannelState};
 use transfer::chunks::{absorbed, brought, is_answered, next_given};
 use transfer::commands::{is_outward, with_room};
 use transfer::{Given, Roomy, Transfer};
 
-/// The numbers of a Data.
-#[derive(Clone, Copy)]
-pub struct DataNumbers {
-    pub number: u64,
-    pub connection: u64,
-    pub command: u64,
-    pub sequence: u64,
+/// What a Data leaves of the dedicated allegiance. Where one stands, the Data is of a later program than the one whose unit
+/// check brought it.
+fn dedicated_by_data(before: Option<Path>) -> Option<Path>
+    ensures { result ≡ spec.dedicated_by_data before }
+{
+    dedicated(before, Cause::Data { later: true })
 }
 
 fn put_transfer(state: &mut SubchannelState, begun: &Begun, transfer: Transfer)
     ensures { state.new ≡ spec.with_transfer state.old begun.now transfer }
 {
     state.begun = Some(Begun { transfer, ..*begun });
-    state.dedicated = None;
+    state.dedicated = dedicated_by_data(state.dedicated);
 }
 
-/// Its transfer is a chunk or a command further; a block that took control may ask for an interruption.
+/// The transfer of the program is a chunk or a command further; a block that took control may ask for an interruption.
 pub(crate) fn move_on(state: &mut SubchannelState, begun: &Begun, transfer: Transfer)
     requires { state.old.serials.made < 2 ^ 63 }
     ensures { state.new ≡ spec.moving_on state.old begun.now transfer }
@@ -41,26 +42,20 @@ pub(crate) fn move_on(state: &mut SubchannelState, begun: &Begun, transfer: Tran
     interrupt(state);
 }
 
-fn give(
-    state: &mut SubchannelState,
-    begun: &Begun,
-    path: Path,
-    numbers: DataNumbers,
-    given: Given,
-) -> Taken<Down>
+fn give(state: &mut SubchannelState, begun: &Begun, signal: DataSignal, given: Given) -> Taken<Down>
     requires made { state.old.serials.made < 2 ^ 63 }
-    requires sequence { numbers.sequence < 2 ^ 63 }
-    ensures { stepped state.new result ≡ spec.giving state.old begun.now path numbers.number numbers.connection numbers.command numbers.sequence given }
+    requires sequence { signal.sequence < 2 ^ 63 }
+    ensures { stepped state.new result ≡ spec.giving state.old begun.now signal given }
 {
     let Given { transfer, bytes } = given;
     move_on(state, begun, transfer);
     sent(
-        path,
+        signal.path,
         Down::Give {
-            number: numbers.number,
-            connection: numbers.connection,
-            command: numbers.command,
-            sequence: numbers.sequence + 1,
+            number: signal.number,
+            connection: signal.connection,
+            command: signal.command,
+            sequence: signal.sequence + 1,
             bytes,
         },
     )
@@ -70,37 +65,35 @@ fn give_next(
     storage: &Storage,
     state: &mut SubchannelState,
     begun: &Begun,
-    path: Path,
-    numbers: DataNumbers,
+    signal: DataSignal,
     count: usize,
 ) -> Taken<Down>
     requires made { state.old.serials.made < 2 ^ 63 }
-    requires sequence { numbers.sequence < 2 ^ 63 }
+    requires sequence { signal.sequence < 2 ^ 63 }
     requires below { begun.now.transfer.sequence < 2 ^ 63 }
-    ensures { stepped state.new result ≡ spec.give_next storage.now state.old begun.now path numbers.number numbers.connection numbers.command numbers.sequence count }
+    ensures { stepped state.new result ≡ spec.give_next storage.now state.old begun.now signal count }
 {
-    let moved = absorbed(storage, &begun.transfer, numbers.sequence, count);
-    give(state, begun, path, numbers, next_given(storage, &moved))
+    let moved = absorbed(storage, &begun.transfer, signal.sequence, count);
+    give(state, begun, signal, next_given(storage, &moved))
 }
 
 fn answer(
     state: &mut SubchannelState,
     begun: &Begun,
-    path: Path,
-    numbers: DataNumbers,
+    signal: DataSignal,
     next: Roomy,
 ) -> Taken<Down>
     requires { state.old.serials.made < 2 ^ 63 }
-    ensures { stepped state.new result ≡ spec.answering state.old begun.now path numbers.number numbers.command numbers.sequence next }
+    ensures { stepped state.new result ≡ spec.answering state.old begun.now signal next }
 {
     let Roomy { transfer, room } = next;
     move_on(state, begun, transfer);
     sent(
-        path,
+        signal.path,
         Down::Took {
-            number: numbers.number,
-            command: numbers.command,
-            sequence: numbers.sequence,
+            number: signal.number,
+            command: signal.command,
+            sequence: signal.sequence,
             room,
         },
     )
@@ -120,36 +113,34 @@ fn take_in(
     storage: &mut Storage,
     state: &mut SubchannelState,
     begun: &Begun,
-    path: Path,
-    numbers: DataNumbers,
+    signal: DataSignal,
     load: &Load,
 ) -> Taken<Down>
     requires made { state.old.serials.made < 2 ^ 63 }
     requires below { begun.now.transfer.sequence < 2 ^ 63 }
-    ensures { spec.meets storage.new (stepped state.new result) ≡ spec.take_in state.old begun.now path numbers.number numbers.command numbers.sequence (chunk_spec.brought storage.old begun.now.transfer numbers.sequence (spec.bytes_of load.now)) }
+    ensures { spec.meets storage.new (stepped state.new result) ≡ spec.take_in state.old begun.now signal (chunk_spec.brought storage.old begun.now.transfer signal.sequence (spec.bytes_of load.now)) }
 {
-    let taken = brought(storage, &begun.transfer, numbers.sequence, bytes_of(load));
+    let taken = brought(storage, &begun.transfer, signal.sequence, bytes_of(load));
     let next = with_room(storage, &taken);
-    answer(state, begun, path, numbers, next)
+    answer(state, begun, signal, next)
 }
 
 fn move_bytes(
     storage: &mut Storage,
     state: &mut SubchannelState,
     begun: &Begun,
-    path: Path,
-    numbers: DataNumbers,
+    signal: DataSignal,
     load: &Load,
 ) -> Taken<Down>
     requires made { state.old.serials.made < 2 ^ 63 }
-    requires sequence { numbers.sequence < 2 ^ 63 }
+    requires sequence { signal.sequence < 2 ^ 63 }
     requires below { begun.now.transfer.sequence < 2 ^ 63 }
-    ensures { spec.meets storage.new (stepped state.new result) ≡ spec.move_bytes storage.old state.old begun.now path numbers.number numbers.connection numbers.command numbers.sequence load.now }
+    ensures { spec.meets storage.new (stepped state.new result) ≡ spec.move_bytes storage.old state.old begun.now signal load.now }
 {
     if is_outward(begun.transfer.code) {
-        give_next(storage, state, begun, path, numbers, load.len())
+        give_next(storage, state, begun, signal, load.len())
     } else {
-        take_in(storage, state, begun, path, numbers, load)
+        take_in(storage, state, begun, signal, load)
     }
 }
 
@@ -157,22 +148,21 @@ fn move_bytes(
 pub(crate) fn take_data(
     storage: &mut Storage,
     state: &mut SubchannelState,
-    path: Path,
-    numbers: DataNumbers,
+    signal: DataSignal,
     load: &Load,
 ) -> Taken<Down>
     requires made { state.old.serials.made < 2 ^ 63 }
     requires below { spec.IsBelow state.old.begun }
-    ensures { spec.meets storage.new (stepped state.new result) ≡ spec.take_data storage.old state.old path numbers.number numbers.connection numbers.command numbers.sequence load.now }
+    ensures { spec.meets storage.new (stepped state.new result) ≡ spec.take_data storage.old state.old signal load.now }
 {
-    if !Hold::of(state.hold).is_connected(path, numbers.number, numbers.connection) {
+    if !Hold::of(state.hold).is_connected(signal.path, signal.number, signal.connection) {
         return ignored();
     }
     let Some(begun) = state.begun else {
         return ignored();
     };
-    if !is_answered(&begun.transfer, numbers.command, numbers.sequence) {
+    if !is_answered(&begun.transfer, signal.command, signal.sequence) {
         return ignored();
     }
-    move_bytes(storage, state, &begun, path, numbers, load)
+    move_bytes(storage, state, &begun, signal, load)
 }

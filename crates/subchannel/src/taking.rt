@@ -10,7 +10,7 @@ use crate::answers::{by_hold, ignored, quiet};
 use crate::attending::attend;
 use crate::ending::end_command;
 use crate::losing::reset_for;
-use crate::moving::{DataNumbers, take_data};
+use crate::moving::take_data;
 use crate::returning::come_back;
 use chan_model::names::Path;
 use chan_model::signal::{Down, Taken, Up};
@@ -18,9 +18,10 @@ use hold::Hold;
 use status::make_pending;
 use storage_keys::Storage;
 use subchannel_model::cause::Cause;
+use subchannel_model::signals::{DataSignal, EndSignal};
 use subchannel_model::state::SubchannelState;
 
-/// Where a clear is pending, it is performed.
+/// A clear that is pending is performed.
 fn do_clear(state: &mut SubchannelState)
     requires { state.old.serials.made < 2 ^ 63 }
     ensures { state.new ≡ spec.clear_done state.old }
@@ -59,8 +60,8 @@ fn notice(state: &mut SubchannelState, restarts: u64) -> Taken<Down>
     quiet()
 }
 
-/// It takes a signal; what came of it. The bytes of a read are stored. `returns`: a program that is away may come back by
-/// the path.
+/// A subchannel takes a signal, and answers what came of the signal. The bytes of a read are stored. `returns`: a program
+/// that is away may come back by the path.
 pub fn take_up(
     storage: &mut Storage,
     state: &mut SubchannelState,
@@ -82,20 +83,30 @@ pub fn take_up(
             sequence,
             load,
         } => {
-            let numbers = DataNumbers {
+            let data = DataSignal {
+                path,
                 number: *number,
                 connection: *connection,
                 command: *command,
                 sequence: *sequence,
             };
-            take_data(storage, state, path, numbers, load)
+            take_data(storage, state, data, load)
         }
         Up::End {
             number,
             command,
             status,
             more,
-        } => end_command(storage, state, path, *number, *command, *status, *more),
+        } => {
+            let end = EndSignal {
+                path,
+                number: *number,
+                command: *command,
+                status: *status,
+                more: *more,
+            };
+            end_command(storage, state, end)
+        }
         Up::Cleared { .. } => reset_taken(state, path, signal),
         Up::Back { .. } => come_back(state, path, signal, returns),
         Up::Notice { restarts } => notice(state, *restarts),

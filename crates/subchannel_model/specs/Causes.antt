@@ -73,11 +73,11 @@ count_by stands (Some program) begun suspended = stands
 abbrev pub count_shown : SubchannelState → ℕ
 count_shown s = count_by s.scsw.count s.waiting s.begun s.suspended
 
--- nothing but the address and the count of that program is shown
+-- nothing but the address and the count of the program of which a status speaks is shown
 abbrev pub program_shown : SubchannelState → Shown
 program_shown s = plain_shown (address_shown s) (count_shown s)
 
--- that program showed its primary status; one that waits or is suspended did not
+-- whether the program of which a status speaks showed its primary status; one that waits or is suspended did not
 abbrev pub was_shown : Option Program → Option Begun → Bool
 was_shown None None = false
 was_shown None (Some b) = b.primary_shown
@@ -131,7 +131,7 @@ suspension_shown tried count = record (plain_shown tried count) {
   activity = record no_activity { suspended = true };
 }
 
--- after channel end alone the program works on, and showed its primary status
+-- after the last End of a program all programs are over; after channel end alone the program works on
 abbrev pub after_end : SubchannelState → Begun → Bool → SubchannelState
 after_end s b last = if last then without_programs s else record s { begun = Some (has_shown b) }
 

@@ -1,5 +1,7 @@
 -- CLEAR SUBCHANNEL (SA22-7832, chapter 14; the effect is this project's own choice). The reply is the code.
 use Rattle.std.specs.Prelude.{◌+◌, true, false, None}
+use Rattle.allegiance.specs.Allegiances.{dedicated_after}
+use Rattle.allegiance.specs.declared.allegiances.Cause.TheVariants as allegiance
 use Rattle.scsw_irb.specs.declared.scsw.Scsw.{Scsw}
 use Rattle.scsw_irb.specs.Empty.{no_functions, no_activity, zero_scsw}
 use Rattle.chan_model.specs.declared.answer.ConditionCode.{ConditionCode}
@@ -37,5 +39,5 @@ cleared s = record s {
   begun = None;
   suspended = None;
   hold = resetting s.hold (s.drawn + 1);
-  dedicated = None;
+  dedicated = dedicated_after s.dedicated allegiance.Clear;
 }

@@ -1,5 +1,7 @@
 -- What a subchannel does with a signal that came up by a path (own).
 use Rattle.std.specs.Prelude.{ℕ, nat_lt, ◌+◌, ◌<◌, ◌^◌, Bool, true, false, not, ◌==◌, ◌&&◌, ◌||◌, if◌then◌else◌, Option, None, Some, is_some, List, [], slice_set}
+use Rattle.allegiance.specs.Allegiances.{dedicated_after}
+use Rattle.allegiance.specs.declared.allegiances.Cause.TheVariants as allegiance
 use Rattle.scsw_irb.specs.declared.scsw.ActivityControl.{ActivityControl}
 use Rattle.scsw_irb.specs.declared.scsw.Scsw.{Scsw}
 use Rattle.scsw_irb.specs.declared.status.DeviceStatus.{DeviceStatus}
@@ -29,6 +31,8 @@ use Rattle.transfer.specs.declared.Roomy.{Roomy}
 use Rattle.transfer.specs.declared.Given.{Given}
 use Rattle.transfer.specs.Commands.{first_command, next_command, begun_with_room, with_room}
 use Rattle.transfer.specs.Chunks.{Brought, absorbed, next_given, brought, is_answered}
+use Rattle.subchannel_model.specs.declared.signals.DataSignal.{DataSignal}
+use Rattle.subchannel_model.specs.declared.signals.EndSignal.{EndSignal}
 use Rattle.subchannel_model.specs.declared.state.Pmcw.{Pmcw}
 use Rattle.subchannel_model.specs.declared.state.Program.{Program}
 use Rattle.subchannel_model.specs.declared.state.Begun.{Begun}
@@ -67,7 +71,8 @@ let_go s =
 abbrev pub by_hold : SubchannelState → Option HoldStep → UpStep
 by_hold s step = record { state = record s { hold = hold_after s.hold step }; came = came_of step }
 
--- a block that took control may ask for an interruption by the program: intermediate status, as soon as it did
+-- a block that took control may ask for an interruption by the program: the intermediate status is made as the block takes
+-- control
 abbrev pub without_interruption : Begun → Begun
 without_interruption b = record b { transfer = record b.transfer { interrupts = false } }
 
@@ -97,7 +102,7 @@ standing_as (Some program) suspended start = if program.start == start then Some
 abbrev pub standing : SubchannelState → Option Standing
 standing s = standing_as s.waiting s.suspended s.offered
 
--- it does where it isn't over, and no halt is pending
+-- the program takes the device where it is not over, and no halt is pending
 abbrev pub goes_ahead : SubchannelState → Bool
 goes_ahead s = is_some (standing s) && not s.scsw.activity.halt_pending
 
@@ -131,8 +136,8 @@ suspending s program walk count =
     if program.orb.suppress_suspended then record (standing_still s program walk count) { scsw = suspended_alone s.scsw }
     else with_cause (standing_still s program walk count) (cause.Suspension walk.tried count)
 
--- its first command is sent, with the room for what it brings; where it can't be, the program is suspended or over, and
--- lets the device go
+-- the first command of the program is sent, with the room for what it brings; where it cannot be, the program is suspended or
+-- over, and lets the device go
 abbrev pub sends_first : SubchannelState → ℕ → ℕ → Program → Roomy → UpStep
 sends_first s p t program x =
     let next = taking_over s program x.transfer in
@@ -150,7 +155,7 @@ abbrev pub begin_standing : Contents → SubchannelState → ℕ → ℕ → Opt
 begin_standing storage s p t None = quietly s
 begin_standing storage s p t (Some st) = begin_with storage s p t st (first_command storage st.walk)
 
--- where a halt is pending, it is performed as the device is let go
+-- a halt that is pending is performed as the device is let go
 abbrev pub halt_done : SubchannelState → SubchannelState
 halt_done s = if s.scsw.activity.halt_pending then with_cause s cause.HaltDone else s
 
@@ -165,99 +170,115 @@ accept_by storage s hold taken = if taken.taken then accepted_by storage (record
 abbrev pub accept : Contents → SubchannelState → Option HoldStep → UpStep
 accept storage s step = accept_by storage s (hold_after s.hold step) (came_of step)
 
--- numbers that can be raised
+-- the sequence and command numbers of a program that holds the device can be raised
 abbrev pub IsBelow : Option Begun → Type 0
 IsBelow None = Unit {0}
 IsBelow (Some b) = (b.transfer.sequence + 1 < 2 ^ 63) × (b.transfer.command + 1 < 2 ^ 63)
 
--- Data: bytes were moved; the first Data of a command ends a dedicated allegiance
+-- what a Data and an End that are taken leave of the dedicated allegiance, as `allegiance` defines it. While one stands, the
+-- program whose unit check brought it is over, since unit check comes with the last End of a program: each Data and each End
+-- that is taken then is of a later program
+abbrev pub dedicated_by_data : Option ℕ → Option ℕ
+dedicated_by_data dedicated = dedicated_after dedicated (allegiance.Data true)
+
+abbrev pub dedicated_by_end : Option ℕ → EndSignal → Option ℕ
+dedicated_by_end dedicated signal = dedicated_after dedicated (allegiance.End signal.path (has_unit_check signal.status) true)
+
+-- Data: bytes were moved, and the transfer of the program is a chunk further
 abbrev pub with_transfer : SubchannelState → Begun → Transfer → SubchannelState
-with_transfer s b transfer = record s { begun = Some (record b { transfer = transfer }); dedicated = None }
+with_transfer s b transfer =
+    record s { begun = Some (record b { transfer = transfer }); dedicated = dedicated_by_data s.dedicated }
 
 abbrev pub moving_on : SubchannelState → Begun → Transfer → SubchannelState
 moving_on s b transfer = let next = with_transfer s b transfer in interrupted next next.begun
 
--- of a command that takes bytes to the device: the next are given
-abbrev pub giving : SubchannelState → Begun → ℕ → ℕ → ℕ → ℕ → ℕ → Given → UpStep
-giving s b p t c n seq given = sending (moving_on s b given.transfer) p (down.Give t c n (seq + 1) given.bytes)
+-- a Data of a command that takes bytes to the device is answered with the next bytes
+abbrev pub giving : SubchannelState → Begun → DataSignal → Given → UpStep
+giving s b signal given =
+    sending (moving_on s b given.transfer) signal.path
+    (down.Give signal.number signal.connection signal.command (signal.sequence + 1) given.bytes)
 
-abbrev pub give_next : Contents → SubchannelState → Begun → ℕ → ℕ → ℕ → ℕ → ℕ → ℕ → UpStep
-give_next storage s b p t c n seq count = giving s b p t c n seq (next_given storage (absorbed storage b.transfer seq count))
+abbrev pub give_next : Contents → SubchannelState → Begun → DataSignal → ℕ → UpStep
+give_next storage s b signal count = giving s b signal (next_given storage (absorbed storage b.transfer signal.sequence count))
 
--- of a command that brings bytes in: they are stored, and the device is told how many more may come
-abbrev pub answering : SubchannelState → Begun → ℕ → ℕ → ℕ → ℕ → Roomy → UpStep
-answering s b p t n seq x = sending (moving_on s b x.transfer) p (down.Took t n seq x.room)
+-- the bytes of a Data of a command that brings bytes in are stored, and the device is told how many more may come
+abbrev pub answering : SubchannelState → Begun → DataSignal → Roomy → UpStep
+answering s b signal x =
+    sending (moving_on s b x.transfer) signal.path (down.Took signal.number signal.command signal.sequence x.room)
 
-abbrev pub take_in : SubchannelState → Begun → ℕ → ℕ → ℕ → ℕ → Brought → Met
-take_in s b p t n seq x = meets x.storage (answering s b p t n seq (with_room x.storage x.transfer))
+abbrev pub take_in : SubchannelState → Begun → DataSignal → Brought → Met
+take_in s b signal x = meets x.storage (answering s b signal (with_room x.storage x.transfer))
 
 abbrev pub bytes_of : Load → List ℕ
 bytes_of (load.Absorbed count) = []
 bytes_of (load.Bytes bytes) = bytes
 
-abbrev pub move_bytes : Contents → SubchannelState → Begun → ℕ → ℕ → ℕ → ℕ → ℕ → Load → Met
-move_bytes storage s b p t c n seq load =
-    if is_outward b.transfer.code then meets storage (give_next storage s b p t c n seq (load_length load))
-    else take_in s b p t n seq (brought storage b.transfer seq (bytes_of load))
+abbrev pub move_bytes : Contents → SubchannelState → Begun → DataSignal → Load → Met
+move_bytes storage s b signal load =
+    if is_outward b.transfer.code then meets storage (give_next storage s b signal (load_length load))
+    else take_in s b signal (brought storage b.transfer signal.sequence (bytes_of load))
 
-abbrev pub move_data : Contents → SubchannelState → Option Begun → ℕ → ℕ → ℕ → ℕ → ℕ → Load → Met
-move_data storage s None p t c n seq load = meets storage (ignoring s)
-move_data storage s (Some b) p t c n seq load =
-    if is_answered b.transfer n seq then move_bytes storage s b p t c n seq load else meets storage (ignoring s)
+abbrev pub move_data : Contents → SubchannelState → Option Begun → DataSignal → Load → Met
+move_data storage s None signal load = meets storage (ignoring s)
+move_data storage s (Some b) signal load =
+    if is_answered b.transfer signal.command signal.sequence then move_bytes storage s b signal load else meets storage (ignoring s)
 
-abbrev pub take_data : Contents → SubchannelState → ℕ → ℕ → ℕ → ℕ → ℕ → Load → Met
-take_data storage s p t c n seq load =
-    if is_connected s.hold.phase p t c then move_data storage s s.begun p t c n seq load else meets storage (ignoring s)
+abbrev pub take_data : Contents → SubchannelState → DataSignal → Load → Met
+take_data storage s signal load =
+    if is_connected s.hold.phase signal.path signal.number signal.connection then move_data storage s s.begun signal load
+    else meets storage (ignoring s)
 
--- End: unit check brings a dedicated allegiance to its path, any other End ends one; the last End of a program makes
--- status, and lets the device go
-abbrev pub dedicated_after : DeviceStatus → ℕ → Option ℕ
-dedicated_after status p = if has_unit_check status then Some p else None
-
+-- End: a command ended
 abbrev pub with_end : Begun → Begun
 with_end b = record b { transfer = record b.transfer { ended = true } }
 
--- an End after which the program goes on: with device end the next command is sent
-abbrev pub sends_next : SubchannelState → Begun → ℕ → ℕ → Roomy → UpStep
-sends_next s b p t x = sending (moving_on s b x.transfer) p (down.Command t x.transfer.command x.transfer.code x.room)
+abbrev pub end_taken : SubchannelState → EndSignal → SubchannelState
+end_taken s signal = record s { dedicated = dedicated_by_end s.dedicated signal }
 
-abbrev pub chaining : Contents → SubchannelState → Begun → ℕ → ℕ → Place → Came → UpStep
-chaining storage s b p t walk (came.Begins transfer) = sends_next s b p t (begun_with_room storage transfer)
-chaining storage s b p t walk came.Suspends = let_go (suspending (record s { dedicated = None }) b.program walk (residual b.transfer.moving))
-chaining storage s b p t walk (came.Stops check) =
-    let_go (with_cause (record s { dedicated = None }) (cause.FetchFault walk.tried check (residual b.transfer.moving)))
+-- after an End the program goes on: the next command is sent as device end comes
+abbrev pub sends_next : SubchannelState → Begun → EndSignal → Roomy → UpStep
+sends_next s b signal x =
+    sending (moving_on s b x.transfer) signal.path (down.Command signal.number x.transfer.command x.transfer.code x.room)
 
-abbrev pub chain_with : Contents → SubchannelState → Begun → ℕ → ℕ → Beginning → UpStep
-chain_with storage s b p t next = chaining storage s b p t next.walk next.came
+abbrev pub chaining : Contents → SubchannelState → Begun → EndSignal → Place → Came → UpStep
+chaining storage s b signal walk (came.Begins transfer) = sends_next s b signal (begun_with_room storage transfer)
+chaining storage s b signal walk came.Suspends =
+    let_go (suspending (end_taken s signal) b.program walk (residual b.transfer.moving))
+chaining storage s b signal walk (came.Stops check) =
+    let_go (with_cause (end_taken s signal) (cause.FetchFault walk.tried check (residual b.transfer.moving)))
 
-abbrev pub goes_on : Contents → SubchannelState → Begun → ℕ → ℕ → DeviceStatus → UpStep
-goes_on storage s b p t status =
-    if has_device_end status then chain_with storage s b p t (next_command storage b.transfer (has_status_modifier status))
-    else quietly (record s { begun = Some b; dedicated = None })
+abbrev pub chain_with : Contents → SubchannelState → Begun → EndSignal → Beginning → UpStep
+chain_with storage s b signal next = chaining storage s b signal next.walk next.came
 
--- channel end alone where nothing is chained, and the last End of a program
-abbrev pub end_shown_at : SubchannelState → Begun → ℕ → DeviceStatus → Bool → SubchannelState
-end_shown_at s b p status more = record (with_cause s (cause.End b status more)) { dedicated = dedicated_after status p }
+abbrev pub goes_on : Contents → SubchannelState → Begun → EndSignal → UpStep
+goes_on storage s b signal =
+    if has_device_end signal.status
+    then chain_with storage s b signal (next_command storage b.transfer (has_status_modifier signal.status))
+    else quietly (record (end_taken s signal) { begun = Some b })
 
-abbrev pub stops_at : SubchannelState → Begun → ℕ → DeviceStatus → Bool → UpStep
-stops_at s b p status more =
-    if is_last_end status then let_go (end_shown_at s b p status more) else quietly (end_shown_at s b p status more)
+-- an End after which nothing is chained makes status; the last End of a program lets the device go too
+abbrev pub end_shown_at : SubchannelState → Begun → EndSignal → SubchannelState
+end_shown_at s b signal =
+    record (with_cause s (cause.End b signal.status signal.more)) { dedicated = dedicated_by_end s.dedicated signal }
 
-abbrev pub command_ended : Contents → SubchannelState → Begun → ℕ → ℕ → DeviceStatus → Bool → UpStep
-command_ended storage s b p t status more =
-    if chains_command s.scsw b status more then goes_on storage s (with_end b) p t status
-    else stops_at s b p status more
+abbrev pub stops_at : SubchannelState → Begun → EndSignal → UpStep
+stops_at s b signal =
+    if is_last_end signal.status then let_go (end_shown_at s b signal) else quietly (end_shown_at s b signal)
 
-abbrev pub end_of : Contents → SubchannelState → Option Begun → ℕ → ℕ → ℕ → DeviceStatus → Bool → UpStep
-end_of storage s None p t n status more = ignoring s
-end_of storage s (Some b) p t n status more =
-    if n == b.transfer.command then command_ended storage s b p t status more else ignoring s
+abbrev pub command_ended : Contents → SubchannelState → Begun → EndSignal → UpStep
+command_ended storage s b signal =
+    if chains_command s.scsw b signal.status signal.more then goes_on storage s (with_end b) signal else stops_at s b signal
 
-abbrev pub end_command : Contents → SubchannelState → ℕ → ℕ → ℕ → DeviceStatus → Bool → UpStep
-end_command storage s p t n status more =
-    if is_on s.hold.phase t then end_of storage s s.begun p t n status more else ignoring s
+abbrev pub end_of : Contents → SubchannelState → Option Begun → EndSignal → UpStep
+end_of storage s None signal = ignoring s
+end_of storage s (Some b) signal =
+    if signal.command == b.transfer.command then command_ended storage s b signal else ignoring s
 
--- Cleared: where a clear is pending, it is performed
+abbrev pub end_command : Contents → SubchannelState → EndSignal → UpStep
+end_command storage s signal =
+    if is_on s.hold.phase signal.number then end_of storage s s.begun signal else ignoring s
+
+-- Cleared: a clear that is pending is performed
 abbrev pub clear_done : SubchannelState → SubchannelState
 clear_done s = if s.scsw.activity.clear_pending then with_cause s cause.ClearDone else s
 
@@ -265,7 +286,7 @@ abbrev pub reset_taken : SubchannelState → Option HoldStep → UpStep
 reset_taken s None = ignoring s
 reset_taken s (Some step) = record { state = clear_done (record s { hold = step.state }); came = came_of (Some step) }
 
--- Notice: of more restarts than are known; they become known, and the hold is to be reset
+-- Notice: where it counts more restarts than are known, its count becomes known, and the hold is to be reset
 abbrev pub with_known : SubchannelState → ℕ → SubchannelState
 with_known s b = record s { hold = record s.hold { known = b } }
 
@@ -312,8 +333,10 @@ attend s status step = record {
 -- what a subchannel does with a signal; returns: a program that is away may come back by the path
 abbrev pub takes_up : Bool → Contents → SubchannelState → ℕ → Up → Met
 takes_up returns storage s p (up.Accept t) = meets storage (accept storage s (hold_takes s.hold p (up.Accept t) (goes_ahead s)))
-takes_up returns storage s p (up.Data t c n seq load) = take_data storage s p t c n seq load
-takes_up returns storage s p (up.End t n status more) = meets storage (end_command storage s p t n status more)
+takes_up returns storage s p (up.Data t c n seq load) =
+    take_data storage s (record { path = p; number = t; connection = c; command = n; sequence = seq }) load
+takes_up returns storage s p (up.End t n status more) =
+    meets storage (end_command storage s (record { path = p; number = t; command = n; status = status; more = more }))
 takes_up returns storage s p (up.Cleared r) = meets storage (reset_taken s (hold_takes s.hold p (up.Cleared r) false))
 takes_up returns storage s p (up.Back t c) = meets storage (back s p (hold_takes s.hold p (up.Back t c) returns))
 takes_up returns storage s p (up.Notice b) = meets storage (notice s b)

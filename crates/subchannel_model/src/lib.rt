@@ -2,5 +2,6 @@
 #![tactic(auto)]
 
 pub mod cause;
+pub mod signals;
 pub mod state;
 pub mod status;

@@ -13,7 +13,7 @@ returns-then-is_outward c =
     let storage = c.args.storage.now in
     let s = c.args.state.now in
     let b = c.args.begun.now in
-    let x = c.args.numbers in
-    let outward : ℕ → Met = λ count. meets storage (give_next storage s b c.args.path x.number x.connection x.command x.sequence count) in
-    let inward : Met = take_in s b c.args.path x.number x.command x.sequence (brought storage b.transfer x.sequence (bytes_of c.args.load.now)) in
+    let signal = c.args.signal in
+    let outward : ℕ → Met = λ count. meets storage (give_next storage s b signal count) in
+    let inward : Met = take_in s b signal (brought storage b.transfer signal.sequence (bytes_of c.args.load.now)) in
     ap (λ step. meets storage step) c.give_next.ensures ∙ ap outward c.len.ensures ∙ pick _ _ inward (sym c.if-is_outward.ensures)
