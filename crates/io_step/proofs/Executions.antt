@@ -1,6 +1,6 @@
 -- What an instruction answers and leaves of storage and of its subchannel, as what the machine's definitions give.
 use Rattle.std.proofs.Common.{◌≡◌, refl, sym, ◌∙◌, ap, subst, ℕ, zero, suc, Bool, true, false, Option, Some, Result, Ok, Err, List, [], ◌∷◌, inl, inr}
-use Rattle.std.specs.Prelude.{map, slice_get, slice_index, slice_set}
+use Rattle.std.specs.Prelude.{map, slice_get, slice_index, slice_set, is_ok, OnOk}
 use Rattle.zbits.specs.Layout.{image_of}
 use Rattle.zbits.specs.Words.{bytes_of_words, word_at}
 use Rattle.orb_block.specs.declared.Orb.{Orb}
@@ -26,7 +26,7 @@ use Rattle.subchannel_model.specs.Test.{tsch_code, irb_of}
 use Rattle.machine_model.specs.Turns.{Outcome, SubTurn, leaves, does, at_place}
 use Rattle.machine_model.specs.InstructionSteps.{code_at, Starts, Modifies, Enables, start_at, modify_at, modify_sub, enable_sub, store_answer, stores, tests, test_with, with_irb, with_schib, with_enabling, stores_irb}
 use Rattle.io_step.specs.Executing.{with_storage}
-use Rattle.io_step.specs.Operands.{HasOrb, HasWord}
+use Rattle.io_step.specs.Operands.{HasOrb, HasWord, from_storage}
 
 pub starts : (s : State) (found : Option Found) (fetched : Result (List ℕ) StorageFault) (orb : Orb) (r : Outcome) →
     HasOrb fetched (Ok orb) → r ≡ start_at s found orb → Starts s found fetched r
@@ -46,13 +46,20 @@ pub modifies-not : (s : State) (found : Option Found) (fetched : Result (List �
 modifies-not s found (Ok image) f h = (h.0, h.1, inl (h.2, ap (λ (g : Fault). Err g) h.3))
 modifies-not s found (Err g) f h = ap (λ (k : Fault). Err k) (err_inj f (fault.Storage g) h)
 
+ok_inj : {A : Type 0} (x y : A) → ◌≡◌ {A = Result A Fault} (Ok x) (Ok y) → x ≡ y
+ok_inj x y e = cc
+
+-- where an instruction goes on, storage answered what it goes on with
+pub permitted : {A : Type 0} (r : Result A StorageFault) (x : A) → Ok x ≡ from_storage r → r ≡ Ok x
+permitted (Ok y) x e = ap (λ z. Ok z) (sym (ok_inj x y e))
+permitted (Err f) x e = absurd (cc e)
+
 -- an operand that is on its boundary and in storage has bytes
-pub fetched : (before : Contents) (cpu number address count : ℕ) (u : Unit {0}) → number ≡ cpu → operand_check before number address count 4 ≡ Ok u →
+pub fetched : (before : Contents) (cpu address count : ℕ) (u : Unit {0}) → operand_check before cpu address count 4 ≡ Ok u →
     (image : List ℕ) × (operand_at before cpu address count 4 ≡ Ok image)
-fetched before cpu number address count u named checked =
+fetched before cpu address count u checked =
     let image : List ℕ = map (slice_index before.bytes) (places before cpu address count) in
-    let check : operand_check before cpu address count 4 ≡ Ok u = ap (λ (k : ℕ). operand_check before k address count 4) (sym named) ∙ checked in
-    (image, ap (λ (x : Result (Unit {0}) StorageFault). where_permitted x image) check)
+    (image, ap (λ (x : Result (Unit {0}) StorageFault). where_permitted x image) checked)
 
 some_inj : {A : Type 0} (x y : A) → Some x ≡ Some y → x ≡ y
 some_inj x y e = cc
@@ -63,13 +70,13 @@ set_there [] i x e = refl
 set_there (y ∷ ys) zero x e = ap (λ z. z ∷ ys) (sym (some_inj y x e))
 set_there (y ∷ ys) (suc i) x e = ap (λ zs. y ∷ zs) (set_there ys i x e)
 
-pub tests-sub : (s : State) (before after : Contents) (cpu number address place : ℕ) (old new : Subchannel) (u : Unit {0}) (r : Reply) →
-    number ≡ cpu → operand_check before number address 64 4 ≡ Ok u →
+pub tests-sub : (s : State) (before after : Contents) (cpu address place : ℕ) (old new : Subchannel) (u : Unit {0}) (r : Reply) →
+    Ok u ≡ from_storage (operand_check before cpu address 64 4) →
     with_storage s after ≡ with_irb (with_storage s before) cpu address old (stores_irb (code_at tsch_code old)) →
     test_with old (code_at tsch_code old) ≡ leaves r new →
     does r (with_sub (with_storage s after) place new) ≡ tests (with_storage s before) cpu address (Some (record { place = place; sub = old })) (operand_check before cpu address 64 4)
-tests-sub s before after cpu number address place old new u r named checked irb left =
-    let check : operand_check before cpu address 64 4 ≡ Ok u = ap (λ (k : ℕ). operand_check before k address 64 4) (sym named) ∙ checked in
+tests-sub s before after cpu address place old new u r checked irb left =
+    let check : operand_check before cpu address 64 4 ≡ Ok u = permitted (operand_check before cpu address 64 4) u checked in
     sym (ap (λ (x : Result (Unit {0}) StorageFault). tests (with_storage s before) cpu address (Some (record { place = place; sub = old })) x) check
     ∙ (ap (λ (t : SubTurn). at_place (with_irb (with_storage s before) cpu address old (stores_irb (code_at tsch_code old))) place t) left
     ∙ ap (λ (x : State). does r (with_sub x place new)) (sym irb)))
@@ -86,38 +93,38 @@ irb-stored s before after cpu number address sub code irb image b tested is pass
     (stored ∙ (ap (λ (k : ℕ). operand_stored before k address image) named ∙ ap (λ (xs : List ℕ). operand_stored before cpu address xs) bytes))
     ∙ sym (ap (λ (x : Bool). with_irb (with_storage s before) cpu address sub x) stores)
 
-pub stores-sub : (s : State) (before after : Contents) (cpu number other address place : ℕ) (sub : Subchannel) (schib : Schib) (image : List ℕ) (u : Unit {0}) →
-    slice_get s.subs place ≡ Some sub → number ≡ cpu → operand_check before number address 52 4 ≡ Ok u → other ≡ cpu → schib ≡ schib_of sub →
-    image ≡ image_of (schib_tables schib) → after ≡ operand_stored before other address image →
+pub stores-sub : (s : State) (before after : Contents) (cpu number address place : ℕ) (sub : Subchannel) (schib : Schib) (image : List ℕ) (u : Unit {0}) →
+    slice_get s.subs place ≡ Some sub → Ok u ≡ from_storage (operand_check before cpu address 52 4) → number ≡ cpu → schib ≡ schib_of sub →
+    image ≡ image_of (schib_tables schib) → after ≡ operand_stored before number address image →
     does (reply.Status (store_answer sub) sub.state.scsw) (with_sub (with_storage s after) place sub)
     ≡ stores (with_storage s before) cpu address (Some (record { place = place; sub = sub })) (operand_check before cpu address 52 4)
-stores-sub s before after cpu number other address place sub schib image u there named checked again made written stored =
-    let check : operand_check before cpu address 52 4 ≡ Ok u = ap (λ (k : ℕ). operand_check before k address 52 4) (sym named) ∙ checked in
+stores-sub s before after cpu number address place sub schib image u there checked named made written stored =
+    let check : operand_check before cpu address 52 4 ≡ Ok u = permitted (operand_check before cpu address 52 4) u checked in
     let bytes : image_of (schib_tables (schib_of sub)) ≡ image = ap (λ (x : Schib). image_of (schib_tables x)) (sym made) ∙ sym written in
     let all : operand_stored before cpu address (image_of (schib_tables (schib_of sub))) ≡ after =
     ap (λ (xs : List ℕ). operand_stored before cpu address xs) bytes
-    ∙ (ap (λ (k : ℕ). operand_stored before k address image) (sym again) ∙ sym stored) in
+    ∙ (ap (λ (k : ℕ). operand_stored before k address image) (sym named) ∙ sym stored) in
     let shown = reply.Status (store_answer sub) sub.state.scsw in
     sym (ap (λ (x : Result (Unit {0}) StorageFault). stores (with_storage s before) cpu address (Some (record { place = place; sub = sub })) x) check
     ∙ (ap (λ (x : Contents). does shown (with_storage s x)) all
     ∙ ap (λ (xs : List Subchannel). does shown (record s { storage = after; subs = xs })) (sym (set_there s.subs place sub there))))
 
-pub enables-sub : (s : State) (before after : Contents) (cpu number other subclass place : ℕ) (multipath : Bool) (old new : Subchannel) (schib : Schib) (image : List ℕ) (u : Unit {0}) (r : Reply) →
-    number ≡ cpu → operand_check before number 0xF00 52 4 ≡ Ok u → other ≡ cpu → schib ≡ enabling_schib old subclass multipath →
-    image ≡ image_of (schib_tables schib) → after ≡ operand_stored before other 0xF00 image → modify_sub old schib.pmcw ≡ leaves r new →
+pub enables-sub : (s : State) (before after : Contents) (cpu number subclass place : ℕ) (multipath : Bool) (old new : Subchannel) (schib : Schib) (image : List ℕ) (u : Unit {0}) (r : Reply) →
+    Ok u ≡ from_storage (operand_check before cpu 0xF00 52 4) → number ≡ cpu → schib ≡ enabling_schib old subclass multipath →
+    image ≡ image_of (schib_tables schib) → after ≡ operand_stored before number 0xF00 image → modify_sub old schib.pmcw ≡ leaves r new →
     Enables (with_storage s before) cpu (Some (record { place = place; sub = old })) subclass multipath (operand_at before cpu 0xF00 52 4) (does r (with_sub (with_storage s after) place new))
-enables-sub s before after cpu number other subclass place multipath old new schib image u r named checked again made written stored left =
+enables-sub s before after cpu number subclass place multipath old new schib image u r checked named made written stored left =
     let given : modify_sub old (enabling (pmcw_of old) subclass multipath) ≡ leaves r new =
     ap (λ (x : Schib). modify_sub old x.pmcw) (sym made) ∙ left in
     let bytes : image_of (schib_tables (enabling_schib old subclass multipath)) ≡ image =
     ap (λ (x : Schib). image_of (schib_tables x)) (sym made) ∙ sym written in
     let all : operand_stored before cpu 0xF00 (image_of (schib_tables (enabling_schib old subclass multipath))) ≡ after =
     ap (λ (xs : List ℕ). operand_stored before cpu 0xF00 xs) bytes
-    ∙ (ap (λ (k : ℕ). operand_stored before k 0xF00 image) (sym again) ∙ sym stored) in
+    ∙ (ap (λ (k : ℕ). operand_stored before k 0xF00 image) (sym named) ∙ sym stored) in
     let done : enable_sub (with_storage s before) cpu (record { place = place; sub = old }) subclass multipath ≡ does r (with_sub (with_storage s after) place new) =
     ap (λ (t : SubTurn). at_place (with_schib (with_storage s before) cpu 0xF00 (enabling_schib old subclass multipath)) place t) given
     ∙ ap (λ (x : Contents). does r (with_sub (with_storage s x) place new)) all in
-    let there = fetched before cpu number 0xF00 52 u named checked in
+    let there = fetched before cpu 0xF00 52 u (permitted (operand_check before cpu 0xF00 52 4) u checked) in
     subst (λ (x : Result (List ℕ) StorageFault). Enables (with_storage s before) cpu (Some (record { place = place; sub = old })) subclass multipath x (does r (with_sub (with_storage s after) place new)))
     (sym there.1) (sym done)
 
@@ -130,6 +137,13 @@ enables-none s before after cpu number subclass multipath image placed old new t
     let bytes : placed ≡ bytes_of_words (enabling_word (word_at image 1) subclass multipath ∷ []) = written ∙ ap (λ (w : ℕ). bytes_of_words (w ∷ [])) word in
     ap (λ (x : Contents). with_storage s x)
     (stored ∙ (ap (λ (k : ℕ). operand_stored before k 0xF04 placed) named ∙ ap (λ (xs : List ℕ). operand_stored before cpu 0xF04 xs) bytes))
+
+-- a clause that holds where storage goes on holds where the instruction does
+pub where-permitted : {A : Type 0} (r : Result A StorageFault) (q : Result A Fault) (T : Type 0) → is_ok q ≡ is_ok r → OnOk r T → OnOk q T
+where-permitted (Ok x) (Ok y) T e t = t
+where-permitted (Ok x) (Err f) T e t = tt
+where-permitted (Err f) (Ok y) T e t = absurd (cc e)
+where-permitted (Err f) (Err g) T e t = tt
 
 false-not-true : (b : Bool) → b ≡ false → b ≡ true → ⊥
 false-not-true true e f = absurd (cc e)

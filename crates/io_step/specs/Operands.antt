@@ -10,6 +10,11 @@ use Rattle.storage_keys.specs.declared.StorageFault.{StorageFault}
 use Rattle.chan_model.specs.declared.fault.Fault.{Fault}
 use Rattle.chan_model.specs.declared.fault.Fault.TheVariants as fault
 
+-- what storage answered: its fault is the refusal of the instruction
+abbrev pub from_storage : {A : Type 0} → Result A StorageFault → Result A Fault
+from_storage (Ok x) = Ok x
+from_storage (Err f) = Err (fault.Storage f)
+
 -- the ORB that an operand has, or why it has none
 abbrev pub HasOrb : Result (List ℕ) StorageFault → Result Orb Fault → Type 0
 HasOrb (Err f) r = r ≡ Err (fault.Storage f)

@@ -4,70 +4,53 @@ ghost use Rattle.std.specs.Prelude.{ℕ};
 ghost use Rattle.io_step.specs.Executing as spec;
 ghost use Rattle.chan_events.specs.declared.event.Instruction.TheVariants as instruction_spec;
 
-use crate::operands::{orb_at, word_at};
+use crate::operands::{ENABLE_BLOCK, ENABLE_WORD, WORD, check_operand, operand, orb_at, word_at};
 use chan_events::event::Instruction;
 use chan_events::reply::Reply;
 use chan_model::answer::Answer;
 use chan_model::fault::Fault;
 use chan_model::names::Cpu;
 use functions::blocks::enabling_word;
+use schib_block::SCHIB_BYTES;
 use schib_block::pmcw::Pmcw;
+use scsw_irb::irb::IRB_BYTES;
 use storage_keys::Storage;
 use zbits::{be_bytes, be_words};
-
-/// The real address of the block that enabling modifies from.
-const ENABLE_BLOCK: u32 = 0xF00;
-
-/// The real address of the second word of that block.
-const ENABLE_WORD: u32 = 0xF04;
 
 fn start(storage: &Storage, cpu: Cpu, address: u32) -> Result<Reply, Fault>
     ensures { (word : ℕ) → spec.Executed_absent storage.now cpu (instruction_spec.Ssch word address) result storage.now }
 {
-    match orb_at(storage, cpu, address) {
-        Ok(_) => Ok(Reply::Code(Answer::Three)),
-        Err(fault) => Err(fault),
-    }
+    orb_at(storage, cpu, address)?;
+    Ok(Reply::Code(Answer::Three))
 }
 
 fn test(storage: &Storage, cpu: Cpu, address: u32) -> Result<Reply, Fault>
     ensures { (word : ℕ) → spec.Executed_absent storage.now cpu (instruction_spec.Tsch word address) result storage.now }
 {
-    match storage.check_operand(cpu.number(), address, 64, 4) {
-        Ok(()) => Ok(Reply::Code(Answer::Three)),
-        Err(fault) => Err(Fault::Storage(fault)),
-    }
+    check_operand(storage, cpu, address, IRB_BYTES, WORD)?;
+    Ok(Reply::Code(Answer::Three))
 }
 
 fn store(storage: &Storage, cpu: Cpu, address: u32) -> Result<Reply, Fault>
     ensures { (word : ℕ) → spec.Executed_absent storage.now cpu (instruction_spec.Stsch word address) result storage.now }
 {
-    match storage.check_operand(cpu.number(), address, 52, 4) {
-        Ok(()) => Ok(Reply::Code(Answer::Three)),
-        Err(fault) => Err(Fault::Storage(fault)),
-    }
+    check_operand(storage, cpu, address, SCHIB_BYTES, WORD)?;
+    Ok(Reply::Code(Answer::Three))
 }
 
 fn modify(storage: &Storage, cpu: Cpu, address: u32) -> Result<Reply, Fault>
     ensures { (word : ℕ) → spec.Executed_absent storage.now cpu (instruction_spec.Msch word address) result storage.now }
 {
-    match word_at(storage, cpu, address) {
-        Ok(_) => Ok(Reply::Code(Answer::Three)),
-        Err(fault) => Err(fault),
-    }
+    word_at(storage, cpu, address)?;
+    Ok(Reply::Code(Answer::Three))
 }
 
 /// The bits are placed in the block that stands there, where MODIFY SUBCHANNEL takes it.
 fn enable(storage: &mut Storage, cpu: Cpu, subclass: u8, multipath: bool) -> Result<Reply, Fault>
     ensures { (word : ℕ) → spec.Executed_absent storage.old cpu (instruction_spec.Enable word subclass multipath) result storage.new }
 {
-    if let Err(fault) = storage.check_operand(cpu.number(), ENABLE_BLOCK, 52, 4) {
-        return Err(Fault::Storage(fault));
-    }
-    let image = match storage.operand::<52>(cpu.number(), ENABLE_BLOCK, 4) {
-        Ok(image) => image,
-        Err(fault) => return Err(Fault::Storage(fault)),
-    };
+    check_operand(storage, cpu, ENABLE_BLOCK, SCHIB_BYTES, WORD)?;
+    let image = operand::<SCHIB_BYTES>(storage, cpu, ENABLE_BLOCK)?;
     if !Pmcw::of_schib(&image).is_allowed() {
         return Err(Fault::Operand);
     }

@@ -1,28 +1,62 @@
-//! What an instruction takes from its operand in storage.
+//! The operands of instructions in storage: where they stand, how they are tested, and what is taken from them.
 
-ghost use Rattle.io_step.specs.Operands.{HasOrb, HasWord};
+ghost use Rattle.io_step.specs.Operands.{HasOrb, HasWord, from_storage};
 ghost use Rattle.schib_block.specs.Modify.{IsAllowed};
-ghost use Rattle.storage_keys.specs.Storage.{operand_at};
-ghost use Rattle.std.specs.Prelude.{IfOk};
+ghost use Rattle.storage_keys.specs.Storage.{operand_at, operand_check};
+ghost use Rattle.std.specs.Prelude.{◌≡◌, ◌<◌, ◌≤◌, ◌+◌, length, IfOk, OnOk};
 
 use chan_model::fault::Fault;
 use chan_model::names::Cpu;
-use orb_block::Orb;
+use orb_block::{ORB_BYTES, Orb};
+use schib_block::SCHIB_BYTES;
 use schib_block::pmcw::Pmcw;
 use storage_keys::Storage;
+
+/// The boundary of a word, on which all but one of the operands must be.
+pub const WORD: u32 = 4;
+
+/// The real address of the subchannel-information block that enabling modifies from.
+pub const ENABLE_BLOCK: u32 = 0xF00;
+
+/// The real address of the second word of that block.
+pub const ENABLE_WORD: u32 = 0xF04;
+
+/// Tests an operand: it must be on its boundary, and then in storage.
+pub fn check_operand(
+    storage: &Storage,
+    cpu: Cpu,
+    address: u32,
+    bytes: usize,
+    boundary: u32,
+) -> Result<(), Fault>
+    requires { 0 < boundary }
+    ensures checked { result ≡ from_storage (operand_check storage.now cpu address bytes boundary) }
+    ensures inside { OnOk result (0 < bytes → address + bytes ≤ length storage.now.bytes) }
+{
+    storage
+        .check_operand(cpu.number(), address, bytes, boundary)
+        .map_err(Fault::Storage)
+}
+
+/// Fetches an operand, which must be on a word boundary, and then in storage.
+pub fn operand<const BYTES: usize>(
+    storage: &Storage,
+    cpu: Cpu,
+    address: u32,
+) -> Result<[u8; BYTES], Fault>
+    ensures { result ≡ from_storage (operand_at storage.now cpu address BYTES 4) }
+{
+    storage
+        .operand::<BYTES>(cpu.number(), address, WORD)
+        .map_err(Fault::Storage)
+}
 
 /// The operation-request block at a real address.
 pub fn orb_at(storage: &Storage, cpu: Cpu, address: u32) -> Result<Orb, Fault>
     ensures { HasOrb (operand_at storage.now cpu address 12 4) result }
 {
-    let image = match storage.operand::<12>(cpu.number(), address, 4) {
-        Ok(image) => image,
-        Err(fault) => return Err(Fault::Storage(fault)),
-    };
-    match Orb::read(&image) {
-        Ok(orb) => Ok(orb),
-        Err(_) => Err(Fault::Operand),
-    }
+    let image = operand::<ORB_BYTES>(storage, cpu, address)?;
+    Orb::read(&image).map_err(|_| Fault::Operand)
 }
 
 /// The path-management-control word of the subchannel-information block at a real address, where MODIFY SUBCHANNEL takes it.
@@ -30,10 +64,7 @@ pub fn word_at(storage: &Storage, cpu: Cpu, address: u32) -> Result<Pmcw, Fault>
     ensures word { HasWord (operand_at storage.now cpu address 52 4) result }
     ensures allowed { IfOk result (λ given. IsAllowed given) }
 {
-    let image = match storage.operand::<52>(cpu.number(), address, 4) {
-        Ok(image) => image,
-        Err(fault) => return Err(Fault::Storage(fault)),
-    };
+    let image = operand::<SCHIB_BYTES>(storage, cpu, address)?;
     let given = Pmcw::of_schib(&image);
     if given.is_allowed() {
         Ok(given)

@@ -1,8 +1,10 @@
 //! The instructions that name no subchannel.
 
 ghost use Rattle.std.specs.Prelude.{◌≡◌, ◌≤◌, ◌<◌, ◌+◌, ◌*◌, Ok, Err, IfOk, IfErr, OnErr, OnOk, Some, length};
+ghost use Rattle.io_step.specs.Operands.{from_storage};
 ghost use Rattle.io_step.specs.Others as spec;
 
+use crate::operands::{WORD, check_operand};
 use chan_model::answer::ConditionCode;
 use chan_model::fault::Fault;
 use chan_model::names::Cpu;
@@ -10,25 +12,37 @@ use chan_model::paths::mask_of_paths;
 use channel_reports::Reports;
 use interruptions::Pending;
 use scsw_irb::code::IntCode;
-use scsw_irb::crw::Crw;
-use storage_keys::{Storage, StorageFault};
+use scsw_irb::crw::{CRW_BYTES, Crw};
+use storage_keys::Storage;
 use zbits::{be_bytes, field};
 
-/// The real address of the I/O-interruption code.
+/// The real address of the I/O-interruption code, where TEST PENDING INTERRUPTION stores it if its operand has address 0.
 const CODE: u32 = 184;
+
+/// How many bytes of the code are stored there: its three words.
+const LONG_CODE_BYTES: usize = 12;
+
+/// How many bytes of the code are stored at an operand: the subsystem-identification word and the interruption parameter.
+const SHORT_CODE_BYTES: usize = 8;
+
+/// How many bytes STORE CHANNEL PATH STATUS stores: one bit for each channel-path identifier.
+const PATH_STATUS_BYTES: usize = 32;
+
+/// The boundary on which the operand of STORE CHANNEL PATH STATUS must be.
+const PATH_STATUS_BOUNDARY: u32 = 32;
 
 /// For each channel-path identifier, whether the channel path is in the set.
 pub type PathTable = [bool; 256];
 
 /// Whether the interruption code may be stored at an address.
-fn check_code(storage: &Storage, cpu: Cpu, address: u32) -> Result<(), StorageFault>
-    ensures checked { result ≡ spec.code_check storage.now cpu address }
+fn check_code(storage: &Storage, cpu: Cpu, address: u32) -> Result<(), Fault>
+    ensures checked { result ≡ from_storage (spec.code_check storage.now cpu address) }
     ensures inside { OnOk result (spec.code_place address + spec.code_size address ≤ length storage.now.bytes) }
 {
     if address == 0 {
-        storage.check_operand(cpu.number(), CODE, 12, 4)
+        check_operand(storage, cpu, CODE, LONG_CODE_BYTES, WORD)
     } else {
-        storage.check_operand(cpu.number(), address, 8, 4)
+        check_operand(storage, cpu, address, SHORT_CODE_BYTES, WORD)
     }
 }
 
@@ -39,10 +53,10 @@ fn store_code(storage: &mut Storage, cpu: Cpu, address: u32, code: IntCode)
 {
     let [identification, parameter, interruption] = code.words();
     if address == 0 {
-        let image = be_bytes::<12>(&[identification, parameter, interruption]);
+        let image = be_bytes::<LONG_CODE_BYTES>(&[identification, parameter, interruption]);
         storage.store_operand(cpu.number(), CODE, &image);
     } else {
-        let image = be_bytes::<8>(&[identification, parameter]);
+        let image = be_bytes::<SHORT_CODE_BYTES>(&[identification, parameter]);
         storage.store_operand(cpu.number(), address, &image);
     }
 }
@@ -62,9 +76,7 @@ pub fn tpi(
     ensures storage_kept { OnErr result (storage.new ≡ storage.old) }
     ensures pending_kept { OnErr result (pending.new ≡ pending.old) }
 {
-    if let Err(fault) = check_code(storage, cpu, address) {
-        return Err(Fault::Storage(fault));
-    }
+    check_code(storage, cpu, address)?;
     let found = pending.tpi(mask);
     if let Some(code) = found {
         store_code(storage, cpu, address, code);
@@ -94,11 +106,9 @@ pub fn stcrw(
     ensures storage_kept { OnErr result (storage.new ≡ storage.old) }
     ensures reports_kept { OnErr result (reports.new ≡ reports.old) }
 {
-    if let Err(fault) = storage.check_operand(cpu.number(), address, 4, 4) {
-        return Err(Fault::Storage(fault));
-    }
+    check_operand(storage, cpu, address, CRW_BYTES, WORD)?;
     let report = reports.stcrw();
-    let image = be_bytes::<4>(&[report_word(report)]);
+    let image = be_bytes::<CRW_BYTES>(&[report_word(report)]);
     storage.store_operand(cpu.number(), address, &image);
     Ok(report)
 }
@@ -135,11 +145,11 @@ fn engaged_byte(engaged: &PathTable, place: usize) -> u8
     ])
 }
 
-fn engaged_bytes(engaged: &PathTable) -> [u8; 32]
+fn engaged_bytes(engaged: &PathTable) -> [u8; PATH_STATUS_BYTES]
     ensures { result ≡ spec.engaged_bytes engaged.now 32 }
 {
-    let mut image = [0; 32];
-    for place in 0..32 {
+    let mut image = [0; PATH_STATUS_BYTES];
+    for place in 0..PATH_STATUS_BYTES {
         image[place] = engaged_byte(engaged, place);
     }
     image
@@ -156,9 +166,13 @@ pub fn stcps(
     ensures refused { IfErr result (λ f. spec.stcps_turn storage.old engaged.now cpu address ≡ Err f) }
     ensures kept { OnErr result (storage.new ≡ storage.old) }
 {
-    if let Err(fault) = storage.check_operand(cpu.number(), address, 32, 32) {
-        return Err(Fault::Storage(fault));
-    }
+    check_operand(
+        storage,
+        cpu,
+        address,
+        PATH_STATUS_BYTES,
+        PATH_STATUS_BOUNDARY,
+    )?;
     let image = engaged_bytes(engaged);
     storage.store_operand(cpu.number(), address, &image);
     Ok(())

@@ -53,10 +53,7 @@ fn execute_dropping(
     ensures kept { OnErr result (pending.new ≡ pending.old) }
 {
     let id = sub.setup.id;
-    let reply = match execute(storage, sub, cpu, instruction) {
-        Ok(reply) => reply,
-        Err(fault) => return Err(fault),
-    };
+    let reply = execute(storage, sub, cpu, instruction)?;
     if drops(instruction, reply_code(&reply)) {
         pending.drop_request(id.set, id.number);
     }
@@ -75,22 +72,22 @@ pub fn perform_other(
     ensures { (sub : Option Subchannel) → spec.Performed_other (spec.lent storage.old sub pending.old reports.old) paths.now cpu instruction result (spec.lent storage.new sub pending.new reports.new) }
 {
     match instruction {
-        OtherInstruction::Tpi { mask, address } => match tpi(storage, pending, cpu, mask, address) {
-            Ok(found) => Ok(Done::Interruption(found)),
-            Err(fault) => Err(fault),
-        },
-        OtherInstruction::Rchp { path } => match rchp(reports, &paths.up, path) {
-            Ok(code) => Ok(Done::PathReset(code)),
-            Err(fault) => Err(fault),
-        },
-        OtherInstruction::Stcrw { address } => match stcrw(storage, reports, cpu, address) {
-            Ok(report) => Ok(Done::Report(report)),
-            Err(fault) => Err(fault),
-        },
-        OtherInstruction::Stcps { address } => match stcps(storage, &paths.engaged, cpu, address) {
-            Ok(()) => Ok(Done::Paths),
-            Err(fault) => Err(fault),
-        },
+        OtherInstruction::Tpi { mask, address } => {
+            let found = tpi(storage, pending, cpu, mask, address)?;
+            Ok(Done::Interruption(found))
+        }
+        OtherInstruction::Rchp { path } => {
+            let code = rchp(reports, &paths.up, path)?;
+            Ok(Done::PathReset(code))
+        }
+        OtherInstruction::Stcrw { address } => {
+            let report = stcrw(storage, reports, cpu, address)?;
+            Ok(Done::Report(report))
+        }
+        OtherInstruction::Stcps { address } => {
+            stcps(storage, &paths.engaged, cpu, address)?;
+            Ok(Done::Paths)
+        }
     }
 }
 
@@ -109,10 +106,8 @@ pub fn perform_provided(
 {
     match instruction {
         IoInstruction::Subchannel(instruction) => {
-            match execute_dropping(storage, sub, pending, cpu, instruction) {
-                Ok(reply) => Ok(Done::Machine(reply)),
-                Err(fault) => Err(fault),
-            }
+            let reply = execute_dropping(storage, sub, pending, cpu, instruction)?;
+            Ok(Done::Machine(reply))
         }
         IoInstruction::Other(instruction) => {
             perform_other(storage, pending, reports, paths, cpu, instruction)
@@ -133,10 +128,8 @@ pub fn perform_absent(
 {
     match instruction {
         IoInstruction::Subchannel(instruction) => {
-            match execute_absent(storage, cpu, instruction) {
-                Ok(reply) => Ok(Done::Machine(reply)),
-                Err(fault) => Err(fault),
-            }
+            let reply = execute_absent(storage, cpu, instruction)?;
+            Ok(Done::Machine(reply))
         }
         IoInstruction::Other(instruction) => {
             perform_other(storage, pending, reports, paths, cpu, instruction)

@@ -8,7 +8,7 @@ ghost use Rattle.machine_model.specs.Bounds.{IsRoomy};
 ghost use Rattle.subchannel_model.specs.Test.{tsch_code};
 ghost use Rattle.chan_events.specs.declared.event.Instruction.TheVariants as instruction_spec;
 
-use crate::operands::{orb_at, word_at};
+use crate::operands::{ENABLE_BLOCK, WORD, check_operand, orb_at, word_at};
 use crate::turns::{
     cancel_sub, clear_sub, halt_sub, irb_of, modify_sub, resume_sub, start_sub, stores_irb,
     test_code_of, test_sub,
@@ -19,20 +19,17 @@ use chan_model::answer::Answer;
 use chan_model::fault::Fault;
 use chan_model::names::Cpu;
 use functions::blocks::{enabling_schib, schib_of};
+use schib_block::SCHIB_BYTES;
+use scsw_irb::irb::IRB_BYTES;
 use storage_keys::Storage;
 use subchannel_model::state::Subchannel;
-
-/// The real address of the block that enabling stores and modifies from.
-const ENABLE_BLOCK: u32 = 0xF00;
 
 fn start(storage: &Storage, sub: &mut Subchannel, cpu: Cpu, address: u32) -> Result<Reply, Fault>
     requires { IsRoomy sub.old }
     ensures { (word : ℕ) → spec.Executed storage.now sub.old cpu (instruction_spec.Ssch word address) result storage.now sub.new }
 {
-    match orb_at(storage, cpu, address) {
-        Ok(orb) => Ok(start_sub(sub, orb)),
-        Err(fault) => Err(fault),
-    }
+    let orb = orb_at(storage, cpu, address)?;
+    Ok(start_sub(sub, orb))
 }
 
 /// The interruption-response block is stored where TEST SUBCHANNEL stores one.
@@ -49,9 +46,7 @@ fn store_irb(storage: &mut Storage, sub: &Subchannel, cpu: Cpu, address: u32)
 fn test(storage: &mut Storage, sub: &mut Subchannel, cpu: Cpu, address: u32) -> Result<Reply, Fault>
     ensures { (word : ℕ) → spec.Executed storage.old sub.old cpu (instruction_spec.Tsch word address) result storage.new sub.new }
 {
-    if let Err(fault) = storage.check_operand(cpu.number(), address, 64, 4) {
-        return Err(Fault::Storage(fault));
-    }
+    check_operand(storage, cpu, address, IRB_BYTES, WORD)?;
     store_irb(storage, sub, cpu, address);
     Ok(test_sub(sub))
 }
@@ -59,9 +54,7 @@ fn test(storage: &mut Storage, sub: &mut Subchannel, cpu: Cpu, address: u32) -> 
 fn store(storage: &mut Storage, sub: &Subchannel, cpu: Cpu, address: u32) -> Result<Reply, Fault>
     ensures { (word : ℕ) → spec.Executed storage.old sub.now cpu (instruction_spec.Stsch word address) result storage.new sub.now }
 {
-    if let Err(fault) = storage.check_operand(cpu.number(), address, 52, 4) {
-        return Err(Fault::Storage(fault));
-    }
+    check_operand(storage, cpu, address, SCHIB_BYTES, WORD)?;
     let image = schib_of(sub).write();
     storage.store_operand(cpu.number(), address, &image);
     Ok(Reply::Status {
@@ -73,10 +66,8 @@ fn store(storage: &mut Storage, sub: &Subchannel, cpu: Cpu, address: u32) -> Res
 fn modify(storage: &Storage, sub: &mut Subchannel, cpu: Cpu, address: u32) -> Result<Reply, Fault>
     ensures { (word : ℕ) → spec.Executed storage.now sub.old cpu (instruction_spec.Msch word address) result storage.now sub.new }
 {
-    match word_at(storage, cpu, address) {
-        Ok(given) => Ok(modify_sub(sub, &given)),
-        Err(fault) => Err(fault),
-    }
+    let given = word_at(storage, cpu, address)?;
+    Ok(modify_sub(sub, &given))
 }
 
 fn enable(
@@ -88,9 +79,7 @@ fn enable(
 ) -> Result<Reply, Fault>
     ensures { (word : ℕ) → spec.Executed storage.old sub.old cpu (instruction_spec.Enable word subclass multipath) result storage.new sub.new }
 {
-    if let Err(fault) = storage.check_operand(cpu.number(), ENABLE_BLOCK, 52, 4) {
-        return Err(Fault::Storage(fault));
-    }
+    check_operand(storage, cpu, ENABLE_BLOCK, SCHIB_BYTES, WORD)?;
     let schib = enabling_schib(sub, subclass, multipath);
     storage.store_operand(cpu.number(), ENABLE_BLOCK, &schib.write());
     Ok(modify_sub(sub, &schib.pmcw))

@@ -111,39 +111,38 @@ impl Machine {
     fn put(&mut self, address: u32, bytes: &Chunk) -> Result<Reply, Fault>
         ensures { giving_spec.Gives self.old (storage_spec.put_turn self.old address bytes.now) result self.new }
     {
-        match self.storage.put(address, bytes.as_slice()) {
-            Ok(()) => Ok(Reply::Done),
-            Err(fault) => Err(Fault::Storage(fault)),
-        }
+        self.storage
+            .put(address, bytes.as_slice())
+            .map_err(Fault::Storage)?;
+        Ok(Reply::Done)
     }
 
     fn set_key(&mut self, address: u32, key: Key) -> Result<Reply, Fault>
         ensures { giving_spec.Gives self.old (storage_spec.key_turn self.old address key) result self.new }
     {
-        match self.storage.set_key(address, key) {
-            Ok(()) => Ok(Reply::Done),
-            Err(fault) => Err(Fault::Storage(fault)),
-        }
+        self.storage.set_key(address, key).map_err(Fault::Storage)?;
+        Ok(Reply::Done)
     }
 
     fn set_prefix(&mut self, cpu: Cpu, address: u32) -> Result<Reply, Fault>
         ensures { giving_spec.Gives self.old (storage_spec.prefix_turn self.old cpu address) result self.new }
     {
-        match self.storage.set_prefix(cpu.number(), address) {
-            Ok(()) => Ok(Reply::Done),
-            Err(fault) => Err(Fault::Storage(fault)),
-        }
+        self.storage
+            .set_prefix(cpu.number(), address)
+            .map_err(Fault::Storage)?;
+        Ok(Reply::Done)
     }
 
     fn show(&self, address: u32, length: ChunkLength) -> Result<Reply, Fault>
         ensures { giving_spec.Gives self.now (storage_spec.show_turn self.now address length) result self.now }
     {
-        match self.storage.show(address, length.get()) {
-            Ok(bytes) => Ok(Reply::Shown {
-                bytes: Chunk::of(bytes),
-            }),
-            Err(fault) => Err(Fault::Storage(fault)),
-        }
+        let shown = self
+            .storage
+            .show(address, length.get())
+            .map_err(Fault::Storage)?;
+        Ok(Reply::Shown {
+            bytes: Chunk::of(shown),
+        })
     }
 
     fn execute(

@@ -8,6 +8,9 @@ pub mod schib;
 #[cfg(test)]
 mod tests;
 
+/// How many bytes a subchannel-information block has.
+pub const SCHIB_BYTES: usize = 52;
+
 /// A block that MODIFY SUBCHANNEL is given asks for what there is not: an operand exception.
 #[derive(Clone, Copy, Debug, PartialEq, Eq)]
 pub struct Operand;

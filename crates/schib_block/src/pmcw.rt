@@ -5,7 +5,7 @@ ghost use Rattle.zbits.specs.Bits.{field_of};
 ghost use Rattle.zbits.specs.Layout as layout_spec;
 ghost use Rattle.zbits.specs.Layout.{AllShow};
 
-use crate::Operand;
+use crate::{Operand, SCHIB_BYTES};
 use zbits::layout::{at, flag_at, word_of, zeros};
 use zbits::{be_words, field};
 
@@ -60,7 +60,7 @@ impl Pmcw {
 
     /// The word that a subchannel-information block has, whatever its other bits: this is all that
     /// MODIFY SUBCHANNEL looks at, so no block is refused here.
-    pub fn of_schib(image: &[u8; 52]) -> Pmcw
+    pub fn of_schib(image: &[u8; SCHIB_BYTES]) -> Pmcw
         ensures shown { ShowsPmcw image.now result }
         ensures value { result ≡ pmcw_of image.now }
     {

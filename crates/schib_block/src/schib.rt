@@ -3,6 +3,7 @@
 ghost use Rattle.std.specs.Prelude.{◌≡◌, ◌↔◌, IsSome, IfSome};
 ghost use Rattle.zbits.specs.Layout.{image_of};
 
+use crate::SCHIB_BYTES;
 use crate::pmcw::Pmcw;
 use scsw_irb::scsw::Scsw;
 use zbits::{be_bytes, be_words};
@@ -19,7 +20,7 @@ impl Schib {
     ghost use Rattle.schib_block.specs.SchibTable.{IsSchib, ShowsSchib, schib_tables};
 
     /// The image of the block: what STORE SUBCHANNEL stores.
-    pub fn write(&self) -> [u8; 52]
+    pub fn write(&self) -> [u8; SCHIB_BYTES]
         ensures { result ≡ image_of (schib_tables self.now) }
     {
         let [parameter, controls, masks, block, front, back, last] = self.pmcw.words();
@@ -35,7 +36,7 @@ impl Schib {
     ///
     /// MODIFY SUBCHANNEL ignores the subchannel-status word: what it is given is read by
     /// `Pmcw::of_schib`, which refuses no image.
-    pub fn read(image: &[u8; 52]) -> Option<Schib>
+    pub fn read(image: &[u8; SCHIB_BYTES]) -> Option<Schib>
         ensures allowed { IsSome result ↔ IsSchib image.now }
         ensures found { IfSome result (λ schib. ShowsSchib image.now schib) }
     {

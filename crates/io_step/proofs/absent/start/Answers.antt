@@ -7,7 +7,7 @@ use Rattle.io_step.specs.Executing.{with_storage}
 use Rattle.io_step.proofs.Executions.{starts}
 use Rattle.io_step.proofs.absent.start.Goals as goal
 
-pub returns-in-Ok : goal.returns-in-Ok
-returns-in-Ok c = λ word s.
-    starts (with_storage s c.args.storage.now) None (operand_at c.args.storage.now c.args.cpu c.args.address 12 4) c.in-Ok.field-0
-    (does (reply.Code answer.Three) (with_storage s c.args.storage.now)) c.in-Ok.ensures refl
+pub returns : goal.returns
+returns c = λ word s.
+    starts (with_storage s c.args.storage.now) None (operand_at c.args.storage.now c.args.cpu c.args.address 12 4) c.in_ok-orb_at.field-0
+    (does (reply.Code answer.Three) (with_storage s c.args.storage.now)) c.in_ok-orb_at.ensures refl

@@ -1,14 +1,13 @@
-use Rattle.std.proofs.Common.{◌≡◌, ap, sym, ◌∙◌, refl, subst, ℕ, Result, Ok, Err, List}
+use Rattle.std.proofs.Common.{sym, refl, subst, ℕ, Result, Err, List}
 use Rattle.storage_keys.specs.declared.StorageFault.{StorageFault}
 use Rattle.storage_keys.specs.Storage.{operand_at}
 use Rattle.chan_model.specs.declared.fault.Fault.TheVariants as fault
 use Rattle.io_step.specs.Operands.{HasWord}
-use Rattle.io_step.proofs.Executions.{not-allowed}
+use Rattle.io_step.proofs.Executions.{not-allowed, permitted}
 use Rattle.io_step.proofs.operands.word_at.Goals as goal
 
 pub returns-else-is_allowed-clause-word : goal.returns-else-is_allowed-clause-word
 returns-else-is_allowed-clause-word c =
-    let fetched : operand_at c.args.storage.now c.args.cpu c.args.address 52 4 ≡ Ok c.in-Ok.image =
-    ap (λ (k : ℕ). operand_at c.args.storage.now k c.args.address 52 4) (sym c.number.ensures.value) ∙ (sym c.operand.ensures ∙ c.in-Ok.is) in
+    let fetched = permitted (operand_at c.args.storage.now c.args.cpu c.args.address 52 4) c.in_ok-image.image c.in_ok-image.ensures in
     subst (λ (x : Result (List ℕ) StorageFault). HasWord x (Err fault.Operand)) (sym fetched)
     (c.of_schib-given.result, c.of_schib-given.ensures.shown, not-allowed c.of_schib-given.result c.is_allowed.result c.if-is_allowed.false c.is_allowed.ensures.1, refl)

@@ -6,8 +6,8 @@ use Rattle.io_step.specs.Executing.{with_storage}
 use Rattle.io_step.proofs.Executions.{starts}
 use Rattle.io_step.proofs.provided.start.Goals as goal
 
-pub returns-in-Ok : goal.returns-in-Ok
-returns-in-Ok c = λ word s place there.
+pub returns : goal.returns
+returns c = λ word s place there.
     let now = with_storage s c.args.storage.now in
-    starts now (Some (record { place = place; sub = c.args.sub.now })) (operand_at c.args.storage.now c.args.cpu c.args.address 12 4) c.in-Ok.orb
-    (does c.start_sub.result (with_sub now place c.start_sub.new.sub)) c.in-Ok.ensures (sym (ap (at_place now place) c.start_sub.ensures))
+    starts now (Some (record { place = place; sub = c.args.sub.now })) (operand_at c.args.storage.now c.args.cpu c.args.address 12 4) c.in_ok-orb.orb
+    (does c.start_sub.result (with_sub now place c.start_sub.new.sub)) c.in_ok-orb.ensures (sym (ap (at_place now place) c.start_sub.ensures))

@@ -1,8 +1,7 @@
-use Rattle.std.proofs.Common.{sym, ◌∙◌}
 use Rattle.io_step.proofs.Executions.{stores-sub}
 use Rattle.io_step.proofs.provided.store.Goals as goal
 
 pub returns : goal.returns
 returns c = λ word s place there.
-    stores-sub s c.args.storage.now c.store_operand.new.self c.args.cpu c.number.result c.number-2.result c.args.address place c.args.sub.now c.schib_of.result c.write-image.result c.in_default.field-0
-    there c.number.ensures.value (sym c.check_operand.ensures.checked ∙ c.in_default.is) c.number-2.ensures.value c.schib_of.ensures c.write-image.ensures c.store_operand.ensures
+    stores-sub s c.args.storage.now c.store_operand.new.self c.args.cpu c.number.result c.args.address place c.args.sub.now c.schib_of.result c.write-image.result
+    c.in_ok-check_operand.field-0 there c.in_ok-check_operand.ensures.checked c.number.ensures.value c.schib_of.ensures c.write-image.ensures c.store_operand.ensures
