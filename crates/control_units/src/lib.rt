@@ -1,9 +1,9 @@
 //! Control units: which of the units that share one may be served (SA22-7832, chapter 13; the sharing is own).
 //!
-//! Used alone, this crate promises: a type that keeps the law of `ControlUnit` serves a unit where no other is begun, and
-//! says that a control-unit end is owed just where a unit was refused since the last was over. `Sharing` serves a unit
-//! exactly where no other of its group is begun. `Sharing::new` and `Sharing::new_with` alone take memory, and fail only
-//! for want of it, the latter only where its supply refused; nothing else refuses.
+//! Used alone, this crate promises: a type that keeps the law of `ControlUnit` serves a unit where no other is begun,
+//! and says that a control-unit end is owed just where a unit was refused since the last was over. `Sharing` serves a
+//! unit exactly where no other of its group is begun. `Sharing::new` and `Sharing::new_with` alone take memory, and
+//! fail only for want of it, the latter only where its supply refused; nothing else refuses.
 #![tactic(auto)]
 
 pub mod sharing;
@@ -40,8 +40,8 @@ pub trait ControlUnit {
     fn begin(&mut self, unit: u16)
         ensures { members self.new ≡ spec.begun (members self.old) «unit» };
 
-    /// The unit is over. Answers whether it owes a control-unit end: whether `may_serve` was false for some unit of its group
-    /// since the last time that one was over.
+    /// The unit is over. Answers whether it owes a control-unit end: whether `may_serve` was false for some unit of its
+    /// group since the last time that one was over.
     fn over(&mut self, unit: u16) -> bool
         ensures owed { result ≡ spec.is_owed (members self.old) «unit» }
         ensures over { members self.new ≡ spec.over (members self.old) «unit» };

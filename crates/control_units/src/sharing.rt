@@ -32,8 +32,8 @@ impl Sharing {
         Sharing::new_with(alloc, &mut Given { refused: false }, groups)
     }
 
-    /// Units of these groups, by their numbers, in what room a supply has; none is begun. Where the supply refuses a growth,
-    /// and only there, it is not made.
+    /// Units of these groups, by their numbers, in what room a supply has; none is begun. Where the supply refuses a
+    /// growth, and only there, it is not made.
     pub fn new_with<S: Supply>(
         alloc: Global,
         supply: &mut S,

@@ -44,9 +44,23 @@ impl Model for BlockStore {
 
     ghost Value = { Blocks };
 
-    ghost view = { λ d. record { blocks = d.blocks; current = d.current; sense = d.sense; at_hand = d.at_hand; moved = d.moved; number = d.number } };
+    ghost view = { λ d. record {
+      blocks = d.blocks;
+      current = d.current;
+      sense = d.sense;
+      at_hand = d.at_hand;
+      moved = d.moved;
+      number = d.number;
+    } };
 
-    ghost invariant = { λ d. IsStore (record { blocks = d.blocks; current = d.current; sense = d.sense; at_hand = d.at_hand; moved = d.moved; number = d.number }) };
+    ghost invariant = { λ d. IsStore (record {
+      blocks = d.blocks;
+      current = d.current;
+      sense = d.sense;
+      at_hand = d.at_hand;
+      moved = d.moved;
+      number = d.number;
+    }) };
 }
 
 impl BlockStore {

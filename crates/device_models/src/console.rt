@@ -37,7 +37,12 @@ impl Model for Console {
 
     ghost view = { λ c. record { line = c.line.items; sense = c.sense; at_hand = c.at_hand; given = c.given } };
 
-    ghost invariant = { λ c. IsConsole (record { line = c.line.items; sense = c.sense; at_hand = c.at_hand; given = c.given }) };
+    ghost invariant = { λ c. IsConsole (record {
+      line = c.line.items;
+      sense = c.sense;
+      at_hand = c.at_hand;
+      given = c.given;
+    }) };
 }
 
 impl Console {
@@ -95,8 +100,8 @@ impl Device for Console {
 
     ghost opening = { λ _. spec.opening };
 
-    /// Codes 01 (write), 0A (read), 03 (no operation) and 04 (sense) are begun. A write begins an empty line. Any other code
-    /// is rejected: the sense byte is 80 then.
+    /// Codes 01 (write), 0A (read), 03 (no operation) and 04 (sense) are begun. A write begins an empty line. Any other
+    /// code is rejected: the sense byte is 80 then.
     fn initial(&mut self, code: u8) -> DeviceStatus {
         self.at_hand = ConsoleCommand::of_code(code);
         self.given = 0;

@@ -1,5 +1,5 @@
-//! A device that gives channel end at once, and channel end with device end at last, as the law of devices lets it: what its
-//! unit shows of the second status.
+//! A device that gives channel end at once, and channel end with device end at last, as the law of devices lets it:
+//! what its unit shows of the second status.
 
 use ccw_codec::Class;
 use ccw_codec::command::class;

@@ -1,5 +1,5 @@
-//! The instructions that change what a subchannel does (SA22-7832, chapter 14): the condition code of each, and what it leaves
-//! of its subchannel. The request for an interruption is the caller's, and so are the operands.
+//! The instructions that change what a subchannel does (SA22-7832, chapter 14): the condition code of each, and what it
+//! leaves of its subchannel. The request for an interruption is the caller's, and so are the operands.
 #![tactic(auto)]
 
 ghost use Rattle.std.specs.Prelude.{◌≡◌, ◌<◌, ◌^◌, Some};

@@ -18,28 +18,32 @@ use storage_keys::Storage;
 use zbits::{be_bytes, be_words};
 
 fn start(storage: &Storage, cpu: Cpu, address: u32) -> Result<Reply, Fault>
-    ensures { (word : ℕ) → spec.Executed_absent storage.now cpu (instruction_spec.Ssch word address) result storage.now }
+    ensures { (word : ℕ) →
+        spec.Executed_absent storage.now cpu (instruction_spec.Ssch word address) result storage.now }
 {
     orb_at(storage, cpu, address)?;
     Ok(Reply::Code(Answer::Three))
 }
 
 fn test(storage: &Storage, cpu: Cpu, address: u32) -> Result<Reply, Fault>
-    ensures { (word : ℕ) → spec.Executed_absent storage.now cpu (instruction_spec.Tsch word address) result storage.now }
+    ensures { (word : ℕ) →
+        spec.Executed_absent storage.now cpu (instruction_spec.Tsch word address) result storage.now }
 {
     check_operand(storage, cpu, address, IRB_BYTES, WORD)?;
     Ok(Reply::Code(Answer::Three))
 }
 
 fn store(storage: &Storage, cpu: Cpu, address: u32) -> Result<Reply, Fault>
-    ensures { (word : ℕ) → spec.Executed_absent storage.now cpu (instruction_spec.Stsch word address) result storage.now }
+    ensures { (word : ℕ) →
+        spec.Executed_absent storage.now cpu (instruction_spec.Stsch word address) result storage.now }
 {
     check_operand(storage, cpu, address, SCHIB_BYTES, WORD)?;
     Ok(Reply::Code(Answer::Three))
 }
 
 fn modify(storage: &Storage, cpu: Cpu, address: u32) -> Result<Reply, Fault>
-    ensures { (word : ℕ) → spec.Executed_absent storage.now cpu (instruction_spec.Msch word address) result storage.now }
+    ensures { (word : ℕ) →
+        spec.Executed_absent storage.now cpu (instruction_spec.Msch word address) result storage.now }
 {
     word_at(storage, cpu, address)?;
     Ok(Reply::Code(Answer::Three))
@@ -47,7 +51,8 @@ fn modify(storage: &Storage, cpu: Cpu, address: u32) -> Result<Reply, Fault>
 
 /// The bits are placed in the block that stands there, where MODIFY SUBCHANNEL takes it.
 fn enable(storage: &mut Storage, cpu: Cpu, subclass: u8, multipath: bool) -> Result<Reply, Fault>
-    ensures { (word : ℕ) → spec.Executed_absent storage.old cpu (instruction_spec.Enable word subclass multipath) result storage.new }
+    ensures { (word : ℕ) →
+        spec.Executed_absent storage.old cpu (instruction_spec.Enable word subclass multipath) result storage.new }
 {
     check_operand(storage, cpu, ENABLE_BLOCK, SCHIB_BYTES, WORD)?;
     let image = operand::<SCHIB_BYTES>(storage, cpu, ENABLE_BLOCK)?;

@@ -13,8 +13,8 @@ use scsw_irb::crw::Crw;
 /// An I/O instruction that names no subchannel. Addresses are real.
 #[derive(Clone, Copy)]
 pub enum OtherInstruction {
-    /// TEST PENDING INTERRUPTION. `mask` is the byte of control register 6: hexadecimal 80 is subclass 0. With address 0 the
-    /// code is stored at 184.
+    /// TEST PENDING INTERRUPTION. `mask` is the byte of control register 6: hexadecimal 80 is subclass 0. With address
+    /// 0 the code is stored at 184.
     Tpi { mask: u8, address: u32 },
     /// RESET CHANNEL PATH. `path` is general register 1.
     Rchp { path: u32 },

@@ -59,7 +59,8 @@ pub fn orb_at(storage: &Storage, cpu: Cpu, address: u32) -> Result<Orb, Fault>
     Orb::read(&image).map_err(|_| Fault::Operand)
 }
 
-/// The path-management-control word of the subchannel-information block at a real address, where MODIFY SUBCHANNEL takes it.
+/// The path-management-control word of the subchannel-information block at a real address, where MODIFY SUBCHANNEL
+/// takes it.
 pub fn word_at(storage: &Storage, cpu: Cpu, address: u32) -> Result<Pmcw, Fault>
     ensures word { HasWord (operand_at storage.now cpu address 52 4) result }
     ensures allowed { IfOk result (λ given. IsAllowed given) }

@@ -16,13 +16,15 @@ use scsw_irb::crw::{CRW_BYTES, Crw};
 use storage_keys::Storage;
 use zbits::{be_bytes, field};
 
-/// The real address of the I/O-interruption code, where TEST PENDING INTERRUPTION stores it if its operand has address 0.
+/// The real address of the I/O-interruption code, where TEST PENDING INTERRUPTION stores it if its operand has address
+/// 0.
 const CODE: u32 = 184;
 
 /// How many bytes of the code are stored there: its three words.
 const LONG_CODE_BYTES: usize = 12;
 
-/// How many bytes of the code are stored at an operand: the subsystem-identification word and the interruption parameter.
+/// How many bytes of the code are stored at an operand: the subsystem-identification word and the interruption
+/// parameter.
 const SHORT_CODE_BYTES: usize = 8;
 
 /// How many bytes STORE CHANNEL PATH STATUS stores: one bit for each channel-path identifier.
@@ -61,9 +63,10 @@ fn store_code(storage: &mut Storage, cpu: Cpu, address: u32, code: IntCode)
     }
 }
 
-/// TEST PENDING INTERRUPTION with a mask of subclasses, the byte of control register 6: hexadecimal 80 is subclass 0. Two words
-/// at the address, which must be on a word boundary, or three at real 184 where it is 0, must be in storage even where nothing
-/// is stored. None, code 0, where no enabled request waits; otherwise the request is stored and taken out, code 1.
+/// TEST PENDING INTERRUPTION with a mask of subclasses, the byte of control register 6: hexadecimal 80 is subclass 0.
+/// Two words at the address, which must be on a word boundary, or three at real 184 where it is 0, must be in storage
+/// even where nothing is stored. None, code 0, where no enabled request waits; otherwise the request is stored and
+/// taken out, code 1.
 pub fn tpi(
     storage: &mut Storage,
     pending: &mut Pending,
@@ -71,7 +74,8 @@ pub fn tpi(
     mask: u8,
     address: u32,
 ) -> Result<Option<IntCode>, Fault>
-    ensures done { IfOk result (λ found. spec.tpi_turn storage.old pending.old cpu mask address ≡ Ok (record { found = found; storage = storage.new; requests = pending.new })) }
+    ensures done { IfOk result (λ found. spec.tpi_turn storage.old pending.old cpu mask address ≡
+        Ok (record { found = found; storage = storage.new; requests = pending.new })) }
     ensures refused { IfErr result (λ f. spec.tpi_turn storage.old pending.old cpu mask address ≡ Err f) }
     ensures storage_kept { OnErr result (storage.new ≡ storage.old) }
     ensures pending_kept { OnErr result (pending.new ≡ pending.old) }
@@ -93,15 +97,16 @@ fn report_word(report: Option<Crw>) -> u32
     }
 }
 
-/// STORE CHANNEL REPORT WORD at an address on a word boundary: the oldest report is taken out. None, code 1, where none waits,
-/// and then zero is stored.
+/// STORE CHANNEL REPORT WORD at an address on a word boundary: the oldest report is taken out. None, code 1, where none
+/// waits, and then zero is stored.
 pub fn stcrw(
     storage: &mut Storage,
     reports: &mut Reports,
     cpu: Cpu,
     address: u32,
 ) -> Result<Option<Crw>, Fault>
-    ensures done { IfOk result (λ report. spec.stcrw_turn storage.old reports.old cpu address ≡ Ok (record { report = report; storage = storage.new; reports = reports.new })) }
+    ensures done { IfOk result (λ report. spec.stcrw_turn storage.old reports.old cpu address ≡
+        Ok (record { report = report; storage = storage.new; reports = reports.new })) }
     ensures refused { IfErr result (λ f. spec.stcrw_turn storage.old reports.old cpu address ≡ Err f) }
     ensures storage_kept { OnErr result (storage.new ≡ storage.old) }
     ensures reports_kept { OnErr result (reports.new ≡ reports.old) }
@@ -113,10 +118,11 @@ pub fn stcrw(
     Ok(report)
 }
 
-/// RESET CHANNEL PATH of the path that the last byte of general register 1 names; its other bits must be zero. `up` has the
-/// channel paths that are configured and not down.
+/// RESET CHANNEL PATH of the path that the last byte of general register 1 names; its other bits must be zero. `up` has
+/// the channel paths that are configured and not down.
 pub fn rchp(reports: &mut Reports, up: &PathTable, path: u32) -> Result<ConditionCode, Fault>
-    ensures done { IfOk result (λ code. spec.rchp_turn reports.old up.now path ≡ Ok (record { code = code; reports = reports.new })) }
+    ensures done { IfOk result (λ code. spec.rchp_turn reports.old up.now path ≡
+        Ok (record { code = code; reports = reports.new })) }
     ensures refused { IfErr result (λ f. spec.rchp_turn reports.old up.now path ≡ Err f) }
     ensures kept { OnErr result (reports.new ≡ reports.old) }
 {

@@ -69,7 +69,8 @@ pub fn perform_other(
     cpu: Cpu,
     instruction: OtherInstruction,
 ) -> Result<Done, Fault>
-    ensures { (sub : Option Subchannel) → spec.Performed_other (spec.lent storage.old sub pending.old reports.old) paths.now cpu instruction result (spec.lent storage.new sub pending.new reports.new) }
+    ensures { (sub : Option Subchannel) → spec.Performed_other (spec.lent storage.old sub pending.old reports.old)
+        paths.now cpu instruction result (spec.lent storage.new sub pending.new reports.new) }
 {
     match instruction {
         OtherInstruction::Tpi { mask, address } => {
@@ -91,7 +92,8 @@ pub fn perform_other(
     }
 }
 
-/// Performs an I/O instruction; the subchannel that it names, where it names one, is provided. A refusal changes nothing.
+/// Performs an I/O instruction; the subchannel that it names, where it names one, is provided. A refusal changes
+/// nothing.
 pub fn perform_provided(
     storage: &mut Storage,
     sub: &mut Subchannel,
@@ -102,7 +104,8 @@ pub fn perform_provided(
     instruction: IoInstruction,
 ) -> Result<Done, Fault>
     requires { IsRoomy sub.old }
-    ensures { spec.Performed (spec.lent storage.old (Some sub.old) pending.old reports.old) paths.now cpu instruction result (spec.lent storage.new (Some sub.new) pending.new reports.new) }
+    ensures { spec.Performed (spec.lent storage.old (Some sub.old) pending.old reports.old) paths.now cpu instruction
+        result (spec.lent storage.new (Some sub.new) pending.new reports.new) }
 {
     match instruction {
         IoInstruction::Subchannel(instruction) => {
@@ -115,7 +118,8 @@ pub fn perform_provided(
     }
 }
 
-/// Performs an I/O instruction; the subchannel that it names, where it names one, is not provided. A refusal changes nothing.
+/// Performs an I/O instruction; the subchannel that it names, where it names one, is not provided. A refusal changes
+/// nothing.
 pub fn perform_absent(
     storage: &mut Storage,
     pending: &mut Pending,
@@ -124,7 +128,8 @@ pub fn perform_absent(
     cpu: Cpu,
     instruction: IoInstruction,
 ) -> Result<Done, Fault>
-    ensures { spec.Performed (spec.lent storage.old None pending.old reports.old) paths.now cpu instruction result (spec.lent storage.new None pending.new reports.new) }
+    ensures { spec.Performed (spec.lent storage.old None pending.old reports.old) paths.now cpu instruction
+        result (spec.lent storage.new None pending.new reports.new) }
 {
     match instruction {
         IoInstruction::Subchannel(instruction) => {
@@ -137,8 +142,8 @@ pub fn perform_absent(
     }
 }
 
-/// Performs an I/O instruction; the subchannel that it names, where it names one, is `sub`, or is not provided. A refusal
-/// changes nothing.
+/// Performs an I/O instruction; the subchannel that it names, where it names one, is `sub`, or is not provided. A
+/// refusal changes nothing.
 pub fn perform(
     storage: &mut Storage,
     sub: Option<&mut Subchannel>,
@@ -149,7 +154,8 @@ pub fn perform(
     instruction: IoInstruction,
 ) -> Result<Done, Fault>
     requires { IfSome (spec.sub_lent sub) (λ s. IsRoomy s) }
-    ensures { spec.Performed (spec.lent storage.old (spec.sub_lent sub.entry) pending.old reports.old) paths.now cpu instruction result (spec.lent storage.new (spec.sub_left sub.exit) pending.new reports.new) }
+    ensures { spec.Performed (spec.lent storage.old (spec.sub_lent sub.entry) pending.old reports.old)
+        paths.now cpu instruction result (spec.lent storage.new (spec.sub_left sub.exit) pending.new reports.new) }
 {
     match sub {
         Some(sub) => perform_provided(storage, sub, pending, reports, paths, cpu, instruction),

@@ -26,7 +26,8 @@ use subchannel_model::state::Subchannel;
 
 fn start(storage: &Storage, sub: &mut Subchannel, cpu: Cpu, address: u32) -> Result<Reply, Fault>
     requires { IsRoomy sub.old }
-    ensures { (word : ℕ) → spec.Executed storage.now sub.old cpu (instruction_spec.Ssch word address) result storage.now sub.new }
+    ensures { (word : ℕ) →
+        spec.Executed storage.now sub.old cpu (instruction_spec.Ssch word address) result storage.now sub.new }
 {
     let orb = orb_at(storage, cpu, address)?;
     Ok(start_sub(sub, orb))
@@ -35,7 +36,9 @@ fn start(storage: &Storage, sub: &mut Subchannel, cpu: Cpu, address: u32) -> Res
 /// The interruption-response block is stored where TEST SUBCHANNEL stores one.
 fn store_irb(storage: &mut Storage, sub: &Subchannel, cpu: Cpu, address: u32)
     requires inside { address + 64 ≤ length storage.old.bytes }
-    ensures { (s : State) → spec.with_storage s storage.new ≡ steps.with_irb (spec.with_storage s storage.old) cpu address sub.now (steps.stores_irb (steps.code_at tsch_code sub.now)) }
+    ensures { (s : State) → spec.with_storage s storage.new ≡
+        steps.with_irb (spec.with_storage s storage.old) cpu address sub.now
+        (steps.stores_irb (steps.code_at tsch_code sub.now)) }
 {
     if stores_irb(test_code_of(sub)) {
         let image = irb_of(&sub.state).write();
@@ -44,7 +47,8 @@ fn store_irb(storage: &mut Storage, sub: &Subchannel, cpu: Cpu, address: u32)
 }
 
 fn test(storage: &mut Storage, sub: &mut Subchannel, cpu: Cpu, address: u32) -> Result<Reply, Fault>
-    ensures { (word : ℕ) → spec.Executed storage.old sub.old cpu (instruction_spec.Tsch word address) result storage.new sub.new }
+    ensures { (word : ℕ) →
+        spec.Executed storage.old sub.old cpu (instruction_spec.Tsch word address) result storage.new sub.new }
 {
     check_operand(storage, cpu, address, IRB_BYTES, WORD)?;
     store_irb(storage, sub, cpu, address);
@@ -52,7 +56,8 @@ fn test(storage: &mut Storage, sub: &mut Subchannel, cpu: Cpu, address: u32) -> 
 }
 
 fn store(storage: &mut Storage, sub: &Subchannel, cpu: Cpu, address: u32) -> Result<Reply, Fault>
-    ensures { (word : ℕ) → spec.Executed storage.old sub.now cpu (instruction_spec.Stsch word address) result storage.new sub.now }
+    ensures { (word : ℕ) →
+        spec.Executed storage.old sub.now cpu (instruction_spec.Stsch word address) result storage.new sub.now }
 {
     check_operand(storage, cpu, address, SCHIB_BYTES, WORD)?;
     let image = schib_of(sub).write();
@@ -64,7 +69,8 @@ fn store(storage: &mut Storage, sub: &Subchannel, cpu: Cpu, address: u32) -> Res
 }
 
 fn modify(storage: &Storage, sub: &mut Subchannel, cpu: Cpu, address: u32) -> Result<Reply, Fault>
-    ensures { (word : ℕ) → spec.Executed storage.now sub.old cpu (instruction_spec.Msch word address) result storage.now sub.new }
+    ensures { (word : ℕ) →
+        spec.Executed storage.now sub.old cpu (instruction_spec.Msch word address) result storage.now sub.new }
 {
     let given = word_at(storage, cpu, address)?;
     Ok(modify_sub(sub, &given))
@@ -77,7 +83,8 @@ fn enable(
     subclass: u8,
     multipath: bool,
 ) -> Result<Reply, Fault>
-    ensures { (word : ℕ) → spec.Executed storage.old sub.old cpu (instruction_spec.Enable word subclass multipath) result storage.new sub.new }
+    ensures { (word : ℕ) → spec.Executed storage.old sub.old cpu (instruction_spec.Enable word subclass multipath)
+        result storage.new sub.new }
 {
     check_operand(storage, cpu, ENABLE_BLOCK, SCHIB_BYTES, WORD)?;
     let schib = enabling_schib(sub, subclass, multipath);
@@ -85,9 +92,9 @@ fn enable(
     Ok(modify_sub(sub, &schib.pmcw))
 }
 
-/// Executes an instruction on a subchannel that is provided: what it answers, and what is left of storage and of the subchannel,
-/// is what the machine's definitions give for every machine that has both. A refusal changes nothing. That general register 1
-/// names this subchannel is the caller's test, and so are the interruption requests.
+/// Executes an instruction on a subchannel that is provided: what it answers, and what is left of storage and of the
+/// subchannel, is what the machine's definitions give for every machine that has both. A refusal changes nothing. That
+/// general register 1 names this subchannel is the caller's test, and so are the interruption requests.
 pub fn execute(
     storage: &mut Storage,
     sub: &mut Subchannel,

@@ -27,7 +27,8 @@ use subchannel_model::state::{Subchannel, SubchannelState};
 /// START SUBCHANNEL with an allowed ORB.
 pub fn start_sub(sub: &mut Subchannel, orb: Orb) -> Reply
     requires { IsRoomy sub.old }
-    ensures { spec.function_sub sub.old (spec.code_at ssch_code sub.old) (started sub.old.state orb) ≡ turn_spec.leaves result sub.new }
+    ensures { spec.function_sub sub.old (spec.code_at ssch_code sub.old) (started sub.old.state orb) ≡
+        turn_spec.leaves result sub.new }
 {
     let code = ssch(&mut sub.state, orb);
     Reply::Code(Answer::of(code, sub.state.serials))
@@ -85,7 +86,8 @@ pub fn modify_sub(sub: &mut Subchannel, given: &Pmcw) -> Reply
 
 /// RESUME SUBCHANNEL.
 pub fn resume_sub(sub: &mut Subchannel) -> Reply
-    ensures { spec.function_sub sub.old (spec.code_at rsch_code sub.old) (resumed sub.old.state) ≡ turn_spec.leaves result sub.new }
+    ensures { spec.function_sub sub.old (spec.code_at rsch_code sub.old) (resumed sub.old.state) ≡
+        turn_spec.leaves result sub.new }
 {
     let code = rsch(&mut sub.state);
     Reply::Code(Answer::of(code, sub.state.serials))
@@ -93,7 +95,8 @@ pub fn resume_sub(sub: &mut Subchannel) -> Reply
 
 /// HALT SUBCHANNEL.
 pub fn halt_sub(sub: &mut Subchannel) -> Reply
-    ensures { spec.function_sub sub.old (spec.code_at hsch_code sub.old) (halted sub.old.state) ≡ turn_spec.leaves result sub.new }
+    ensures { spec.function_sub sub.old (spec.code_at hsch_code sub.old) (halted sub.old.state) ≡
+        turn_spec.leaves result sub.new }
 {
     let code = hsch(&mut sub.state);
     Reply::Code(Answer::of(code, sub.state.serials))
@@ -102,7 +105,8 @@ pub fn halt_sub(sub: &mut Subchannel) -> Reply
 /// CLEAR SUBCHANNEL.
 pub fn clear_sub(sub: &mut Subchannel) -> Reply
     requires { IsRoomy sub.old }
-    ensures { spec.function_sub sub.old (spec.code_at csch_code sub.old) (cleared sub.old.state) ≡ turn_spec.leaves result sub.new }
+    ensures { spec.function_sub sub.old (spec.code_at csch_code sub.old) (cleared sub.old.state) ≡
+        turn_spec.leaves result sub.new }
 {
     let code = csch(&mut sub.state);
     Reply::Code(Answer::of(code, sub.state.serials))
@@ -110,7 +114,8 @@ pub fn clear_sub(sub: &mut Subchannel) -> Reply
 
 /// CANCEL SUBCHANNEL.
 pub fn cancel_sub(sub: &mut Subchannel) -> Reply
-    ensures { spec.function_sub sub.old (spec.code_at xsch_code sub.old) (cancelled sub.old.state) ≡ turn_spec.leaves result sub.new }
+    ensures { spec.function_sub sub.old (spec.code_at xsch_code sub.old) (cancelled sub.old.state) ≡
+        turn_spec.leaves result sub.new }
 {
     let code = xsch(&mut sub.state);
     Reply::Code(Answer::of(code, sub.state.serials))

@@ -5,6 +5,7 @@ ghost use Rattle.subchannel_model.specs.declared.state.Subchannel.{Subchannel};
 ghost use Rattle.machine_model.specs.State as state_spec;
 ghost use Rattle.machine_model.specs.Ruled.{GoesByRule};
 ghost use Rattle.machine_model.specs.InstructionSteps as instruction_steps;
+ghost use Rattle.machine_steps.specs.Acting.{ActsAt, IsFit, StandsAt};
 ghost use Rattle.machine_steps.specs.Giving as giving_spec;
 ghost use Rattle.machine_model.specs.StorageSteps as storage_spec;
 ghost use Rattle.machine_model.specs.Steps as spec;
@@ -12,7 +13,8 @@ ghost use Rattle.machine_model.specs.Bounds.{IsRoomy, IsUnitRoomy};
 ghost use Rattle.chan_events.specs.declared.event.Event.TheVariants as event_spec;
 ghost use Rattle.finding.specs.Tables.{Fits};
 
-use crate::turns::{choose_sub, down_sub, report_sub, up_sub};
+use crate::acting::{Act, perform_act};
+use crate::turns::{down_sub, report_sub};
 use crate::unit_turns::turn_of_unit;
 use chan_events::event::{Event, Instruction};
 use chan_events::reply::Reply;
@@ -23,7 +25,7 @@ use chan_model::report::Report;
 use channel_config::names::subchannel_named;
 use finding::engines::{Counted, Engines, engaged};
 use finding::tables::Places;
-use io_step::{execute, execute_absent};
+use io_step::execute_absent;
 use machine_model::state::UnitTurn;
 use path_select::PathChoice;
 use scsw_irb::serials::Serials;
@@ -145,6 +147,21 @@ impl Machine {
         })
     }
 
+    /// Does what an event does at the subchannel of a place, and counts anew the engine that it engages after it.
+    fn at_place(&mut self, place: usize, act: Act) -> Result<Reply, Fault>
+        requires place { place < length self.old.subs }
+        requires roomy { All IsRoomy self.old.subs }
+        requires fits { (sub : Subchannel) → StandsAt self.old.subs place sub → IsFit act sub }
+        ensures { ActsAt self.old place act result self.new }
+    {
+        let sub = &mut self.subs[place];
+        let before = engaged(sub);
+        let answer = perform_act(&mut self.storage, sub, act);
+        let after = engaged(sub);
+        self.engines.change(before, after);
+        answer
+    }
+
     fn execute(
         &mut self,
         places: &Places,
@@ -161,12 +178,7 @@ impl Machine {
         let Some(place) = places.place_in(id, self.subs.as_slice()) else {
             return execute_absent(&mut self.storage, cpu, instruction);
         };
-        let sub = &mut self.subs[place];
-        let before = engaged(sub);
-        let answer = execute(&mut self.storage, sub, cpu, instruction);
-        let after = engaged(sub);
-        self.engines.change(before, after);
-        answer
+        self.at_place(place, Act::Execute { cpu, instruction })
     }
 
     fn choose<P: PathChoice>(
@@ -184,15 +196,11 @@ impl Machine {
             return Err(Fault::NoSuchSubchannel);
         };
         let counted = Counted::of(self.subs.as_slice(), &self.engines);
-        let paths = paths_to_choose(&counted, &self.subs[place]);
-        let sub = &mut self.subs[place];
+        let sub = &self.subs[place];
+        let paths = paths_to_choose(&counted, sub);
         let path = choice.choose(&paths, sub.state.last_path);
-        let what = chosen(sub, path);
-        let before = engaged(sub);
-        let answer = choose_sub(sub, what);
-        let after = engaged(sub);
-        self.engines.change(before, after);
-        answer
+        let chosen = chosen(sub, path);
+        self.at_place(place, Act::Choose { chosen })
     }
 
     fn up(&mut self, places: &Places, word: u32, path: u32) -> Result<Reply, Fault>
@@ -203,12 +211,7 @@ impl Machine {
         let Some(place) = self.place_of(places, word) else {
             return Err(Fault::NoSuchSubchannel);
         };
-        let sub = &mut self.subs[place];
-        let before = engaged(sub);
-        let answer = up_sub(&mut self.storage, sub, path);
-        let after = engaged(sub);
-        self.engines.change(before, after);
-        answer
+        self.at_place(place, Act::TakeUp { path })
     }
 
     fn down(&mut self, places: &Places, word: u32, path: u32) -> Result<Reply, Fault>

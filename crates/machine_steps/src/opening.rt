@@ -110,7 +110,8 @@ fn idle_units<S: Supply>(
     Ok(units)
 }
 
-/// The machine of a configuration, with the places of its subchannels. It is refused only where the supply refuses a growth.
+/// The machine of a configuration, with the places of its subchannels. It is refused only where the supply refuses a
+/// growth.
 pub fn opened_machine<S: Supply>(
     alloc: Global,
     supply: &mut S,

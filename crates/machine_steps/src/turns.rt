@@ -1,6 +1,6 @@
 //! What an event does at one subchannel.
 
-ghost use Rattle.std.specs.Prelude.{◌≡◌, ◌<◌, true, false, length};
+ghost use Rattle.std.specs.Prelude.{◌≡◌, ◌<◌, true, false, length, Option};
 ghost use Rattle.machine_steps.specs.Giving as giving_spec;
 ghost use Rattle.machine_model.specs.ChooseSteps as choose_spec;
 ghost use Rattle.subchannel_model.specs.Sending as sending_spec;
@@ -13,6 +13,7 @@ ghost use Rattle.subchannel_model.specs.declared.state.Chosen.TheVariants as cho
 ghost use Rattle.machine_model.specs.Bounds.{IsRoomy, IsUnitRoomy};
 ghost use Rattle.chan_model.specs.UnitReports as reports_spec;
 ghost use Rattle.chan_model.specs.UnitTable as unit_spec;
+ghost use Rattle.chan_model.specs.UnitTable.{UnitStep};
 ghost use Rattle.wires.specs.Queues.{queue};
 ghost use Rattle.finding.specs.Tables.{engaged};
 
@@ -33,7 +34,8 @@ use wires::Wires;
 
 /// The Reset that is due is sent on a path.
 fn reset_sub(sub: &mut Subchannel, number: u64, path: Path) -> Result<Reply, Fault>
-    ensures { giving_spec.GivesSub sub.old (choose_spec.choose_sub sub.old (chosen_spec.Resets number path)) result sub.new }
+    ensures { giving_spec.GivesSub sub.old (choose_spec.choose_sub sub.old (chosen_spec.Resets number path))
+        result sub.new }
 {
     if sub.wires.down_is_full(path) {
         return Err(Fault::WireFull);
@@ -49,7 +51,8 @@ fn reset_sub(sub: &mut Subchannel, number: u64, path: Path) -> Result<Reply, Fau
 
 /// A Halt is sent on a path.
 fn halt_on(sub: &mut Subchannel, number: u64, path: Path) -> Result<Reply, Fault>
-    ensures { giving_spec.GivesSub sub.old (choose_spec.choose_sub sub.old (chosen_spec.Halts number path)) result sub.new }
+    ensures { giving_spec.GivesSub sub.old (choose_spec.choose_sub sub.old (chosen_spec.Halts number path))
+        result sub.new }
 {
     if sub.wires.down_is_full(path) {
         return Err(Fault::WireFull);
@@ -63,7 +66,8 @@ fn halt_on(sub: &mut Subchannel, number: u64, path: Path) -> Result<Reply, Fault
 fn offer_sub(sub: &mut Subchannel, candidate: Candidate, path: Path) -> Result<Reply, Fault>
     requires roomy { IsRoomy sub.old }
     requires free { choosing_spec.IsFitFor (chosen_spec.Offers candidate path) sub.old.state.hold }
-    ensures { giving_spec.GivesSub sub.old (choose_spec.choose_sub sub.old (chosen_spec.Offers candidate path)) result sub.new }
+    ensures { giving_spec.GivesSub sub.old (choose_spec.choose_sub sub.old (chosen_spec.Offers candidate path))
+        result sub.new }
 {
     if sub.wires.down_is_full(path) {
         return Err(Fault::WireFull);
@@ -115,8 +119,10 @@ fn finds_down_full(wires: &Wires, path: Path) -> bool
 #[tactic(auto, using(crate::proofs::Answered::finds_none, crate::proofs::Answered::finds_some, crate::proofs::Answered::room_none, crate::proofs::Answered::room_some))]
 fn up_finds_full(storage: &Storage, sub: &Subchannel, path: Path, signal: &Up) -> bool
     requires { IsBelow sub.now.state.begun }
-    ensures full { result ≡ sending_spec.finds_full sub.now.wires.down (takes_up false storage.now sub.now.state path signal.now).step.came.sent }
-    ensures room { giving_spec.HasRoom sub.now.wires.down (takes_up false storage.now sub.now.state path signal.now).step.came.sent result }
+    ensures full { result ≡ sending_spec.finds_full sub.now.wires.down
+        (takes_up false storage.now sub.now.state path signal.now).step.came.sent }
+    ensures room { giving_spec.HasRoom sub.now.wires.down
+        (takes_up false storage.now sub.now.state path signal.now).step.came.sent result }
 {
     match answer_path(storage, &sub.state, path, signal, false) {
         None => false,
@@ -144,11 +150,12 @@ fn path_of(sub: &Subchannel, path: u32) -> Option<Path>
     }
 }
 
-/// The subchannel takes the signal that waits longest on the wire up of a path, once it is known that what comes of it finds
-/// room.
+/// The subchannel takes the signal that waits longest on the wire up of a path, once it is known that what comes of it
+/// finds room.
 pub fn up_sub(storage: &mut Storage, sub: &mut Subchannel, path: u32) -> Result<Reply, Fault>
     requires { IsRoomy sub.old }
-    ensures { giving_spec.GivesStorage storage.old sub.old (up_spec.up_sub false storage.old sub.old path) result storage.new sub.new }
+    ensures { giving_spec.GivesStorage storage.old sub.old (up_spec.up_sub false storage.old sub.old path)
+        result storage.new sub.new }
 {
     let Some(path) = path_of(sub, path) else {
         return Err(Fault::NoSuchPath);
@@ -171,8 +178,10 @@ pub fn up_sub(storage: &mut Storage, sub: &mut Subchannel, path: u32) -> Result<
 
 /// Whether the answer of a unit to a signal finds its wire full.
 fn answer_finds_full(wires: &Wires, unit: &Unit, side: Side, path: Path, signal: &Down) -> bool
-    ensures full { result ≡ sending_spec.finds_full wires.now.up (unit_spec.came_of (unit_spec.unit_takes «unit».now side path signal.now true)).sent }
-    ensures room { giving_spec.HasRoom wires.now.up (unit_spec.came_of (unit_spec.unit_takes «unit».now side path signal.now true)).sent result }
+    ensures full { result ≡ sending_spec.finds_full wires.now.up
+        (unit_spec.came_of (unit_spec.unit_takes «unit».now side path signal.now true)).sent }
+    ensures room { giving_spec.HasRoom wires.now.up
+        (unit_spec.came_of (unit_spec.unit_takes «unit».now side path signal.now true)).sent result }
 {
     unit.answers(side, signal) && wires.up_is_full(path)
 }
@@ -189,7 +198,8 @@ fn send_any_up(wires: &mut Wires, sent: &Option<OnPath<Up>>)
 /// The unit takes the signal that waits longest on the wire down of a path.
 pub fn down_sub(sub: &mut Subchannel, unit: &mut Unit, path: u32) -> Result<Reply, Fault>
     ensures engaged { engaged sub.new ≡ engaged sub.old }
-    ensures gives { giving_spec.GivesBoth sub.old «unit».old (down_spec.down_sub true sub.old path «unit».old) result sub.new «unit».new }
+    ensures gives { giving_spec.GivesBoth sub.old «unit».old (down_spec.down_sub true sub.old path «unit».old)
+        result sub.new «unit».new }
 {
     let Some(path) = path_of(sub, path) else {
         return Err(Fault::NoSuchPath);
@@ -218,13 +228,15 @@ fn finds_up_full(wires: &Wires, path: Path) -> bool
     wires.up_is_full(path)
 }
 
-/// Whether what comes of a report finds its wire full.
-fn report_finds_full(wires: &Wires, unit: &Unit, report: &Report) -> bool
-    ensures full { result ≡ sending_spec.finds_full wires.now.up (unit_spec.came_of (reports_spec.unit_reports «unit».now report.now)).sent }
-    ensures room { giving_spec.HasRoom wires.now.up (unit_spec.came_of (reports_spec.unit_reports «unit».now report.now)).sent result }
+/// Whether what comes of a report, whose path is this, finds its wire full.
+fn report_finds_full(wires: &Wires, path: &ReportPath) -> bool
+    ensures full { (step : Option UnitStep) → reports_spec.report_path step ≡ path.now →
+        result ≡ sending_spec.finds_full wires.now.up (unit_spec.came_of step).sent }
+    ensures room { (step : Option UnitStep) → reports_spec.report_path step ≡ path.now →
+        giving_spec.HasRoom wires.now.up (unit_spec.came_of step).sent result }
 {
-    match unit.report_path(report) {
-        ReportPath::SentOn(path) => finds_up_full(wires, path),
+    match path {
+        ReportPath::SentOn(path) => finds_up_full(wires, *path),
         ReportPath::Refused | ReportPath::NothingSent => false,
     }
 }
@@ -233,12 +245,14 @@ fn report_finds_full(wires: &Wires, unit: &Unit, report: &Report) -> bool
 pub fn report_sub(sub: &mut Subchannel, unit: &mut Unit, report: &Report) -> Result<Reply, Fault>
     requires { IsUnitRoomy «unit».old }
     ensures engaged { engaged sub.new ≡ engaged sub.old }
-    ensures gives { giving_spec.GivesBoth sub.old «unit».old (report_spec.report_sub sub.old «unit».old report.now) result sub.new «unit».new }
+    ensures gives { giving_spec.GivesBoth sub.old «unit».old (report_spec.report_sub sub.old «unit».old report.now)
+        result sub.new «unit».new }
 {
-    if let ReportPath::Refused = unit.report_path(report) {
+    let path = unit.report_path(report);
+    if let ReportPath::Refused = path {
         return Err(Fault::NotNow);
     }
-    if report_finds_full(&sub.wires, unit, report) {
+    if report_finds_full(&sub.wires, &path) {
         return Err(Fault::WireFull);
     }
     let Taken { sent, .. } = unit.report(report);

@@ -57,7 +57,8 @@ fn reached_sub<'a>(
     subs: &'a [Subchannel],
 ) -> Option<&'a Subchannel>
     requires { Fits places.now subs.now }
-    ensures { MatchOption result (place_spec.reached_sub «unit» side subs.now ≡ None) (λ sub. place_spec.reached_sub «unit» side subs.now ≡ Some sub.now) }
+    ensures { MatchOption result (place_spec.reached_sub «unit» side subs.now ≡ None)
+        (λ sub. place_spec.reached_sub «unit» side subs.now ≡ Some sub.now) }
 {
     let place = places.reached_in(unit, side, subs)?;
     subs.get(place)
@@ -122,8 +123,8 @@ fn turn_of_own(places: &Places, unit: usize, own: Own, subs: &[Subchannel]) -> U
     }
 }
 
-/// What a unit is to do next: it takes the signal that waits, of its first side before its second; else does what its program
-/// asks for; else its program may ask for a path.
+/// What a unit is to do next: it takes the signal that waits, of its first side before its second; else does what its
+/// program asks for; else its program may ask for a path.
 pub fn turn_of_unit(places: &Places, number: usize, unit: &Unit, subs: &[Subchannel]) -> UnitTurn
     requires { Fits places.now subs.now }
     ensures { (s : State) → s.subs ≡ subs.now → state_spec.turn_of_unit s number (Some «unit».now) ≡ Some result }

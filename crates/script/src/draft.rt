@@ -48,7 +48,8 @@ fn hear<S: Supply>(
     number: u64,
     said: Said,
 ) -> Result<(), LineFault>
-    ensures ok { OnOk result ((spec.broken_by (context draft.old) (Ok said) ≡ None) × Hears draft.old number (Ok said) draft.new) }
+    ensures ok { OnOk result ((spec.broken_by (context draft.old) (Ok said) ≡ None) ×
+        Hears draft.old number (Ok said) draft.new) }
     ensures err { IfErr result (λ f. BreaksRule f (spec.broken_by (context draft.old) (Ok said))) }
     ensures given { OnOk result (S.refused supply.new ≡ S.refused supply.old) }
     ensures memory { result ≡ Err LineFault.NoMemory → S.refused supply.new ≡ true }
@@ -90,7 +91,8 @@ fn take_line<S: Supply>(
     number: u64,
     line: &[u8],
 ) -> Result<(), LineFault>
-    ensures ok { OnOk result ((spec.fault (context draft.old) line.now ≡ None) × IsNext draft.old number line.now draft.new) }
+    ensures ok { OnOk result ((spec.fault (context draft.old) line.now ≡ None) ×
+        IsNext draft.old number line.now draft.new) }
     ensures err { IfErr result (λ f. BreaksRule f (spec.fault (context draft.old) line.now)) }
     ensures given { OnOk result (S.refused supply.new ≡ S.refused supply.old) }
     ensures memory { result ≡ Err LineFault.NoMemory → S.refused supply.new ≡ true }

@@ -68,9 +68,10 @@ impl Script {
     /// The script that a text is, else the first line that breaks a rule and the first rule that it breaks. There is no
     /// memory only where the supply refused a growth.
     ///
-    /// Rule 1: the first word is unknown. 2: a wrong number of words. 3: a bad number or other word, or a line of more than
-    /// 1,024 bytes or not of UTF-8. 4: a configuration line after an action. 5: a rule of configurations is broken. 6, before
-    /// all others of its line: the first line with words is no `storage` line; line 1 where no line has words.
+    /// Rule 1: the first word is unknown. 2: a wrong number of words. 3: a bad number or other word, or a line of more
+    /// than 1,024 bytes or not of UTF-8. 4: a configuration line after an action. 5: a rule of configurations is
+    /// broken. 6, before all others of its line: the first line with words is no `storage` line; line 1 where no line
+    /// has words.
     pub fn read_with<S: Supply>(
         alloc: Global,
         supply: &mut S,

@@ -27,7 +27,8 @@ pub enum Said {
 
 /// What the words of a line say: by the first of them.
 fn words_say<S: Supply>(alloc: Global, supply: &mut S, words: &[&[u8]]) -> Result<Said, LineFault>
-    ensures says { MatchResult result (λ s. spec.words_say (map (λ w. w.now) words.now) ≡ Ok s) (λ f. FaultOf f (spec.words_say (map (λ w. w.now) words.now))) }
+    ensures says { MatchResult result (λ s. spec.words_say (map (λ w. w.now) words.now) ≡ Ok s)
+        (λ f. FaultOf f (spec.words_say (map (λ w. w.now) words.now))) }
     ensures given { OnOk result (S.refused supply.new ≡ S.refused supply.old) }
     ensures memory { result ≡ Err LineFault.NoMemory → S.refused supply.new ≡ true }
 {

@@ -83,7 +83,8 @@ fn unit_row(words: &[&[u8]]) -> Result<Setting, u8>
 }
 
 fn sub_row<S: Supply>(alloc: Global, supply: &mut S, words: &[&[u8]]) -> Result<Setting, LineFault>
-    ensures says { MatchResult result (λ s. spec.sub_row (map (λ w. w.now) words.now) ≡ Ok s) (λ f. FaultOf f (spec.sub_row (map (λ w. w.now) words.now))) }
+    ensures says { MatchResult result (λ s. spec.sub_row (map (λ w. w.now) words.now) ≡ Ok s)
+        (λ f. FaultOf f (spec.sub_row (map (λ w. w.now) words.now))) }
     ensures given { OnOk result (S.refused supply.new ≡ S.refused supply.old) }
     ensures memory { result ≡ Err LineFault.NoMemory → S.refused supply.new ≡ true }
 {
@@ -124,8 +125,10 @@ pub fn setting_row<S: Supply>(
     word: &[u8],
     words: &[&[u8]],
 ) -> Option<Result<Setting, LineFault>>
-    ensures says { MatchOption result (spec.setting_row word.now (map (λ w. w.now) words.now) ≡ None) (λ s. Says s (spec.setting_row word.now (map (λ w. w.now) words.now))) }
-    ensures given { MatchOption result (S.refused supply.new ≡ S.refused supply.old) (λ s. OnOk s (S.refused supply.new ≡ S.refused supply.old)) }
+    ensures says { MatchOption result (spec.setting_row word.now (map (λ w. w.now) words.now) ≡ None)
+        (λ s. Says s (spec.setting_row word.now (map (λ w. w.now) words.now))) }
+    ensures given { MatchOption result (S.refused supply.new ≡ S.refused supply.old)
+        (λ s. OnOk s (S.refused supply.new ≡ S.refused supply.old)) }
     ensures memory { IfSome result (λ s. s ≡ Err LineFault.NoMemory → S.refused supply.new ≡ true) }
 {
     if word == b"storage".as_slice() {

@@ -127,7 +127,8 @@ pub(crate) fn numbers_of<S: Supply>(
     supply: &mut S,
     words: &[&[u8]],
 ) -> Result<Numbers, LineFault>
-    ensures says { MatchResult result (λ ns. spec.numbers_of (map (λ w. w.now) words.now) ≡ Some ns) (λ f. FaultOf f (spec.or_rule_3 (spec.numbers_of (map (λ w. w.now) words.now)))) }
+    ensures says { MatchResult result (λ ns. spec.numbers_of (map (λ w. w.now) words.now) ≡ Some ns)
+        (λ f. FaultOf f (spec.or_rule_3 (spec.numbers_of (map (λ w. w.now) words.now)))) }
     ensures given { OnOk result (S.refused supply.new ≡ S.refused supply.old) }
     ensures memory { result ≡ Err LineFault.NoMemory → S.refused supply.new ≡ true }
 {
@@ -192,7 +193,8 @@ pub(crate) fn subchannel(word: &[u8]) -> Option<u32>
 
 /// The only word.
 pub(crate) fn one<'a>(words: &[&'a [u8]]) -> Option<&'a [u8]>
-    ensures { MatchOption result (spec.one_of (map (λ w. w.now) words.now) ≡ None) (λ w. spec.one_of (map (λ w. w.now) words.now) ≡ Some w.now) }
+    ensures { MatchOption result (spec.one_of (map (λ w. w.now) words.now) ≡ None)
+        (λ w. spec.one_of (map (λ w. w.now) words.now) ≡ Some w.now) }
 {
     match words {
         [] => None,
@@ -203,7 +205,8 @@ pub(crate) fn one<'a>(words: &[&'a [u8]]) -> Option<&'a [u8]>
 
 /// The only two words.
 pub(crate) fn two<'a>(words: &[&'a [u8]]) -> Option<(&'a [u8], &'a [u8])>
-    ensures { MatchOption result (spec.two_of (map (λ w. w.now) words.now) ≡ None) (λ p. spec.two_of (map (λ w. w.now) words.now) ≡ Some (p.0.now, p.1.now)) }
+    ensures { MatchOption result (spec.two_of (map (λ w. w.now) words.now) ≡ None)
+        (λ p. spec.two_of (map (λ w. w.now) words.now) ≡ Some (p.0.now, p.1.now)) }
 {
     match words {
         [] => None,
@@ -215,7 +218,8 @@ pub(crate) fn two<'a>(words: &[&'a [u8]]) -> Option<(&'a [u8], &'a [u8])>
 
 /// The only three words.
 pub(crate) fn three<'a>(words: &[&'a [u8]]) -> Option<(&'a [u8], &'a [u8], &'a [u8])>
-    ensures { MatchOption result (spec.three_of (map (λ w. w.now) words.now) ≡ None) (λ p. spec.three_of (map (λ w. w.now) words.now) ≡ Some (p.0.now, p.1.now, p.2.now)) }
+    ensures { MatchOption result (spec.three_of (map (λ w. w.now) words.now) ≡ None)
+        (λ p. spec.three_of (map (λ w. w.now) words.now) ≡ Some (p.0.now, p.1.now, p.2.now)) }
 {
     match words {
         [] => None,

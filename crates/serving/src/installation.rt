@@ -23,8 +23,8 @@ use std::marker::Model;
 use subsystem::subsystem::Subsystem;
 use supply::{Supply, push};
 
-/// A channel subsystem, with a device for each unit, and by unit the report that is still to be handed in: one for which there
-/// was no memory or no room on a wire.
+/// A channel subsystem, with a device for each unit, and by unit the report that is still to be handed in: one for
+/// which there was no memory or no room on a wire.
 #[derive(Drop)]
 pub struct Installation {
     subsystem: Subsystem<Rotating>,
@@ -63,10 +63,10 @@ impl Installation {
         }
     }
 
-    /// Performs an action. A turn of a device hands in the report that is kept for its unit, else the one of the unit's next
-    /// work. It is refused NoSuchUnit where the unit is not configured, and NotNow where no report is kept and a signal waits
-    /// for the unit, its program may ask for a path, or it has nothing to do. A look at serials is refused NoSuchSubchannel
-    /// where the subchannel is not configured.
+    /// Performs an action. A turn of a device hands in the report that is kept for its unit, else the one of the unit's
+    /// next work. It is refused NoSuchUnit where the unit is not configured, and NotNow where no report is kept and a
+    /// signal waits for the unit, its program may ask for a path, or it has nothing to do. A look at serials is refused
+    /// NoSuchSubchannel where the subchannel is not configured.
     pub fn act(&mut self, action: &Action) -> Result<Told, Fault>
         ensures { Acts self.old action.now result self.new }
     {
@@ -213,7 +213,8 @@ fn worked(devices: &mut Vec<AnyDevice>, unit: u32, work: Work) -> Result<Report,
 /// Calls the device of a unit.
 fn called(devices: &mut Vec<AnyDevice>, unit: u32, call: &Call) -> Option<DeviceAnswer>
     ensures answer { result ≡ spec.answered (slice_get devices.old.items «unit») call.now }
-    ensures calls { devices.new.items ≡ spec.called devices.old.items «unit» (slice_get devices.old.items «unit») call.now }
+    ensures calls { devices.new.items ≡
+        spec.called devices.old.items «unit» (slice_get devices.old.items «unit») call.now }
 {
     let device = devices.get_mut(unit as usize)?;
     Some(answer(device, call))

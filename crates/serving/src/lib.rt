@@ -3,7 +3,8 @@
 
 ghost use Rattle.std.specs.Prelude.{◌≡◌, true};
 ghost use Rattle.serving.specs.declared.Ending.TheVariants as ending;
-ghost use Rattle.serving.specs.Serving.{Serves, Checks, IsForMemory, IsRun, IsApproved, IsTold, TellsNoMemoryBy, status_of};
+ghost use Rattle.serving.specs.Serving.{Serves, Checks, IsForMemory, IsRun, IsApproved, IsTold};
+ghost use Rattle.serving.specs.Serving.{TellsNoMemoryBy, status_of};
 
 pub mod installation;
 pub mod performing;
@@ -52,8 +53,8 @@ pub fn serve_script<R: Source, S: Sink>(alloc: Global, reader: &mut R, sink: &mu
     serve_script_with(alloc, &mut Given { refused: false }, reader, sink)
 }
 
-/// Reads a script and performs its actions, each of which prints one line. Where there is no memory before the first event,
-/// and only where the supply refused a growth, `refused 1` is written alone, without a line's number.
+/// Reads a script and performs its actions, each of which prints one line. Where there is no memory before the first
+/// event, and only where the supply refused a growth, `refused 1` is written alone, without a line's number.
 pub fn serve_script_with<M: Supply, R: Source, S: Sink>(
     alloc: Global,
     supply: &mut M,
@@ -84,8 +85,8 @@ pub fn check_script<R: Source, S: Sink>(alloc: Global, reader: &mut R, sink: &mu
     check_script_with(alloc, &mut Given { refused: false }, reader, sink)
 }
 
-/// Reads a script and performs nothing: `script ok` is written where it is good. There is no memory only where the supply
-/// refused a growth.
+/// Reads a script and performs nothing: `script ok` is written where it is good. There is no memory only where the
+/// supply refused a growth.
 pub fn check_script_with<M: Supply, R: Source, S: Sink>(
     alloc: Global,
     supply: &mut M,

@@ -20,7 +20,8 @@ pub struct Written {
 /// What came of the lines that were performed.
 #[derive(Clone, Copy, Debug)]
 pub struct Performed {
-    /// All of them were performed and written; otherwise the sink failed within the print of the last that was performed.
+    /// All of them were performed and written; otherwise the sink failed within the print of the last that was
+    /// performed.
     pub whole: bool,
     /// Some action was refused.
     pub refused: bool,

@@ -37,7 +37,8 @@ impl<'a> History<'a> {
 
     /// The entry of this number, from 0; None where there is none.
     pub fn get(&self, number: usize) -> Option<&Entry>
-        ensures { MatchOption result (slice_get self.now number ≡ None) (λ entry. slice_get self.now number ≡ Some entry.now) }
+        ensures { MatchOption result (slice_get self.now number ≡ None)
+            (λ entry. slice_get self.now number ≡ Some entry.now) }
     {
         self.entries.get(number)
     }

@@ -48,7 +48,11 @@ impl<P: Drop> Model for Subsystem<P> {
 
     ghost Value = { Past };
 
-    ghost view = { λ s. record { state = s.machine; history = s.history.items; room = vec_capacity s.history - vec_len s.history } };
+    ghost view = { λ s. record {
+      state = s.machine;
+      history = s.history.items;
+      room = vec_capacity s.history - vec_len s.history;
+    } };
 
     ghost invariant = { λ s. HasRun s.history.items s.machine × Fits s.places s.machine.subs };
 }
@@ -70,8 +74,8 @@ impl<P: PathChoice + Drop> Subsystem<P> {
         Subsystem::new_with(alloc, &mut Given { refused: false }, config, choice)
     }
 
-    /// The subsystem that is set up so, in what room a supply has. Where the supply refuses a growth, and only there, it is
-    /// not made, and what was given is handed back.
+    /// The subsystem that is set up so, in what room a supply has. Where the supply refuses a growth, and only there,
+    /// it is not made, and what was given is handed back.
     pub fn new_with<S: Supply>(
         alloc: Global,
         supply: &mut S,
@@ -95,12 +99,14 @@ impl<P: PathChoice + Drop> Subsystem<P> {
         }
     }
 
-    /// One event. It is refused `NoMemory` only where the history has no room and can't grow, or the numbers are used up; a
-    /// refusal changes nothing.
+    /// One event. It is refused `NoMemory` only where the history has no room and can't grow, or the numbers are used
+    /// up; a refusal changes nothing.
     pub fn step(&mut self, event: &Event) -> Result<Reply, Fault>
         ensures step { IfOk result (λ reply. Step self.old.state event.now reply self.new.state) }
-        ensures history { IfOk result (λ reply. self.new.history ≡ self.old.history ++ record { event = event.now; reply = reply } ∷ []) }
-        ensures ruled { result ≢ Err fault_spec.NoMemory → GoesByRule P.picks self.old.state event.now result self.new.state }
+        ensures history { IfOk result (λ reply. self.new.history ≡
+            self.old.history ++ record { event = event.now; reply = reply } ∷ []) }
+        ensures ruled { result ≢ Err fault_spec.NoMemory →
+            GoesByRule P.picks self.old.state event.now result self.new.state }
         ensures room { self.old.room ≤ self.new.room + 1 }
         ensures refused { OnErr result (IsAsBefore self.old self.new) }
         ensures refusal { IfErr result (λ f. (f ≡ fault_spec.NoMemory) ⊎ IsRefused self.old.state event.now f) }
@@ -141,7 +147,8 @@ impl<P: PathChoice + Drop> Subsystem<P> {
         ensures begun { OnErr result (HasBegun P.picks true self.old events.now self.new) }
         ensures room { self.old.room ≤ self.new.room + length events.now }
         ensures replays { HasRun self.new.history self.new.state }
-        // Of two TEST SUBCHANNEL of one subchannel that answered 0, the later carries a strictly greater count of statuses made.
+        // Of two TEST SUBCHANNEL of one subchannel that answered 0, the later carries a strictly greater count of
+        // statuses made.
         ensures cleared_once { IsClearedOnce self.new.state.sets self.new.history }
         // Each start begins at most one program at its device.
         ensures begun_once { IsBegunOnce self.new.state.sets self.new.history }
@@ -153,8 +160,8 @@ impl<P: PathChoice + Drop> Subsystem<P> {
         self.run_with(alloc, &mut Given { refused: false }, events)
     }
 
-    /// The events in order, as `run` has them, with room for the answers from a supply. It ends before its first event only
-    /// where the supply refused that room, and then nothing is changed.
+    /// The events in order, as `run` has them, with room for the answers from a supply. It ends before its first event
+    /// only where the supply refused that room, and then nothing is changed.
     pub fn run_with<S: Supply>(
         &mut self,
         alloc: Global,
@@ -167,7 +174,8 @@ impl<P: PathChoice + Drop> Subsystem<P> {
         ensures given { OnOk result (S.refused supply.new ≡ S.refused supply.old) }
         ensures room { self.old.room ≤ self.new.room + length events.now }
         ensures replays { HasRun self.new.history self.new.state }
-        // Of two TEST SUBCHANNEL of one subchannel that answered 0, the later carries a strictly greater count of statuses made.
+        // Of two TEST SUBCHANNEL of one subchannel that answered 0, the later carries a strictly greater count of
+        // statuses made.
         ensures cleared_once { IsClearedOnce self.new.state.sets self.new.history }
         // Each start begins at most one program at its device.
         ensures begun_once { IsBegunOnce self.new.state.sets self.new.history }
@@ -193,8 +201,8 @@ impl<P: PathChoice + Drop> Subsystem<P> {
         Ok(answers)
     }
 
-    /// The history replays to the state, each status is cleared once, each start begins one program at most, subchannels and
-    /// units agree, and what is told of the programs holds.
+    /// The history replays to the state, each status is cleared once, each start begins one program at most,
+    /// subchannels and units agree, and what is told of the programs holds.
     fn recalls(&self)
         ensures replays { HasRun self.now.history self.now.state }
         ensures cleared_once { IsClearedOnce self.now.state.sets self.now.history }

@@ -1,0 +1,37 @@
+//! What an event does at one subchannel, with storage beside it.
+
+ghost use Rattle.machine_model.specs.Bounds.{IsRoomy};
+ghost use Rattle.machine_steps.specs.Acting.{Acts, IsFit};
+
+use crate::turns::{choose_sub, up_sub};
+use chan_events::event::Instruction;
+use chan_events::reply::Reply;
+use chan_model::fault::Fault;
+use chan_model::names::Cpu;
+use io_step::execute;
+use storage_keys::Storage;
+use subchannel_model::state::{Chosen, Subchannel};
+
+/// What an event does at one subchannel, which may engage another engine after it.
+#[derive(Clone, Copy)]
+pub enum Act {
+    /// A CPU executes an instruction.
+    Execute { cpu: Cpu, instruction: Instruction },
+    /// The subsystem does what was chosen.
+    Choose { chosen: Chosen },
+    /// The subchannel takes a signal from the wire up of a path.
+    TakeUp { path: u32 },
+}
+
+/// Does it. A refusal changes nothing.
+pub fn perform_act(storage: &mut Storage, sub: &mut Subchannel, act: Act) -> Result<Reply, Fault>
+    requires roomy { IsRoomy sub.old }
+    requires fits { IsFit act sub.old }
+    ensures { Acts act storage.old sub.old result storage.new sub.new }
+{
+    match act {
+        Act::Execute { cpu, instruction } => execute(storage, sub, cpu, instruction),
+        Act::Choose { chosen } => choose_sub(sub, chosen),
+        Act::TakeUp { path } => up_sub(storage, sub, path),
+    }
+}
