@@ -22,8 +22,8 @@ use Rattle.chan_model.specs.declared.unit_state.UnitState.{UnitState}
 use Rattle.chan_model.specs.Sides.{same_side}
 use Rattle.chan_model.specs.UnitTable.{UnitStep, changes, sends, side_of, is_owner, owns, freed, raised, selected, given_next, answered_load, answered_last, granted_at, granted, refused_at, refused, forgetting, telling, unit_after}
 use Rattle.agreement_laws.specs.Moving.{sent_by}
-use Rattle.agreement_laws.specs.Invariant.{Idle, Owns, Ends, ends, ends_of, seen_by, IsGrantGood, IsDownGood, IsFreshFree}
-use Rattle.agreement_laws.proofs.UnitKeeps.{UnitMoves, Stays, Accepts, Is_busy, Is_granted, Is_refused, Releases, Tells, IsPlainSent}
+use Rattle.agreement_laws.specs.Invariant.{Owns, Ends, ends, ends_of, seen_by, seen_own, IsGrantGood, IsDownGood, IsFreshFree}
+use Rattle.agreement_laws.proofs.UnitKeeps.{IsNotFresh, UnitMoves, Stays, Accepts, Is_busy, Is_granted, Is_refused, Releases, Tells, IsPlainSent}
 
 abbrev pub other_of : Side → Side
 other_of First = Second
@@ -80,77 +80,57 @@ marked f = record { floor = f; fresh = true }
 abbrev pub IsGiven : ℕ → Down → Ends → Type 0
 IsGiven p d e = IsDownGood e p d
 
--- Select, above the floor
-selected-idle : (side : Side) (u : UnitState) (f : ℕ) (y : SideState) (p t : ℕ) (may : Bool) → f < t →
-    IsMove side (at side u own.Idle (working f) y) (unit_after (raised (at side u own.Idle (working f) y) side t) (selected (raised (at side u own.Idle (working f) y) side t) own.Idle side p t may))
-    (sent_by (selected (raised (at side u own.Idle (working f) y) side t) own.Idle side p t may)) (IsGiven p (down.Select t))
-selected-idle First u f y p t true lt =
+-- Select, above the floor: where nothing holds the device it may be accepted
+selected-accepts : (side : Side) (u : UnitState) (f : ℕ) (y : SideState) (p t : ℕ) → f < t →
+    IsMove side (at side u own.Idle (working f) y)
+    (unit_after (raised (at side u own.Idle (working f) y) side t) (selected (raised (at side u own.Idle (working f) y) side t) own.Idle side p t true))
+    (sent_by (selected (raised (at side u own.Idle (working f) y) side t) own.Idle side p t true)) (IsGiven p (down.Select t))
+selected-accepts First u f y p t lt =
     record {
       here = λ n h g. Accepts n h.phase h.seen h.known u.restarts f p t lt g.0 g.1;
       there = λ n h. refl;
       free_here = λ m e. cc;
       free_there = λ m e. refl;
     }
-selected-idle Second u f y p t true lt =
+selected-accepts Second u f y p t lt =
     record {
       here = λ n h g. Accepts n h.phase h.seen h.known u.restarts f p t lt g.0 g.1;
       there = λ n h. refl;
       free_here = λ m e. cc;
-      free_there = λ m e. refl;
-    }
-selected-idle First u f y p t false lt =
-    record {
-      here = λ n h g. Is_busy n h.phase h.seen h.known u.restarts f p t Idle tt lt g.0 g.1;
-      there = λ n h. refl;
-      free_here = λ m e. refl;
-      free_there = λ m e. refl;
-    }
-selected-idle Second u f y p t false lt =
-    record {
-      here = λ n h g. Is_busy n h.phase h.seen h.known u.restarts f p t Idle tt lt g.0 g.1;
-      there = λ n h. refl;
-      free_here = λ m e. refl;
       free_there = λ m e. refl;
     }
 
--- Select of a unit that is held
-selected-owned : (side : Side) (u : UnitState) (k : Side) (v : ℕ) (place : Place) (f : ℕ) (y : SideState) (p t : ℕ) (may : Bool) → f < t →
-    IsMove side (at side u (own.Owned k v place) (working f) y) (raised (at side u (own.Owned k v place) (working f) y) side t) (Some (record { path = p; signal = up.Busy t })) (IsGiven p (down.Select t))
-selected-owned First u First v place f y p t may lt =
-    record {
-      here = λ n h g. Is_busy n h.phase h.seen h.known u.restarts f p t (Owns v place) tt lt g.0 g.1;
-      there = λ n h. refl;
-      free_here = λ m e. cc;
-      free_there = λ m. m;
-    }
-selected-owned First u Second v place f y p t may lt =
-    record {
-      here = λ n h g. Is_busy n h.phase h.seen h.known u.restarts f p t Idle tt lt g.0 g.1;
-      there = λ n h. refl;
-      free_here = λ m e. cc;
-      free_there = λ m. m;
-    }
-selected-owned Second u First v place f y p t may lt =
-    record {
-      here = λ n h g. Is_busy n h.phase h.seen h.known u.restarts f p t Idle tt lt g.0 g.1;
-      there = λ n h. refl;
-      free_here = λ m e. cc;
-      free_there = λ m. m;
-    }
-selected-owned Second u Second v place f y p t may lt =
-    record {
-      here = λ n h g. Is_busy n h.phase h.seen h.known u.restarts f p t (Owns v place) tt lt g.0 g.1;
-      there = λ n h. refl;
-      free_here = λ m e. cc;
-      free_there = λ m. m;
-    }
+-- whoever holds the device, it may be answered by Busy
+seen-plain : (o : Own) (side : Side) → IsNotFresh (seen_own o side)
+seen-plain own.Idle First = tt
+seen-plain own.Idle Second = tt
+seen-plain (own.Owned First v place) First = tt
+seen-plain (own.Owned First v place) Second = tt
+seen-plain (own.Owned Second v place) First = tt
+seen-plain (own.Owned Second v place) Second = tt
+
+selected-busy : (side : Side) (u : UnitState) (o : Own) (f : ℕ) (y : SideState) (p t : ℕ) → f < t →
+    IsMove side (at side u o (working f) y) (raised (at side u o (working f) y) side t) (Some (record { path = p; signal = up.Busy t }))
+    (IsGiven p (down.Select t))
+selected-busy First u o f y p t lt = record {
+  here = λ n h g. Is_busy n h.phase h.seen h.known u.restarts f p t (seen_own o First) (seen-plain o First) lt g.0 g.1;
+  there = λ n h. refl;
+  free_here = λ m e. cc;
+  free_there = λ m. m;
+}
+selected-busy Second u o f y p t lt = record {
+  here = λ n h g. Is_busy n h.phase h.seen h.known u.restarts f p t (seen_own o Second) (seen-plain o Second) lt g.0 g.1;
+  there = λ n h. refl;
+  free_here = λ m e. cc;
+  free_there = λ m. m;
+}
 
 selected-steps : (side : Side) (u : UnitState) (o : Own) (f : ℕ) (y : SideState) (p t : ℕ) (may : Bool) → f < t →
     IsMove side (at side u o (working f) y) (unit_after (at side u o (working f) y) (selected (raised (at side u o (working f) y) side t) o side p t may))
     (sent_by (selected (raised (at side u o (working f) y) side t) o side p t may)) (IsGiven p (down.Select t))
-selected-steps side u own.Idle f y p t true lt = selected-idle side u f y p t true lt
-selected-steps side u own.Idle f y p t false lt = selected-idle side u f y p t false lt
-selected-steps side u (own.Owned k v place) f y p t may lt = selected-owned side u k v place f y p t may lt
+selected-steps side u own.Idle f y p t true lt = selected-accepts side u f y p t lt
+selected-steps side u own.Idle f y p t false lt = selected-busy side u own.Idle f y p t lt
+selected-steps side u (own.Owned k v place) f y p t may lt = selected-busy side u (own.Owned k v place) f y p t lt
 
 pub select-steps : (side : Side) (u : UnitState) (o : Own) (f : ℕ) (y : SideState) (p t : ℕ) (may above : Bool) → nat_lt f t ≡ above →
     IsStep side (at side u o (working f) y) (if above then selected (raised (at side u o (working f) y) side t) o side p t may else None) (IsGiven p (down.Select t))

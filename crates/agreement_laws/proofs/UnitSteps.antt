@@ -1,5 +1,5 @@
 -- Every signal that a unit takes, and every act of its own, is a move at each of its sides.
-use Rattle.std.proofs.Common.{◌≡◌, ℕ, ◌+◌, ◌<◌, ◌==◌, ◌&&◌, ◌||◌, inl, inr, not, Bool, true, false, nat_lt, nat_le, length, Option, None, Some, List, refl, sym, subst, arith}
+use Rattle.std.proofs.Common.{◌≡◌, ℕ, ◌+◌, ◌<◌, ◌≤◌, ◌==◌, ◌&&◌, ◌||◌, inl, inr, not, Bool, true, false, nat_lt, nat_le, length, Option, None, Some, List, refl, sym, subst, arith}
 use Rattle.std.specs.Prelude.{if◌then◌else◌}
 use Rattle.std.proofs.lemmas.Bool.{eqb-true, ltb-true, and_parts}
 use Rattle.chan_model.specs.declared.names.Side.{Side}
@@ -25,8 +25,8 @@ use Rattle.chan_model.specs.Sides.{same_side}
 use Rattle.chan_model.specs.UnitTable.{UnitStep, sends, side_of, is_owner, is_owner_on, is_idle, reset_side, telling, unit_works, unit_takes, unit_after, leaving, leaving_from, asking, asking_from, attending, restarted, noticing}
 use Rattle.chan_model.specs.UnitReports.{absorbed, is_to_supply, most_of, sent_again, may_end, is_outward, answer_taken, report_on, report_of}
 use Rattle.agreement_laws.specs.Moving.{UnitAct, Takes_down, Leaves, Asks, Attends, Restarts, Notices, Reports, unit_steps, is_owner_side, sent_by, up_sent}
-use Rattle.agreement_laws.specs.Invariant.{Seen, Idle, Fresh, Owns, Ends, ends_of, seen_by, IsResetTo, IsResetGood, IsDownGood, IsFreshFree}
-use Rattle.agreement_laws.proofs.UnitKeeps.{UnitMoves, Stays, Clears}
+use Rattle.agreement_laws.specs.Invariant.{Seen, Idle, Fresh, Owns, Ends, ends, ends_of, seen_by, IsResetTo, IsResetGood, IsDownGood, IsFreshFree}
+use Rattle.agreement_laws.proofs.UnitKeeps.{UnitMoves, Stays, Clears, by_path}
 use Rattle.agreement_laws.proofs.UnitKeeps as keeps
 use Rattle.agreement_laws.proofs.UnitActs.{IsStep, IsGiven, at, working, marked, nothing, unseen, unseen-if, step-if, select-steps, given-steps, answered-steps, forgetting-steps, granted-steps, refused-steps, releasing-steps, telling-steps}
 
@@ -40,20 +40,25 @@ above-floor : (f r : ℕ) (fresh : Bool) (b : ℕ) (o : Seen) (k n s : ℕ) (h :
 above-floor f r true b o k n s h e g = elim g [ inl y ↦ absurd (omega (arith, y.1)) | inr y ↦ y ]
 above-floor f r false b o k n s h e g = elim g [ inl y ↦ absurd (omega (arith, y.0, ltb-true f r e)) | inr y ↦ y ]
 
+resets-here : (n : ℕ) (h : HoldState) (b f : ℕ) (fresh : Bool) (o : Seen) (p r : ℕ) → (fresh || nat_lt f r) ≡ true → r ≤ n →
+    IsResetGood (ends n h.phase h.seen h.known b f (if fresh then Fresh else o)) r b →
+    UnitMoves (ends n h.phase h.seen h.known b f (if fresh then Fresh else o)) (ends n h.phase h.seen h.known b r Idle) (by_path p (up.Cleared r))
+resets-here n h b f fresh o p r e le g =
+    let to : (f < r) × IsResetTo h.phase r = above-floor f r fresh b o h.known n h.seen h e g in
+    Clears n h.phase h.seen h.known b f p r (if fresh then Fresh else o) to.0 le to.1
+
 reset-idle : (side : Side) (u : UnitState) (f : ℕ) (fresh : Bool) (y : SideState) (p r : ℕ) → (fresh || nat_lt f r) ≡ true →
     IsStep side (at side u own.Idle (side_at f fresh) y) (sends (reset_side (at side u own.Idle (side_at f fresh) y) side r) p (up.Cleared r)) (IsGiven p (down.Reset r u.restarts))
 reset-idle First u f fresh y p r e =
     record {
-      here = λ n h g. let to : (f < r) × IsResetTo h.phase r = above-floor f r fresh u.restarts Idle h.known n h.seen h e g.2 in
-          Clears n h.phase h.seen h.known u.restarts f p r (seen_by fresh own.Idle First) to.0 g.0 to.1;
+      here = λ n h g. resets-here n h u.restarts f fresh Idle p r e g.0 g.2;
       there = λ n h. refl;
       free_here = λ m w. cc;
       free_there = λ m. m;
     }
 reset-idle Second u f fresh y p r e =
     record {
-      here = λ n h g. let to : (f < r) × IsResetTo h.phase r = above-floor f r fresh u.restarts Idle h.known n h.seen h e g.2 in
-          Clears n h.phase h.seen h.known u.restarts f p r (seen_by fresh own.Idle Second) to.0 g.0 to.1;
+      here = λ n h g. resets-here n h u.restarts f fresh Idle p r e g.0 g.2;
       there = λ n h. refl;
       free_here = λ m w. cc;
       free_there = λ m. m;
@@ -63,32 +68,28 @@ reset-owned : (side k : Side) (u : UnitState) (v : ℕ) (place : Place) (f : ℕ
     IsStep side (at side u (own.Owned k v place) (side_at f fresh) y) (sends (reset_side (at side u (own.Owned k v place) (side_at f fresh) y) side r) p (up.Cleared r)) (IsGiven p (down.Reset r u.restarts))
 reset-owned First First u v place f fresh y p r e =
     record {
-      here = λ n h g. let to : (f < r) × IsResetTo h.phase r = above-floor f r fresh u.restarts (Owns v place) h.known n h.seen h e g.2 in
-          Clears n h.phase h.seen h.known u.restarts f p r (seen_by fresh (own.Owned First v place) First) to.0 g.0 to.1;
+      here = λ n h g. resets-here n h u.restarts f fresh (Owns v place) p r e g.0 g.2;
       there = λ n h. refl;
       free_here = λ m w. cc;
       free_there = λ m w. refl;
     }
 reset-owned First Second u v place f fresh y p r e =
     record {
-      here = λ n h g. let to : (f < r) × IsResetTo h.phase r = above-floor f r fresh u.restarts Idle h.known n h.seen h e g.2 in
-          Clears n h.phase h.seen h.known u.restarts f p r (seen_by fresh (own.Owned Second v place) First) to.0 g.0 to.1;
+      here = λ n h g. resets-here n h u.restarts f fresh Idle p r e g.0 g.2;
       there = λ n h. refl;
       free_here = λ m w. cc;
       free_there = λ m. m;
     }
 reset-owned Second First u v place f fresh y p r e =
     record {
-      here = λ n h g. let to : (f < r) × IsResetTo h.phase r = above-floor f r fresh u.restarts Idle h.known n h.seen h e g.2 in
-          Clears n h.phase h.seen h.known u.restarts f p r (seen_by fresh (own.Owned First v place) Second) to.0 g.0 to.1;
+      here = λ n h g. resets-here n h u.restarts f fresh Idle p r e g.0 g.2;
       there = λ n h. refl;
       free_here = λ m w. cc;
       free_there = λ m. m;
     }
 reset-owned Second Second u v place f fresh y p r e =
     record {
-      here = λ n h g. let to : (f < r) × IsResetTo h.phase r = above-floor f r fresh u.restarts (Owns v place) h.known n h.seen h e g.2 in
-          Clears n h.phase h.seen h.known u.restarts f p r (seen_by fresh (own.Owned Second v place) Second) to.0 g.0 to.1;
+      here = λ n h g. resets-here n h u.restarts f fresh (Owns v place) p r e g.0 g.2;
       there = λ n h. refl;
       free_here = λ m w. cc;
       free_there = λ m w. refl;

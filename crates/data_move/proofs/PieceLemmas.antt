@@ -7,7 +7,7 @@ use Rattle.idaw.specs.declared.ListKind.{ListKind}
 use Rattle.idaw.specs.declared.ListKind.TheVariants.{Short, LongByFourK, LongByTwoK}
 use Rattle.idaw.specs.Lists.{block}
 use Rattle.idaw.specs.Places.{Reach, place_of, place_of_word, each_below, covered, with_word}
-use Rattle.idaw.proofs.WordLemmas.{word_stays, word_next, word_reaches}
+use Rattle.idaw.proofs.WordLemmas.{picks_true, picks_false, word_stays, word_next, word_reaches}
 use Rattle.data_move.specs.Moving.{Moving, names_list, uses_list, begun, with_piece, moved, next_place, IsAt, MayFetch}
 use Rattle.data_move.proofs.ListLemmas.{each_below_add, each_below_same}
 
@@ -27,14 +27,6 @@ unless_same false p q e = ap Some (e refl)
 pub not_skipped : (s : Bool) (p : ℕ) → s ≡ false → (if s then None else Some p) ≡ Some p
 not_skipped true p e = absurd (cc)
 not_skipped false p e = refl
-
-picks_true : (t : Bool) (p q : ℕ) → t ≡ true → (if t then p else q) ≡ p
-picks_true true p q e = refl
-picks_true false p q e = absurd (cc)
-
-picks_false : (t : Bool) (p q : ℕ) → t ≡ false → (if t then p else q) ≡ q
-picks_false true p q e = absurd (cc)
-picks_false false p q e = refl
 
 same_first : (t : Bool) (p p' q : ℕ) → p ≡ p' → (if t then p else q) ≡ (if t then p' else q)
 same_first true p p' q e = e

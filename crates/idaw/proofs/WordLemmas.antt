@@ -12,11 +12,11 @@ pick : (t : Bool) (p q q' : ℕ) → (t ≡ false → q ≡ q') → (if t then p
 pick true p q q' e = refl
 pick false p q q' e = e refl
 
-picks_true : (t : Bool) (p q : ℕ) → t ≡ true → (if t then p else q) ≡ p
+pub picks_true : (t : Bool) (p q : ℕ) → t ≡ true → (if t then p else q) ≡ p
 picks_true true p q e = refl
 picks_true false p q e = absurd (cc)
 
-picks_false : (t : Bool) (p q : ℕ) → t ≡ false → (if t then p else q) ≡ q
+pub picks_false : (t : Bool) (p q : ℕ) → t ≡ false → (if t then p else q) ≡ q
 picks_false true p q e = absurd (cc)
 picks_false false p q e = refl
 

@@ -129,6 +129,19 @@ pub record AreLaws : Type 0 where
   pub busy : (w : Links) (side : Side) (x : OnPath Up) (t : ℕ) → IsGood w → Contains (link_of w side).ups x → x.signal ≡ up.Busy t → IsPassed w side t
   pub stays : (old : Links) (cause : Cause) (new : Links) (side : Side) (t : ℕ) → IsGood old → Step old cause new → IsPassed old side t → IsPassed new side t
 
+pub laws-of : AreWalks → ((old : Links) (cause : Cause) (new : Links) → IsGood old → Step old cause new → IsGood new) →
+    ((old : Links) (cause : Cause) (new : Links) (j : Side) → IsGood old → Step old cause new → EndsByReset old cause new j) →
+    ((w : Links) (side : Side) → IsGood w → IsSound w side) →
+    ((w : Links) (side : Side) (x : OnPath Up) (t : ℕ) → IsGood w → Contains (link_of w side).ups x → x.signal ≡ up.Busy t → IsPassed w side t) →
+    ((old : Links) (cause : Cause) (new : Links) (side : Side) (t : ℕ) → IsGood old → Step old cause new → IsPassed old side t → IsPassed new side t) → AreLaws
+laws-of walks keeps resets means busy stays = record {
+  walks = walks;
+  keeps = λ old cause new g s. (keeps old cause new g s, λ j. resets old cause new j g s);
+  means = means;
+  busy = busy;
+  stays = stays;
+}
+
 -- what holds with a link holds with another, by acts of the hold
 pub record IsLed (v w : Links) : Type 0 where
   pub good : IsGood w
@@ -215,18 +228,24 @@ pub record IsReached (l : Link) (new : Subchannel) : Type 0 where
   pub is : IsLink new link
   pub accepted : link.accepted ≡ l.accepted
 
-pub reached : (sub : Subchannel) (l : Link) (s : SubchannelState) (one : Option (OnPath Down)) (ups : List (List Up)) → IsLink sub l →
-    Reaches l (record { drawn = s.drawn; hold = s.hold; sent = one }) → ((m : List (OnPath Up)) → Covers m sub.wires.up → Covers m ups) →
-    IsReached l (record sub { state = s; wires = record { down = with_any_sent sub.wires.down one; up = ups } })
-reached sub l s one ups k r f =
+pub reached-by : (sub : Subchannel) (l : Link) (s : SubchannelState) (one : Option (OnPath Down)) (downs : List (List Down)) (ups : List (List Up)) → IsLink sub l →
+    (r : Reaches l (record { drawn = s.drawn; hold = s.hold; sent = one })) → (Covers r.link.downs sub.wires.down → Covers r.link.downs downs) →
+    ((m : List (OnPath Up)) → Covers m sub.wires.up → Covers m ups) → IsReached l (record sub { state = s; wires = record { down = downs; up = ups } })
+reached-by sub l s one downs ups k r d f =
     record {
       link = r.link;
       leads = r.leads;
       is = record {
         drawn = r.at.drawn;
         hold = r.at.hold;
-        downs = covers-sent r.link.downs sub.wires.down one r.sent (covers-wider l.downs r.link.downs sub.wires.down r.downs k.downs);
+        downs = d (covers-wider l.downs r.link.downs sub.wires.down r.downs k.downs);
         ups = f r.link.ups (covers-wider l.ups r.link.ups sub.wires.up r.ups k.ups);
       };
       accepted = r.accepted;
     }
+
+pub reached : (sub : Subchannel) (l : Link) (s : SubchannelState) (one : Option (OnPath Down)) (ups : List (List Up)) → IsLink sub l →
+    Reaches l (record { drawn = s.drawn; hold = s.hold; sent = one }) → ((m : List (OnPath Up)) → Covers m sub.wires.up → Covers m ups) →
+    IsReached l (record sub { state = s; wires = record { down = with_any_sent sub.wires.down one; up = ups } })
+reached sub l s one ups k r f =
+    reached-by sub l s one (with_any_sent sub.wires.down one) ups k r (covers-sent r.link.downs sub.wires.down one r.sent) f

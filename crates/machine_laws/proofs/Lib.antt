@@ -16,6 +16,6 @@ mod Resetting
 mod WaitsUp
 mod Pairs
 mod Tales
-mod TaleEvents
+pub mod TaleEvents
 mod Swept
 mod Ended

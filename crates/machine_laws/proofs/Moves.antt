@@ -3,8 +3,10 @@
 use Rattle.std.proofs.Common.{◌≡◌, refl, sym, ◌∙◌, ap, map, subst, ℕ, zero, suc, Bool, true, false, nat_lt, Option, None, Some, Result, List, [], ◌∷◌, length}
 use Rattle.std.specs.Prelude.{slice_get, slice_set, if◌then◌else◌, IfOk}
 use Rattle.std.specs.List.{AllZip}
+use Rattle.std.proofs.lemmas.List.{length-set}
 use Rattle.orb_block.specs.declared.Orb.{Orb}
 use Rattle.schib_block.specs.declared.pmcw.Pmcw as block
+use Rattle.channel_config.specs.Setup.{Setup}
 use Rattle.channel_config.specs.declared.parts.SubchannelSetup.{SubchannelSetup}
 use Rattle.storage_keys.specs.Storage.{Contents}
 use Rattle.chan_model.specs.declared.fault.Fault.{Fault}
@@ -26,6 +28,7 @@ use Rattle.subchannel_model.specs.declared.state.Program.{Program}
 use Rattle.subchannel_model.specs.declared.state.Subchannel.{Subchannel}
 use Rattle.subchannel_model.specs.declared.state.SubchannelState.{SubchannelState}
 use Rattle.machine_model.specs.State.{State}
+use Rattle.machine_model.specs.Setups.{IsSetUp}
 use Rattle.subchannel_model.specs.declared.cause.Cause.TheVariants as cause
 use Rattle.subchannel_model.specs.Causes.{with_cause}
 use Rattle.subchannel_model.specs.Choosing.{chosen, reset_sent, halt_sent, offered}
@@ -223,3 +226,33 @@ same-setups R (x ∷ xs) (y ∷ ys) z =
 pub setups-stay : (s : State) (e : Event) (r : Reply) (new : State) → Walked s e r new →
     map (λ (x : Subchannel). x.setup) new.subs ≡ map (λ (x : Subchannel). x.setup) s.subs
 setups-stay s e r new w = same-setups (λ s new. Unit {0}) s.subs new.subs (step-moves (λ s new. Unit {0}) any-state s e r new w).subs
+
+-- nor how many units there are
+one_sub-units : (s new : State) (place : ℕ) (sub after : Subchannel) → OneSub s new place sub after → length new.units ≡ length s.units
+one_sub-units s new place sub after one = ap (λ (us : List UnitState). length us) one.units
+
+one_unit-units : (s new : State) (place : ℕ) (sub after : Subchannel) (at : ℕ) (u v : UnitState) → OneUnit s new place sub after at u v →
+    length new.units ≡ length s.units
+one_unit-units s new place sub after at u v one = ap (λ (us : List UnitState). length us) one.units ∙ length-set s.units at v
+
+units-stay : (s : State) (e : Event) (r : Reply) (new : State) → Walked s e r new → length new.units ≡ length s.units
+units-stay s _ _ _ (walked.Stays e r new q sets subs units) = ap (λ (us : List UnitState). length us) units
+units-stay s _ _ _ (walked.Started cpu word address place sub orb c new n one) = one_sub-units s new place sub _ one
+units-stay s _ _ _ (walked.Tested e r place sub c new q one) = one_sub-units s new place sub _ one
+units-stay s _ _ _ (walked.Modified e r place sub given c new q one) = one_sub-units s new place sub _ one
+units-stay s _ _ _ (walked.Performed e r place sub f c new q one) = one_sub-units s new place sub _ one
+units-stay s _ _ _ (walked.Chosen word place sub choice t new n x w h one) = one_sub-units s new place sub t.sub one
+units-stay s _ _ _ (walked.Met word path returns place sub t new n h one) = one_sub-units s new place sub t.sub one
+units-stay s _ _ _ (walked.Sunk word path may place sub u t new n h one) = one_unit-units s new place sub t.sub _ u t.«unit» one
+units-stay s _ _ _ (walked.Reported at place sub u report t new n k h one) = one_unit-units s new place sub t.sub at u t.«unit» one
+
+-- so the machine stays as it was set up
+pub set_up-stays : (setup : Setup) (s : State) (e : Event) (r : Reply) (new : State) → Walked s e r new → length new.storage.keys ≡ length s.storage.keys →
+    IsSetUp setup s → IsSetUp setup new
+set_up-stays setup s e r new w blocks k = record {
+  lawful = k.lawful;
+  blocks = blocks ∙ k.blocks;
+  sets = sets-stay s e r new w ∙ k.sets;
+  subs = setups-stay s e r new w ∙ k.subs;
+  units = units-stay s e r new w ∙ k.units;
+}

@@ -1,7 +1,6 @@
 -- A claim that each change of one subchannel keeps is kept where all are changed so; what is lost with a path.
 use Rattle.std.proofs.Common.{◌≡◌, refl, sym, ◌∙◌, subst, ℕ, zero, suc, ◌&&◌, Bool, true, false, Option, None, Some, List, [], ◌∷◌, map, arith}
 use Rattle.std.specs.Prelude.{slice_get, slice_set, if◌then◌else◌, Contains}
-use Rattle.std.specs.List.{AllZip}
 use Rattle.std.proofs.lemmas.List.Elements.{All-nil}
 use Rattle.chan_model.specs.declared.names.Side.{Side}
 use Rattle.chan_model.specs.declared.signal.OnPath.{OnPath}
@@ -16,7 +15,7 @@ use Rattle.subchannel_model.specs.declared.state.SubchannelState.{SubchannelStat
 use Rattle.subchannel_model.specs.Losing.{has_any, is_offered_or_held, reset_with, path_lost, path_index, loses_at, loses}
 use Rattle.subchannel_model.specs.Places.{place_in}
 use Rattle.machine_laws.specs.Beginnings.{Starts}
-use Rattle.machine_laws.proofs.Growth.{Covers, covers-wider, queue-set, IsLink, Keeps, Reaches, acts, IsReached, AreLaws}
+use Rattle.machine_laws.proofs.Growth.{Covers, queue-set, IsLink, Keeps, Reaches, acts, IsReached, reached-by, AreLaws}
 use Rattle.machine_laws.proofs.HoldEvents.{IsOfHold}
 use Rattle.machine_laws.proofs.Linked.{AreLinked, hold-linked}
 use Rattle.machine_laws.proofs.RunAgrees.{IsStateTold, place-set}
@@ -30,10 +29,6 @@ map-by-places Q f step [] q = q
 map-by-places {A} Q f step (x ∷ xs) q =
     map-by-places (λ (ys : List A). Q (f x ∷ ys)) f (λ ys i y e h. step (f x ∷ ys) (suc i) y e h) xs (step (x ∷ xs) zero x refl q)
 
-pub zip-map : {A : Type 0} (R : A → A → Type 0) (f : A → A) → ((x : A) → R x (f x)) → (xs : List A) → AllZip R xs (map f xs)
-zip-map R f k [] = tt
-zip-map R f k (x ∷ xs) = (k x, zip-map R f k xs)
-
 -- the wires of a path that is lost
 covers-lost : {A : Type 0} (l : List (OnPath A)) (queues : List (List A)) (k : ℕ) → Covers l queues → Covers l (lost queues k)
 covers-lost l queues k c = queue-set (λ p x. Contains l (record { path = p; signal = x })) queues k [] c (All-nil (λ x. Contains l (record { path = k; signal = x })))
@@ -41,17 +36,8 @@ covers-lost l queues k c = queue-set (λ p x. Contains l (record { path = p; sig
 lost-reached : (sub : Subchannel) (l : Link) (s : SubchannelState) (p : ℕ) → IsLink sub l → Reaches l (record { drawn = s.drawn; hold = s.hold; sent = None }) →
     IsReached l (record sub { state = s; wires = record { down = lost sub.wires.down p; up = lost sub.wires.up p } })
 lost-reached sub l s p k r =
-    record {
-      link = r.link;
-      leads = r.leads;
-      is = record {
-        drawn = r.at.drawn;
-        hold = r.at.hold;
-        downs = covers-lost r.link.downs sub.wires.down p (covers-wider l.downs r.link.downs sub.wires.down r.downs k.downs);
-        ups = covers-lost r.link.ups sub.wires.up p (covers-wider l.ups r.link.ups sub.wires.up r.ups k.ups);
-      };
-      accepted = r.accepted;
-    }
+    reached-by sub l s None (lost sub.wires.down p) (lost sub.wires.up p) k r (covers-lost r.link.downs sub.wires.down p)
+    (λ m c. covers-lost m sub.wires.up p c)
 
 -- the hold loses its path
 lost-acted : (s : SubchannelState) (rests shows : Bool) → (if rests then reset_again s.drawn s.hold else still s.drawn s.hold)

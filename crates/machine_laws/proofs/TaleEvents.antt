@@ -221,7 +221,7 @@ function-tells sub f code.Two k = tells-same sub k
 function-tells sub f code.Three k = tells-same sub k
 
 -- Choose
-reset-phase : (h : HoldState) (phase : HoldPhase) (path : ℕ) → (hold_after h (sending_reset h phase path)).phase ≡ h.phase
+pub reset-phase : (h : HoldState) (phase : HoldPhase) (path : ℕ) → (hold_after h (sending_reset h phase path)).phase ≡ h.phase
 reset-phase h hold.Free path = refl
 reset-phase h (hold.Offer t p) path = refl
 reset-phase h (hold.On t p c) path = refl

@@ -10,6 +10,7 @@ ghost use Rattle.chan_events.specs.declared.reply.Reply.{Reply};
 ghost use Rattle.channel_config.specs.Lawful.{IsLawful};
 ghost use Rattle.channel_config.specs.Setup.{Setup, set_count};
 ghost use Rattle.machine_model.specs.State.{State, opening_of};
+ghost use Rattle.machine_model.specs.Setups.{IsSetUp};
 ghost use Rattle.machine_model.specs.Steps.{Step, Run};
 ghost use Rattle.machine_model.specs.Bounds.{IsWithin, IsUnitWithin};
 ghost use Rattle.machine_laws.specs.Agreeing.{AllAgree, LeadsToAgreed, AreAbove, EndsByReset};
@@ -17,7 +18,7 @@ ghost use Rattle.machine_laws.specs.Beginnings.{IsBegunOnce};
 ghost use Rattle.machine_laws.specs.Claims.{IsPendingUncleared, IsLater, IsClearedOnce};
 
 use agreement_laws::{agreement, passing, resets, rising};
-use step_laws::walks;
+use step_laws::{storage_blocks, walks};
 use transfer::law::command_numbers;
 
 /// After each run the numbers of each subchannel, and of the chunks at each unit, are at most as many as there were events, and its status is pending
@@ -42,11 +43,13 @@ pub fn steps()
     command_numbers();
 }
 
-/// No step changes which subchannels there are, their order, or how one of them is set up.
+/// No step changes how the machine is set up: its subchannels and their order, its sets, its units, or how large storage is.
 pub fn setups()
     ensures stay { (s : State) (e : Event) (r : Reply) (new : State) → Step s e r new → map (λ sub. sub.setup) new.subs ≡ map (λ sub. sub.setup) s.subs }
+    ensures set_up { (setup : Setup) (s : State) (e : Event) (r : Reply) (new : State) → Step s e r new → IsSetUp setup s → IsSetUp setup new }
 {
     walks();
+    storage_blocks();
 }
 
 /// Of two TEST SUBCHANNEL instructions of one subchannel that answered condition code 0 (SA22-7832, chapter 14), the later

@@ -1,4 +1,5 @@
 pub mod State
+pub mod Setups
 pub mod Turns
 pub mod StorageSteps
 pub mod InstructionSteps

@@ -5,9 +5,9 @@ use Rattle.chan_events.specs.declared.event.Event.{Event}
 use Rattle.chan_events.specs.declared.event.Event.TheVariants as event
 use Rattle.chan_events.specs.declared.reply.Reply.{Reply}
 use Rattle.chan_events.specs.declared.reply.Entry.{Entry}
-use Rattle.channel_config.specs.Lawful.{IsLawful}
 use Rattle.channel_config.specs.Setup.{Setup}
 use Rattle.machine_model.specs.State.{State, opening_of, found_of}
+use Rattle.machine_model.specs.Setups.{IsSetUp}
 use Rattle.machine_model.specs.Turns.{Outcome, does}
 use Rattle.machine_model.specs.StorageSteps.{put_turn, key_turn, prefix_turn, show_turn}
 use Rattle.machine_model.specs.InstructionSteps.{Executes}
@@ -44,6 +44,6 @@ pub data Run (opening : State) : List Entry → State → Type 0 where
   Opened : Run opening [] opening
   Stepped : (h : List Entry) (old : State) (e : Event) (r : Reply) (new : State) → Run opening h old → Step old e r new → Run opening (h ++ record { event = e; reply = r } ∷ []) new
 
--- these entries lead to the state from the opening of some machine that is lawfully set up
+-- the machine is lawfully set up, and from the opening of each set-up that it has these entries lead to the state
 abbrev pub HasRun : List Entry → State → Type 0
-HasRun h s = (setup : Setup) × IsLawful setup × Run (opening_of setup) h s
+HasRun h s = ((setup : Setup) × IsSetUp setup s) × ((setup : Setup) → IsSetUp setup s → Run (opening_of setup) h s)

@@ -7,7 +7,6 @@ use Rattle.chan_model.specs.declared.fault.Fault.{Fault}
 use Rattle.chan_model.specs.declared.fault.Fault.TheVariants as fault
 use Rattle.chan_model.specs.declared.hold_state.HoldPhase.{HoldPhase}
 use Rattle.chan_model.specs.declared.hold_state.HoldPhase.TheVariants as hold
-use Rattle.chan_model.specs.declared.hold_state.HoldState.{HoldState}
 use Rattle.chan_model.specs.declared.signal.Up.{Up}
 use Rattle.chan_model.specs.declared.signal.Up.TheVariants as up
 use Rattle.chan_model.specs.declared.signal.Down.{Down}
@@ -62,6 +61,7 @@ use Rattle.machine_model.specs.ReportSteps.{report_taken, report_sub}
 use Rattle.machine_model.specs.Steps.{Run, Opened, Stepped}
 use Rattle.subchannel_model.specs.Losing.{has_any, is_offered_or_held, reset_with, reset_for}
 use Rattle.step_laws.specs.Walks.{IsFound, Suits}
+use Rattle.machine_laws.proofs.TaleEvents.{reset-phase}
 use Rattle.program_laws.specs.Stories as stories
 use Rattle.program_laws.specs.Stories.{Story, offered_for, resumed_for, chosen_at, met_with, met_at, meets, takes, taken_at, absorbs, reported, reported_at, story, story_after}
 use Rattle.program_laws.specs.Claims.{IsCopied}
@@ -178,14 +178,6 @@ over-kept s (Some program) (Some k) e h = (
   },
   h.1,
 )
-
-reset-phase : (h : HoldState) (phase : HoldPhase) (path : ℕ) → (hold_after h (sending_reset h phase path)).phase ≡ h.phase
-reset-phase h hold.Free path = refl
-reset-phase h (hold.Offer t p) path = refl
-reset-phase h (hold.On t p c) path = refl
-reset-phase h (hold.Away t) path = refl
-reset-phase h (hold.Letting t p) path = refl
-reset-phase h (hold.Reset r) path = refl
 
 choose-held : (sub : Subchannel) (k : Option Story) (c : Chosen) → Suits c sub.state → KeptBy sub.state k →
     IfOk (choose_sub sub c) (λ t. KeptBy t.sub.state (chosen_at (Some sub) t.reply k))

@@ -164,11 +164,6 @@ module _ (drawn n : ℕ) (b : Option Begun) (sent : ℕ) where
   released-phase h (hold.Letting t p) u = step-phase h (hold.Letting t p) (u == t) (hold_table.quietly (record h { phase = hold.Free })) (λ k. (k.0.1, tt))
   released-phase h (hold.Reset r) u = same-phase h (hold.Reset r)
 
-  pub noticed-phase : (h : HoldState) (x : Bool) (c : ℕ) → IsHold h.phase →
-      IsHold (hold_after h (if x then Some (hold_table.quietly (record h { known = c })) else None)).phase
-  noticed-phase h true c k = k
-  noticed-phase h false c k = k
-
   pub attended-phase : (h : HoldState) (phase : HoldPhase) (p a : ℕ) (may : Bool) → Keeps h phase (hold_table.attended h phase p a may)
   attended-phase h hold.Free p a true = λ e k. subst (λ (x : HoldPhase). IsHold x) (sym e) k
   attended-phase h hold.Free p a false = same-phase h hold.Free

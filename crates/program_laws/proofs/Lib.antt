@@ -8,6 +8,7 @@ mod Parts
 mod Caused
 mod Holds
 mod HoldMeets
+mod UnitPlaces
 mod UnitSides
 mod UnitOrders
 mod UnitGrowth

@@ -13,8 +13,7 @@ use Rattle.chan_model.specs.declared.signal.OnPath.{OnPath}
 use Rattle.chan_model.specs.declared.signal.Taken.{Taken}
 use Rattle.chan_model.specs.declared.signal.Up.{Up}
 use Rattle.chan_model.specs.declared.signal.Up.TheVariants as up
-use Rattle.chan_model.specs.HoldTable as hold_table
-use Rattle.chan_model.specs.HoldTable.{HoldStep, refusing, granting, begun, accepted, left, asked_back, found_busy, released, cleared, noticed, attended, hold_after, came_of, is_connected, is_on, letting_go}
+use Rattle.chan_model.specs.HoldTable.{HoldStep, refusing, granting, begun, accepted, left, asked_back, found_busy, released, cleared, attended, hold_after, came_of, is_connected, is_on, letting_go}
 use Rattle.chan_model.specs.UnitReports.{is_last_end, is_outward, has_device_end}
 use Rattle.channel_program.specs.Walks.{Place}
 use Rattle.transfer.specs.declared.Came.{Came}
@@ -169,9 +168,6 @@ attended-mutters h (hold.On t q c) p a may = nothing
 attended-mutters h (hold.Away t) p a may = nothing
 attended-mutters h (hold.Letting t q) p a may = nothing
 attended-mutters h (hold.Reset r) p a may = nothing
-
-pub noticed-mutters : (h : HoldState) (b : ℕ) → Mutters (noticed h b)
-noticed-mutters h b = if-mutters (nat_lt h.known b) (Some (hold_table.quietly (record h { known = b }))) None tt nothing
 
 by_hold-sends : (s : SubchannelState) (step : Option HoldStep) → Mutters step → Sends (by_hold s step)
 by_hold-sends s step m = muttered (by_hold s step).state (came_of step).sent m

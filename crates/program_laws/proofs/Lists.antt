@@ -1,17 +1,10 @@
 -- Lists of places, and the beginnings of lists.
 use Rattle.std.proofs.Common.{◌≡◌, ℕ, zero, suc, ◌+◌, ◌-◌, ◌≤◌, true, false, List, [], ◌∷◌, ◌++◌, length, refl, sym, ap, ◌∙◌, arith, append_assoc, length-append, Option, None, Some}
 use Rattle.std.specs.Prelude.{is_some, is_none}
-use Rattle.std.proofs.lemmas.List.{append-nil}
 use Rattle.idaw.specs.Places.{Reach, place_of, each_below, places}
+use Rattle.data_move.proofs.ListLemmas.{each_below_add}
 use Rattle.program_laws.specs.Reaches.{counts}
 use Rattle.program_laws.specs.Claims.{IsBeginning}
-
-pub each_below_add : {X : Type 0} → (f : ℕ → X) (n k : ℕ) → each_below f (n + k) ≡ each_below f n ++ each_below (λ i. f (n + i)) k
-each_below_add f n zero = let e : n + 0 ≡ n = omega arith in ap (each_below f) e ∙ sym (append-nil (each_below f n))
-each_below_add f n (suc k) =
-    let e : n + suc k ≡ suc (n + k) = omega arith in
-    ap (each_below f) e ∙ ap (λ xs. xs ++ f (n + k) ∷ []) (each_below_add f n k)
-    ∙ append_assoc (each_below f n) (each_below (λ i. f (n + i)) k) (f (n + k) ∷ [])
 
 pub length-each_below : {X : Type 0} → (f : ℕ → X) (n : ℕ) → length (each_below f n) ≡ n
 length-each_below f zero = refl

@@ -16,7 +16,8 @@ use Rattle.chan_model.specs.UnitTable.{kept, with_given, with_answer, new_comman
 use Rattle.channel_program.specs.Acts.{Chunk}
 use Rattle.idaw.specs.Places.{each_below}
 use Rattle.program_laws.specs.Claims.{IsFirstOf, first_of}
-use Rattle.program_laws.proofs.Lists.{each_below_add, length-each_below}
+use Rattle.data_move.proofs.ListLemmas.{each_below_add}
+use Rattle.program_laws.proofs.Lists.{length-each_below}
 
 -- how far the subsystem moved: the number of the last chunk, the places of the next bytes and how many may come at once,
 -- the places that were moved, and the chunks that were copied

@@ -20,6 +20,7 @@ use Rattle.chan_model.specs.declared.unit_state.UnitState.{UnitState}
 use Rattle.chan_model.specs.Sides.{same_side}
 use Rattle.chan_model.specs.UnitTable.{UnitStep, came_of, changes, sends, with_given, with_answer, new_command, side_of, with_side, owns, is_owner, is_owner_on, is_place_on, freed, raised, selected, given_next, answered_load, answered_last, granted_at, granted, refused_at, refused, without_side, reset_side, resets, forgetting, unit_works, unit_takes, unit_after, telling}
 use Rattle.program_laws.specs.Stories.{silent}
+use Rattle.program_laws.proofs.UnitPlaces.{IsOfPlace, granted-leaves, refused-leaves, forgetting-leaves}
 use Rattle.program_laws.proofs.UnitSides.{side-own, one-owner, other-owner}
 use Rattle.program_laws.proofs.UnitOrders.{one-number}
 
@@ -54,29 +55,12 @@ calm-side : (side k : Side) (u : UnitState) (s : SideState) → IsCalm side u (w
 calm-side side k u s = calm-own side u (with_side u k s) (side-own k u s) (side-hand k u s)
 
 -- the signals that leave it, of any side
-granted_at-calm : (side : Side) (u : UnitState) (k : Side) (n : ℕ) (place : Place) (p c : ℕ) → u.own ≡ own.Owned k n place → IsCalmStep side u (granted_at u k n place p c)
-granted_at-calm side u k n (Ask q d) p c o =
-    if-calm side u (c == d) _ _ (calm-place side k n (Ask q d) (On q d) u o) (if-calm side u (nat_lt c d) _ None (calm side u) (calm side u))
-granted_at-calm side u k n (On q d) p c o = if-calm side u (nat_lt c d) _ None (calm side u) (calm side u)
-granted_at-calm side u k n (Away d) p c o = if-calm side u (nat_lt c d) _ None (calm side u) (calm side u)
-
-granted-calm : (side : Side) (u : UnitState) (o : Own) (k : Side) (p t c : ℕ) → u.own ≡ o → IsCalmStep side u (granted u o k p t c)
-granted-calm side u own.Idle k p t c o = calm side u
-granted-calm side u (own.Owned j v place) k p t c o = if-calm side u (same_side j k && (t == v)) _ None (granted_at-calm side u j v place p c o) (calm side u)
-
-refused_at-calm : (side : Side) (u : UnitState) (k : Side) (n : ℕ) (place : Place) (c : ℕ) → u.own ≡ own.Owned k n place → IsCalmStep side u (refused_at u k n place c)
-refused_at-calm side u k n (Ask q d) c o = if-calm side u (c == d) _ None (calm-place side k n (Ask q d) (Away d) u o) (calm side u)
-refused_at-calm side u k n (On q d) c o = calm side u
-refused_at-calm side u k n (Away d) c o = calm side u
-
-refused-calm : (side : Side) (u : UnitState) (o : Own) (k : Side) (t c : ℕ) → u.own ≡ o → IsCalmStep side u (refused u o k t c)
-refused-calm side u own.Idle k t c o = calm side u
-refused-calm side u (own.Owned j v place) k t c o = if-calm side u (same_side j k && (t == v)) _ None (refused_at-calm side u j v place c o) (calm side u)
-
-forgetting-calm : (side : Side) (u : UnitState) (x : Option Attention) (k : Side) (a : ℕ) → IsCalmStep side u (forgetting u x k a)
-forgetting-calm side u None k a = calm side u
-forgetting-calm side u (Some x) k a =
-    if-calm side u (same_side x.side k && (a == x.number)) _ None (calm-own side u (record u { attention = None }) refl refl) (calm side u)
+calm-places : (side : Side) → IsOfPlace (IsCalm side)
+calm-places side = record {
+  same = calm side;
+  placed = calm-place side;
+  forgotten = λ u. calm-own side u (record u { attention = None }) refl refl;
+}
 
 calm-then : (side : Side) (u v w : UnitState) → IsCalm side u v → IsCalm side v w → IsCalm side u w
 calm-then side u v w a b t e = let f = b t e in let g = a t f.0 in (g.0, f.1 ∙ g.1)
@@ -103,8 +87,8 @@ fresh-calm side u k p step h = if-calm side u (side_of u k).fresh (telling u p) 
 pub easy-calm : (may : Bool) → (side : Side) (u : UnitState) (k : Side) (p : ℕ) (d : Down) → IsEasy d → IsCalmStep side u (unit_takes u k p d may)
 easy-calm may side u k p (down.Select t) m = absurd m
 easy-calm may side u k p (down.Command t n code room) m = absurd m
-easy-calm may side u k p (down.Grant t c) m = fresh-calm side u k p _ (granted-calm side u u.own k p t c refl)
-easy-calm may side u k p (down.Refuse t c) m = fresh-calm side u k p _ (refused-calm side u u.own k t c refl)
+easy-calm may side u k p (down.Grant t c) m = fresh-calm side u k p _ (granted-leaves (IsCalm side) (calm-places side) u u.own k p t c refl)
+easy-calm may side u k p (down.Refuse t c) m = fresh-calm side u k p _ (refused-leaves (IsCalm side) (calm-places side) u u.own k t c refl)
 easy-calm may side u k p (down.Took t n s room) m = absurd m
 easy-calm may side u k p (down.Give t c n s bytes) m = absurd m
 easy-calm may side u k p (down.Halt t) m =
@@ -113,7 +97,7 @@ easy-calm may side u k p (down.Release t) m = fresh-calm side u k p _ (if-calm s
 easy-calm may side u k p (down.Reset r b) m =
     if-calm side u (resets u k r b) _ _ (calm-then side u (without_side u k) (reset_side u k r) (freed-where side u (owns u.own k)) (calm-side side k (without_side u k) _))
     (fresh-calm side u k p None (calm side u))
-easy-calm may side u k p (down.Got a) m = fresh-calm side u k p _ (forgetting-calm side u u.attention k a)
+easy-calm may side u k p (down.Got a) m = fresh-calm side u k p _ (forgetting-leaves (IsCalm side) (calm-places side) u u.attention k a)
 
 -- what a program that holds the device does is no matter of the other side
 owner-calm : (side k : Side) (u v : UnitState) (t : ℕ) → same_side k side ≡ false → is_owner u.own k t ≡ true → v.own ≡ u.own → IsCalm side u v

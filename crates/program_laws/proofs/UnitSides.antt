@@ -12,7 +12,6 @@ use Rattle.chan_model.specs.declared.signal.Down.{Down}
 use Rattle.chan_model.specs.declared.signal.Down.TheVariants as down
 use Rattle.chan_model.specs.declared.signal.Load.{Load}
 use Rattle.chan_model.specs.declared.unit_state.AtHand.{AtHand}
-use Rattle.chan_model.specs.declared.unit_state.Attention.{Attention}
 use Rattle.chan_model.specs.declared.unit_state.Own.{Own}
 use Rattle.chan_model.specs.declared.unit_state.Own.TheVariants as own
 use Rattle.chan_model.specs.declared.unit_state.Place.{Place}
@@ -22,7 +21,8 @@ use Rattle.chan_model.specs.declared.unit_state.Progress.TheVariants as progress
 use Rattle.chan_model.specs.declared.unit_state.SideState.{SideState}
 use Rattle.chan_model.specs.declared.unit_state.UnitState.{UnitState}
 use Rattle.chan_model.specs.Sides.{same_side}
-use Rattle.chan_model.specs.UnitTable.{UnitStep, changes, with_given, side_of, with_side, owns, is_owner, is_owner_on, freed, raised, selected, given_next, answered_load, answered_last, granted_at, granted, refused_at, refused, without_side, reset_side, resets, forgetting, unit_works, unit_takes, unit_after, telling}
+use Rattle.chan_model.specs.UnitTable.{UnitStep, changes, with_given, side_of, with_side, owns, is_owner, is_owner_on, freed, raised, selected, given_next, answered_load, answered_last, without_side, reset_side, resets, unit_works, unit_takes, unit_after, telling}
+use Rattle.program_laws.proofs.UnitPlaces.{IsOfPlace, granted-leaves, refused-leaves, forgetting-leaves}
 use Rattle.chan_model.specs.UnitReports.{is_outward, is_to_supply, most_of, may_end, shown_end, end_sent, begun, absorbed, supplied, sent_again, answer_taken, report_on, report_of, unit_reports}
 
 -- what is kept of a side is as it was, and a program of it that holds the device held it before, with the same last command
@@ -110,30 +110,12 @@ answered-still : (side : Side) (u : UnitState) (x : Option AtHand) (s room : ℕ
 answered-still side u None s room = still side u
 answered-still side u (Some x) s room = if-still side u (s == x.sequence) _ None (load-still side u x x.unanswered room) (still side u)
 
-granted_at-still : (side : Side) (u : UnitState) (k : Side) (n : ℕ) (place : Place) (p c : ℕ) → u.own ≡ own.Owned k n place → IsStillStep side u (granted_at u k n place p c)
-granted_at-still side u k n (Ask q d) p c o =
-    if-still side u (c == d) _ _ (same-program side k n (Ask q d) (On q d) u o) (if-still side u (nat_lt c d) _ None (still side u) (still side u))
-granted_at-still side u k n (On q d) p c o = if-still side u (nat_lt c d) _ None (still side u) (still side u)
-granted_at-still side u k n (Away d) p c o = if-still side u (nat_lt c d) _ None (still side u) (still side u)
-
-granted-still : (side : Side) (u : UnitState) (o : Own) (k : Side) (p t c : ℕ) → u.own ≡ o → IsStillStep side u (granted u o k p t c)
-granted-still side u own.Idle k p t c o = still side u
-granted-still side u (own.Owned j v place) k p t c o = if-still side u (same_side j k && (t == v)) _ None (granted_at-still side u j v place p c o) (still side u)
-
-refused_at-still : (side : Side) (u : UnitState) (k : Side) (n : ℕ) (place : Place) (c : ℕ) → u.own ≡ own.Owned k n place → IsStillStep side u (refused_at u k n place c)
-refused_at-still side u k n (Ask q d) c o = if-still side u (c == d) _ None (same-program side k n (Ask q d) (Away d) u o) (still side u)
-refused_at-still side u k n (On q d) c o = still side u
-refused_at-still side u k n (Away d) c o = still side u
-
-refused-still : (side : Side) (u : UnitState) (o : Own) (k : Side) (t c : ℕ) → u.own ≡ o → IsStillStep side u (refused u o k t c)
-refused-still side u own.Idle k t c o = still side u
-refused-still side u (own.Owned j v place) k t c o = if-still side u (same_side j k && (t == v)) _ None (refused_at-still side u j v place c o) (still side u)
-
-forgetting-still : (side : Side) (u : UnitState) (x : Option Attention) (k : Side) (a : ℕ) → IsStillStep side u (forgetting u x k a)
-forgetting-still side u None k a = still side u
-forgetting-still side u (Some x) k a =
-    if-still side u (same_side x.side k && (a == x.number)) _ None
-    (same-own side u (record u { attention = None }) (same-sides side u (record u { attention = None }) refl refl) refl refl) (still side u)
+still-places : (side : Side) → IsOfPlace (IsStill side)
+still-places side = record {
+  same = still side;
+  placed = same-program side;
+  forgotten = λ u. same-own side u (record u { attention = None }) (same-sides side u (record u { attention = None }) refl refl) refl refl;
+}
 
 halted-still : (side : Side) (u : UnitState) → IsStill side u (record u { halted = true })
 halted-still side u = same-own side u (record u { halted = true }) (same-sides side u (record u { halted = true }) refl refl) refl refl
@@ -157,8 +139,8 @@ IsMild (down.Got a) = Unit {0}
 mild-works : (side : Side) (u : UnitState) (k : Side) (p : ℕ) (d : Down) (may : Bool) → IsMild d → IsStillStep side u (unit_works u k p d may)
 mild-works side u k p (down.Select t) may m = absurd m
 mild-works side u k p (down.Command t n code room) may m = absurd m
-mild-works side u k p (down.Grant t c) may m = granted-still side u u.own k p t c refl
-mild-works side u k p (down.Refuse t c) may m = refused-still side u u.own k t c refl
+mild-works side u k p (down.Grant t c) may m = granted-leaves (IsStill side) (still-places side) u u.own k p t c refl
+mild-works side u k p (down.Refuse t c) may m = refused-leaves (IsStill side) (still-places side) u u.own k t c refl
 mild-works side u k p (down.Took t n s room) may m =
     if-still side u (is_owner u.own k t && (n == u.last_command)) _ None (answered-still side u u.at_hand s room) (still side u)
 mild-works side u k p (down.Give t c n s bytes) may m =
@@ -166,7 +148,7 @@ mild-works side u k p (down.Give t c n s bytes) may m =
 mild-works side u k p (down.Halt t) may m = if-still side u (is_owner u.own k t && not u.halted) _ None (halted-still side u) (still side u)
 mild-works side u k p (down.Release t) may m = if-still side u (is_owner u.own k t) _ None (freed-still side u) (still side u)
 mild-works side u k p (down.Reset r b) may m = absurd m
-mild-works side u k p (down.Got a) may m = forgetting-still side u u.attention k a
+mild-works side u k p (down.Got a) may m = forgetting-leaves (IsStill side) (still-places side) u u.attention k a
 
 fresh-still : (side : Side) (u : UnitState) (k : Side) (p : ℕ) (step : Option UnitStep) → IsStillStep side u step → IsStillStep side u (if (side_of u k).fresh then telling u p else step)
 fresh-still side u k p step h = if-still side u (side_of u k).fresh (telling u p) step (still side u) h

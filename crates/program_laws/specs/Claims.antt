@@ -2,7 +2,6 @@
 use Rattle.std.specs.Prelude.{Bool, ◌≡◌, ◌⊎◌, ℕ, ◌+◌, ◌==◌, Option, None, Some, List, [], ◌∷◌, ◌++◌, length, map, reverse, take, drop, slice_get, if◌then◌else◌, All, Contains}
 use Rattle.std.specs.List.{flat_map}
 use Rattle.chan_events.specs.declared.reply.Entry.{Entry}
-use Rattle.channel_config.specs.Lawful.{IsLawful}
 use Rattle.channel_config.specs.Setup.{Setup}
 use Rattle.orb_block.specs.declared.Orb.{Orb}
 use Rattle.scsw_irb.specs.declared.scsw.Scsw.{Scsw}
@@ -20,6 +19,7 @@ use Rattle.subchannel_model.specs.Ends.{channel_end_shown, last_end_shown}
 use Rattle.subchannel_model.specs.declared.state.Begun.{Begun}
 use Rattle.subchannel_model.specs.declared.state.Subchannel.{Subchannel}
 use Rattle.machine_model.specs.State.{State, opening_of}
+use Rattle.machine_model.specs.Setups.{IsSetUp}
 use Rattle.machine_model.specs.Steps.{Run}
 use Rattle.program_laws.specs.Reaches.{reaches, counts}
 use Rattle.program_laws.specs.Doings.{Arrival, Part}
@@ -103,6 +103,9 @@ abbrev pub AllTold : (opening : State) (h : List Entry) (s : State) → Run open
 AllTold opening h s run = (place : ℕ) (sub : Subchannel) (k : Story) → slice_get s.subs place ≡ Some sub → story place opening h s run ≡ Some k →
     IsTold k × IsCounted sub.state.scsw sub.state.begun k
 
--- these entries lead to the state from the opening of some machine that is lawfully set up, and so they tell
+-- the machine is lawfully set up, and from the opening of each set-up that it has these entries lead to the state, and so
+-- they tell
 abbrev pub HasTold : List Entry → State → Type 0
-HasTold h s = (setup : Setup) × IsLawful setup × (run : Run (opening_of setup) h s) × AllTold (opening_of setup) h s run
+HasTold h s =
+    ((setup : Setup) × IsSetUp setup s)
+    × ((setup : Setup) → IsSetUp setup s → (run : Run (opening_of setup) h s) × AllTold (opening_of setup) h s run)

@@ -2,7 +2,6 @@
 use Rattle.std.proofs.Common.{◌≡◌, ℕ, ◌+◌, ◌*◌, ◌^◌, ◌<◌, ◌≤◌, List, [], ◌∷◌, ◌++◌, ap, ◌∙◌, refl, sym, suc, zero, arith, append_assoc, length, take, drop, get_or, ◌-◌}
 use Rattle.std.proofs.lemmas.List.{take_all, length-append, length-take, length-drop}
 use Rattle.std.specs.Prelude.{Option, Some, None}
-use Rattle.std.proofs.Math.Nat.{pow-suc}
 use Rattle.script_rows.specs.Words.{and_then, bytes_from, pair_value}
 
 pub digit_fits : (i v d : ℕ) → i < 8 → v < 16 ^ i → d < 16 → v * 16 + d < 2 ^ 32
@@ -15,9 +14,6 @@ digit_fits (suc (suc (suc (suc (suc zero))))) v d l h k = omega arith
 digit_fits (suc (suc (suc (suc (suc (suc zero)))))) v d l h k = omega arith
 digit_fits (suc (suc (suc (suc (suc (suc (suc zero))))))) v d l h k = omega arith
 digit_fits (suc (suc (suc (suc (suc (suc (suc (suc i)))))))) v d l h k = absurd (omega arith)
-
-pub digit_more : (i v d : ℕ) → v < 16 ^ i → d < 16 → v * 16 + d < 16 ^ (suc i)
-digit_more i v d h k = omega (arith, pow-suc 16 i)
 
 glued : (r : Option (List ℕ)) (front : List ℕ) (x : ℕ)
     → and_then (and_then r (λ bs. Some (x ∷ bs))) (λ bs. Some (front ++ bs)) ≡ and_then r (λ bs. Some ((front ++ x ∷ []) ++ bs))

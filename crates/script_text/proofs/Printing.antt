@@ -21,11 +21,6 @@ flat-more f xs x = flat_map-append f xs (x ∷ []) ∙ ap (λ (t : List ℕ). fl
 front : (f : ℕ → List ℕ) (xs : List ℕ) (i : ℕ) → i < length xs → flat_map f (take (i + 1) xs) ≡ flat_map f (take i xs) ++ f (get_or xs i 0)
 front f xs i lt = ap (flat_map f) (take_more xs i 0 lt) ∙ flat-more f (take i xs) (get_or xs i 0)
 
-pub taken_more : (o m n : Seen) (f : ℕ → List ℕ) (xs : List ℕ) (i : ℕ) → i < length xs
-    → Takes o (flat_map f (take i xs)) m → Puts m (f (get_or xs i 0)) n true → Puts o (flat_map f (take (i + 1) xs)) n true
-taken_more o m n f xs i lt t p =
-    subst (λ (text : List ℕ). Takes o text n) (sym (front f xs i lt)) (takes_then o m n _ _ true t p)
-
 pub failed_within : (o m n : Seen) (f : ℕ → List ℕ) (xs : List ℕ) (i : ℕ) → i < length xs
     → Takes o (flat_map f (take i xs)) m → Puts m (f (get_or xs i 0)) n false → Puts o (flat_map f xs) n false
 failed_within o m n f xs i lt t p =

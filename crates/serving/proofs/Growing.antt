@@ -85,29 +85,3 @@ performed_to old middle new ls i l held then now a r lt is h t whole =
 pub whole_if : (b : Bool) → not b ≡ false → b ≡ true
 whole_if true e = refl
 whole_if false e = absurd (cc e)
-
-line_at : (ls : List Line) (i : ℕ) (l : Line) → i < length ls → l ≡ get_or ls i l → slice_get ls i ≡ Some l
-line_at [] i l within e = absurd (omega (arith, within))
-line_at (m ∷ ms) zero l within e = ap (λ z. Some z) (sym e)
-line_at (m ∷ ms) (suc i) l within e = line_at ms i l (omega (arith, within)) e
-
-pub stopped_at : (old middle new : Installed) (ls : List Line) (i : ℕ) (l : Line) (held then now : Seen) (a : Bool) (r : Written)
-    → i < length ls → l ≡ get_or ls i l → HasPerformed old (take i ls) held then a middle → IsDone middle l then now r new → r.whole ≡ false
-    → HasStopped old ls held now (a || r.refused) new
-stopped_at old middle new ls i l held then now a r lt is h t e = record {
-  done = i;
-  last = l;
-  there = line_at ls i l lt is;
-  middle = middle;
-  between = then;
-  earlier = a;
-  written = r;
-  performed = h;
-  stopped = t;
-  printed = e;
-  refused = refl;
-}
-
-pub performed_all : (old new : Installed) (ls : List Line) (i : ℕ) (held now : Seen) (a : Bool) → length ls ≤ i
-    → HasPerformed old (take i ls) held now a new → HasPerformed old ls held now a new
-performed_all old new ls i held now a le h = subst (λ (ks : List Line). HasPerformed old ks held now a new) (take_all i ls le) h

@@ -1,3 +1,4 @@
 mod Walk
 mod Suiting
 pub mod Places
+mod Blocks

@@ -1,5 +1,5 @@
 -- The events of a run and their answers, as they grow at their end.
-use Rattle.std.proofs.Common.{◌≡◌, refl, sym, ◌∙◌, ap, subst, ℕ, ◌+◌, ◌<◌, Bool, true, Result, Ok, Err, List, [], ◌∷◌, ◌++◌, length, take, slice_index_or, append_assoc, inl, inr}
+use Rattle.std.proofs.Common.{◌≡◌, refl, sym, ◌∙◌, ap, subst, ℕ, ◌+◌, ◌<◌, Result, Ok, Err, List, [], ◌∷◌, ◌++◌, length, take, slice_index_or, append_assoc, inl, inr}
 use Rattle.std.proofs.lemmas.List.{take_more, append-nil}
 use Rattle.std.specs.Prelude.{IfOk, IfErr, OnErr, ◌⊎◌}
 use Rattle.path_select.specs.Choice.{Rule}
@@ -9,9 +9,9 @@ use Rattle.chan_model.specs.declared.fault.Fault.TheVariants.{NoMemory}
 use Rattle.chan_events.specs.declared.reply.Entry.{Entry}
 use Rattle.chan_events.specs.declared.reply.Reply.{Reply}
 use Rattle.machine_model.specs.Ruled.{GoesByRule}
-use Rattle.machine_model.specs.State.{State, Past, IsAsBefore, LacksRoom}
+use Rattle.machine_model.specs.State.{State, Past, IsAsBefore}
 use Rattle.machine_model.specs.Steps.{Step, IsRefused, Performs}
-use Rattle.machine_model.specs.Answering.{Answered, HasAnswered, HasBegun, accepted}
+use Rattle.machine_model.specs.Answering.{Answered, HasAnswered, accepted}
 
 answered-more : (picks : Rule) (old middle new : State) (events : List Event) (answers : List (Result Reply Fault)) (e : Event) (a : Result Reply Fault) →
     Answered picks old events answers middle → Performs middle e a new → GoesByRule picks middle e a new →
@@ -70,20 +70,3 @@ has-more picks first old new events i e d answers more a within there done step 
           (sym (accepted-more picks first.state old.state (take i events) answers e a done.answered)
           ∙ (ap (λ (es : List Event). accepted es (answers ++ a ∷ [])) longer ∙ ap (λ (xs : List (Result Reply Fault)). accepted (take (i + 1) events) xs) (sym pushed)))));
     }
-
--- a run whose answers were refused room did nothing
-pub begun-none : (picks : Rule) (refused : Bool) (p : Past) (events : List Event) → 0 < length events → refused ≡ true → HasBegun picks refused p events p
-begun-none picks refused p events some is = record {
-  done = 0;
-  answers = [];
-  fewer = some;
-  why = inl (refl, is);
-  answered = record { answered = refl; history = sym (append-nil p.history) };
-}
-
--- an event for which there was no room ends a run
-pub begun-at : (picks : Rule) (refused : Bool) (first old new : Past) (events : List Event) (i : ℕ) (answers : List (Result Reply Fault)) → i < length events →
-    HasAnswered picks first (take i events) answers old → LacksRoom old new → HasBegun picks refused first events new
-begun-at picks refused first old new events i answers within done lacks =
-    subst (λ (p : Past). HasBegun picks refused first events p) (sym lacks.0)
-    (record { done = i; answers = answers; fewer = within; why = inr lacks.1; answered = done })

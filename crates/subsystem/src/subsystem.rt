@@ -5,9 +5,11 @@ ghost use Rattle.chan_model.specs.declared.fault.Fault.TheVariants as fault_spec
 ghost use Rattle.machine_model.specs.State as state_spec;
 ghost use Rattle.machine_model.specs.Ruled.{GoesByRule};
 ghost use Rattle.machine_model.specs.State.{IsAsBefore, LacksRoom};
+ghost use Rattle.machine_model.specs.Setups.{IsSetUp};
 ghost use Rattle.machine_model.specs.Steps.{Step, IsRefused, HasRun};
 ghost use Rattle.machine_model.specs.Answering.{HasAnswered, HasBegun};
 ghost use Rattle.std.specs.Bool.{OnTrue, OnFalse};
+ghost use Rattle.channel_config.specs.Setup.{Setup};
 ghost use Rattle.finding.specs.Tables.{Fits};
 ghost use Rattle.machine_laws.specs.Agreeing.{AllAgree};
 ghost use Rattle.program_laws.specs.Claims.{HasTold};
@@ -20,7 +22,7 @@ use chan_events::reply::{Entry, Reply};
 use chan_model::fault::Fault;
 use channel_config::config::Config;
 use finding::tables::Places;
-use machine_laws::{agreements, beginnings, numbers, serials, setups, steps};
+use machine_laws::{agreements, beginnings, numbers, serials, setups};
 use machine_model::state::UnitTurn;
 use machine_steps::machine::Machine;
 use machine_steps::opening::opened_machine;
@@ -68,6 +70,7 @@ impl<P: PathChoice + Drop> Subsystem<P> {
     /// The subsystem that is set up so. Where no memory is left, what was given is handed back.
     pub fn new(alloc: Global, config: Config, choice: P) -> Result<Self, NotMade<P>>
         ensures made { IfOk result (λ s. s ≡ record { state = state_spec.opening_of config; history = []; room = 0 }) }
+        ensures set_up { IfOk result (λ s. IsSetUp config s.state) }
         ensures config { IfErr result (λ n. n.config ≡ config) }
         ensures choice { IfErr result (λ n. n.choice ≡ choice) }
     {
@@ -83,6 +86,7 @@ impl<P: PathChoice + Drop> Subsystem<P> {
         choice: P,
     ) -> Result<Self, NotMade<P>>
         ensures made { IfOk result (λ s. s ≡ record { state = state_spec.opening_of config; history = []; room = 0 }) }
+        ensures set_up { IfOk result (λ s. IsSetUp config s.state) }
         ensures config { IfErr result (λ n. n.config ≡ config) }
         ensures choice { IfErr result (λ n. n.choice ≡ choice) }
         ensures given { OnOk result (S.refused supply.new ≡ S.refused supply.old) }
@@ -105,6 +109,8 @@ impl<P: PathChoice + Drop> Subsystem<P> {
         ensures step { IfOk result (λ reply. Step self.old.state event.now reply self.new.state) }
         ensures history { IfOk result (λ reply. self.new.history ≡
             self.old.history ++ record { event = event.now; reply = reply } ∷ []) }
+        // It stays as it was set up.
+        ensures set_up { (setup : Setup) → IsSetUp setup self.old.state → IsSetUp setup self.new.state }
         ensures ruled { result ≢ Err fault_spec.NoMemory →
             GoesByRule P.picks self.old.state event.now result self.new.state }
         ensures room { self.old.room ≤ self.new.room + 1 }
@@ -146,6 +152,8 @@ impl<P: PathChoice + Drop> Subsystem<P> {
         // Where it ended before the first event, a growth may have been refused.
         ensures begun { OnErr result (HasBegun P.picks true self.old events.now self.new) }
         ensures room { self.old.room ≤ self.new.room + length events.now }
+        // It stays as it was set up, and from that opening what was accepted leads to the state.
+        ensures set_up { (setup : Setup) → IsSetUp setup self.old.state → IsSetUp setup self.new.state }
         ensures replays { HasRun self.new.history self.new.state }
         // Of two TEST SUBCHANNEL of one subchannel that answered 0, the later carries a strictly greater count of
         // statuses made.
@@ -173,6 +181,8 @@ impl<P: PathChoice + Drop> Subsystem<P> {
         ensures begun { OnErr result (HasBegun P.picks (S.refused supply.new) self.old events.now self.new) }
         ensures given { OnOk result (S.refused supply.new ≡ S.refused supply.old) }
         ensures room { self.old.room ≤ self.new.room + length events.now }
+        // It stays as it was set up, and from that opening what was accepted leads to the state.
+        ensures set_up { (setup : Setup) → IsSetUp setup self.old.state → IsSetUp setup self.new.state }
         ensures replays { HasRun self.new.history self.new.state }
         // Of two TEST SUBCHANNEL of one subchannel that answered 0, the later carries a strictly greater count of
         // statuses made.
@@ -210,7 +220,6 @@ impl<P: PathChoice + Drop> Subsystem<P> {
         ensures agree { AllAgree self.now.state }
         ensures told { HasTold self.now.history self.now.state }
     {
-        steps();
         serials();
         beginnings();
         agreements();

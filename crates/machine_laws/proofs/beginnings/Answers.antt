@@ -1,8 +1,9 @@
-use Rattle.machine_laws.proofs.Growth.{AreLaws}
+use Rattle.machine_laws.proofs.Growth.{AreLaws, laws-of}
 use Rattle.machine_laws.proofs.RunAgrees.{run-begins}
 use Rattle.machine_laws.proofs.beginnings.Goals as goal
 
 pub returns : goal.returns
 returns c =
-    let laws : AreLaws = record { walks = c.walks.ensures.each; keeps = λ old cause new g s. (c.agreement.ensures.keeps old cause new g s, λ j. c.resets.ensures old cause new j g s); means = c.agreement.ensures.means; busy = c.passing.ensures.busy; stays = c.passing.ensures.stays } in
+    let laws : AreLaws =
+    laws-of c.walks.ensures.each c.agreement.ensures.keeps c.resets.ensures c.agreement.ensures.means c.passing.ensures.busy c.passing.ensures.stays in
     record { once = run-begins c.agreement.ensures.opens laws }

@@ -1,5 +1,8 @@
-use Rattle.machine_laws.proofs.Moves.{setups-stay}
+use Rattle.machine_laws.proofs.Moves.{setups-stay, set_up-stays}
 use Rattle.machine_laws.proofs.setups.Goals as goal
 
 pub returns : goal.returns
-returns c = record { stay = λ s e r new w. setups-stay s e r new (c.walks.ensures.each s e r new w) }
+returns c = record {
+  stay = λ s e r new w. setups-stay s e r new (c.walks.ensures.each s e r new w);
+  set_up = λ setup s e r new w. set_up-stays setup s e r new (c.walks.ensures.each s e r new w) (c.storage_blocks.ensures.stay s e r new w);
+}

@@ -1,3 +1,4 @@
+use Rattle.machine_laws.proofs.Sound.{AreNumbered}
 use Rattle.machine_laws.proofs.RunSound.{step-sets, step-later}
 use Rattle.machine_laws.proofs.steps.Goals as goal
 
@@ -5,4 +6,16 @@ pub returns-clause-sets : goal.returns-clause-sets
 returns-clause-sets c = step-sets c.walks.ensures.each
 
 pub returns-clause-subs : goal.returns-clause-subs
-returns-clause-subs c = step-later c.walks.ensures.each (record { first = c.command_numbers.ensures.first; next = c.command_numbers.ensures.next; begun = c.command_numbers.ensures.begun; room = c.command_numbers.ensures.room; given = c.command_numbers.ensures.given; absorbed = c.command_numbers.ensures.absorbed; brought = c.command_numbers.ensures.brought })
+returns-clause-subs c =
+    let law = c.command_numbers.ensures in
+    let numbered : AreNumbered =
+    record {
+      first = law.first;
+      next = law.next;
+      begun = law.begun;
+      room = law.room;
+      given = law.given;
+      absorbed = law.absorbed;
+      brought = law.brought;
+    } in
+    step-later c.walks.ensures.each numbered

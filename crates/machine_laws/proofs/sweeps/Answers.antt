@@ -1,13 +1,14 @@
 use Rattle.std.specs.Prelude.{map}
 use Rattle.subchannel_model.specs.Losing.{loses}
-use Rattle.machine_laws.proofs.Growth.{AreLaws}
+use Rattle.machine_laws.proofs.Growth.{AreLaws, laws-of}
 use Rattle.machine_laws.proofs.RunAgrees.{run-told, linked-agree}
 use Rattle.machine_laws.proofs.Swept.{swept-told}
 use Rattle.machine_laws.proofs.sweeps.Goals as goal
 
 pub returns : goal.returns
 returns c =
-    let laws : AreLaws = record { walks = c.walks.ensures.each; keeps = λ old cause new g s. (c.agreement.ensures.keeps old cause new g s, λ j. c.resets.ensures old cause new j g s); means = c.agreement.ensures.means; busy = c.passing.ensures.busy; stays = c.passing.ensures.stays } in
+    let laws : AreLaws =
+    laws-of c.walks.ensures.each c.agreement.ensures.keeps c.resets.ensures c.agreement.ensures.means c.passing.ensures.busy c.passing.ensures.stays in
     record {
       agree = λ setup h s chpid lawful run.
           let told = run-told laws setup (record { set = 0; number = 0 }) h s lawful c.agreement.ensures.opens run in

@@ -10,12 +10,12 @@ use Rattle.subsystem.proofs.subsystem.Subsystem.recalls.Goals as goal
 pub returns-clause-cleared_once : goal.returns-clause-cleared_once
 returns-clause-cleared_once g c =
     subst (λ (x : Past). IsClearedOnce x.state.sets x.history) c.self.view_is
-    (past-cleared c.steps.ensures.sets c.serials.ensures.rises c.self.inside.history.items c.self.inside.machine c.self.invariant.0)
+    (past-cleared c.serials.ensures.rises c.self.inside.history.items c.self.inside.machine c.self.invariant.0)
 
 pub returns-clause-begun_once : goal.returns-clause-begun_once
 returns-clause-begun_once g c =
     subst (λ (x : Past). IsBegunOnce x.state.sets x.history) c.self.view_is
-    (past-begun c.steps.ensures.sets c.beginnings.ensures.once c.self.inside.history.items c.self.inside.machine c.self.invariant.0)
+    (past-begun c.beginnings.ensures.once c.self.inside.history.items c.self.inside.machine c.self.invariant.0)
 
 pub returns-clause-agree : goal.returns-clause-agree
 returns-clause-agree g c =

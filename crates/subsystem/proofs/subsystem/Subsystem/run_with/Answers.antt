@@ -10,6 +10,7 @@ loop-event-preserved g c = record {
       c.step-answer.ensures.refused c.step-answer.ensures.refusal c.if-ends.ensures.other c.add.ensures.items;
   held = omega (arith, c.loop-event.invariant.held, c.step-answer.ensures.room);
   room = omega (arith, c.loop-event.invariant.room, c.add.ensures.capacity, length-append c.loop-event.answers.items (c.step-answer.result ∷ []), ap length c.add.ensures.items);
+  set_up = λ setup k. c.step-answer.ensures.set_up setup (c.loop-event.invariant.set_up setup k);
   replays = c.recalls-in-loop-event.ensures.replays;
   cleared_once = c.recalls-in-loop-event.ensures.cleared_once;
   begun_once = c.recalls-in-loop-event.ensures.begun_once;

@@ -1,5 +1,7 @@
 use Rattle.std.proofs.Common.{◌≡◌, ◌+◌, ◌≤◌, length, take, vec_len, vec_capacity}
 use Rattle.machine_model.specs.Answering.{HasAnswered}
+use Rattle.channel_config.specs.Setup.{Setup}
+use Rattle.machine_model.specs.Setups.{IsSetUp}
 use Rattle.machine_model.specs.Steps.{HasRun}
 use Rattle.machine_laws.specs.Agreeing.{AllAgree}
 use Rattle.program_laws.specs.Claims.{HasTold}
@@ -12,6 +14,7 @@ invariant-loop-event g l = record {
   answered : HasAnswered g.P.PathChoice.picks l.fn.self (take l.event-index l.events) l.answers.items l.self;
   held : l.fn.self.room ≤ l.self.room + l.event-index;
   room : vec_len l.answers + length l.events ≤ vec_capacity l.answers + l.event-index;
+  set_up : (setup : Setup) → IsSetUp setup l.fn.self.state → IsSetUp setup l.self.state;
   replays : HasRun l.self.history l.self.state;
   cleared_once : IsClearedOnce l.self.state.sets l.self.history;
   begun_once : IsBegunOnce l.self.state.sets l.self.history;

@@ -1,12 +1,14 @@
-use Rattle.std.proofs.Common.{◌∙◌, ap, subst, Result, Ok, List, [], ◌∷◌, ◌++◌}
+use Rattle.std.proofs.Common.{◌∙◌, ap, sym, subst, arith, Result, Ok, List, [], ◌∷◌, ◌++◌}
 use Rattle.chan_events.specs.declared.event.Event.{Event}
 use Rattle.chan_events.specs.declared.reply.Entry.{Entry}
 use Rattle.chan_events.specs.declared.reply.Reply.{Reply}
 use Rattle.chan_model.specs.declared.fault.Fault.{Fault}
+use Rattle.machine_model.specs.Setups.{IsSetUp}
+use Rattle.machine_model.specs.State.{Past}
 use Rattle.machine_model.specs.Steps.{Performs}
 use Rattle.finding.proofs.Keeping.{fits-kept}
 use Rattle.subsystem.proofs.Never.{never}
-use Rattle.subsystem.proofs.Pasts.{past-more}
+use Rattle.subsystem.proofs.Pasts.{past-more, past-roomy, performed-set_up}
 use Rattle.subsystem.proofs.subsystem.Subsystem.step.Goals as goal
 
 pub invariant_of-self-2 : goal.invariant_of-self-2
@@ -15,7 +17,7 @@ invariant_of-self-2 g c =
     let next = c.perform-answer.new.self in
     let stepped : Performs machine c.args.event.now (Ok c.in-Ok.reply) next =
     subst (λ (r : Result Reply Fault). Performs machine c.args.event.now r next) c.in-Ok.is c.perform-answer.ensures.performs in (
-      past-more c.self.inside.history.items c.append.new.history.items machine next c.args.event.now c.in-Ok.reply c.self.invariant.0 stepped
+      past-more c.setups.ensures.set_up c.self.inside.history.items c.append.new.history.items machine next c.args.event.now c.in-Ok.reply c.self.invariant.0 stepped
           (c.append.ensures.items
           ∙ (ap (λ (e : Event). c.reserve.new.self.items ++ record { event = e; reply = c.copy-2.result } ∷ []) c.copy.ensures
           ∙ (ap (λ (r : Reply). c.reserve.new.self.items ++ record { event = c.args.event.now; reply = r } ∷ []) c.copy-2.ensures
@@ -29,3 +31,12 @@ pub returns-in_default-clause-spent : goal.returns-in_default-clause-spent
 returns-in_default-clause-spent g c = λ e.
     absurd (never c.self.inside.machine c.args.event.now
     (subst (λ (r : Result Reply Fault). Performs c.self.inside.machine c.args.event.now r c.perform-answer.new.self) e c.perform-answer.ensures.performs).0)
+
+pub perform-answer-requires-clause-units : goal.perform-answer-requires-clause-units
+perform-answer-requires-clause-units g c =
+    past-roomy c.numbers.ensures.units c.self.inside.history.items c.self.inside.machine c.self.invariant.0 (omega (arith, c.if-len.false, c.len.ensures))
+
+pub returns-clause-set_up : goal.returns-clause-set_up
+returns-clause-set_up g c = λ setup k.
+    performed-set_up c.setups.ensures.set_up c.self.inside.machine c.args.event.now c.perform-answer.result c.perform-answer.new.self c.perform-answer.ensures.performs
+    setup (subst (λ (p : Past). IsSetUp setup p.state) (sym c.self.view_is) k)

@@ -1,0 +1,286 @@
+-- No step changes how many keys storage has: a key is set in its place, and all else that is stored are bytes.
+use Rattle.std.proofs.Common.{◌≡◌, refl, sym, subst, ℕ, Bool, true, false, nat_lt, Option, None, Some, Result, Ok, Err, List, length, inl, inr}
+use Rattle.std.specs.Prelude.{◌==◌, ◌+◌, ◌%◌, slice_get, if◌then◌else◌, not, is_some, IfOk}
+use Rattle.std.proofs.lemmas.List.{length-set}
+use Rattle.storage_keys.specs.declared.key.Key.{Key}
+use Rattle.storage_keys.specs.declared.StorageFault.{StorageFault}
+use Rattle.storage_keys.specs.declared.StorageFault.TheVariants.{Addressing, Specification}
+use Rattle.storage_keys.specs.Storage as keys
+use Rattle.storage_keys.specs.Storage.{Contents, put, put_at, key_set, prefix_set, is_inside, store_check, where_permitted, operand_at, operand_check}
+use Rattle.chan_events.specs.declared.event.Event.{Event}
+use Rattle.chan_events.specs.declared.event.Event.TheVariants as event
+use Rattle.chan_events.specs.declared.event.Instruction.{Instruction}
+use Rattle.chan_events.specs.declared.event.Instruction.TheVariants as instruction
+use Rattle.chan_events.specs.declared.reply.Reply.{Reply}
+use Rattle.chan_model.specs.declared.answer.ConditionCode.{ConditionCode}
+use Rattle.chan_model.specs.declared.answer.ConditionCode.TheVariants as code
+use Rattle.chan_model.specs.declared.fault.Fault.{Fault}
+use Rattle.chan_model.specs.declared.report.Report.{Report}
+use Rattle.chan_model.specs.declared.signal.Load.{Load}
+use Rattle.chan_model.specs.declared.signal.Up.{Up}
+use Rattle.chan_model.specs.declared.signal.Up.TheVariants as up
+use Rattle.chan_model.specs.declared.unit_state.UnitState.{UnitState}
+use Rattle.chan_model.specs.HoldTable.{is_connected}
+use Rattle.chan_model.specs.UnitReports.{is_outward}
+use Rattle.channel_program.specs.declared.check.Check.{Check}
+use Rattle.channel_config.specs.declared.names.SubchannelId.{SubchannelId}
+use Rattle.channel_config.specs.SubchannelWords.{subchannel_named}
+use Rattle.data_move.specs.Accesses as access
+use Rattle.transfer.specs.declared.Transfer.{Transfer}
+use Rattle.transfer.specs.Chunks.{Brought, brought_by, brought_in, brings_none, brought, fitting, is_answered}
+use Rattle.subchannel_model.specs.declared.state.Begun.{Begun}
+use Rattle.subchannel_model.specs.declared.state.Subchannel.{Subchannel}
+use Rattle.subchannel_model.specs.declared.state.SubchannelState.{SubchannelState}
+use Rattle.subchannel_model.specs.declared.status.Condition.{Condition}
+use Rattle.subchannel_model.specs.Places.{Found, found_at, place_in, reached_in}
+use Rattle.subchannel_model.specs.Sending.{finds_full}
+use Rattle.subchannel_model.specs.Taking.{Met, meets, ignoring, move_data, takes_up, bytes_of}
+use Rattle.subchannel_model.specs.Choosing.{chosen}
+use Rattle.subchannel_model.specs.Resume.{rsch_code, resumed}
+use Rattle.subchannel_model.specs.Halt.{hsch_code, halted}
+use Rattle.subchannel_model.specs.Clear.{csch_code, cleared}
+use Rattle.subchannel_model.specs.Cancel.{xsch_code, cancelled}
+use Rattle.subchannel_model.specs.Start.{ssch_code, started}
+use Rattle.subchannel_model.specs.Modify.{msch_code, modified_state}
+use Rattle.wires.specs.Queues.{queue}
+use Rattle.machine_model.specs.State.{State, found_of}
+use Rattle.machine_model.specs.Turns.{Outcome, SubTurn, UpTurn, DownTurn, at_sub, at_storage, at_unit, does}
+use Rattle.machine_model.specs.StorageSteps.{storage_turn, show_turn_of}
+use Rattle.machine_model.specs.InstructionSteps.{function_at, Starts, test_sub, tests, stores, Modifies_by, Modifies, Enables_with, Enables, with_enabling, Executes_at, Executes_on, word_of}
+use Rattle.machine_model.specs.ChooseSteps.{choose_sub, Chooses}
+use Rattle.machine_model.specs.UpSteps.{up_front, up_sub, up_at}
+use Rattle.machine_model.specs.DownSteps.{down_sub, down_unit, down_at}
+use Rattle.machine_model.specs.ReportSteps.{report_sub, report_to, report_at}
+use Rattle.machine_model.specs.Steps.{Steps, Step}
+
+-- storage of so many blocks
+abbrev IsOf : ℕ → Contents → Type 0
+IsOf n storage = length storage.keys ≡ n
+
+abbrev AreOf : {E : Type 0} → ℕ → Result Contents E → Type 0
+AreOf n r = IfOk r (IsOf n)
+
+-- what an event comes to leaves so many blocks
+abbrev Leaves : ℕ → Outcome → Type 0
+Leaves n r = IfOk r (λ t. IsOf n t.state.storage)
+
+either : {A : Type 0} (P : A → Type 0) (b : Bool) (x y : A) → P x → P y → P (if b then x else y)
+either P true x y p q = p
+either P false x y p q = q
+
+-- accesses
+stored-of : (n : ℕ) (storage : Contents) (address : ℕ) (bytes : List ℕ) (r : Result (Unit {0}) StorageFault) → IsOf n storage →
+    AreOf n (where_permitted r (put_at storage address bytes))
+stored-of n storage address bytes (Ok u) k = k
+stored-of n storage address bytes (Err f) k = tt
+
+checked-of : (n : ℕ) (r : Result Contents StorageFault) → AreOf n r → AreOf n (access.checked r)
+checked-of n (Ok storage) k = k
+checked-of n (Err f) k = tt
+
+prefix-of : (n : ℕ) (storage : Contents) (aligned inside : Bool) (prefixes : List ℕ) → IsOf n storage →
+    AreOf n (if not aligned then Err Specification else (if inside then Ok (record storage { prefixes = prefixes }) else Err Addressing))
+prefix-of n storage true true prefixes k = k
+prefix-of n storage true false prefixes k = tt
+prefix-of n storage false inside prefixes k = tt
+
+-- a chunk that is brought in
+brought_by-of : (n : ℕ) (storage : Contents) (t : Transfer) (count : ℕ) (r : Result Contents Check) → IsOf n storage → AreOf n r →
+    IsOf n (brought_by storage t count r).storage
+brought_by-of n storage t count (Ok after) k a = a
+brought_by-of n storage t count (Err check) k a = k
+
+brought_in-of : (n : ℕ) (storage : Contents) (t : Transfer) (bytes : List ℕ) → IsOf n storage → IsOf n (brought_in storage t bytes).storage
+brought_in-of n storage t bytes k =
+    either (λ (x : Brought). IsOf n x.storage) (is_some t.fault) (brings_none storage t) _ k
+    (brought_by-of n storage t (length bytes) (access.stored storage t.walk.orb.key t.moving bytes) k
+    (either (AreOf n) t.moving.skipped (Ok storage) _ k
+    (checked-of n (keys.stored storage t.walk.orb.key t.moving.piece bytes)
+    (stored-of n storage t.moving.piece bytes (store_check storage t.walk.orb.key t.moving.piece (length bytes)) k))))
+
+brought-of : (n : ℕ) (storage : Contents) (t : Transfer) (s : ℕ) (bytes : List ℕ) → IsOf n storage → IsOf n (brought storage t s bytes).storage
+brought-of n storage t s bytes k =
+    either (λ (x : Brought). IsOf n x.storage) (s == t.sequence + 1) _ (brings_none storage t)
+    (brought_in-of n storage (record t { sequence = s }) (fitting t bytes) k) k
+
+-- signals that come up
+abbrev MeetsOf : ℕ → Met → Type 0
+MeetsOf n m = IsOf n m.storage
+
+data-of : (n : ℕ) (storage : Contents) (s : SubchannelState) (begun : Option Begun) (p t c m seq : ℕ) (load : Load) → IsOf n storage →
+    MeetsOf n (move_data storage s begun p t c m seq load)
+data-of n storage s None p t c m seq load k = k
+data-of n storage s (Some b) p t c m seq load k =
+    either (MeetsOf n) (is_answered b.transfer m seq) _ (meets storage (ignoring s))
+    (either (MeetsOf n) (is_outward b.transfer.code) (meets storage _) _ k (brought-of n storage b.transfer seq (bytes_of load) k)) k
+
+met-of : (n : ℕ) (returns : Bool) (storage : Contents) (s : SubchannelState) (p : ℕ) (signal : Up) → IsOf n storage → MeetsOf n (takes_up returns storage s p signal)
+met-of n returns storage s p (up.Accept t) k = k
+met-of n returns storage s p (up.Busy t) k = k
+met-of n returns storage s p (up.Leave t c) k = k
+met-of n returns storage s p (up.Back t c) k = k
+met-of n returns storage s p (up.Data t c m seq load) k =
+    either (MeetsOf n) (is_connected s.hold.phase p t c) _ (meets storage (ignoring s)) (data-of n storage s s.begun p t c m seq load k) k
+met-of n returns storage s p (up.End t m status more) k = k
+met-of n returns storage s p (up.Released t) k = k
+met-of n returns storage s p (up.Cleared r) k = k
+met-of n returns storage s p (up.Notice b) k = k
+met-of n returns storage s p (up.Attn a status) k = k
+
+abbrev UpOf : ℕ → Result UpTurn Fault → Type 0
+UpOf n r = IfOk r (λ t. IsOf n t.storage)
+
+front-of : (n : ℕ) (returns : Bool) (storage : Contents) (sub : Subchannel) (path : ℕ) (front : Option Up) → IsOf n storage →
+    UpOf n (up_front returns storage sub path front)
+front-of n returns storage sub path None k = tt
+front-of n returns storage sub path (Some signal) k =
+    either (UpOf n) (finds_full sub.wires.down (takes_up returns storage sub.state path signal).step.came.sent) _ _ tt
+    (met-of n returns storage sub.state path signal k)
+
+up-of : (n : ℕ) (returns : Bool) (storage : Contents) (sub : Subchannel) (path : ℕ) → IsOf n storage → UpOf n (up_sub returns storage sub path)
+up-of n returns storage sub path k =
+    either (UpOf n) (nat_lt path (length sub.setup.paths)) _ _
+    (front-of n returns storage sub path (slice_get (queue sub.wires.up path) 0) k) tt
+
+module _ (s : State) where
+  abbrev Kept : Outcome → Type 0
+  Kept r = Leaves (length s.storage.keys) r
+
+  at_sub-kept : (place : ℕ) (r : Result SubTurn Fault) → Kept (at_sub s place r)
+  at_sub-kept place (Ok t) = refl
+  at_sub-kept place (Err f) = tt
+
+  at_storage-kept : (place : ℕ) (r : Result UpTurn Fault) → UpOf (length s.storage.keys) r → Kept (at_storage s place r)
+  at_storage-kept place (Ok t) k = k
+  at_storage-kept place (Err f) k = tt
+
+  at_unit-kept : (place at : ℕ) (r : Result DownTurn Fault) → Kept (at_unit s place at r)
+  at_unit-kept place at (Ok t) = refl
+  at_unit-kept place at (Err f) = tt
+
+  -- an operator's acts
+  storage-kept : (r : Result Contents StorageFault) → AreOf (length s.storage.keys) r → Kept (storage_turn s r)
+  storage-kept (Ok storage) k = k
+  storage-kept (Err f) k = tt
+
+  put-kept : (address : ℕ) (bytes : List ℕ) → Kept (storage_turn s (put s.storage address bytes))
+  put-kept address bytes = storage-kept _ (either (AreOf (length s.storage.keys)) (is_inside s.storage address (length bytes)) _ _ refl tt)
+
+  key-kept : (address : ℕ) (key : Key) → Kept (storage_turn s (key_set s.storage address key))
+  key-kept address key =
+      storage-kept _ (either (AreOf (length s.storage.keys)) (is_inside s.storage address 1) _ _ (length-set s.storage.keys _ key) tt)
+
+  prefix-kept : (cpu address : ℕ) → Kept (storage_turn s (prefix_set s.storage cpu address))
+  prefix-kept cpu address = storage-kept _ (prefix-of (length s.storage.keys) s.storage (address % 8192 == 0) (is_inside s.storage address 8192) _ refl)
+
+  show-kept : (r : Result (List ℕ) StorageFault) → Kept (show_turn_of s r)
+  show-kept (Ok bytes) = refl
+  show-kept (Err f) = tt
+
+  -- instructions
+  function-kept : (q : Option Found) (code : Condition → ConditionCode) (effect : Subchannel → SubchannelState) → Kept (function_at s q code effect)
+  function-kept None code effect = refl
+  function-kept (Some f) code effect = refl
+
+  starts-kept : (q : Option Found) (image : Result (List ℕ) StorageFault) (o : Outcome) → Starts s q image o → Kept o
+  starts-kept q (Err f) o w = subst Kept (sym w) tt
+  starts-kept q (Ok image) o w =
+      elim w [
+        | inl x ↦ subst Kept (sym x.1) tt
+        | inr x ↦ subst Kept (sym x.2) (function-kept q ssch_code (λ sub. started sub.state x.0))
+      ]
+
+  test-kept : (cpu address : ℕ) (f : Found) (c : ConditionCode) → Kept (test_sub s cpu address f c)
+  test-kept cpu address f code.Zero = refl
+  test-kept cpu address f code.One = refl
+  test-kept cpu address f code.Two = refl
+  test-kept cpu address f code.Three = refl
+
+  tests-kept : (cpu address : ℕ) (q : Option Found) (r : Result (Unit {0}) StorageFault) → Kept (tests s cpu address q r)
+  tests-kept cpu address q (Err f) = tt
+  tests-kept cpu address None (Ok u) = refl
+  tests-kept cpu address (Some f) (Ok u) = test-kept cpu address f _
+
+  stores-kept : (cpu address : ℕ) (q : Option Found) (r : Result (Unit {0}) StorageFault) → Kept (stores s cpu address q r)
+  stores-kept cpu address q (Err f) = tt
+  stores-kept cpu address None (Ok u) = refl
+  stores-kept cpu address (Some f) (Ok u) = refl
+
+-- of any state with as many keys, as the one is in which an enabling word was stored
+modified-kept : (s : State) (q : Option Found) (image : List ℕ) (o : Outcome) → Modifies_by s q image o → Kept s o
+modified-kept s q image o w =
+    elim w.2 [
+      | inl x ↦ subst (Kept s) (sym x.1) tt
+      | inr x ↦ subst (Kept s) (sym x.1) (function-kept s q msch_code (λ sub. modified_state sub w.0))
+    ]
+
+modifies-kept : (s : State) (q : Option Found) (image : Result (List ℕ) StorageFault) (o : Outcome) → Modifies s q image o → Kept s o
+modifies-kept s q (Err f) o w = subst (Kept s) (sym w) tt
+modifies-kept s q (Ok image) o w = modified-kept s q image o w
+
+enabled-kept : (s : State) (cpu : ℕ) (q : Option Found) (subclass : ℕ) (multipath : Bool) (image : List ℕ) (o : Outcome) →
+    Enables_with s cpu q subclass multipath image o → Kept s o
+enabled-kept s cpu None subclass multipath image o w = modified-kept (with_enabling s cpu image subclass multipath) None image o w
+enabled-kept s cpu (Some f) subclass multipath image o w = subst (Kept s) (sym w) refl
+
+enables-kept : (s : State) (cpu : ℕ) (q : Option Found) (subclass : ℕ) (multipath : Bool) (image : Result (List ℕ) StorageFault) (o : Outcome) →
+    Enables s cpu q subclass multipath image o → Kept s o
+enables-kept s cpu q subclass multipath (Err f) o w = subst (Kept s) (sym w) tt
+enables-kept s cpu q subclass multipath (Ok image) o w = enabled-kept s cpu q subclass multipath image o w
+
+executes_at-kept : (s : State) (cpu : ℕ) (i : Instruction) (q : Option Found) (o : Outcome) → Executes_at s cpu i q o → Kept s o
+executes_at-kept s cpu (instruction.Ssch word address) q o w = starts-kept s q (operand_at s.storage cpu address 12 4) o w
+executes_at-kept s cpu (instruction.Tsch word address) q o w =
+    subst (Kept s) (sym w) (tests-kept s cpu address q (operand_check s.storage cpu address 64 4))
+executes_at-kept s cpu (instruction.Stsch word address) q o w =
+    subst (Kept s) (sym w) (stores-kept s cpu address q (operand_check s.storage cpu address 52 4))
+executes_at-kept s cpu (instruction.Msch word address) q o w = modifies-kept s q (operand_at s.storage cpu address 52 4) o w
+executes_at-kept s cpu (instruction.Enable word subclass multipath) q o w =
+    enables-kept s cpu q subclass multipath (operand_at s.storage cpu 0xF00 52 4) o w
+executes_at-kept s cpu (instruction.Rsch word) q o w = subst (Kept s) (sym w) (function-kept s q rsch_code (λ sub. resumed sub.state))
+executes_at-kept s cpu (instruction.Hsch word) q o w = subst (Kept s) (sym w) (function-kept s q hsch_code (λ sub. halted sub.state))
+executes_at-kept s cpu (instruction.Csch word) q o w = subst (Kept s) (sym w) (function-kept s q csch_code (λ sub. cleared sub.state))
+executes_at-kept s cpu (instruction.Xsch word) q o w = subst (Kept s) (sym w) (function-kept s q xsch_code (λ sub. cancelled sub.state))
+
+executes-kept : (s : State) (cpu : ℕ) (i : Instruction) (id : Option SubchannelId) (o : Outcome) → Executes_on s cpu i id o → Kept s o
+executes-kept s cpu i None o w = subst (Kept s) (sym w) tt
+executes-kept s cpu i (Some id) o w = executes_at-kept s cpu i (found_at s.subs (place_in id s.subs)) o w
+
+-- what the subsystem does for a subchannel, and what a unit does
+chooses-kept : (s : State) (q : Option Found) (o : Outcome) → Chooses s q o → Kept s o
+chooses-kept s None o w = subst (Kept s) (sym w) tt
+chooses-kept s (Some f) o w = subst (Kept s) (sym w.2) (at_sub-kept s f.place (choose_sub f.sub (chosen f.sub w.0)))
+
+up-kept : (s : State) (q : Option Found) (path : ℕ) → Kept s (up_at s q path)
+up-kept s None path = tt
+up-kept s (Some f) path = at_storage-kept s f.place (up_sub false s.storage f.sub path) (up-of _ false s.storage f.sub path refl)
+
+down_unit-kept : (s : State) (f : Found) (path : ℕ) (u : Option UnitState) → Kept s (down_unit s f path u)
+down_unit-kept s f path None = tt
+down_unit-kept s f path (Some u) = at_unit-kept s f.place f.sub.setup.«unit» (down_sub true f.sub path u)
+
+down-kept : (s : State) (q : Option Found) (path : ℕ) → Kept s (down_at s q path)
+down-kept s None path = tt
+down-kept s (Some f) path = down_unit-kept s f path (slice_get s.units f.sub.setup.«unit»)
+
+report_to-kept : (s : State) (at : ℕ) (u : UnitState) (report : Report) (q : Option Found) → Kept s (report_to s at u report q)
+report_to-kept s at u report None = tt
+report_to-kept s at u report (Some f) = at_unit-kept s f.place at (report_sub f.sub u report)
+
+report-kept : (s : State) (at : ℕ) (u : Option UnitState) (report : Report) → Kept s (report_at s at u report)
+report-kept s at None report = tt
+report-kept s at (Some u) report = report_to-kept s at u report (found_at s.subs (reached_in at report.side s.subs))
+
+steps-kept : (s : State) (e : Event) (o : Outcome) → Steps s e o → Kept s o
+steps-kept s (event.Put address bytes) o w = subst (Kept s) (sym w) (put-kept s address bytes)
+steps-kept s (event.SetKey address key) o w = subst (Kept s) (sym w) (key-kept s address key)
+steps-kept s (event.SetPrefix cpu address) o w = subst (Kept s) (sym w) (prefix-kept s cpu address)
+steps-kept s (event.Show address count) o w = subst (Kept s) (sym w) (show-kept s (keys.shown s.storage address count))
+steps-kept s (event.Execute cpu i) o w = executes-kept s cpu i (subchannel_named s.sets (word_of i)) o w
+steps-kept s (event.Choose word) o w = chooses-kept s (found_of s word) o w
+steps-kept s (event.Up word path) o w = subst (Kept s) (sym w) (up-kept s (found_of s word) path)
+steps-kept s (event.Down word path) o w = subst (Kept s) (sym w) (down-kept s (found_of s word) path)
+steps-kept s (event.Report at report) o w = subst (Kept s) (sym w) (report-kept s at (slice_get s.units at) report)
+
+pub step-blocks : (s : State) (e : Event) (r : Reply) (new : State) → Step s e r new → length new.storage.keys ≡ length s.storage.keys
+step-blocks s e r new w = steps-kept s e (does r new) w
