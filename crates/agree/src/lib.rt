@@ -5,6 +5,4 @@
 pub mod event;
 mod line;
 mod parts;
-#[cfg(test)]
-mod tests;
 pub mod world;

@@ -9,5 +9,3 @@
 
 pub mod allegiances;
 pub mod path_use;
-#[cfg(test)]
-mod tests;

@@ -8,8 +8,6 @@ pub mod command;
 mod fault;
 pub mod law;
 mod one;
-#[cfg(test)]
-mod tests;
 mod zero;
 
 /// The format of a program's channel-command words.

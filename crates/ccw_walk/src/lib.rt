@@ -10,8 +10,6 @@ ghost use Rattle.storage_keys.specs.Storage.{fetched as storage_fetched};
 ghost use Rattle.ccw_walk.specs.Going.{GoesOn};
 
 mod reading;
-#[cfg(test)]
-mod tests;
 
 use channel_program::check::Check;
 use channel_program::law::{advances, places};

@@ -3,5 +3,3 @@
 
 pub mod event;
 pub mod reply;
-#[cfg(test)]
-mod tests;

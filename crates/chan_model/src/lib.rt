@@ -10,6 +10,4 @@ pub mod names;
 pub mod paths;
 pub mod report;
 pub mod signal;
-#[cfg(test)]
-mod tests;
 pub mod unit_state;

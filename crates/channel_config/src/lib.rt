@@ -4,5 +4,3 @@
 pub mod config;
 pub mod names;
 pub mod parts;
-#[cfg(test)]
-mod tests;

@@ -3,8 +3,6 @@
 
 pub mod check;
 pub mod law;
-#[cfg(test)]
-mod tests;
 
 use ccw_codec::Ccw;
 use check::Check;

@@ -7,8 +7,6 @@
 #![tactic(auto)]
 
 pub mod sharing;
-#[cfg(test)]
-mod tests;
 
 ghost use Rattle.std.specs.Prelude.{◌≡◌, ◌≤◌, List, length, true, false};
 ghost use Rattle.control_units.specs.declared.Member.{Member};

@@ -3,8 +3,4 @@
 #![tactic(auto)]
 
 pub mod law;
-#[cfg(test)]
-mod many_lists;
 pub mod moving;
-#[cfg(test)]
-mod tests;

@@ -9,9 +9,5 @@ pub mod block_store;
 pub mod command;
 pub mod console;
 pub mod console_command;
-#[cfg(test)]
-mod ends;
 mod giving;
 pub mod rejecting;
-#[cfg(test)]
-mod tests;

@@ -9,6 +9,4 @@
 
 pub mod engines;
 pub mod tables;
-#[cfg(test)]
-mod tests;
 mod walk;

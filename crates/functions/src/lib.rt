@@ -17,8 +17,6 @@ pub mod blocks;
 pub mod codes;
 pub mod effects;
 pub mod law;
-#[cfg(test)]
-mod tests;
 
 use chan_model::answer::ConditionCode;
 use orb_block::Orb;

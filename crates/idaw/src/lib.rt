@@ -7,8 +7,6 @@ ghost use Rattle.idaw.specs.Lists as lists;
 ghost use Rattle.idaw.specs.Places.{place_of_word, covered};
 
 pub mod law;
-#[cfg(test)]
-mod tests;
 
 use orb_block::Orb;
 

@@ -17,8 +17,6 @@ mod operands;
 mod others;
 mod performing;
 mod provided;
-#[cfg(test)]
-mod tests;
 mod turns;
 
 pub use absent::execute_absent;

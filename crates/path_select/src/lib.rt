@@ -66,30 +66,3 @@ fn first_from(usable: &PathSet, first: usize) -> Option<Path>
     }
     None
 }
-
-#[cfg(test)]
-mod tests {
-    use super::*;
-    use chan_model::paths::paths_of_mask;
-
-    fn chosen<P: PathChoice>(choice: &P, mask: u8, last: Option<u32>) -> Option<usize> {
-        let last = last.and_then(Path::new);
-        Some(choice.choose(&paths_of_mask(mask), last)?.index())
-    }
-
-    #[test]
-    fn paths_are_chosen_by_any_rule(rt: HostRuntime) {
-        assert_eq!(rt; chosen(&Lowest, 0x25, Some(2)), Some(2));
-        assert_eq!(rt; chosen(&Lowest, 0, Some(2)), None);
-        for (mask, last, want) in [
-            (0xFF, None, Some(0)),
-            (0x25, None, Some(2)),
-            (0x25, Some(2), Some(5)),
-            (0x25, Some(7), Some(2)),
-            (0x20, Some(2), Some(2)),
-            (0, Some(2), None),
-        ] {
-            assert_eq!(rt; chosen(&Rotating, mask, last), want, "mask {mask}");
-        }
-    }
-}

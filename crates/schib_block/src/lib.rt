@@ -5,8 +5,6 @@
 pub mod law;
 pub mod pmcw;
 pub mod schib;
-#[cfg(test)]
-mod tests;
 
 /// How many bytes a subchannel-information block has.
 pub const SCHIB_BYTES: usize = 52;

@@ -11,10 +11,6 @@ ghost use Rattle.script.specs.Reading.{BadAt};
 mod draft;
 mod pieces;
 mod said;
-#[cfg(test)]
-mod tests;
-#[cfg(test)]
-mod wrong_lines;
 
 use crate::draft::draft_of;
 use crate::pieces::pieces;

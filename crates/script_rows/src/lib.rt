@@ -3,8 +3,6 @@
 
 pub mod actions;
 pub mod settings;
-#[cfg(test)]
-mod tests;
 pub mod words;
 
 use chan_events::event::Event;

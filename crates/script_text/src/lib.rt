@@ -8,10 +8,6 @@ ghost use Rattle.script_text.specs.Text as spec;
 ghost use Rattle.streams.specs.Sinks.{Puts};
 
 pub mod held;
-#[cfg(test)]
-mod shown_lines;
-#[cfg(test)]
-mod tests;
 
 use crate::held::Held;
 use chan_events::reply::Reply;

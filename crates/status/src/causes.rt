@@ -162,7 +162,7 @@ fn suspension_shown(tried: u32, count: u16) -> Shown
 }
 
 /// What a cause shows.
-pub(crate) fn shown_of(state: &SubchannelState, cause: &Cause) -> Shown
+pub fn shown_of(state: &SubchannelState, cause: &Cause) -> Shown
     ensures { result ≡ (spec.row_of state.now cause.now).shown }
 {
     match cause {

@@ -13,8 +13,6 @@ pub mod ends;
 pub mod law;
 pub mod shown;
 pub mod testing;
-#[cfg(test)]
-mod tests;
 
 use chan_model::answer::ConditionCode;
 use functions::codes::tsch_code;

@@ -7,8 +7,6 @@ ghost use Rattle.supply.specs.Requests.{IsModest};
 
 pub mod key;
 pub mod law;
-#[cfg(test)]
-mod tests;
 
 use key::Key;
 use std::alloc::{AllocError, Global};

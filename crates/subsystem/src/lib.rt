@@ -3,5 +3,3 @@
 
 pub mod history;
 pub mod subsystem;
-#[cfg(test)]
-mod tests;

@@ -5,8 +5,6 @@
 ghost use Rattle.std.specs.Prelude.{◌≡◌, ◌<◌, ◌≤◌, ◌+◌, ◌-◌, ◌++◌, ◌∷◌, [], Bool, true, OnOk, OnErr, vec_len, vec_capacity, length};
 ghost use Rattle.supply.specs.Requests.{IsModest};
 
-#[cfg(test)]
-mod tests;
 
 use std::alloc::AllocError;
 

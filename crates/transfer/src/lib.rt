@@ -5,8 +5,6 @@
 pub mod chunks;
 pub mod commands;
 pub mod law;
-#[cfg(test)]
-mod tests;
 
 use ccw_walk::Walk;
 use chan_model::chunk::Chunk;

@@ -6,8 +6,6 @@ mod commands;
 mod parts;
 mod reports;
 mod signals;
-#[cfg(test)]
-mod tests;
 mod works;
 
 ghost use Rattle.std.specs.Prelude.{◌≡◌, ◌<◌, ◌^◌, ℕ, Bool, IfSome, is_some};

@@ -1,0 +1,50 @@
+//! Reports of paths, of which the last of sixteen says that one was lost.
+
+use chan_model::answer::ConditionCode;
+use channel_reports::Reports;
+use scsw_irb::crw::{Crw, Report};
+
+#[test]
+fn the_last_of_sixteen_says_that_one_was_lost(rt: HostRuntime) {
+    let mut reports = Reports::new();
+    for _ in 0..8 {
+        reports.path_lost(0x10);
+        reports.path_back(0x10);
+    }
+    reports.path_lost(0x10);
+    let mut words = [0u32; 17];
+    for word in &mut words {
+        *word = match reports.stcrw() {
+            Some(crw) => crw.word(),
+            None => 0,
+        };
+    }
+    assert!(rt; words[0] == 0x0406_0010 && words[1] == 0x0401_0010);
+    assert!(rt; words[13] == 0x0401_0010 && words[14] == 0x0406_0010);
+    assert!(rt; words[15] == 0x2401_0010);
+    assert!(rt; words[16] == 0);
+}
+
+#[test]
+fn a_reset_is_asked_for_once_until_it_is_done(rt: HostRuntime) {
+    let mut reports = Reports::new();
+    assert!(rt; reports.rchp(0x10, true) == ConditionCode::Zero);
+    assert!(rt; reports.rchp(0x10, true) == ConditionCode::Two);
+    assert!(rt; reports.rchp(0x11, false) == ConditionCode::Three);
+    assert!(rt; reports.is_asked(0x10) && !reports.is_asked(0x11));
+    assert!(rt; reports.reset_done(0x10));
+    assert!(rt; reports.stcrw().map(Crw::word) == Some(0x4402_0010));
+    assert!(rt; !reports.reset_done(0x10) && reports.stcrw().is_none());
+    assert!(rt; reports.rchp(0x10, true) == ConditionCode::Zero);
+}
+
+#[test]
+fn a_path_that_goes_down_is_not_asked_for(rt: HostRuntime) {
+    let mut reports = Reports::new();
+    assert!(rt; reports.rchp(0xFF, true) == ConditionCode::Zero);
+    reports.path_lost(0xFF);
+    assert!(rt; !reports.is_asked(0xFF));
+    assert!(rt; reports.stcrw().map(Crw::word) == Some(0x0406_00FF));
+    reports.add(Report::Back, 1);
+    assert!(rt; reports.stcrw().map(Crw::word) == Some(0x0401_0001));
+}

@@ -1,0 +1,102 @@
+//! Requests that wait, and those that are answered.
+
+use interruptions::Pending;
+use scsw_irb::code::IntCode;
+use std::alloc::AllocError;
+use supply::{Given, Refusing};
+
+/// A request of a subchannel of set 0.
+fn request(number: u16, subclass: u8) -> Option<IntCode> {
+    if subclass > 7 {
+        return None;
+    }
+    Some(IntCode {
+        set: 0,
+        subchannel: number,
+        parameter: 0x100 + u32::from(number),
+        subclass,
+    })
+}
+
+/// Posts such a request, where there is room for it.
+fn post(pending: &mut Pending, number: u16, subclass: u8) {
+    if let Some(request) = request(number, subclass) {
+        if request.subchannel < pending.numbers() {
+            pending.post(request);
+        }
+    }
+}
+
+/// The number of the subchannel that is answered.
+fn answered(pending: &mut Pending, mask: u8) -> Option<u16> {
+    Some(pending.tpi(mask)?.subchannel)
+}
+
+#[test]
+fn the_oldest_request_of_the_lowest_enabled_subclass_is_answered(
+    rt: HostRuntime,
+) -> Result<(), AllocError> {
+    let mut pending = Pending::new(rt.alloc(), 5)?;
+    assert_eq!(rt; answered(&mut pending, 0xFF), None);
+    for (number, subclass) in [(4, 7), (2, 3), (0, 3), (1, 3), (3, 0)] {
+        post(&mut pending, number, subclass);
+    }
+    assert_eq!(rt; answered(&mut pending, 0x7F), Some(2));
+    assert_eq!(rt; answered(&mut pending, 0x6E), None);
+    assert_eq!(rt; answered(&mut pending, 0xFF), Some(3));
+    assert_eq!(rt; answered(&mut pending, 0xFF), Some(0));
+    assert_eq!(rt; answered(&mut pending, 0x01), Some(4));
+    assert_eq!(rt; answered(&mut pending, 0x10), Some(1));
+    assert_eq!(rt; answered(&mut pending, 0xFF), None);
+    Ok(())
+}
+
+#[test]
+fn a_subchannel_has_one_request(rt: HostRuntime) -> Result<(), AllocError> {
+    let mut pending = Pending::new(rt.alloc(), 2)?;
+    post(&mut pending, 1, 7);
+    post(&mut pending, 0, 7);
+    post(&mut pending, 1, 0);
+    assert_eq!(rt; answered(&mut pending, 0x80), None);
+    pending.drop_request(1, 1);
+    pending.drop_request(0, 0);
+    let words = pending.tpi(0x01).map(|code| code.words());
+    assert_eq!(rt; words, Some([0x0001_0001, 0x101, 0x3800_0000]));
+    post(&mut pending, 0, 2);
+    post(&mut pending, 1, 2);
+    pending.drop_all();
+    assert_eq!(rt; answered(&mut pending, 0xFF), None);
+    assert_eq!(rt; pending.numbers(), 2);
+    Ok(())
+}
+
+#[test]
+fn the_one_request_for_room_is_refused(rt: HostRuntime) -> Result<(), AllocError> {
+    for left in 0..2 {
+        let mut supply = Refusing {
+            left,
+            refused: false,
+        };
+        let made = Pending::new_with(rt.alloc(), &mut supply, 2);
+        assert_eq!(rt; made.is_err(), left == 0);
+        assert_eq!(rt; supply.refused, left == 0);
+        let mut supply = Given { refused: false };
+        let mut pending = Pending::new_with(rt.alloc(), &mut supply, 2)?;
+        assert!(rt; !supply.refused);
+        post(&mut pending, 1, 7);
+        assert_eq!(rt; answered(&mut pending, 0x01), Some(1));
+    }
+    Ok(())
+}
+
+#[test]
+fn room_for_no_subchannel_is_not_asked_for(rt: HostRuntime) -> Result<(), AllocError> {
+    let mut supply = Refusing {
+        left: 0,
+        refused: false,
+    };
+    let pending = Pending::new_with(rt.alloc(), &mut supply, 0)?;
+    assert_eq!(rt; pending.numbers(), 0);
+    assert!(rt; !supply.refused);
+    Ok(())
+}

@@ -1,0 +1,33 @@
+//! An operation-request block is read and written, and each forbidden bit of it refused.
+
+use orb_block::{Operand, Orb};
+
+#[test]
+fn an_image_is_read_and_written(rt: HostRuntime) {
+    let image = [
+        0x12, 0x34, 0x56, 0x78, 0x48, 0x82, 0xFF, 0x80, 0, 0, 0x20, 0,
+    ];
+    match Orb::read(&image) {
+        Err(_) => assert!(rt; false, "the image is allowed"),
+        Ok(orb) => {
+            assert_eq!(rt; orb.parameter, 0x1234_5678);
+            assert_eq!(rt; orb.key, 4);
+            assert!(rt; orb.suspend && orb.format_one && orb.suppress_length && !orb.prefetch);
+            assert!(rt; orb.long_addresses && !orb.small_blocks && !orb.modified_words);
+            assert_eq!(rt; orb.paths, 0xFF);
+            assert_eq!(rt; orb.program, 0x2000);
+            assert_eq!(rt; orb.write(), image);
+        }
+    }
+}
+
+#[test]
+fn each_forbidden_bit_is_refused(rt: HostRuntime) {
+    for (place, bits) in [(5usize, 4u8), (7, 0x20), (7, 2), (7, 1), (8, 0x80)] {
+        let mut image = [0; 12];
+        if place < 12 {
+            image[place] = bits;
+        }
+        assert_eq!(rt; Orb::read(&image), Err(Operand), "byte {place}");
+    }
+}

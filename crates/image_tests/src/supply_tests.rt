@@ -1,0 +1,78 @@
+//! Each request refused in turn.
+
+use std::alloc::{AllocError, Global};
+use supply::{Given, Refusing, Supply, extend, make_room, push};
+
+/// Three requests: two bytes one by one, and two together.
+fn fill<S: Supply>(alloc: Global, supply: &mut S) -> Result<Vec<u8>, AllocError> {
+    let mut list = Vec::new(alloc);
+    push(supply, &mut list, 1)?;
+    push(supply, &mut list, 2)?;
+    extend(supply, &mut list, &[3, 4])?;
+    Ok(list)
+}
+
+#[test]
+fn each_request_is_refused_in_turn(rt: HostRuntime) {
+    for left in 0..5 {
+        let mut supply = Refusing {
+            left,
+            refused: false,
+        };
+        assert_eq!(rt; fill(rt.alloc(), &mut supply).is_err(), left < 3);
+        assert_eq!(rt; supply.refused, left < 3);
+        let mut supply = Given { refused: false };
+        match fill(rt.alloc(), &mut supply) {
+            Ok(list) => assert_eq!(rt; list.as_slice(), [1, 2, 3, 4].as_slice()),
+            Err(_) => assert!(rt; false, "the allocator has room"),
+        }
+        assert!(rt; !supply.refused);
+    }
+}
+
+#[test]
+fn what_was_there_stays_where_a_request_is_refused(rt: HostRuntime) {
+    let mut list = Vec::new(rt.alloc());
+    let mut supply = Refusing {
+        left: 1,
+        refused: false,
+    };
+    assert!(rt; push(&mut supply, &mut list, 1).is_ok());
+    assert!(rt; push(&mut supply, &mut list, 2).is_err());
+    assert!(rt; extend(&mut supply, &mut list, &[3]).is_err());
+    assert_eq!(rt; list.as_slice(), [1].as_slice());
+}
+
+/// One item more than two requests are for at the most: so many take three.
+const THREE_PORTIONS: usize = 0x200_0001;
+
+#[test]
+fn each_portion_of_room_is_refused_in_turn(rt: HostRuntime) {
+    for left in 0..5 {
+        let mut list = Vec::new(rt.alloc());
+        assert!(rt; push(&mut Given { refused: false }, &mut list, 7).is_ok());
+        let mut supply = Refusing {
+            left,
+            refused: false,
+        };
+        let made = make_room(&mut supply, &mut list, THREE_PORTIONS);
+        assert_eq!(rt; made.is_err(), left < 3);
+        assert_eq!(rt; supply.refused, left < 3);
+        let mut supply = Given { refused: false };
+        assert!(rt; make_room(&mut supply, &mut list, THREE_PORTIONS).is_ok());
+        assert!(rt; !supply.refused);
+        assert!(rt; list.capacity() > THREE_PORTIONS);
+        assert_eq!(rt; list.as_slice(), [7u8].as_slice());
+    }
+}
+
+#[test]
+fn room_for_nothing_is_not_asked_for(rt: HostRuntime) {
+    let mut list = Vec::<u8>::new(rt.alloc());
+    let mut supply = Refusing {
+        left: 0,
+        refused: false,
+    };
+    assert!(rt; make_room(&mut supply, &mut list, 0).is_ok());
+    assert!(rt; !supply.refused);
+}

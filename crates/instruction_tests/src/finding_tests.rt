@@ -1,0 +1,192 @@
+//! Places and engines of a few subchannels, looked up.
+
+use chan_model::hold_state::{HoldPhase, HoldState};
+use chan_model::names::{Path, Side};
+use channel_config::names::SubchannelId;
+use channel_config::parts::{ChpidList, SubchannelSetup};
+use finding::engines::{Counted, Engines, engaged};
+use finding::tables::Places;
+use scsw_irb::scsw::Scsw;
+use scsw_irb::serials::Serials;
+use std::alloc::{AllocError, Global};
+use subchannel_model::state::{Pmcw, Subchannel, SubchannelState};
+use supply::{Given, Refusing, Supply};
+use wires::Wires;
+
+fn state(phase: HoldPhase) -> SubchannelState {
+    SubchannelState {
+        pmcw: Pmcw {
+            parameter: 0,
+            subclass: 0,
+            enabled: true,
+            multipath: false,
+            logical: [true; 8],
+            not_operational: [false; 8],
+            last_used: None,
+            operational: [true; 8],
+        },
+        scsw: Scsw::zero(),
+        serials: Serials {
+            made: 0,
+            cleared: 0,
+        },
+        drawn: 0,
+        starts: 0,
+        waiting: None,
+        begun: None,
+        suspended: None,
+        hold: HoldState {
+            phase,
+            seen: 0,
+            known: 0,
+            reset_path: None,
+            first_path: None,
+            single_path: true,
+        },
+        offered: 0,
+        last_path: None,
+        dedicated: None,
+    }
+}
+
+/// A subchannel of this name on this side of a unit, with two paths: 10 and 20 in hexadecimal.
+fn subchannel(set: u8, number: u16, unit: u16, side: Side, phase: HoldPhase) -> Subchannel {
+    let mut paths = ChpidList::new();
+    paths.push(0x10);
+    paths.push(0x20);
+    Subchannel {
+        setup: SubchannelSetup {
+            id: SubchannelId { set, number },
+            device: 0x100,
+            unit,
+            side,
+            paths,
+        },
+        state: state(phase),
+        wires: Wires::new(),
+    }
+}
+
+/// A program is offered on the second path.
+fn offered() -> HoldPhase {
+    match Path::new(1) {
+        Some(path) => HoldPhase::Offer { number: 1, path },
+        None => HoldPhase::Free,
+    }
+}
+
+/// Four subchannels of two sets. Both sides of unit 0 and one of unit 2 are reached, and no subchannel reaches unit 1. The
+/// last has the name of the first, and reaches a unit beyond three units. The first and the third engage path 20.
+fn four(alloc: Global) -> Result<Vec<Subchannel>, AllocError> {
+    let mut subs = Vec::new(alloc);
+    subs.push(subchannel(0, 5, 2, Side::First, offered()))?;
+    subs.push(subchannel(1, 0, 0, Side::First, HoldPhase::Free))?;
+    subs.push(subchannel(1, 0xFF, 0, Side::Second, offered()))?;
+    subs.push(subchannel(0, 5, 9, Side::Second, HoldPhase::Away { number: 1 }))?;
+    Ok(subs)
+}
+
+#[test]
+fn the_first_subchannel_of_a_name_is_found(rt: HostRuntime) -> Result<(), AllocError> {
+    let subs = four(rt.alloc())?;
+    let places = Places::of(rt.alloc(), &mut Given { refused: false }, 2, 3, &subs)?;
+    for (set, number, place) in [
+        (0, 5, Some(0)),
+        (1, 0, Some(1)),
+        (1, 0xFF, Some(2)),
+        (0, 0, None),
+        (0, 0x100, None),
+        (0, 0x105, None),
+        (2, 5, None),
+    ] {
+        let found = places.place_in(SubchannelId { set, number }, &subs);
+        assert_eq!(rt; found, place, "at {set} {number}");
+    }
+    Ok(())
+}
+
+#[test]
+fn a_name_beyond_the_tables_is_found(rt: HostRuntime) -> Result<(), AllocError> {
+    let subs = four(rt.alloc())?;
+    let places = Places::of(rt.alloc(), &mut Given { refused: false }, 1, 0, &subs)?;
+    let id = SubchannelId { set: 1, number: 0 };
+    assert_eq!(rt; places.place_in(id, &subs), Some(1));
+    assert_eq!(rt; places.reached_in(2, Side::First, &subs), Some(0));
+    Ok(())
+}
+
+#[test]
+fn the_subchannel_of_a_side_is_found(rt: HostRuntime) -> Result<(), AllocError> {
+    let subs = four(rt.alloc())?;
+    let places = Places::of(rt.alloc(), &mut Given { refused: false }, 2, 3, &subs)?;
+    for (unit, first, second) in [
+        (0, Some(1), Some(2)),
+        (1, None, None),
+        (2, Some(0), None),
+        (9, None, Some(3)),
+    ] {
+        assert_eq!(rt;
+            places.reached_in(unit, Side::First, &subs),
+            first,
+            "at {unit}"
+        );
+        assert_eq!(rt;
+            places.reached_in(unit, Side::Second, &subs),
+            second,
+            "at {unit}"
+        );
+    }
+    Ok(())
+}
+
+#[test]
+fn an_engine_is_engaged_while_some_subchannel_engages_it(
+    rt: HostRuntime,
+) -> Result<(), AllocError> {
+    assert_eq!(rt;
+        engaged(&subchannel(0, 5, 2, Side::First, offered())),
+        Some(0x20)
+    );
+    assert_eq!(rt;
+        engaged(&subchannel(1, 0, 0, Side::First, HoldPhase::Free)),
+        None
+    );
+    let mut subs = four(rt.alloc())?;
+    for want in [true, true, true, true, false] {
+        let engines = Engines::of(&subs);
+        let counted = Counted::of(&subs, &engines);
+        assert_eq!(rt; counted.is_engaged(0x20), want);
+        assert!(rt; !counted.is_engaged(0x10));
+        subs.pop();
+    }
+    Ok(())
+}
+
+/// Whether there are places of the four subchannels, by which the second of them is found.
+fn are_made<S: Supply>(alloc: Global, supply: &mut S, units: usize, subs: &[Subchannel]) -> bool {
+    let id = SubchannelId { set: 1, number: 0 };
+    match Places::of(alloc, supply, 2, units, subs) {
+        Ok(places) => places.place_in(id, subs) == Some(1),
+        Err(_) => false,
+    }
+}
+
+#[test]
+fn each_request_for_room_is_refused_in_turn(rt: HostRuntime) -> Result<(), AllocError> {
+    let subs = four(rt.alloc())?;
+    for (units, requests) in [(3, 3), (0, 1)] {
+        for left in 0..=requests + 1 {
+            let mut supply = Refusing {
+                left,
+                refused: false,
+            };
+            let made = are_made(rt.alloc(), &mut supply, units, &subs);
+            assert_eq!(rt; made, left >= requests, "{units} {left}");
+            assert_eq!(rt; supply.refused, left < requests, "{units} {left}");
+            let mut supply = Given { refused: false };
+            assert!(rt; are_made(rt.alloc(), &mut supply, units, &subs));
+            assert!(rt; !supply.refused, "{units} {left}");
+        }
+    }
+    Ok(())
+}

@@ -1,0 +1,285 @@
+//! The table of condition codes, each code of each instruction once, and status words that are known from elsewhere.
+
+use ccw_walk::Walk;
+use chan_model::answer::ConditionCode;
+use chan_model::hold_state::{HoldPhase, HoldState};
+use chan_model::names::Path;
+use chan_model::paths::mask_of_paths;
+use functions::codes::{
+    condition_of, csch_code, hsch_code, msch_code, rsch_code, ssch_code, stsch_code, tsch_code,
+    xsch_code,
+};
+use functions::{csch, hsch, msch, rsch, ssch, xsch};
+use orb_block::Orb;
+use schib_block::pmcw;
+use scsw_irb::scsw::Scsw;
+use scsw_irb::serials::Serials;
+use subchannel_model::state::{Pmcw, Program, Standing, SubchannelState};
+use subchannel_model::status::Condition;
+
+/// An enabled subchannel whose status word has these three words, and whose number 4 was drawn last.
+fn subchannel(words: [u32; 3]) -> SubchannelState {
+    SubchannelState {
+        pmcw: Pmcw {
+            parameter: 0,
+            subclass: 0,
+            enabled: true,
+            multipath: false,
+            logical: [true; 8],
+            not_operational: [true; 8],
+            last_used: Path::new(3),
+            operational: [false; 8],
+        },
+        scsw: Scsw::of_words(&words).unwrap_or(Scsw::zero()),
+        serials: Serials {
+            made: 9,
+            cleared: 8,
+        },
+        drawn: 4,
+        starts: 2,
+        waiting: None,
+        begun: None,
+        suspended: None,
+        hold: HoldState {
+            phase: HoldPhase::Free,
+            seen: 0,
+            known: 0,
+            reset_path: None,
+            first_path: None,
+            single_path: true,
+        },
+        offered: 0,
+        last_path: Path::new(5),
+        dedicated: Path::new(6),
+    }
+}
+
+fn is_same_words(state: &SubchannelState, words: [u32; 3]) -> bool {
+    state.scsw.words() == words
+}
+
+/// What an instruction finds of an enabled subchannel whose status word begins so.
+fn found(word: u32) -> Condition {
+    condition_of(&subchannel([word, 0, 0]))
+}
+
+fn disabled(word: u32) -> Condition {
+    Condition {
+        enabled: false,
+        ..found(word)
+    }
+}
+
+fn missing() -> Condition {
+    Condition {
+        provided: false,
+        ..found(0)
+    }
+}
+
+fn orb() -> Option<Orb> {
+    Orb::read(&[0, 0, 0, 7, 0, 0x80, 0x81, 0, 0, 0, 0x10, 0]).ok()
+}
+
+fn start(state: &mut SubchannelState) -> Option<ConditionCode> {
+    let orb = orb()?;
+    if state.starts < 9 {
+        Some(ssch(state, orb))
+    } else {
+        None
+    }
+}
+
+fn clear(state: &mut SubchannelState) -> Option<ConditionCode> {
+    if state.drawn < 9 {
+        Some(csch(state))
+    } else {
+        None
+    }
+}
+
+#[test]
+fn codes_of_start_and_modify(rt: HostRuntime) {
+    assert!(rt; ssch_code(missing()) == ConditionCode::Three);
+    assert!(rt; ssch_code(disabled(0)) == ConditionCode::Three);
+    assert!(rt; ssch_code(found(0x0080_4007)) == ConditionCode::One);
+    assert!(rt; ssch_code(found(0x0000_0011)) == ConditionCode::One);
+    assert!(rt; ssch_code(found(0x0080_4400)) == ConditionCode::Two);
+    assert!(rt; ssch_code(found(0x0000_2200)) == ConditionCode::Two);
+    assert!(rt; ssch_code(found(0x0000_1100)) == ConditionCode::Two);
+    assert!(rt; ssch_code(found(0x0080_0040)) == ConditionCode::Zero);
+    assert!(rt; msch_code(missing()) == ConditionCode::Three);
+    assert!(rt; msch_code(disabled(0x0080_4007)) == ConditionCode::One);
+    assert!(rt; msch_code(disabled(0x0000_2200)) == ConditionCode::Two);
+    assert!(rt; msch_code(disabled(0)) == ConditionCode::Zero);
+}
+
+#[test]
+fn codes_of_resume_and_cancel(rt: HostRuntime) {
+    assert!(rt; rsch_code(disabled(0x0880_4020)) == ConditionCode::Three);
+    assert!(rt; rsch_code(found(0x0880_4029)) == ConditionCode::One);
+    assert!(rt; rsch_code(found(0x0880_4820)) == ConditionCode::Two);
+    assert!(rt; rsch_code(found(0x0880_6020)) == ConditionCode::Two);
+    assert!(rt; rsch_code(found(0x0080_40C0)) == ConditionCode::Two);
+    assert!(rt; rsch_code(found(0x0880_4020)) == ConditionCode::Zero);
+    assert!(rt; xsch_code(disabled(0x0080_4400)) == ConditionCode::Three);
+    assert!(rt; xsch_code(found(0x0880_4029)) == ConditionCode::One);
+    assert!(rt; xsch_code(found(0x0080_0000)) == ConditionCode::Two);
+    assert!(rt; xsch_code(found(0x0080_4040)) == ConditionCode::Two);
+    assert!(rt; xsch_code(found(0x0880_48C0)) == ConditionCode::Two);
+    assert!(rt; xsch_code(found(0x0080_4440)) == ConditionCode::Zero);
+}
+
+#[test]
+fn codes_of_halt_and_clear(rt: HostRuntime) {
+    assert!(rt; hsch_code(disabled(0)) == ConditionCode::Three);
+    assert!(rt; hsch_code(found(0x0080_4007)) == ConditionCode::One);
+    assert!(rt; hsch_code(found(0x0000_1001)) == ConditionCode::One);
+    assert!(rt; hsch_code(found(0x0000_2200)) == ConditionCode::Two);
+    assert!(rt; hsch_code(found(0x0000_1100)) == ConditionCode::Two);
+    assert!(rt; hsch_code(found(0x0080_40C9)) == ConditionCode::Zero);
+    assert!(rt; csch_code(disabled(0)) == ConditionCode::Three);
+    assert!(rt; csch_code(found(0x0080_4007)) == ConditionCode::Zero);
+    assert!(rt; csch_code(found(0x0000_1100)) == ConditionCode::Zero);
+}
+
+#[test]
+fn codes_of_store_and_test(rt: HostRuntime) {
+    assert!(rt; stsch_code(missing()) == ConditionCode::Three);
+    assert!(rt; stsch_code(disabled(0x0080_4007)) == ConditionCode::Zero);
+    assert!(rt; tsch_code(missing()) == ConditionCode::Three);
+    assert!(rt; tsch_code(disabled(0x0080_4007)) == ConditionCode::Three);
+    assert!(rt; tsch_code(found(0x0080_0000)) == ConditionCode::One);
+    assert!(rt; tsch_code(found(0x0080_4007)) == ConditionCode::Zero);
+}
+
+#[test]
+fn a_program_is_started_once(rt: HostRuntime) {
+    let mut state = subchannel([0x0381_0040, 0x1008, 0x0C00_0000]);
+    assert!(rt; start(&mut state) == Some(ConditionCode::Zero));
+    assert!(rt; is_same_words(&state, [0x0080_4440, 0x1000, 0]));
+    assert!(rt; state.starts == 3 && state.pmcw.parameter == 7);
+    assert!(rt; mask_of_paths(state.pmcw.logical) == 0x81);
+    assert!(rt; mask_of_paths(state.pmcw.not_operational) == 0);
+    assert!(rt;
+        matches!(
+            state.waiting,
+            Some(Program {
+                start: 3,
+                single_path: true,
+                ..
+            })
+        )
+    );
+    assert!(rt; start(&mut state) == Some(ConditionCode::Two));
+    assert!(rt; state.starts == 3);
+}
+
+#[test]
+fn a_start_is_cancelled(rt: HostRuntime) {
+    let mut state = subchannel([0, 0, 0]);
+    assert!(rt; start(&mut state) == Some(ConditionCode::Zero));
+    assert!(rt; xsch(&mut state) == ConditionCode::Zero);
+    assert!(rt; is_same_words(&state, [0x0080_0000, 0x1000, 0]));
+    assert!(rt; state.waiting.is_none());
+    assert!(rt; xsch(&mut state) == ConditionCode::Two);
+}
+
+/// A suspended program.
+fn suspended() -> Option<Standing> {
+    let orb = orb()?;
+    Some(Standing {
+        program: Program {
+            start: 2,
+            orb,
+            single_path: true,
+        },
+        walk: Walk::start(orb),
+        count: 0,
+    })
+}
+
+#[test]
+fn a_suspended_program_is_cancelled(rt: HostRuntime) {
+    let mut state = subchannel([0x0880_4820, 0x1008, 0x0000_0004]);
+    state.suspended = suspended();
+    assert!(rt; state.suspended.is_some());
+    assert!(rt; xsch(&mut state) == ConditionCode::Zero);
+    assert!(rt; is_same_words(&state, [0x0880_0000, 0x1008, 0x0000_0004]));
+    assert!(rt; state.suspended.is_none());
+    assert!(rt; xsch(&mut state) == ConditionCode::Two);
+}
+
+#[test]
+fn a_suspended_program_is_resumed(rt: HostRuntime) {
+    let mut state = subchannel([0x0880_4020, 0x1008, 0]);
+    state.suspended = suspended();
+    assert!(rt; rsch(&mut state) == ConditionCode::Zero);
+    assert!(rt; is_same_words(&state, [0x0880_4820, 0x1008, 0]));
+    assert!(rt; mask_of_paths(state.pmcw.not_operational) == 0);
+    assert!(rt; rsch(&mut state) == ConditionCode::Two);
+    assert!(rt; state.suspended.is_some());
+    let mut active = subchannel([0x0880_40C0, 0x1008, 0]);
+    assert!(rt; rsch(&mut active) == ConditionCode::Zero);
+    assert!(rt; mask_of_paths(active.pmcw.not_operational) == 0xFF);
+}
+
+#[test]
+fn a_halt_drops_intermediate_status_alone(rt: HostRuntime) {
+    let mut state = subchannel([0x0080_40C9, 0x1008, 0x0080_0004]);
+    assert!(rt; hsch(&mut state) == ConditionCode::Zero);
+    assert!(rt; is_same_words(&state, [0x0080_62C0, 0x1008, 0x0080_0004]));
+    assert!(rt; (state.serials.made, state.serials.cleared) == (9, 9));
+    assert!(rt; mask_of_paths(state.pmcw.not_operational) == 0);
+    let mut suspended = subchannel([0x0880_4029, 0x1008, 0]);
+    assert!(rt; hsch(&mut suspended) == ConditionCode::Zero);
+    assert!(rt; is_same_words(&suspended, [0x0880_6229, 0x1008, 0]));
+    assert!(rt; suspended.serials.cleared == 8);
+}
+
+#[test]
+fn a_clear_leaves_nothing_but_itself(rt: HostRuntime) {
+    let mut state = subchannel([0, 0, 0]);
+    assert!(rt; start(&mut state) == Some(ConditionCode::Zero));
+    assert!(rt; clear(&mut state) == Some(ConditionCode::Zero));
+    assert!(rt; is_same_words(&state, [0x0000_1100, 0, 0]));
+    assert!(rt; matches!(state.hold.phase, HoldPhase::Reset { number: 5 }));
+    assert!(rt; state.drawn == 5 && state.serials.cleared == 9);
+    assert!(rt; state.waiting.is_none() && state.dedicated.is_none());
+    let mut held = subchannel([0x0880_4020, 0x1008, 0]);
+    held.suspended = suspended();
+    assert!(rt; clear(&mut held) == Some(ConditionCode::Zero));
+    assert!(rt; held.suspended.is_none());
+    assert!(rt; state.last_path.is_some() && state.pmcw.last_used.is_none());
+    assert!(rt; mask_of_paths(state.pmcw.operational) == 0xFF);
+    assert!(rt; mask_of_paths(state.pmcw.not_operational) == 0);
+    assert!(rt; clear(&mut state) == Some(ConditionCode::Zero));
+}
+
+/// A block whose first words are those of MODIFY SUBCHANNEL: parameter 5, ISC 7, enabled, D one, LPM C0, POM 81.
+fn block() -> [u8; 52] {
+    let mut bytes = [0; 52];
+    bytes[3] = 5;
+    bytes[4] = 0x38;
+    bytes[5] = 0x84;
+    bytes[8] = 0xC0;
+    bytes[14] = 0x81;
+    bytes
+}
+
+#[test]
+fn a_word_is_modified(rt: HostRuntime) {
+    let given = pmcw::Pmcw::of_schib(&block());
+    let mut state = subchannel([0, 0, 0]);
+    assert!(rt; msch(&mut state, &given) == ConditionCode::Zero);
+    assert!(rt; state.pmcw.parameter == 5 && state.pmcw.subclass == 7);
+    assert!(rt; state.pmcw.enabled && state.pmcw.multipath);
+    assert!(rt; mask_of_paths(state.pmcw.logical) == 0xC0);
+    assert!(rt; mask_of_paths(state.pmcw.operational) == 0x81);
+    assert!(rt; mask_of_paths(state.pmcw.not_operational) == 0xFF);
+    let mut busy = subchannel([0x0000_2200, 0, 0]);
+    assert!(rt; msch(&mut busy, &given) == ConditionCode::Two);
+    assert!(rt; busy.pmcw.parameter == 0);
+    functions::law::modified();
+    functions::law::counts();
+}

@@ -1,0 +1,440 @@
+//! Status words that are known from elsewhere, cause by cause.
+
+use ccw_walk::Walk;
+use chan_model::answer::ConditionCode;
+use chan_model::hold_state::{HoldPhase, HoldState};
+use channel_program::check::Check;
+use orb_block::Orb;
+use scsw_irb::scsw::Scsw;
+use scsw_irb::serials::Serials;
+use scsw_irb::status::DeviceStatus;
+use status::causes::shown_of;
+use status::ends::chains_command;
+use status::{law, make_pending, tsch};
+use std::alloc::Global;
+use storage_keys::Storage;
+use subchannel_model::cause::Cause;
+use subchannel_model::state::{Begun, Pmcw, Program, Standing, SubchannelState};
+use transfer::Came;
+use transfer::chunks::{absorbed, next_given};
+use transfer::commands::first_command;
+
+/// An enabled subchannel whose status word has these three words, and whose statuses are all cleared.
+fn subchannel(words: [u32; 3]) -> SubchannelState {
+    SubchannelState {
+        pmcw: Pmcw {
+            parameter: 0,
+            subclass: 0,
+            enabled: true,
+            multipath: false,
+            logical: [true; 8],
+            not_operational: [false; 8],
+            last_used: None,
+            operational: [true; 8],
+        },
+        scsw: Scsw::of_words(&words).unwrap_or(Scsw::zero()),
+        serials: Serials {
+            made: 8,
+            cleared: 8,
+        },
+        drawn: 0,
+        starts: 2,
+        waiting: None,
+        begun: None,
+        suspended: None,
+        hold: HoldState {
+            phase: HoldPhase::Free,
+            seen: 0,
+            known: 0,
+            reset_path: None,
+            first_path: None,
+            single_path: true,
+        },
+        offered: 0,
+        last_path: None,
+        dedicated: None,
+    }
+}
+
+fn is_same_words(state: &SubchannelState, words: [u32; 3]) -> bool {
+    state.scsw.words() == words
+}
+
+/// A program of format 1 at 1000, with access key 0.
+fn program() -> Option<Program> {
+    let orb = Orb::read(&[0, 0, 0, 0, 0, 0x80, 0xFF, 0, 0, 0, 0x10, 0]).ok()?;
+    Some(Program {
+        start: 2,
+        orb,
+        single_path: true,
+    })
+}
+
+/// The same with its first command at work: a block of this code and these flags, for four bytes at 2000.
+fn begun_by(alloc: Global, code: u8, flags: u8) -> Option<Begun> {
+    let program = program()?;
+    let mut storage = Storage::new(alloc, 16).ok()?;
+    storage
+        .put(0x1000, &[code, flags, 0, 4, 0, 0, 0x20, 0])
+        .ok()?;
+    let Came::Begins(transfer) = first_command(&storage, Walk::start(program.orb)).came else {
+        return None;
+    };
+    Some(Begun {
+        program,
+        primary_shown: false,
+        transfer,
+    })
+}
+
+/// The same with SLI one.
+fn begun(alloc: Global, code: u8, primary_shown: bool) -> Option<Begun> {
+    let begun = begun_by(alloc, code, 0x20)?;
+    Some(Begun {
+        primary_shown,
+        ..begun
+    })
+}
+
+/// The same once its device has absorbed the four bytes.
+fn moved(alloc: Global) -> Option<Begun> {
+    let begun = begun(alloc, 1, false)?;
+    let mut storage = Storage::new(alloc, 16).ok()?;
+    storage.put(0x2000, &[0xC1, 0xC2, 0xC3, 0xC4]).ok()?;
+    let given = next_given(&storage, &begun.transfer);
+    if given.transfer.sequence < 9 {
+        let transfer = absorbed(&storage, &given.transfer, 1, 4);
+        Some(Begun { transfer, ..begun })
+    } else {
+        None
+    }
+}
+
+/// The subchannel after a cause; None where its counts are used up.
+fn after(state: &SubchannelState, cause: Cause) -> Option<SubchannelState> {
+    if state.serials.made < 9 {
+        let mut next = *state;
+        make_pending(&mut next, &cause);
+        Some(next)
+    } else {
+        None
+    }
+}
+
+/// Whether the cause made one more status pending, and left these words and no program.
+fn shows(state: &SubchannelState, cause: Cause, words: [u32; 3]) -> bool {
+    match after(state, cause) {
+        None => false,
+        Some(next) => {
+            is_same_words(&next, words)
+                && next.serials.made == 9
+                && next.waiting.is_none()
+                && next.begun.is_none()
+                && next.suspended.is_none()
+        }
+    }
+}
+
+/// The subchannel with a start that waits.
+fn waiting(words: [u32; 3]) -> SubchannelState {
+    SubchannelState {
+        waiting: program(),
+        ..subchannel(words)
+    }
+}
+
+/// The subchannel with a program that is suspended before its first block, and showed a count of 4.
+fn with_suspended(words: [u32; 3]) -> SubchannelState {
+    let suspended = program().map(|program| Standing {
+        program,
+        walk: Walk::start(program.orb),
+        count: 4,
+    });
+    SubchannelState {
+        suspended,
+        ..subchannel(words)
+    }
+}
+
+fn end(begun: &Begun, status: u8) -> Cause {
+    Cause::End {
+        begun: *begun,
+        status: DeviceStatus::of_bits(status),
+        more: false,
+    }
+}
+
+#[test]
+fn the_last_end_of_a_program(rt: HostRuntime) {
+    let Some(moved) = moved(rt.alloc()) else {
+        return assert!(rt; false, "no memory, or the program is wrong");
+    };
+    let Some(begun) = begun(rt.alloc(), 1, false) else {
+        return assert!(rt; false, "no memory, or the program is wrong");
+    };
+    let active = subchannel([0x0080_40C0, 0x1000, 0]);
+    assert!(rt;
+        shows(
+            &active,
+            end(&moved, 0x0C),
+            [0x0080_4007, 0x1008, 0x0C00_0000]
+        )
+    );
+    assert!(rt;
+        shows(
+            &active,
+            end(&begun, 0x02),
+            [0x0080_4017, 0x1008, 0x0200_0004]
+        )
+    );
+    assert!(rt;
+        shows(
+            &active,
+            end(&begun, 0x0E),
+            [0x0080_4017, 0x1008, 0x0E00_0004]
+        )
+    );
+    let halted = subchannel([0x0080_60C0, 0x1000, 0]);
+    assert!(rt;
+        shows(
+            &halted,
+            end(&begun, 0x0C),
+            [0x0080_6007, 0x1008, 0x0C00_0004]
+        )
+    );
+}
+
+#[test]
+fn channel_end_alone_and_device_end_later(rt: HostRuntime) {
+    let Some(begun) = begun(rt.alloc(), 3, false) else {
+        return assert!(rt; false, "no memory, or the program is wrong");
+    };
+    let active = subchannel([0x0080_40C0, 0x1000, 0]);
+    let Some(ended) = after(&active, end(&begun, 0x08)) else {
+        return assert!(rt; false, "the counts are small");
+    };
+    assert!(rt; is_same_words(&ended, [0x0080_4045, 0x1008, 0x0800_0004]));
+    let Some(begun) = ended.begun else {
+        return assert!(rt; false, "the program works on");
+    };
+    assert!(rt; begun.primary_shown && begun.transfer.unchained);
+    let cleared = subchannel([0x0080_0040, 0x1008, 0x0800_0004]);
+    assert!(rt;
+        shows(
+            &cleared,
+            end(&begun, 0x04),
+            [0x0080_0003, 0x1008, 0x0400_0004]
+        )
+    );
+    let later = waiting([0x0080_4440, 0x1000, 0]);
+    assert!(rt;
+        shows(
+            &later,
+            end(&begun, 0x04),
+            [0x0180_4011, 0x1000, 0x0400_0000]
+        )
+    );
+}
+
+#[test]
+fn a_fault_at_a_block_and_no_path(rt: HostRuntime) {
+    let check = |check| Cause::FetchFault {
+        tried: 0x1008,
+        check,
+        count: 0,
+    };
+    let start = waiting([0x0000_4400, 0x1000, 0]);
+    assert!(rt;
+        shows(
+            &start,
+            check(Check::Program),
+            [0x0000_4017, 0x1008, 0x0020_0000]
+        )
+    );
+    assert!(rt;
+        shows(
+            &start,
+            check(Check::Protection),
+            [0x0000_4017, 0x1008, 0x0010_0000]
+        )
+    );
+    let start = waiting([0x0080_4400, 0x1000, 0]);
+    assert!(rt; shows(&start, Cause::NoPath, [0x0380_4017, 0x1000, 0]));
+    let lost = waiting([0x0081_4400, 0x1000, 0]);
+    assert!(rt; shows(&lost, Cause::NoPath, [0x0381_4017, 0x1000, 0]));
+}
+
+#[test]
+fn a_suspended_program_shows_its_own_words(rt: HostRuntime) {
+    let resumed = with_suspended([0x0880_4820, 0x2008, 0]);
+    assert!(rt; resumed.suspended.is_some());
+    assert!(rt; shows(&resumed, Cause::NoPath, [0x0B80_4017, 0x1000, 0x0000_0004]));
+    assert!(rt;
+        shows(
+            &resumed,
+            Cause::InterfaceControlCheck,
+            [0x0880_4017, 0x1000, 0x0002_0004]
+        )
+    );
+    let check = Cause::FetchFault {
+        tried: 0x1008,
+        check: Check::Program,
+        count: 4,
+    };
+    assert!(rt; shows(&resumed, check, [0x0880_4017, 0x1008, 0x0020_0004]));
+    let halted = with_suspended([0x0880_6229, 0x2008, 0]);
+    assert!(rt; shows(&halted, Cause::HaltDone, [0x0880_6001, 0x1000, 0x0000_0004]));
+}
+
+#[test]
+fn a_command_is_chained_where_nothing_breaks_the_chain(rt: HostRuntime) {
+    let state = subchannel([0x0080_40C0, 0x1000, 0]);
+    let Some(chained) = begun_by(rt.alloc(), 1, 0x60) else {
+        return assert!(rt; false, "no memory, or the program is wrong");
+    };
+    let end = DeviceStatus::of_bits(0x0C);
+    assert!(rt; chains_command(state.scsw, &chained, end, false));
+    let check = DeviceStatus::of_bits(0x0E);
+    assert!(rt; !chains_command(state.scsw, &chained, check, false));
+    let Some(long) = begun_by(rt.alloc(), 1, 0x40) else {
+        return assert!(rt; false, "no memory, or the program is wrong");
+    };
+    assert!(rt; !chains_command(state.scsw, &long, end, false));
+}
+
+#[test]
+fn attention(rt: HostRuntime) {
+    let idle = subchannel([0, 0, 0]);
+    assert!(rt; shows(&idle, Cause::Attention, [0x0000_0011, 0, 0x8000_0000]));
+    let start = waiting([0x0080_4400, 0x1000, 0]);
+    assert!(rt; shows(&start, Cause::Attention, [0x0180_4011, 0x1000, 0x8000_0000]));
+}
+
+#[test]
+fn interface_control_check(rt: HostRuntime) {
+    let start = waiting([0x0080_4400, 0x1000, 0]);
+    assert!(rt;
+        shows(
+            &start,
+            Cause::InterfaceControlCheck,
+            [0x0080_4017, 0x1000, 0x0002_0000]
+        )
+    );
+    let held = SubchannelState {
+        begun: begun(rt.alloc(), 1, false),
+        ..subchannel([0x0080_40C0, 0x1000, 0])
+    };
+    assert!(rt;
+        shows(
+            &held,
+            Cause::InterfaceControlCheck,
+            [0x0080_4017, 0x1008, 0x0002_0004]
+        )
+    );
+    let behind = SubchannelState {
+        begun: begun(rt.alloc(), 3, true),
+        ..waiting([0x0080_4440, 0x1000, 0])
+    };
+    assert!(rt;
+        shows(
+            &behind,
+            Cause::InterfaceControlCheck,
+            [0x0080_4017, 0x1000, 0x0002_0000]
+        )
+    );
+    let ended = SubchannelState {
+        begun: begun(rt.alloc(), 3, true),
+        ..subchannel([0x0080_0040, 0x1008, 0x0800_0004])
+    };
+    assert!(rt;
+        shows(
+            &ended,
+            Cause::InterfaceControlCheck,
+            [0x0080_0013, 0x1008, 0x0002_0004]
+        )
+    );
+}
+
+#[test]
+fn interruption_and_suspension(rt: HostRuntime) {
+    let interruption = Cause::Interruption {
+        tried: 0x1008,
+        count: 4,
+    };
+    let active = subchannel([0x0080_40C0, 0x1000, 0]);
+    assert!(rt; shows(&active, interruption, [0x0080_40C9, 0x1008, 0x0080_0004]));
+    let suspension = Cause::Suspension {
+        tried: 0x1008,
+        count: 0,
+    };
+    let active = subchannel([0x0880_40C0, 0x1000, 0]);
+    assert!(rt; shows(&active, suspension, [0x0880_4029, 0x1008, 0]));
+}
+
+#[test]
+fn a_clear_and_a_halt(rt: HostRuntime) {
+    let clear = subchannel([0x0000_1100, 0, 0]);
+    assert!(rt; shows(&clear, Cause::ClearDone, [0x0000_1001, 0, 0]));
+    let halt = subchannel([0x0000_2200, 0, 0]);
+    assert!(rt; shows(&halt, Cause::HaltDone, [0x0000_2001, 0, 0]));
+    let start = waiting([0x0080_6600, 0x1000, 0]);
+    assert!(rt; shows(&start, Cause::HaltDone, [0x0080_6001, 0x1000, 0]));
+    let suspended = subchannel([0x0880_6229, 0x1008, 0]);
+    assert!(rt; shows(&suspended, Cause::HaltDone, [0x0880_6001, 0x1008, 0]));
+}
+
+#[test]
+fn a_subchannel_that_is_not_enabled(rt: HostRuntime) {
+    let mut state = waiting([0x0080_4440, 0x1000, 0]);
+    state.pmcw.enabled = false;
+    assert!(rt; shown_of(&state, &Cause::NoPath).activity == Scsw::zero().activity);
+    if state.serials.made < 9 {
+        let mut next = state;
+        make_pending(&mut next, &Cause::NoPath);
+        assert!(rt; is_same_words(&next, [0x0080_4000, 0x1000, 0]));
+        assert!(rt; next.serials.made == 8 && next.waiting.is_none());
+    }
+}
+
+/// A subchannel with these words, and a status that is not cleared.
+fn pending(words: [u32; 3]) -> SubchannelState {
+    SubchannelState {
+        serials: Serials {
+            made: 9,
+            cleared: 8,
+        },
+        ..waiting(words)
+    }
+}
+
+#[test]
+fn pending_status_is_tested_once(rt: HostRuntime) {
+    let mut state = pending([0x0381_4045, 0x1008, 0x0800_0000]);
+    assert!(rt; tsch(&mut state) == ConditionCode::Zero);
+    assert!(rt; is_same_words(&state, [0x0080_0040, 0x1008, 0x0800_0000]));
+    assert!(rt; (state.serials.made, state.serials.cleared) == (9, 9));
+    assert!(rt; state.waiting.is_some());
+    assert!(rt; tsch(&mut state) == ConditionCode::One);
+    state.pmcw.enabled = false;
+    assert!(rt; tsch(&mut state) == ConditionCode::Three);
+    assert!(rt; is_same_words(&state, [0x0080_0040, 0x1008, 0x0800_0000]));
+}
+
+#[test]
+fn intermediate_status_is_tested(rt: HostRuntime) {
+    let mut active = pending([0x0080_40C9, 0x1008, 0x0080_0004]);
+    assert!(rt; tsch(&mut active) == ConditionCode::Zero);
+    assert!(rt; is_same_words(&active, [0x0080_40C0, 0x1008, 0x0080_0004]));
+    let mut suspended = pending([0x0981_4829, 0x1008, 0]);
+    assert!(rt; tsch(&mut suspended) == ConditionCode::Zero);
+    assert!(rt; is_same_words(&suspended, [0x0880_4020, 0x1008, 0]));
+    assert!(rt; suspended.waiting.is_some());
+    let mut halted = SubchannelState {
+        suspended: with_suspended([0; 3]).suspended,
+        ..pending([0x0880_6229, 0x1008, 0])
+    };
+    assert!(rt; tsch(&mut halted) == ConditionCode::Zero);
+    assert!(rt; is_same_words(&halted, [0x0880_0000, 0x1008, 0]));
+    assert!(rt; halted.waiting.is_none() && halted.suspended.is_none());
+    law::counts();
+}

@@ -1,0 +1,53 @@
+//! A right script: its configuration, and its actions under the numbers of their lines.
+
+use script::{Script, ScriptBad};
+use script_rows::Action;
+
+const RIGHT: &[u8] =
+    b"# a machine\n\nstorage 10\nsets 2\npath 10\npath fF\nunit 0 block\nsub 0 0100 0 10 FF\nsub 00030000 0101 0 10\nput 500 c1C2\nenable 0 7 1\ncpu f enable 30000 0 0\nssch 0001 500\ncpu 1 ssch 00001 500\ntsch 0 600\nchoose 0\n#\nup 0 1\ndown 0 12345678\ndev 3FF\nglance 3";
+
+/// What an action is: a device's turn or a glance, with its number, or an event.
+fn shown(action: &Action) -> (&[u8], u32) {
+    match action {
+        Action::Dev(unit) => (b"dev", *unit),
+        Action::Glance(subchannel) => (b"glance", *subchannel),
+        Action::Event(_) => (b"event", 0),
+    }
+}
+
+#[test]
+fn a_right_script_is_read(rt: HostRuntime) {
+    let script = match Script::read(rt.alloc(), RIGHT) {
+        Ok(script) => script,
+        Err(bad) => {
+            assert_eq!(rt; bad, ScriptBad::NoMemory);
+            return;
+        }
+    };
+    let wanted: [(u64, &[u8], u32); 11] = [
+        (10, b"event", 0),
+        (11, b"event", 0),
+        (12, b"event", 0),
+        (13, b"event", 0),
+        (14, b"event", 0),
+        (15, b"event", 0),
+        (16, b"event", 0),
+        (18, b"event", 0),
+        (19, b"event", 0),
+        (20, b"dev", 0x3FF),
+        (21, b"glance", 0x1_0003),
+    ];
+    assert_eq!(rt; script.config().set_count(), 2);
+    assert_eq!(rt; script.lines().len(), wanted.len());
+    for (line, (number, name, value)) in script.lines().iter().zip(wanted) {
+        let (kind, said) = shown(&line.action);
+        assert_eq!(rt; line.number, number);
+        assert_eq!(rt; kind, name);
+        assert_eq!(rt; said, value);
+    }
+    let (config, lines) = script.into_parts();
+    assert_eq!(rt; config.blocks(), Some(0x10));
+    assert_eq!(rt; config.paths(), [0x10, 0xFF].as_slice());
+    assert_eq!(rt; config.subchannels().len(), 2);
+    assert_eq!(rt; lines.len(), 11);
+}

@@ -1,0 +1,91 @@
+//! Lines that are printed, whole and in part.
+
+use chan_events::reply::Reply;
+use chan_model::chunk::Chunk;
+use chan_model::fault::Fault;
+use script_text::{Told, put_bad_line, put_event_line};
+use scsw_irb::serials::Serials;
+use std::io;
+use std::io::Write;
+use streams::{Sink, Watched};
+
+/// Four lines.
+fn put_lines<S: Sink>(sink: &mut S) -> bool {
+    let serials = Serials {
+        made: 12,
+        cleared: 9,
+    };
+    put_event_line(sink, 5, &Ok(Told::Reply(Reply::Done)))
+        && put_event_line(sink, 6, &Ok(Told::Serials(serials)))
+        && put_event_line(sink, 1_000, &Err(Fault::Operand))
+        && put_bad_line(sink, 9, 2)
+}
+
+const LINES: &[u8] = b"5 done\n6 made 12 cleared 9\n1000 refused 11\nbad line 9 rule 2\n";
+
+#[test]
+fn lines_are_shown(rt: HostRuntime) {
+    let mut sink = Watched::new(Vec::new(rt.alloc()));
+    assert!(rt; put_lines(&mut sink));
+    assert_eq!(rt; sink.writer.as_slice(), LINES);
+}
+
+/// Takes so many bytes, and then no more.
+#[derive(Drop)]
+struct Brief {
+    text: Vec<u8>,
+    left: usize,
+}
+
+impl Write for Brief {
+    fn write(&mut self, buf: &[u8]) -> io::Result<usize> {
+        let taken = buf.len().min(self.left);
+        self.text.extend_from_slice(&buf[..taken])?;
+        self.left -= taken;
+        Ok(taken)
+    }
+
+    fn flush(&mut self) -> io::Result<()> {
+        Ok(())
+    }
+}
+
+#[test]
+fn a_sink_that_fails_has_a_beginning(rt: HostRuntime) {
+    for left in 0..LINES.len() {
+        let mut sink = Watched::new(Brief {
+            text: Vec::new(rt.alloc()),
+            left,
+        });
+        assert!(rt; !put_lines(&mut sink));
+        assert!(rt; sink.failed);
+        assert_eq!(rt; sink.writer.text.as_slice(), &LINES[..left]);
+    }
+}
+
+/// Counts the calls, and takes all that it is given.
+#[derive(Drop)]
+struct Counting {
+    calls: u64,
+}
+
+impl Write for Counting {
+    fn write(&mut self, buf: &[u8]) -> io::Result<usize> {
+        self.calls = self.calls.wrapping_add(1);
+        Ok(buf.len())
+    }
+
+    fn flush(&mut self) -> io::Result<()> {
+        Ok(())
+    }
+}
+
+#[test]
+fn a_line_is_written_at_once(rt: HostRuntime) {
+    let mut sink = Watched::new(Counting { calls: 0 });
+    let shown = Reply::Shown {
+        bytes: Chunk::of(&[0xC1; 64]),
+    };
+    assert!(rt; put_event_line(&mut sink, 5, &Ok(Told::Reply(shown))));
+    assert_eq!(rt; sink.writer.calls, 1);
+}

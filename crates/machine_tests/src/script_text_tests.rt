@@ -1,0 +1,275 @@
+//! The text of each reply and refusal.
+
+use bitflags::Flags;
+use chan_events::reply::Reply;
+use chan_model::answer::Answer;
+use chan_model::chunk::Chunk;
+use chan_model::fault::Fault;
+use chan_model::names::Path;
+use chan_model::signal::{Down, Load, Up};
+use script_text::{put_refusal, put_reply};
+use scsw_irb::scsw::{ActivityControl, DeferredCode, FunctionControl, Scsw, StatusControl};
+use scsw_irb::serials::Serials;
+use scsw_irb::status::{DeviceStatus, SubchannelStatus};
+use storage_keys::StorageFault;
+use streams::Watched;
+
+fn ended() -> Scsw {
+    Scsw {
+        key: 0,
+        suspend: false,
+        deferred: DeferredCode::Zero,
+        format_one: true,
+        prefetch: false,
+        initial_status: false,
+        address_limit: false,
+        suppress_suspended: false,
+        path_not_operational: false,
+        functions: FunctionControl {
+            start: true,
+            halt: false,
+            clear: false,
+        },
+        activity: ActivityControl {
+            resume_pending: false,
+            start_pending: false,
+            halt_pending: false,
+            clear_pending: false,
+            subchannel_active: false,
+            device_active: false,
+            suspended: false,
+        },
+        status: StatusControl {
+            alert: false,
+            intermediate: false,
+            primary: true,
+            secondary: true,
+            pending: true,
+        },
+        command_address: 0x1008,
+        device_status: DeviceStatus::CHANNEL_END.union(DeviceStatus::DEVICE_END),
+        subchannel_status: SubchannelStatus::PROGRAM_CHECK,
+        count: 0x00AF,
+    }
+}
+
+fn up(signal: Up) -> Reply {
+    Reply::Up {
+        signal,
+        taken: true,
+        sent: None,
+    }
+}
+
+fn down(signal: Down) -> Reply {
+    Reply::Down {
+        signal,
+        taken: false,
+        sent: None,
+    }
+}
+
+#[test]
+fn replies_are_shown(rt: HostRuntime) {
+    let serials = Serials {
+        made: 1,
+        cleared: 0,
+    };
+    let status = DeviceStatus::ATTENTION;
+    let rows: [(Reply, &[u8]); 30] = [
+        (Reply::Done, b"done"),
+        (
+            Reply::Shown {
+                bytes: Chunk::of(&[0xC1, 0x02, 0xAF]),
+            },
+            b"C102AF",
+        ),
+        (Reply::Code(Answer::Zero(serials)), b"cc 0"),
+        (Reply::Code(Answer::One(serials)), b"cc 1"),
+        (Reply::Code(Answer::Two), b"cc 2"),
+        (Reply::Code(Answer::Three), b"cc 3"),
+        (
+            Reply::Status {
+                answer: Answer::Zero(serials),
+                scsw: ended(),
+            },
+            b"cc 0 00804007 00001008 0C2000AF",
+        ),
+        (
+            Reply::Status {
+                answer: Answer::One(serials),
+                scsw: ended(),
+            },
+            b"cc 1 00804007 00001008 0C2000AF",
+        ),
+        (Reply::Pending, b"status"),
+        (Reply::Idle, b"idle"),
+        (down(Down::Select { number: 1 }), b"ignored select"),
+        (
+            down(Down::Command {
+                number: 1,
+                command: 1,
+                code: 1,
+                room: 0,
+            }),
+            b"ignored command",
+        ),
+        (
+            down(Down::Grant {
+                number: 1,
+                connection: 0,
+            }),
+            b"ignored grant",
+        ),
+        (
+            down(Down::Refuse {
+                number: 1,
+                connection: 0,
+            }),
+            b"ignored refuse",
+        ),
+        (
+            down(Down::Took {
+                number: 1,
+                command: 1,
+                sequence: 1,
+                room: 0,
+            }),
+            b"ignored took",
+        ),
+        (
+            down(Down::Give {
+                number: 1,
+                connection: 0,
+                command: 1,
+                sequence: 1,
+                bytes: Chunk::new(),
+            }),
+            b"ignored give",
+        ),
+        (down(Down::Halt { number: 1 }), b"ignored halt"),
+        (down(Down::Release { number: 1 }), b"ignored release"),
+        (
+            down(Down::Reset {
+                number: 1,
+                restarts: 0,
+            }),
+            b"ignored reset",
+        ),
+        (down(Down::Got { attention: 1 }), b"ignored got"),
+        (up(Up::Accept { number: 1 }), b"took accept"),
+        (up(Up::Busy { number: 1 }), b"took busy"),
+        (
+            up(Up::Leave {
+                number: 1,
+                connection: 0,
+            }),
+            b"took leave",
+        ),
+        (
+            up(Up::Back {
+                number: 1,
+                connection: 0,
+            }),
+            b"took back",
+        ),
+        (
+            up(Up::Data {
+                number: 1,
+                connection: 0,
+                command: 1,
+                sequence: 0,
+                load: Load::Absorbed(0),
+            }),
+            b"took data",
+        ),
+        (
+            up(Up::End {
+                number: 1,
+                command: 1,
+                status,
+                more: false,
+            }),
+            b"took end",
+        ),
+        (up(Up::Released { number: 1 }), b"took released"),
+        (up(Up::Cleared { number: 1 }), b"took cleared"),
+        (up(Up::Notice { restarts: 1 }), b"took notice"),
+        (
+            up(Up::Attn {
+                attention: 1,
+                status,
+            }),
+            b"took attn",
+        ),
+    ];
+    for (reply, text) in &rows {
+        let mut sink = Watched::new(Vec::new(rt.alloc()));
+        assert!(rt; put_reply(&mut sink, reply));
+        assert_eq!(rt; sink.writer.as_slice(), *text);
+    }
+}
+
+#[test]
+fn replies_with_a_path_are_shown(rt: HostRuntime) {
+    let (Some(first), Some(last)) = (Path::new(0), Path::new(7)) else {
+        assert!(rt; false, "the paths are in range");
+        return;
+    };
+    let offered = Reply::Offered {
+        number: 3,
+        path: last,
+        resumed: false,
+    };
+    let reset = Reply::ResetSent {
+        number: 4,
+        path: first,
+    };
+    let halt = Reply::HaltSent {
+        number: 5,
+        path: last,
+    };
+    let rows: [(Reply, &[u8]); 3] = [
+        (offered, b"offer 7"),
+        (reset, b"reset 0"),
+        (halt, b"halt 7"),
+    ];
+    for (reply, text) in &rows {
+        let mut sink = Watched::new(Vec::new(rt.alloc()));
+        assert!(rt; put_reply(&mut sink, reply));
+        assert_eq!(rt; sink.writer.as_slice(), *text);
+    }
+}
+
+#[test]
+fn refusals_are_shown(rt: HostRuntime) {
+    let rows: [(Fault, &[u8]); 13] = [
+        (Fault::NoMemory, b"refused 1"),
+        (Fault::WireFull, b"refused 2"),
+        (Fault::NotSent, b"refused 3"),
+        (Fault::NoSuchSubchannel, b"refused 4"),
+        (Fault::NoSuchPath, b"refused 5"),
+        (Fault::NoSuchUnit, b"refused 6"),
+        (Fault::NotNow, b"refused 7"),
+        (Fault::ConfigBad(1), b"refused 8"),
+        (Fault::ScriptBad(1, 1), b"refused 9"),
+        (
+            Fault::Storage(StorageFault::Addressing),
+            b"refused 10 addressing",
+        ),
+        (
+            Fault::Storage(StorageFault::Protection),
+            b"refused 10 protection",
+        ),
+        (
+            Fault::Storage(StorageFault::Specification),
+            b"refused 10 specification",
+        ),
+        (Fault::Operand, b"refused 11"),
+    ];
+    for (refusal, text) in rows {
+        let mut sink = Watched::new(Vec::new(rt.alloc()));
+        assert!(rt; put_refusal(&mut sink, &refusal));
+        assert_eq!(rt; sink.writer.as_slice(), text);
+    }
+}

@@ -1,0 +1,120 @@
+//! Scripts with a bad line: its number, and the first rule that it breaks.
+
+use script::{Script, ScriptBad};
+use std::alloc::AllocError;
+use supply::{Given, Refusing};
+
+const WRONG: [(&[u8], u64, u8); 27] = [
+    (b"", 1, 6),
+    (b"\n\n# nothing\n", 1, 6),
+    (b"\n#\xFF\n", 1, 6),
+    (b"path 10\nstorage 10\n", 1, 6),
+    (b"\n# first\n \nstorage 10", 3, 6),
+    (b"race 1 1 tsch 0\n", 1, 6),
+    (b"# first \xFF\npath 10\n", 1, 3),
+    (b"storage 10\nlook 0\n", 2, 1),
+    (b"storage 10\n\nStorage 10\n", 3, 1),
+    (b"storage 10\n path 10\n", 2, 1),
+    (b"storage\n", 1, 2),
+    (b"storage 10\nunit 0 block \n", 2, 2),
+    (b"storage 123456789\n", 1, 3),
+    (b"storage 10\nunit 0 block\nsub 0 0 0 10 1x\n", 3, 3),
+    (b"storage 10\ndev 0\r\n", 2, 3),
+    (b"storage 10\nput 500 C1\npath 10\n", 3, 4),
+    (b"storage 10\nput 500 C1\nstorage 10\n", 3, 4),
+    (b"storage 10\nstorage 10\n", 2, 5),
+    (b"storage F\n", 1, 5),
+    (b"storage 10\nsets 5\n", 2, 5),
+    (b"storage 10\npath 100\n", 2, 5),
+    (b"storage 10\nunit 1 block\n", 2, 5),
+    (b"storage 10\nunit 0 block\nsub 20000 0 0 10\n", 3, 5),
+    (b"storage 10\nunit 0 block\nsub 0 0 0\n", 3, 5),
+    (b"storage 10\nunit 0 block\npath 10\nsub 0 0 1 10\n", 4, 5),
+    (b"storage 10\npath 10\npath 10\nglance 0\n", 3, 5),
+    (b"storage 10\nput 500 C1\nput 500 x", 3, 3),
+];
+
+#[test]
+fn wrong_lines_are_named(rt: HostRuntime) {
+    for (text, line, rule) in WRONG {
+        match Script::read(rt.alloc(), text) {
+            Ok(_) => assert!(rt; false, "line {line} rule {rule}"),
+            Err(bad) => assert_eq!(rt; bad, ScriptBad::Bad { line, rule }),
+        }
+    }
+}
+
+#[test]
+fn a_line_is_at_most_1024_bytes(rt: HostRuntime) -> Result<(), AllocError> {
+    for (length, is_right) in [(1024, true), (1025, false)] {
+        let mut text = Vec::new(rt.alloc());
+        text.extend_from_slice(b"storage 10\n")?;
+        for _ in 0..length {
+            text.push(b'#')?;
+        }
+        text.extend_from_slice(b"\ndev 0\n")?;
+        match Script::read(rt.alloc(), text.as_slice()) {
+            Ok(script) => {
+                assert!(rt; is_right);
+                assert_eq!(rt; script.lines().len(), 1);
+            }
+            Err(bad) => {
+                assert!(rt; !is_right);
+                assert_eq!(rt; bad, ScriptBad::Bad { line: 2, rule: 3 });
+            }
+        }
+    }
+    Ok(())
+}
+
+/// Every growth that reading meets: of lines, words, numbers, paths, units, subchannels and actions.
+const GROWING: &[u8] =
+    b"storage 10\npath 10\npath FF\nunit 0 block\nsub 0 0100 0 10 FF\nput 500 C1\nglance 0";
+
+#[test]
+fn each_growth_is_refused_in_turn(rt: HostRuntime) {
+    let mut counted = Refusing {
+        left: 1_000,
+        refused: false,
+    };
+    assert!(rt; Script::read_with(rt.alloc(), &mut counted, GROWING).is_ok());
+    let growths = 1_000u64.wrapping_sub(counted.left);
+    assert!(rt; growths > 20);
+    for left in 0..=growths {
+        let mut supply = Refusing {
+            left,
+            refused: false,
+        };
+        match Script::read_with(rt.alloc(), &mut supply, GROWING) {
+            Ok(_) => assert!(rt; left == growths && !supply.refused),
+            Err(bad) => {
+                assert!(rt; left < growths && supply.refused);
+                assert_eq!(rt; bad, ScriptBad::NoMemory);
+            }
+        }
+        let mut supply = Given { refused: false };
+        match Script::read_with(rt.alloc(), &mut supply, GROWING) {
+            Ok(script) => assert_eq!(rt; script.lines().len(), 2),
+            Err(_) => assert!(rt; false, "the allocator has room"),
+        }
+    }
+}
+
+#[test]
+fn a_script_of_many_lines_is_read(rt: HostRuntime) -> Result<(), AllocError> {
+    let mut text = Vec::new(rt.alloc());
+    text.extend_from_slice(b"storage 10\n")?;
+    for _ in 0..70_000 {
+        text.push(b'\n')?;
+    }
+    text.extend_from_slice(b"dev 0\n")?;
+    match Script::read(rt.alloc(), text.as_slice()) {
+        Ok(script) => {
+            let lines = script.lines();
+            assert_eq!(rt; lines.len(), 1);
+            assert_eq!(rt; lines[0].number, 70_002);
+        }
+        Err(_) => assert!(rt; false, "the text is right"),
+    }
+    Ok(())
+}

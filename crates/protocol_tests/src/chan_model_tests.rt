@@ -1,0 +1,112 @@
+//! What each call answers at plain values, and the texts of refusals.
+
+use chan_model::answer::{Answer, ConditionCode};
+use chan_model::chunk::{Chunk, ChunkLength};
+use chan_model::fault::Fault;
+use chan_model::names::{Cpu, Path, Side};
+use chan_model::paths::{mask_of_path, mask_of_paths, paths_of_mask};
+use chan_model::report::{DeviceAnswer, Report};
+use chan_model::signal::{Down, Load, Up};
+use scsw_irb::serials::Serials;
+use storage_keys::StorageFault;
+
+#[test]
+fn names_keep_their_range(rt: HostRuntime) {
+    assert!(rt; Path::new(8).is_none() && Cpu::new(16).is_none());
+    match (Path::new(7), Path::new(0), Cpu::new(15)) {
+        (Some(last), Some(first), Some(cpu)) => {
+            assert_eq!(rt; last.index(), 7);
+            assert!(rt; last.same(last) && !last.same(first));
+            assert_eq!(rt; cpu.number(), 15);
+            assert_eq!(rt; mask_of_path(Some(last)), 1);
+            assert_eq!(rt; mask_of_path(Some(first)), 0x80);
+        }
+        _ => assert!(rt; false, "the names are in range"),
+    }
+    assert_eq!(rt; mask_of_path(None), 0);
+    assert_eq!(rt; mask_of_paths(paths_of_mask(0xA1)), 0xA1);
+    assert_eq!(rt;
+        paths_of_mask(0xA1),
+        [true, false, true, false, false, false, false, true]
+    );
+    assert!(rt; Side::First.same(Side::First) && !Side::First.same(Side::Second));
+}
+
+#[test]
+fn chunks_and_signals_are_copied(rt: HostRuntime) {
+    let mut bytes = Chunk::of(&[0xC1, 0xC2]);
+    bytes.push(0xC3);
+    assert_eq!(rt; bytes.len(), 3);
+    assert_eq!(rt; bytes.copy().as_slice(), [0xC1, 0xC2, 0xC3].as_slice());
+    assert_eq!(rt; Load::Bytes(bytes.copy()).copy().len(), 3);
+    assert_eq!(rt; Load::Absorbed(9).len(), 9);
+    assert!(rt; matches!(Down::Halt { number: 3 }.copy(), Down::Halt { number: 3 }));
+    assert!(rt; matches!(Up::Busy { number: 3 }.copy(), Up::Busy { number: 3 }));
+}
+
+#[test]
+fn reports_are_copied(rt: HostRuntime) {
+    let report = Report {
+        side: Side::Second,
+        number: 1,
+        command: 2,
+        sequence: 3,
+        answer: DeviceAnswer::Supplied(Chunk::of(&[0xD1, 0xD2])),
+    }
+    .copy();
+    assert!(rt; report.side.same(Side::Second));
+    assert_eq!(rt; (report.number, report.command, report.sequence), (1, 2, 3));
+    let DeviceAnswer::Supplied(bytes) = report.answer.copy() else {
+        return assert!(rt; false, "bytes were supplied");
+    };
+    assert_eq!(rt; bytes.as_slice(), [0xD1, 0xD2].as_slice());
+}
+
+#[test]
+fn lengths_keep_their_range(rt: HostRuntime) {
+    assert!(rt; ChunkLength::new(257).is_none());
+    match ChunkLength::new(256) {
+        Some(length) => assert_eq!(rt; length.get(), 256),
+        None => assert!(rt; false, "the length is in range"),
+    }
+}
+
+#[test]
+fn codes_bring_their_serials(rt: HostRuntime) {
+    let serials = Serials {
+        made: 2,
+        cleared: 1,
+    };
+    assert!(rt;
+        matches!(
+            Answer::of(ConditionCode::One, serials),
+            Answer::One(Serials {
+                made: 2,
+                cleared: 1
+            })
+        )
+    );
+    assert_eq!(rt;
+        Answer::of(ConditionCode::Two, serials).code(),
+        ConditionCode::Two
+    );
+}
+
+#[test]
+fn refusals_say_what_they_are(rt: HostRuntime) {
+    let alloc = rt.alloc();
+    for (fault, text) in [
+        (Fault::NoMemory, "no memory"),
+        (Fault::ConfigBad(7), "configuration rule 7"),
+        (Fault::ScriptBad(9, 2), "line 9, rule 2"),
+        (
+            Fault::Storage(StorageFault::Addressing),
+            "storage: Addressing",
+        ),
+    ] {
+        match format!(in alloc; "{fault}") {
+            Ok(said) => assert_eq!(rt; said.as_str(), text),
+            Err(_) => assert!(rt; false, "there is memory"),
+        }
+    }
+}

@@ -1,0 +1,26 @@
+//! Paths are chosen by either rule.
+
+use chan_model::names::Path;
+use chan_model::paths::paths_of_mask;
+use path_select::{Lowest, PathChoice, Rotating};
+
+fn chosen<P: PathChoice>(choice: &P, mask: u8, last: Option<u32>) -> Option<usize> {
+    let last = last.and_then(Path::new);
+    Some(choice.choose(&paths_of_mask(mask), last)?.index())
+}
+
+#[test]
+fn paths_are_chosen_by_any_rule(rt: HostRuntime) {
+    assert_eq!(rt; chosen(&Lowest, 0x25, Some(2)), Some(2));
+    assert_eq!(rt; chosen(&Lowest, 0, Some(2)), None);
+    for (mask, last, want) in [
+        (0xFF, None, Some(0)),
+        (0x25, None, Some(2)),
+        (0x25, Some(2), Some(5)),
+        (0x25, Some(7), Some(2)),
+        (0x20, Some(2), Some(2)),
+        (0, Some(2), None),
+    ] {
+        assert_eq!(rt; chosen(&Rotating, mask, last), want, "mask {mask}");
+    }
+}
