@@ -6,7 +6,7 @@ use Rattle.std.proofs.lemmas.Option.{slice_get_within, get_or_from_slice_get}
 use Rattle.chan_model.specs.declared.signal.OnPath.{OnPath}
 use Rattle.agreement_laws.specs.Links.{Carries}
 use Rattle.agree.specs.State.{is_up}
-use Rattle.agree.specs.Lines.{with_sent, left_after, without_path}
+use Rattle.agree.specs.Lines.{queue_with_sent, left_after, without_path}
 
 -- all of the new signals are among the old ones
 abbrev pub AreAmong : {S : Type 0} → List (OnPath S) → List (OnPath S) → Type 0
@@ -44,6 +44,6 @@ if-carried {S} old new x true among =
     All-append Q new (x ∷ []) (carried old new (Some x) among) (All-cons Q x [] (inr refl) (All-nil Q))
 if-carried old new x false among = carried old new (Some x) among
 
-pub sent-carried : {S : Type 0} (up : List Bool) (old new : List (OnPath S)) (sent : Option (OnPath S)) → AreAmong old new → Carries old sent (with_sent up new sent)
+pub sent-carried : {S : Type 0} (up : List Bool) (old new : List (OnPath S)) (sent : Option (OnPath S)) → AreAmong old new → Carries old sent (queue_with_sent up new sent)
 sent-carried up old new None among = carried old new None among
 sent-carried up old new (Some x) among = if-carried old new x (is_up up x.path) among

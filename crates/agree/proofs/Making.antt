@@ -14,15 +14,15 @@ use Rattle.chan_model.specs.declared.unit_state.Own.TheVariants as own
 use Rattle.chan_model.specs.Sides.{same_side}
 use Rattle.chan_model.specs.UnitTable.{UnitStep, unit_after, came_of, restarted}
 use Rattle.agreement_laws.specs.Links.{Link, Links, link_of}
-use Rattle.agreement_laws.specs.Moving.{HoldAct, Nothing, Offers, Sends_reset, Lets_go, Is_reset, Loses, Takes, still, hold_acts, UnitAct, Takes_down, Leaves, Asks, Attends, Restarts, Notices, Reports, unit_steps, is_to, is_owner_side, sent_by, sent_to, LinkStep, Cause, Hold_acts, Unit_acts, IsHoldGiven, IsUnitGiven, Step}
+use Rattle.agreement_laws.specs.Moving.{HoldAct, Nothing, Offers, Sends_reset, Lets_go, Is_reset, Loses, Takes, still, hold_acts, UnitAct, Takes_down, Leaves, Asks, Attends, Restarts, Notices, Reports, unit_steps, is_to, is_owner_side, sent_by, sent_to, LinkStep, LinkCause, Hold_acts, Unit_acts, IsHoldGiven, IsUnitGiven, LinksStep}
 use Rattle.agreement_laws.specs.Invariant.{IsGood}
 use Rattle.agreement_laws.specs.Claims.{IsResetTaken, EndsByReset}
 use Rattle.agree.specs.declared.event.WorldEvent.{WorldEvent}
 use Rattle.agree.specs.declared.event.WorldEvent.TheVariants as event
 use Rattle.agree.specs.State.{LineState, WorldState, links_of, line_of, with_line, is_up}
 use Rattle.chan_model.specs.declared.fault.Fault.TheVariants.{NotSent, NotNow}
-use Rattle.agree.specs.Lines.{LineTurn, UnitLine, acts, told, stepped, stepping, acts_for, with_downs, with_ups, with_path, left_after, without_path, chosen, let_go, heard, hears, met, meets, loses_down, loses_up, cut, goes_down, comes_up, is_cut}
-use Rattle.agree.specs.Turns.{Turn, at_side, at_unit, at_owner, both_of, on_path, path_named, all_reset, turn_of}
+use Rattle.agree.specs.Lines.{LineTurn, UnitLine, acts, line_told, unit_stepped, stepping, acts_for, with_downs, with_ups, line_with_path, left_after, without_path, line_chosen, line_let_go, heard, hears, met, unit_meets, loses_down, loses_up, cut, goes_down, comes_up, is_cut}
+use Rattle.agree.specs.Turns.{WorldTurn, at_side, at_world_unit, at_owner, both_of, on_path, path_named, all_reset, world_turn_of}
 use Rattle.agree.specs.Promises.{EndsByEvent, IsResetTakenBy, IsResetMet}
 use Rattle.agree.proofs.Carrying.{AreAmong, among-same, among-without, among-removed, among-left, contains-got, carried, sent-carried}
 
@@ -36,11 +36,11 @@ done-at_side P w side (Ok l) h = h
 done-at_side P w side (Err f) h = tt
 
 pub done-at_unit : (P : WorldState → Type 0) (w : WorldState) (side : Side) (turn : Result UnitLine Fault) →
-    OnDone (λ b. P (record (with_line w side b.line) { «unit» = b.«unit» })) turn → OnDone P (at_unit w side turn)
+    OnDone (λ b. P (record (with_line w side b.line) { «unit» = b.«unit» })) turn → OnDone P (at_world_unit w side turn)
 done-at_unit P w side (Ok b) h = h
 done-at_unit P w side (Err f) h = tt
 
-pub done-on_path : (P : WorldState → Type 0) (named : Result ℕ Fault) (turn : ℕ → Turn) → ((p : ℕ) → OnDone P (turn p)) → OnDone P (on_path named turn)
+pub done-on_path : (P : WorldState → Type 0) (named : Result ℕ Fault) (turn : ℕ → WorldTurn) → ((p : ℕ) → OnDone P (turn p)) → OnDone P (on_path named turn)
 done-on_path P (Ok p) turn h = h p
 done-on_path P (Err f) turn h = tt
 
@@ -52,11 +52,11 @@ pub done-unless : {S : Type 0} (P : S → Type 0) (b : Bool) (f : Fault) (s : S)
 done-unless P true f s h = tt
 done-unless P false f s h = h
 
-pub done-stepping : (P : UnitLine → Type 0) (b : UnitLine) (s : Option UnitStep) → P (stepped b s) → OnDone P (stepping b s)
+pub done-stepping : (P : UnitLine → Type 0) (b : UnitLine) (s : Option UnitStep) → P (unit_stepped b s) → OnDone P (stepping b s)
 done-stepping P b None h = tt
 done-stepping P b (Some step) h = h
 
-pub done-at_owner : (P : WorldState → Type 0) (w : WorldState) (o : Own) (turn : Side → Turn) →
+pub done-at_owner : (P : WorldState → Type 0) (w : WorldState) (o : Own) (turn : Side → WorldTurn) →
     ((side : Side) → ((s : Side) → is_owner_side o s ≡ same_side side s) → OnDone P (turn side)) → OnDone P (at_owner w o turn)
 done-at_owner P w own.Idle turn h = tt
 done-at_owner P w (own.Owned side t place) turn h = h side (λ s. refl)
@@ -85,7 +85,7 @@ still-linked l =
 
 -- a link to which the unit sends something or nothing, some signals being lost
 told-linked : (l : LineState) (downs : List (OnPath Down)) (s : Option UnitStep) → AreAmong l.link.downs downs →
-    LinkStep l.link (still l.link.drawn l.link.hold) (sent_by s) (told (with_downs l downs) (came_of s).sent).link
+    LinkStep l.link (still l.link.drawn l.link.hold) (sent_by s) (line_told (with_downs l downs) (came_of s).sent).link
 told-linked l downs None d =
     record {
       drawn = refl;
@@ -104,9 +104,9 @@ told-linked l downs (Some step) d =
     }
 
 to-linked : (l : LineState) (downs : List (OnPath Down)) (s : Option UnitStep) (b : Bool) → b ≡ true → AreAmong l.link.downs downs →
-    LinkStep l.link (still l.link.drawn l.link.hold) (sent_to b (sent_by s)) (told (with_downs l downs) (came_of s).sent).link
+    LinkStep l.link (still l.link.drawn l.link.hold) (sent_to b (sent_by s)) (line_told (with_downs l downs) (came_of s).sent).link
 to-linked l downs s b e d =
-    subst (λ (x : Bool). LinkStep l.link (still l.link.drawn l.link.hold) (sent_to x (sent_by s)) (told (with_downs l downs) (came_of s).sent).link) (sym e)
+    subst (λ (x : Bool). LinkStep l.link (still l.link.drawn l.link.hold) (sent_to x (sent_by s)) (line_told (with_downs l downs) (came_of s).sent).link) (sym e)
     (told-linked l downs s d)
 
 not-linked : (l : Link) (s : Option UnitStep) (b : Bool) → b ≡ false → LinkStep l (still l.drawn l.hold) (sent_to b (sent_by s)) l
@@ -114,8 +114,8 @@ not-linked l s b e = subst (λ (x : Bool). LinkStep l (still l.drawn l.hold) (se
 
 -- what an event leaves is one step after what was
 pub record Made (w : WorldState) (e : WorldEvent) (new : WorldState) : Type 0 where
-  pub cause : Cause
-  pub step : Step (links_of w) cause (links_of new)
+  pub cause : LinkCause
+  pub step : LinksStep (links_of w) cause (links_of new)
   pub tells : (side : Side) → IsResetTaken (links_of w) cause side → IsResetTakenBy w e side
 
 -- a hold acts, some signals of its side being lost
@@ -145,7 +145,7 @@ act-made w e side act g =
 unit-made : (w : WorldState) (e : WorldEvent) (side : Side) (act : UnitAct) (downs : List (OnPath Down)) →
     ((s : Side) → is_to w.«unit» act s ≡ same_side side s) → IsUnitGiven (links_of w) act → AreAmong (line_of w side).link.downs downs →
     ((s : Side) → IsResetTaken (links_of w) (Unit_acts act) s → IsResetTakenBy w e s) →
-    Made w e (record (with_line w side (told (with_downs (line_of w side) downs) (came_of (unit_steps w.«unit» act)).sent)) { «unit» = unit_after w.«unit» (unit_steps w.«unit» act) })
+    Made w e (record (with_line w side (line_told (with_downs (line_of w side) downs) (came_of (unit_steps w.«unit» act)).sent)) { «unit» = unit_after w.«unit» (unit_steps w.«unit» act) })
 unit-made w e First act downs to g d tells =
     record {
       cause = Unit_acts act;
@@ -172,14 +172,14 @@ unit-made w e Second act downs to g d tells =
 -- an act of the unit, where it is one
 acts-made : (w : WorldState) (e : WorldEvent) (side : Side) (act : UnitAct) → ((s : Side) → is_to w.«unit» act s ≡ same_side side s) →
     IsUnitGiven (links_of w) act → ((s : Side) → IsResetTaken (links_of w) (Unit_acts act) s → IsResetTakenBy w e s) →
-    OnDone (Made w e) (at_unit w side (acts_for (both_of w side) act))
+    OnDone (Made w e) (at_world_unit w side (acts_for (both_of w side) act))
 acts-made w e side act to g tells =
     done-at_unit (Made w e) w side (acts_for (both_of w side) act)
     (done-stepping (λ b. Made w e (record (with_line w side b.line) { «unit» = b.«unit» })) (both_of w side) (unit_steps w.«unit» act)
     (unit-made w e side act (line_of w side).link.downs to g (among-same (line_of w side).link.downs) tells))
 
 chosen-made : (w : WorldState) (e : WorldEvent) (side : Side) (phase : HoldPhase) (p : ℕ) (single : Bool) →
-    OnDone (λ l. Made w e (with_line w side l)) (chosen (line_of w side) phase p single)
+    OnDone (λ l. Made w e (with_line w side l)) (line_chosen (line_of w side) phase p single)
 chosen-made w e side hold.Free p single = act-made w e side (Offers p single) tt
 chosen-made w e side (hold.Reset r) p single = act-made w e side (Sends_reset p) tt
 chosen-made w e side (hold.Offer t q) p single = tt
@@ -187,7 +187,7 @@ chosen-made w e side (hold.On t q c) p single = tt
 chosen-made w e side (hold.Away t) p single = tt
 chosen-made w e side (hold.Letting t q) p single = tt
 
-let_go-made : (w : WorldState) (e : WorldEvent) (side : Side) (phase : HoldPhase) → OnDone (λ l. Made w e (with_line w side l)) (let_go (line_of w side) phase)
+let_go-made : (w : WorldState) (e : WorldEvent) (side : Side) (phase : HoldPhase) → OnDone (λ l. Made w e (with_line w side l)) (line_let_go (line_of w side) phase)
 let_go-made w e side hold.Free = tt
 let_go-made w e side (hold.Reset r) = tt
 let_go-made w e side (hold.Offer t q) = tt
@@ -223,7 +223,7 @@ cut-made w e side p paths =
 down-made : (w : WorldState) (e : WorldEvent) (side : Side) (p : ℕ) → OnDone (λ l. Made w e (with_line w side l)) (goes_down (line_of w side) p)
 down-made w e side p =
     let l : LineState = line_of w side in
-    done-if (λ m. Made w e (with_line w side m)) (is_up l.up p) NotNow (cut (with_path l p false) p) (cut-made w e side p (slice_set l.up p false))
+    done-if (λ m. Made w e (with_line w side m)) (is_up l.up p) NotNow (cut (line_with_path l p false) p) (cut-made w e side p (slice_set l.up p false))
 
 reset-made : (w : WorldState) (e : WorldEvent) (side : Side) (p : ℕ) → OnDone (λ l. Made w e (with_line w side l)) (is_cut (line_of w side) p)
 reset-made w e side p =
@@ -233,7 +233,7 @@ reset-made w e side p =
 up-made : (w : WorldState) (e : WorldEvent) (side : Side) (p : ℕ) → OnDone (λ l. Made w e (with_line w side l)) (comes_up (line_of w side) p)
 up-made w e side p =
     let l : LineState = line_of w side in
-    done-unless (λ m. Made w e (with_line w side m)) (is_up l.up p) NotNow (with_path l p true)
+    done-unless (λ m. Made w e (with_line w side m)) (is_up l.up p) NotNow (line_with_path l p true)
     (hold-made w e side Nothing l.link.downs l.link.ups (slice_set l.up p true) tt (among-same l.link.downs) (among-same l.link.ups))
 
 -- the unit takes a signal
@@ -265,10 +265,10 @@ restart-made w =
 
 -- what the laws say of a step
 abbrev pub Keeps : Type 0
-Keeps = (old : Links) (cause : Cause) (new : Links) → IsGood old → Step old cause new → IsGood new
+Keeps = (old : Links) (cause : LinkCause) (new : Links) → IsGood old → LinksStep old cause new → IsGood new
 
 abbrev pub Ends : Type 0
-Ends = (old : Links) (cause : Cause) (new : Links) (side : Side) → IsGood old → Step old cause new → EndsByReset old cause new side
+Ends = (old : Links) (cause : LinkCause) (new : Links) (side : Side) → IsGood old → LinksStep old cause new → EndsByReset old cause new side
 
 abbrev pub Kept : WorldState → WorldEvent → WorldState → Type 0
 Kept w e new = IsGood (links_of new) × EndsByEvent w e new
@@ -298,83 +298,83 @@ all_reset-kept keeps ends w g =
           ],
     )
 
-at-kept : Keeps → Ends → (w : WorldState) (e : WorldEvent) → IsGood (links_of w) → (turn : Turn) → OnDone (Made w e) turn → OnDone (Kept w e) turn
+at-kept : Keeps → Ends → (w : WorldState) (e : WorldEvent) → IsGood (links_of w) → (turn : WorldTurn) → OnDone (Made w e) turn → OnDone (Kept w e) turn
 at-kept keeps ends w e g turn made = done-weaker (Made w e) (Kept w e) (made-kept keeps ends w e g) turn made
 
 side-made : (w : WorldState) (e : WorldEvent) (side : Side) (turn : LineTurn) → OnDone (λ l. Made w e (with_line w side l)) turn → OnDone (Made w e) (at_side w side turn)
 side-made w e side turn h = done-at_side (Made w e) w side turn h
 
-path-made : (w : WorldState) (e : WorldEvent) (named : Result ℕ Fault) (turn : ℕ → Turn) → ((p : ℕ) → OnDone (Made w e) (turn p)) → OnDone (Made w e) (on_path named turn)
+path-made : (w : WorldState) (e : WorldEvent) (named : Result ℕ Fault) (turn : ℕ → WorldTurn) → ((p : ℕ) → OnDone (Made w e) (turn p)) → OnDone (Made w e) (on_path named turn)
 path-made w e named turn h = done-on_path (Made w e) named turn h
 
 -- what the unit does for its program
 owner-made : (w : WorldState) (e : WorldEvent) (act : UnitAct) → ((s : Side) → is_to w.«unit» act s ≡ is_owner_side w.«unit».own s) →
     IsUnitGiven (links_of w) act → ((s : Side) → IsResetTaken (links_of w) (Unit_acts act) s → IsResetTakenBy w e s) →
-    OnDone (Made w e) (at_owner w w.«unit».own (λ side. at_unit w side (acts_for (both_of w side) act)))
+    OnDone (Made w e) (at_owner w w.«unit».own (λ side. at_world_unit w side (acts_for (both_of w side) act)))
 owner-made w e act to g tells =
-    done-at_owner (Made w e) w w.«unit».own (λ side. at_unit w side (acts_for (both_of w side) act))
+    done-at_owner (Made w e) w w.«unit».own (λ side. at_world_unit w side (acts_for (both_of w side) act))
     (λ side is. acts-made w e side act (λ s. to s ∙ is s) g tells)
 
 -- what is kept after each event
-pub turn-kept : Keeps → Ends → (w : WorldState) (e : WorldEvent) → IsGood (links_of w) → OnDone (Kept w e) (turn_of w e)
+pub turn-kept : Keeps → Ends → (w : WorldState) (e : WorldEvent) → IsGood (links_of w) → OnDone (Kept w e) (world_turn_of w e)
 turn-kept keeps ends w (event.Choose side p single) g =
     let e : WorldEvent = event.Choose side p single in
-    at-kept keeps ends w e g (turn_of w e)
-    (path-made w e (path_named p) (λ q. at_side w side (chosen (line_of w side) (line_of w side).link.hold.phase q single))
-    (λ q. side-made w e side (chosen (line_of w side) (line_of w side).link.hold.phase q single) (chosen-made w e side (line_of w side).link.hold.phase q single)))
+    at-kept keeps ends w e g (world_turn_of w e)
+    (path-made w e (path_named p) (λ q. at_side w side (line_chosen (line_of w side) (line_of w side).link.hold.phase q single))
+    (λ q. side-made w e side (line_chosen (line_of w side) (line_of w side).link.hold.phase q single) (chosen-made w e side (line_of w side).link.hold.phase q single)))
 turn-kept keeps ends w (event.Down side place keep may) g =
     let e : WorldEvent = event.Down side place keep may in
-    at-kept keeps ends w e g (turn_of w e)
-    (done-at_unit (Made w e) w side (meets (both_of w side) side place keep may)
+    at-kept keeps ends w e g (world_turn_of w e)
+    (done-at_unit (Made w e) w side (unit_meets (both_of w side) side place keep may)
     (met-made w side place keep may (slice_get (line_of w side).link.downs place) refl))
 turn-kept keeps ends w (event.Up side place keep may) g =
     let e : WorldEvent = event.Up side place keep may in
-    at-kept keeps ends w e g (turn_of w e)
+    at-kept keeps ends w e g (world_turn_of w e)
     (side-made w e side (hears (line_of w side) place keep may) (heard-made w e side place keep may (slice_get (line_of w side).link.ups place) refl))
 turn-kept keeps ends w (event.LoseDown side place) g =
     let e : WorldEvent = event.LoseDown side place in
-    at-kept keeps ends w e g (turn_of w e) (side-made w e side (loses_down (line_of w side) place) (lost_down-made w e side place))
+    at-kept keeps ends w e g (world_turn_of w e) (side-made w e side (loses_down (line_of w side) place) (lost_down-made w e side place))
 turn-kept keeps ends w (event.LoseUp side place) g =
     let e : WorldEvent = event.LoseUp side place in
-    at-kept keeps ends w e g (turn_of w e) (side-made w e side (loses_up (line_of w side) place) (lost_up-made w e side place))
+    at-kept keeps ends w e g (world_turn_of w e) (side-made w e side (loses_up (line_of w side) place) (lost_up-made w e side place))
 turn-kept keeps ends w (event.PathDown side p) g =
     let e : WorldEvent = event.PathDown side p in
-    at-kept keeps ends w e g (turn_of w e)
+    at-kept keeps ends w e g (world_turn_of w e)
     (path-made w e (path_named p) (λ q. at_side w side (goes_down (line_of w side) q)) (λ q. side-made w e side (goes_down (line_of w side) q) (down-made w e side q)))
 turn-kept keeps ends w (event.PathUp side p) g =
     let e : WorldEvent = event.PathUp side p in
-    at-kept keeps ends w e g (turn_of w e)
+    at-kept keeps ends w e g (world_turn_of w e)
     (path-made w e (path_named p) (λ q. at_side w side (comes_up (line_of w side) q)) (λ q. side-made w e side (comes_up (line_of w side) q) (up-made w e side q)))
 turn-kept keeps ends w (event.PathReset side p) g =
     let e : WorldEvent = event.PathReset side p in
-    at-kept keeps ends w e g (turn_of w e)
+    at-kept keeps ends w e g (world_turn_of w e)
     (path-made w e (path_named p) (λ q. at_side w side (is_cut (line_of w side) q)) (λ q. side-made w e side (is_cut (line_of w side) q) (reset-made w e side q)))
 turn-kept keeps ends w (event.LetGo side) g =
     let e : WorldEvent = event.LetGo side in
-    at-kept keeps ends w e g (turn_of w e)
-    (side-made w e side (let_go (line_of w side) (line_of w side).link.hold.phase) (let_go-made w e side (line_of w side).link.hold.phase))
+    at-kept keeps ends w e g (world_turn_of w e)
+    (side-made w e side (line_let_go (line_of w side) (line_of w side).link.hold.phase) (let_go-made w e side (line_of w side).link.hold.phase))
 turn-kept keeps ends w (event.Clear side) g =
     let e : WorldEvent = event.Clear side in
-    at-kept keeps ends w e g (turn_of w e) (act-made w e side Is_reset tt)
+    at-kept keeps ends w e g (world_turn_of w e) (act-made w e side Is_reset tt)
 turn-kept keeps ends w event.SubsystemReset g = all_reset-kept keeps ends w g
 turn-kept keeps ends w event.Leave g =
-    at-kept keeps ends w event.Leave g (turn_of w event.Leave) (owner-made w event.Leave Leaves (λ s. refl) tt (λ s h. absurd h))
+    at-kept keeps ends w event.Leave g (world_turn_of w event.Leave) (owner-made w event.Leave Leaves (λ s. refl) tt (λ s h. absurd h))
 turn-kept keeps ends w (event.Ask p) g =
     let e : WorldEvent = event.Ask p in
-    at-kept keeps ends w e g (turn_of w e)
-    (path-made w e (path_named p) (λ q. at_owner w w.«unit».own (λ side. at_unit w side (acts_for (both_of w side) (Asks q))))
+    at-kept keeps ends w e g (world_turn_of w e)
+    (path-made w e (path_named p) (λ q. at_owner w w.«unit».own (λ side. at_world_unit w side (acts_for (both_of w side) (Asks q))))
     (λ q. owner-made w e (Asks q) (λ s. refl) tt (λ s h. absurd h)))
 turn-kept keeps ends w (event.Attention side p) g =
     let e : WorldEvent = event.Attention side p in
-    at-kept keeps ends w e g (turn_of w e)
-    (path-made w e (path_named p) (λ q. at_unit w side (acts_for (both_of w side) (Attends side q)))
+    at-kept keeps ends w e g (world_turn_of w e)
+    (path-made w e (path_named p) (λ q. at_world_unit w side (acts_for (both_of w side) (Attends side q)))
     (λ q. acts-made w e side (Attends side q) (λ s. refl) tt (λ s h. absurd h)))
 turn-kept keeps ends w (event.Notice side p) g =
     let e : WorldEvent = event.Notice side p in
-    at-kept keeps ends w e g (turn_of w e)
-    (path-made w e (path_named p) (λ q. at_unit w side (acts_for (both_of w side) (Notices side q)))
+    at-kept keeps ends w e g (world_turn_of w e)
+    (path-made w e (path_named p) (λ q. at_world_unit w side (acts_for (both_of w side) (Notices side q)))
     (λ q. acts-made w e side (Notices side q) (λ s. refl) tt (λ s h. absurd h)))
-turn-kept keeps ends w event.Restart g = at-kept keeps ends w event.Restart g (turn_of w event.Restart) (restart-made w)
+turn-kept keeps ends w event.Restart g = at-kept keeps ends w event.Restart g (world_turn_of w event.Restart) (restart-made w)
 turn-kept keeps ends w (event.Report report) g =
     let e : WorldEvent = event.Report report in
-    at-kept keeps ends w e g (turn_of w e) (owner-made w e (Reports report) (λ s. refl) tt (λ s h. absurd h))
+    at-kept keeps ends w e g (world_turn_of w e) (owner-made w e (Reports report) (λ s. refl) tt (λ s h. absurd h))

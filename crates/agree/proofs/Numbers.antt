@@ -16,23 +16,23 @@ use Rattle.chan_model.specs.declared.unit_state.UnitState.{UnitState}
 use Rattle.chan_model.specs.HoldTable.{HoldStep, hold_takes, sending_reset, letting_go}
 use Rattle.chan_model.specs.ResetCauses.{rests_on}
 use Rattle.chan_model.specs.UnitTable.{unit_after}
-use Rattle.agreement_laws.specs.Moving.{HoldAct, Nothing, Offers, Sends_reset, Lets_go, Is_reset, Loses, Takes, Sends, hold_acts, stepped, offered, reset_again, still, taken, UnitAct, Takes_down, Leaves, Asks, Attends, Restarts, Notices, Reports, unit_steps}
+use Rattle.agreement_laws.specs.Moving.{HoldAct, Nothing, Offers, Sends_reset, Lets_go, Is_reset, Loses, Takes, Sends, hold_acts, hold_stepped, hold_offered, reset_again, still, hold_taken, UnitAct, Takes_down, Leaves, Asks, Attends, Restarts, Notices, Reports, unit_steps}
 use Rattle.agree.specs.declared.event.WorldEvent.{WorldEvent}
 use Rattle.agree.specs.declared.event.WorldEvent.TheVariants as event
 use Rattle.agree.specs.State.{LineState, WorldState, line_of, with_line, is_up}
 use Rattle.agree.specs.Lines as line
-use Rattle.agree.specs.Lines.{LineTurn, acts_for, chosen, let_go, heard, hears, met, meets, loses_down, loses_up, cut, goes_down, comes_up, is_cut, with_downs, with_ups, with_path}
-use Rattle.agree.specs.Turns.{Turn, at_side, at_unit, at_owner, both_of, on_path, path_named, turn_of}
-use Rattle.agree.specs.Bounds.{IsUnitWithin, IsWithin}
+use Rattle.agree.specs.Lines.{LineTurn, acts_for, line_chosen, line_let_go, heard, hears, met, unit_meets, loses_down, loses_up, cut, goes_down, comes_up, is_cut, with_downs, with_ups, line_with_path}
+use Rattle.agree.specs.Turns.{WorldTurn, at_side, at_world_unit, at_owner, both_of, on_path, path_named, world_turn_of}
+use Rattle.agree.specs.Bounds.{IsWorldUnitWithin, IsWorldWithin}
 use Rattle.agree.proofs.Making.{OnDone, done-at_unit, done-at_owner, done-on_path, done-if, done-unless, done-stepping}
 use Rattle.agree.proofs.Raising.{act-within}
 
 -- an act of a hold draws at most one number
-stepped-drawn : (n : ℕ) (h : HoldState) (s : Option HoldStep) → (stepped n h s).drawn ≤ n + 1
+stepped-drawn : (n : ℕ) (h : HoldState) (s : Option HoldStep) → (hold_stepped n h s).drawn ≤ n + 1
 stepped-drawn n h None = omega arith
 stepped-drawn n h (Some step) = omega arith
 
-offered-drawn : (n : ℕ) (h : HoldState) (phase : HoldPhase) (p : ℕ) (single : Bool) → (offered n h phase p single).drawn ≤ n + 1
+offered-drawn : (n : ℕ) (h : HoldState) (phase : HoldPhase) (p : ℕ) (single : Bool) → (hold_offered n h phase p single).drawn ≤ n + 1
 offered-drawn n h hold.Free p single = omega arith
 offered-drawn n h (hold.Offer t q) p single = omega arith
 offered-drawn n h (hold.On t q c) p single = omega arith
@@ -44,7 +44,7 @@ if-drawn : (n : ℕ) (b : Bool) (g h : HoldState) → (if b then reset_again n g
 if-drawn n true g h = omega arith
 if-drawn n false g h = omega arith
 
-taken-drawn : (n : ℕ) (h : HoldState) (p : ℕ) (signal : Up) (may : Bool) → (taken n h p signal may).drawn ≤ n + 1
+taken-drawn : (n : ℕ) (h : HoldState) (p : ℕ) (signal : Up) (may : Bool) → (hold_taken n h p signal may).drawn ≤ n + 1
 taken-drawn n h p (up.Accept t) may = stepped-drawn n h (hold_takes h p (up.Accept t) may)
 taken-drawn n h p (up.Busy t) may = stepped-drawn n h (hold_takes h p (up.Busy t) may)
 taken-drawn n h p (up.Leave t c) may = stepped-drawn n h (hold_takes h p (up.Leave t c) may)
@@ -66,39 +66,39 @@ acts-drawn n h (Loses p) = if-drawn n (rests_on h p) h h
 acts-drawn n h (Takes x may) = taken-drawn n h x.path x.signal may
 acts-drawn n h (Sends x) = omega arith
 
-within-more : (n : ℕ) (u : UnitState) → IsUnitWithin n u → IsUnitWithin (n + 1) u
+within-more : (n : ℕ) (u : UnitState) → IsWorldUnitWithin n u → IsWorldUnitWithin (n + 1) u
 within-more n u h = record { restarts = omega (arith, h.restarts); attentions = omega (arith, h.attentions); connection = omega (arith, h.connection); sequence = omega (arith, h.sequence) }
 
 -- a side that drew at most one number more
-side-within : (n : ℕ) (w : WorldState) (side : Side) (l : LineState) → IsWithin n w → l.link.drawn ≤ (line_of w side).link.drawn + 1 → IsWithin (n + 1) (with_line w side l)
+side-within : (n : ℕ) (w : WorldState) (side : Side) (l : LineState) → IsWorldWithin n w → l.link.drawn ≤ (line_of w side).link.drawn + 1 → IsWorldWithin (n + 1) (with_line w side l)
 side-within n w First l h le = record { «unit» = within-more n w.«unit» h.«unit»; first = omega (arith, h.first); second = omega (arith, h.second) }
 side-within n w Second l h le = record { «unit» = within-more n w.«unit» h.«unit»; first = omega (arith, h.first); second = omega (arith, h.second) }
 
-unit-within : (n : ℕ) (w : WorldState) (side : Side) (l : LineState) (act : UnitAct) → IsWithin n w → l.link.drawn ≡ (line_of w side).link.drawn →
-    IsWithin (n + 1) (record (with_line w side l) { «unit» = unit_after w.«unit» (unit_steps w.«unit» act) })
+unit-within : (n : ℕ) (w : WorldState) (side : Side) (l : LineState) (act : UnitAct) → IsWorldWithin n w → l.link.drawn ≡ (line_of w side).link.drawn →
+    IsWorldWithin (n + 1) (record (with_line w side l) { «unit» = unit_after w.«unit» (unit_steps w.«unit» act) })
 unit-within n w First l act h e = record { «unit» = act-within n w.«unit» act h.«unit»; first = omega (arith, h.first); second = omega (arith, h.second) }
 unit-within n w Second l act h e = record { «unit» = act-within n w.«unit» act h.«unit»; first = omega (arith, h.first); second = omega (arith, h.second) }
 
-acts-within : (n : ℕ) (w : WorldState) (side : Side) (act : UnitAct) → IsWithin n w → OnDone (IsWithin (n + 1)) (at_unit w side (acts_for (both_of w side) act))
+acts-within : (n : ℕ) (w : WorldState) (side : Side) (act : UnitAct) → IsWorldWithin n w → OnDone (IsWorldWithin (n + 1)) (at_world_unit w side (acts_for (both_of w side) act))
 acts-within n w side act h =
-    done-at_unit (IsWithin (n + 1)) w side (acts_for (both_of w side) act)
-    (done-stepping (λ b. IsWithin (n + 1) (record (with_line w side b.line) { «unit» = b.«unit» })) (both_of w side) (unit_steps w.«unit» act)
+    done-at_unit (IsWorldWithin (n + 1)) w side (acts_for (both_of w side) act)
+    (done-stepping (λ b. IsWorldWithin (n + 1) (record (with_line w side b.line) { «unit» = b.«unit» })) (both_of w side) (unit_steps w.«unit» act)
     (unit-within n w side _ act h refl))
 
-owner-within : (n : ℕ) (w : WorldState) (act : UnitAct) → IsWithin n w →
-    OnDone (IsWithin (n + 1)) (at_owner w w.«unit».own (λ side. at_unit w side (acts_for (both_of w side) act)))
+owner-within : (n : ℕ) (w : WorldState) (act : UnitAct) → IsWorldWithin n w →
+    OnDone (IsWorldWithin (n + 1)) (at_owner w w.«unit».own (λ side. at_world_unit w side (acts_for (both_of w side) act)))
 owner-within n w act h =
-    done-at_owner (IsWithin (n + 1)) w w.«unit».own (λ side. at_unit w side (acts_for (both_of w side) act)) (λ side is. acts-within n w side act h)
+    done-at_owner (IsWorldWithin (n + 1)) w w.«unit».own (λ side. at_world_unit w side (acts_for (both_of w side) act)) (λ side is. acts-within n w side act h)
 
 -- what an event at one side draws
 abbrev Draws : LineState → LineState → Type 0
 Draws l m = m.link.drawn ≤ l.link.drawn + 1
 
-turn-within : (n : ℕ) (w : WorldState) (side : Side) (turn : LineTurn) → IsWithin n w → OnDone (Draws (line_of w side)) turn → OnDone (IsWithin (n + 1)) (at_side w side turn)
+turn-within : (n : ℕ) (w : WorldState) (side : Side) (turn : LineTurn) → IsWorldWithin n w → OnDone (Draws (line_of w side)) turn → OnDone (IsWorldWithin (n + 1)) (at_side w side turn)
 turn-within n w side (Ok l) h le = side-within n w side l h le
 turn-within n w side (Err f) h le = tt
 
-chosen-draws : (l : LineState) (phase : HoldPhase) (p : ℕ) (single : Bool) → OnDone (Draws l) (chosen l phase p single)
+chosen-draws : (l : LineState) (phase : HoldPhase) (p : ℕ) (single : Bool) → OnDone (Draws l) (line_chosen l phase p single)
 chosen-draws l hold.Free p single = acts-drawn l.link.drawn l.link.hold (Offers p single)
 chosen-draws l (hold.Reset r) p single = acts-drawn l.link.drawn l.link.hold (Sends_reset p)
 chosen-draws l (hold.Offer t q) p single = tt
@@ -106,7 +106,7 @@ chosen-draws l (hold.On t q c) p single = tt
 chosen-draws l (hold.Away t) p single = tt
 chosen-draws l (hold.Letting t q) p single = tt
 
-let_go-draws : (l : LineState) (phase : HoldPhase) → OnDone (Draws l) (let_go l phase)
+let_go-draws : (l : LineState) (phase : HoldPhase) → OnDone (Draws l) (line_let_go l phase)
 let_go-draws l hold.Free = tt
 let_go-draws l (hold.Reset r) = tt
 let_go-draws l (hold.Offer t q) = tt
@@ -118,21 +118,21 @@ heard-draws : (l : LineState) (x : Option (OnPath Up)) (place : ℕ) (keep may :
 heard-draws l None place keep may = tt
 heard-draws l (Some x) place keep may = acts-drawn l.link.drawn l.link.hold (Takes x may)
 
-met-within : (n : ℕ) (w : WorldState) (side : Side) (x : Option (OnPath Down)) (place : ℕ) (keep may : Bool) → IsWithin n w →
-    OnDone (λ b. IsWithin (n + 1) (record (with_line w side b.line) { «unit» = b.«unit» })) (met (both_of w side) side x place keep may)
+met-within : (n : ℕ) (w : WorldState) (side : Side) (x : Option (OnPath Down)) (place : ℕ) (keep may : Bool) → IsWorldWithin n w →
+    OnDone (λ b. IsWorldWithin (n + 1) (record (with_line w side b.line) { «unit» = b.«unit» })) (met (both_of w side) side x place keep may)
 met-within n w side None place keep may h = tt
 met-within n w side (Some x) place keep may h = unit-within n w side _ (Takes_down side x may) h refl
 
-path-within : (n : ℕ) (named : Result ℕ Fault) (turn : ℕ → Turn) → ((p : ℕ) → OnDone (IsWithin (n + 1)) (turn p)) → OnDone (IsWithin (n + 1)) (on_path named turn)
-path-within n named turn h = done-on_path (IsWithin (n + 1)) named turn h
+path-within : (n : ℕ) (named : Result ℕ Fault) (turn : ℕ → WorldTurn) → ((p : ℕ) → OnDone (IsWorldWithin (n + 1)) (turn p)) → OnDone (IsWorldWithin (n + 1)) (on_path named turn)
+path-within n named turn h = done-on_path (IsWorldWithin (n + 1)) named turn h
 
-pub event-within : (n : ℕ) (w : WorldState) (e : WorldEvent) → IsWithin n w → OnDone (IsWithin (n + 1)) (turn_of w e)
+pub event-within : (n : ℕ) (w : WorldState) (e : WorldEvent) → IsWorldWithin n w → OnDone (IsWorldWithin (n + 1)) (world_turn_of w e)
 event-within n w (event.Choose side p single) h =
     let l : LineState = line_of w side in
-    path-within n (path_named p) (λ q. at_side w side (chosen l l.link.hold.phase q single))
-    (λ q. turn-within n w side (chosen l l.link.hold.phase q single) h (chosen-draws l l.link.hold.phase q single))
+    path-within n (path_named p) (λ q. at_side w side (line_chosen l l.link.hold.phase q single))
+    (λ q. turn-within n w side (line_chosen l l.link.hold.phase q single) h (chosen-draws l l.link.hold.phase q single))
 event-within n w (event.Down side place keep may) h =
-    done-at_unit (IsWithin (n + 1)) w side (meets (both_of w side) side place keep may)
+    done-at_unit (IsWorldWithin (n + 1)) w side (unit_meets (both_of w side) side place keep may)
     (met-within n w side (slice_get (line_of w side).link.downs place) place keep may h)
 event-within n w (event.Up side place keep may) h =
     let l : LineState = line_of w side in
@@ -149,29 +149,29 @@ event-within n w (event.PathDown side p) h =
     let l : LineState = line_of w side in
     path-within n (path_named p) (λ q. at_side w side (goes_down l q))
     (λ q. turn-within n w side (goes_down l q) h
-    (done-if (Draws l) (is_up l.up q) NotNow (cut (with_path l q false) q) (acts-drawn l.link.drawn l.link.hold (Loses q))))
+    (done-if (Draws l) (is_up l.up q) NotNow (cut (line_with_path l q false) q) (acts-drawn l.link.drawn l.link.hold (Loses q))))
 event-within n w (event.PathUp side p) h =
     let l : LineState = line_of w side in
     path-within n (path_named p) (λ q. at_side w side (comes_up l q))
-    (λ q. turn-within n w side (comes_up l q) h (done-unless (Draws l) (is_up l.up q) NotNow (with_path l q true) (acts-drawn l.link.drawn l.link.hold Nothing)))
+    (λ q. turn-within n w side (comes_up l q) h (done-unless (Draws l) (is_up l.up q) NotNow (line_with_path l q true) (acts-drawn l.link.drawn l.link.hold Nothing)))
 event-within n w (event.PathReset side p) h =
     let l : LineState = line_of w side in
     path-within n (path_named p) (λ q. at_side w side (is_cut l q))
     (λ q. turn-within n w side (is_cut l q) h (done-if (Draws l) (is_up l.up q) NotNow (cut l q) (acts-drawn l.link.drawn l.link.hold (Loses q))))
 event-within n w (event.LetGo side) h =
     let l : LineState = line_of w side in
-    turn-within n w side (let_go l l.link.hold.phase) h (let_go-draws l l.link.hold.phase)
+    turn-within n w side (line_let_go l l.link.hold.phase) h (let_go-draws l l.link.hold.phase)
 event-within n w (event.Clear side) h =
     let l : LineState = line_of w side in
     turn-within n w side (Ok (line.acts l Is_reset)) h (acts-drawn l.link.drawn l.link.hold Is_reset)
 event-within n w event.SubsystemReset h = record { «unit» = within-more n w.«unit» h.«unit»; first = omega (arith, h.first); second = omega (arith, h.second) }
 event-within n w event.Leave h = owner-within n w Leaves h
 event-within n w (event.Ask p) h =
-    path-within n (path_named p) (λ q. at_owner w w.«unit».own (λ side. at_unit w side (acts_for (both_of w side) (Asks q)))) (λ q. owner-within n w (Asks q) h)
+    path-within n (path_named p) (λ q. at_owner w w.«unit».own (λ side. at_world_unit w side (acts_for (both_of w side) (Asks q)))) (λ q. owner-within n w (Asks q) h)
 event-within n w (event.Attention side p) h =
-    path-within n (path_named p) (λ q. at_unit w side (acts_for (both_of w side) (Attends side q))) (λ q. acts-within n w side (Attends side q) h)
+    path-within n (path_named p) (λ q. at_world_unit w side (acts_for (both_of w side) (Attends side q))) (λ q. acts-within n w side (Attends side q) h)
 event-within n w (event.Notice side p) h =
-    path-within n (path_named p) (λ q. at_unit w side (acts_for (both_of w side) (Notices side q))) (λ q. acts-within n w side (Notices side q) h)
+    path-within n (path_named p) (λ q. at_world_unit w side (acts_for (both_of w side) (Notices side q))) (λ q. acts-within n w side (Notices side q) h)
 event-within n w event.Restart h =
     record { «unit» = act-within n w.«unit» Restarts h.«unit»; first = omega (arith, h.first); second = omega (arith, h.second) }
 event-within n w (event.Report report) h = owner-within n w (Reports report) h

@@ -16,11 +16,11 @@ use Rattle.chan_model.specs.declared.unit_state.Place.{Place}
 use Rattle.chan_model.specs.declared.unit_state.Place.TheVariants.{On, Ask, Away}
 use Rattle.chan_model.specs.declared.unit_state.UnitState.{UnitState}
 use Rattle.chan_model.specs.Sides.{same_side}
-use Rattle.chan_model.specs.UnitTable.{UnitStep, marked_again, unit_after, side_of, owns, is_owner, is_owner_on, is_idle, resets, without_side, reset_side, raised, selected, given_next, answered_last, answered_load, granted, granted_at, refused, refused_at, forgetting, unit_works, unit_takes, telling, leaving, leaving_from, asking, asking_from, attending, changes, with_given, freed}
+use Rattle.chan_model.specs.UnitTable.{UnitStep, marked_again, unit_after, side_of, owns, is_owner, is_owner_on, is_idle, resets, without_side, reset_side, raised, selected, given_next, answered_last, answered_load, granted, granted_at, grant_refused, grant_refused_at, forgetting, unit_works, unit_takes, telling, leaving, leaving_from, asking, asking_from, attending, changes, with_given, freed}
 use Rattle.chan_model.specs.UnitReports.{unit_reports}
 use Rattle.unit.specs.UnitWords.{connection_of, last_connection, last_sequence}
 use Rattle.agreement_laws.specs.Moving.{UnitAct, Takes_down, Leaves, Asks, Attends, Restarts, Notices, Reports, unit_steps}
-use Rattle.agree.specs.Bounds.{IsUnitWithin}
+use Rattle.agree.specs.Bounds.{IsWorldUnitWithin}
 use Rattle.agree.proofs.Reports.{at_report}
 
 -- a unit whose numbers are at most one above those of another
@@ -104,14 +104,14 @@ granted-raises : (u : UnitState) (o : Own) (side : Side) (p t c : ℕ) → last_
 granted-raises u Idle side p t c le = none u
 granted-raises u (Owned k v place) side p t c le = raises-if u (same_side k side && (t == v)) (granted_at u k v place p c) None (granted_at-raises u k v place p c le) (none u)
 
-refused_at-raises : (u : UnitState) (side : Side) (t : ℕ) (place : Place) (c : ℕ) → connection_of place ≤ last_connection u.own → RaisesBy u (refused_at u side t place c)
+refused_at-raises : (u : UnitState) (side : Side) (t : ℕ) (place : Place) (c : ℕ) → connection_of place ≤ last_connection u.own → RaisesBy u (grant_refused_at u side t place c)
 refused_at-raises u side t (Ask q d) c le = raises-if u (c == d) _ None (raises-own u _ refl refl (omega arith) (omega arith)) (none u)
 refused_at-raises u side t (On q d) c le = none u
 refused_at-raises u side t (Away d) c le = none u
 
-refused-raises : (u : UnitState) (o : Own) (side : Side) (t c : ℕ) → last_connection o ≤ last_connection u.own → RaisesBy u (refused u o side t c)
+refused-raises : (u : UnitState) (o : Own) (side : Side) (t c : ℕ) → last_connection o ≤ last_connection u.own → RaisesBy u (grant_refused u o side t c)
 refused-raises u Idle side t c le = none u
-refused-raises u (Owned k v place) side t c le = raises-if u (same_side k side && (t == v)) (refused_at u k v place c) None (refused_at-raises u k v place c le) (none u)
+refused-raises u (Owned k v place) side t c le = raises-if u (same_side k side && (t == v)) (grant_refused_at u k v place c) None (refused_at-raises u k v place c le) (none u)
 
 forgetting-raises : (u : UnitState) (x : Option Attention) (side : Side) (a : ℕ) → RaisesBy u (forgetting u x side a)
 forgetting-raises u None side a = none u
@@ -194,7 +194,7 @@ act-raises u Restarts = record { restarts = omega arith; attentions = omega arit
 act-raises u (Notices side p) = raises-if u (side_of u side).fresh (telling u p) None (raises-same u) (none u)
 act-raises u (Reports report) = report-raises u report
 
-pub act-within : (n : ℕ) (u : UnitState) (act : UnitAct) → IsUnitWithin n u → IsUnitWithin (n + 1) (unit_after u (unit_steps u act))
+pub act-within : (n : ℕ) (u : UnitState) (act : UnitAct) → IsWorldUnitWithin n u → IsWorldUnitWithin (n + 1) (unit_after u (unit_steps u act))
 act-within n u act h =
     let r : Raises u (unit_after u (unit_steps u act)) = act-raises u act in
     record {

@@ -18,7 +18,7 @@ use Rattle.chan_model.specs.declared.unit_state.AtHand.{AtHand}
 use Rattle.chan_model.specs.declared.unit_state.UnitState.{UnitState}
 use Rattle.chan_model.specs.Sides.{same_side}
 use Rattle.chan_model.specs.UnitTable.{UnitStep}
-use Rattle.chan_model.specs.UnitReports.{unit_reports, report_of, report_on, answer_taken, begun, absorbed, supplied, sent_again, end_sent, may_end, shown_end, is_outward, is_to_supply, most_of}
+use Rattle.chan_model.specs.UnitReports.{unit_reports, report_of, report_on, answer_taken, command_begun, report_absorbed, report_supplied, sent_again, end_sent, may_end, shown_end, is_outward, is_to_supply, most_of}
 use Rattle.unit.specs.UnitWords.{last_sequence}
 
 -- what holds of none, and of each step to another state of the command at hand, holds of what a unit does with a report
@@ -28,14 +28,14 @@ module _ (P : Option UnitStep → Type 0) (u : UnitState) (none : P None)
   by_if true s t h k = h
   by_if false s t h k = k
 
-  at_begin : (p t c : ℕ) (x : AtHand) → x.sequence ≤ last_sequence u.at_hand → P (begun u p t c x)
+  at_begin : (p t c : ℕ) (x : AtHand) → x.sequence ≤ last_sequence u.at_hand → P (command_begun u p t c x)
   at_begin p t c x le = by_if (is_outward x.code) _ _ (by _ _ (omega arith)) (by _ None (omega arith))
 
-  at_bytes : (p t c : ℕ) (x : AtHand) (given : Option (List ℕ)) (count : ℕ) → x.sequence ≤ last_sequence u.at_hand → P (absorbed u p t c x given count)
+  at_bytes : (p t c : ℕ) (x : AtHand) (given : Option (List ℕ)) (count : ℕ) → x.sequence ≤ last_sequence u.at_hand → P (report_absorbed u p t c x given count)
   at_bytes p t c x None count le = none
   at_bytes p t c x (Some bytes) count le = by_if (nat_le count (length bytes)) _ None (by _ _ (omega arith)) none
 
-  at_supplied : (p t c : ℕ) (x : AtHand) (bytes : List ℕ) → x.sequence ≤ last_sequence u.at_hand → P (supplied u p t c x bytes)
+  at_supplied : (p t c : ℕ) (x : AtHand) (bytes : List ℕ) → x.sequence ≤ last_sequence u.at_hand → P (report_supplied u p t c x bytes)
   at_supplied p t c x bytes le = by_if (is_to_supply x && nat_le (length bytes) (most_of x)) _ None (by _ _ (omega arith)) none
 
   at_again : (p t c : ℕ) (x : AtHand) (load : Option Load) → x.sequence ≤ last_sequence u.at_hand → P (sent_again u p t c x load)

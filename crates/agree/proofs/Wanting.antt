@@ -17,9 +17,9 @@ use Rattle.agreement_laws.specs.Moving.{UnitAct, Leaves, Asks, Attends, Notices,
 use Rattle.agree.specs.declared.event.WorldEvent.{WorldEvent}
 use Rattle.agree.specs.declared.event.WorldEvent.TheVariants as event
 use Rattle.agree.specs.State.{LineState, WorldState, line_of, is_up}
-use Rattle.agree.specs.Lines.{Gives, LineTurn, UnitLine, acts_for, stepping, chosen, let_go, heard, hears, met, meets, loses_down, loses_up, cut, goes_down, comes_up, is_cut, with_downs, with_ups, with_path}
-use Rattle.agree.specs.Turns.{Turn, at_side, at_unit, at_owner, both_of, on_path, path_named, turn_of, counted, max_steps, world_turn}
-use Rattle.agree.specs.Rooms.{LineRoom, WorldRoom, LineLoses, Loses, Takes, IsFullFor, IsSpent}
+use Rattle.agree.specs.Lines.{GivesTurn, LineTurn, UnitLine, acts_for, stepping, line_chosen, line_let_go, heard, hears, met, unit_meets, loses_down, loses_up, cut, goes_down, comes_up, is_cut, with_downs, with_ups, line_with_path}
+use Rattle.agree.specs.Turns.{WorldTurn, at_side, at_world_unit, at_owner, both_of, on_path, path_named, world_turn_of, counted, max_steps, world_turn}
+use Rattle.agree.specs.Rooms.{LineRoom, WorldRoom, LineLoses, Loses, TakesRoom, IsFullFor, IsWorldSpent}
 
 -- it is not want of memory
 abbrev Other : Fault → Type 0
@@ -38,22 +38,22 @@ sided : (w : WorldState) (side : Side) (turn : LineTurn) → Sound turn → Soun
 sided w side (Ok l) h = tt
 sided w side (Err f) h = h
 
-united : (w : WorldState) (side : Side) (turn : Result UnitLine Fault) → Sound turn → Sound (at_unit w side turn)
+united : (w : WorldState) (side : Side) (turn : Result UnitLine Fault) → Sound turn → Sound (at_world_unit w side turn)
 united w side (Ok b) h = tt
 united w side (Err f) h = h
 
-owned : (w : WorldState) (o : Own) (turn : Side → Turn) → ((side : Side) → Sound (turn side)) → Sound (at_owner w o turn)
+owned : (w : WorldState) (o : Own) (turn : Side → WorldTurn) → ((side : Side) → Sound (turn side)) → Sound (at_owner w o turn)
 owned w Idle turn h = tt
 owned w (Owned side t place) turn h = h side
 
-named : (x : Result ℕ Fault) (turn : ℕ → Turn) → Sound x → ((q : ℕ) → Sound (turn q)) → Sound (on_path x turn)
+named : (x : Result ℕ Fault) (turn : ℕ → WorldTurn) → Sound x → ((q : ℕ) → Sound (turn q)) → Sound (on_path x turn)
 named (Ok p) turn s h = h p
 named (Err f) turn s h = s
 
-on_one : (p : ℕ) (turn : ℕ → Turn) → ((q : ℕ) → Sound (turn q)) → Sound (on_path (path_named p) turn)
+on_one : (p : ℕ) (turn : ℕ → WorldTurn) → ((q : ℕ) → Sound (turn q)) → Sound (on_path (path_named p) turn)
 on_one p turn h = named (path_named p) turn (either (nat_lt p 8) (Ok p) (Err NoSuchPath) tt tt) h
 
-chosen_sound : (l : LineState) (phase : HoldPhase) (p : ℕ) (single : Bool) → Sound (chosen l phase p single)
+chosen_sound : (l : LineState) (phase : HoldPhase) (p : ℕ) (single : Bool) → Sound (line_chosen l phase p single)
 chosen_sound l hold.Free p single = tt
 chosen_sound l (hold.Reset r) p single = tt
 chosen_sound l (hold.Offer t q) p single = tt
@@ -61,7 +61,7 @@ chosen_sound l (hold.On t q c) p single = tt
 chosen_sound l (hold.Away t) p single = tt
 chosen_sound l (hold.Letting t q) p single = tt
 
-let_go_sound : (l : LineState) (phase : HoldPhase) → Sound (let_go l phase)
+let_go_sound : (l : LineState) (phase : HoldPhase) → Sound (line_let_go l phase)
 let_go_sound l hold.Free = tt
 let_go_sound l (hold.Reset r) = tt
 let_go_sound l (hold.Offer t q) = tt
@@ -81,20 +81,20 @@ stepping_sound : (b : UnitLine) (step : Option UnitStep) → Sound (stepping b s
 stepping_sound b None = tt
 stepping_sound b (Some step) = tt
 
-unit_sound : (w : WorldState) (side : Side) (act : UnitAct) → Sound (at_unit w side (acts_for (both_of w side) act))
+unit_sound : (w : WorldState) (side : Side) (act : UnitAct) → Sound (at_world_unit w side (acts_for (both_of w side) act))
 unit_sound w side act =
     united w side (acts_for (both_of w side) act) (stepping_sound (both_of w side) (unit_steps w.«unit» act))
 
-owner_sound : (w : WorldState) (act : UnitAct) → Sound (at_owner w w.«unit».own (λ side. at_unit w side (acts_for (both_of w side) act)))
-owner_sound w act = owned w w.«unit».own (λ side. at_unit w side (acts_for (both_of w side) act)) (λ side. unit_sound w side act)
+owner_sound : (w : WorldState) (act : UnitAct) → Sound (at_owner w w.«unit».own (λ side. at_world_unit w side (acts_for (both_of w side) act)))
+owner_sound w act = owned w w.«unit».own (λ side. at_world_unit w side (acts_for (both_of w side) act)) (λ side. unit_sound w side act)
 
-never : (w : WorldState) (e : WorldEvent) → Sound (turn_of w e)
+never : (w : WorldState) (e : WorldEvent) → Sound (world_turn_of w e)
 never w (event.Choose side p single) =
     let l : LineState = line_of w side in
-    on_one p (λ q. at_side w side (chosen l l.link.hold.phase q single))
-    (λ q. sided w side (chosen l l.link.hold.phase q single) (chosen_sound l l.link.hold.phase q single))
+    on_one p (λ q. at_side w side (line_chosen l l.link.hold.phase q single))
+    (λ q. sided w side (line_chosen l l.link.hold.phase q single) (chosen_sound l l.link.hold.phase q single))
 never w (event.Down side place keep may) =
-    united w side (meets (both_of w side) side place keep may)
+    united w side (unit_meets (both_of w side) side place keep may)
     (met_sound (both_of w side) side (slice_get (line_of w side).link.downs place) place keep may)
 never w (event.Up side place keep may) =
     let l : LineState = line_of w side in
@@ -110,52 +110,52 @@ never w (event.LoseUp side place) =
 never w (event.PathDown side p) =
     let l : LineState = line_of w side in
     on_one p (λ q. at_side w side (goes_down l q))
-    (λ q. sided w side (goes_down l q) (either (is_up l.up q) (Ok (cut (with_path l q false) q)) (Err NotNow) tt tt))
+    (λ q. sided w side (goes_down l q) (either (is_up l.up q) (Ok (cut (line_with_path l q false) q)) (Err NotNow) tt tt))
 never w (event.PathUp side p) =
     let l : LineState = line_of w side in
     on_one p (λ q. at_side w side (comes_up l q))
-    (λ q. sided w side (comes_up l q) (either (is_up l.up q) (Err NotNow) (Ok (with_path l q true)) tt tt))
+    (λ q. sided w side (comes_up l q) (either (is_up l.up q) (Err NotNow) (Ok (line_with_path l q true)) tt tt))
 never w (event.PathReset side p) =
     let l : LineState = line_of w side in
     on_one p (λ q. at_side w side (is_cut l q))
     (λ q. sided w side (is_cut l q) (either (is_up l.up q) (Ok (cut l q)) (Err NotNow) tt tt))
 never w (event.LetGo side) =
     let l : LineState = line_of w side in
-    sided w side (let_go l l.link.hold.phase) (let_go_sound l l.link.hold.phase)
+    sided w side (line_let_go l l.link.hold.phase) (let_go_sound l l.link.hold.phase)
 never w (event.Clear side) = tt
 never w event.SubsystemReset = tt
 never w event.Leave = owner_sound w Leaves
 never w (event.Ask p) =
-    on_one p (λ q. at_owner w w.«unit».own (λ side. at_unit w side (acts_for (both_of w side) (Asks q))))
+    on_one p (λ q. at_owner w w.«unit».own (λ side. at_world_unit w side (acts_for (both_of w side) (Asks q))))
     (λ q. owner_sound w (Asks q))
 never w (event.Attention side p) =
-    on_one p (λ q. at_unit w side (acts_for (both_of w side) (Attends side q))) (λ q. unit_sound w side (Attends side q))
+    on_one p (λ q. at_world_unit w side (acts_for (both_of w side) (Attends side q))) (λ q. unit_sound w side (Attends side q))
 never w (event.Notice side p) =
-    on_one p (λ q. at_unit w side (acts_for (both_of w side) (Notices side q))) (λ q. unit_sound w side (Notices side q))
+    on_one p (λ q. at_world_unit w side (acts_for (both_of w side) (Notices side q))) (λ q. unit_sound w side (Notices side q))
 never w event.Restart = tt
 never w (event.Report report) = owner_sound w (Reports report)
 
-counted_sound : (n : ℕ) (turn : Turn) → Sound turn → Sound (counted n turn)
+counted_sound : (n : ℕ) (turn : WorldTurn) → Sound turn → Sound (counted n turn)
 counted_sound n (Ok w) h = tt
 counted_sound n (Err f) h = h
 
-bounded : (b : Bool) (turn : Turn) → Sound turn → (if b then turn else Err NoMemory) ≡ Err NoMemory → b ≡ false
+bounded : (b : Bool) (turn : WorldTurn) → Sound turn → (if b then turn else Err NoMemory) ≡ Err NoMemory → b ≡ false
 bounded true turn sound is = absurd (subst Sound is sound)
 bounded false turn sound is = refl
 
 steps-spent : (w : WorldState) (e : WorldEvent) → world_turn w e ≡ Err NoMemory → max_steps ≤ w.steps
 steps-spent w e is =
     let none : nat_lt w.steps max_steps ≡ false =
-    bounded (nat_lt w.steps max_steps) (counted w.steps (turn_of w e)) (counted_sound w.steps (turn_of w e) (never w e)) is in
+    bounded (nat_lt w.steps max_steps) (counted w.steps (world_turn_of w e)) (counted_sound w.steps (world_turn_of w e) (never w e)) is in
     ltb-false w.steps max_steps none
 
 -- a call that does as a turn says, and is refused for want of memory
 pub given-spent : {A : Type 0} → (w : WorldState) (room : WorldRoom) (e : WorldEvent) (new : WorldState) (r : Result A Fault) →
-    Gives w (world_turn w e) (IsFullFor w room e) r new → r ≡ Err NoMemory → IsSpent (record { world = new; room = room }) e
+    GivesTurn w (world_turn w e) (IsFullFor w room e) r new → r ≡ Err NoMemory → IsWorldSpent (record { world = new; room = room }) e
 given-spent w room e new (Ok done) given is = absurd (cc is)
 given-spent w room e new (Err f) given is =
     let want : f ≡ NoMemory = cc in
-    subst (λ (x : WorldState). IsSpent (record { world = x; room = room }) e) (sym given.0)
+    subst (λ (x : WorldState). IsWorldSpent (record { world = x; room = room }) e) (sym given.0)
     (elim given.1 [
       | inl full ↦ inr full.1
       | inr turn ↦ inl (steps-spent w e (subst (λ (g : Fault). world_turn w e ≡ Err g) want turn))
@@ -188,6 +188,6 @@ loses-weaker n m a b le h = record {
   second = line-weaker n m a.second b.second le h.second;
 }
 
-pub taken-more : {A F : Type 0} → (n : ℕ) (a b c : WorldRoom) (r : Result A F) → Loses n a b → Takes r b c → Loses (n + 1) a c
+pub taken-more : {A F : Type 0} → (n : ℕ) (a b c : WorldRoom) (r : Result A F) → Loses n a b → TakesRoom r b c → Loses (n + 1) a c
 taken-more n a b c (Ok done) h k = world-more n 1 a b c h k
 taken-more n a b c (Err f) h k = world-more n 1 a b c h (loses-weaker 0 1 b c (omega arith) k)

@@ -15,9 +15,9 @@ use Rattle.agreement_laws.specs.Moving.{HoldAct, HoldActed, hold_acts, Offers, S
 use Rattle.agree.specs.State.{LineState, is_up}
 
 -- the signals with one sent behind them; on a path that is down it vanishes
-abbrev pub with_sent : {S : Type 0} → List Bool → List (OnPath S) → Option (OnPath S) → List (OnPath S)
-with_sent up xs None = xs
-with_sent up xs (Some x) = if is_up up x.path then xs ++ x ∷ [] else xs
+abbrev pub queue_with_sent : {S : Type 0} → List Bool → List (OnPath S) → Option (OnPath S) → List (OnPath S)
+queue_with_sent up xs None = xs
+queue_with_sent up xs (Some x) = if is_up up x.path then xs ++ x ∷ [] else xs
 
 -- the signals that are left where one is delivered, and kept or not
 abbrev pub left_after : {S : Type 0} → List (OnPath S) → ℕ → Bool → List (OnPath S)
@@ -35,14 +35,14 @@ with_ups l xs = record l { link = record l.link { ups = xs } }
 
 -- the side after an act of its hold
 abbrev pub acted : LineState → HoldActed → LineState
-acted l a = record l { link = record l.link { drawn = a.drawn; hold = a.hold; downs = with_sent l.up l.link.downs a.sent } }
+acted l a = record l { link = record l.link { drawn = a.drawn; hold = a.hold; downs = queue_with_sent l.up l.link.downs a.sent } }
 
 abbrev pub acts : LineState → HoldAct → LineState
 acts l act = acted l (hold_acts l.link.drawn l.link.hold act)
 
 -- the side after the unit sent it something or nothing
-abbrev pub told : LineState → Option (OnPath Up) → LineState
-told l sent = record l { link = record l.link { ups = with_sent l.up l.link.ups sent; accepted = with_accepted l.link.accepted sent } }
+abbrev pub line_told : LineState → Option (OnPath Up) → LineState
+line_told l sent = record l { link = record l.link { ups = queue_with_sent l.up l.link.ups sent; accepted = with_accepted l.link.accepted sent } }
 
 abbrev pub LineTurn : Type 0
 LineTurn = Result LineState Fault
@@ -50,22 +50,22 @@ LineTurn = Result LineState Fault
 -- Choose: an offer where nothing holds the device; the Reset where there is one to send. A subsystem sends a Reset while it
 -- is unsent; here one that was sent may be sent again. So this world allows more than a subsystem does, and what is promised
 -- of every list of events holds of those that a subsystem makes.
-abbrev pub chosen : LineState → HoldPhase → ℕ → Bool → LineTurn
-chosen l Free p single = Ok (acts l (Offers p single))
-chosen l (Reset r) p single = Ok (acts l (Sends_reset p))
-chosen l (Offer t q) p single = Err NotNow
-chosen l (On t q c) p single = Err NotNow
-chosen l (Away t) p single = Err NotNow
-chosen l (Letting t q) p single = Err NotNow
+abbrev pub line_chosen : LineState → HoldPhase → ℕ → Bool → LineTurn
+line_chosen l Free p single = Ok (acts l (Offers p single))
+line_chosen l (Reset r) p single = Ok (acts l (Sends_reset p))
+line_chosen l (Offer t q) p single = Err NotNow
+line_chosen l (On t q c) p single = Err NotNow
+line_chosen l (Away t) p single = Err NotNow
+line_chosen l (Letting t q) p single = Err NotNow
 
 -- the device is let go where a program is connected
-abbrev pub let_go : LineState → HoldPhase → LineTurn
-let_go l (On t q c) = Ok (acts l Lets_go)
-let_go l Free = Err NotNow
-let_go l (Offer t q) = Err NotNow
-let_go l (Away t) = Err NotNow
-let_go l (Letting t q) = Err NotNow
-let_go l (Reset r) = Err NotNow
+abbrev pub line_let_go : LineState → HoldPhase → LineTurn
+line_let_go l (On t q c) = Ok (acts l Lets_go)
+line_let_go l Free = Err NotNow
+line_let_go l (Offer t q) = Err NotNow
+line_let_go l (Away t) = Err NotNow
+line_let_go l (Letting t q) = Err NotNow
+line_let_go l (Reset r) = Err NotNow
 
 -- the hold takes the signal at a place
 abbrev pub heard : LineState → Option (OnPath Up) → ℕ → Bool → Bool → LineTurn
@@ -86,14 +86,14 @@ loses_up l place = if nat_lt place (length l.link.ups) then Ok (with_ups l (remo
 abbrev pub cut : LineState → ℕ → LineState
 cut l p = acts (with_ups (with_downs l (without_path l.link.downs p)) (without_path l.link.ups p)) (Loses p)
 
-abbrev pub with_path : LineState → ℕ → Bool → LineState
-with_path l p is_up = record l { up = slice_set l.up p is_up }
+abbrev pub line_with_path : LineState → ℕ → Bool → LineState
+line_with_path l p is_up = record l { up = slice_set l.up p is_up }
 
 abbrev pub goes_down : LineState → ℕ → LineTurn
-goes_down l p = if is_up l.up p then Ok (cut (with_path l p false) p) else Err NotNow
+goes_down l p = if is_up l.up p then Ok (cut (line_with_path l p false) p) else Err NotNow
 
 abbrev pub comes_up : LineState → ℕ → LineTurn
-comes_up l p = if is_up l.up p then Err NotNow else Ok (with_path l p true)
+comes_up l p = if is_up l.up p then Err NotNow else Ok (line_with_path l p true)
 
 abbrev pub is_cut : LineState → ℕ → LineTurn
 is_cut l p = if is_up l.up p then Ok (cut l p) else Err NotNow
@@ -103,17 +103,17 @@ pub record UnitLine : Type 0 where
   pub «unit» : UnitState
   pub line : LineState
 
-abbrev pub both : UnitState → LineState → UnitLine
-both u l = record { «unit» = u; line = l }
+abbrev pub unit_line : UnitState → LineState → UnitLine
+unit_line u l = record { «unit» = u; line = l }
 
 -- the unit stepped, and what it sent goes to the side
-abbrev pub stepped : UnitLine → Option UnitStep → UnitLine
-stepped b step = record { «unit» = unit_after b.«unit» step; line = told b.line (came_of step).sent }
+abbrev pub unit_stepped : UnitLine → Option UnitStep → UnitLine
+unit_stepped b step = record { «unit» = unit_after b.«unit» step; line = line_told b.line (came_of step).sent }
 
 -- an act of the unit, where its state allows it
 abbrev pub stepping : UnitLine → Option UnitStep → Result UnitLine Fault
 stepping b None = Err NotNow
-stepping b (Some step) = Ok (stepped b (Some step))
+stepping b (Some step) = Ok (unit_stepped b (Some step))
 
 abbrev pub acts_for : UnitLine → UnitAct → Result UnitLine Fault
 acts_for b act = stepping b (unit_steps b.«unit» act)
@@ -122,13 +122,13 @@ acts_for b act = stepping b (unit_steps b.«unit» act)
 abbrev pub met : UnitLine → Side → Option (OnPath Down) → ℕ → Bool → Bool → Result UnitLine Fault
 met b side None place keep may = Err NotSent
 met b side (Some x) place keep may =
-    Ok (stepped (record b { line = with_downs b.line (left_after b.line.link.downs place keep) }) (unit_steps b.«unit» (Takes_down side x may)))
+    Ok (unit_stepped (record b { line = with_downs b.line (left_after b.line.link.downs place keep) }) (unit_steps b.«unit» (Takes_down side x may)))
 
-abbrev pub meets : UnitLine → Side → ℕ → Bool → Bool → Result UnitLine Fault
-meets b side place keep may = met b side (slice_get b.line.link.downs place) place keep may
+abbrev pub unit_meets : UnitLine → Side → ℕ → Bool → Bool → Result UnitLine Fault
+unit_meets b side place keep may = met b side (slice_get b.line.link.downs place) place keep may
 
 -- A call does as a turn says. Where it is refused, for that or for want of memory, all is as before; for want of memory it
 -- is refused for a reason alone, as that a list is full.
-abbrev pub Gives : {A S : Type 0} → S → Result S Fault → Type 0 → Result A Fault → S → Type 0
-Gives old turn reason (Ok done) new = turn ≡ Ok new
-Gives old turn reason (Err f) new = (new ≡ old) × (((f ≡ NoMemory) × reason) ⊎ (turn ≡ Err f))
+abbrev pub GivesTurn : {A S : Type 0} → S → Result S Fault → Type 0 → Result A Fault → S → Type 0
+GivesTurn old turn reason (Ok done) new = turn ≡ Ok new
+GivesTurn old turn reason (Err f) new = (new ≡ old) × (((f ≡ NoMemory) × reason) ⊎ (turn ≡ Err f))

@@ -33,9 +33,9 @@ no_line_room = record { downs = 0; ups = 0; accepted = 0 }
 abbrev pub no_room : WorldRoom
 no_room = record { first = no_line_room; second = no_line_room }
 
-abbrev pub room_of : WorldRoom → Side → LineRoom
-room_of room First = room.first
-room_of room Second = room.second
+abbrev pub line_room_of : WorldRoom → Side → LineRoom
+line_room_of room First = room.first
+line_room_of room Second = room.second
 
 -- room may be made; of what there was, each list loses so many places at most
 pub record LineLoses (n : ℕ) (old new : LineRoom) : Type 0 where
@@ -52,12 +52,12 @@ abbrev pub LineTakes : {A F : Type 0} → Result A F → LineRoom → LineRoom �
 LineTakes (Ok done) old new = LineLoses 1 old new
 LineTakes (Err f) old new = LineLoses 0 old new
 
-abbrev pub Takes : {A F : Type 0} → Result A F → WorldRoom → WorldRoom → Type 0
-Takes (Ok done) old new = Loses 1 old new
-Takes (Err f) old new = Loses 0 old new
+abbrev pub TakesRoom : {A F : Type 0} → Result A F → WorldRoom → WorldRoom → Type 0
+TakesRoom (Ok done) old new = Loses 1 old new
+TakesRoom (Err f) old new = Loses 0 old new
 
 -- as before: of room nothing is said but that none was lost
-pub record IsAsBefore (old new : WorldAndRoom) : Type 0 where
+pub record IsWorldAsBefore (old new : WorldAndRoom) : Type 0 where
   pub world : new.world ≡ old.world
   pub room : Loses 0 old.room new.room
 
@@ -71,31 +71,31 @@ IsFullUp room = (room.ups ≡ 0) ⊎ (room.accepted ≡ 0)
 
 abbrev pub IsOwnerFull : WorldRoom → Own → Type 0
 IsOwnerFull room Idle = ⊥
-IsOwnerFull room (Owned side t place) = IsFullUp (room_of room side)
+IsOwnerFull room (Owned side t place) = IsFullUp (line_room_of room side)
 
 -- a list that the event may add to has no room; an event that sends nothing needs none
 abbrev pub IsFullFor : WorldState → WorldRoom → WorldEvent → Type 0
-IsFullFor w room (event.Choose side p single) = IsFullDown (room_of room side)
-IsFullFor w room (event.Down side place keep may) = IsFullUp (room_of room side)
-IsFullFor w room (event.Up side place keep may) = IsFullDown (room_of room side)
+IsFullFor w room (event.Choose side p single) = IsFullDown (line_room_of room side)
+IsFullFor w room (event.Down side place keep may) = IsFullUp (line_room_of room side)
+IsFullFor w room (event.Up side place keep may) = IsFullDown (line_room_of room side)
 IsFullFor w room (event.LoseDown side place) = ⊥
 IsFullFor w room (event.LoseUp side place) = ⊥
 IsFullFor w room (event.PathDown side p) = ⊥
 IsFullFor w room (event.PathUp side p) = ⊥
 IsFullFor w room (event.PathReset side p) = ⊥
-IsFullFor w room (event.LetGo side) = IsFullDown (room_of room side)
+IsFullFor w room (event.LetGo side) = IsFullDown (line_room_of room side)
 IsFullFor w room (event.Clear side) = ⊥
 IsFullFor w room event.SubsystemReset = ⊥
 IsFullFor w room event.Leave = IsOwnerFull room w.«unit».own
 IsFullFor w room (event.Ask p) = IsOwnerFull room w.«unit».own
-IsFullFor w room (event.Attention side p) = IsFullUp (room_of room side)
-IsFullFor w room (event.Notice side p) = IsFullUp (room_of room side)
+IsFullFor w room (event.Attention side p) = IsFullUp (line_room_of room side)
+IsFullFor w room (event.Notice side p) = IsFullUp (line_room_of room side)
 IsFullFor w room event.Restart = ⊥
 IsFullFor w room (event.Report report) = IsOwnerFull room w.«unit».own
 
 -- the steps are used up, or there is no room for the event
-abbrev pub IsSpent : WorldAndRoom → WorldEvent → Type 0
-IsSpent w e = (max_steps ≤ w.world.steps) ⊎ IsFullFor w.world w.room e
+abbrev pub IsWorldSpent : WorldAndRoom → WorldEvent → Type 0
+IsWorldSpent w e = (max_steps ≤ w.world.steps) ⊎ IsFullFor w.world w.room e
 
 -- the events were passed through, each done or refused, up to the first for which there was no room, or no step
 pub record HasEnded (old : WorldAndRoom) (events : List WorldEvent) (new : WorldAndRoom) : Type 0 where
@@ -103,4 +103,4 @@ pub record HasEnded (old : WorldAndRoom) (events : List WorldEvent) (new : World
   pub next : WorldEvent
   pub there : slice_get events done ≡ Some next
   pub world : new.world ≡ worlds_after old.world (take done events)
-  pub spent : IsSpent new next
+  pub spent : IsWorldSpent new next

@@ -10,13 +10,13 @@ use Rattle.agreement_laws.specs.Moving.{Is_reset, Leaves, Asks, Attends, Notices
 use Rattle.agree.specs.declared.event.WorldEvent.{WorldEvent}
 use Rattle.agree.specs.declared.event.WorldEvent.TheVariants as event
 use Rattle.agree.specs.State.{WorldState, line_of, with_line}
-use Rattle.agree.specs.Lines.{LineTurn, UnitLine, both, acts, acts_for, meets, chosen, let_go, hears, loses_down, loses_up, goes_down, comes_up, is_cut}
+use Rattle.agree.specs.Lines.{LineTurn, UnitLine, unit_line, acts, acts_for, unit_meets, line_chosen, line_let_go, hears, loses_down, loses_up, goes_down, comes_up, is_cut}
 
-abbrev pub Turn : Type 0
-Turn = Result WorldState Fault
+abbrev pub WorldTurn : Type 0
+WorldTurn = Result WorldState Fault
 
 -- an event at one side
-abbrev pub at_side : WorldState → Side → LineTurn → Turn
+abbrev pub at_side : WorldState → Side → LineTurn → WorldTurn
 at_side w side (Ok l) = Ok (with_line w side l)
 at_side w side (Err f) = Err f
 
@@ -24,19 +24,19 @@ at_side w side (Err f) = Err f
 abbrev pub path_named : ℕ → Result ℕ Fault
 path_named p = if nat_lt p 8 then Ok p else Err NoSuchPath
 
-abbrev pub on_path : Result ℕ Fault → (ℕ → Turn) → Turn
+abbrev pub on_path : Result ℕ Fault → (ℕ → WorldTurn) → WorldTurn
 on_path (Ok p) turn = turn p
 on_path (Err f) turn = Err f
 
 -- what the unit does for its program goes to the program's side
-abbrev pub at_unit : WorldState → Side → Result UnitLine Fault → Turn
-at_unit w side (Ok b) = Ok (record (with_line w side b.line) { «unit» = b.«unit» })
-at_unit w side (Err f) = Err f
+abbrev pub at_world_unit : WorldState → Side → Result UnitLine Fault → WorldTurn
+at_world_unit w side (Ok b) = Ok (record (with_line w side b.line) { «unit» = b.«unit» })
+at_world_unit w side (Err f) = Err f
 
 abbrev pub both_of : WorldState → Side → UnitLine
-both_of w side = both w.«unit» (line_of w side)
+both_of w side = unit_line w.«unit» (line_of w side)
 
-abbrev pub at_owner : WorldState → Own → (Side → Turn) → Turn
+abbrev pub at_owner : WorldState → Own → (Side → WorldTurn) → WorldTurn
 at_owner w own.Idle turn = Err NotNow
 at_owner w (own.Owned side t place) turn = turn side
 
@@ -45,38 +45,38 @@ abbrev pub all_reset : WorldState → WorldState
 all_reset w = record w { first = acts w.first Is_reset; second = acts w.second Is_reset }
 
 -- each event, but for the count of steps
-abbrev pub turn_of : WorldState → WorldEvent → Turn
-turn_of w (event.Choose side p single) = on_path (path_named p) (λ q. at_side w side (chosen (line_of w side) (line_of w side).link.hold.phase q single))
-turn_of w (event.Down side place keep may) = at_unit w side (meets (both_of w side) side place keep may)
-turn_of w (event.Up side place keep may) = at_side w side (hears (line_of w side) place keep may)
-turn_of w (event.LoseDown side place) = at_side w side (loses_down (line_of w side) place)
-turn_of w (event.LoseUp side place) = at_side w side (loses_up (line_of w side) place)
-turn_of w (event.PathDown side p) = on_path (path_named p) (λ q. at_side w side (goes_down (line_of w side) q))
-turn_of w (event.PathUp side p) = on_path (path_named p) (λ q. at_side w side (comes_up (line_of w side) q))
-turn_of w (event.PathReset side p) = on_path (path_named p) (λ q. at_side w side (is_cut (line_of w side) q))
-turn_of w (event.LetGo side) = at_side w side (let_go (line_of w side) (line_of w side).link.hold.phase)
-turn_of w (event.Clear side) = at_side w side (Ok (acts (line_of w side) Is_reset))
-turn_of w event.SubsystemReset = Ok (all_reset w)
-turn_of w event.Leave = at_owner w w.«unit».own (λ side. at_unit w side (acts_for (both_of w side) Leaves))
-turn_of w (event.Ask p) = on_path (path_named p) (λ q. at_owner w w.«unit».own (λ side. at_unit w side (acts_for (both_of w side) (Asks q))))
-turn_of w (event.Attention side p) = on_path (path_named p) (λ q. at_unit w side (acts_for (both_of w side) (Attends side q)))
-turn_of w (event.Notice side p) = on_path (path_named p) (λ q. at_unit w side (acts_for (both_of w side) (Notices side q)))
-turn_of w event.Restart = Ok (record w { «unit» = restarted w.«unit» })
-turn_of w (event.Report report) = at_owner w w.«unit».own (λ side. at_unit w side (acts_for (both_of w side) (Reports report)))
+abbrev pub world_turn_of : WorldState → WorldEvent → WorldTurn
+world_turn_of w (event.Choose side p single) = on_path (path_named p) (λ q. at_side w side (line_chosen (line_of w side) (line_of w side).link.hold.phase q single))
+world_turn_of w (event.Down side place keep may) = at_world_unit w side (unit_meets (both_of w side) side place keep may)
+world_turn_of w (event.Up side place keep may) = at_side w side (hears (line_of w side) place keep may)
+world_turn_of w (event.LoseDown side place) = at_side w side (loses_down (line_of w side) place)
+world_turn_of w (event.LoseUp side place) = at_side w side (loses_up (line_of w side) place)
+world_turn_of w (event.PathDown side p) = on_path (path_named p) (λ q. at_side w side (goes_down (line_of w side) q))
+world_turn_of w (event.PathUp side p) = on_path (path_named p) (λ q. at_side w side (comes_up (line_of w side) q))
+world_turn_of w (event.PathReset side p) = on_path (path_named p) (λ q. at_side w side (is_cut (line_of w side) q))
+world_turn_of w (event.LetGo side) = at_side w side (line_let_go (line_of w side) (line_of w side).link.hold.phase)
+world_turn_of w (event.Clear side) = at_side w side (Ok (acts (line_of w side) Is_reset))
+world_turn_of w event.SubsystemReset = Ok (all_reset w)
+world_turn_of w event.Leave = at_owner w w.«unit».own (λ side. at_world_unit w side (acts_for (both_of w side) Leaves))
+world_turn_of w (event.Ask p) = on_path (path_named p) (λ q. at_owner w w.«unit».own (λ side. at_world_unit w side (acts_for (both_of w side) (Asks q))))
+world_turn_of w (event.Attention side p) = on_path (path_named p) (λ q. at_world_unit w side (acts_for (both_of w side) (Attends side q)))
+world_turn_of w (event.Notice side p) = on_path (path_named p) (λ q. at_world_unit w side (acts_for (both_of w side) (Notices side q)))
+world_turn_of w event.Restart = Ok (record w { «unit» = restarted w.«unit» })
+world_turn_of w (event.Report report) = at_owner w w.«unit».own (λ side. at_world_unit w side (acts_for (both_of w side) (Reports report)))
 
 -- an accepted event is a step, of which there are fewer than 2 ^ 62
-abbrev pub counted : ℕ → Turn → Turn
+abbrev pub counted : ℕ → WorldTurn → WorldTurn
 counted steps (Ok w) = Ok (record w { steps = steps + 1 })
 counted steps (Err f) = Err f
 
 abbrev pub max_steps : ℕ
 max_steps = 4611686018427387903
 
-abbrev pub world_turn : WorldState → WorldEvent → Turn
-world_turn w e = if nat_lt w.steps max_steps then counted w.steps (turn_of w e) else Err NoMemory
+abbrev pub world_turn : WorldState → WorldEvent → WorldTurn
+world_turn w e = if nat_lt w.steps max_steps then counted w.steps (world_turn_of w e) else Err NoMemory
 
 -- the state after an event, and after a list of events: a refused one leaves it as it was
-abbrev pub state_after : WorldState → Turn → WorldState
+abbrev pub state_after : WorldState → WorldTurn → WorldState
 state_after w (Ok new) = new
 state_after w (Err f) = w
 
@@ -88,7 +88,7 @@ worlds_after w [] = w
 worlds_after w (e ∷ es) = worlds_after (world_after w e) es
 
 -- why an event is refused
-abbrev pub refusal_in : Turn → Option Fault
+abbrev pub refusal_in : WorldTurn → Option Fault
 refusal_in (Ok new) = None
 refusal_in (Err f) = Some f
 

@@ -21,7 +21,7 @@ use std::marker::Model;
 /// One side: how many numbers were drawn, the hold, the signals that may still arrive, the numbers that the unit accepted,
 /// and which paths are up.
 #[derive(Drop)]
-pub struct Line {
+pub struct SideLine {
     drawn: u64,
     hold: Hold,
     downs: Vec<OnPath<Down>>,
@@ -30,7 +30,7 @@ pub struct Line {
     up: [bool; 8],
 }
 
-impl Model for Line {
+impl Model for SideLine {
     ghost use Rattle.std.specs.Prelude.{◌-◌, vec_len, vec_capacity};
     ghost use Rattle.agree.specs.Rooms.{LineAndRoom};
 
@@ -39,12 +39,12 @@ impl Model for Line {
     ghost view = { λ l. record { line = record { link = record { drawn = l.drawn; hold = l.hold; downs = l.downs.items; ups = l.ups.items; accepted = l.accepted.items }; up = l.up }; room = record { downs = vec_capacity l.downs - vec_len l.downs; ups = vec_capacity l.ups - vec_len l.ups; accepted = vec_capacity l.accepted - vec_len l.accepted } } };
 }
 
-impl Line {
+impl SideLine {
     /// Nothing has happened, and every path is up.
     pub fn new(alloc: Global) -> Self
         ensures { result ≡ record { line = state_spec.opening_line; room = room_spec.no_line_room } }
     {
-        Line {
+        SideLine {
             drawn: 0,
             hold: Hold::new(),
             downs: Vec::new(alloc),
@@ -84,7 +84,7 @@ impl Line {
 
     /// Keeps what the hold did, and sends what it sent.
     fn keep(&mut self, drawn: u64, hold: Hold, sent: Option<OnPath<Down>>) -> Result<(), Fault>
-        ensures gives { spec.Gives self.old.line (Ok (spec.acted self.old.line (record { drawn = drawn; hold = hold; sent = sent }))) (room_spec.IsFullDown self.new.room) result self.new.line }
+        ensures gives { spec.GivesTurn self.old.line (Ok (spec.acted self.old.line (record { drawn = drawn; hold = hold; sent = sent }))) (room_spec.IsFullDown self.new.room) result self.new.line }
         ensures room { room_spec.LineTakes result self.old.room self.new.room }
     {
         if let Some(signal) = sent {
@@ -98,7 +98,7 @@ impl Line {
     /// Offers a program on a path, or sends the Reset on it.
     pub fn choose(&mut self, path: Path, single_path: bool) -> Result<(), Fault>
         requires { self.old.line.link.drawn ≤ 2 ^ 62 }
-        ensures gives { spec.Gives self.old.line (spec.chosen self.old.line self.old.line.link.hold.phase path single_path) (room_spec.IsFullDown self.new.room) result self.new.line }
+        ensures gives { spec.GivesTurn self.old.line (spec.line_chosen self.old.line self.old.line.link.hold.phase path single_path) (room_spec.IsFullDown self.new.room) result self.new.line }
         ensures room { room_spec.LineTakes result self.old.room self.new.room }
     {
         let mut hold = self.hold;
@@ -118,7 +118,7 @@ impl Line {
 
     /// Lets the device go.
     pub fn let_go(&mut self) -> Result<(), Fault>
-        ensures gives { spec.Gives self.old.line (spec.let_go self.old.line self.old.line.link.hold.phase) (room_spec.IsFullDown self.new.room) result self.new.line }
+        ensures gives { spec.GivesTurn self.old.line (spec.line_let_go self.old.line self.old.line.link.hold.phase) (room_spec.IsFullDown self.new.room) result self.new.line }
         ensures room { room_spec.LineTakes result self.old.room self.new.room }
     {
         let mut hold = self.hold;
@@ -144,7 +144,7 @@ impl Line {
     /// The hold takes the signal at a place.
     pub fn hear(&mut self, place: usize, keep: bool, may: bool) -> Result<(), Fault>
         requires { self.old.line.link.drawn ≤ 2 ^ 62 }
-        ensures gives { spec.Gives self.old.line (spec.hears self.old.line place keep may) (room_spec.IsFullDown self.new.room) result self.new.line }
+        ensures gives { spec.GivesTurn self.old.line (spec.hears self.old.line place keep may) (room_spec.IsFullDown self.new.room) result self.new.line }
         ensures room { room_spec.LineTakes result self.old.room self.new.room }
     {
         if place >= self.ups.len() {
@@ -162,7 +162,7 @@ impl Line {
 
     /// The signal to the unit at a place vanishes.
     pub fn lose_down(&mut self, place: usize) -> Result<(), Fault>
-        ensures gives { spec.Gives self.old.line (spec.loses_down self.old.line place) ⊥ result self.new.line }
+        ensures gives { spec.GivesTurn self.old.line (spec.loses_down self.old.line place) ⊥ result self.new.line }
         ensures room { room_spec.LineTakes result self.old.room self.new.room }
     {
         if place >= self.downs.len() {
@@ -174,7 +174,7 @@ impl Line {
 
     /// The signal from the unit at a place vanishes.
     pub fn lose_up(&mut self, place: usize) -> Result<(), Fault>
-        ensures gives { spec.Gives self.old.line (spec.loses_up self.old.line place) ⊥ result self.new.line }
+        ensures gives { spec.GivesTurn self.old.line (spec.loses_up self.old.line place) ⊥ result self.new.line }
         ensures room { room_spec.LineTakes result self.old.room self.new.room }
     {
         if place >= self.ups.len() {
@@ -201,7 +201,7 @@ impl Line {
     /// A path goes down.
     pub fn path_down(&mut self, path: Path) -> Result<(), Fault>
         requires { self.old.line.link.drawn ≤ 2 ^ 62 }
-        ensures gives { spec.Gives self.old.line (spec.goes_down self.old.line path) ⊥ result self.new.line }
+        ensures gives { spec.GivesTurn self.old.line (spec.goes_down self.old.line path) ⊥ result self.new.line }
         ensures room { room_spec.LineTakes result self.old.room self.new.room }
     {
         if !is_up(&self.up, path) {
@@ -214,7 +214,7 @@ impl Line {
 
     /// A path comes up.
     pub fn path_up(&mut self, path: Path) -> Result<(), Fault>
-        ensures gives { spec.Gives self.old.line (spec.comes_up self.old.line path) ⊥ result self.new.line }
+        ensures gives { spec.GivesTurn self.old.line (spec.comes_up self.old.line path) ⊥ result self.new.line }
         ensures room { room_spec.LineTakes result self.old.room self.new.room }
     {
         if is_up(&self.up, path) {
@@ -227,7 +227,7 @@ impl Line {
     /// A path is reset.
     pub fn path_reset(&mut self, path: Path) -> Result<(), Fault>
         requires { self.old.line.link.drawn ≤ 2 ^ 62 }
-        ensures gives { spec.Gives self.old.line (spec.is_cut self.old.line path) ⊥ result self.new.line }
+        ensures gives { spec.GivesTurn self.old.line (spec.is_cut self.old.line path) ⊥ result self.new.line }
         ensures room { room_spec.LineTakes result self.old.room self.new.room }
     {
         if !is_up(&self.up, path) {
@@ -242,7 +242,7 @@ impl Line {
 /// cause of a reset.
 fn taken(drawn: u64, hold: &mut Hold, signal: &OnPath<Up>, may: bool) -> (u64, Option<OnPath<Down>>)
     requires { drawn ≤ 2 ^ 62 }
-    ensures { record { drawn = result.0; hold = hold.new; sent = result.1 } ≡ moving.taken drawn hold.old signal.now.path signal.now.signal may }
+    ensures { record { drawn = result.0; hold = hold.new; sent = result.1 } ≡ moving.hold_taken drawn hold.old signal.now.path signal.now.signal may }
 {
     let came = hold.take(signal.path, &signal.signal, may);
     if came.taken && matches!(signal.signal, Up::Notice { .. }) {

@@ -1,15 +1,15 @@
 //! A unit and both of its sides, with nothing said of how they go together.
 
 ghost use Rattle.std.specs.Prelude.{◌≡◌, ◌<◌, ◌^◌, Ok, length};
-ghost use Rattle.agree.specs.Bounds.{IsWithin};
-ghost use Rattle.agree.specs.Lines.{Gives};
-ghost use Rattle.agree.specs.Rooms.{IsFullFor, Loses, Takes, no_room};
+ghost use Rattle.agree.specs.Bounds.{IsWorldWithin};
+ghost use Rattle.agree.specs.Lines.{GivesTurn};
+ghost use Rattle.agree.specs.Rooms.{IsFullFor, Loses, TakesRoom, no_room};
 ghost use Rattle.agree.specs.State as state_spec;
 ghost use Rattle.agree.specs.Turns as spec;
 ghost use Rattle.agree.specs.declared.event.WorldEvent.TheVariants as event_spec;
 
 use crate::event::WorldEvent;
-use crate::line::Line;
+use crate::line::SideLine;
 use chan_model::fault::Fault;
 use chan_model::hold_state::HoldState;
 use chan_model::names::{Path, Side};
@@ -23,8 +23,8 @@ use unit::Unit;
 #[derive(Drop)]
 pub struct Parts {
     unit: Unit,
-    first: Line,
-    second: Line,
+    first: SideLine,
+    second: SideLine,
     steps: u64,
 }
 
@@ -43,8 +43,8 @@ impl Parts {
     {
         Parts {
             unit: Unit::new(),
-            first: Line::new(alloc),
-            second: Line::new(alloc),
+            first: SideLine::new(alloc),
+            second: SideLine::new(alloc),
             steps: 0,
         }
     }
@@ -72,7 +72,7 @@ impl Parts {
     }
 
     /// One side.
-    pub fn line(&self, side: Side) -> &Line
+    pub fn line(&self, side: Side) -> &SideLine
         ensures line { result.now.line ≡ state_spec.line_of self.now.world side }
     {
         match side {
@@ -82,9 +82,9 @@ impl Parts {
     }
 
     fn choose(&mut self, side: Side, path: u8, single_path: bool) -> Result<(), Fault>
-        requires { IsWithin (2 ^ 62) self.old.world }
-        ensures gives { Gives self.old.world (spec.turn_of self.old.world (event_spec.Choose side path single_path)) (IsFullFor self.old.world self.new.room (event_spec.Choose side path single_path)) result self.new.world }
-        ensures room { Takes result self.old.room self.new.room }
+        requires { IsWorldWithin (2 ^ 62) self.old.world }
+        ensures gives { GivesTurn self.old.world (spec.world_turn_of self.old.world (event_spec.Choose side path single_path)) (IsFullFor self.old.world self.new.room (event_spec.Choose side path single_path)) result self.new.world }
+        ensures room { TakesRoom result self.old.room self.new.room }
     {
         let path = path_named(path)?;
         match side {
@@ -94,8 +94,8 @@ impl Parts {
     }
 
     fn down(&mut self, side: Side, place: usize, keep: bool, may: bool) -> Result<(), Fault>
-        ensures gives { Gives self.old.world (spec.turn_of self.old.world (event_spec.Down side place keep may)) (IsFullFor self.old.world self.new.room (event_spec.Down side place keep may)) result self.new.world }
-        ensures room { Takes result self.old.room self.new.room }
+        ensures gives { GivesTurn self.old.world (spec.world_turn_of self.old.world (event_spec.Down side place keep may)) (IsFullFor self.old.world self.new.room (event_spec.Down side place keep may)) result self.new.world }
+        ensures room { TakesRoom result self.old.room self.new.room }
     {
         match side {
             Side::First => self.first.meet(&mut self.unit, side, place, keep, may),
@@ -104,9 +104,9 @@ impl Parts {
     }
 
     fn up(&mut self, side: Side, place: usize, keep: bool, may: bool) -> Result<(), Fault>
-        requires { IsWithin (2 ^ 62) self.old.world }
-        ensures gives { Gives self.old.world (spec.turn_of self.old.world (event_spec.Up side place keep may)) (IsFullFor self.old.world self.new.room (event_spec.Up side place keep may)) result self.new.world }
-        ensures room { Takes result self.old.room self.new.room }
+        requires { IsWorldWithin (2 ^ 62) self.old.world }
+        ensures gives { GivesTurn self.old.world (spec.world_turn_of self.old.world (event_spec.Up side place keep may)) (IsFullFor self.old.world self.new.room (event_spec.Up side place keep may)) result self.new.world }
+        ensures room { TakesRoom result self.old.room self.new.room }
     {
         match side {
             Side::First => self.first.hear(place, keep, may),
@@ -115,8 +115,8 @@ impl Parts {
     }
 
     fn lose_down(&mut self, side: Side, place: usize) -> Result<(), Fault>
-        ensures gives { Gives self.old.world (spec.turn_of self.old.world (event_spec.LoseDown side place)) (IsFullFor self.old.world self.new.room (event_spec.LoseDown side place)) result self.new.world }
-        ensures room { Takes result self.old.room self.new.room }
+        ensures gives { GivesTurn self.old.world (spec.world_turn_of self.old.world (event_spec.LoseDown side place)) (IsFullFor self.old.world self.new.room (event_spec.LoseDown side place)) result self.new.world }
+        ensures room { TakesRoom result self.old.room self.new.room }
     {
         match side {
             Side::First => self.first.lose_down(place),
@@ -125,8 +125,8 @@ impl Parts {
     }
 
     fn lose_up(&mut self, side: Side, place: usize) -> Result<(), Fault>
-        ensures gives { Gives self.old.world (spec.turn_of self.old.world (event_spec.LoseUp side place)) (IsFullFor self.old.world self.new.room (event_spec.LoseUp side place)) result self.new.world }
-        ensures room { Takes result self.old.room self.new.room }
+        ensures gives { GivesTurn self.old.world (spec.world_turn_of self.old.world (event_spec.LoseUp side place)) (IsFullFor self.old.world self.new.room (event_spec.LoseUp side place)) result self.new.world }
+        ensures room { TakesRoom result self.old.room self.new.room }
     {
         match side {
             Side::First => self.first.lose_up(place),
@@ -135,9 +135,9 @@ impl Parts {
     }
 
     fn path_down(&mut self, side: Side, path: u8) -> Result<(), Fault>
-        requires { IsWithin (2 ^ 62) self.old.world }
-        ensures gives { Gives self.old.world (spec.turn_of self.old.world (event_spec.PathDown side path)) (IsFullFor self.old.world self.new.room (event_spec.PathDown side path)) result self.new.world }
-        ensures room { Takes result self.old.room self.new.room }
+        requires { IsWorldWithin (2 ^ 62) self.old.world }
+        ensures gives { GivesTurn self.old.world (spec.world_turn_of self.old.world (event_spec.PathDown side path)) (IsFullFor self.old.world self.new.room (event_spec.PathDown side path)) result self.new.world }
+        ensures room { TakesRoom result self.old.room self.new.room }
     {
         let path = path_named(path)?;
         match side {
@@ -147,8 +147,8 @@ impl Parts {
     }
 
     fn path_up(&mut self, side: Side, path: u8) -> Result<(), Fault>
-        ensures gives { Gives self.old.world (spec.turn_of self.old.world (event_spec.PathUp side path)) (IsFullFor self.old.world self.new.room (event_spec.PathUp side path)) result self.new.world }
-        ensures room { Takes result self.old.room self.new.room }
+        ensures gives { GivesTurn self.old.world (spec.world_turn_of self.old.world (event_spec.PathUp side path)) (IsFullFor self.old.world self.new.room (event_spec.PathUp side path)) result self.new.world }
+        ensures room { TakesRoom result self.old.room self.new.room }
     {
         let path = path_named(path)?;
         match side {
@@ -158,9 +158,9 @@ impl Parts {
     }
 
     fn path_reset(&mut self, side: Side, path: u8) -> Result<(), Fault>
-        requires { IsWithin (2 ^ 62) self.old.world }
-        ensures gives { Gives self.old.world (spec.turn_of self.old.world (event_spec.PathReset side path)) (IsFullFor self.old.world self.new.room (event_spec.PathReset side path)) result self.new.world }
-        ensures room { Takes result self.old.room self.new.room }
+        requires { IsWorldWithin (2 ^ 62) self.old.world }
+        ensures gives { GivesTurn self.old.world (spec.world_turn_of self.old.world (event_spec.PathReset side path)) (IsFullFor self.old.world self.new.room (event_spec.PathReset side path)) result self.new.world }
+        ensures room { TakesRoom result self.old.room self.new.room }
     {
         let path = path_named(path)?;
         match side {
@@ -170,8 +170,8 @@ impl Parts {
     }
 
     fn let_go(&mut self, side: Side) -> Result<(), Fault>
-        ensures gives { Gives self.old.world (spec.turn_of self.old.world (event_spec.LetGo side)) (IsFullFor self.old.world self.new.room (event_spec.LetGo side)) result self.new.world }
-        ensures room { Takes result self.old.room self.new.room }
+        ensures gives { GivesTurn self.old.world (spec.world_turn_of self.old.world (event_spec.LetGo side)) (IsFullFor self.old.world self.new.room (event_spec.LetGo side)) result self.new.world }
+        ensures room { TakesRoom result self.old.room self.new.room }
     {
         match side {
             Side::First => self.first.let_go(),
@@ -180,8 +180,8 @@ impl Parts {
     }
 
     fn clear(&mut self, side: Side)
-        requires { IsWithin (2 ^ 62) self.old.world }
-        ensures does { spec.turn_of self.old.world (event_spec.Clear side) ≡ Ok self.new.world }
+        requires { IsWorldWithin (2 ^ 62) self.old.world }
+        ensures does { spec.world_turn_of self.old.world (event_spec.Clear side) ≡ Ok self.new.world }
         ensures room { Loses 0 self.old.room self.new.room }
     {
         match side {
@@ -191,8 +191,8 @@ impl Parts {
     }
 
     fn subsystem_reset(&mut self)
-        requires { IsWithin (2 ^ 62) self.old.world }
-        ensures does { spec.turn_of self.old.world event_spec.SubsystemReset ≡ Ok self.new.world }
+        requires { IsWorldWithin (2 ^ 62) self.old.world }
+        ensures does { spec.world_turn_of self.old.world event_spec.SubsystemReset ≡ Ok self.new.world }
         ensures room { Loses 0 self.old.room self.new.room }
     {
         self.first.clear();
@@ -200,8 +200,8 @@ impl Parts {
     }
 
     fn leave(&mut self) -> Result<(), Fault>
-        ensures gives { Gives self.old.world (spec.turn_of self.old.world event_spec.Leave) (IsFullFor self.old.world self.new.room event_spec.Leave) result self.new.world }
-        ensures room { Takes result self.old.room self.new.room }
+        ensures gives { GivesTurn self.old.world (spec.world_turn_of self.old.world event_spec.Leave) (IsFullFor self.old.world self.new.room event_spec.Leave) result self.new.world }
+        ensures room { TakesRoom result self.old.room self.new.room }
     {
         match self.unit.own() {
             Own::Idle => Err(Fault::NotNow),
@@ -217,9 +217,9 @@ impl Parts {
     }
 
     fn ask(&mut self, path: u8) -> Result<(), Fault>
-        requires { IsWithin (2 ^ 62) self.old.world }
-        ensures gives { Gives self.old.world (spec.turn_of self.old.world (event_spec.Ask path)) (IsFullFor self.old.world self.new.room (event_spec.Ask path)) result self.new.world }
-        ensures room { Takes result self.old.room self.new.room }
+        requires { IsWorldWithin (2 ^ 62) self.old.world }
+        ensures gives { GivesTurn self.old.world (spec.world_turn_of self.old.world (event_spec.Ask path)) (IsFullFor self.old.world self.new.room (event_spec.Ask path)) result self.new.world }
+        ensures room { TakesRoom result self.old.room self.new.room }
     {
         let path = path_named(path)?;
         match self.unit.own() {
@@ -236,9 +236,9 @@ impl Parts {
     }
 
     fn attention(&mut self, side: Side, path: u8) -> Result<(), Fault>
-        requires { IsWithin (2 ^ 62) self.old.world }
-        ensures gives { Gives self.old.world (spec.turn_of self.old.world (event_spec.Attention side path)) (IsFullFor self.old.world self.new.room (event_spec.Attention side path)) result self.new.world }
-        ensures room { Takes result self.old.room self.new.room }
+        requires { IsWorldWithin (2 ^ 62) self.old.world }
+        ensures gives { GivesTurn self.old.world (spec.world_turn_of self.old.world (event_spec.Attention side path)) (IsFullFor self.old.world self.new.room (event_spec.Attention side path)) result self.new.world }
+        ensures room { TakesRoom result self.old.room self.new.room }
     {
         let path = path_named(path)?;
         match side {
@@ -248,8 +248,8 @@ impl Parts {
     }
 
     fn notice(&mut self, side: Side, path: u8) -> Result<(), Fault>
-        ensures gives { Gives self.old.world (spec.turn_of self.old.world (event_spec.Notice side path)) (IsFullFor self.old.world self.new.room (event_spec.Notice side path)) result self.new.world }
-        ensures room { Takes result self.old.room self.new.room }
+        ensures gives { GivesTurn self.old.world (spec.world_turn_of self.old.world (event_spec.Notice side path)) (IsFullFor self.old.world self.new.room (event_spec.Notice side path)) result self.new.world }
+        ensures room { TakesRoom result self.old.room self.new.room }
     {
         let path = path_named(path)?;
         match side {
@@ -259,17 +259,17 @@ impl Parts {
     }
 
     fn restart(&mut self)
-        requires { IsWithin (2 ^ 62) self.old.world }
-        ensures does { spec.turn_of self.old.world event_spec.Restart ≡ Ok self.new.world }
+        requires { IsWorldWithin (2 ^ 62) self.old.world }
+        ensures does { spec.world_turn_of self.old.world event_spec.Restart ≡ Ok self.new.world }
         ensures room { Loses 0 self.old.room self.new.room }
     {
         self.unit.restart();
     }
 
     fn report(&mut self, report: &Report) -> Result<(), Fault>
-        requires { IsWithin (2 ^ 62) self.old.world }
-        ensures gives { Gives self.old.world (spec.turn_of self.old.world (event_spec.Report report.now)) (IsFullFor self.old.world self.new.room (event_spec.Report report.now)) result self.new.world }
-        ensures room { Takes result self.old.room self.new.room }
+        requires { IsWorldWithin (2 ^ 62) self.old.world }
+        ensures gives { GivesTurn self.old.world (spec.world_turn_of self.old.world (event_spec.Report report.now)) (IsFullFor self.old.world self.new.room (event_spec.Report report.now)) result self.new.world }
+        ensures room { TakesRoom result self.old.room self.new.room }
     {
         match self.unit.own() {
             Own::Idle => Err(Fault::NotNow),
@@ -286,9 +286,9 @@ impl Parts {
 
     /// One event, which is not counted.
     pub fn perform(&mut self, event: &WorldEvent) -> Result<(), Fault>
-        requires { IsWithin (2 ^ 62) self.old.world }
-        ensures gives { Gives self.old.world (spec.turn_of self.old.world event.now) (IsFullFor self.old.world self.new.room event.now) result self.new.world }
-        ensures room { Takes result self.old.room self.new.room }
+        requires { IsWorldWithin (2 ^ 62) self.old.world }
+        ensures gives { GivesTurn self.old.world (spec.world_turn_of self.old.world event.now) (IsFullFor self.old.world self.new.room event.now) result self.new.world }
+        ensures room { TakesRoom result self.old.room self.new.room }
     {
         match event {
             WorldEvent::Choose {

@@ -3,9 +3,9 @@
 ghost use Rattle.std.specs.Prelude.{◌≡◌, ℕ, List, ◌⊎◌, Err, OnOk, OnErr, IfErr, Some, None, length, take};
 ghost use Rattle.chan_model.specs.declared.fault.Fault.TheVariants as fault_spec;
 ghost use Rattle.agree.specs.Bounds.{IsWell};
-ghost use Rattle.agree.specs.Lines.{Gives};
+ghost use Rattle.agree.specs.Lines.{GivesTurn};
 ghost use Rattle.agree.specs.Promises.{AreSound, EndsByEvent, EachEnds};
-ghost use Rattle.agree.specs.Rooms.{HasEnded, IsAsBefore, IsFullFor, IsSpent, Loses, Takes, no_room};
+ghost use Rattle.agree.specs.Rooms.{HasEnded, IsWorldAsBefore, IsFullFor, IsWorldSpent, Loses, TakesRoom, no_room};
 ghost use Rattle.agree.specs.State as state_spec;
 ghost use Rattle.agree.specs.declared.event.WorldEvent.{WorldEvent};
 ghost use Rattle.agree.specs.Turns as spec;
@@ -88,11 +88,11 @@ impl World {
     pub fn step(&mut self, event: &WorldEvent) -> Result<(), Fault>
         ensures done { OnOk result (self.new.world ≡ spec.world_after self.old.world event.now) }
         ensures accepted { OnOk result (spec.refusal_of self.old.world event.now ≡ None) }
-        ensures room { Takes result self.old.room self.new.room }
-        ensures refused { OnErr result (IsAsBefore self.old self.new) }
+        ensures room { TakesRoom result self.old.room self.new.room }
+        ensures refused { OnErr result (IsWorldAsBefore self.old self.new) }
         ensures refusal { IfErr result (λ f. (f ≡ fault_spec.NoMemory) ⊎ (spec.refusal_of self.old.world event.now ≡ Some f)) }
         // No room after it, so none before it: the refused event takes none.
-        ensures spent { result ≡ Err fault_spec.NoMemory → IsSpent self.new event.now }
+        ensures spent { result ≡ Err fault_spec.NoMemory → IsWorldSpent self.new event.now }
         ensures sound { AreSound self.new.world }
         ensures ends { OnOk result (EndsByEvent self.old.world event.now self.new.world) }
     {
@@ -104,10 +104,10 @@ impl World {
     /// One event, where it is accepted. Want of memory alone is refused.
     fn pass(&mut self, event: &WorldEvent) -> Result<(), Fault>
         ensures done { OnOk result (self.new.world ≡ spec.world_after self.old.world event.now) }
-        ensures room { Takes result self.old.room self.new.room }
-        ensures refused { OnErr result (IsAsBefore self.old self.new) }
+        ensures room { TakesRoom result self.old.room self.new.room }
+        ensures refused { OnErr result (IsWorldAsBefore self.old self.new) }
         ensures refusal { IfErr result (λ f. f ≡ fault_spec.NoMemory) }
-        ensures spent { OnErr result (IsSpent self.new event.now) }
+        ensures spent { OnErr result (IsWorldSpent self.new event.now) }
     {
         match self.step(event) {
             Err(Fault::NoMemory) => Err(Fault::NoMemory),
@@ -150,8 +150,8 @@ impl World {
 /// One event, with nothing known of how the sides go together.
 fn step_parts(parts: &mut Parts, event: &WorldEvent) -> Result<(), Fault>
     requires { IsWell parts.old.world }
-    ensures gives { Gives parts.old.world (spec.world_turn parts.old.world event.now) (IsFullFor parts.old.world parts.new.room event.now) result parts.new.world }
-    ensures room { Takes result parts.old.room parts.new.room }
+    ensures gives { GivesTurn parts.old.world (spec.world_turn parts.old.world event.now) (IsFullFor parts.old.world parts.new.room event.now) result parts.new.world }
+    ensures room { TakesRoom result parts.old.room parts.new.room }
 {
     let steps = parts.steps();
     if steps >= (1 << 62) - 1 {

@@ -23,8 +23,8 @@ use Rattle.chan_model.specs.declared.unit_state.Progress.{Progress}
 use Rattle.chan_model.specs.declared.unit_state.Progress.TheVariants as progress
 use Rattle.chan_model.specs.declared.unit_state.UnitState.{UnitState}
 use Rattle.chan_model.specs.Sides.{same_side}
-use Rattle.chan_model.specs.UnitTable.{UnitStep, side_of, is_owner, is_owner_on, is_idle, selected, raised, given_next, answered_load, answered_last, granted_at, granted, refused_at, refused, forgetting, telling, resets, reset_side, sends, unit_works, unit_takes, leaving, asking, attending, noticing}
-use Rattle.chan_model.specs.UnitReports.{absorbed, is_to_supply, most_of, sent_again, answer_taken, report_on, report_of, is_outward, may_end}
+use Rattle.chan_model.specs.UnitTable.{UnitStep, side_of, is_owner, is_owner_on, is_idle, selected, raised, given_next, answered_load, answered_last, granted_at, granted, grant_refused_at, grant_refused, forgetting, telling, resets, reset_side, sends, unit_works, unit_takes, leaving, asking, attending, noticing}
+use Rattle.chan_model.specs.UnitReports.{report_absorbed, is_to_supply, most_of, sent_again, answer_taken, report_on, report_of, is_outward, may_end}
 use Rattle.agreement_laws.specs.Moving.{UnitAct, Takes_down, Leaves, Asks, Attends, Restarts, Notices, Reports, is_owner_side, sent_by, sent_to, up_sent}
 use Rattle.agreement_laws.specs.Claims.{IsReset, IsTakenBy}
 use Rattle.agreement_laws.proofs.UnitActs.{same-sides}
@@ -59,12 +59,12 @@ granted-other : (u : UnitState) (o : Own) (side : Side) (p t c : ℕ) → IsOthe
 granted-other u own.Idle side p t c = tt
 granted-other u (own.Owned k v place) side p t c = other-if (same_side k side && (t == v)) _ None (granted_at-other u k v place p c) tt
 
-refused_at-other : (u : UnitState) (side : Side) (t : ℕ) (place : Place) (c : ℕ) → IsOtherStep (refused_at u side t place c)
+refused_at-other : (u : UnitState) (side : Side) (t : ℕ) (place : Place) (c : ℕ) → IsOtherStep (grant_refused_at u side t place c)
 refused_at-other u side t (On q d) c = tt
 refused_at-other u side t (Ask q d) c = other-if (c == d) (Some _) None tt tt
 refused_at-other u side t (Away d) c = tt
 
-refused-other : (u : UnitState) (o : Own) (side : Side) (t c : ℕ) → IsOtherStep (refused u o side t c)
+refused-other : (u : UnitState) (o : Own) (side : Side) (t c : ℕ) → IsOtherStep (grant_refused u o side t c)
 refused-other u own.Idle side t c = tt
 refused-other u (own.Owned k v place) side t c = other-if (same_side k side && (t == v)) _ None (refused_at-other u k v place c) tt
 
@@ -112,7 +112,7 @@ asking-other u (own.Owned k t (On q c)) p = tt
 asking-other u (own.Owned k t (Ask q c)) p = tt
 asking-other u (own.Owned k t (Away c)) p = tt
 
-absorbed-other : (u : UnitState) (p t c : ℕ) (x : AtHand) (given : Option (List ℕ)) (count : ℕ) → IsOtherStep (absorbed u p t c x given count)
+absorbed-other : (u : UnitState) (p t c : ℕ) (x : AtHand) (given : Option (List ℕ)) (count : ℕ) → IsOtherStep (report_absorbed u p t c x given count)
 absorbed-other u p t c x None count = tt
 absorbed-other u p t c x (Some bytes) count = other-if (nat_le count (length bytes)) (Some _) None tt tt
 

@@ -9,10 +9,10 @@ use Rattle.chan_model.specs.declared.signal.Down.{Down}
 use Rattle.chan_model.specs.declared.signal.Down.TheVariants as down
 use Rattle.chan_model.specs.declared.signal.Up.{Up}
 use Rattle.chan_model.specs.declared.signal.Up.TheVariants as up
-use Rattle.chan_model.specs.HoldTable.{begun, quietly, refusing, granting, letting_go, sending_reset, hold_takes}
+use Rattle.chan_model.specs.HoldTable.{program_begun, hold_quietly, refusing, granting, letting_go, sending_reset, hold_takes}
 use Rattle.chan_model.specs.ResetCauses.{rests_on}
-use Rattle.agreement_laws.specs.Moving.{HoldAct, Nothing, Offers, Sends_reset, Lets_go, Is_reset, Loses, Takes, Sends, HoldActed, still, stepped, offered, reset_again, taken, hold_acts, IsOfProgram}
-use Rattle.agreement_laws.specs.Invariant.{Seen, Ends, ends, IsAcceptGood, IsNotOwned, IsBackGood, IsUpGood}
+use Rattle.agreement_laws.specs.Moving.{HoldAct, Nothing, Offers, Sends_reset, Lets_go, Is_reset, Loses, Takes, Sends, HoldActed, still, hold_stepped, hold_offered, reset_again, hold_taken, hold_acts, IsOfProgram}
+use Rattle.agreement_laws.specs.Invariant.{SideSeen, Ends, ends_seen, IsAcceptGood, IsNotOwned, IsBackGood, IsUpGood}
 use Rattle.agreement_laws.proofs.Frames.{IsPlainDown}
 use Rattle.agreement_laws.proofs.HoldKeeps.{HoldMoves, Stays, Offered, Resets, Goes_on, Is_over, Is_busy, Is_left, Grants, Refuses_on, Refuses_away, Is_released, Is_cleared}
 use Rattle.agreement_laws.proofs.HoldKeeps as keeps
@@ -21,16 +21,16 @@ use Rattle.agreement_laws.proofs.HoldKeeps as keeps
 abbrev at : HoldState → HoldPhase → HoldState
 at h phase = record h { phase = phase }
 
-abbrev pub of : ℕ → HoldState → ℕ → ℕ → Seen → Ends
-of n h b f o = ends n h.phase h.seen h.known b f o
+abbrev pub of : ℕ → HoldState → ℕ → ℕ → SideSeen → Ends
+of n h b f o = ends_seen n h.phase h.seen h.known b f o
 
-abbrev pub IsMoved : ℕ → HoldState → ℕ → ℕ → Seen → HoldActed → Type 0
+abbrev pub IsMoved : ℕ → HoldState → ℕ → ℕ → SideSeen → HoldActed → Type 0
 IsMoved n h b f o acted = HoldMoves (of n h b f o) (of acted.drawn acted.hold b f o) acted.sent
 
-still-moves : (n : ℕ) (h : HoldState) (b f : ℕ) (o : Seen) → IsMoved n h b f o (still n h)
+still-moves : (n : ℕ) (h : HoldState) (b f : ℕ) (o : SideSeen) → IsMoved n h b f o (still n h)
 still-moves n h b f o = Stays _ None tt
 
-offered-moves : (n : ℕ) (h : HoldState) (b f : ℕ) (o : Seen) (phase : HoldPhase) (p : ℕ) (single : Bool) → IsMoved n (at h phase) b f o (offered n (at h phase) phase p single)
+offered-moves : (n : ℕ) (h : HoldState) (b f : ℕ) (o : SideSeen) (phase : HoldPhase) (p : ℕ) (single : Bool) → IsMoved n (at h phase) b f o (hold_offered n (at h phase) phase p single)
 offered-moves n h b f o hold.Free p single = Offered n h.seen h.known b f o p
 offered-moves n h b f o (hold.Offer t q) p single = still-moves n (at h (hold.Offer t q)) b f o
 offered-moves n h b f o (hold.On t q c) p single = still-moves n (at h (hold.On t q c)) b f o
@@ -38,7 +38,7 @@ offered-moves n h b f o (hold.Away t) p single = still-moves n (at h (hold.Away 
 offered-moves n h b f o (hold.Letting t q) p single = still-moves n (at h (hold.Letting t q)) b f o
 offered-moves n h b f o (hold.Reset r) p single = still-moves n (at h (hold.Reset r)) b f o
 
-reset_sent-moves : (n : ℕ) (h : HoldState) (b f : ℕ) (o : Seen) (phase : HoldPhase) (p : ℕ) → IsMoved n (at h phase) b f o (stepped n (at h phase) (sending_reset (at h phase) phase p))
+reset_sent-moves : (n : ℕ) (h : HoldState) (b f : ℕ) (o : SideSeen) (phase : HoldPhase) (p : ℕ) → IsMoved n (at h phase) b f o (hold_stepped n (at h phase) (sending_reset (at h phase) phase p))
 reset_sent-moves n h b f o hold.Free p = still-moves n (at h hold.Free) b f o
 reset_sent-moves n h b f o (hold.Offer t q) p = still-moves n (at h (hold.Offer t q)) b f o
 reset_sent-moves n h b f o (hold.On t q c) p = still-moves n (at h (hold.On t q c)) b f o
@@ -46,7 +46,7 @@ reset_sent-moves n h b f o (hold.Away t) p = still-moves n (at h (hold.Away t)) 
 reset_sent-moves n h b f o (hold.Letting t q) p = still-moves n (at h (hold.Letting t q)) b f o
 reset_sent-moves n h b f o (hold.Reset r) p = keeps.Sends_reset n r h.seen h.known b f o p
 
-let_go-moves : (n : ℕ) (h : HoldState) (b f : ℕ) (o : Seen) (phase : HoldPhase) → IsMoved n (at h phase) b f o (stepped n (at h phase) (letting_go (at h phase) phase))
+let_go-moves : (n : ℕ) (h : HoldState) (b f : ℕ) (o : SideSeen) (phase : HoldPhase) → IsMoved n (at h phase) b f o (hold_stepped n (at h phase) (letting_go (at h phase) phase))
 let_go-moves n h b f o hold.Free = still-moves n (at h hold.Free) b f o
 let_go-moves n h b f o (hold.Offer t q) = still-moves n (at h (hold.Offer t q)) b f o
 let_go-moves n h b f o (hold.On t q c) = keeps.Lets_go n t q c h.seen h.known b f o
@@ -54,24 +54,24 @@ let_go-moves n h b f o (hold.Away t) = still-moves n (at h (hold.Away t)) b f o
 let_go-moves n h b f o (hold.Letting t q) = still-moves n (at h (hold.Letting t q)) b f o
 let_go-moves n h b f o (hold.Reset r) = still-moves n (at h (hold.Reset r)) b f o
 
-reset-moves : (n : ℕ) (h : HoldState) (b f : ℕ) (o : Seen) → h.known ≤ b → IsMoved n h b f o (reset_again n h)
+reset-moves : (n : ℕ) (h : HoldState) (b f : ℕ) (o : SideSeen) → h.known ≤ b → IsMoved n h b f o (reset_again n h)
 reset-moves n h b f o kb = Resets n h.phase h.seen h.known h.known b f o (omega arith) kb
 
-lost-moves : (n : ℕ) (h : HoldState) (b f : ℕ) (o : Seen) (rests : Bool) → h.known ≤ b → IsMoved n h b f o (if rests then reset_again n h else still n h)
+lost-moves : (n : ℕ) (h : HoldState) (b f : ℕ) (o : SideSeen) (rests : Bool) → h.known ≤ b → IsMoved n h b f o (if rests then reset_again n h else still n h)
 lost-moves n h b f o true kb = reset-moves n h b f o kb
 lost-moves n h b f o false kb = still-moves n h b f o
 
 -- Accept and Busy, at the offer of their number
-accept-moves : (n : ℕ) (h : HoldState) (b f : ℕ) (o : Seen) (t q u : ℕ) (may same : Bool) → (u == t) ≡ same → u ≤ f → IsAcceptGood (hold.Offer t q) o u →
-    IsMoved n (at h (hold.Offer t q)) b f o (stepped n (at h (hold.Offer t q)) (if same then Some (begun (at h (hold.Offer t q)) t q may) else None))
+accept-moves : (n : ℕ) (h : HoldState) (b f : ℕ) (o : SideSeen) (t q u : ℕ) (may same : Bool) → (u == t) ≡ same → u ≤ f → IsAcceptGood (hold.Offer t q) o u →
+    IsMoved n (at h (hold.Offer t q)) b f o (hold_stepped n (at h (hold.Offer t q)) (if same then Some (program_begun (at h (hold.Offer t q)) t q may) else None))
 accept-moves n h b f o t q u true true e le a =
     let v : u ≡ t = eqb-true u t e in
     Goes_on n t q h.seen h.known b f o (omega arith) (subst (λ (x : ℕ). IsAcceptGood (hold.Offer t q) o x) v a)
 accept-moves n h b f o t q u false true e le a = let v : u ≡ t = eqb-true u t e in Is_over n t q h.seen h.known b f o (omega arith)
 accept-moves n h b f o t q u may false e le a = still-moves n (at h (hold.Offer t q)) b f o
 
-takes_accept : (n : ℕ) (h : HoldState) (b f : ℕ) (o : Seen) (phase : HoldPhase) (p u : ℕ) (may : Bool) → u ≤ f → IsAcceptGood phase o u →
-    IsMoved n (at h phase) b f o (taken n (at h phase) p (up.Accept u) may)
+takes_accept : (n : ℕ) (h : HoldState) (b f : ℕ) (o : SideSeen) (phase : HoldPhase) (p u : ℕ) (may : Bool) → u ≤ f → IsAcceptGood phase o u →
+    IsMoved n (at h phase) b f o (hold_taken n (at h phase) p (up.Accept u) may)
 takes_accept n h b f o hold.Free p u may le a = still-moves n (at h hold.Free) b f o
 takes_accept n h b f o (hold.Offer t q) p u may le a = accept-moves n h b f o t q u may (u == t) refl le a
 takes_accept n h b f o (hold.On t q c) p u may le a = still-moves n (at h (hold.On t q c)) b f o
@@ -79,14 +79,14 @@ takes_accept n h b f o (hold.Away t) p u may le a = still-moves n (at h (hold.Aw
 takes_accept n h b f o (hold.Letting t q) p u may le a = still-moves n (at h (hold.Letting t q)) b f o
 takes_accept n h b f o (hold.Reset r) p u may le a = still-moves n (at h (hold.Reset r)) b f o
 
-busy-moves : (n : ℕ) (h : HoldState) (b f : ℕ) (o : Seen) (t q u : ℕ) (same : Bool) → (u == t) ≡ same → u ≤ f → IsNotOwned o u →
-    IsMoved n (at h (hold.Offer t q)) b f o (stepped n (at h (hold.Offer t q)) (if same then Some (quietly (at h hold.Free)) else None))
+busy-moves : (n : ℕ) (h : HoldState) (b f : ℕ) (o : SideSeen) (t q u : ℕ) (same : Bool) → (u == t) ≡ same → u ≤ f → IsNotOwned o u →
+    IsMoved n (at h (hold.Offer t q)) b f o (hold_stepped n (at h (hold.Offer t q)) (if same then Some (hold_quietly (at h hold.Free)) else None))
 busy-moves n h b f o t q u true e le a =
     let v : u ≡ t = eqb-true u t e in Is_busy n t q h.seen h.known b f o (omega arith) (subst (λ (x : ℕ). IsNotOwned o x) v a)
 busy-moves n h b f o t q u false e le a = still-moves n (at h (hold.Offer t q)) b f o
 
-takes_busy : (n : ℕ) (h : HoldState) (b f : ℕ) (o : Seen) (phase : HoldPhase) (p u : ℕ) (may : Bool) → u ≤ f → IsNotOwned o u →
-    IsMoved n (at h phase) b f o (taken n (at h phase) p (up.Busy u) may)
+takes_busy : (n : ℕ) (h : HoldState) (b f : ℕ) (o : SideSeen) (phase : HoldPhase) (p u : ℕ) (may : Bool) → u ≤ f → IsNotOwned o u →
+    IsMoved n (at h phase) b f o (hold_taken n (at h phase) p (up.Busy u) may)
 takes_busy n h b f o hold.Free p u may le a = still-moves n (at h hold.Free) b f o
 takes_busy n h b f o (hold.Offer t q) p u may le a = busy-moves n h b f o t q u (u == t) refl le a
 takes_busy n h b f o (hold.On t q c) p u may le a = still-moves n (at h (hold.On t q c)) b f o
@@ -95,13 +95,13 @@ takes_busy n h b f o (hold.Letting t q) p u may le a = still-moves n (at h (hold
 takes_busy n h b f o (hold.Reset r) p u may le a = still-moves n (at h (hold.Reset r)) b f o
 
 -- Leave, of the connection at hand
-leave-moves : (n : ℕ) (h : HoldState) (b f : ℕ) (o : Seen) (t q c : ℕ) (same : Bool) →
-    IsMoved n (at h (hold.On t q c)) b f o (stepped n (at h (hold.On t q c)) (if same then Some (quietly (at h (hold.Away t))) else None))
+leave-moves : (n : ℕ) (h : HoldState) (b f : ℕ) (o : SideSeen) (t q c : ℕ) (same : Bool) →
+    IsMoved n (at h (hold.On t q c)) b f o (hold_stepped n (at h (hold.On t q c)) (if same then Some (hold_quietly (at h (hold.Away t))) else None))
 leave-moves n h b f o t q c true = Is_left n t q c h.seen h.known b f o
 leave-moves n h b f o t q c false = still-moves n (at h (hold.On t q c)) b f o
 
-takes_leave : (n : ℕ) (h : HoldState) (b f : ℕ) (o : Seen) (phase : HoldPhase) (p u d : ℕ) (may : Bool) →
-    IsMoved n (at h phase) b f o (taken n (at h phase) p (up.Leave u d) may)
+takes_leave : (n : ℕ) (h : HoldState) (b f : ℕ) (o : SideSeen) (phase : HoldPhase) (p u d : ℕ) (may : Bool) →
+    IsMoved n (at h phase) b f o (hold_taken n (at h phase) p (up.Leave u d) may)
 takes_leave n h b f o hold.Free p u d may = still-moves n (at h hold.Free) b f o
 takes_leave n h b f o (hold.Offer t q) p u d may = still-moves n (at h (hold.Offer t q)) b f o
 takes_leave n h b f o (hold.On t q c) p u d may = leave-moves n h b f o t q c ((u == t) && (d == c))
@@ -110,17 +110,17 @@ takes_leave n h b f o (hold.Letting t q) p u d may = still-moves n (at h (hold.L
 takes_leave n h b f o (hold.Reset r) p u d may = still-moves n (at h (hold.Reset r)) b f o
 
 -- Back, under a number above the last seen
-back_on-moves : (n : ℕ) (h : HoldState) (b f : ℕ) (o : Seen) (t q d p u c : ℕ) (same : Bool) → ((u == t) && nat_lt h.seen c) ≡ same → IsBackGood o p u c →
-    IsMoved n (at h (hold.On t q d)) b f o (stepped n (at h (hold.On t q d)) (if same then Some (refusing (at h (hold.On t q d)) p t c) else None))
+back_on-moves : (n : ℕ) (h : HoldState) (b f : ℕ) (o : SideSeen) (t q d p u c : ℕ) (same : Bool) → ((u == t) && nat_lt h.seen c) ≡ same → IsBackGood o p u c →
+    IsMoved n (at h (hold.On t q d)) b f o (hold_stepped n (at h (hold.On t q d)) (if same then Some (refusing (at h (hold.On t q d)) p t c) else None))
 back_on-moves n h b f o t q d p u c true e a =
     let both : ((u == t) ≡ true) × (nat_lt h.seen c ≡ true) = and_parts (u == t) (nat_lt h.seen c) e in
     let v : u ≡ t = eqb-true u t both.0 in
     Refuses_on n t q d p c h.seen h.known b f o (ltb-true h.seen c both.1) (subst (λ (x : ℕ). IsBackGood o p x c) v a)
 back_on-moves n h b f o t q d p u c false e a = still-moves n (at h (hold.On t q d)) b f o
 
-back_away-moves : (n : ℕ) (h : HoldState) (b f : ℕ) (o : Seen) (t p u c : ℕ) (may same : Bool) → ((u == t) && nat_lt h.seen c) ≡ same → IsBackGood o p u c →
+back_away-moves : (n : ℕ) (h : HoldState) (b f : ℕ) (o : SideSeen) (t p u c : ℕ) (may same : Bool) → ((u == t) && nat_lt h.seen c) ≡ same → IsBackGood o p u c →
     IsMoved n (at h (hold.Away t)) b f o
-    (stepped n (at h (hold.Away t)) (if same then (if may then Some (granting (at h (hold.Away t)) p t c) else Some (refusing (at h (hold.Away t)) p t c)) else None))
+    (hold_stepped n (at h (hold.Away t)) (if same then (if may then Some (granting (at h (hold.Away t)) p t c) else Some (refusing (at h (hold.Away t)) p t c)) else None))
 back_away-moves n h b f o t p u c true true e a =
     let both : ((u == t) ≡ true) × (nat_lt h.seen c ≡ true) = and_parts (u == t) (nat_lt h.seen c) e in
     let v : u ≡ t = eqb-true u t both.0 in
@@ -131,8 +131,8 @@ back_away-moves n h b f o t p u c false true e a =
     Refuses_away n t p c h.seen h.known b f o (ltb-true h.seen c both.1) (subst (λ (x : ℕ). IsBackGood o p x c) v a)
 back_away-moves n h b f o t p u c may false e a = still-moves n (at h (hold.Away t)) b f o
 
-takes_back : (n : ℕ) (h : HoldState) (b f : ℕ) (o : Seen) (phase : HoldPhase) (p u c : ℕ) (may : Bool) → IsBackGood o p u c →
-    IsMoved n (at h phase) b f o (taken n (at h phase) p (up.Back u c) may)
+takes_back : (n : ℕ) (h : HoldState) (b f : ℕ) (o : SideSeen) (phase : HoldPhase) (p u c : ℕ) (may : Bool) → IsBackGood o p u c →
+    IsMoved n (at h phase) b f o (hold_taken n (at h phase) p (up.Back u c) may)
 takes_back n h b f o hold.Free p u c may a = still-moves n (at h hold.Free) b f o
 takes_back n h b f o (hold.Offer t q) p u c may a = still-moves n (at h (hold.Offer t q)) b f o
 takes_back n h b f o (hold.On t q d) p u c may a = back_on-moves n h b f o t q d p u c ((u == t) && nat_lt h.seen c) refl a
@@ -141,14 +141,14 @@ takes_back n h b f o (hold.Letting t q) p u c may a = still-moves n (at h (hold.
 takes_back n h b f o (hold.Reset r) p u c may a = still-moves n (at h (hold.Reset r)) b f o
 
 -- Released, Cleared and Attn
-released-moves : (n : ℕ) (h : HoldState) (b f : ℕ) (o : Seen) (t q u : ℕ) (same : Bool) → (u == t) ≡ same → IsNotOwned o u →
-    IsMoved n (at h (hold.Letting t q)) b f o (stepped n (at h (hold.Letting t q)) (if same then Some (quietly (at h hold.Free)) else None))
+released-moves : (n : ℕ) (h : HoldState) (b f : ℕ) (o : SideSeen) (t q u : ℕ) (same : Bool) → (u == t) ≡ same → IsNotOwned o u →
+    IsMoved n (at h (hold.Letting t q)) b f o (hold_stepped n (at h (hold.Letting t q)) (if same then Some (hold_quietly (at h hold.Free)) else None))
 released-moves n h b f o t q u true e a =
     let v : u ≡ t = eqb-true u t e in Is_released n t q h.seen h.known b f o (subst (λ (x : ℕ). IsNotOwned o x) v a)
 released-moves n h b f o t q u false e a = still-moves n (at h (hold.Letting t q)) b f o
 
-takes_released : (n : ℕ) (h : HoldState) (b f : ℕ) (o : Seen) (phase : HoldPhase) (p u : ℕ) (may : Bool) → IsNotOwned o u →
-    IsMoved n (at h phase) b f o (taken n (at h phase) p (up.Released u) may)
+takes_released : (n : ℕ) (h : HoldState) (b f : ℕ) (o : SideSeen) (phase : HoldPhase) (p u : ℕ) (may : Bool) → IsNotOwned o u →
+    IsMoved n (at h phase) b f o (hold_taken n (at h phase) p (up.Released u) may)
 takes_released n h b f o hold.Free p u may a = still-moves n (at h hold.Free) b f o
 takes_released n h b f o (hold.Offer t q) p u may a = still-moves n (at h (hold.Offer t q)) b f o
 takes_released n h b f o (hold.On t q c) p u may a = still-moves n (at h (hold.On t q c)) b f o
@@ -156,13 +156,13 @@ takes_released n h b f o (hold.Away t) p u may a = still-moves n (at h (hold.Awa
 takes_released n h b f o (hold.Letting t q) p u may a = released-moves n h b f o t q u (u == t) refl a
 takes_released n h b f o (hold.Reset r) p u may a = still-moves n (at h (hold.Reset r)) b f o
 
-cleared-moves : (n : ℕ) (h : HoldState) (b f : ℕ) (o : Seen) (r u : ℕ) (same : Bool) → (u == r) ≡ same → u ≤ f →
-    IsMoved n (at h (hold.Reset r)) b f o (stepped n (at h (hold.Reset r)) (if same then Some (quietly (record h { phase = hold.Free; reset_path = None })) else None))
+cleared-moves : (n : ℕ) (h : HoldState) (b f : ℕ) (o : SideSeen) (r u : ℕ) (same : Bool) → (u == r) ≡ same → u ≤ f →
+    IsMoved n (at h (hold.Reset r)) b f o (hold_stepped n (at h (hold.Reset r)) (if same then Some (hold_quietly (record h { phase = hold.Free; reset_path = None })) else None))
 cleared-moves n h b f o r u true e le = let v : u ≡ r = eqb-true u r e in Is_cleared n r h.seen h.known b f o (omega arith)
 cleared-moves n h b f o r u false e le = still-moves n (at h (hold.Reset r)) b f o
 
-takes_cleared : (n : ℕ) (h : HoldState) (b f : ℕ) (o : Seen) (phase : HoldPhase) (p u : ℕ) (may : Bool) → u ≤ f →
-    IsMoved n (at h phase) b f o (taken n (at h phase) p (up.Cleared u) may)
+takes_cleared : (n : ℕ) (h : HoldState) (b f : ℕ) (o : SideSeen) (phase : HoldPhase) (p u : ℕ) (may : Bool) → u ≤ f →
+    IsMoved n (at h phase) b f o (hold_taken n (at h phase) p (up.Cleared u) may)
 takes_cleared n h b f o hold.Free p u may le = still-moves n (at h hold.Free) b f o
 takes_cleared n h b f o (hold.Offer t q) p u may le = still-moves n (at h (hold.Offer t q)) b f o
 takes_cleared n h b f o (hold.On t q c) p u may le = still-moves n (at h (hold.On t q c)) b f o
@@ -170,8 +170,8 @@ takes_cleared n h b f o (hold.Away t) p u may le = still-moves n (at h (hold.Awa
 takes_cleared n h b f o (hold.Letting t q) p u may le = still-moves n (at h (hold.Letting t q)) b f o
 takes_cleared n h b f o (hold.Reset r) p u may le = cleared-moves n h b f o r u (u == r) refl le
 
-takes_attention : (n : ℕ) (h : HoldState) (b f : ℕ) (o : Seen) (phase : HoldPhase) (p a : ℕ) (may : Bool) →
-    IsMoved n (at h phase) b f o (stepped n (at h phase) (hold_takes (at h phase) p (up.Attn a (record { 0 = 0 })) may))
+takes_attention : (n : ℕ) (h : HoldState) (b f : ℕ) (o : SideSeen) (phase : HoldPhase) (p a : ℕ) (may : Bool) →
+    IsMoved n (at h phase) b f o (hold_stepped n (at h phase) (hold_takes (at h phase) p (up.Attn a (record { 0 = 0 })) may))
 takes_attention n h b f o hold.Free p a true = Stays _ _ tt
 takes_attention n h b f o hold.Free p a false = still-moves n (at h hold.Free) b f o
 takes_attention n h b f o (hold.Offer t q) p a may = still-moves n (at h (hold.Offer t q)) b f o
@@ -180,13 +180,13 @@ takes_attention n h b f o (hold.Away t) p a may = still-moves n (at h (hold.Away
 takes_attention n h b f o (hold.Letting t q) p a may = still-moves n (at h (hold.Letting t q)) b f o
 takes_attention n h b f o (hold.Reset r) p a may = still-moves n (at h (hold.Reset r)) b f o
 
-notice-moves : (n : ℕ) (h : HoldState) (b f : ℕ) (o : Seen) (c : ℕ) (more : Bool) → nat_lt h.known c ≡ more → c ≤ b →
+notice-moves : (n : ℕ) (h : HoldState) (b f : ℕ) (o : SideSeen) (c : ℕ) (more : Bool) → nat_lt h.known c ≡ more → c ≤ b →
     IsMoved n h b f o (if more then reset_again n (record h { known = c }) else still n h)
 notice-moves n h b f o c true e le = let lt : h.known < c = ltb-true h.known c e in Resets n h.phase h.seen h.known c b f o (omega arith) le
 notice-moves n h b f o c false e le = still-moves n h b f o
 
-taken-moves : (n : ℕ) (h : HoldState) (b f : ℕ) (o : Seen) (ts : List ℕ) (p : ℕ) (u : Up) (may : Bool) → IsUpGood (of n h b f o) ts p u →
-    IsMoved n h b f o (taken n h p u may)
+taken-moves : (n : ℕ) (h : HoldState) (b f : ℕ) (o : SideSeen) (ts : List ℕ) (p : ℕ) (u : Up) (may : Bool) → IsUpGood (of n h b f o) ts p u →
+    IsMoved n h b f o (hold_taken n h p u may)
 taken-moves n h b f o ts p (up.Accept t) may g = takes_accept n h b f o h.phase p t may g.0 g.1
 taken-moves n h b f o ts p (up.Busy t) may g = takes_busy n h b f o h.phase p t may g.0 g.1
 taken-moves n h b f o ts p (up.Leave t c) may g = takes_leave n h b f o h.phase p t c may
@@ -216,7 +216,7 @@ IsActGood e ts (Takes x may) = IsUpGood e ts x.path x.signal
 IsActGood e ts (Sends x) = IsOfProgram x.signal
 IsActGood e ts act = Unit {0}
 
-pub act-moves : (n : ℕ) (h : HoldState) (b f : ℕ) (o : Seen) (ts : List ℕ) (act : HoldAct) → h.known ≤ b → IsActGood (of n h b f o) ts act →
+pub act-moves : (n : ℕ) (h : HoldState) (b f : ℕ) (o : SideSeen) (ts : List ℕ) (act : HoldAct) → h.known ≤ b → IsActGood (of n h b f o) ts act →
     IsMoved n h b f o (hold_acts n h act)
 act-moves n h b f o ts Nothing kb g = still-moves n h b f o
 act-moves n h b f o ts (Offers p single) kb g = offered-moves n h b f o h.phase p single

@@ -16,7 +16,7 @@ use Rattle.chan_model.specs.declared.unit_state.Place.TheVariants.{On, Ask}
 use Rattle.chan_model.specs.Sides.{same_side}
 use Rattle.chan_model.specs.Agreement.{Agrees, IsAboveFloor, owner_of}
 use Rattle.agreement_laws.proofs.Clearing.{IsAnswered}
-use Rattle.agreement_laws.specs.Invariant.{Idle, Fresh, Owns, Ends, ends, seen_by, IsSelectGood, IsResetTo, AreEndsGood}
+use Rattle.agreement_laws.specs.Invariant.{Idle, Fresh, Owns, Ends, ends_seen, seen_by, IsSelectGood, IsResetTo, AreEndsGood}
 use Rattle.agreement_laws.proofs.HoldKeeps.{HoldMoves}
 use Rattle.agreement_laws.proofs.HoldKeeps as holds
 use Rattle.agreement_laws.proofs.UnitKeeps.{UnitMoves}
@@ -59,7 +59,7 @@ owns-fresh t place e = cc
 
 -- the unit takes a Reset: it is the hold's, or an older one
 cleared-due : (h : HoldPhase) (n s k b p r : ℕ) → IsResetTo h r →
-    IsDue (ends n h s k b r Idle) ⊎ (IsAnswered h (units.by_path p (up.Cleared r)) × (Idle ≡ Idle))
+    IsDue (ends_seen n h s k b r Idle) ⊎ (IsAnswered h (units.by_path p (up.Cleared r)) × (Idle ≡ Idle))
 cleared-due hold.Free n s k b p r to = absurd to
 cleared-due (hold.Offer u q) n s k b p r to = absurd to
 cleared-due (hold.On u q c) n s k b p r to = absurd to

@@ -16,7 +16,7 @@ use Rattle.chan_model.specs.UnitTable.{side_of, unit_after}
 use Rattle.chan_model.specs.Agreement.{Agrees, IsAboveFloor, IsOutstanding, owner_of}
 use Rattle.agreement_laws.specs.Claims.{DoAgree, IsResetDue, EndsByReset, IsPassed}
 use Rattle.agreement_laws.specs.Links.{Link, Links, link_of, Carries, with_signal, with_accepted}
-use Rattle.agreement_laws.specs.Moving.{HoldAct, Nothing, Offers, Sends_reset, Lets_go, Is_reset, Loses, Takes, Sends, HoldActed, hold_acts, UnitAct, Takes_down, Leaves, Asks, Attends, Restarts, Notices, Reports, unit_steps, up_sent, LinkStep, Cause, Hold_acts, Unit_acts, IsHoldGiven, IsUnitGiven, unit_moved, sent_at, act_at, Step}
+use Rattle.agreement_laws.specs.Moving.{HoldAct, Nothing, Offers, Sends_reset, Lets_go, Is_reset, Loses, Takes, Sends, HoldActed, hold_acts, UnitAct, Takes_down, Leaves, Asks, Attends, Restarts, Notices, Reports, unit_steps, up_sent, LinkStep, LinkCause, Hold_acts, Unit_acts, IsHoldGiven, IsUnitGiven, unit_moved, sent_at, act_at, LinksStep}
 use Rattle.agreement_laws.specs.Invariant.{Ends, ends_of, seen_by, AreEndsGood, IsDownGood, IsUpGood, AreRising, IsLinkGood, IsFreshFree, IsSideGood, IsGood}
 use Rattle.agreement_laws.proofs.Frames.{IsNewSignal, IsNew, passed}
 use Rattle.agreement_laws.proofs.HoldKeeps.{HoldMoves, IsHoldKept, hold-kept}
@@ -182,10 +182,10 @@ given-at w First Second act s = tt
 given-at w Second First act s = tt
 given-at w Second Second act s = s
 
-abbrev acted_at : Links → Cause → Side → HoldActed
+abbrev acted_at : Links → LinkCause → Side → HoldActed
 acted_at w cause side = hold_acts (link_of w side).drawn (link_of w side).hold (act_at cause side)
 
-abbrev IsKeptAt : Links → Cause → Side → Type 0
+abbrev IsKeptAt : Links → LinkCause → Side → Type 0
 IsKeptAt w cause side =
     IsLinkKept (ends_of (link_of w side).drawn (link_of w side).hold w.«unit» side)
     (ends_of (acted_at w cause side).drawn (acted_at w cause side).hold (unit_moved w.«unit» cause) side)
@@ -195,16 +195,16 @@ pub side-good : (w : Links) (side : Side) → IsGood w → IsSideGood w side
 side-good w First g = g.first
 side-good w Second g = g.second
 
-link-of : (old : Links) (cause : Cause) (new : Links) (side : Side) → Step old cause new → LinkStep (link_of old side) (acted_at old cause side) (sent_at old.«unit» cause side) (link_of new side)
+link-of : (old : Links) (cause : LinkCause) (new : Links) (side : Side) → LinksStep old cause new → LinkStep (link_of old side) (acted_at old cause side) (sent_at old.«unit» cause side) (link_of new side)
 link-of old cause new First s = s.first
 link-of old cause new Second s = s.second
 
-kept-at : (old : Links) (cause : Cause) (new : Links) (side : Side) → IsGood old → Step old cause new → IsKeptAt old cause side
+kept-at : (old : Links) (cause : LinkCause) (new : Links) (side : Side) → IsGood old → LinksStep old cause new → IsKeptAt old cause side
 kept-at old (Hold_acts k act) new side g s =
     hold-kept-at side old.«unit» (link_of old side) (act_at (Hold_acts k act) side) (side-good old side g) (given-at old k side act s.given)
 kept-at old (Unit_acts act) new side g s = unit-kept-at old act side g (side-good old side g) s.given
 
-good-at : (old : Links) (cause : Cause) (new : Links) (side : Side) → IsGood old → Step old cause new → IsSideGood new side
+good-at : (old : Links) (cause : LinkCause) (new : Links) (side : Side) → IsGood old → LinksStep old cause new → IsSideGood new side
 good-at old cause new side g s =
     let l : LinkStep (link_of old side) (acted_at old cause side) (sent_at old.«unit» cause side) (link_of new side) = link-of old cause new side s in
     placed side (link_of new side) (acted_at old cause side) (unit_moved old.«unit» cause) new.«unit» l.drawn l.hold s.«unit»
@@ -214,14 +214,14 @@ side-free : (w : Links) (side : Side) → IsGood w → IsFreshFree w.«unit» si
 side-free w First g = g.first_free
 side-free w Second g = g.second_free
 
-moved-free : (w : Links) (cause : Cause) (side : Side) → IsGood w → IsFreshFree (unit_moved w.«unit» cause) side
+moved-free : (w : Links) (cause : LinkCause) (side : Side) → IsGood w → IsFreshFree (unit_moved w.«unit» cause) side
 moved-free w (Hold_acts k act) side g = side-free w side g
 moved-free w (Unit_acts act) side g = unit-free side w.«unit» act g.first_free g.second_free (side-free w side g)
 
-free-at : (old : Links) (cause : Cause) (new : Links) (side : Side) → IsGood old → Step old cause new → IsFreshFree new.«unit» side
+free-at : (old : Links) (cause : LinkCause) (new : Links) (side : Side) → IsGood old → LinksStep old cause new → IsFreshFree new.«unit» side
 free-at old cause new side g s = subst (λ (u : UnitState). IsFreshFree u side) (sym s.«unit») (moved-free old cause side g)
 
-pub step-kept : (old : Links) (cause : Cause) (new : Links) → IsGood old → Step old cause new → IsGood new
+pub step-kept : (old : Links) (cause : LinkCause) (new : Links) → IsGood old → LinksStep old cause new → IsGood new
 step-kept old cause new g s =
     record {
       first = good-at old cause new First g s;
@@ -253,7 +253,7 @@ due-unit-at w act side g s d =
     ]
 
 -- the same of what is reached by equal holds and units
-due-placed : (old new : Links) (cause : Cause) (side : Side) → (link_of new side).hold ≡ (acted_at old cause side).hold → new.«unit» ≡ unit_moved old.«unit» cause →
+due-placed : (old new : Links) (cause : LinkCause) (side : Side) → (link_of new side).hold ≡ (acted_at old cause side).hold → new.«unit» ≡ unit_moved old.«unit» cause →
     IsOutstanding (acted_at old cause side).hold.phase (side_of (unit_moved old.«unit» cause) side) → IsResetDue new side
 due-placed old new cause side h e d =
     subst (λ (k : HoldState). IsOutstanding k.phase (side_of new.«unit» side)) (sym h)
@@ -265,7 +265,7 @@ agree-placed old new act side h e a =
     subst (λ (k : HoldState). Agrees k.phase (owner_of new.«unit».own side)) (sym h)
     (subst (λ (u : UnitState). Agrees (link_of old side).hold.phase (owner_of u.own side)) (sym e) a)
 
-pub reset-ends : (old : Links) (cause : Cause) (new : Links) (side : Side) → IsGood old → Step old cause new → EndsByReset old cause new side
+pub reset-ends : (old : Links) (cause : LinkCause) (new : Links) (side : Side) → IsGood old → LinksStep old cause new → EndsByReset old cause new side
 reset-ends old (Hold_acts k act) new side g s d =
     inl (due-placed old new (Hold_acts k act) side (link-of old (Hold_acts k act) new side s).hold s.«unit» (due-hold-at old k side act g s.given d))
 reset-ends old (Unit_acts act) new side g s d =
@@ -276,7 +276,7 @@ reset-ends old (Unit_acts act) new side g s d =
     ]
 
 -- a number that was passed stays so
-pub passed-on : (old : Links) (cause : Cause) (new : Links) (side : Side) (t : ℕ) → IsGood old → Step old cause new → IsPassed old side t → IsPassed new side t
+pub passed-on : (old : Links) (cause : LinkCause) (new : Links) (side : Side) (t : ℕ) → IsGood old → LinksStep old cause new → IsPassed old side t → IsPassed new side t
 passed-on old cause new side t g s p =
     let l : LinkStep (link_of old side) (acted_at old cause side) (sent_at old.«unit» cause side) (link_of new side) = link-of old cause new side s in
     let k : IsKeptAt old cause side = kept-at old cause new side g s in

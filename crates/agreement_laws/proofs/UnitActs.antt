@@ -20,9 +20,9 @@ use Rattle.chan_model.specs.declared.unit_state.Place.TheVariants.{On, Ask, Away
 use Rattle.chan_model.specs.declared.unit_state.SideState.{SideState}
 use Rattle.chan_model.specs.declared.unit_state.UnitState.{UnitState}
 use Rattle.chan_model.specs.Sides.{same_side}
-use Rattle.chan_model.specs.UnitTable.{UnitStep, changes, sends, side_of, is_owner, owns, freed, raised, selected, given_next, answered_load, answered_last, granted_at, granted, refused_at, refused, forgetting, telling, unit_after}
+use Rattle.chan_model.specs.UnitTable.{UnitStep, changes, sends, side_of, is_owner, owns, freed, raised, selected, given_next, answered_load, answered_last, granted_at, granted, grant_refused_at, grant_refused, forgetting, telling, unit_after}
 use Rattle.agreement_laws.specs.Moving.{sent_by}
-use Rattle.agreement_laws.specs.Invariant.{Owns, Ends, ends, ends_of, seen_by, seen_own, IsGrantGood, IsDownGood, IsFreshFree}
+use Rattle.agreement_laws.specs.Invariant.{Owns, Ends, ends_seen, ends_of, seen_by, seen_own, IsGrantGood, IsDownGood, IsFreshFree}
 use Rattle.agreement_laws.proofs.UnitKeeps.{IsNotFresh, UnitMoves, Stays, Accepts, Is_busy, Is_granted, Is_refused, Releases, Tells, IsPlainSent}
 
 abbrev pub other_of : Side → Side
@@ -55,9 +55,9 @@ unseen side u v x P restarts first second o plain =
 
     same_ends : (n : ℕ) (h : HoldState) (k : Side) → ends_of n h v k ≡ ends_of n h u k
     same_ends n h k =
-        ap (λ b. ends n h.phase h.seen h.known b (side_of v k).floor (seen_by (side_of v k).fresh v.own k)) restarts
-        ∙ (ap (λ (s : SideState). ends n h.phase h.seen h.known u.restarts s.floor (seen_by s.fresh v.own k)) (same_side_of k)
-        ∙ ap (λ w. ends n h.phase h.seen h.known u.restarts (side_of u k).floor (seen_by (side_of u k).fresh w k)) o)
+        ap (λ b. ends_seen n h.phase h.seen h.known b (side_of v k).floor (seen_by (side_of v k).fresh v.own k)) restarts
+        ∙ (ap (λ (s : SideState). ends_seen n h.phase h.seen h.known u.restarts s.floor (seen_by s.fresh v.own k)) (same_side_of k)
+        ∙ ap (λ w. ends_seen n h.phase h.seen h.known u.restarts (side_of u k).floor (seen_by (side_of u k).fresh w k)) o)
 
     free_as : (k : Side) → IsFreshFree u k → IsFreshFree v k
     free_as k f = λ e. ap (λ w. owns w k) o ∙ f (sym (ap (λ (s : SideState). s.fresh) (same_side_of k)) ∙ e)
@@ -230,17 +230,17 @@ refused_ask-steps Second u v q d f y true P =
 refused_ask-steps side u v q d f y false P = nothing side (at side u (own.Owned side v (Ask q d)) (working f) y) P
 
 refused_at-steps : (side : Side) (u : UnitState) (v : ℕ) (place : Place) (f : ℕ) (y : SideState) (c : ℕ) (P : Ends → Type 0) →
-    IsStep side (at side u (own.Owned side v place) (working f) y) (refused_at (at side u (own.Owned side v place) (working f) y) side v place c) P
+    IsStep side (at side u (own.Owned side v place) (working f) y) (grant_refused_at (at side u (own.Owned side v place) (working f) y) side v place c) P
 refused_at-steps side u v (On q d) f y c P = nothing side (at side u (own.Owned side v (On q d)) (working f) y) P
 refused_at-steps First u v (Ask q d) f y c P = refused_ask-steps First u v q d f y (c == d) P
 refused_at-steps Second u v (Ask q d) f y c P = refused_ask-steps Second u v q d f y (c == d) P
 refused_at-steps side u v (Away d) f y c P = nothing side (at side u (own.Owned side v (Away d)) (working f) y) P
 
 pub refused-steps : (side : Side) (u : UnitState) (o : Own) (f : ℕ) (y : SideState) (p t c : ℕ) →
-    IsStep side (at side u o (working f) y) (refused (at side u o (working f) y) o side t c) (IsGiven p (down.Refuse t c))
+    IsStep side (at side u o (working f) y) (grant_refused (at side u o (working f) y) o side t c) (IsGiven p (down.Refuse t c))
 refused-steps side u own.Idle f y p t c = nothing side (at side u own.Idle (working f) y) (IsGiven p (down.Refuse t c))
 refused-steps side u (own.Owned k v place) f y p t c =
-    owner-steps side u k v place (working f) y t (same_side k side && (t == v)) (λ w j x. refused_at w j x place c) (λ x. IsGiven p (down.Refuse x c)) refl
+    owner-steps side u k v place (working f) y t (same_side k side && (t == v)) (λ w j x. grant_refused_at w j x place c) (λ x. IsGiven p (down.Refuse x c)) refl
     (refused_at-steps side u v place f y c (IsGiven p (down.Refuse v c)))
 
 -- Release, by the program that holds the device

@@ -12,7 +12,7 @@ use Rattle.chan_model.specs.declared.signal.Up.TheVariants as up
 use Rattle.chan_model.specs.declared.unit_state.Place.{Place}
 use Rattle.chan_model.specs.declared.unit_state.Place.TheVariants.{On, Ask, Away}
 use Rattle.agreement_laws.specs.Links.{with_accepted}
-use Rattle.agreement_laws.specs.Invariant.{Seen, Idle, Fresh, Owns, Ends, ends, IsJoined, IsParted, IsPaired, IsNotHeld, AreEndsGood, IsSelectGood, IsReleaseGood, IsNotDue, IsResetTo, IsResetGood, IsAskedOn, IsGrantGood, IsDownGood, IsAcceptGood, IsNotOwned, IsBackGood, IsUpGood}
+use Rattle.agreement_laws.specs.Invariant.{SideSeen, Idle, Fresh, Owns, Ends, ends_seen, IsJoined, IsParted, IsPaired, IsNotHeld, AreEndsGood, IsSelectGood, IsReleaseGood, IsNotDue, IsResetTo, IsResetGood, IsAskedOn, IsGrantGood, IsDownGood, IsAcceptGood, IsNotOwned, IsBackGood, IsUpGood}
 use Rattle.agreement_laws.proofs.Frames.{downs-by, ups-by, IsNew, IsPlainUp, plain-up, plain-new}
 
 abbrev pub IsPlainSent : Option (OnPath Up) → Type 0
@@ -22,7 +22,7 @@ IsPlainSent (Some x) = IsPlainUp x.signal
 abbrev pub by_path : ℕ → Up → Option (OnPath Up)
 by_path p u = Some (record { path = p; signal = u })
 
-abbrev pub IsNotFresh : Seen → Type 0
+abbrev pub IsNotFresh : SideSeen → Type 0
 IsNotFresh Fresh = ⊥
 IsNotFresh o = Unit {0}
 
@@ -35,16 +35,16 @@ IsOff (Away d) c = d ≡ c
 -- both ends, and both after an act of the unit with what it sends
 pub data UnitMoves : Ends → Ends → Option (OnPath Up) → Type 0 where
   Stays : (e x : Ends) (sent : Option (OnPath Up)) → x ≡ e → IsPlainSent sent → UnitMoves e x sent
-  Accepts : (n : ℕ) (h : HoldPhase) (s k b f p t : ℕ) → f < t → t ≤ n → IsSelectGood h f p t → UnitMoves (ends n h s k b f Idle) (ends n h s k b t (Owns t (On p 0))) (by_path p (up.Accept t))
-  Is_busy : (n : ℕ) (h : HoldPhase) (s k b f p t : ℕ) (o : Seen) → IsNotFresh o → f < t → t ≤ n → IsSelectGood h f p t → UnitMoves (ends n h s k b f o) (ends n h s k b t o) (by_path p (up.Busy t))
-  Is_granted : (n : ℕ) (h : HoldPhase) (s k b f t q c : ℕ) → IsGrantGood h s (Owns t (Ask q c)) t c → UnitMoves (ends n h s k b f (Owns t (Ask q c))) (ends n h s k b f (Owns t (On q c))) None
-  Is_refused : (n : ℕ) (h : HoldPhase) (s k b f t q c : ℕ) → UnitMoves (ends n h s k b f (Owns t (Ask q c))) (ends n h s k b f (Owns t (Away c))) None
-  Releases : (n : ℕ) (h : HoldPhase) (s k b f p t : ℕ) (place : Place) → IsReleaseGood h t → UnitMoves (ends n h s k b f (Owns t place)) (ends n h s k b f Idle) (by_path p (up.Released t))
-  Clears : (n : ℕ) (h : HoldPhase) (s k b f p r : ℕ) (o : Seen) → f < r → r ≤ n → IsResetTo h r → UnitMoves (ends n h s k b f o) (ends n h s k b r Idle) (by_path p (up.Cleared r))
-  Leaves : (n : ℕ) (h : HoldPhase) (s k b f t q c p d : ℕ) → UnitMoves (ends n h s k b f (Owns t (On q c))) (ends n h s k b f (Owns t (Away c))) (by_path p (up.Leave t d))
-  Asks : (n : ℕ) (h : HoldPhase) (s k b f t p c : ℕ) (place : Place) → IsOff place c → UnitMoves (ends n h s k b f (Owns t place)) (ends n h s k b f (Owns t (Ask p (c + 1)))) (by_path p (up.Back t (c + 1)))
-  Restarts : (n : ℕ) (h : HoldPhase) (s k b f : ℕ) (o : Seen) → UnitMoves (ends n h s k b f o) (ends n h s k (b + 1) f Fresh) None
-  Tells : (n : ℕ) (h : HoldPhase) (s k b f p : ℕ) (o : Seen) → UnitMoves (ends n h s k b f o) (ends n h s k b f o) (by_path p (up.Notice b))
+  Accepts : (n : ℕ) (h : HoldPhase) (s k b f p t : ℕ) → f < t → t ≤ n → IsSelectGood h f p t → UnitMoves (ends_seen n h s k b f Idle) (ends_seen n h s k b t (Owns t (On p 0))) (by_path p (up.Accept t))
+  Is_busy : (n : ℕ) (h : HoldPhase) (s k b f p t : ℕ) (o : SideSeen) → IsNotFresh o → f < t → t ≤ n → IsSelectGood h f p t → UnitMoves (ends_seen n h s k b f o) (ends_seen n h s k b t o) (by_path p (up.Busy t))
+  Is_granted : (n : ℕ) (h : HoldPhase) (s k b f t q c : ℕ) → IsGrantGood h s (Owns t (Ask q c)) t c → UnitMoves (ends_seen n h s k b f (Owns t (Ask q c))) (ends_seen n h s k b f (Owns t (On q c))) None
+  Is_refused : (n : ℕ) (h : HoldPhase) (s k b f t q c : ℕ) → UnitMoves (ends_seen n h s k b f (Owns t (Ask q c))) (ends_seen n h s k b f (Owns t (Away c))) None
+  Releases : (n : ℕ) (h : HoldPhase) (s k b f p t : ℕ) (place : Place) → IsReleaseGood h t → UnitMoves (ends_seen n h s k b f (Owns t place)) (ends_seen n h s k b f Idle) (by_path p (up.Released t))
+  Clears : (n : ℕ) (h : HoldPhase) (s k b f p r : ℕ) (o : SideSeen) → f < r → r ≤ n → IsResetTo h r → UnitMoves (ends_seen n h s k b f o) (ends_seen n h s k b r Idle) (by_path p (up.Cleared r))
+  Leaves : (n : ℕ) (h : HoldPhase) (s k b f t q c p d : ℕ) → UnitMoves (ends_seen n h s k b f (Owns t (On q c))) (ends_seen n h s k b f (Owns t (Away c))) (by_path p (up.Leave t d))
+  Asks : (n : ℕ) (h : HoldPhase) (s k b f t p c : ℕ) (place : Place) → IsOff place c → UnitMoves (ends_seen n h s k b f (Owns t place)) (ends_seen n h s k b f (Owns t (Ask p (c + 1)))) (by_path p (up.Back t (c + 1)))
+  Restarts : (n : ℕ) (h : HoldPhase) (s k b f : ℕ) (o : SideSeen) → UnitMoves (ends_seen n h s k b f o) (ends_seen n h s k (b + 1) f Fresh) None
+  Tells : (n : ℕ) (h : HoldPhase) (s k b f p : ℕ) (o : SideSeen) → UnitMoves (ends_seen n h s k b f o) (ends_seen n h s k b f o) (by_path p (up.Notice b))
 
 pub record IsUnitKept (e x : Ends) (u : Option (OnPath Up)) : Type 0 where
   pub ends : AreEndsGood x
@@ -63,22 +63,22 @@ select-rises (hold.Away t) f g q u le y = omega (arith, le, y)
 select-rises (hold.Letting t p) f g q u le y = omega (arith, le, y)
 select-rises (hold.Reset r) f g q u le y = elim y [ inl z ↦ inl (omega arith) | inr z ↦ inr z ]
 
-reset-rises : (n : ℕ) (h : HoldPhase) (s k b f g : ℕ) (o v : Seen) → f ≤ g → ((c : ℕ) → IsNotDue v c b) → (r c : ℕ) →
-    IsResetGood (ends n h s k b f o) r c → IsResetGood (ends n h s k b g v) r c
+reset-rises : (n : ℕ) (h : HoldPhase) (s k b f g : ℕ) (o v : SideSeen) → f ≤ g → ((c : ℕ) → IsNotDue v c b) → (r c : ℕ) →
+    IsResetGood (ends_seen n h s k b f o) r c → IsResetGood (ends_seen n h s k b g v) r c
 reset-rises n h s k b f g o v le due r c y = elim y [
   | inl z ↦ inl (omega (arith, z.0), due c)
   | inr z ↦ elim (cases_lt g r) [ inl w ↦ inr (w, z.1) | inr w ↦ inl (w, due c) ]
 ]
 
 -- a Busy of a unit that is not fresh does not make a Reset due
-busy-resets : (n : ℕ) (h : HoldPhase) (s k b f g : ℕ) (o : Seen) → IsNotFresh o → f ≤ g → (r c : ℕ) →
-    IsResetGood (ends n h s k b f o) r c → IsResetGood (ends n h s k b g o) r c
+busy-resets : (n : ℕ) (h : HoldPhase) (s k b f g : ℕ) (o : SideSeen) → IsNotFresh o → f ≤ g → (r c : ℕ) →
+    IsResetGood (ends_seen n h s k b f o) r c → IsResetGood (ends_seen n h s k b g o) r c
 busy-resets n h s k b f g Idle i le r c y = reset-rises n h s k b f g Idle Idle le (λ d. tt) r c y
 busy-resets n h s k b f g Fresh i le r c y = absurd i
 busy-resets n h s k b f g (Owns t place) i le r c y = reset-rises n h s k b f g (Owns t place) (Owns t place) le (λ d. tt) r c y
 
 -- another unit under a Grant
-grant-seen : (h : HoldPhase) (s t c : ℕ) (o v : Seen) → ((p d : ℕ) → IsAskedOn v p d t c) → IsGrantGood h s o t c → IsGrantGood h s v t c
+grant-seen : (h : HoldPhase) (s t c : ℕ) (o v : SideSeen) → ((p d : ℕ) → IsAskedOn v p d t c) → IsGrantGood h s o t c → IsGrantGood h s v t c
 grant-seen hold.Free s t c o v k g = tt
 grant-seen (hold.Offer u p) s t c o v k g = g
 grant-seen (hold.On u p d) s t c o v k g = elim g [ inl y ↦ inl y | inr y ↦ inr (y.0, y.1, k p d) ]
@@ -111,18 +111,18 @@ accepted-paired (hold.Away u) s f p t lt y = absurd (omega (arith, lt, y))
 accepted-paired (hold.Letting u q) s f p t lt y = absurd (omega (arith, lt, y))
 accepted-paired (hold.Reset r) s f p t lt y = elim y [ inl z ↦ absurd (omega arith) | inr z ↦ z ]
 
-accepts-kept : (n : ℕ) (h : HoldPhase) (s k b f p t : ℕ) → f < t → t ≤ n → IsSelectGood h f p t → AreEndsGood (ends n h s k b f Idle) →
-    IsUnitKept (ends n h s k b f Idle) (ends n h s k b t (Owns t (On p 0))) (by_path p (up.Accept t))
+accepts-kept : (n : ℕ) (h : HoldPhase) (s k b f p t : ℕ) → f < t → t ≤ n → IsSelectGood h f p t → AreEndsGood (ends_seen n h s k b f Idle) →
+    IsUnitKept (ends_seen n h s k b f Idle) (ends_seen n h s k b t (Owns t (On p 0))) (by_path p (up.Accept t))
 accepts-kept n h s k b f p t lt tn y g =
     record {
       ends = record { floor = tn; number = g.number; known = g.known; owned = omega arith; matched = accepted-paired h s f p t lt y };
-      downs = downs-by (ends n h s k b f Idle) (ends n h s k b t (Owns t (On p 0))) (omega arith) (omega arith)
+      downs = downs-by (ends_seen n h s k b f Idle) (ends_seen n h s k b t (Owns t (On p 0))) (omega arith) (omega arith)
           (λ q u le z. select-rises h f t q u (omega arith) z) (λ u le z. z)
           (λ r c le lb z. reset-rises n h s k b f t Idle (Owns t (On p 0)) (omega arith) (λ d. tt) r c z)
           (λ u c le z. grant-seen h s u c Idle (Owns t (On p 0)) (λ q d. tt) z);
       floor = omega arith;
       new = (lt, omega arith);
-      ups = ups-by (ends n h s k b f Idle) (ends n h s k b t (Owns t (On p 0))) (by_path p (up.Accept t)) (omega arith) (omega arith) (lt, omega arith)
+      ups = ups-by (ends_seen n h s k b f Idle) (ends_seen n h s k b t (Owns t (On p 0))) (by_path p (up.Accept t)) (omega arith) (omega arith) (lt, omega arith)
           (λ u le z. accept-owned h t (On p 0) u) (λ u le z. λ e. omega arith) (λ q u c le z. λ e. absurd (omega arith));
       sent = λ ts all. (omega arith, accept-owned h t (On p 0) t);
     }
@@ -136,30 +136,30 @@ busy-paired (hold.Away u) s f p t v place lt y m = m
 busy-paired (hold.Letting u q) s f p t v place lt y m = m
 busy-paired (hold.Reset r) s f p t v place lt y m = elim y [ inl z ↦ absurd (omega arith) | inr z ↦ z ]
 
-busy-not_owned : (o : Seen) (f t : ℕ) (n : ℕ) (h : HoldPhase) (s k b : ℕ) → f < t → AreEndsGood (ends n h s k b f o) → IsNotOwned o t
+busy-not_owned : (o : SideSeen) (f t : ℕ) (n : ℕ) (h : HoldPhase) (s k b : ℕ) → f < t → AreEndsGood (ends_seen n h s k b f o) → IsNotOwned o t
 busy-not_owned Idle f t n h s k b lt g = tt
 busy-not_owned Fresh f t n h s k b lt g = tt
 busy-not_owned (Owns v place) f t n h s k b lt g = λ e. omega (arith, g.owned)
 
-owned-below : (n : ℕ) (h : HoldPhase) (s k b f t : ℕ) (o : Seen) (p : ℕ) → IsNotFresh o → f < t → t ≤ n → IsSelectGood h f p t →
-    AreEndsGood (ends n h s k b f o) → AreEndsGood (ends n h s k b t o)
+owned-below : (n : ℕ) (h : HoldPhase) (s k b f t : ℕ) (o : SideSeen) (p : ℕ) → IsNotFresh o → f < t → t ≤ n → IsSelectGood h f p t →
+    AreEndsGood (ends_seen n h s k b f o) → AreEndsGood (ends_seen n h s k b t o)
 owned-below n h s k b f t Idle p i lt tn y g =
     record { floor = tn; number = g.number; known = g.known; owned = tt; matched = g.matched }
 owned-below n h s k b f t Fresh p i lt tn y g = absurd i
 owned-below n h s k b f t (Owns v place) p i lt tn y g =
     record { floor = tn; number = g.number; known = g.known; owned = omega (arith, g.owned); matched = busy-paired h s f p t v place lt y g.matched }
 
-is_busy-kept : (n : ℕ) (h : HoldPhase) (s k b f p t : ℕ) (o : Seen) → IsNotFresh o → f < t → t ≤ n → IsSelectGood h f p t → AreEndsGood (ends n h s k b f o) →
-    IsUnitKept (ends n h s k b f o) (ends n h s k b t o) (by_path p (up.Busy t))
+is_busy-kept : (n : ℕ) (h : HoldPhase) (s k b f p t : ℕ) (o : SideSeen) → IsNotFresh o → f < t → t ≤ n → IsSelectGood h f p t → AreEndsGood (ends_seen n h s k b f o) →
+    IsUnitKept (ends_seen n h s k b f o) (ends_seen n h s k b t o) (by_path p (up.Busy t))
 is_busy-kept n h s k b f p t o i lt tn y g =
     record {
       ends = owned-below n h s k b f t o p i lt tn y g;
-      downs = downs-by (ends n h s k b f o) (ends n h s k b t o) (omega arith) (omega arith)
+      downs = downs-by (ends_seen n h s k b f o) (ends_seen n h s k b t o) (omega arith) (omega arith)
           (λ q u le z. select-rises h f t q u (omega arith) z) (λ u le z. z)
           (λ r c le lb z. busy-resets n h s k b f t o i (omega arith) r c z) (λ u c le z. z);
       floor = omega arith;
       new = tt;
-      ups = ups-by (ends n h s k b f o) (ends n h s k b t o) (by_path p (up.Busy t)) (omega arith) (omega arith) tt
+      ups = ups-by (ends_seen n h s k b f o) (ends_seen n h s k b t o) (by_path p (up.Busy t)) (omega arith) (omega arith) tt
           (λ u le z. z) (λ u le z. z) (λ q u c le z. z);
       sent = λ ts all. (omega arith, busy-not_owned o f t n h s k b lt g, All-weaker (λ a. a ≤ f) (λ a. a ≢ t) (λ a le e. omega arith) ts all);
     }
@@ -179,17 +179,17 @@ granted-paired (hold.Away u) s f t q c g m = elim g [ inl y ↦ absurd (omega (a
 granted-paired (hold.Letting u p) s f t q c g m = m
 granted-paired (hold.Reset r) s f t q c g m = m
 
-is_granted-kept : (n : ℕ) (h : HoldPhase) (s k b f t q c : ℕ) → IsGrantGood h s (Owns t (Ask q c)) t c → AreEndsGood (ends n h s k b f (Owns t (Ask q c))) →
-    IsUnitKept (ends n h s k b f (Owns t (Ask q c))) (ends n h s k b f (Owns t (On q c))) None
+is_granted-kept : (n : ℕ) (h : HoldPhase) (s k b f t q c : ℕ) → IsGrantGood h s (Owns t (Ask q c)) t c → AreEndsGood (ends_seen n h s k b f (Owns t (Ask q c))) →
+    IsUnitKept (ends_seen n h s k b f (Owns t (Ask q c))) (ends_seen n h s k b f (Owns t (On q c))) None
 is_granted-kept n h s k b f t q c y g =
     record {
       ends = record { floor = g.floor; number = g.number; known = g.known; owned = g.owned; matched = granted-paired h s f t q c y g.matched };
-      downs = downs-by (ends n h s k b f (Owns t (Ask q c))) (ends n h s k b f (Owns t (On q c))) (omega arith) (omega arith)
+      downs = downs-by (ends_seen n h s k b f (Owns t (Ask q c))) (ends_seen n h s k b f (Owns t (On q c))) (omega arith) (omega arith)
           (λ p u le z. z) (λ u le z. z) (λ r d le lb z. z)
           (λ u d le z. grant-seen h s u d (Owns t (Ask q c)) (Owns t (On q c)) (λ p e. tt) z);
       floor = omega arith;
       new = tt;
-      ups = ups-by (ends n h s k b f (Owns t (Ask q c))) (ends n h s k b f (Owns t (On q c))) None (omega arith) (omega arith) tt
+      ups = ups-by (ends_seen n h s k b f (Owns t (Ask q c))) (ends_seen n h s k b f (Owns t (On q c))) None (omega arith) (omega arith) tt
           (λ u le z. accept-owned h t (On q c) u) (λ u le z. z) (λ p u d le z. λ e. (z e).0);
       sent = λ ts all. tt;
     }
@@ -203,17 +203,17 @@ refused-paired (hold.Away u) s f t q c m = m
 refused-paired (hold.Letting u p) s f t q c m = m
 refused-paired (hold.Reset r) s f t q c m = m
 
-is_refused-kept : (n : ℕ) (h : HoldPhase) (s k b f t q c : ℕ) → AreEndsGood (ends n h s k b f (Owns t (Ask q c))) →
-    IsUnitKept (ends n h s k b f (Owns t (Ask q c))) (ends n h s k b f (Owns t (Away c))) None
+is_refused-kept : (n : ℕ) (h : HoldPhase) (s k b f t q c : ℕ) → AreEndsGood (ends_seen n h s k b f (Owns t (Ask q c))) →
+    IsUnitKept (ends_seen n h s k b f (Owns t (Ask q c))) (ends_seen n h s k b f (Owns t (Away c))) None
 is_refused-kept n h s k b f t q c g =
     record {
       ends = record { floor = g.floor; number = g.number; known = g.known; owned = g.owned; matched = refused-paired h s f t q c g.matched };
-      downs = downs-by (ends n h s k b f (Owns t (Ask q c))) (ends n h s k b f (Owns t (Away c))) (omega arith) (omega arith)
+      downs = downs-by (ends_seen n h s k b f (Owns t (Ask q c))) (ends_seen n h s k b f (Owns t (Away c))) (omega arith) (omega arith)
           (λ p u le z. z) (λ u le z. z) (λ r d le lb z. z)
           (λ u d le z. grant-seen h s u d (Owns t (Ask q c)) (Owns t (Away c)) (λ p e. tt) z);
       floor = omega arith;
       new = tt;
-      ups = ups-by (ends n h s k b f (Owns t (Ask q c))) (ends n h s k b f (Owns t (Away c))) None (omega arith) (omega arith) tt
+      ups = ups-by (ends_seen n h s k b f (Owns t (Ask q c))) (ends_seen n h s k b f (Owns t (Away c))) None (omega arith) (omega arith) tt
           (λ u le z. accept-owned h t (Away c) u) (λ u le z. z) (λ p u d le z. λ e. (z e).0);
       sent = λ ts all. tt;
     }
@@ -226,17 +226,17 @@ left-paired (hold.Away u) s f t q c m = (m.0, omega (arith, m.1))
 left-paired (hold.Letting u p) s f t q c m = m
 left-paired (hold.Reset r) s f t q c m = m
 
-leaves-kept : (n : ℕ) (h : HoldPhase) (s k b f t q c p d : ℕ) → AreEndsGood (ends n h s k b f (Owns t (On q c))) →
-    IsUnitKept (ends n h s k b f (Owns t (On q c))) (ends n h s k b f (Owns t (Away c))) (by_path p (up.Leave t d))
+leaves-kept : (n : ℕ) (h : HoldPhase) (s k b f t q c p d : ℕ) → AreEndsGood (ends_seen n h s k b f (Owns t (On q c))) →
+    IsUnitKept (ends_seen n h s k b f (Owns t (On q c))) (ends_seen n h s k b f (Owns t (Away c))) (by_path p (up.Leave t d))
 leaves-kept n h s k b f t q c p d g =
     record {
       ends = record { floor = g.floor; number = g.number; known = g.known; owned = g.owned; matched = left-paired h s f t q c g.matched };
-      downs = downs-by (ends n h s k b f (Owns t (On q c))) (ends n h s k b f (Owns t (Away c))) (omega arith) (omega arith)
+      downs = downs-by (ends_seen n h s k b f (Owns t (On q c))) (ends_seen n h s k b f (Owns t (Away c))) (omega arith) (omega arith)
           (λ x u le z. z) (λ u le z. z) (λ r y le lb z. z)
           (λ u y le z. grant-seen h s u y (Owns t (On q c)) (Owns t (Away c)) (λ x e. tt) z);
       floor = omega arith;
       new = tt;
-      ups = ups-by (ends n h s k b f (Owns t (On q c))) (ends n h s k b f (Owns t (Away c))) (by_path p (up.Leave t d)) (omega arith) (omega arith) tt
+      ups = ups-by (ends_seen n h s k b f (Owns t (On q c))) (ends_seen n h s k b f (Owns t (Away c))) (by_path p (up.Leave t d)) (omega arith) (omega arith) tt
           (λ u le z. accept-owned h t (Away c) u) (λ u le z. z) (λ x u y le z. z);
       sent = λ ts all. tt;
     }
@@ -258,17 +258,17 @@ released-accept (hold.Away v) s f t u place y m = tt
 released-accept (hold.Letting v p) s f t u place y m = tt
 released-accept (hold.Reset r) s f t u place y m = tt
 
-releases-kept : (n : ℕ) (h : HoldPhase) (s k b f p t : ℕ) (place : Place) → IsReleaseGood h t → AreEndsGood (ends n h s k b f (Owns t place)) →
-    IsUnitKept (ends n h s k b f (Owns t place)) (ends n h s k b f Idle) (by_path p (up.Released t))
+releases-kept : (n : ℕ) (h : HoldPhase) (s k b f p t : ℕ) (place : Place) → IsReleaseGood h t → AreEndsGood (ends_seen n h s k b f (Owns t place)) →
+    IsUnitKept (ends_seen n h s k b f (Owns t place)) (ends_seen n h s k b f Idle) (by_path p (up.Released t))
 releases-kept n h s k b f p t place y g =
     record {
       ends = record { floor = g.floor; number = g.number; known = g.known; owned = tt; matched = released-held h s f t place y g.matched };
-      downs = downs-by (ends n h s k b f (Owns t place)) (ends n h s k b f Idle) (omega arith) (omega arith)
+      downs = downs-by (ends_seen n h s k b f (Owns t place)) (ends_seen n h s k b f Idle) (omega arith) (omega arith)
           (λ q u le z. z) (λ u le z. z) (λ r d le lb z. z)
           (λ u d le z. grant-seen h s u d (Owns t place) Idle (λ q e. tt) z);
       floor = omega arith;
       new = tt;
-      ups = ups-by (ends n h s k b f (Owns t place)) (ends n h s k b f Idle) (by_path p (up.Released t)) (omega arith) (omega arith) tt
+      ups = ups-by (ends_seen n h s k b f (Owns t place)) (ends_seen n h s k b f Idle) (by_path p (up.Released t)) (omega arith) (omega arith) tt
           (λ u le z. released-accept h s f t u place y g.matched) (λ u le z. tt) (λ q u d le z. tt);
       sent = λ ts all. (g.owned, tt);
     }
@@ -290,18 +290,18 @@ cleared-accept (hold.Away v) r u y = tt
 cleared-accept (hold.Letting v p) r u y = tt
 cleared-accept (hold.Reset v) r u y = tt
 
-clears-kept : (n : ℕ) (h : HoldPhase) (s k b f p r : ℕ) (o : Seen) → f < r → r ≤ n → IsResetTo h r → AreEndsGood (ends n h s k b f o) →
-    IsUnitKept (ends n h s k b f o) (ends n h s k b r Idle) (by_path p (up.Cleared r))
+clears-kept : (n : ℕ) (h : HoldPhase) (s k b f p r : ℕ) (o : SideSeen) → f < r → r ≤ n → IsResetTo h r → AreEndsGood (ends_seen n h s k b f o) →
+    IsUnitKept (ends_seen n h s k b f o) (ends_seen n h s k b r Idle) (by_path p (up.Cleared r))
 clears-kept n h s k b f p r o lt rn y g =
     record {
       ends = record { floor = rn; number = g.number; known = g.known; owned = tt; matched = cleared-held h r y };
-      downs = downs-by (ends n h s k b f o) (ends n h s k b r Idle) (omega arith) (omega arith)
+      downs = downs-by (ends_seen n h s k b f o) (ends_seen n h s k b r Idle) (omega arith) (omega arith)
           (λ q u le z. select-rises h f r q u (omega arith) z) (λ u le z. z)
           (λ v c le lb z. reset-rises n h s k b f r o Idle (omega arith) (λ d. tt) v c z)
           (λ u c le z. grant-seen h s u c o Idle (λ q d. tt) z);
       floor = omega arith;
       new = tt;
-      ups = ups-by (ends n h s k b f o) (ends n h s k b r Idle) (by_path p (up.Cleared r)) (omega arith) (omega arith) tt
+      ups = ups-by (ends_seen n h s k b f o) (ends_seen n h s k b r Idle) (by_path p (up.Cleared r)) (omega arith) (omega arith) tt
           (λ u le z. cleared-accept h r u y) (λ u le z. tt) (λ q u c le z. tt);
       sent = λ ts all. omega arith;
     }
@@ -347,37 +347,37 @@ asked-back t q c a x u (On y d) i g = absurd i
 asked-back t q c a x u (Ask y d) i g = λ e. let le : x ≤ d = (g e).0 in (omega arith, λ j. absurd (omega arith))
 asked-back t q c a x u (Away d) i g = λ e. let le : x ≤ d = g e in (omega arith, λ j. absurd (omega arith))
 
-asks-kept : (n : ℕ) (h : HoldPhase) (s k b f t p c : ℕ) (place : Place) → IsOff place c → AreEndsGood (ends n h s k b f (Owns t place)) →
-    IsUnitKept (ends n h s k b f (Owns t place)) (ends n h s k b f (Owns t (Ask p (c + 1)))) (by_path p (up.Back t (c + 1)))
+asks-kept : (n : ℕ) (h : HoldPhase) (s k b f t p c : ℕ) (place : Place) → IsOff place c → AreEndsGood (ends_seen n h s k b f (Owns t place)) →
+    IsUnitKept (ends_seen n h s k b f (Owns t place)) (ends_seen n h s k b f (Owns t (Ask p (c + 1)))) (by_path p (up.Back t (c + 1)))
 asks-kept n h s k b f t p c place i g =
     record {
       ends = record { floor = g.floor; number = g.number; known = g.known; owned = g.owned; matched = asked-paired h s f t p c place i g.matched };
-      downs = downs-by (ends n h s k b f (Owns t place)) (ends n h s k b f (Owns t (Ask p (c + 1)))) (omega arith) (omega arith)
+      downs = downs-by (ends_seen n h s k b f (Owns t place)) (ends_seen n h s k b f (Owns t (Ask p (c + 1)))) (omega arith) (omega arith)
           (λ q u le z. z) (λ u le z. z) (λ r d le lb z. z)
           (λ u d le z. asked-grant h s f t p c u d place i g.matched z);
       floor = omega arith;
       new = tt;
-      ups = ups-by (ends n h s k b f (Owns t place)) (ends n h s k b f (Owns t (Ask p (c + 1)))) (by_path p (up.Back t (c + 1))) (omega arith) (omega arith) tt
+      ups = ups-by (ends_seen n h s k b f (Owns t place)) (ends_seen n h s k b f (Owns t (Ask p (c + 1)))) (by_path p (up.Back t (c + 1))) (omega arith) (omega arith) tt
           (λ u le z. accept-owned h t (Ask p (c + 1)) u) (λ u le z. z) (λ q u d le z. asked-back t p c q d u place i z);
       sent = λ ts all. (g.owned, λ e. (omega arith, λ j. refl));
     }
 
 -- the device is restarted
-restarted-resets : (n : ℕ) (h : HoldPhase) (s k b f : ℕ) (o : Seen) (r c : ℕ) → c ≤ b →
-    IsResetGood (ends n h s k b f o) r c → IsResetGood (ends n h s k (b + 1) f Fresh) r c
+restarted-resets : (n : ℕ) (h : HoldPhase) (s k b f : ℕ) (o : SideSeen) (r c : ℕ) → c ≤ b →
+    IsResetGood (ends_seen n h s k b f o) r c → IsResetGood (ends_seen n h s k (b + 1) f Fresh) r c
 restarted-resets n h s k b f o r c le y = elim y [ inl z ↦ inl (z.0, omega arith) | inr z ↦ inr z ]
 
-restarts-kept : (n : ℕ) (h : HoldPhase) (s k b f : ℕ) (o : Seen) → AreEndsGood (ends n h s k b f o) →
-    IsUnitKept (ends n h s k b f o) (ends n h s k (b + 1) f Fresh) None
+restarts-kept : (n : ℕ) (h : HoldPhase) (s k b f : ℕ) (o : SideSeen) → AreEndsGood (ends_seen n h s k b f o) →
+    IsUnitKept (ends_seen n h s k b f o) (ends_seen n h s k (b + 1) f Fresh) None
 restarts-kept n h s k b f o g =
     record {
       ends = record { floor = g.floor; number = g.number; known = omega (arith, g.known); owned = tt; matched = λ e. absurd (omega (arith, g.known)) };
-      downs = downs-by (ends n h s k b f o) (ends n h s k (b + 1) f Fresh) (omega arith) (omega arith)
+      downs = downs-by (ends_seen n h s k b f o) (ends_seen n h s k (b + 1) f Fresh) (omega arith) (omega arith)
           (λ q u le z. z) (λ u le z. z) (λ r c le lb z. restarted-resets n h s k b f o r c lb z)
           (λ u c le z. grant-seen h s u c o Fresh (λ q d. tt) z);
       floor = omega arith;
       new = tt;
-      ups = ups-by (ends n h s k b f o) (ends n h s k (b + 1) f Fresh) None (omega arith) (omega arith) tt
+      ups = ups-by (ends_seen n h s k b f o) (ends_seen n h s k (b + 1) f Fresh) None (omega arith) (omega arith) tt
           (λ u le z. accept-fresh h u) (λ u le z. tt) (λ q u c le z. tt);
       sent = λ ts all. tt;
     }
@@ -415,4 +415,4 @@ unit-kept _ _ _ g (Clears n h s k b f p r o lt rn y) = clears-kept n h s k b f p
 unit-kept _ _ _ g (Leaves n h s k b f t q c p d) = leaves-kept n h s k b f t q c p d g
 unit-kept _ _ _ g (Asks n h s k b f t p c place i) = asks-kept n h s k b f t p c place i g
 unit-kept _ _ _ g (Restarts n h s k b f o) = restarts-kept n h s k b f o g
-unit-kept _ _ _ g (Tells n h s k b f p o) = stays-kept (ends n h s k b f o) (by_path p (up.Notice b)) tt (λ ts. omega arith) g
+unit-kept _ _ _ g (Tells n h s k b f p o) = stays-kept (ends_seen n h s k b f o) (by_path p (up.Notice b)) tt (λ ts. omega arith) g

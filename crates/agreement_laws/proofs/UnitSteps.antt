@@ -23,9 +23,9 @@ use Rattle.chan_model.specs.declared.unit_state.SideState.{SideState}
 use Rattle.chan_model.specs.declared.unit_state.UnitState.{UnitState}
 use Rattle.chan_model.specs.Sides.{same_side}
 use Rattle.chan_model.specs.UnitTable.{UnitStep, sends, side_of, is_owner, is_owner_on, is_idle, reset_side, telling, unit_works, unit_takes, unit_after, leaving, leaving_from, asking, asking_from, attending, restarted, noticing}
-use Rattle.chan_model.specs.UnitReports.{absorbed, is_to_supply, most_of, sent_again, may_end, is_outward, answer_taken, report_on, report_of}
+use Rattle.chan_model.specs.UnitReports.{report_absorbed, is_to_supply, most_of, sent_again, may_end, is_outward, answer_taken, report_on, report_of}
 use Rattle.agreement_laws.specs.Moving.{UnitAct, Takes_down, Leaves, Asks, Attends, Restarts, Notices, Reports, unit_steps, is_owner_side, sent_by, up_sent}
-use Rattle.agreement_laws.specs.Invariant.{Seen, Idle, Fresh, Owns, Ends, ends, ends_of, seen_by, IsResetTo, IsResetGood, IsDownGood, IsFreshFree}
+use Rattle.agreement_laws.specs.Invariant.{SideSeen, Idle, Fresh, Owns, Ends, ends_seen, ends_of, seen_by, IsResetTo, IsResetGood, IsDownGood, IsFreshFree}
 use Rattle.agreement_laws.proofs.UnitKeeps.{UnitMoves, Stays, Clears, by_path}
 use Rattle.agreement_laws.proofs.UnitKeeps as keeps
 use Rattle.agreement_laws.proofs.UnitActs.{IsStep, IsGiven, at, working, marked, nothing, unseen, unseen-if, step-if, select-steps, given-steps, answered-steps, forgetting-steps, granted-steps, refused-steps, releasing-steps, telling-steps}
@@ -35,14 +35,14 @@ abbrev side_at : ℕ → Bool → SideState
 side_at f fresh = record { floor = f; fresh = fresh }
 
 -- Reset, with the unit's own restart count
-above-floor : (f r : ℕ) (fresh : Bool) (b : ℕ) (o : Seen) (k n s : ℕ) (h : HoldState) → (fresh || nat_lt f r) ≡ true →
+above-floor : (f r : ℕ) (fresh : Bool) (b : ℕ) (o : SideSeen) (k n s : ℕ) (h : HoldState) → (fresh || nat_lt f r) ≡ true →
     IsResetGood (record { drawn = n; phase = h.phase; last = s; known = k; restarts = b; floor = f; seen = (if fresh then Fresh else o) }) r b → (f < r) × IsResetTo h.phase r
 above-floor f r true b o k n s h e g = elim g [ inl y ↦ absurd (omega (arith, y.1)) | inr y ↦ y ]
 above-floor f r false b o k n s h e g = elim g [ inl y ↦ absurd (omega (arith, y.0, ltb-true f r e)) | inr y ↦ y ]
 
-resets-here : (n : ℕ) (h : HoldState) (b f : ℕ) (fresh : Bool) (o : Seen) (p r : ℕ) → (fresh || nat_lt f r) ≡ true → r ≤ n →
-    IsResetGood (ends n h.phase h.seen h.known b f (if fresh then Fresh else o)) r b →
-    UnitMoves (ends n h.phase h.seen h.known b f (if fresh then Fresh else o)) (ends n h.phase h.seen h.known b r Idle) (by_path p (up.Cleared r))
+resets-here : (n : ℕ) (h : HoldState) (b f : ℕ) (fresh : Bool) (o : SideSeen) (p r : ℕ) → (fresh || nat_lt f r) ≡ true → r ≤ n →
+    IsResetGood (ends_seen n h.phase h.seen h.known b f (if fresh then Fresh else o)) r b →
+    UnitMoves (ends_seen n h.phase h.seen h.known b f (if fresh then Fresh else o)) (ends_seen n h.phase h.seen h.known b r Idle) (by_path p (up.Cleared r))
 resets-here n h b f fresh o p r e le g =
     let to : (f < r) × IsResetTo h.phase r = above-floor f r fresh b o h.known n h.seen h e g in
     Clears n h.phase h.seen h.known b f p r (if fresh then Fresh else o) to.0 le to.1
@@ -208,7 +208,7 @@ asking-steps Second u t (Away c) f false y p x =
     record { here = λ n h g. keeps.Asks n h.phase h.seen h.known u.restarts f t p c (Away c) refl; there = λ n h. refl; free_here = λ m. m; free_there = λ m. m }
 
 -- a report changes only the command at hand
-absorbed-steps : (k : Side) (u : UnitState) (p t c : ℕ) (x : AtHand) (given : Option (List ℕ)) (count : ℕ) → IsStep k u (absorbed u p t c x given count) Always
+absorbed-steps : (k : Side) (u : UnitState) (p t c : ℕ) (x : AtHand) (given : Option (List ℕ)) (count : ℕ) → IsStep k u (report_absorbed u p t c x given count) Always
 absorbed-steps k u p t c x None count = nothing k u Always
 absorbed-steps k u p t c x (Some bytes) count = step-if k u (nat_le count (length bytes)) _ Always (unseen k u _ _ Always refl refl refl refl tt)
 

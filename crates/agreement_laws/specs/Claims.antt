@@ -10,7 +10,7 @@ use Rattle.chan_model.specs.Sides.{same_side}
 use Rattle.chan_model.specs.UnitTable.{side_of, resets}
 use Rattle.chan_model.specs.Agreement.{Agrees, IsOutstanding, owner_of, moving_path, device_path}
 use Rattle.agreement_laws.specs.Links.{Links, link_of}
-use Rattle.agreement_laws.specs.Moving.{Cause, Hold_acts, Unit_acts, UnitAct, Takes_down}
+use Rattle.agreement_laws.specs.Moving.{LinkCause, Hold_acts, Unit_acts, UnitAct, Takes_down}
 
 -- subsystem and device agree on the program that holds the device
 abbrev pub DoAgree : Links → Side → Type 0
@@ -37,12 +37,12 @@ abbrev pub IsTakenBy : UnitState → HoldPhase → UnitAct → Side → Type 0
 IsTakenBy u phase (Takes_down k x may) side = (same_side k side ≡ true) × IsReset u phase side x.signal
 IsTakenBy u phase act side = ⊥
 
-abbrev pub IsResetTaken : Links → Cause → Side → Type 0
+abbrev pub IsResetTaken : Links → LinkCause → Side → Type 0
 IsResetTaken w (Hold_acts k act) side = ⊥
 IsResetTaken w (Unit_acts act) side = IsTakenBy w.«unit» (link_of w side).hold.phase act side
 
 -- a reset that isn't yet taken stays so, but where the unit takes it, and they agree after that very step
-abbrev pub EndsByReset : Links → Cause → Links → Side → Type 0
+abbrev pub EndsByReset : Links → LinkCause → Links → Side → Type 0
 EndsByReset old cause new side = IsResetDue old side → IsResetDue new side ⊎ (IsResetTaken old cause side × DoAgree new side)
 
 -- the number t was not accepted, and is below what will be

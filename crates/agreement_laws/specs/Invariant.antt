@@ -19,16 +19,16 @@ use Rattle.chan_model.specs.UnitTable.{side_of, owns}
 use Rattle.agreement_laws.specs.Links.{Link, Links, link_of}
 
 -- the unit as one of its subchannels sees it
-pub data Seen : Type 0 where
-  Idle : Seen
-  Fresh : Seen
-  Owns : (number : ℕ) → (place : Place) → Seen
+pub data SideSeen : Type 0 where
+  Idle : SideSeen
+  Fresh : SideSeen
+  Owns : (number : ℕ) → (place : Place) → SideSeen
 
-abbrev pub seen_own : Own → Side → Seen
+abbrev pub seen_own : Own → Side → SideSeen
 seen_own own.Idle side = Idle
 seen_own (own.Owned k t place) side = if same_side k side then Owns t place else Idle
 
-abbrev pub seen_by : Bool → Own → Side → Seen
+abbrev pub seen_by : Bool → Own → Side → SideSeen
 seen_by fresh o side = if fresh then Fresh else seen_own o side
 
 -- both ends of a link
@@ -39,13 +39,13 @@ pub record Ends : Type 0 where
   pub known : ℕ
   pub restarts : ℕ
   pub floor : ℕ
-  pub seen : Seen
+  pub seen : SideSeen
 
-abbrev pub ends : ℕ → HoldPhase → ℕ → ℕ → ℕ → ℕ → Seen → Ends
-ends n phase s k b f o = record { drawn = n; phase = phase; last = s; known = k; restarts = b; floor = f; seen = o }
+abbrev pub ends_seen : ℕ → HoldPhase → ℕ → ℕ → ℕ → ℕ → SideSeen → Ends
+ends_seen n phase s k b f o = record { drawn = n; phase = phase; last = s; known = k; restarts = b; floor = f; seen = o }
 
 abbrev pub ends_of : ℕ → HoldState → UnitState → Side → Ends
-ends_of n h u side = ends n h.phase h.seen h.known u.restarts (side_of u side).floor (seen_by (side_of u side).fresh u.own side)
+ends_of n h u side = ends_seen n h.phase h.seen h.known u.restarts (side_of u side).floor (seen_by (side_of u side).fresh u.own side)
 
 -- Numbers: the hold's is one that was drawn, and the unit's program is not above the floor.
 abbrev pub IsDrawn : HoldPhase → ℕ → Type 0
@@ -56,7 +56,7 @@ IsDrawn (hold.Away t) n = t ≤ n
 IsDrawn (hold.Letting t p) n = t ≤ n
 IsDrawn (hold.Reset r) n = r ≤ n
 
-abbrev pub IsOwnedBelow : Seen → ℕ → Type 0
+abbrev pub IsOwnedBelow : SideSeen → ℕ → Type 0
 IsOwnedBelow (Owns t place) f = t ≤ f
 IsOwnedBelow o f = Unit {0}
 
@@ -89,7 +89,7 @@ abbrev pub IsResetAbove : HoldPhase → ℕ → Type 0
 IsResetAbove (hold.Reset r) f = f < r
 IsResetAbove phase f = Unit {0}
 
-abbrev pub IsMatched : Ends → Seen → Type 0
+abbrev pub IsMatched : Ends → SideSeen → Type 0
 IsMatched e Idle = IsNotHeld e.phase
 IsMatched e Fresh = e.known ≡ e.restarts → IsResetAbove e.phase e.floor
 IsMatched e (Owns t place) = IsPaired e.phase e.last e.floor t place
@@ -115,7 +115,7 @@ IsReleaseGood (hold.Away u) t = t < u
 IsReleaseGood phase t = Unit {0}
 
 -- Reset: taken already and not due, or above the floor and at most the hold's
-abbrev pub IsNotDue : Seen → ℕ → ℕ → Type 0
+abbrev pub IsNotDue : SideSeen → ℕ → ℕ → Type 0
 IsNotDue Fresh b restarts = b < restarts
 IsNotDue o b restarts = Unit {0}
 
@@ -127,11 +127,11 @@ abbrev pub IsResetGood : Ends → ℕ → ℕ → Type 0
 IsResetGood e r b = ((r ≤ e.floor) × IsNotDue e.seen b e.restarts) ⊎ ((e.floor < r) × IsResetTo e.phase r)
 
 -- Grant: of an older program, or of a connection that was seen; where the unit asks for it, it is the one at hand
-abbrev pub IsAskedOn : Seen → ℕ → ℕ → ℕ → ℕ → Type 0
+abbrev pub IsAskedOn : SideSeen → ℕ → ℕ → ℕ → ℕ → Type 0
 IsAskedOn (Owns v (Ask q e)) p d t c = v ≡ t → e ≡ c → (p ≡ q) × (d ≡ c)
 IsAskedOn o p d t c = Unit {0}
 
-abbrev pub IsGrantGood : HoldPhase → ℕ → Seen → ℕ → ℕ → Type 0
+abbrev pub IsGrantGood : HoldPhase → ℕ → SideSeen → ℕ → ℕ → Type 0
 IsGrantGood (hold.Offer u p) s o t c = t < u
 IsGrantGood (hold.On u p d) s o t c = (t < u) ⊎ ((u ≡ t) × (c ≤ s) × IsAskedOn o p d t c)
 IsGrantGood (hold.Away u) s o t c = (t < u) ⊎ ((u ≡ t) × (c ≤ s))
@@ -150,12 +150,12 @@ IsDownGood e p (down.Halt t) = Unit {0}
 IsDownGood e p (down.Got a) = Unit {0}
 
 -- Signals from the unit. Accept: where it is that of the offer, the unit is not idle
-abbrev pub IsAcceptGood : HoldPhase → Seen → ℕ → Type 0
+abbrev pub IsAcceptGood : HoldPhase → SideSeen → ℕ → Type 0
 IsAcceptGood (hold.Offer u p) Idle t = u ≢ t
 IsAcceptGood phase o t = Unit {0}
 
 -- Busy, Released: not of the program that holds the device
-abbrev pub IsNotOwned : Seen → ℕ → Type 0
+abbrev pub IsNotOwned : SideSeen → ℕ → Type 0
 IsNotOwned (Owns v place) t = v ≢ t
 IsNotOwned o t = Unit {0}
 
@@ -165,7 +165,7 @@ IsBackAt (On q d) p c = c ≤ d
 IsBackAt (Ask q d) p c = (c ≤ d) × (d ≡ c → p ≡ q)
 IsBackAt (Away d) p c = c ≤ d
 
-abbrev pub IsBackGood : Seen → ℕ → ℕ → ℕ → Type 0
+abbrev pub IsBackGood : SideSeen → ℕ → ℕ → ℕ → Type 0
 IsBackGood (Owns v place) p t c = v ≡ t → IsBackAt place p c
 IsBackGood o p t c = Unit {0}
 

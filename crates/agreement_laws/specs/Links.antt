@@ -32,8 +32,8 @@ link_of w Second = w.second
 abbrev pub opening_link : Link
 opening_link = record { drawn = 0; hold = free_hold; downs = []; ups = []; accepted = [] }
 
-abbrev pub opening : Links
-opening = record { «unit» = idle_unit; first = opening_link; second = opening_link }
+abbrev pub opening_links : Links
+opening_links = record { «unit» = idle_unit; first = opening_link; second = opening_link }
 
 -- What may arrive now might have arrived before, or is sent now: signals vanish, repeat and change places.
 abbrev pub Carries : {A : Type 0} → List A → Option A → List A → Type 0

@@ -41,31 +41,31 @@ pub record HoldActed : Type 0 where
 abbrev pub still : ℕ → HoldState → HoldActed
 still n h = record { drawn = n; hold = h; sent = None }
 
-abbrev pub stepped : ℕ → HoldState → Option HoldStep → HoldActed
-stepped n h None = still n h
-stepped n h (Some step) = record { drawn = n; hold = step.state; sent = step.sent }
+abbrev pub hold_stepped : ℕ → HoldState → Option HoldStep → HoldActed
+hold_stepped n h None = still n h
+hold_stepped n h (Some step) = record { drawn = n; hold = step.state; sent = step.sent }
 
 -- a number is drawn for the offer, and for each reset
-abbrev pub offered : ℕ → HoldState → HoldPhase → ℕ → Bool → HoldActed
-offered n h Free p single = stepped (n + 1) h (Some (offering h (n + 1) p single))
-offered n h phase p single = still n h
+abbrev pub hold_offered : ℕ → HoldState → HoldPhase → ℕ → Bool → HoldActed
+hold_offered n h Free p single = hold_stepped (n + 1) h (Some (offering h (n + 1) p single))
+hold_offered n h phase p single = still n h
 
 abbrev pub reset_again : ℕ → HoldState → HoldActed
 reset_again n h = still (n + 1) (resetting h (n + 1))
 
 -- a Notice of more restarts than are known is a cause of a reset
-abbrev pub taken : ℕ → HoldState → ℕ → Up → Bool → HoldActed
-taken n h p (up.Notice b) may = if nat_lt h.known b then reset_again n (record h { known = b }) else still n h
-taken n h p signal may = stepped n h (hold_takes h p signal may)
+abbrev pub hold_taken : ℕ → HoldState → ℕ → Up → Bool → HoldActed
+hold_taken n h p (up.Notice b) may = if nat_lt h.known b then reset_again n (record h { known = b }) else still n h
+hold_taken n h p signal may = hold_stepped n h (hold_takes h p signal may)
 
 abbrev pub hold_acts : ℕ → HoldState → HoldAct → HoldActed
 hold_acts n h Nothing = still n h
-hold_acts n h (Offers p single) = offered n h h.phase p single
-hold_acts n h (Sends_reset p) = stepped n h (sending_reset h h.phase p)
-hold_acts n h Lets_go = stepped n h (letting_go h h.phase)
+hold_acts n h (Offers p single) = hold_offered n h h.phase p single
+hold_acts n h (Sends_reset p) = hold_stepped n h (sending_reset h h.phase p)
+hold_acts n h Lets_go = hold_stepped n h (letting_go h h.phase)
 hold_acts n h Is_reset = reset_again n h
 hold_acts n h (Loses p) = if rests_on h p then reset_again n h else still n h
-hold_acts n h (Takes x may) = taken n h x.path x.signal may
+hold_acts n h (Takes x may) = hold_taken n h x.path x.signal may
 hold_acts n h (Sends x) = record { drawn = n; hold = h; sent = Some x }
 
 -- the signals that a program sends while it holds the device
@@ -128,9 +128,9 @@ pub record LinkStep (old : Link) (acted : HoldActed) (sent : Option (OnPath Up))
   pub accepted : new.accepted ≡ with_accepted old.accepted sent
 
 -- an act of one hold or of the unit
-pub data Cause : Type 0 where
-  Hold_acts : (side : Side) → (act : HoldAct) → Cause
-  Unit_acts : (act : UnitAct) → Cause
+pub data LinkCause : Type 0 where
+  Hold_acts : (side : Side) → (act : HoldAct) → LinkCause
+  Unit_acts : (act : UnitAct) → LinkCause
 
 -- a signal that is taken was sent and has not vanished; one that a program sends is a program's
 abbrev pub IsHoldGiven : Link → HoldAct → Type 0
@@ -142,11 +142,11 @@ abbrev pub IsUnitGiven : Links → UnitAct → Type 0
 IsUnitGiven w (Takes_down side x may) = Contains (link_of w side).downs x
 IsUnitGiven w act = Unit {0}
 
-abbrev pub IsGiven : Links → Cause → Type 0
+abbrev pub IsGiven : Links → LinkCause → Type 0
 IsGiven w (Hold_acts side act) = IsHoldGiven (link_of w side) act
 IsGiven w (Unit_acts act) = IsUnitGiven w act
 
-abbrev pub unit_moved : UnitState → Cause → UnitState
+abbrev pub unit_moved : UnitState → LinkCause → UnitState
 unit_moved u (Hold_acts side act) = u
 unit_moved u (Unit_acts act) = unit_after u (unit_steps u act)
 
@@ -154,16 +154,16 @@ unit_moved u (Unit_acts act) = unit_after u (unit_steps u act)
 abbrev pub act_if : Bool → HoldAct → HoldAct
 act_if b act = if b then act else Nothing
 
-abbrev pub act_at : Cause → Side → HoldAct
+abbrev pub act_at : LinkCause → Side → HoldAct
 act_at (Hold_acts k act) side = act_if (same_side k side) act
 act_at (Unit_acts act) side = Nothing
 
-abbrev pub sent_at : UnitState → Cause → Side → Option (OnPath Up)
+abbrev pub sent_at : UnitState → LinkCause → Side → Option (OnPath Up)
 sent_at u (Hold_acts k act) side = None
 sent_at u (Unit_acts act) side = up_sent u act side
 
 -- one step: an act, and the signals that may still arrive after it
-pub record Step (old : Links) (cause : Cause) (new : Links) : Type 0 where
+pub record LinksStep (old : Links) (cause : LinkCause) (new : Links) : Type 0 where
   pub given : IsGiven old cause
   pub «unit» : new.«unit» ≡ unit_moved old.«unit» cause
   pub first : LinkStep old.first (hold_acts old.first.drawn old.first.hold (act_at cause First)) (sent_at old.«unit» cause First) new.first

@@ -2,7 +2,7 @@
 use Rattle.std.proofs.Common.{◌≡◌, refl, zero, suc, sym, ◌∙◌, ap, ℕ, Bool, true, false, not, ◌&&◌, Option, Some, List}
 use Rattle.std.proofs.lemmas.Bool.{eqb-true}
 use Rattle.allegiance.specs.declared.path_use.PathUse.{PathUse}
-use Rattle.allegiance.specs.PathUse.{is_member, each_path, both, without, keeps_dedicated, is_allowed, allowed_paths, reachable_paths, usable_paths}
+use Rattle.allegiance.specs.PathUse.{is_member, each_path, in_both, without, keeps_dedicated, is_allowed, allowed_paths, reachable_paths, usable_paths}
 
 pub first-holds : (a b : Bool) → (a && b) ≡ true → a ≡ true
 first-holds true b h = refl
@@ -24,7 +24,7 @@ member-passes f (suc (suc (suc (suc (suc (suc (suc zero))))))) h = h
 member-passes f (suc (suc (suc (suc (suc (suc (suc (suc n)))))))) h = cc
 
 -- a member of both sets is a member of the first, and so is one of the first set without the second
-pub both-first : (a b : List Bool) (path : ℕ) → is_member (both a b) path ≡ true → is_member a path ≡ true
+pub both-first : (a b : List Bool) (path : ℕ) → is_member (in_both a b) path ≡ true → is_member a path ≡ true
 both-first a b path h =
     first-holds (is_member a path) (is_member b path) (member-passes (λ p. is_member a p && is_member b p) path h)
 
@@ -36,7 +36,7 @@ without-first a b path h =
 pub usable-keeps : (u : PathUse) (engaged : List Bool) (d path : ℕ) → u.dedicated ≡ Some d → is_member (usable_paths u engaged) path ≡ true → d ≡ path
 usable-keeps u engaged d path stands h =
     let reachable : is_member (reachable_paths u) path ≡ true = without-first (reachable_paths u) engaged path h in
-    let installed : is_member (both (allowed_paths u) u.installed) path ≡ true = both-first (both (allowed_paths u) u.installed) u.available path reachable in
+    let installed : is_member (in_both (allowed_paths u) u.installed) path ≡ true = both-first (in_both (allowed_paths u) u.installed) u.available path reachable in
     let allowed : is_member (allowed_paths u) path ≡ true = both-first (allowed_paths u) u.installed path installed in
     let keeps : keeps_dedicated u.dedicated path ≡ true =
     second-holds (is_member u.logical path) (keeps_dedicated u.dedicated path) (member-passes (is_allowed u.logical u.dedicated) path allowed) in

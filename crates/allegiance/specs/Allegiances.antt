@@ -5,8 +5,8 @@ use Rattle.chan_model.specs.declared.hold_state.HoldPhase.{HoldPhase}
 use Rattle.chan_model.specs.declared.hold_state.HoldPhase.TheVariants.{On}
 use Rattle.chan_model.specs.declared.hold_state.HoldState.{HoldState}
 use Rattle.chan_model.specs.ResetCauses.{is_path, engaged_path, is_held, is_reset}
-use Rattle.allegiance.specs.declared.allegiances.Cause.{Cause}
-use Rattle.allegiance.specs.declared.allegiances.Cause.TheVariants.{Data, End, Clear, SystemReset}
+use Rattle.allegiance.specs.declared.allegiances.AllegianceCause.{AllegianceCause}
+use Rattle.allegiance.specs.declared.allegiances.AllegianceCause.TheVariants.{Data, End, Clear, SystemReset}
 use Rattle.allegiance.specs.PathUse.{is_member}
 
 -- the path on which the program was connected last: the one at hand, otherwise the last-used path
@@ -33,7 +33,7 @@ rests_by h working p =
 abbrev pub unless_later : Option ℕ → Bool → Option ℕ
 unless_later dedicated later = if later then None else dedicated
 
-abbrev pub dedicated_after : Option ℕ → Cause → Option ℕ
+abbrev pub dedicated_after : Option ℕ → AllegianceCause → Option ℕ
 dedicated_after dedicated (Data later) = unless_later dedicated later
 dedicated_after dedicated (End path unit_check later) = if unit_check then Some path else unless_later dedicated later
 dedicated_after dedicated Clear = None

@@ -10,8 +10,8 @@ is_member set path = slice_index_or set path false
 abbrev pub each_path : (ℕ → Bool) → List Bool
 each_path f = f 0 ∷ f 1 ∷ f 2 ∷ f 3 ∷ f 4 ∷ f 5 ∷ f 6 ∷ f 7 ∷ []
 
-abbrev pub both : List Bool → List Bool → List Bool
-both a b = each_path (λ p. is_member a p && is_member b p)
+abbrev pub in_both : List Bool → List Bool → List Bool
+in_both a b = each_path (λ p. is_member a p && is_member b p)
 
 abbrev pub without : List Bool → List Bool → List Bool
 without a b = each_path (λ p. is_member a p && not (is_member b p))
@@ -38,7 +38,7 @@ allowed_paths u = each_path (is_allowed u.logical u.dedicated)
 
 -- within reach: allowed, installed and available
 abbrev pub reachable_paths : PathUse → List Bool
-reachable_paths u = both (both (allowed_paths u) u.installed) u.available
+reachable_paths u = in_both (in_both (allowed_paths u) u.installed) u.available
 
 -- usable: within reach, and the path's engine is free
 abbrev pub usable_paths : PathUse → List Bool → List Bool
@@ -46,7 +46,7 @@ usable_paths u engaged = without (reachable_paths u) engaged
 
 -- found not operational: allowed, installed and taken to be operational, but not available
 abbrev pub lost_paths : PathUse → List Bool
-lost_paths u = both (without (both (allowed_paths u) u.installed) u.available) u.operational
+lost_paths u = in_both (without (in_both (allowed_paths u) u.installed) u.available) u.operational
 
 -- such a path leaves the path-operational mask for the path-not-operational mask
 abbrev pub marked : PathUse → PathUse

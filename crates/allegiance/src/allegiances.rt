@@ -11,7 +11,7 @@ use chan_model::paths::PathSet;
 /// What may change a dedicated allegiance (own). `later` says of a signal that it is the first Data or End of the first
 /// command of a program that was started after the one whose unit check brought the allegiance.
 #[derive(Clone, Copy, Debug)]
-pub enum Cause {
+pub enum AllegianceCause {
     /// A Data was taken.
     Data {
         later: bool,
@@ -58,12 +58,12 @@ pub fn working(hold: &HoldState, last_used: Option<Path>) -> Option<Path>
 
 /// The dedicated allegiance after such a cause, where this one stood before: the path that the subchannel is bound to, or
 /// None.
-pub fn dedicated(before: Option<Path>, cause: Cause) -> Option<Path>
+pub fn dedicated(before: Option<Path>, cause: AllegianceCause) -> Option<Path>
     ensures { result ≡ spec.dedicated_after before cause }
 {
     match cause {
-        Cause::Data { later } => unless_later(before, later),
-        Cause::End {
+        AllegianceCause::Data { later } => unless_later(before, later),
+        AllegianceCause::End {
             path,
             unit_check,
             later,
@@ -74,7 +74,7 @@ pub fn dedicated(before: Option<Path>, cause: Cause) -> Option<Path>
                 unless_later(before, later)
             }
         }
-        Cause::Clear | Cause::SystemReset => None,
+        AllegianceCause::Clear | AllegianceCause::SystemReset => None,
     }
 }
 

@@ -89,7 +89,7 @@ impl PathUse {
 
 /// The paths of both sets.
 fn both(first: &PathSet, second: &PathSet) -> PathSet
-    ensures { result ≡ spec.both first.now second.now }
+    ensures { result ≡ spec.in_both first.now second.now }
 {
     [
         first[0] && second[0],

@@ -6,7 +6,7 @@ ghost use Rattle.zbits.specs.Layout.{AllFit, AllShow, image_of};
 
 use crate::fault::{bit, fault_in_1};
 use crate::{Ccw, CcwFault};
-use zbits::layout::{Entry, at, flag_at, zeros};
+use zbits::layout::{BitField, at, flag_at, zeros};
 use zbits::{be_words, field};
 
 impl Ccw {
@@ -47,7 +47,7 @@ impl Ccw {
         }
     }
 
-    pub(crate) fn front_1(&self) -> [Entry; 10]
+    pub(crate) fn front_1(&self) -> [BitField; 10]
         ensures table { result ≡ first_1 self.now }
         ensures fit { AllFit result }
     {
@@ -65,7 +65,7 @@ impl Ccw {
         ]
     }
 
-    pub(crate) fn rest_1(&self) -> [Entry; 2]
+    pub(crate) fn rest_1(&self) -> [BitField; 2]
         ensures table { result ≡ second_1 self.now }
         ensures fit { AllFit result }
     {

@@ -6,7 +6,7 @@ ghost use Rattle.zbits.specs.Layout.{AllFit, AllShow, image_of};
 
 use crate::fault::{bit, effective, fault_in_0};
 use crate::{Ccw, CcwFault};
-use zbits::layout::{Entry, at, flag_at, zeros};
+use zbits::layout::{BitField, at, flag_at, zeros};
 use zbits::{be_words, field};
 
 impl Ccw {
@@ -47,7 +47,7 @@ impl Ccw {
         }
     }
 
-    pub(crate) fn front_0(&self) -> [Entry; 2]
+    pub(crate) fn front_0(&self) -> [BitField; 2]
         requires { self.now.address < 2 ^ 24 }
         ensures table { result ≡ first_0 self.now }
         ensures fit { AllFit result }
@@ -55,7 +55,7 @@ impl Ccw {
         [at(0, 7, u32::from(self.command)), at(8, 31, self.address)]
     }
 
-    pub(crate) fn rest_0(&self) -> [Entry; 10]
+    pub(crate) fn rest_0(&self) -> [BitField; 10]
         ensures table { result ≡ second_0 self.now }
         ensures fit { AllFit result }
     {

@@ -4,11 +4,11 @@ use Rattle.orb_block.specs.declared.Orb.{Orb}
 use Rattle.channel_program.specs.declared.Reading.{Reading}
 use Rattle.channel_program.specs.declared.Reading.TheVariants.{Transfers}
 use Rattle.channel_program.specs.Acts.{Act}
-use Rattle.channel_program.specs.Walks.{Place, place}
+use Rattle.channel_program.specs.Walks.{WalkPlace, walk_place}
 
 -- wherever what was done before led to the old place, some acts more lead to the new one
-abbrev pub GoesOn : Place → List Act → Place → Type 0
-GoesOn old acts new = (orb : Orb) (before : List Act) → old ≡ place orb before → new ≡ place orb (acts ++ before)
+abbrev pub GoesOn : WalkPlace → List Act → WalkPlace → Type 0
+GoesOn old acts new = (orb : Orb) (before : List Act) → old ≡ walk_place orb before → new ≡ walk_place orb (acts ++ before)
 
 -- the target of a transfer in channel has 31 bits
 abbrev pub IsTargetInRange : Reading → Type 0

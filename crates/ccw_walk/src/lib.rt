@@ -4,7 +4,7 @@
 ghost use Rattle.std.specs.Prelude.{◌≡◌, ◌+◌, ◌<◌, ◌^◌, ◌↔◌, [], ◌∷◌, Some, IsSome, IfOk, IfErr, OnOk};
 ghost use Rattle.channel_program.specs.Acts.{Block, Unfetched, Used_up, End};
 ghost use Rattle.channel_program.specs.Blocks.{reads};
-ghost use Rattle.channel_program.specs.Walks.{place, after_block, after_unfetched, after_used_up, after_end, after, after_acts, fetch_act, advance_acts, act_advance, advance_of};
+ghost use Rattle.channel_program.specs.Walks.{walk_place, after_block, after_unfetched, after_used_up, walk_after_end, after_act, after_acts, fetch_act, advance_acts, act_advance, advance_of};
 ghost use Rattle.channel_program.specs.Walks as spec;
 ghost use Rattle.storage_keys.specs.Storage.{fetched as storage_fetched};
 ghost use Rattle.ccw_walk.specs.Going.{GoesOn};
@@ -34,9 +34,9 @@ pub struct Walk {
 
 impl Model for Walk {
     ghost use Rattle.std.specs.Prelude.{◌+◌, ◌<◌, ◌^◌, IfSome};
-    ghost use Rattle.channel_program.specs.Walks.{Place};
+    ghost use Rattle.channel_program.specs.Walks.{WalkPlace};
 
-    ghost Value = { Place };
+    ghost Value = { WalkPlace };
 
     ghost view = { λ w. record { orb = w.orb; role = w.role; latest = w.latest; next = w.next; tried = w.tried } };
 
@@ -48,7 +48,7 @@ impl Model for Walk {
 impl Walk {
     /// A program of which nothing was fetched: its first block is next.
     pub fn start(orb: Orb) -> Walk
-        ensures { result ≡ place orb [] }
+        ensures { result ≡ walk_place orb [] }
     {
         Walk {
             orb,
@@ -155,7 +155,7 @@ impl Walk {
     /// The command ended. Where its last block chains commands and not data, and the ending status
     /// lets the program go on, the next block is 8 bytes on, or 16 with status modifier.
     pub fn device_end(&mut self, ended: Ended)
-        ensures after { self.new ≡ after_end self.old ended }
+        ensures after { self.new ≡ walk_after_end self.old ended }
         ensures goes_on { GoesOn self.old (End ended ∷ []) self.new }
     {
         self.next = match self.latest {
@@ -193,7 +193,7 @@ impl Walk {
     fn step(&mut self, storage: &Storage, address: u32) -> Option<Advance>
         requires { self.old.next ≡ Some address }
         ensures answer { result ≡ act_advance self.old (fetch_act storage.now self.old.orb self.old.role address) }
-        ensures after { self.new ≡ after self.old (fetch_act storage.now self.old.orb self.old.role address) }
+        ensures after { self.new ≡ after_act self.old (fetch_act storage.now self.old.orb self.old.role address) }
     {
         match self.block_at(storage, address) {
             Err(check) => {

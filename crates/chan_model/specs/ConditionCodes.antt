@@ -24,11 +24,11 @@ abbrev pub stcrw_code : {A : Type 0} → Option A → ConditionCode
 stcrw_code report = if is_none report then One else Zero
 
 -- a code with the serials of the subchannel, where it brings them
-abbrev pub answer_of : ConditionCode → Serials → Answer
-answer_of Zero serials = answer.Zero serials
-answer_of One serials = answer.One serials
-answer_of Two serials = answer.Two
-answer_of Three serials = answer.Three
+abbrev pub answer_of_code : ConditionCode → Serials → Answer
+answer_of_code Zero serials = answer.Zero serials
+answer_of_code One serials = answer.One serials
+answer_of_code Two serials = answer.Two
+answer_of_code Three serials = answer.Three
 
 abbrev pub code_of : Answer → ConditionCode
 code_of (answer.Zero serials) = Zero

@@ -41,5 +41,5 @@ rests_on h p =
     || (is_reset h.phase && is_path h.reset_path p))
 
 -- the hold after its path p went down or was reset, r being drawn for it
-abbrev pub path_lost : HoldState → ℕ → ℕ → HoldState
-path_lost h p r = if rests_on h p then resetting h r else h
+abbrev pub hold_path_lost : HoldState → ℕ → ℕ → HoldState
+hold_path_lost h p r = if rests_on h p then resetting h r else h

@@ -89,23 +89,23 @@ data_sent u p t c x load = sends (record u { at_hand = Some x }) p (up.Data t c 
 abbrev pub with_absorbed : AtHand → ℕ → AtHand
 with_absorbed x count = record x { progress = progress.Working; given = None; unanswered = Some (load.Absorbed count) }
 
-abbrev pub begun : UnitState → ℕ → ℕ → ℕ → AtHand → Option UnitStep
-begun u p t c x =
+abbrev pub command_begun : UnitState → ℕ → ℕ → ℕ → AtHand → Option UnitStep
+command_begun u p t c x =
     if is_outward x.code then data_sent u p t c (with_absorbed x 0) (load.Absorbed 0)
     else changes (record u { at_hand = Some (record x { progress = progress.Working }) })
 
 -- at most the bytes that were given are absorbed
-abbrev pub absorbed : UnitState → ℕ → ℕ → ℕ → AtHand → Option (List ℕ) → ℕ → Option UnitStep
-absorbed u p t c x None count = None
-absorbed u p t c x (Some bytes) count =
+abbrev pub report_absorbed : UnitState → ℕ → ℕ → ℕ → AtHand → Option (List ℕ) → ℕ → Option UnitStep
+report_absorbed u p t c x None count = None
+report_absorbed u p t c x (Some bytes) count =
     if nat_le count (length bytes) then data_sent u p t c (with_absorbed x count) (load.Absorbed count) else None
 
 -- the next chunk of a read: no more bytes than are asked for
 abbrev pub with_supplied : AtHand → List ℕ → AtHand
 with_supplied x bytes = record x { sequence = x.sequence + 1; unanswered = Some (load.Bytes bytes); asked = most_of x }
 
-abbrev pub supplied : UnitState → ℕ → ℕ → ℕ → AtHand → List ℕ → Option UnitStep
-supplied u p t c x bytes =
+abbrev pub report_supplied : UnitState → ℕ → ℕ → ℕ → AtHand → List ℕ → Option UnitStep
+report_supplied u p t c x bytes =
     if is_to_supply x && nat_le (length bytes) (most_of x) then data_sent u p t c (with_supplied x bytes) (load.Bytes bytes) else None
 
 -- a Data that was not answered before a leave, on the connection at hand
@@ -120,19 +120,19 @@ shown_end progress.Working status = status
 shown_end progress.ChannelEnded status = without_channel_end status
 shown_end progress.Ended status = status
 
-abbrev pub after_end : DeviceStatus → Progress
-after_end status = if is_last_end status then progress.Ended else progress.ChannelEnded
+abbrev pub progress_after_end : DeviceStatus → Progress
+progress_after_end status = if is_last_end status then progress.Ended else progress.ChannelEnded
 
 abbrev pub end_sent : UnitState → ℕ → ℕ → AtHand → DeviceStatus → Bool → Option UnitStep
 end_sent u p t x status more =
-    sends (record u { at_hand = Some (record x { progress = after_end status }) }) p (up.End t u.last_command status more)
+    sends (record u { at_hand = Some (record x { progress = progress_after_end status }) }) p (up.End t u.last_command status more)
 
 -- an answer of the device, at each progress of the command at hand
 abbrev pub answer_taken : UnitState → ℕ → ℕ → ℕ → AtHand → Progress → DeviceAnswer → Option UnitStep
 answer_taken u p t c x at (Ended status more) = if may_end u.halted x at status more then end_sent u p t x (shown_end at status) more else None
-answer_taken u p t c x progress.New Begins = begun u p t c x
-answer_taken u p t c x progress.Working (Absorbed count) = absorbed u p t c x x.given count
-answer_taken u p t c x progress.Working (Supplied bytes) = supplied u p t c x bytes
+answer_taken u p t c x progress.New Begins = command_begun u p t c x
+answer_taken u p t c x progress.Working (Absorbed count) = report_absorbed u p t c x x.given count
+answer_taken u p t c x progress.Working (Supplied bytes) = report_supplied u p t c x bytes
 answer_taken u p t c x progress.Working Again = sent_again u p t c x x.unanswered
 answer_taken u p t c x at answer = None
 

@@ -95,12 +95,12 @@ commanded u side t n code room =
     else None
 
 -- Give: the next chunk of the command at hand; no bytes stop the transfer
-abbrev pub kept : List ℕ → Option (List ℕ)
-kept [] = None
-kept (b ∷ bs) = Some (b ∷ bs)
+abbrev pub kept_bytes : List ℕ → Option (List ℕ)
+kept_bytes [] = None
+kept_bytes (b ∷ bs) = Some (b ∷ bs)
 
 abbrev pub with_given : AtHand → ℕ → List ℕ → AtHand
-with_given x s bytes = record x { sequence = s; unanswered = None; again = false; given = kept bytes; stopped = x.stopped || (length bytes == 0) }
+with_given x s bytes = record x { sequence = s; unanswered = None; again = false; given = kept_bytes bytes; stopped = x.stopped || (length bytes == 0) }
 
 abbrev pub given_next : UnitState → Option AtHand → ℕ → List ℕ → Option UnitStep
 given_next u None s bytes = None
@@ -111,19 +111,19 @@ given u side t c n s bytes =
     if is_owner_on u.own side t c && (n == u.last_command) then given_next u u.at_hand s bytes else None
 
 -- Took: the last Data is answered; no room, or fewer bytes than were asked for, stop the transfer
-abbrev pub with_answer : AtHand → Load → ℕ → AtHand
-with_answer x load room = record x { unanswered = None; again = false; room = room; stopped = x.stopped || ((room == 0) || nat_lt (load_length load) x.asked) }
+abbrev pub at_hand_answered : AtHand → Load → ℕ → AtHand
+at_hand_answered x load room = record x { unanswered = None; again = false; room = room; stopped = x.stopped || ((room == 0) || nat_lt (load_length load) x.asked) }
 
 abbrev pub answered_load : UnitState → AtHand → Option Load → ℕ → Option UnitStep
 answered_load u x None room = None
-answered_load u x (Some load) room = changes (record u { at_hand = Some (with_answer x load room) })
+answered_load u x (Some load) room = changes (record u { at_hand = Some (at_hand_answered x load room) })
 
 abbrev pub answered_last : UnitState → Option AtHand → ℕ → ℕ → Option UnitStep
 answered_last u None s room = None
 answered_last u (Some x) s room = if s == x.sequence then answered_load u x x.unanswered room else None
 
-abbrev pub answered : UnitState → Side → ℕ → ℕ → ℕ → ℕ → Option UnitStep
-answered u side t n s room =
+abbrev pub unit_answered : UnitState → Side → ℕ → ℕ → ℕ → ℕ → Option UnitStep
+unit_answered u side t n s room =
     if is_owner u.own side t && (n == u.last_command) then answered_last u u.at_hand s room else None
 
 -- Grant: of the connection asked for; an older one is answered by Leave
@@ -139,17 +139,17 @@ granted u Idle side p t c = None
 granted u (Owned k v place) side p t c = if same_side k side && (t == v) then granted_at u k v place p c else None
 
 -- Refuse: of the connection asked for
-abbrev pub refused_at : UnitState → Side → ℕ → Place → ℕ → Option UnitStep
-refused_at u side t (Ask q d) c = if c == d then changes (record u { own = Owned side t (Away d) }) else None
-refused_at u side t place c = None
+abbrev pub grant_refused_at : UnitState → Side → ℕ → Place → ℕ → Option UnitStep
+grant_refused_at u side t (Ask q d) c = if c == d then changes (record u { own = Owned side t (Away d) }) else None
+grant_refused_at u side t place c = None
 
-abbrev pub refused : UnitState → Own → Side → ℕ → ℕ → Option UnitStep
-refused u Idle side t c = None
-refused u (Owned k v place) side t c = if same_side k side && (t == v) then refused_at u k v place c else None
+abbrev pub grant_refused : UnitState → Own → Side → ℕ → ℕ → Option UnitStep
+grant_refused u Idle side t c = None
+grant_refused u (Owned k v place) side t c = if same_side k side && (t == v) then grant_refused_at u k v place c else None
 
 -- Halt: once for a program
-abbrev pub halting : UnitState → Side → ℕ → Option UnitStep
-halting u side t = if is_owner u.own side t && not u.halted then changes (record u { halted = true }) else None
+abbrev pub unit_halting : UnitState → Side → ℕ → Option UnitStep
+unit_halting u side t = if is_owner u.own side t && not u.halted then changes (record u { halted = true }) else None
 
 -- Release: by the program that holds the device
 abbrev pub releasing : UnitState → Side → ℕ → ℕ → Option UnitStep
@@ -179,10 +179,10 @@ abbrev pub unit_works : UnitState → Side → ℕ → Down → Bool → Option 
 unit_works u side p (down.Select t) may = if nat_lt (side_of u side).floor t then selected (raised u side t) u.own side p t may else None
 unit_works u side p (down.Command t n code room) may = commanded u side t n code room
 unit_works u side p (down.Grant t c) may = granted u u.own side p t c
-unit_works u side p (down.Refuse t c) may = refused u u.own side t c
-unit_works u side p (down.Took t n s room) may = answered u side t n s room
+unit_works u side p (down.Refuse t c) may = grant_refused u u.own side t c
+unit_works u side p (down.Took t n s room) may = unit_answered u side t n s room
 unit_works u side p (down.Give t c n s bytes) may = given u side t c n s bytes
-unit_works u side p (down.Halt t) may = halting u side t
+unit_works u side p (down.Halt t) may = unit_halting u side t
 unit_works u side p (down.Release t) may = releasing u side p t
 unit_works u side p (down.Reset r b) may = None
 unit_works u side p (down.Got a) may = forgetting u u.attention side a

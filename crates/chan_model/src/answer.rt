@@ -24,11 +24,11 @@ pub enum Answer {
 }
 
 impl Answer {
-    ghost use Rattle.chan_model.specs.ConditionCodes.{answer_of, code_of};
+    ghost use Rattle.chan_model.specs.ConditionCodes.{answer_of_code, code_of};
 
     /// The answer of a code, for a subchannel with these serials.
     pub fn of(code: ConditionCode, serials: Serials) -> Self
-        ensures { result ≡ answer_of code serials }
+        ensures { result ≡ answer_of_code code serials }
     {
         match code {
             ConditionCode::Zero => Answer::Zero(serials),

@@ -17,19 +17,19 @@ use Rattle.channel_program.specs.declared.Reading.TheVariants.{Transfers, Takes,
 use Rattle.channel_program.specs.Acts.{Act, Block, Unfetched, Used_up, End, Word}
 use Rattle.channel_program.specs.Blocks.{reads, block_reads, command_reads, transfer_reads, is_misplaced_command, format_of}
 use Rattle.channel_program.specs.Programs.{next as next_of, next_after, role_of, role_after, IsProgram}
-use Rattle.channel_program.specs.Walks.{Place, place, after, after_block, after_acts, is_program_misplaced, act_of_fetch, fetch_act, with_target, acts_from, acts_at, block_advance, act_advance, advance_of}
+use Rattle.channel_program.specs.Walks.{WalkPlace, walk_place, after_act, after_block, after_acts, is_program_misplaced, act_of_fetch, fetch_act, with_target, acts_from, acts_at, block_advance, act_advance, advance_of}
 
 -- the place some acts further
-pub after-place : (orb : Orb) (before : List Act) (act : Act) → after (place orb before) act ≡ place orb (act ∷ before)
+pub after-place : (orb : Orb) (before : List Act) (act : Act) → after_act (walk_place orb before) act ≡ walk_place orb (act ∷ before)
 after-place orb before (Block address bytes) = refl
 after-place orb before (Unfetched address check) = refl
 after-place orb before Used_up = refl
 after-place orb before (End ended) = refl
 after-place orb before (Word word) = refl
 
-pub after_acts-place : (orb : Orb) (before acts : List Act) → after_acts (place orb before) acts ≡ place orb (acts ++ before)
+pub after_acts-place : (orb : Orb) (before acts : List Act) → after_acts (walk_place orb before) acts ≡ walk_place orb (acts ++ before)
 after_acts-place orb before [] = refl
-after_acts-place orb before (act ∷ acts) = ap (λ (p : Place). after p act) (after_acts-place orb before acts) ∙ after-place orb (acts ++ before) act
+after_acts-place orb before (act ∷ acts) = ap (λ (p : WalkPlace). after_act p act) (after_acts-place orb before acts) ∙ after-place orb (acts ++ before) act
 
 -- a block is fetched, or cannot be
 fetch_or_check : (P : Act → Type 0) (test : Bool) (address : ℕ) (answer : Result (List ℕ) StorageFault) → ((bytes : List ℕ) → P (Block address bytes)) → ((check : Check) → P (Unfetched address check))
@@ -42,7 +42,7 @@ fetch_cases : (P : Act → Type 0) (storage : Contents) (orb : Orb) (role : Role
 fetch_cases P storage orb role address b u = fetch_or_check P (role.first && is_program_misplaced orb address) address (fetched storage orb.key address 8) b u
 
 -- a transfer in channel is followed by the block at its target
-follows_block : (storage : Contents) (now : Place) (acts : List Act) (address target : ℕ) (reading : Reading) → block_advance reading ≡ None → next_after address reading ≡ Some target
+follows_block : (storage : Contents) (now : WalkPlace) (acts : List Act) (address target : ℕ) (reading : Reading) → block_advance reading ≡ None → next_after address reading ≡ Some target
     → with_target storage now reading acts ≡ fetch_act storage now.orb now.role target ∷ acts
 follows_block storage now acts address target (Transfers other) h n =
     let same : other ≡ target = cc n in
@@ -51,10 +51,10 @@ follows_block storage now acts address target (Takes ccw) h n = absurd (cc h)
 follows_block storage now acts address target Suspends h n = absurd (cc h)
 follows_block storage now acts address target Shows h n = absurd (cc h)
 
-pub follows : (storage : Contents) (old : Place) (address target : ℕ) → let act = fetch_act storage old.orb old.role address in
-    act_advance old act ≡ None → (after old act).next ≡ Some target → acts_from storage old act ≡ fetch_act storage (after old act).orb (after old act).role target ∷ act ∷ []
+pub follows : (storage : Contents) (old : WalkPlace) (address target : ℕ) → let act = fetch_act storage old.orb old.role address in
+    act_advance old act ≡ None → (after_act old act).next ≡ Some target → acts_from storage old act ≡ fetch_act storage (after_act old act).orb (after_act old act).role target ∷ act ∷ []
 follows storage old address target =
-    fetch_cases (λ act. act_advance old act ≡ None → (after old act).next ≡ Some target → acts_from storage old act ≡ fetch_act storage (after old act).orb (after old act).role target ∷ act ∷ []) storage old.orb old.role address
+    fetch_cases (λ act. act_advance old act ≡ None → (after_act old act).next ≡ Some target → acts_from storage old act ≡ fetch_act storage (after_act old act).orb (after_act old act).role target ∷ act ∷ []) storage old.orb old.role address
     (λ bytes h n. follows_block storage (after_block old address bytes) (Block address bytes ∷ []) address target (reads old.orb old.role bytes) h n)
     (λ check h n. absurd (cc h))
 
@@ -85,31 +85,31 @@ reading_stands : (orb : Orb) (role : Role) (bytes : List ℕ) → role.after_tra
 reading_stands orb role bytes h =
     pick (role.first && orb.modified_words) Shows (block_reads orb role (fault_of (format_of orb) bytes) (ccw_of (format_of orb) bytes)) refl (block_stands orb role (fault_of (format_of orb) bytes) (ccw_of (format_of orb) bytes) h)
 
-act_stands : (storage : Contents) (old : Place) (address : ℕ) → old.role.after_transfer ≡ true → IsSome (act_advance old (fetch_act storage old.orb old.role address))
+act_stands : (storage : Contents) (old : WalkPlace) (address : ℕ) → old.role.after_transfer ≡ true → IsSome (act_advance old (fetch_act storage old.orb old.role address))
 act_stands storage old address h =
     fetch_cases (λ act. IsSome (act_advance old act)) storage old.orb old.role address (λ bytes. reading_stands old.orb old.role bytes h) (λ check. refl)
 
-target_stands : (storage : Contents) (old now : Place) (acts : List Act) (reading : Reading) → now ≡ after_acts old acts → advance_of old acts ≡ block_advance reading → (block_advance reading ≡ None → now.role.after_transfer ≡ true)
+target_stands : (storage : Contents) (old now : WalkPlace) (acts : List Act) (reading : Reading) → now ≡ after_acts old acts → advance_of old acts ≡ block_advance reading → (block_advance reading ≡ None → now.role.after_transfer ≡ true)
     → IsSome (advance_of old (with_target storage now reading acts))
 target_stands storage old now acts (Transfers target) n a t =
-    subst (λ (p : Place). IsSome (act_advance p (fetch_act storage now.orb now.role target))) n (act_stands storage now target (t refl))
+    subst (λ (p : WalkPlace). IsSome (act_advance p (fetch_act storage now.orb now.role target))) n (act_stands storage now target (t refl))
 target_stands storage old now acts (Takes ccw) n a t = subst (λ (x : Option Advance). IsSome x) (sym a) refl
 target_stands storage old now acts Suspends n a t = subst (λ (x : Option Advance). IsSome x) (sym a) refl
 target_stands storage old now acts Shows n a t = subst (λ (x : Option Advance). IsSome x) (sym a) refl
 
-pub advance_stands : (storage : Contents) (old : Place) (next : Option ℕ) → IsSome next → IsSome (advance_of old (acts_at storage old next))
+pub advance_stands : (storage : Contents) (old : WalkPlace) (next : Option ℕ) → IsSome next → IsSome (advance_of old (acts_at storage old next))
 advance_stands storage old None s = absurd (cc s)
 advance_stands storage old (Some address) s =
     fetch_cases (λ act. IsSome (advance_of old (acts_from storage old act))) storage old.orb old.role address
     (λ bytes. target_stands storage old (after_block old address bytes) (Block address bytes ∷ []) (reads old.orb old.role bytes) refl refl (λ h. role_moves (reads old.orb old.role bytes) old.role h))
     (λ check. refl)
 
-pub rests : (storage : Contents) (old : Place) (next : Option ℕ) → IsSome (advance_of old (acts_at storage old next)) → IsSome next
+pub rests : (storage : Contents) (old : WalkPlace) (next : Option ℕ) → IsSome (advance_of old (acts_at storage old next)) → IsSome next
 rests storage old None s = s
 rests storage old (Some address) s = refl
 
 -- each block is where what was done before says
-program_target : (storage : Contents) (orb : Orb) (now : Place) (acts before : List Act) (reading : Reading) → IsProgram orb (acts ++ before)
+program_target : (storage : Contents) (orb : Orb) (now : WalkPlace) (acts before : List Act) (reading : Reading) → IsProgram orb (acts ++ before)
     → ((target : ℕ) → reading ≡ Transfers target → next_of orb (acts ++ before) ≡ Some target) → IsProgram orb (with_target storage now reading acts ++ before)
 program_target storage orb now acts before (Transfers target) p n =
     fetch_cases (λ act. IsProgram orb (act ∷ (acts ++ before))) storage now.orb now.role target (λ bytes. (n target refl, p)) (λ check. (n target refl, p))
@@ -117,11 +117,11 @@ program_target storage orb now acts before (Takes ccw) p n = p
 program_target storage orb now acts before Suspends p n = p
 program_target storage orb now acts before Shows p n = p
 
-pub program_advance : (storage : Contents) (orb : Orb) (before : List Act) (next : Option ℕ) → next_of orb before ≡ next → IsProgram orb before → IsProgram orb (acts_at storage (place orb before) next ++ before)
+pub program_advance : (storage : Contents) (orb : Orb) (before : List Act) (next : Option ℕ) → next_of orb before ≡ next → IsProgram orb before → IsProgram orb (acts_at storage (walk_place orb before) next ++ before)
 program_advance storage orb before None e p = p
 program_advance storage orb before (Some address) e p =
-    fetch_cases (λ act. IsProgram orb (acts_from storage (place orb before) act ++ before)) storage orb (role_of orb before) address
+    fetch_cases (λ act. IsProgram orb (acts_from storage (walk_place orb before) act ++ before)) storage orb (role_of orb before) address
     (λ bytes.
-    program_target storage orb (after_block (place orb before) address bytes) (Block address bytes ∷ []) before (reads orb (role_of orb before) bytes) (e, p)
+    program_target storage orb (after_block (walk_place orb before) address bytes) (Block address bytes ∷ []) before (reads orb (role_of orb before) bytes) (e, p)
     (λ target h. ap (next_after address) h))
     (λ check. (e, p))

@@ -5,7 +5,7 @@ use Rattle.channel_program.specs.declared.Ended.{Ended}
 
 -- bytes that were moved: storage as it stood, the place of each byte, and the bytes. A byte that is
 -- skipped has no place
-pub record Chunk : Type 0 where
+pub record PlacedBytes : Type 0 where
   pub storage : List ℕ
   pub places : List (Option ℕ)
   pub bytes : List ℕ

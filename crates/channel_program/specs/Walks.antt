@@ -17,18 +17,18 @@ use Rattle.channel_program.specs.Acts.{Act, Block, Unfetched, Used_up, End}
 use Rattle.channel_program.specs.Programs.{role_of, role_after, latest as latest_of, latest_after, next as next_of, next_after, next_used_up, next_ended, tried as tried_of}
 
 -- where a program stands: what is to be known of the acts so far
-pub record Place : Type 0 where
+pub record WalkPlace : Type 0 where
   pub orb : Orb
   pub role : Role
   pub latest : Option Latest
   pub next : Option ℕ
   pub tried : ℕ
 
-abbrev pub place : Orb → List Act → Place
-place orb acts = record { orb = orb; role = role_of orb acts; latest = latest_of orb acts; next = next_of orb acts; tried = tried_of orb acts }
+abbrev pub walk_place : Orb → List Act → WalkPlace
+walk_place orb acts = record { orb = orb; role = role_of orb acts; latest = latest_of orb acts; next = next_of orb acts; tried = tried_of orb acts }
 
 -- the place one act further
-abbrev pub after_block : Place → ℕ → List ℕ → Place
+abbrev pub after_block : WalkPlace → ℕ → List ℕ → WalkPlace
 after_block old address bytes =
     record {
       orb = old.orb;
@@ -38,26 +38,26 @@ after_block old address bytes =
       tried = address + 8;
     }
 
-abbrev pub after_unfetched : Place → ℕ → Place
+abbrev pub after_unfetched : WalkPlace → ℕ → WalkPlace
 after_unfetched old address = record old { next = None; tried = address + 8 }
 
-abbrev pub after_used_up : Place → Place
+abbrev pub after_used_up : WalkPlace → WalkPlace
 after_used_up old = record old { next = next_used_up old.latest }
 
-abbrev pub after_end : Place → Ended → Place
-after_end old ended = record old { next = next_ended old.latest ended }
+abbrev pub walk_after_end : WalkPlace → Ended → WalkPlace
+walk_after_end old ended = record old { next = next_ended old.latest ended }
 
-abbrev pub after : Place → Act → Place
-after old (Block address bytes) = after_block old address bytes
-after old (Unfetched address check) = after_unfetched old address
-after old Used_up = after_used_up old
-after old (End ended) = after_end old ended
-after old act = old
+abbrev pub after_act : WalkPlace → Act → WalkPlace
+after_act old (Block address bytes) = after_block old address bytes
+after_act old (Unfetched address check) = after_unfetched old address
+after_act old Used_up = after_used_up old
+after_act old (End ended) = walk_after_end old ended
+after_act old act = old
 
 -- the place some acts further, the latest first
-abbrev pub after_acts : Place → List Act → Place
+abbrev pub after_acts : WalkPlace → List Act → WalkPlace
 after_acts old [] = old
-after_acts old (act ∷ acts) = after (after_acts old acts) act
+after_acts old (act ∷ acts) = after_act (after_acts old acts) act
 
 -- Fetching
 
@@ -78,24 +78,24 @@ fetch_act storage orb role address =
 -- Going on
 
 -- after a transfer in channel the block at its target is fetched too
-abbrev pub with_target : Contents → Place → Reading → List Act → List Act
+abbrev pub with_target : Contents → WalkPlace → Reading → List Act → List Act
 with_target storage now (reading.Transfers target) acts = fetch_act storage now.orb now.role target ∷ acts
 with_target storage now (reading.Takes ccw) acts = acts
 with_target storage now reading.Suspends acts = acts
 with_target storage now reading.Shows acts = acts
 
-abbrev pub acts_from : Contents → Place → Act → List Act
+abbrev pub acts_from : Contents → WalkPlace → Act → List Act
 acts_from storage old (Block address bytes) =
     with_target storage (after_block old address bytes) (reads old.orb old.role bytes) (Block address bytes ∷ [])
 acts_from storage old act = act ∷ []
 
-abbrev pub acts_at : Contents → Place → Option ℕ → List Act
+abbrev pub acts_at : Contents → WalkPlace → Option ℕ → List Act
 acts_at storage old None = []
 acts_at storage old (Some address) = acts_from storage old (fetch_act storage old.orb old.role address)
 
 -- the acts by which a program goes on, where a block is next: that it is fetched, and where it is a
 -- transfer in channel, that the block at its target is. That one is no transfer, so there are at most two
-abbrev pub advance_acts : Contents → Place → List Act
+abbrev pub advance_acts : Contents → WalkPlace → List Act
 advance_acts storage old = acts_at storage old old.next
 
 -- what a block, an act and some acts come to; nothing as long as the program does not stand still
@@ -105,11 +105,11 @@ block_advance (reading.Takes ccw) = Some (Takes ccw)
 block_advance reading.Suspends = Some Suspends
 block_advance reading.Shows = Some (Stops Program)
 
-abbrev pub act_advance : Place → Act → Option Advance
+abbrev pub act_advance : WalkPlace → Act → Option Advance
 act_advance old (Block address bytes) = block_advance (reads old.orb old.role bytes)
 act_advance old (Unfetched address check) = Some (Stops check)
 act_advance old act = None
 
-abbrev pub advance_of : Place → List Act → Option Advance
+abbrev pub advance_of : WalkPlace → List Act → Option Advance
 advance_of old [] = None
 advance_of old (act ∷ acts) = act_advance (after_acts old acts) act

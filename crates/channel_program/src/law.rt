@@ -5,26 +5,26 @@ ghost use Rattle.orb_block.specs.declared.Orb.{Orb};
 ghost use Rattle.storage_keys.specs.Storage.{Contents};
 ghost use Rattle.channel_program.specs.Acts.{Act};
 ghost use Rattle.channel_program.specs.Programs.{IsProgram};
-ghost use Rattle.channel_program.specs.Walks.{Place, place, after, after_acts, fetch_act, act_advance, advance_acts, advance_of};
+ghost use Rattle.channel_program.specs.Walks.{WalkPlace, walk_place, after_act, after_acts, fetch_act, act_advance, advance_acts, advance_of};
 
 /// Where a program stands some acts further is where it stands after all that was done.
 pub fn places()
-    ensures { (orb : Orb) (before acts : List Act) → after_acts (place orb before) acts ≡ place orb (acts ++ before) }
+    ensures { (orb : Orb) (before acts : List Act) → after_acts (walk_place orb before) acts ≡ walk_place orb (acts ++ before) }
 {}
 
 /// A program goes on, where a block is next, to where it stands still: by one block where that is no
 /// transfer in channel, and otherwise by one more.
 pub fn advances()
-    ensures one { (storage : Contents) (old : Place) (address : ℕ) → old.next ≡ Some address → let act = fetch_act storage old.orb old.role address in
+    ensures one { (storage : Contents) (old : WalkPlace) (address : ℕ) → old.next ≡ Some address → let act = fetch_act storage old.orb old.role address in
         IsSome (act_advance old act) → advance_acts storage old ≡ act ∷ [] }
-    ensures two { (storage : Contents) (old : Place) (address target : ℕ) → old.next ≡ Some address → let act = fetch_act storage old.orb old.role address in
-        let middle = after old act in act_advance old act ≡ None → middle.next ≡ Some target → advance_acts storage old ≡ fetch_act storage middle.orb middle.role target ∷ act ∷ [] }
-    ensures moves { (storage : Contents) (old : Place) (address : ℕ) → old.next ≡ Some address → let act = fetch_act storage old.orb old.role address in
-        act_advance old act ≡ None → IsSome (after old act).next }
-    ensures stands { (storage : Contents) (old : Place) → IsSome (advance_of old (advance_acts storage old)) ↔ IsSome old.next }
+    ensures two { (storage : Contents) (old : WalkPlace) (address target : ℕ) → old.next ≡ Some address → let act = fetch_act storage old.orb old.role address in
+        let middle = after_act old act in act_advance old act ≡ None → middle.next ≡ Some target → advance_acts storage old ≡ fetch_act storage middle.orb middle.role target ∷ act ∷ [] }
+    ensures moves { (storage : Contents) (old : WalkPlace) (address : ℕ) → old.next ≡ Some address → let act = fetch_act storage old.orb old.role address in
+        act_advance old act ≡ None → IsSome (after_act old act).next }
+    ensures stands { (storage : Contents) (old : WalkPlace) → IsSome (advance_of old (advance_acts storage old)) ↔ IsSome old.next }
 {}
 
 /// As a program goes on, each block is where what was done before says.
 pub fn programs()
-    ensures { (storage : Contents) (orb : Orb) (before : List Act) → IsProgram orb before → IsProgram orb (advance_acts storage (place orb before) ++ before) }
+    ensures { (storage : Contents) (orb : Orb) (before : List Act) → IsProgram orb before → IsProgram orb (advance_acts storage (walk_place orb before) ++ before) }
 {}

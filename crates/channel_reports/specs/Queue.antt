@@ -1,19 +1,19 @@
 -- The channel reports that wait, and the resets of channel paths that are asked for (SA22-7832, chapter 17).
 use Rattle.std.specs.Prelude.{ℕ, ◌==◌, Bool, true, false, List, [], ◌∷◌, ◌++◌, length, replicate, slice_get, slice_index_or, slice_set, take, drop, Option, None, Some, if◌then◌else◌}
 use Rattle.scsw_irb.specs.declared.crw.Crw.{Crw}
-use Rattle.scsw_irb.specs.declared.crw.Report.{Report}
-use Rattle.scsw_irb.specs.declared.crw.Report.TheVariants.{Lost, Back, ResetDone}
+use Rattle.scsw_irb.specs.declared.crw.PathReport.{PathReport}
+use Rattle.scsw_irb.specs.declared.crw.PathReport.TheVariants.{Lost, Back, ResetDone}
 
 -- the reports that wait, the oldest first, and for each channel-path identifier whether its reset is asked for
-pub record Waiting : Type 0 where
+pub record WaitingReports : Type 0 where
   pub reports : List Crw
   pub asked : List Bool
 
-abbrev pub nothing_waits : Waiting
-nothing_waits = record { reports = []; asked = replicate 256 false }
+abbrev pub no_reports_wait : WaitingReports
+no_reports_wait = record { reports = []; asked = replicate 256 false }
 
-abbrev pub report_of : Report → ℕ → Crw
-report_of report path = record { report = report; overflow = false; path = path }
+abbrev pub crw_of : PathReport → ℕ → Crw
+crw_of report path = record { report = report; overflow = false; path = path }
 
 -- R: a later report was lost
 abbrev pub with_overflow : Crw → Crw
@@ -27,34 +27,34 @@ sixteenth_marked reports (Some last) = take 15 reports ++ with_overflow last ∷
 abbrev pub added : List Crw → Crw → List Crw
 added reports crw = if length reports == 16 then sixteenth_marked reports (slice_get reports 15) else reports ++ crw ∷ []
 
-abbrev pub with_report : Waiting → Report → ℕ → Waiting
-with_report w report path = record w { reports = added w.reports (report_of report path) }
+abbrev pub with_report : WaitingReports → PathReport → ℕ → WaitingReports
+with_report w report path = record w { reports = added w.reports (crw_of report path) }
 
 -- the oldest report, where one waits
-abbrev pub oldest : Waiting → Option Crw
+abbrev pub oldest : WaitingReports → Option Crw
 oldest w = slice_get w.reports 0
 
-abbrev pub without_oldest : Waiting → Waiting
+abbrev pub without_oldest : WaitingReports → WaitingReports
 without_oldest w = record w { reports = drop 1 w.reports }
 
 -- the reset of a path
-abbrev pub is_asked : Waiting → ℕ → Bool
+abbrev pub is_asked : WaitingReports → ℕ → Bool
 is_asked w path = slice_index_or w.asked path false
 
-abbrev pub with_asked : Waiting → ℕ → Bool → Waiting
+abbrev pub with_asked : WaitingReports → ℕ → Bool → WaitingReports
 with_asked w path asked = record w { asked = slice_set w.asked path asked }
 
 -- RESET CHANNEL PATH asks for the reset of a path that is up
-abbrev pub with_rchp : Waiting → ℕ → Bool → Waiting
+abbrev pub with_rchp : WaitingReports → ℕ → Bool → WaitingReports
 with_rchp w path up = if up then with_asked w path true else w
 
 -- a path that goes down is lost: that is reported, and its reset is no longer asked for
-abbrev pub path_lost : Waiting → ℕ → Waiting
-path_lost w path = with_report (with_asked w path false) Lost path
+abbrev pub path_lost_reported : WaitingReports → ℕ → WaitingReports
+path_lost_reported w path = with_report (with_asked w path false) Lost path
 
-abbrev pub path_back : Waiting → ℕ → Waiting
+abbrev pub path_back : WaitingReports → ℕ → WaitingReports
 path_back w path = with_report w Back path
 
 -- a reset that was asked for is done
-abbrev pub reset_done : Waiting → ℕ → Waiting
+abbrev pub reset_done : WaitingReports → ℕ → WaitingReports
 reset_done w path = with_report (with_asked w path false) ResetDone path

@@ -15,7 +15,7 @@ ghost use Rattle.channel_reports.specs.Queue as spec;
 
 use arrayvec::ArrayVec;
 use chan_model::answer::ConditionCode;
-use scsw_irb::crw::{Crw, Report};
+use scsw_irb::crw::{Crw, PathReport};
 use std::marker::Model;
 
 /// How many reports wait at most (own).
@@ -31,7 +31,7 @@ impl Default for Queued {
     fn default() -> Self {
         Queued {
             crw: Crw {
-                report: Report::Lost,
+                report: PathReport::Lost,
                 overflow: false,
                 path: 0,
             },
@@ -48,9 +48,9 @@ pub struct Reports {
 
 impl Model for Reports {
     ghost use Rattle.std.specs.Prelude.{map};
-    ghost use Rattle.channel_reports.specs.Queue.{Waiting};
+    ghost use Rattle.channel_reports.specs.Queue.{WaitingReports};
 
-    ghost Value = { Waiting };
+    ghost Value = { WaitingReports };
 
     ghost view = { λ r. record { reports = map (λ q. q.crw) r.queue.items; asked = r.asked } };
 }
@@ -58,7 +58,7 @@ impl Model for Reports {
 impl Reports {
     /// No report waits, and no reset is asked for.
     pub fn new() -> Self
-        ensures { result ≡ spec.nothing_waits }
+        ensures { result ≡ spec.no_reports_wait }
     {
         Reports {
             queue: ArrayVec::new(),
@@ -68,7 +68,7 @@ impl Reports {
 
     /// Adds a report of a channel path behind those that wait. Where 16 wait it is lost, and the last of them says so by
     /// its bit R.
-    pub fn add(&mut self, report: Report, path: u8)
+    pub fn add(&mut self, report: PathReport, path: u8)
         ensures { self.new ≡ spec.with_report self.old report path }
     {
         if self.queue.is_full() {
@@ -144,24 +144,24 @@ impl Reports {
         let asked = self.is_asked(path);
         if asked {
             self.keep(path, false);
-            self.add(Report::ResetDone, path);
+            self.add(PathReport::ResetDone, path);
         }
         asked
     }
 
     /// The path went down: that is reported, and its reset is no longer asked for.
     pub fn path_lost(&mut self, path: u8)
-        ensures { self.new ≡ spec.path_lost self.old path }
+        ensures { self.new ≡ spec.path_lost_reported self.old path }
     {
         self.keep(path, false);
-        self.add(Report::Lost, path);
+        self.add(PathReport::Lost, path);
     }
 
     /// The path came back, which is reported.
     pub fn path_back(&mut self, path: u8)
         ensures { self.new ≡ spec.path_back self.old path }
     {
-        self.add(Report::Back, path);
+        self.add(PathReport::Back, path);
     }
 
     fn keep(&mut self, path: u8, asked: bool)

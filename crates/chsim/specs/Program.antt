@@ -17,12 +17,12 @@ Does Check input held now ending = Checks input held now ending
 
 -- words that name no command: their text is written, or the sink failed within it, and the status is 2; or there was no memory for
 -- the text, nothing is written and the status is 1
-abbrev pub Shows : Refused → Seen → Seen → ℕ → Type 0
-Shows (Text text) held now status = (status ≡ 2) × ((whole : Bool) × Puts held (string_bytes text) now whole)
-Shows NoMemory held now status = (status ≡ 1) × (now ≡ held)
+abbrev pub ShowsRefusal : Refused → Seen → Seen → ℕ → Type 0
+ShowsRefusal (Text text) held now status = (status ≡ 2) × ((whole : Bool) × Puts held (string_bytes text) now whole)
+ShowsRefusal NoMemory held now status = (status ≡ 1) × (now ≡ held)
 
 abbrev pub Commands : Option Wanted → Option (List ℕ) → Seen → Seen → ℕ → Type 0
-Commands None input held now status = (refused : Refused) × Shows refused held now status
+Commands None input held now status = (refused : Refused) × ShowsRefusal refused held now status
 Commands (Some wanted) input held now status = (ending : Ending) × Does wanted input held now ending × (status ≡ status_of ending)
 
 -- two words, the program's own name and a command's

@@ -3,7 +3,7 @@
 
 ghost use Rattle.std.specs.Prelude.{◌≡◌, map, is_none, IsTrue};
 ghost use Rattle.command_words.specs.Plain.{plain};
-ghost use Rattle.chsim.specs.Program.{IsServed, Shows};
+ghost use Rattle.chsim.specs.Program.{IsServed, ShowsRefusal};
 
 #[cfg(test)]
 mod memory;
@@ -44,7 +44,7 @@ pub fn serve<'a, R: Source, S: Sink>(
 
 /// Shows the text for words that name no command.
 fn show<S: Sink>(refused: Refused, sink: &mut S) -> u8
-    ensures { Shows refused (S.seen sink.old) (S.seen sink.new) result }
+    ensures { ShowsRefusal refused (S.seen sink.old) (S.seen sink.new) result }
 {
     match refused {
         Refused::NoMemory => 1,

@@ -5,7 +5,6 @@ ghost use Rattle.std.specs.Prelude.{◌≡◌, map, Ok, Some, IfOk};
 ghost use Rattle.command_words.specs.Plain as spec;
 ghost use Rattle.command_words.specs.declared.Wanted.{Wanted};
 
-
 use clap::Command;
 use clap::error::ErrorKind;
 use std::alloc::{AllocError, Global};

@@ -43,8 +43,8 @@ abbrev pub begun_at : List Member → ℕ → Option Member → List Member
 begun_at members place None = members
 begun_at members place (Some m) = slice_set members place (record m { begun = true })
 
-abbrev pub begun : List Member → ℕ → List Member
-begun members place = begun_at members place (slice_get members place)
+abbrev pub member_begun : List Member → ℕ → List Member
+member_begun members place = begun_at members place (slice_get members place)
 
 -- Whether a control-unit end is owed as a unit is over: some unit of its group was refused since one was over.
 abbrev pub is_owed_at : List Member → Option Member → Bool
@@ -59,12 +59,12 @@ abbrev pub ended_at : List Member → ℕ → Option Member → List Member
 ended_at members place None = members
 ended_at members place (Some m) = slice_set members place (record m { begun = false })
 
-abbrev pub told : ℕ → Member → Member
-told group m = if m.group == group then record m { refused = false } else m
+abbrev pub member_told : ℕ → Member → Member
+member_told group m = if m.group == group then record m { refused = false } else m
 
 abbrev pub over_at : List Member → ℕ → Option Member → List Member
 over_at members place None = members
-over_at members place (Some m) = map (told m.group) (ended_at members place (Some m))
+over_at members place (Some m) = map (member_told m.group) (ended_at members place (Some m))
 
 abbrev pub over : List Member → ℕ → List Member
 over members place = over_at members place (slice_get members place)

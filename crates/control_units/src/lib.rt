@@ -36,7 +36,7 @@ pub trait ControlUnit {
 
     /// The unit is begun.
     fn begin(&mut self, unit: u16)
-        ensures { members self.new ≡ spec.begun (members self.old) «unit» };
+        ensures { members self.new ≡ spec.member_begun (members self.old) «unit» };
 
     /// The unit is over. Answers whether it owes a control-unit end: whether `may_serve` was false for some unit of its
     /// group since the last time that one was over.

@@ -151,14 +151,14 @@ fn put_down(members: &mut Vec<Member>, unit: u16)
 
 /// No unit of the group is refused any more.
 fn tell_all(members: &mut Vec<Member>, group: u16)
-    ensures { members.new.items ≡ map (spec.told group) members.old.items }
+    ensures { members.new.items ≡ map (spec.member_told group) members.old.items }
 {
     tell(members.as_mut_slice(), group);
 }
 
 /// No unit of the group among these is refused any more.
 fn tell(members: &mut [Member], group: u16)
-    ensures { members.new ≡ map (spec.told group) members.old }
+    ensures { members.new ≡ map (spec.member_told group) members.old }
 {
     for member in members.iter_mut() {
         tell_one(member, group);
@@ -167,7 +167,7 @@ fn tell(members: &mut [Member], group: u16)
 
 /// A unit of the group is not refused any more.
 fn tell_one(member: &mut Member, group: u16)
-    ensures { member.new ≡ spec.told group member.old }
+    ensures { member.new ≡ spec.member_told group member.old }
 {
     if member.group == group {
         member.refused = false;

@@ -6,9 +6,9 @@ use Rattle.ccw_codec.specs.declared.Ccw.{Ccw}
 use Rattle.idaw.specs.declared.ListKind.{ListKind}
 use Rattle.idaw.specs.declared.ListKind.TheVariants.{Short, LongByFourK, LongByTwoK}
 use Rattle.idaw.specs.Lists.{block}
-use Rattle.idaw.specs.Places.{Reach, place_of, place_of_word, each_below, covered, with_word}
+use Rattle.idaw.specs.Places.{Reach, place_of_byte, place_of_word, each_below, covered, reach_with_word}
 use Rattle.idaw.proofs.WordLemmas.{picks_true, picks_false, word_stays, word_next, word_reaches}
-use Rattle.data_move.specs.Moving.{Moving, names_list, uses_list, begun, with_piece, moved, next_place, IsAt, MayFetch}
+use Rattle.data_move.specs.Moving.{Moving, names_list, uses_list, moving_begun, with_piece, moved, next_place, IsAt, MayFetch}
 use Rattle.data_move.proofs.ListLemmas.{each_below_add, each_below_same}
 
 block_positive : (kind : ListKind) → 0 < block kind
@@ -53,9 +53,9 @@ pub needed_more : (left done count : ℕ) → (left == 0 && nat_lt done count) �
 needed_more left done count e = grind (arith, nat_tests)
 
 -- a command word that took control is at its beginning
-begun_if : (kind : ListKind) (ccw : Ccw) (skipped t : Bool) → names_list ccw skipped ≡ t → IsAt (record { ccw = ccw; skipped = skipped; words = [] }) (begun kind ccw skipped)
+begun_if : (kind : ListKind) (ccw : Ccw) (skipped t : Bool) → names_list ccw skipped ≡ t → IsAt (record { ccw = ccw; skipped = skipped; words = [] }) (moving_begun kind ccw skipped)
 begun_if kind ccw skipped true e =
-    let none : (begun kind ccw skipped).left ≡ 0 = ap (λ x. if x then 0 else ccw.count) e in
+    let none : (moving_begun kind ccw skipped).left ≡ 0 = ap (λ x. if x then 0 else ccw.count) e in
     record {
       ccw = refl;
       skipped = refl;
@@ -65,7 +65,7 @@ begun_if kind ccw skipped true e =
       next = λ i l. absurd (omega arith);
     }
 begun_if kind ccw skipped false e =
-    let all : (begun kind ccw skipped).left ≡ ccw.count = ap (λ x. if x then 0 else ccw.count) e in
+    let all : (moving_begun kind ccw skipped).left ≡ ccw.count = ap (λ x. if x then 0 else ccw.count) e in
     record {
       ccw = refl;
       skipped = refl;
@@ -78,18 +78,18 @@ begun_if kind ccw skipped false e =
           (λ no. ap (λ x. ccw.address + x) z ∙ sym (picks_false ccw.indirect (place_of_word (block kind) [] (0 + i)) _ (direct ccw.indirect skipped e no)));
     }
 
-pub begun_at : (kind : ListKind) (ccw : Ccw) (skipped : Bool) → IsAt (record { ccw = ccw; skipped = skipped; words = [] }) (begun kind ccw skipped)
+pub begun_at : (kind : ListKind) (ccw : Ccw) (skipped : Bool) → IsAt (record { ccw = ccw; skipped = skipped; words = [] }) (moving_begun kind ccw skipped)
 begun_at kind ccw skipped = begun_if kind ccw skipped (names_list ccw skipped) refl
 
 -- a word that is added moves no byte before
-pub word_keeps : (r : Reach) (m : Moving) (w : ℕ) → IsAt r m → uses_list m ≡ true → (j : ℕ) → j < m.done → place_of (block m.kind) (with_word r w) j ≡ place_of (block m.kind) r j
+pub word_keeps : (r : Reach) (m : Moving) (w : ℕ) → IsAt r m → uses_list m ≡ true → (j : ℕ) → j < m.done → place_of_byte (block m.kind) (reach_with_word r w) j ≡ place_of_byte (block m.kind) r j
 word_keeps r m w a list j l =
     let listed : m.done + m.left ≡ min (covered (block m.kind) r.words) m.ccw.count = a.listed list in
     let c : j < covered (block m.kind) r.words = omega arith in
     unless_same r.skipped _ _ (λ no. same_first r.ccw.indirect _ _ (r.ccw.address + j) (word_stays (block m.kind) r.words w j (block_positive m.kind) c))
 
 -- and gives the next piece
-pub word_at : (r : Reach) (m : Moving) (w : ℕ) → IsAt r m → MayFetch m w → IsAt (with_word r w) (with_piece m w)
+pub word_at : (r : Reach) (m : Moving) (w : ℕ) → IsAt r m → MayFetch m w → IsAt (reach_with_word r w) (with_piece m w)
 word_at r m w a f =
     let pos : 0 < block m.kind = block_positive m.kind in
     let listed : m.done + m.left ≡ min (covered (block m.kind) r.words) m.ccw.count = a.listed f.list in
@@ -131,7 +131,7 @@ moved_at r m n a l =
           let less : n + i < m.left = omega arith in
           let e : (m.piece + n) + i ≡ m.piece + (n + i) = omega arith in
           let f : m.done + (n + i) ≡ (m.done + n) + i = omega arith in
-          ap (unless m.skipped) e ∙ a.next (n + i) less ∙ ap (place_of (block m.kind) r) f;
+          ap (unless m.skipped) e ∙ a.next (n + i) less ∙ ap (place_of_byte (block m.kind) r) f;
     }
 
 -- the same for a number that is found to be this one
@@ -139,7 +139,7 @@ pub moved_found : (r : Reach) (m : Moving) (n found : ℕ) → found ≡ n → I
 moved_found r m n found e a l = subst (λ x. IsAt r (record m { done = m.done + n; piece = m.piece + x; left = m.left - n })) (sym e) (moved_at r m n a l)
 
 -- so the places so far go on by them
-pub moved_places : (r : Reach) (m : Moving) (n : ℕ) → IsAt r m → n ≤ m.left → each_below (place_of (block m.kind) r) m.done ++ each_below (next_place m) n ≡ each_below (place_of (block m.kind) r) (m.done + n)
+pub moved_places : (r : Reach) (m : Moving) (n : ℕ) → IsAt r m → n ≤ m.left → each_below (place_of_byte (block m.kind) r) m.done ++ each_below (next_place m) n ≡ each_below (place_of_byte (block m.kind) r) (m.done + n)
 moved_places r m n a l =
-    ap (λ xs. each_below (place_of (block m.kind) r) m.done ++ xs) (each_below_same (next_place m) (λ i. place_of (block m.kind) r (m.done + i)) n (λ i k. a.next i (omega arith)))
-    ∙ sym (each_below_add (place_of (block m.kind) r) m.done n)
+    ap (λ xs. each_below (place_of_byte (block m.kind) r) m.done ++ xs) (each_below_same (next_place m) (λ i. place_of_byte (block m.kind) r (m.done + i)) n (λ i k. a.next i (omega arith)))
+    ∙ sym (each_below_add (place_of_byte (block m.kind) r) m.done n)

@@ -10,7 +10,7 @@ use Rattle.channel_program.specs.Checks.{check_of}
 use Rattle.idaw.specs.declared.ListKind.{ListKind}
 use Rattle.idaw.specs.declared.WordFault.{WordFault}
 use Rattle.idaw.specs.Lists.{address_of_word, width, word_fault}
-use Rattle.idaw.specs.Places.{Reach, with_word}
+use Rattle.idaw.specs.Places.{Reach, reach_with_word}
 use Rattle.data_move.specs.Moving.{Moving, needs_word, room, with_piece}
 
 -- an access with its refusal as a check
@@ -19,15 +19,15 @@ checked (Ok x) = Ok x
 checked (Err fault) = Err (check_of fault)
 
 -- the number of a word's bytes, where they are fetched
-abbrev pub word_of : ListKind → Result (List ℕ) Check → Result ℕ Check
-word_of kind (Ok bytes) = Ok (big_number (width kind) bytes)
-word_of kind (Err check) = Err check
+abbrev pub list_word_of : ListKind → Result (List ℕ) Check → Result ℕ Check
+list_word_of kind (Ok bytes) = Ok (big_number (width kind) bytes)
+list_word_of kind (Err check) = Err check
 
 -- the next word of the list, which begins on a boundary of its words: the word at x + W * i
 abbrev pub word_fetched : Contents → ℕ → Moving → Result ℕ Check
 word_fetched storage key m =
     if not (m.ccw.address % width m.kind == 0) then Err Program
-    else word_of m.kind (checked (fetched storage key (address_of_word m.kind m.ccw.address m.words) (width m.kind)))
+    else list_word_of m.kind (checked (fetched storage key (address_of_word m.kind m.ccw.address m.words) (width m.kind)))
 
 -- a word with a fault is a program check
 abbrev pub where_right : Option WordFault → Moving → Result Moving Check
@@ -45,7 +45,7 @@ located storage key m =
 
 -- the words that are then fetched
 abbrev pub word_joined : Reach → Result ℕ Check → Reach
-word_joined r (Ok word) = with_word r word
+word_joined r (Ok word) = reach_with_word r word
 word_joined r (Err check) = r
 
 abbrev pub reach_located : Contents → ℕ → Moving → Reach → Reach
@@ -62,5 +62,5 @@ abbrev pub copied : Contents → ℕ → Moving → Result (List ℕ) Check
 copied storage key m = if m.skipped then Ok [] else checked (fetched storage key m.piece (room m))
 
 -- storage after bytes are stored at the next places
-abbrev pub stored : Contents → ℕ → Moving → List ℕ → Result Contents Check
-stored storage key m bytes = if m.skipped then Ok storage else checked (keys.stored storage key m.piece bytes)
+abbrev pub stored_or_skipped : Contents → ℕ → Moving → List ℕ → Result Contents Check
+stored_or_skipped storage key m bytes = if m.skipped then Ok storage else checked (keys.stored_bytes storage key m.piece bytes)

@@ -3,7 +3,7 @@ use Rattle.std.specs.Prelude.{◌≡◌, ℕ, ◌+◌, ◌-◌, ◌%◌, ◌==�
 use Rattle.ccw_codec.specs.declared.Ccw.{Ccw}
 use Rattle.idaw.specs.declared.ListKind.{ListKind}
 use Rattle.idaw.specs.Lists.{block}
-use Rattle.idaw.specs.Places.{Reach, place_of, covered}
+use Rattle.idaw.specs.Places.{Reach, place_of_byte, covered}
 
 -- the bytes that are moved, the words of the list that were fetched, and the bytes that come next: from
 -- which address on they lie side by side, and how many there are
@@ -28,8 +28,8 @@ abbrev pub at_once : Ccw → Bool → ℕ
 at_once ccw skipped = if names_list ccw skipped then 0 else ccw.count
 
 -- as the command word takes control
-abbrev pub begun : ListKind → Ccw → Bool → Moving
-begun kind ccw skipped = record { kind = kind; ccw = ccw; skipped = skipped; done = 0; words = 0; piece = ccw.address; left = at_once ccw skipped }
+abbrev pub moving_begun : ListKind → Ccw → Bool → Moving
+moving_begun kind ccw skipped = record { kind = kind; ccw = ccw; skipped = skipped; done = 0; words = 0; piece = ccw.address; left = at_once ccw skipped }
 
 -- a word is fetched: its piece ends with its block, or with the count
 abbrev pub with_piece : Moving → ℕ → Moving
@@ -58,8 +58,8 @@ abbrev pub next_place : Moving → ℕ → Option ℕ
 next_place m i = if m.skipped then None else Some (m.piece + i)
 
 -- the place of the next byte, where there is one
-abbrev pub place : Moving → Option ℕ
-place m = if m.skipped || m.left == 0 then None else Some m.piece
+abbrev pub byte_place : Moving → Option ℕ
+byte_place m = if m.skipped || m.left == 0 then None else Some m.piece
 
 -- what is kept is at this point of the command word: the next bytes are at the places of the formula
 pub record IsAt (r : Reach) (m : Moving) : Type 0 where
@@ -68,7 +68,7 @@ pub record IsAt (r : Reach) (m : Moving) : Type 0 where
   pub words : m.words ≡ length r.words
   pub listed : uses_list m ≡ true → m.done + m.left ≡ min (covered (block m.kind) r.words) m.ccw.count
   pub whole : uses_list m ≡ false → m.done + m.left ≡ m.ccw.count
-  pub next : (i : ℕ) → i < m.left → next_place m i ≡ place_of (block m.kind) r (m.done + i)
+  pub next : (i : ℕ) → i < m.left → next_place m i ≡ place_of_byte (block m.kind) r (m.done + i)
 
 -- a word is fetched where it is needed; but for the first it begins a block
 pub record MayFetch (m : Moving) (word : ℕ) : Type 0 where

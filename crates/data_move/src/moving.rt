@@ -2,7 +2,7 @@
 
 ghost use Rattle.std.specs.Prelude.{◌≡◌, ◌≢◌, ℕ, ◌+◌, ◌==◌, ◌<◌, ◌≤◌, ◌⊎◌, ◌↔◌, ◌^◌, None, Some, Ok, Err, IfOk, IfErr, OnOk, OnErr, IsOk, IsTrue, false, [], length, slice_index};
 ghost use Rattle.idaw.specs.Lists.{block, word_fault};
-ghost use Rattle.idaw.specs.Places.{Reach, place_of, places_from, with_word};
+ghost use Rattle.idaw.specs.Places.{Reach, place_of_byte, places_from, reach_with_word};
 ghost use Rattle.data_move.specs.Moving as spec;
 ghost use Rattle.data_move.specs.Moving.{IsAt};
 ghost use Rattle.data_move.specs.Accesses as access;
@@ -48,7 +48,7 @@ impl Move {
     /// Nothing is moved yet. `skipped` says that the bytes are not to be stored, as SKIP asks of what
     /// is read; they then need no list.
     pub fn begin(kind: ListKind, ccw: Ccw, skipped: bool) -> Self
-        ensures begun { result ≡ spec.begun kind ccw skipped }
+        ensures begun { result ≡ spec.moving_begun kind ccw skipped }
         ensures starts { IsAt (record { ccw = ccw; skipped = skipped; words = [] }) result }
     {
         Move {
@@ -93,7 +93,7 @@ impl Move {
 
     /// Where the next byte is. None where it is skipped, or where no byte of the piece is left.
     pub fn place(&self) -> Option<u32>
-        ensures { result ≡ spec.place self.now }
+        ensures { result ≡ spec.byte_place self.now }
     {
         if self.skipped || self.left == 0 {
             None
@@ -128,7 +128,7 @@ impl Move {
         ensures after { OnOk result (self.new ≡ spec.with_piece self.old word) }
         ensures kept { OnErr result (self.new ≡ self.old) }
         // Its bytes are the next ones of the formula.
-        ensures goes_on { OnOk result ((r : Reach) → IsAt r self.old → IsAt (with_word r word) self.new) }
+        ensures goes_on { OnOk result ((r : Reach) → IsAt r self.old → IsAt (reach_with_word r word) self.new) }
     {
         let found = piece(
             self.kind,
@@ -191,12 +191,12 @@ impl Move {
     /// permit the store of each byte. Nothing is then stored.
     pub fn stored(&self, storage: &mut Storage, key: u8, bytes: &[u8]) -> Result<(), Check>
         requires { length bytes.now ≤ self.now.left }
-        ensures stored { OnOk result (access.stored storage.old key self.now bytes.now ≡ Ok storage.new) }
-        ensures refused { IfErr result (λ check. access.stored storage.old key self.now bytes.now ≡ Err check) }
+        ensures stored { OnOk result (access.stored_or_skipped storage.old key self.now bytes.now ≡ Ok storage.new) }
+        ensures refused { IfErr result (λ check. access.stored_or_skipped storage.old key self.now bytes.now ≡ Err check) }
         ensures kept { OnErr result (storage.new ≡ storage.old) }
         // Each byte stands at its place of the formula, and no other byte is changed.
-        ensures placed { OnOk result ((r : Reach) → IsAt r self.now → (i place : ℕ) → i < length bytes.now → place_of (block self.now.kind) r (self.now.done + i) ≡ Some place → slice_index storage.new.bytes place ≡ slice_index bytes.now i) }
-        ensures others { OnOk result ((r : Reach) → IsAt r self.now → (place : ℕ) → ((i : ℕ) → i < length bytes.now → place_of (block self.now.kind) r (self.now.done + i) ≢ Some place) → slice_index storage.new.bytes place ≡ slice_index storage.old.bytes place) }
+        ensures placed { OnOk result ((r : Reach) → IsAt r self.now → (i place : ℕ) → i < length bytes.now → place_of_byte (block self.now.kind) r (self.now.done + i) ≡ Some place → slice_index storage.new.bytes place ≡ slice_index bytes.now i) }
+        ensures others { OnOk result ((r : Reach) → IsAt r self.now → (place : ℕ) → ((i : ℕ) → i < length bytes.now → place_of_byte (block self.now.kind) r (self.now.done + i) ≢ Some place) → slice_index storage.new.bytes place ≡ slice_index storage.old.bytes place) }
     {
         if self.skipped {
             return Ok(());

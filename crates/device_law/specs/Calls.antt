@@ -15,5 +15,5 @@ abbrev pub answer_of_finish : device.Finish → DeviceAnswer
 answer_of_finish finish = Ended finish.status finish.more
 
 -- of each call, the answer and the device after it are these
-abbrev pub IsTold : {D : Type 0} → (D → Call → DeviceAnswer) → (D → Call → D) → D → Call → DeviceAnswer → D → Type 0
-IsTold answer_of after old call answer new = (answer ≡ answer_of old call) × (new ≡ after old call)
+abbrev pub IsDeviceAnswer : {D : Type 0} → (D → Call → DeviceAnswer) → (D → Call → D) → D → Call → DeviceAnswer → D → Type 0
+IsDeviceAnswer answer_of after old call answer new = (answer ≡ answer_of old call) × (new ≡ after old call)

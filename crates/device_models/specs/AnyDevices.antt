@@ -16,10 +16,10 @@ device_of kind.Console = Console lines.opening
 device_of kind.Rejecting = Rejecting rejects.opening
 
 -- a device at its opening keeps its kind
-abbrev pub opening_of : AnyDevice → AnyDevice
-opening_of (Block store) = Block blocks.opening
-opening_of (Console console) = Console lines.opening
-opening_of (Rejecting device) = Rejecting rejects.opening
+abbrev pub device_opening : AnyDevice → AnyDevice
+device_opening (Block store) = Block blocks.opening
+device_opening (Console console) = Console lines.opening
+device_opening (Rejecting device) = Rejecting rejects.opening
 
 -- Each call is handed on.
 abbrev pub answer_of : AnyDevice → Call → DeviceAnswer

@@ -1,11 +1,11 @@
 -- The commands of a store of blocks (own).
 use Rattle.std.specs.Prelude.{ℕ, ◌==◌, Option, None, Some, if◌then◌else◌}
-use Rattle.device_models.specs.declared.command.Command.{Command}
-use Rattle.device_models.specs.declared.command.Command.TheVariants.{Write, Read, NoOperation, Sense, Seek, Recalibrate, SearchEqual}
+use Rattle.device_models.specs.declared.command.BlockCommand.{BlockCommand}
+use Rattle.device_models.specs.declared.command.BlockCommand.TheVariants.{Write, Read, NoOperation, Sense, Seek, Recalibrate, SearchEqual}
 
 -- the command of each code; a store has no other
-abbrev pub command_of : ℕ → Option Command
-command_of code =
+abbrev pub block_command_of : ℕ → Option BlockCommand
+block_command_of code =
     if code == 0x01 then Some Write
     else if code == 0x02 then Some Read
     else if code == 0x03 then Some NoOperation
@@ -16,12 +16,12 @@ command_of code =
     else None
 
 -- how many bytes a command moves at most
-abbrev pub size_of : Option Command → ℕ
-size_of (Some Write) = 64
-size_of (Some Read) = 64
-size_of (Some NoOperation) = 0
-size_of (Some Sense) = 1
-size_of (Some Seek) = 2
-size_of (Some Recalibrate) = 0
-size_of (Some SearchEqual) = 2
-size_of None = 0
+abbrev pub block_size_of : Option BlockCommand → ℕ
+block_size_of (Some Write) = 64
+block_size_of (Some Read) = 64
+block_size_of (Some NoOperation) = 0
+block_size_of (Some Sense) = 1
+block_size_of (Some Seek) = 2
+block_size_of (Some Recalibrate) = 0
+block_size_of (Some SearchEqual) = 2
+block_size_of None = 0

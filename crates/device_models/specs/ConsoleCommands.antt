@@ -4,8 +4,8 @@ use Rattle.device_models.specs.declared.console_command.ConsoleCommand.{ConsoleC
 use Rattle.device_models.specs.declared.console_command.ConsoleCommand.TheVariants.{Write, Read, NoOperation, Sense}
 
 -- the command of each code; a console has no other
-abbrev pub command_of : ℕ → Option ConsoleCommand
-command_of code =
+abbrev pub console_command_of : ℕ → Option ConsoleCommand
+console_command_of code =
     if code == 0x01 then Some Write
     else if code == 0x0A then Some Read
     else if code == 0x03 then Some NoOperation

@@ -6,8 +6,8 @@ use Rattle.chan_model.specs.declared.report.DeviceAnswer.{DeviceAnswer}
 use Rattle.chan_model.specs.declared.report.DeviceAnswer.TheVariants as answer
 use Rattle.device_models.specs.declared.console_command.ConsoleCommand.{ConsoleCommand}
 use Rattle.device_models.specs.declared.console_command.ConsoleCommand.TheVariants.{Write, Read, NoOperation, Sense}
-use Rattle.device_models.specs.ConsoleCommands.{command_of}
-use Rattle.device_models.specs.Shapes.{Begun, Ended, answer_of_begun, answer_of_ended, part, sense_left}
+use Rattle.device_models.specs.ConsoleCommands.{console_command_of}
+use Rattle.device_models.specs.Shapes.{InitialStatus, EndingStatus, answer_of_begun, answer_of_ended, part, sense_left}
 
 -- the line, the sense byte, the command at hand, and how many bytes it has given
 pub record Lines : Type 0 where
@@ -34,14 +34,14 @@ abbrev pub opening : Lines
 opening = record { line = []; sense = 0; at_hand = None; given = 0 }
 
 -- A command is begun: it is at hand. A write begins an empty line.
-abbrev pub begins : Lines → ConsoleCommand → ℕ → Begun Lines
+abbrev pub begins : Lines → ConsoleCommand → ℕ → InitialStatus Lines
 begins console command status = record { status = status; state = record console { at_hand = Some command; given = 0 } }
 
 -- a code without a command: unit check, and the sense byte says command reject
-abbrev pub rejected : Lines → Begun Lines
+abbrev pub rejected : Lines → InitialStatus Lines
 rejected console = record { status = 0x02; state = record console { sense = 0x80; at_hand = None; given = 0 } }
 
-abbrev pub begun : Lines → Option ConsoleCommand → Begun Lines
+abbrev pub begun : Lines → Option ConsoleCommand → InitialStatus Lines
 begun console (Some Write) = begins (record console { line = [] }) Write 0
 begun console (Some Read) = begins console Read 0
 begun console (Some NoOperation) = begins console NoOperation 0x08
@@ -77,28 +77,28 @@ abbrev pub absorbed : Lines → List ℕ → Lines
 absorbed console bytes = record console { line = console.line ++ take (taken_of console bytes) bytes }
 
 -- A command is ended: none is at hand.
-abbrev pub ends : Lines → ℕ → Bool → Ended Lines
+abbrev pub ends : Lines → ℕ → Bool → EndingStatus Lines
 ends console status more = record { status = status; more = more; state = record console { at_hand = None; given = 0 } }
 
-abbrev pub ended_by : Option ConsoleCommand → Lines → Ended Lines
+abbrev pub ended_by : Option ConsoleCommand → Lines → EndingStatus Lines
 ended_by (Some Write) console = ends console 0x0C false
 ended_by (Some Read) console = ends console 0x0C (nat_lt console.given (length console.line))
 ended_by (Some NoOperation) console = ends console 0x04 false
 ended_by (Some Sense) console = ends console 0x0C false
 ended_by None console = ends console 0x0C false
 
-abbrev pub ended : Lines → Ended Lines
+abbrev pub ended : Lines → EndingStatus Lines
 ended console = ended_by console.at_hand console
 
 -- Each call of a console: its answer, and the console after it.
 abbrev pub answer_of : Lines → Call → DeviceAnswer
-answer_of console (call.Initial code) = answer_of_begun (begun console (command_of code))
+answer_of console (call.Initial code) = answer_of_begun (begun console (console_command_of code))
 answer_of console (call.Absorb bytes) = answer.Absorbed (taken_of console bytes)
 answer_of console (call.Supply most) = answer.Supplied (given_of console most)
 answer_of console call.Finish = answer_of_ended (ended console)
 
 abbrev pub after : Lines → Call → Lines
-after console (call.Initial code) = (begun console (command_of code)).state
+after console (call.Initial code) = (begun console (console_command_of code)).state
 after console (call.Absorb bytes) = absorbed console bytes
 after console (call.Supply most) = supplied console (given_of console most)
 after console call.Finish = (ended console).state

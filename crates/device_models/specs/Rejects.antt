@@ -4,7 +4,7 @@ use Rattle.chan_model.specs.declared.report.Call.{Call}
 use Rattle.chan_model.specs.declared.report.Call.TheVariants as call
 use Rattle.chan_model.specs.declared.report.DeviceAnswer.{DeviceAnswer}
 use Rattle.chan_model.specs.declared.report.DeviceAnswer.TheVariants as answer
-use Rattle.device_models.specs.Shapes.{Begun, Ended, answer_of_begun, answer_of_ended}
+use Rattle.device_models.specs.Shapes.{InitialStatus, EndingStatus, answer_of_begun, answer_of_ended}
 
 -- all that it keeps is the sense byte, which no command reads
 pub record Rejects : Type 0 where
@@ -14,11 +14,11 @@ abbrev pub opening : Rejects
 opening = record { sense = 0 }
 
 -- any code: unit check, and the sense byte says command reject
-abbrev pub begun : Begun Rejects
+abbrev pub begun : InitialStatus Rejects
 begun = record { status = 0x02; state = record { sense = 0x80 } }
 
 -- a command that was halted before it began
-abbrev pub ended : Rejects → Ended Rejects
+abbrev pub ended : Rejects → EndingStatus Rejects
 ended device = record { status = 0x0C; more = false; state = device }
 
 -- Each call of it: its answer, and the device after it.

@@ -5,20 +5,20 @@ use Rattle.chan_model.specs.declared.report.DeviceAnswer.TheVariants as answer
 use Rattle.device_law.specs.Calls.{answer_of_initial}
 
 -- The initial status of a command, and the device with it at hand.
-pub record Begun (S : Type 0) : Type 0 where
+pub record InitialStatus (S : Type 0) : Type 0 where
   pub status : ℕ
   pub state : S
 
 -- The status that ends a command, whether it had more bytes to give, and the device with no command at hand.
-pub record Ended (S : Type 0) : Type 0 where
+pub record EndingStatus (S : Type 0) : Type 0 where
   pub status : ℕ
   pub more : Bool
   pub state : S
 
-abbrev pub answer_of_begun : {S : Type 0} → Begun S → DeviceAnswer
+abbrev pub answer_of_begun : {S : Type 0} → InitialStatus S → DeviceAnswer
 answer_of_begun b = answer_of_initial (record { 0 = b.status })
 
-abbrev pub answer_of_ended : {S : Type 0} → Ended S → DeviceAnswer
+abbrev pub answer_of_ended : {S : Type 0} → EndingStatus S → DeviceAnswer
 answer_of_ended e = answer.Ended (record { 0 = e.status }) e.more
 
 -- the bytes from a place on, at most so many

@@ -6,7 +6,7 @@ ghost use Rattle.ccw_codec.specs.declared.Class.TheVariants.{ReadBackward};
 ghost use Rattle.chan_model.specs.declared.report.Call.TheVariants as call;
 ghost use Rattle.chan_model.specs.declared.report.DeviceAnswer.TheVariants as answer;
 ghost use Rattle.device_law.specs.Laws.{IsInitial, IsFinal};
-ghost use Rattle.device_law.specs.Calls.{IsTold, answer_of_initial, answer_of_finish};
+ghost use Rattle.device_law.specs.Calls.{IsDeviceAnswer, answer_of_initial, answer_of_finish};
 ghost use Rattle.device_models.specs.AnyDevices as spec;
 
 use crate::block_store::BlockStore;
@@ -39,9 +39,9 @@ impl AnyDevice {
 }
 
 impl Device for AnyDevice {
-    ghost answers = { IsTold spec.answer_of spec.after };
+    ghost answers = { IsDeviceAnswer spec.answer_of spec.after };
 
-    ghost opening = { spec.opening_of };
+    ghost opening = { spec.device_opening };
 
     fn initial(&mut self, code: u8) -> DeviceStatus {
         match self {

@@ -5,12 +5,12 @@ ghost use Rattle.ccw_codec.specs.Command.{class_of};
 ghost use Rattle.ccw_codec.specs.declared.Class.TheVariants.{ReadBackward};
 ghost use Rattle.device_law.specs.Laws.{IsInitial, IsFinal};
 ghost use Rattle.device_models.specs.Blocks as spec;
-ghost use Rattle.device_models.specs.Commands.{command_of, size_of};
+ghost use Rattle.device_models.specs.Commands.{block_command_of, block_size_of};
 ghost use Rattle.chan_model.specs.declared.report.Call.TheVariants as call;
 ghost use Rattle.chan_model.specs.declared.report.DeviceAnswer.TheVariants as answer;
-ghost use Rattle.device_law.specs.Calls.{IsTold, answer_of_initial, answer_of_finish};
+ghost use Rattle.device_law.specs.Calls.{IsDeviceAnswer, answer_of_initial, answer_of_finish};
 
-use crate::command::Command;
+use crate::command::BlockCommand;
 use crate::giving::{COMMAND_REJECT, part};
 use chan_model::chunk::Chunk;
 use device_law::{Device, Finish};
@@ -32,7 +32,7 @@ pub struct BlockStore {
     blocks: [[u8; 64]; 32],
     current: u8,
     sense: u8,
-    at_hand: Option<Command>,
+    at_hand: Option<BlockCommand>,
     /// How many bytes the command at hand has moved.
     moved: u8,
     /// The block number that a command brings, its left byte first.
@@ -82,12 +82,12 @@ impl BlockStore {
     fn given(&self, most: usize) -> Chunk
         ensures bytes { result ≡ spec.given_of self.now most }
         ensures bound { length result ≤ most }
-        ensures left { self.now.moved + length result ≤ size_of self.now.at_hand }
+        ensures left { self.now.moved + length result ≤ block_size_of self.now.at_hand }
     {
         let place = usize::from(self.moved);
         match self.at_hand {
-            Some(Command::Read) => part(&self.blocks[usize::from(self.current)], place, most),
-            Some(Command::Sense) => part(&[self.sense], place, most),
+            Some(BlockCommand::Read) => part(&self.blocks[usize::from(self.current)], place, most),
+            Some(BlockCommand::Sense) => part(&[self.sense], place, most),
             _ => Chunk::new(),
         }
     }
@@ -95,11 +95,11 @@ impl BlockStore {
     /// How many bytes the command at hand takes yet.
     fn room(&self) -> usize
         ensures room { result ≡ spec.room_of self.now.at_hand self.now.moved }
-        ensures left { self.now.moved + result ≤ size_of self.now.at_hand }
+        ensures left { self.now.moved + result ≤ block_size_of self.now.at_hand }
     {
         let size = match self.at_hand {
-            Some(Command::Write) => BLOCK_BYTES,
-            Some(Command::Seek | Command::SearchEqual) => NUMBER_BYTES,
+            Some(BlockCommand::Write) => BLOCK_BYTES,
+            Some(BlockCommand::Seek | BlockCommand::SearchEqual) => NUMBER_BYTES,
             _ => return 0,
         };
         usize::from(size - self.moved)
@@ -151,18 +151,18 @@ impl BlockStore {
 }
 
 impl Device for BlockStore {
-    ghost answers = { IsTold spec.answer_of spec.after };
+    ghost answers = { IsDeviceAnswer spec.answer_of spec.after };
 
     ghost opening = { λ _. spec.opening };
 
     /// Codes 01 (write), 02 (read), 03 (no operation), 04 (sense), 07 (seek), 0B (recalibrate) and 31 (search
     /// equal) are begun. Any other is rejected: the sense byte is 80 then.
     fn initial(&mut self, code: u8) -> DeviceStatus {
-        self.at_hand = Command::of_code(code);
+        self.at_hand = BlockCommand::of_code(code);
         self.moved = 0;
         match self.at_hand {
-            Some(Command::NoOperation) => DeviceStatus::CHANNEL_END,
-            Some(Command::Recalibrate) => {
+            Some(BlockCommand::NoOperation) => DeviceStatus::CHANNEL_END,
+            Some(BlockCommand::Recalibrate) => {
                 self.current = 0;
                 DeviceStatus::CHANNEL_END
             }
@@ -177,7 +177,7 @@ impl Device for BlockStore {
     /// Gives what is left of the current block (02), or the sense byte (04).
     fn supply(&mut self, most: usize) -> Chunk {
         let bytes = self.given(most);
-        if self.at_hand == Some(Command::Sense) && bytes.len() > 0 {
+        if self.at_hand == Some(BlockCommand::Sense) && bytes.len() > 0 {
             self.sense = 0;
         }
         self.moved += bytes.len() as u8;
@@ -190,8 +190,16 @@ impl Device for BlockStore {
         let taken = &bytes[..count];
         let place = usize::from(self.moved);
         match self.at_hand {
-            Some(Command::Write) => lay(&mut self.blocks[usize::from(self.current)], place, taken),
-            Some(Command::Seek | Command::SearchEqual) => lay(&mut self.number, place, taken),
+            Some(BlockCommand::Write) => lay(
+                &mut self.blocks[usize::from(self.current)],
+                place,
+                taken,
+            ),
+            Some(BlockCommand::Seek | BlockCommand::SearchEqual) => lay(
+                &mut self.number,
+                place,
+                taken,
+            ),
             _ => {}
         }
         self.moved += count as u8;
@@ -202,15 +210,15 @@ impl Device for BlockStore {
     /// check for a number that is no block's (07), and with status modifier for the current one's (31).
     fn finish(&mut self) -> Finish {
         match self.at_hand {
-            Some(Command::Read) => {
+            Some(BlockCommand::Read) => {
                 let more = self.moved < BLOCK_BYTES;
                 self.end(DeviceStatus::end(), more)
             }
-            Some(Command::NoOperation | Command::Recalibrate) => {
+            Some(BlockCommand::NoOperation | BlockCommand::Recalibrate) => {
                 self.end(DeviceStatus::DEVICE_END, false)
             }
-            Some(Command::Seek) => self.seek(),
-            Some(Command::SearchEqual) => self.search(),
+            Some(BlockCommand::Seek) => self.seek(),
+            Some(BlockCommand::SearchEqual) => self.search(),
             _ => self.end(DeviceStatus::end(), false),
         }
     }

@@ -6,7 +6,7 @@ ghost use Rattle.ccw_codec.specs.declared.Class.TheVariants.{ReadBackward};
 
 /// A command of a store of blocks (own).
 #[derive(Clone, Copy, Debug, PartialEq, Eq)]
-pub enum Command {
+pub enum BlockCommand {
     /// Code 01: writes into the current block, from its start.
     Write,
     /// Code 02: reads the current block, from its start.
@@ -23,22 +23,22 @@ pub enum Command {
     SearchEqual,
 }
 
-impl Command {
-    ghost use Rattle.device_models.specs.Commands.{command_of, size_of};
+impl BlockCommand {
+    ghost use Rattle.device_models.specs.Commands.{block_command_of, block_size_of};
 
     /// The command of a code, if a store has it.
-    pub fn of_code(code: u8) -> Option<Command>
-        ensures command { result ≡ command_of code }
+    pub fn of_code(code: u8) -> Option<BlockCommand>
+        ensures command { result ≡ block_command_of code }
         ensures backward { class_of code ≡ ReadBackward → result ≡ None }
     {
         match code {
-            0x01 => Some(Command::Write),
-            0x02 => Some(Command::Read),
-            0x03 => Some(Command::NoOperation),
-            0x04 => Some(Command::Sense),
-            0x07 => Some(Command::Seek),
-            0x0B => Some(Command::Recalibrate),
-            0x31 => Some(Command::SearchEqual),
+            0x01 => Some(BlockCommand::Write),
+            0x02 => Some(BlockCommand::Read),
+            0x03 => Some(BlockCommand::NoOperation),
+            0x04 => Some(BlockCommand::Sense),
+            0x07 => Some(BlockCommand::Seek),
+            0x0B => Some(BlockCommand::Recalibrate),
+            0x31 => Some(BlockCommand::SearchEqual),
             _ => None,
         }
     }

@@ -6,7 +6,7 @@ ghost use Rattle.ccw_codec.specs.declared.Class.TheVariants.{ReadBackward};
 ghost use Rattle.chan_model.specs.declared.report.Call.TheVariants as call;
 ghost use Rattle.chan_model.specs.declared.report.DeviceAnswer.TheVariants as answer;
 ghost use Rattle.device_law.specs.Laws.{IsInitial, IsFinal};
-ghost use Rattle.device_law.specs.Calls.{IsTold, answer_of_initial, answer_of_finish};
+ghost use Rattle.device_law.specs.Calls.{IsDeviceAnswer, answer_of_initial, answer_of_finish};
 ghost use Rattle.device_models.specs.Lines as spec;
 
 use crate::console_command::ConsoleCommand;
@@ -96,7 +96,7 @@ impl Console {
 }
 
 impl Device for Console {
-    ghost answers = { IsTold spec.answer_of spec.after };
+    ghost answers = { IsDeviceAnswer spec.answer_of spec.after };
 
     ghost opening = { λ _. spec.opening };
 

@@ -18,11 +18,11 @@ pub enum ConsoleCommand {
 }
 
 impl ConsoleCommand {
-    ghost use Rattle.device_models.specs.ConsoleCommands.{command_of};
+    ghost use Rattle.device_models.specs.ConsoleCommands.{console_command_of};
 
     /// The command of a code, if a console has it.
     pub fn of_code(code: u8) -> Option<ConsoleCommand>
-        ensures command { result ≡ command_of code }
+        ensures command { result ≡ console_command_of code }
         ensures backward { class_of code ≡ ReadBackward → result ≡ None }
     {
         match code {

@@ -11,7 +11,7 @@ ghost use Rattle.subchannel_model.specs.Modify as modify_spec;
 ghost use Rattle.subchannel_model.specs.Start as start_spec;
 
 use crate::codes::is_intermediate_alone;
-use allegiance::allegiances::{Cause, dedicated};
+use allegiance::allegiances::{AllegianceCause, dedicated};
 use chan_model::paths::paths_of_mask;
 use hold::Hold;
 use orb_block::Orb;
@@ -19,7 +19,7 @@ use schib_block::pmcw;
 use scsw_irb::scsw::{ActivityControl, DeferredCode, FunctionControl, Scsw, StatusControl};
 use scsw_irb::serials::Serials;
 use scsw_irb::status::{DeviceStatus, SubchannelStatus};
-use subchannel_model::state::{Pmcw, Program, SubchannelState};
+use subchannel_model::state::{PmcwState, Program, SubchannelState};
 
 fn start_scsw(scsw: &mut Scsw, orb: &Orb)
     ensures { scsw.new ≡ start_spec.started_scsw scsw.old orb.now }
@@ -48,7 +48,7 @@ fn start_scsw(scsw: &mut Scsw, orb: &Orb)
     scsw.count = 0;
 }
 
-fn start_pmcw(pmcw: &mut Pmcw, orb: &Orb)
+fn start_pmcw(pmcw: &mut PmcwState, orb: &Orb)
     ensures { pmcw.new ≡ start_spec.started_pmcw pmcw.old orb.now }
 {
     pmcw.parameter = orb.parameter;
@@ -73,7 +73,7 @@ pub fn start(state: &mut SubchannelState, orb: &Orb)
     state.suspended = None;
 }
 
-fn find_operational(pmcw: &mut Pmcw)
+fn find_operational(pmcw: &mut PmcwState)
     ensures { pmcw.new ≡ condition_spec.found_operational pmcw.old }
 {
     pmcw.not_operational = [false; 8];
@@ -116,7 +116,7 @@ fn halt_scsw(scsw: &mut Scsw)
 }
 
 fn halting(state: &mut SubchannelState)
-    ensures { state.new ≡ halt_spec.halting state.old }
+    ensures { state.new ≡ halt_spec.halt_begun state.old }
 {
     find_operational(&mut state.pmcw);
     halt_scsw(&mut state.scsw);
@@ -130,7 +130,7 @@ pub fn drop_scsw(scsw: &mut Scsw)
 }
 
 fn drop_status(state: &mut SubchannelState)
-    ensures { state.new ≡ halt_spec.dropped state.old }
+    ensures { state.new ≡ halt_spec.status_dropped state.old }
 {
     drop_scsw(&mut state.scsw);
     clear_serials(&mut state.serials);
@@ -156,7 +156,7 @@ fn cleared_scsw() -> Scsw
     scsw
 }
 
-fn clear_pmcw(pmcw: &mut Pmcw)
+fn clear_pmcw(pmcw: &mut PmcwState)
     ensures { pmcw.new ≡ clear_spec.cleared_pmcw pmcw.old }
 {
     pmcw.not_operational = [false; 8];
@@ -179,7 +179,7 @@ pub(crate) fn clear(state: &mut SubchannelState)
     let mut hold = Hold::of(state.hold);
     hold.reset(state.drawn);
     state.hold = hold.state();
-    state.dedicated = dedicated(state.dedicated, Cause::Clear);
+    state.dedicated = dedicated(state.dedicated, AllegianceCause::Clear);
 }
 
 fn cancel_scsw(scsw: &mut Scsw)
@@ -201,8 +201,8 @@ pub(crate) fn cancel(state: &mut SubchannelState)
     state.suspended = None;
 }
 
-fn place_word(state: &mut Pmcw, word: &pmcw::Pmcw)
-    ensures { state.new ≡ modify_spec.with_word state.old word.now }
+fn place_word(state: &mut PmcwState, word: &pmcw::Pmcw)
+    ensures { state.new ≡ modify_spec.pmcw_with_word state.old word.now }
 {
     state.parameter = word.parameter;
     state.subclass = word.subclass;

@@ -157,7 +157,7 @@ impl Hold {
 
     /// A path went down or was reset: whether the device is to be reset for it, under this number.
     pub fn path_down(&mut self, path: Path, number: u64) -> bool
-        ensures state { self.new ≡ causes.path_lost self.old path number }
+        ensures state { self.new ≡ causes.hold_path_lost self.old path number }
         ensures reset { result ≡ causes.rests_on self.old path }
     {
         let rests = rows::rests_on(&self.state, path);

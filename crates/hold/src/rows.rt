@@ -58,8 +58,8 @@ fn sending(path: Path, signal: Down) -> Taken<Down>
 
 /// Accept of the number that is offered: the program goes on, or lets the device go at once.
 fn accepted(hold: &mut HoldState, number: u64, may: bool) -> Taken<Down>
-    ensures state { hold.new ≡ table.hold_after hold.old (table.accepted hold.old hold.old.phase number may) }
-    ensures came { result ≡ table.came_of (table.accepted hold.old hold.old.phase number may) }
+    ensures state { hold.new ≡ table.hold_after hold.old (table.offer_accepted hold.old hold.old.phase number may) }
+    ensures came { result ≡ table.came_of (table.offer_accepted hold.old hold.old.phase number may) }
 {
     let phase = hold.phase;
     match phase {
@@ -73,8 +73,8 @@ fn accepted(hold: &mut HoldState, number: u64, may: bool) -> Taken<Down>
 
 /// The program of this number was accepted on this path.
 fn begun(hold: &mut HoldState, number: u64, path: Path, goes_on: bool) -> Taken<Down>
-    ensures state { hold.new ≡ (table.begun hold.old number path goes_on).state }
-    ensures came { result ≡ table.came_of (Some (table.begun hold.old number path goes_on)) }
+    ensures state { hold.new ≡ (table.program_begun hold.old number path goes_on).state }
+    ensures came { result ≡ table.came_of (Some (table.program_begun hold.old number path goes_on)) }
 {
     hold.seen = 0;
     hold.first_path = Some(path);
@@ -191,8 +191,8 @@ fn released(hold: &mut HoldState, number: u64) -> Taken<Down>
 
 /// Cleared of the Reset's number.
 fn cleared(hold: &mut HoldState, number: u64) -> Taken<Down>
-    ensures state { hold.new ≡ table.hold_after hold.old (table.cleared hold.old hold.old.phase number) }
-    ensures came { result ≡ table.came_of (table.cleared hold.old hold.old.phase number) }
+    ensures state { hold.new ≡ table.hold_after hold.old (table.reset_cleared hold.old hold.old.phase number) }
+    ensures came { result ≡ table.came_of (table.reset_cleared hold.old hold.old.phase number) }
 {
     match hold.phase {
         HoldPhase::Reset { number: last } if number == last => {

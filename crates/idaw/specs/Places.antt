@@ -18,12 +18,12 @@ place_of_word b words j =
     if nat_lt j h then y + j else slice_index words (1 + (j - h) / b) + (j - h) % b
 
 -- byte j: in the words' blocks, or from the command word's own address on
-abbrev pub address_of : ℕ → Reach → ℕ → ℕ
-address_of b r j = if r.ccw.indirect then place_of_word b r.words j else r.ccw.address + j
+abbrev pub address_of_byte : ℕ → Reach → ℕ → ℕ
+address_of_byte b r j = if r.ccw.indirect then place_of_word b r.words j else r.ccw.address + j
 
 -- a skipped byte has no place
-abbrev pub place_of : ℕ → Reach → ℕ → Option ℕ
-place_of b r j = if r.skipped then None else Some (address_of b r j)
+abbrev pub place_of_byte : ℕ → Reach → ℕ → Option ℕ
+place_of_byte b r j = if r.skipped then None else Some (address_of_byte b r j)
 
 -- f 0, f 1, and so on: n of them
 abbrev pub each_below : {X : Type 0} → (ℕ → X) → ℕ → List X
@@ -32,16 +32,16 @@ each_below f (suc n) = each_below f n ++ f n ∷ []
 
 -- the places of n bytes from byte j on
 abbrev pub places_from : ℕ → Reach → ℕ → ℕ → List (Option ℕ)
-places_from b r j n = each_below (λ i. place_of b r (j + i)) n
+places_from b r j n = each_below (λ i. place_of_byte b r (j + i)) n
 
 -- the places of a command are those of its command words in order, the latest of which stands first
-abbrev pub places : ℕ → List Reach → List (Option ℕ)
-places b [] = []
-places b (r ∷ before) = places b before ++ each_below (place_of b r) r.ccw.count
+abbrev pub places_of_bytes : ℕ → List Reach → List (Option ℕ)
+places_of_bytes b [] = []
+places_of_bytes b (r ∷ before) = places_of_bytes b before ++ each_below (place_of_byte b r) r.ccw.count
 
 -- one more word of the list is fetched
-abbrev pub with_word : Reach → ℕ → Reach
-with_word r word = record r { words = r.words ++ word ∷ [] }
+abbrev pub reach_with_word : Reach → ℕ → Reach
+reach_with_word r word = record r { words = r.words ++ word ∷ [] }
 
 -- how many bytes the words reach
 abbrev pub covered : ℕ → List ℕ → ℕ

@@ -2,7 +2,7 @@
 
 use chan_model::answer::ConditionCode;
 use channel_reports::Reports;
-use scsw_irb::crw::{Crw, Report};
+use scsw_irb::crw::{Crw, PathReport};
 
 #[test]
 fn the_last_of_sixteen_says_that_one_was_lost(rt: HostRuntime) {
@@ -45,6 +45,6 @@ fn a_path_that_goes_down_is_not_asked_for(rt: HostRuntime) {
     reports.path_lost(0xFF);
     assert!(rt; !reports.is_asked(0xFF));
     assert!(rt; reports.stcrw().map(Crw::word) == Some(0x0406_00FF));
-    reports.add(Report::Back, 1);
+    reports.add(PathReport::Back, 1);
     assert!(rt; reports.stcrw().map(Crw::word) == Some(0x0401_0001));
 }

@@ -1,7 +1,7 @@
 //! Images whose bytes are known from elsewhere.
 
 use scsw_irb::code::IntCode;
-use scsw_irb::crw::{Crw, Report};
+use scsw_irb::crw::{Crw, PathReport};
 use scsw_irb::irb::Irb;
 use scsw_irb::scsw::{ActivityControl, DeferredCode, FunctionControl, Scsw, StatusControl};
 use scsw_irb::status::{DeviceStatus, SubchannelStatus};
@@ -60,9 +60,9 @@ fn an_ended_program_is_shown(rt: HostRuntime) {
 #[test]
 fn reports_of_a_path(rt: HostRuntime) {
     for (report, word) in [
-        (Report::Lost, 0x0406_00C1),
-        (Report::Back, 0x0401_00C1),
-        (Report::ResetDone, 0x4402_00C1),
+        (PathReport::Lost, 0x0406_00C1),
+        (PathReport::Back, 0x0401_00C1),
+        (PathReport::ResetDone, 0x4402_00C1),
     ] {
         let crw = Crw {
             report,

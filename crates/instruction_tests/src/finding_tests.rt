@@ -1,52 +1,21 @@
 //! Places and engines of a few subchannels, looked up.
 
-use chan_model::hold_state::{HoldPhase, HoldState};
+use crate::setups::idle_state;
+use chan_model::hold_state::HoldPhase;
 use chan_model::names::{Path, Side};
 use channel_config::names::SubchannelId;
 use channel_config::parts::{ChpidList, SubchannelSetup};
 use finding::engines::{Counted, Engines, engaged};
 use finding::tables::Places;
-use scsw_irb::scsw::Scsw;
-use scsw_irb::serials::Serials;
 use std::alloc::{AllocError, Global};
-use subchannel_model::state::{Pmcw, Subchannel, SubchannelState};
+use subchannel_model::state::{Subchannel, SubchannelState};
 use supply::{Given, Refusing, Supply};
 use wires::Wires;
 
 fn state(phase: HoldPhase) -> SubchannelState {
-    SubchannelState {
-        pmcw: Pmcw {
-            parameter: 0,
-            subclass: 0,
-            enabled: true,
-            multipath: false,
-            logical: [true; 8],
-            not_operational: [false; 8],
-            last_used: None,
-            operational: [true; 8],
-        },
-        scsw: Scsw::zero(),
-        serials: Serials {
-            made: 0,
-            cleared: 0,
-        },
-        drawn: 0,
-        starts: 0,
-        waiting: None,
-        begun: None,
-        suspended: None,
-        hold: HoldState {
-            phase,
-            seen: 0,
-            known: 0,
-            reset_path: None,
-            first_path: None,
-            single_path: true,
-        },
-        offered: 0,
-        last_path: None,
-        dedicated: None,
-    }
+    let mut state = idle_state();
+    state.hold.phase = phase;
+    state
 }
 
 /// A subchannel of this name on this side of a unit, with two paths: 10 and 20 in hexadecimal.

@@ -1,8 +1,9 @@
 //! The table of condition codes, each code of each instruction once, and status words that are known from elsewhere.
 
+use crate::setups::{idle_state, is_same_words};
 use ccw_walk::Walk;
 use chan_model::answer::ConditionCode;
-use chan_model::hold_state::{HoldPhase, HoldState};
+use chan_model::hold_state::HoldPhase;
 use chan_model::names::Path;
 use chan_model::paths::mask_of_paths;
 use functions::codes::{
@@ -14,48 +15,25 @@ use orb_block::Orb;
 use schib_block::pmcw;
 use scsw_irb::scsw::Scsw;
 use scsw_irb::serials::Serials;
-use subchannel_model::state::{Pmcw, Program, Standing, SubchannelState};
+use subchannel_model::state::{Program, ProgramPosition, SubchannelState};
 use subchannel_model::status::Condition;
 
 /// An enabled subchannel whose status word has these three words, and whose number 4 was drawn last.
 fn subchannel(words: [u32; 3]) -> SubchannelState {
-    SubchannelState {
-        pmcw: Pmcw {
-            parameter: 0,
-            subclass: 0,
-            enabled: true,
-            multipath: false,
-            logical: [true; 8],
-            not_operational: [true; 8],
-            last_used: Path::new(3),
-            operational: [false; 8],
-        },
-        scsw: Scsw::of_words(&words).unwrap_or(Scsw::zero()),
-        serials: Serials {
-            made: 9,
-            cleared: 8,
-        },
-        drawn: 4,
-        starts: 2,
-        waiting: None,
-        begun: None,
-        suspended: None,
-        hold: HoldState {
-            phase: HoldPhase::Free,
-            seen: 0,
-            known: 0,
-            reset_path: None,
-            first_path: None,
-            single_path: true,
-        },
-        offered: 0,
-        last_path: Path::new(5),
-        dedicated: Path::new(6),
-    }
-}
-
-fn is_same_words(state: &SubchannelState, words: [u32; 3]) -> bool {
-    state.scsw.words() == words
+    let mut state = idle_state();
+    state.pmcw.not_operational = [true; 8];
+    state.pmcw.last_used = Path::new(3);
+    state.pmcw.operational = [false; 8];
+    state.scsw = Scsw::of_words(&words).unwrap_or(Scsw::zero());
+    state.serials = Serials {
+        made: 9,
+        cleared: 8,
+    };
+    state.drawn = 4;
+    state.starts = 2;
+    state.last_path = Path::new(5);
+    state.dedicated = Path::new(6);
+    state
 }
 
 /// What an instruction finds of an enabled subchannel whose status word begins so.
@@ -186,9 +164,9 @@ fn a_start_is_cancelled(rt: HostRuntime) {
 }
 
 /// A suspended program.
-fn suspended() -> Option<Standing> {
+fn suspended() -> Option<ProgramPosition> {
     let orb = orb()?;
-    Some(Standing {
+    Some(ProgramPosition {
         program: Program {
             start: 2,
             orb,

@@ -3,10 +3,10 @@
 ghost use Rattle.std.specs.Bool.{OnTrue};
 ghost use Rattle.machine_model.specs.Bounds.{IsRoomy};
 
+use crate::setups::idle_state;
 use chan_events::event::Instruction;
 use chan_model::answer::ConditionCode;
 use chan_model::fault::Fault;
-use chan_model::hold_state::{HoldPhase, HoldState};
 use chan_model::names::{Cpu, Side};
 use channel_config::names::SubchannelId;
 use channel_config::parts::{ChpidList, SubchannelSetup};
@@ -14,11 +14,9 @@ use channel_reports::Reports;
 use interruptions::Pending;
 use io_step::{ChannelPaths, Done, IoInstruction, OtherInstruction, perform};
 use scsw_irb::code::IntCode;
-use scsw_irb::scsw::Scsw;
-use scsw_irb::serials::Serials;
 use std::alloc::Global;
 use storage_keys::{Storage, StorageFault};
-use subchannel_model::state::{Pmcw, Subchannel, SubchannelState};
+use subchannel_model::state::{Subchannel, SubchannelState};
 use wires::Wires;
 
 const WORD: u32 = 0x0001_0001;
@@ -36,39 +34,10 @@ struct Lent {
 }
 
 fn state(enabled: bool) -> SubchannelState {
-    SubchannelState {
-        pmcw: Pmcw {
-            parameter: 0,
-            subclass: 7,
-            enabled,
-            multipath: false,
-            logical: [true; 8],
-            not_operational: [false; 8],
-            last_used: None,
-            operational: [true; 8],
-        },
-        scsw: Scsw::zero(),
-        serials: Serials {
-            made: 0,
-            cleared: 0,
-        },
-        drawn: 0,
-        starts: 0,
-        waiting: None,
-        begun: None,
-        suspended: None,
-        hold: HoldState {
-            phase: HoldPhase::Free,
-            seen: 0,
-            known: 0,
-            reset_path: None,
-            first_path: None,
-            single_path: true,
-        },
-        offered: 0,
-        last_path: None,
-        dedicated: None,
-    }
+    let mut state = idle_state();
+    state.pmcw.enabled = enabled;
+    state.pmcw.subclass = 7;
+    state
 }
 
 /// Subchannel 1 of set 0, enabled, with one path that is configured and engaged: hexadecimal 10. Path 11 is engaged too.

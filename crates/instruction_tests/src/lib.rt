@@ -8,4 +8,6 @@ mod functions_tests;
 #[cfg(test)]
 mod io_step_tests;
 #[cfg(test)]
+mod setups;
+#[cfg(test)]
 mod status_tests;

@@ -1,8 +1,8 @@
 //! Status words that are known from elsewhere, cause by cause.
 
+use crate::setups::{idle_state, is_same_words};
 use ccw_walk::Walk;
 use chan_model::answer::ConditionCode;
-use chan_model::hold_state::{HoldPhase, HoldState};
 use channel_program::check::Check;
 use orb_block::Orb;
 use scsw_irb::scsw::Scsw;
@@ -13,51 +13,22 @@ use status::ends::chains_command;
 use status::{law, make_pending, tsch};
 use std::alloc::Global;
 use storage_keys::Storage;
-use subchannel_model::cause::Cause;
-use subchannel_model::state::{Begun, Pmcw, Program, Standing, SubchannelState};
-use transfer::Came;
+use subchannel_model::cause::StatusCause;
+use subchannel_model::state::{ActiveProgram, Program, ProgramPosition, SubchannelState};
+use transfer::CommandStart;
 use transfer::chunks::{absorbed, next_given};
 use transfer::commands::first_command;
 
 /// An enabled subchannel whose status word has these three words, and whose statuses are all cleared.
 fn subchannel(words: [u32; 3]) -> SubchannelState {
-    SubchannelState {
-        pmcw: Pmcw {
-            parameter: 0,
-            subclass: 0,
-            enabled: true,
-            multipath: false,
-            logical: [true; 8],
-            not_operational: [false; 8],
-            last_used: None,
-            operational: [true; 8],
-        },
-        scsw: Scsw::of_words(&words).unwrap_or(Scsw::zero()),
-        serials: Serials {
-            made: 8,
-            cleared: 8,
-        },
-        drawn: 0,
-        starts: 2,
-        waiting: None,
-        begun: None,
-        suspended: None,
-        hold: HoldState {
-            phase: HoldPhase::Free,
-            seen: 0,
-            known: 0,
-            reset_path: None,
-            first_path: None,
-            single_path: true,
-        },
-        offered: 0,
-        last_path: None,
-        dedicated: None,
-    }
-}
-
-fn is_same_words(state: &SubchannelState, words: [u32; 3]) -> bool {
-    state.scsw.words() == words
+    let mut state = idle_state();
+    state.scsw = Scsw::of_words(&words).unwrap_or(Scsw::zero());
+    state.serials = Serials {
+        made: 8,
+        cleared: 8,
+    };
+    state.starts = 2;
+    state
 }
 
 /// A program of format 1 at 1000, with access key 0.
@@ -71,16 +42,17 @@ fn program() -> Option<Program> {
 }
 
 /// The same with its first command at work: a block of this code and these flags, for four bytes at 2000.
-fn begun_by(alloc: Global, code: u8, flags: u8) -> Option<Begun> {
+fn begun_by(alloc: Global, code: u8, flags: u8) -> Option<ActiveProgram> {
     let program = program()?;
     let mut storage = Storage::new(alloc, 16).ok()?;
     storage
         .put(0x1000, &[code, flags, 0, 4, 0, 0, 0x20, 0])
         .ok()?;
-    let Came::Begins(transfer) = first_command(&storage, Walk::start(program.orb)).came else {
+    let CommandStart::Begins(transfer) = first_command(&storage, Walk::start(program.orb)).came
+    else {
         return None;
     };
-    Some(Begun {
+    Some(ActiveProgram {
         program,
         primary_shown: false,
         transfer,
@@ -88,30 +60,30 @@ fn begun_by(alloc: Global, code: u8, flags: u8) -> Option<Begun> {
 }
 
 /// The same with SLI one.
-fn begun(alloc: Global, code: u8, primary_shown: bool) -> Option<Begun> {
+fn begun(alloc: Global, code: u8, primary_shown: bool) -> Option<ActiveProgram> {
     let begun = begun_by(alloc, code, 0x20)?;
-    Some(Begun {
+    Some(ActiveProgram {
         primary_shown,
         ..begun
     })
 }
 
 /// The same once its device has absorbed the four bytes.
-fn moved(alloc: Global) -> Option<Begun> {
+fn moved(alloc: Global) -> Option<ActiveProgram> {
     let begun = begun(alloc, 1, false)?;
     let mut storage = Storage::new(alloc, 16).ok()?;
     storage.put(0x2000, &[0xC1, 0xC2, 0xC3, 0xC4]).ok()?;
     let given = next_given(&storage, &begun.transfer);
     if given.transfer.sequence < 9 {
         let transfer = absorbed(&storage, &given.transfer, 1, 4);
-        Some(Begun { transfer, ..begun })
+        Some(ActiveProgram { transfer, ..begun })
     } else {
         None
     }
 }
 
 /// The subchannel after a cause; None where its counts are used up.
-fn after(state: &SubchannelState, cause: Cause) -> Option<SubchannelState> {
+fn after(state: &SubchannelState, cause: StatusCause) -> Option<SubchannelState> {
     if state.serials.made < 9 {
         let mut next = *state;
         make_pending(&mut next, &cause);
@@ -122,7 +94,7 @@ fn after(state: &SubchannelState, cause: Cause) -> Option<SubchannelState> {
 }
 
 /// Whether the cause made one more status pending, and left these words and no program.
-fn shows(state: &SubchannelState, cause: Cause, words: [u32; 3]) -> bool {
+fn shows(state: &SubchannelState, cause: StatusCause, words: [u32; 3]) -> bool {
     match after(state, cause) {
         None => false,
         Some(next) => {
@@ -145,7 +117,7 @@ fn waiting(words: [u32; 3]) -> SubchannelState {
 
 /// The subchannel with a program that is suspended before its first block, and showed a count of 4.
 fn with_suspended(words: [u32; 3]) -> SubchannelState {
-    let suspended = program().map(|program| Standing {
+    let suspended = program().map(|program| ProgramPosition {
         program,
         walk: Walk::start(program.orb),
         count: 4,
@@ -156,8 +128,8 @@ fn with_suspended(words: [u32; 3]) -> SubchannelState {
     }
 }
 
-fn end(begun: &Begun, status: u8) -> Cause {
-    Cause::End {
+fn end(begun: &ActiveProgram, status: u8) -> StatusCause {
+    StatusCause::End {
         begun: *begun,
         status: DeviceStatus::of_bits(status),
         more: false,
@@ -238,7 +210,7 @@ fn channel_end_alone_and_device_end_later(rt: HostRuntime) {
 
 #[test]
 fn a_fault_at_a_block_and_no_path(rt: HostRuntime) {
-    let check = |check| Cause::FetchFault {
+    let check = |check| StatusCause::FetchFault {
         tried: 0x1008,
         check,
         count: 0,
@@ -259,31 +231,43 @@ fn a_fault_at_a_block_and_no_path(rt: HostRuntime) {
         )
     );
     let start = waiting([0x0080_4400, 0x1000, 0]);
-    assert!(rt; shows(&start, Cause::NoPath, [0x0380_4017, 0x1000, 0]));
+    assert!(rt; shows(&start, StatusCause::NoPath, [0x0380_4017, 0x1000, 0]));
     let lost = waiting([0x0081_4400, 0x1000, 0]);
-    assert!(rt; shows(&lost, Cause::NoPath, [0x0381_4017, 0x1000, 0]));
+    assert!(rt; shows(&lost, StatusCause::NoPath, [0x0381_4017, 0x1000, 0]));
 }
 
 #[test]
 fn a_suspended_program_shows_its_own_words(rt: HostRuntime) {
     let resumed = with_suspended([0x0880_4820, 0x2008, 0]);
     assert!(rt; resumed.suspended.is_some());
-    assert!(rt; shows(&resumed, Cause::NoPath, [0x0B80_4017, 0x1000, 0x0000_0004]));
     assert!(rt;
         shows(
             &resumed,
-            Cause::InterfaceControlCheck,
+            StatusCause::NoPath,
+            [0x0B80_4017, 0x1000, 0x0000_0004]
+        )
+    );
+    assert!(rt;
+        shows(
+            &resumed,
+            StatusCause::InterfaceControlCheck,
             [0x0880_4017, 0x1000, 0x0002_0004]
         )
     );
-    let check = Cause::FetchFault {
+    let check = StatusCause::FetchFault {
         tried: 0x1008,
         check: Check::Program,
         count: 4,
     };
     assert!(rt; shows(&resumed, check, [0x0880_4017, 0x1008, 0x0020_0004]));
     let halted = with_suspended([0x0880_6229, 0x2008, 0]);
-    assert!(rt; shows(&halted, Cause::HaltDone, [0x0880_6001, 0x1000, 0x0000_0004]));
+    assert!(rt;
+        shows(
+            &halted,
+            StatusCause::HaltDone,
+            [0x0880_6001, 0x1000, 0x0000_0004]
+        )
+    );
 }
 
 #[test]
@@ -305,9 +289,15 @@ fn a_command_is_chained_where_nothing_breaks_the_chain(rt: HostRuntime) {
 #[test]
 fn attention(rt: HostRuntime) {
     let idle = subchannel([0, 0, 0]);
-    assert!(rt; shows(&idle, Cause::Attention, [0x0000_0011, 0, 0x8000_0000]));
+    assert!(rt; shows(&idle, StatusCause::Attention, [0x0000_0011, 0, 0x8000_0000]));
     let start = waiting([0x0080_4400, 0x1000, 0]);
-    assert!(rt; shows(&start, Cause::Attention, [0x0180_4011, 0x1000, 0x8000_0000]));
+    assert!(rt;
+        shows(
+            &start,
+            StatusCause::Attention,
+            [0x0180_4011, 0x1000, 0x8000_0000]
+        )
+    );
 }
 
 #[test]
@@ -316,7 +306,7 @@ fn interface_control_check(rt: HostRuntime) {
     assert!(rt;
         shows(
             &start,
-            Cause::InterfaceControlCheck,
+            StatusCause::InterfaceControlCheck,
             [0x0080_4017, 0x1000, 0x0002_0000]
         )
     );
@@ -327,7 +317,7 @@ fn interface_control_check(rt: HostRuntime) {
     assert!(rt;
         shows(
             &held,
-            Cause::InterfaceControlCheck,
+            StatusCause::InterfaceControlCheck,
             [0x0080_4017, 0x1008, 0x0002_0004]
         )
     );
@@ -338,7 +328,7 @@ fn interface_control_check(rt: HostRuntime) {
     assert!(rt;
         shows(
             &behind,
-            Cause::InterfaceControlCheck,
+            StatusCause::InterfaceControlCheck,
             [0x0080_4017, 0x1000, 0x0002_0000]
         )
     );
@@ -349,7 +339,7 @@ fn interface_control_check(rt: HostRuntime) {
     assert!(rt;
         shows(
             &ended,
-            Cause::InterfaceControlCheck,
+            StatusCause::InterfaceControlCheck,
             [0x0080_0013, 0x1008, 0x0002_0004]
         )
     );
@@ -357,13 +347,13 @@ fn interface_control_check(rt: HostRuntime) {
 
 #[test]
 fn interruption_and_suspension(rt: HostRuntime) {
-    let interruption = Cause::Interruption {
+    let interruption = StatusCause::Pci {
         tried: 0x1008,
         count: 4,
     };
     let active = subchannel([0x0080_40C0, 0x1000, 0]);
     assert!(rt; shows(&active, interruption, [0x0080_40C9, 0x1008, 0x0080_0004]));
-    let suspension = Cause::Suspension {
+    let suspension = StatusCause::Suspension {
         tried: 0x1008,
         count: 0,
     };
@@ -374,23 +364,23 @@ fn interruption_and_suspension(rt: HostRuntime) {
 #[test]
 fn a_clear_and_a_halt(rt: HostRuntime) {
     let clear = subchannel([0x0000_1100, 0, 0]);
-    assert!(rt; shows(&clear, Cause::ClearDone, [0x0000_1001, 0, 0]));
+    assert!(rt; shows(&clear, StatusCause::ClearDone, [0x0000_1001, 0, 0]));
     let halt = subchannel([0x0000_2200, 0, 0]);
-    assert!(rt; shows(&halt, Cause::HaltDone, [0x0000_2001, 0, 0]));
+    assert!(rt; shows(&halt, StatusCause::HaltDone, [0x0000_2001, 0, 0]));
     let start = waiting([0x0080_6600, 0x1000, 0]);
-    assert!(rt; shows(&start, Cause::HaltDone, [0x0080_6001, 0x1000, 0]));
+    assert!(rt; shows(&start, StatusCause::HaltDone, [0x0080_6001, 0x1000, 0]));
     let suspended = subchannel([0x0880_6229, 0x1008, 0]);
-    assert!(rt; shows(&suspended, Cause::HaltDone, [0x0880_6001, 0x1008, 0]));
+    assert!(rt; shows(&suspended, StatusCause::HaltDone, [0x0880_6001, 0x1008, 0]));
 }
 
 #[test]
 fn a_subchannel_that_is_not_enabled(rt: HostRuntime) {
     let mut state = waiting([0x0080_4440, 0x1000, 0]);
     state.pmcw.enabled = false;
-    assert!(rt; shown_of(&state, &Cause::NoPath).activity == Scsw::zero().activity);
+    assert!(rt; shown_of(&state, &StatusCause::NoPath).activity == Scsw::zero().activity);
     if state.serials.made < 9 {
         let mut next = state;
-        make_pending(&mut next, &Cause::NoPath);
+        make_pending(&mut next, &StatusCause::NoPath);
         assert!(rt; is_same_words(&next, [0x0080_4000, 0x1000, 0]));
         assert!(rt; next.serials.made == 8 && next.waiting.is_none());
     }

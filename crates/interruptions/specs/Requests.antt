@@ -6,12 +6,12 @@ use Rattle.zbits.specs.Bits.{bit_of}
 use Rattle.scsw_irb.specs.declared.code.IntCode.{IntCode}
 
 -- the requests in the order of posting; and the numbers below which each subchannel has room for its request
-pub record Waiting : Type 0 where
+pub record WaitingRequests : Type 0 where
   pub requests : List IntCode
   pub numbers : ℕ
 
-abbrev pub nothing_waits : ℕ → Waiting
-nothing_waits numbers = record { requests = []; numbers = numbers }
+abbrev pub no_requests_wait : ℕ → WaitingRequests
+no_requests_wait numbers = record { requests = []; numbers = numbers }
 
 -- the request is that of a subchannel: of this set and number
 abbrev pub is_of : ℕ → ℕ → IntCode → Bool
@@ -26,13 +26,13 @@ abbrev pub AtMostOne : List IntCode → Type 0
 AtMostOne requests = IsDistinct (λ first second. is_of first.set first.subchannel second) requests
 
 -- a request comes behind the others; where one of its subchannel stands, nothing changes
-abbrev pub posted : Waiting → IntCode → Waiting
+abbrev pub posted : WaitingRequests → IntCode → WaitingRequests
 posted w request =
     if stands w.requests request.set request.subchannel then w else record w { requests = w.requests ++ request ∷ [] }
 
 -- the request of a subchannel is dropped, where one stands; the others stay in order
-abbrev pub dropped : Waiting → ℕ → ℕ → Waiting
-dropped w set number = record w { requests = filter (λ request. not (is_of set number request)) w.requests }
+abbrev pub request_dropped : WaitingRequests → ℕ → ℕ → WaitingRequests
+request_dropped w set number = record w { requests = filter (λ request. not (is_of set number request)) w.requests }
 
 -- the mask of control register 6 enables the subclass: its leftmost bit is that of subclass 0
 abbrev pub is_enabled : ℕ → IntCode → Bool
@@ -54,10 +54,10 @@ of_subclass subclass requests = filter (λ request. request.subclass == subclass
 abbrev pub of_lowest : List IntCode → List IntCode
 of_lowest requests = of_subclass (lowest requests) requests
 
-abbrev pub answer : Waiting → ℕ → Option IntCode
+abbrev pub answer : WaitingRequests → ℕ → Option IntCode
 answer w mask = slice_get (of_lowest (enabled mask w.requests)) 0
 
 -- what was answered no longer waits
-abbrev pub after_answer : Waiting → Option IntCode → Waiting
+abbrev pub after_answer : WaitingRequests → Option IntCode → WaitingRequests
 after_answer w None = w
-after_answer w (Some request) = dropped w request.set request.subchannel
+after_answer w (Some request) = request_dropped w request.set request.subchannel

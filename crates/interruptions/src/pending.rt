@@ -20,10 +20,10 @@ pub struct Pending {
 
 impl Model for Pending {
     ghost use Rattle.std.specs.Prelude.{vec_capacity};
-    ghost use Rattle.interruptions.specs.Requests.{Waiting};
+    ghost use Rattle.interruptions.specs.Requests.{WaitingRequests};
     ghost use Rattle.interruptions.specs.Room.{HasRoom};
 
-    ghost Value = { Waiting };
+    ghost Value = { WaitingRequests };
 
     ghost view = { λ p. record { requests = p.requests.items; numbers = p.numbers } };
 
@@ -34,7 +34,7 @@ impl Pending {
     /// No request waits. There is room for one of each subchannel whose number is below `numbers`, in each of the four
     /// subchannel sets. An error comes only where that memory is refused.
     pub fn new(alloc: Global, numbers: u16) -> Result<Self, AllocError>
-        ensures { IfOk result (λ pending. pending ≡ spec.nothing_waits numbers) }
+        ensures { IfOk result (λ pending. pending ≡ spec.no_requests_wait numbers) }
     {
         Pending::new_with(alloc, &mut Given { refused: false }, numbers)
     }
@@ -46,7 +46,7 @@ impl Pending {
         supply: &mut S,
         numbers: u16,
     ) -> Result<Self, AllocError>
-        ensures made { IfOk result (λ pending. pending ≡ spec.nothing_waits numbers) }
+        ensures made { IfOk result (λ pending. pending ≡ spec.no_requests_wait numbers) }
         ensures given { OnOk result (S.refused supply.new ≡ S.refused supply.old) }
         ensures memory { OnErr result (S.refused supply.new ≡ true) }
     {
@@ -93,14 +93,14 @@ impl Pending {
 
     /// Drops the request of the subchannel of this set and number, where one stands.
     pub fn drop_request(&mut self, set: u8, number: u16)
-        ensures { self.new ≡ spec.dropped self.old set number }
+        ensures { self.new ≡ spec.request_dropped self.old set number }
     {
         self.requests.retain(|request| !is_of(request, set, number));
     }
 
     /// Drops all requests, as a reset of the channel subsystem does.
     pub fn drop_all(&mut self)
-        ensures { self.new ≡ spec.nothing_waits self.old.numbers }
+        ensures { self.new ≡ spec.no_requests_wait self.old.numbers }
     {
         self.requests.clear();
     }

@@ -9,7 +9,7 @@ use Rattle.schib_block.specs.declared.schib.Schib.{Schib}
 use Rattle.schib_block.specs.Modify as modify
 use Rattle.schib_block.specs.SchibTable.{schib_tables}
 use Rattle.storage_keys.specs.declared.StorageFault.{StorageFault}
-use Rattle.storage_keys.specs.Storage.{Contents, operand_at, operand_check, operand_stored, where_permitted, places}
+use Rattle.storage_keys.specs.Storage.{Contents, operand_at, operand_check, operand_stored, where_permitted, absolute_places}
 use Rattle.chan_model.specs.declared.fault.Fault.{Fault}
 use Rattle.chan_model.specs.declared.fault.Fault.TheVariants as fault
 use Rattle.chan_events.specs.declared.reply.Reply.{Reply}
@@ -24,12 +24,12 @@ use Rattle.subchannel_model.specs.Enable.{enabling, enabling_schib, enabling_wor
 use Rattle.subchannel_model.specs.Places.{Found}
 use Rattle.subchannel_model.specs.Test.{tsch_code, irb_of}
 use Rattle.machine_model.specs.Turns.{Outcome, SubTurn, leaves, does, at_place}
-use Rattle.machine_model.specs.InstructionSteps.{code_at, Starts, Modifies, Enables, start_at, modify_at, modify_sub, enable_sub, store_answer, stores, tests, test_with, with_irb, with_schib, with_enabling, stores_irb}
-use Rattle.io_step.specs.Executing.{with_storage}
+use Rattle.machine_model.specs.InstructionSteps.{code_at, PerformsStart, Modifies, Enables, start_at, modify_at, modify_sub, enable_sub, store_answer, stores, tests, test_with, with_irb, with_schib, with_enabling, stores_irb}
+use Rattle.io_step.specs.Executing.{state_with_storage}
 use Rattle.io_step.specs.Operands.{HasOrb, HasWord, from_storage}
 
 pub starts : (s : State) (found : Option Found) (fetched : Result (List ℕ) StorageFault) (orb : Orb) (r : Outcome) →
-    HasOrb fetched (Ok orb) → r ≡ start_at s found orb → Starts s found fetched r
+    HasOrb fetched (Ok orb) → r ≡ start_at s found orb → PerformsStart s found fetched r
 starts s found (Ok image) orb r h e = inr (orb, h, e)
 starts s found (Err f) orb r h e = absurd (cc h)
 
@@ -58,7 +58,7 @@ permitted (Err f) x e = absurd (cc e)
 pub fetched : (before : Contents) (cpu address count : ℕ) (u : Unit {0}) → operand_check before cpu address count 4 ≡ Ok u →
     (image : List ℕ) × (operand_at before cpu address count 4 ≡ Ok image)
 fetched before cpu address count u checked =
-    let image : List ℕ = map (slice_index before.bytes) (places before cpu address count) in
+    let image : List ℕ = map (slice_index before.bytes) (absolute_places before cpu address count) in
     (image, ap (λ (x : Result (Unit {0}) StorageFault). where_permitted x image) checked)
 
 some_inj : {A : Type 0} (x y : A) → Some x ≡ Some y → x ≡ y
@@ -72,32 +72,32 @@ set_there (y ∷ ys) (suc i) x e = ap (λ zs. y ∷ zs) (set_there ys i x e)
 
 pub tests-sub : (s : State) (before after : Contents) (cpu address place : ℕ) (old new : Subchannel) (u : Unit {0}) (r : Reply) →
     Ok u ≡ from_storage (operand_check before cpu address 64 4) →
-    with_storage s after ≡ with_irb (with_storage s before) cpu address old (stores_irb (code_at tsch_code old)) →
+    state_with_storage s after ≡ with_irb (state_with_storage s before) cpu address old (stores_irb (code_at tsch_code old)) →
     test_with old (code_at tsch_code old) ≡ leaves r new →
-    does r (with_sub (with_storage s after) place new) ≡ tests (with_storage s before) cpu address (Some (record { place = place; sub = old })) (operand_check before cpu address 64 4)
+    does r (with_sub (state_with_storage s after) place new) ≡ tests (state_with_storage s before) cpu address (Some (record { place = place; sub = old })) (operand_check before cpu address 64 4)
 tests-sub s before after cpu address place old new u r checked irb left =
     let check : operand_check before cpu address 64 4 ≡ Ok u = permitted (operand_check before cpu address 64 4) u checked in
-    sym (ap (λ (x : Result (Unit {0}) StorageFault). tests (with_storage s before) cpu address (Some (record { place = place; sub = old })) x) check
-    ∙ (ap (λ (t : SubTurn). at_place (with_irb (with_storage s before) cpu address old (stores_irb (code_at tsch_code old))) place t) left
+    sym (ap (λ (x : Result (Unit {0}) StorageFault). tests (state_with_storage s before) cpu address (Some (record { place = place; sub = old })) x) check
+    ∙ (ap (λ (t : SubTurn). at_place (with_irb (state_with_storage s before) cpu address old (stores_irb (code_at tsch_code old))) place t) left
     ∙ ap (λ (x : State). does r (with_sub x place new)) (sym irb)))
 
 -- the IRB is stored with code 0 and 1
 pub irb-stored : (s : State) (before after : Contents) (cpu number address : ℕ) (sub : Subchannel) (code : ConditionCode) (irb : Irb) (image : List ℕ) (b : Bool) →
     code ≡ code_at tsch_code sub → b ≡ stores_irb code → b ≡ true → irb ≡ irb_of sub.state → image ≡ image_of (irb_tables irb) → number ≡ cpu →
     after ≡ operand_stored before number address image →
-    with_storage s after ≡ with_irb (with_storage s before) cpu address sub (stores_irb (code_at tsch_code sub))
+    state_with_storage s after ≡ with_irb (state_with_storage s before) cpu address sub (stores_irb (code_at tsch_code sub))
 irb-stored s before after cpu number address sub code irb image b tested is passes made written named stored =
     let bytes : image ≡ image_of (irb_tables (irb_of sub.state)) = written ∙ ap (λ (x : Irb). image_of (irb_tables x)) made in
     let stores : stores_irb (code_at tsch_code sub) ≡ true = ap stores_irb (sym tested) ∙ (sym is ∙ passes) in
-    ap (λ (x : Contents). with_storage s x)
+    ap (λ (x : Contents). state_with_storage s x)
     (stored ∙ (ap (λ (k : ℕ). operand_stored before k address image) named ∙ ap (λ (xs : List ℕ). operand_stored before cpu address xs) bytes))
-    ∙ sym (ap (λ (x : Bool). with_irb (with_storage s before) cpu address sub x) stores)
+    ∙ sym (ap (λ (x : Bool). with_irb (state_with_storage s before) cpu address sub x) stores)
 
 pub stores-sub : (s : State) (before after : Contents) (cpu number address place : ℕ) (sub : Subchannel) (schib : Schib) (image : List ℕ) (u : Unit {0}) →
     slice_get s.subs place ≡ Some sub → Ok u ≡ from_storage (operand_check before cpu address 52 4) → number ≡ cpu → schib ≡ schib_of sub →
     image ≡ image_of (schib_tables schib) → after ≡ operand_stored before number address image →
-    does (reply.Status (store_answer sub) sub.state.scsw) (with_sub (with_storage s after) place sub)
-    ≡ stores (with_storage s before) cpu address (Some (record { place = place; sub = sub })) (operand_check before cpu address 52 4)
+    does (reply.Status (store_answer sub) sub.state.scsw) (with_sub (state_with_storage s after) place sub)
+    ≡ stores (state_with_storage s before) cpu address (Some (record { place = place; sub = sub })) (operand_check before cpu address 52 4)
 stores-sub s before after cpu number address place sub schib image u there checked named made written stored =
     let check : operand_check before cpu address 52 4 ≡ Ok u = permitted (operand_check before cpu address 52 4) u checked in
     let bytes : image_of (schib_tables (schib_of sub)) ≡ image = ap (λ (x : Schib). image_of (schib_tables x)) (sym made) ∙ sym written in
@@ -105,14 +105,14 @@ stores-sub s before after cpu number address place sub schib image u there check
     ap (λ (xs : List ℕ). operand_stored before cpu address xs) bytes
     ∙ (ap (λ (k : ℕ). operand_stored before k address image) (sym named) ∙ sym stored) in
     let shown = reply.Status (store_answer sub) sub.state.scsw in
-    sym (ap (λ (x : Result (Unit {0}) StorageFault). stores (with_storage s before) cpu address (Some (record { place = place; sub = sub })) x) check
-    ∙ (ap (λ (x : Contents). does shown (with_storage s x)) all
+    sym (ap (λ (x : Result (Unit {0}) StorageFault). stores (state_with_storage s before) cpu address (Some (record { place = place; sub = sub })) x) check
+    ∙ (ap (λ (x : Contents). does shown (state_with_storage s x)) all
     ∙ ap (λ (xs : List Subchannel). does shown (record s { storage = after; subs = xs })) (sym (set_there s.subs place sub there))))
 
 pub enables-sub : (s : State) (before after : Contents) (cpu number subclass place : ℕ) (multipath : Bool) (old new : Subchannel) (schib : Schib) (image : List ℕ) (u : Unit {0}) (r : Reply) →
     Ok u ≡ from_storage (operand_check before cpu 0xF00 52 4) → number ≡ cpu → schib ≡ enabling_schib old subclass multipath →
     image ≡ image_of (schib_tables schib) → after ≡ operand_stored before number 0xF00 image → modify_sub old schib.pmcw ≡ leaves r new →
-    Enables (with_storage s before) cpu (Some (record { place = place; sub = old })) subclass multipath (operand_at before cpu 0xF00 52 4) (does r (with_sub (with_storage s after) place new))
+    Enables (state_with_storage s before) cpu (Some (record { place = place; sub = old })) subclass multipath (operand_at before cpu 0xF00 52 4) (does r (with_sub (state_with_storage s after) place new))
 enables-sub s before after cpu number subclass place multipath old new schib image u r checked named made written stored left =
     let given : modify_sub old (enabling (pmcw_of old) subclass multipath) ≡ leaves r new =
     ap (λ (x : Schib). modify_sub old x.pmcw) (sym made) ∙ left in
@@ -121,21 +121,21 @@ enables-sub s before after cpu number subclass place multipath old new schib ima
     let all : operand_stored before cpu 0xF00 (image_of (schib_tables (enabling_schib old subclass multipath))) ≡ after =
     ap (λ (xs : List ℕ). operand_stored before cpu 0xF00 xs) bytes
     ∙ (ap (λ (k : ℕ). operand_stored before k 0xF00 image) (sym named) ∙ sym stored) in
-    let done : enable_sub (with_storage s before) cpu (record { place = place; sub = old }) subclass multipath ≡ does r (with_sub (with_storage s after) place new) =
-    ap (λ (t : SubTurn). at_place (with_schib (with_storage s before) cpu 0xF00 (enabling_schib old subclass multipath)) place t) given
-    ∙ ap (λ (x : Contents). does r (with_sub (with_storage s x) place new)) all in
+    let done : enable_sub (state_with_storage s before) cpu (record { place = place; sub = old }) subclass multipath ≡ does r (with_sub (state_with_storage s after) place new) =
+    ap (λ (t : SubTurn). at_place (with_schib (state_with_storage s before) cpu 0xF00 (enabling_schib old subclass multipath)) place t) given
+    ∙ ap (λ (x : Contents). does r (with_sub (state_with_storage s x) place new)) all in
     let there = fetched before cpu 0xF00 52 u (permitted (operand_check before cpu 0xF00 52 4) u checked) in
-    subst (λ (x : Result (List ℕ) StorageFault). Enables (with_storage s before) cpu (Some (record { place = place; sub = old })) subclass multipath x (does r (with_sub (with_storage s after) place new)))
+    subst (λ (x : Result (List ℕ) StorageFault). Enables (state_with_storage s before) cpu (Some (record { place = place; sub = old })) subclass multipath x (does r (with_sub (state_with_storage s after) place new)))
     (sym there.1) (sym done)
 
 -- what enabling leaves where nothing is provided
 pub enables-none : (s : State) (before after : Contents) (cpu number subclass : ℕ) (multipath : Bool) (image placed : List ℕ) (old new : ℕ) →
     old ≡ word_at image 1 → new ≡ enabling_word old subclass multipath → placed ≡ bytes_of_words (new ∷ []) → number ≡ cpu →
-    after ≡ operand_stored before number 0xF04 placed → with_storage s after ≡ with_enabling (with_storage s before) cpu image subclass multipath
+    after ≡ operand_stored before number 0xF04 placed → state_with_storage s after ≡ with_enabling (state_with_storage s before) cpu image subclass multipath
 enables-none s before after cpu number subclass multipath image placed old new there made written named stored =
     let word : new ≡ enabling_word (word_at image 1) subclass multipath = made ∙ ap (λ (w : ℕ). enabling_word w subclass multipath) there in
     let bytes : placed ≡ bytes_of_words (enabling_word (word_at image 1) subclass multipath ∷ []) = written ∙ ap (λ (w : ℕ). bytes_of_words (w ∷ [])) word in
-    ap (λ (x : Contents). with_storage s x)
+    ap (λ (x : Contents). state_with_storage s x)
     (stored ∙ (ap (λ (k : ℕ). operand_stored before k 0xF04 placed) named ∙ ap (λ (xs : List ℕ). operand_stored before cpu 0xF04 xs) bytes))
 
 -- a clause that holds where storage goes on holds where the instruction does
@@ -150,5 +150,5 @@ false-not-true true e f = absurd (cc e)
 false-not-true false e f = absurd (cc f)
 
 -- what MODIFY takes is what its test answers
-pub not-allowed : (given : Pmcw) (b : Bool) → b ≡ false → (modify.IsAllowed given → b ≡ true) → ¬ modify.IsAllowed given
+pub not-allowed : (given : Pmcw) (b : Bool) → b ≡ false → (modify.IsAllowedPmcw given → b ≡ true) → ¬ modify.IsAllowedPmcw given
 not-allowed given b fails passes = λ a. false-not-true b fails (passes a)

@@ -9,21 +9,21 @@ use Rattle.machine_model.specs.State.{State, with_sub}
 use Rattle.machine_model.specs.Turns.{Outcome, does}
 use Rattle.machine_model.specs.InstructionSteps.{Executes_at}
 
-abbrev pub with_storage : State → Contents → State
-with_storage s storage = record s { storage = storage }
+abbrev pub state_with_storage : State → Contents → State
+state_with_storage s storage = record s { storage = storage }
 
 -- in every machine that has this storage, and this subchannel at some place, the instruction is executed with this outcome:
 -- what it answers, and the machine with what is left of both
 abbrev pub Comes_to : Contents → Subchannel → ℕ → Instruction → (State → ℕ → Outcome) → Type 0
 Comes_to storage sub cpu i outcome =
-    (s : State) (place : ℕ) → slice_get s.subs place ≡ Some sub → Executes_at (with_storage s storage) cpu i (Some (record { place = place; sub = sub })) (outcome s place)
+    (s : State) (place : ℕ) → slice_get s.subs place ≡ Some sub → Executes_at (state_with_storage s storage) cpu i (Some (record { place = place; sub = sub })) (outcome s place)
 
 abbrev pub Executed : Contents → Subchannel → ℕ → Instruction → Result Reply Fault → Contents → Subchannel → Type 0
-Executed before old cpu i (Ok r) after new = Comes_to before old cpu i (λ s place. does r (with_sub (with_storage s after) place new))
+Executed before old cpu i (Ok r) after new = Comes_to before old cpu i (λ s place. does r (with_sub (state_with_storage s after) place new))
 Executed before old cpu i (Err f) after new = Comes_to before old cpu i (λ s place. Err f) × ((new ≡ old) × (after ≡ before))
 
 -- the same where the subchannel is not provided
 abbrev pub Executed_absent : Contents → ℕ → Instruction → Result Reply Fault → Contents → Type 0
-Executed_absent before cpu i (Ok r) after = (s : State) → Executes_at (with_storage s before) cpu i None (does r (with_storage s after))
+Executed_absent before cpu i (Ok r) after = (s : State) → Executes_at (state_with_storage s before) cpu i None (does r (state_with_storage s after))
 Executed_absent before cpu i (Err f) after =
-    ((s : State) → Executes_at (with_storage s before) cpu i None (Err f)) × (after ≡ before)
+    ((s : State) → Executes_at (state_with_storage s before) cpu i None (Err f)) × (after ≡ before)

@@ -2,7 +2,7 @@
 use Rattle.std.specs.Prelude.{◌≡◌, ℕ, List, Result, Ok, Err}
 use Rattle.zbits.specs.Layout.{image_of}
 use Rattle.orb_block.specs.declared.Orb.{Orb}
-use Rattle.orb_block.specs.OrbTable.{tables, IsAllowed}
+use Rattle.orb_block.specs.OrbTable.{tables, IsAllowedOrb}
 use Rattle.schib_block.specs.declared.pmcw.Pmcw.{Pmcw}
 use Rattle.schib_block.specs.Modify as modify
 use Rattle.schib_block.specs.SchibTable.{ShowsPmcw}
@@ -19,10 +19,10 @@ from_storage (Err f) = Err (fault.Storage f)
 abbrev pub HasOrb : Result (List ℕ) StorageFault → Result Orb Fault → Type 0
 HasOrb (Err f) r = r ≡ Err (fault.Storage f)
 HasOrb (Ok image) (Ok orb) = image ≡ image_of (tables orb)
-HasOrb (Ok image) (Err f) = ¬ IsAllowed image × (f ≡ fault.Operand)
+HasOrb (Ok image) (Err f) = ¬ IsAllowedOrb image × (f ≡ fault.Operand)
 
 -- the path-management-control word of the SCHIB that an operand is, or why MODIFY takes none of it
 abbrev pub HasWord : Result (List ℕ) StorageFault → Result Pmcw Fault → Type 0
 HasWord (Err f) r = r ≡ Err (fault.Storage f)
-HasWord (Ok image) (Ok given) = ShowsPmcw image given × modify.IsAllowed given
-HasWord (Ok image) (Err f) = (given : Pmcw) × ShowsPmcw image given × ¬ modify.IsAllowed given × (f ≡ fault.Operand)
+HasWord (Ok image) (Ok given) = ShowsPmcw image given × modify.IsAllowedPmcw given
+HasWord (Ok image) (Err f) = (given : Pmcw) × ShowsPmcw image given × ¬ modify.IsAllowedPmcw given × (f ≡ fault.Operand)

@@ -46,13 +46,13 @@ code_stored storage cpu address (Some code) = operand_stored storage cpu (code_p
 pub record TpiTurn : Type 0 where
   pub found : Option IntCode
   pub storage : Contents
-  pub requests : requests.Waiting
+  pub requests : requests.WaitingRequests
 
-abbrev pub tpi_done : Contents → requests.Waiting → ℕ → ℕ → Option IntCode → TpiTurn
+abbrev pub tpi_done : Contents → requests.WaitingRequests → ℕ → ℕ → Option IntCode → TpiTurn
 tpi_done storage waiting cpu address found =
     record { found = found; storage = code_stored storage cpu address found; requests = requests.after_answer waiting found }
 
-abbrev pub tpi_turn : Contents → requests.Waiting → ℕ → ℕ → ℕ → Result TpiTurn Fault
+abbrev pub tpi_turn : Contents → requests.WaitingRequests → ℕ → ℕ → ℕ → Result TpiTurn Fault
 tpi_turn storage waiting cpu mask address =
     where_stored (code_check storage cpu address) (tpi_done storage waiting cpu address (requests.answer waiting mask))
 
@@ -64,16 +64,16 @@ report_word (Some crw) = word_of (crw_table crw)
 pub record StcrwTurn : Type 0 where
   pub report : Option Crw
   pub storage : Contents
-  pub reports : reports.Waiting
+  pub reports : reports.WaitingReports
 
-abbrev pub stcrw_done : Contents → reports.Waiting → ℕ → ℕ → StcrwTurn
+abbrev pub stcrw_done : Contents → reports.WaitingReports → ℕ → ℕ → StcrwTurn
 stcrw_done storage waiting cpu address = record {
   report = reports.oldest waiting;
   storage = operand_stored storage cpu address (bytes_of_words (report_word (reports.oldest waiting) ∷ []));
   reports = reports.without_oldest waiting;
 }
 
-abbrev pub stcrw_turn : Contents → reports.Waiting → ℕ → ℕ → Result StcrwTurn Fault
+abbrev pub stcrw_turn : Contents → reports.WaitingReports → ℕ → ℕ → Result StcrwTurn Fault
 stcrw_turn storage waiting cpu address = where_stored (operand_check storage cpu address 4 4) (stcrw_done storage waiting cpu address)
 
 -- RESET CHANNEL PATH: of general register 1 bits 0 to 23 are zero, and bits 24 to 31 name the path
@@ -82,13 +82,13 @@ is_up up path = slice_index_or up path false
 
 pub record RchpTurn : Type 0 where
   pub code : ConditionCode
-  pub reports : reports.Waiting
+  pub reports : reports.WaitingReports
 
-abbrev pub rchp_of : reports.Waiting → List Bool → ℕ → RchpTurn
+abbrev pub rchp_of : reports.WaitingReports → List Bool → ℕ → RchpTurn
 rchp_of waiting up path =
     record { code = rchp_code (is_up up path) (reports.is_asked waiting path); reports = reports.with_rchp waiting path (is_up up path) }
 
-abbrev pub rchp_turn : reports.Waiting → List Bool → ℕ → Result RchpTurn Fault
+abbrev pub rchp_turn : reports.WaitingReports → List Bool → ℕ → Result RchpTurn Fault
 rchp_turn waiting up path = if field_of path 0 23 == 0 then Ok (rchp_of waiting up (field_of path 24 31)) else Err fault.Operand
 
 -- STORE CHANNEL PATH STATUS: 32 bytes on a boundary of 32; bit n is one where the channel path n is engaged

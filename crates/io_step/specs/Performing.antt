@@ -28,10 +28,10 @@ use Rattle.io_step.specs.Others.{TpiTurn, StcrwTurn, RchpTurn, tpi_turn, stcrw_t
 pub record Lent : Type 0 where
   pub storage : Contents
   pub sub : Option Subchannel
-  pub requests : requests.Waiting
-  pub reports : reports.Waiting
+  pub requests : requests.WaitingRequests
+  pub reports : reports.WaitingReports
 
-abbrev pub lent : Contents → Option Subchannel → requests.Waiting → reports.Waiting → Lent
+abbrev pub lent : Contents → Option Subchannel → requests.WaitingRequests → reports.WaitingReports → Lent
 lent storage sub waiting queue = record { storage = storage; sub = sub; requests = waiting; reports = queue }
 
 -- the subchannel as it is lent, and as it is left
@@ -76,10 +76,10 @@ drops (instruction.Csch word) code = is_zero code
 drops (instruction.Xsch word) code = false
 drops (instruction.Enable word subclass multipath) code = false
 
-abbrev pub requests_left : requests.Waiting → Subchannel → Instruction → Reply → requests.Waiting
-requests_left waiting sub i r = if drops i (reply_code r) then requests.dropped waiting sub.setup.id.set sub.setup.id.number else waiting
+abbrev pub requests_left : requests.WaitingRequests → Subchannel → Instruction → Reply → requests.WaitingRequests
+requests_left waiting sub i r = if drops i (reply_code r) then requests.request_dropped waiting sub.setup.id.set sub.setup.id.number else waiting
 
-abbrev pub requests_after : requests.Waiting → Option Subchannel → Instruction → Reply → requests.Waiting
+abbrev pub requests_after : requests.WaitingRequests → Option Subchannel → Instruction → Reply → requests.WaitingRequests
 requests_after waiting None i r = waiting
 requests_after waiting (Some sub) i r = requests_left waiting sub i r
 

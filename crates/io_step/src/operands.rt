@@ -1,7 +1,7 @@
 //! The operands of instructions in storage: where they stand, how they are tested, and what is taken from them.
 
 ghost use Rattle.io_step.specs.Operands.{HasOrb, HasWord, from_storage};
-ghost use Rattle.schib_block.specs.Modify.{IsAllowed};
+ghost use Rattle.schib_block.specs.Modify.{IsAllowedPmcw};
 ghost use Rattle.storage_keys.specs.Storage.{operand_at, operand_check};
 ghost use Rattle.std.specs.Prelude.{◌≡◌, ◌<◌, ◌≤◌, ◌+◌, length, IfOk, OnOk};
 
@@ -63,7 +63,7 @@ pub fn orb_at(storage: &Storage, cpu: Cpu, address: u32) -> Result<Orb, Fault>
 /// takes it.
 pub fn word_at(storage: &Storage, cpu: Cpu, address: u32) -> Result<Pmcw, Fault>
     ensures word { HasWord (operand_at storage.now cpu address 52 4) result }
-    ensures allowed { IfOk result (λ given. IsAllowed given) }
+    ensures allowed { IfOk result (λ given. IsAllowedPmcw given) }
 {
     let image = operand::<SCHIB_BYTES>(storage, cpu, address)?;
     let given = Pmcw::of_schib(&image);

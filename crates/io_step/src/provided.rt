@@ -36,8 +36,8 @@ fn start(storage: &Storage, sub: &mut Subchannel, cpu: Cpu, address: u32) -> Res
 /// The interruption-response block is stored where TEST SUBCHANNEL stores one.
 fn store_irb(storage: &mut Storage, sub: &Subchannel, cpu: Cpu, address: u32)
     requires inside { address + 64 ≤ length storage.old.bytes }
-    ensures { (s : State) → spec.with_storage s storage.new ≡
-        steps.with_irb (spec.with_storage s storage.old) cpu address sub.now
+    ensures { (s : State) → spec.state_with_storage s storage.new ≡
+        steps.with_irb (spec.state_with_storage s storage.old) cpu address sub.now
         (steps.stores_irb (steps.code_at tsch_code sub.now)) }
 {
     if stores_irb(test_code_of(sub)) {

@@ -4,7 +4,7 @@ ghost use Rattle.std.specs.Prelude.{◌≡◌};
 ghost use Rattle.machine_model.specs.InstructionSteps as spec;
 ghost use Rattle.machine_model.specs.Turns as turn_spec;
 ghost use Rattle.machine_model.specs.Bounds.{IsRoomy};
-ghost use Rattle.schib_block.specs.Modify.{IsAllowed};
+ghost use Rattle.schib_block.specs.Modify.{IsAllowedPmcw};
 ghost use Rattle.subchannel_model.specs.Start.{ssch_code, started};
 ghost use Rattle.subchannel_model.specs.Resume.{rsch_code, resumed};
 ghost use Rattle.subchannel_model.specs.Halt.{hsch_code, halted};
@@ -76,7 +76,7 @@ pub fn stores_irb(code: ConditionCode) -> bool
 
 /// MODIFY SUBCHANNEL with a word that it allows.
 pub fn modify_sub(sub: &mut Subchannel, given: &Pmcw) -> Reply
-    requires { IsAllowed given.now }
+    requires { IsAllowedPmcw given.now }
     ensures { spec.modify_sub sub.old given.now ≡ turn_spec.leaves result sub.new }
 {
     modified();

@@ -20,7 +20,7 @@ use Rattle.channel_config.specs.Lawful.{IsLawful}
 use Rattle.channel_config.specs.Setup.{Setup}
 use Rattle.agreement_laws.specs.Claims.{IsResetDue, DoAgree}
 use Rattle.agreement_laws.specs.Invariant.{IsGood}
-use Rattle.agreement_laws.specs.Links.{Links, link_of, opening}
+use Rattle.agreement_laws.specs.Links.{Links, link_of, opening_links}
 use Rattle.subchannel_model.specs.declared.state.Subchannel.{Subchannel}
 use Rattle.subchannel_model.specs.Choosing.{chosen}
 use Rattle.subchannel_model.specs.Start.{started}
@@ -32,8 +32,8 @@ use Rattle.machine_model.specs.ReportSteps.{report_taken, report_sub}
 use Rattle.machine_model.specs.Steps.{Step, Run}
 use Rattle.step_laws.specs.Walks as walked
 use Rattle.step_laws.specs.Walks.{Walked, OneSub, OneUnit}
-use Rattle.machine_laws.specs.Agreeing.{IsEnd, IsDownTo, EndsByReset}
-use Rattle.machine_laws.specs.Beginnings.{Starts, with_start, with_offer, with_taken}
+use Rattle.machine_laws.specs.Agreeing.{IsEnd, IsDownTo, HoldEndsByReset}
+use Rattle.machine_laws.specs.Beginnings.{StartCounts, with_start, with_offer, with_taken}
 use Rattle.machine_laws.proofs.Growth.{IsLink, AreLaws}
 use Rattle.machine_laws.proofs.HoldEvents.{IsOfHold, up-turns, choose-turns}
 use Rattle.machine_laws.proofs.Linked.{IsLinked, AreApart, AreLinked}
@@ -57,7 +57,7 @@ agree-of w side h u e f d =
     subst (λ (v : UnitState). Agrees h.phase (owner_of v.own side)) f (subst (λ (x : HoldState). Agrees x.phase (owner_of w.«unit».own side)) e d)
 
 -- the subchannel of the event
-kept-ends : (T : Type 0) (subs : List Subchannel) (at place : ℕ) (sub after : Subchannel) (u v : UnitState) (which : Option ℕ) (k mine : Starts) → IsLinked subs at u which k →
+kept-ends : (T : Type 0) (subs : List Subchannel) (at place : ℕ) (sub after : Subchannel) (u v : UnitState) (which : Option ℕ) (k mine : StartCounts) → IsLinked subs at u which k →
     slice_get subs place ≡ Some sub → sub.setup.«unit» ≡ at → IsKept T sub after u v k mine → IsOutstanding sub.state.hold.phase (side_of u sub.setup.side) →
     IsOutstanding after.state.hold.phase (side_of v sub.setup.side) ⊎ (T × Agrees after.state.hold.phase (owner_of v.own sub.setup.side))
 kept-ends T subs at place sub after u v which k mine w e h kept d =
@@ -73,7 +73,7 @@ not-true : (b : Bool) → (b ≡ true → ⊥) → b ≡ false
 not-true true n = absurd (n refl)
 not-true false n = refl
 
-other-ends : (T : Type 0) (subs : List Subchannel) (at place i : ℕ) (sub after x : Subchannel) (u v : UnitState) (which : Option ℕ) (k mine : Starts) → AreApart subs → IsLinked subs at u which k →
+other-ends : (T : Type 0) (subs : List Subchannel) (at place i : ℕ) (sub after x : Subchannel) (u v : UnitState) (which : Option ℕ) (k mine : StartCounts) → AreApart subs → IsLinked subs at u which k →
     slice_get subs place ≡ Some sub → sub.setup.«unit» ≡ at → slice_get subs i ≡ Some x → x.setup.«unit» ≡ at → i ≢ place → IsKept T sub after u v k mine →
     IsOutstanding x.state.hold.phase (side_of u x.setup.side) → IsOutstanding x.state.hold.phase (side_of v x.setup.side)
 other-ends T subs at place i sub after x u v which k mine apart w e h ex hx n kept d =
@@ -90,10 +90,10 @@ other-ends T subs at place i sub after x u v which k mine apart w e h ex hx n ke
 some-same : {A : Type 0} (o : Option A) (x y : A) → o ≡ Some x → o ≡ Some y → x ≡ y
 some-same o x y e f = cc (sym e ∙ f)
 
-module _ (laws : AreLaws) (s : State) (which : Option ℕ) (k : Starts) (linked : AreLinked s.subs s.units which k) where
+module _ (laws : AreLaws) (s : State) (which : Option ℕ) (k : StartCounts) (linked : AreLinked s.subs s.units which k) where
   -- an event at one subchannel
-  sub-ends : (e : Event) (r : Reply) (new : State) (at : ℕ) (sub after : Subchannel) (mine : Starts) → OneSub s new at sub after → IsOfHold sub after → Tells sub after.state k mine →
-      EndsByReset s e r new
+  sub-ends : (e : Event) (r : Reply) (new : State) (at : ℕ) (sub after : Subchannel) (mine : StartCounts) → OneSub s new at sub after → IsOfHold sub after → Tells sub after.state k mine →
+      HoldEndsByReset s e r new
   sub-ends e r new at sub after mine o h f i x y u v ex ey eu ev d =
       let got : slice_get (slice_set s.subs at after) i ≡ Some y = subst (λ (xs : List Subchannel). slice_get xs i ≡ Some y) o.subs ey in
       let same : u ≡ v = some-same (slice_get s.units x.setup.«unit») u v eu (subst (λ (us : List UnitState). slice_get us x.setup.«unit» ≡ Some v) o.units ev) in
@@ -113,8 +113,8 @@ module _ (laws : AreLaws) (s : State) (which : Option ℕ) (k : Starts) (linked 
       ]
 
   -- an event at one subchannel and its unit
-  unit-ends : (e : Event) (r : Reply) (new : State) (at j : ℕ) (sub after : Subchannel) (a b : UnitState) (mine : Starts) → OneUnit s new at sub after j a b → j ≡ sub.setup.«unit» →
-      IsKept (IsEnd sub a r) sub after a b k mine → (IsEnd sub a r → IsDownTo s e at) → EndsByReset s e r new
+  unit-ends : (e : Event) (r : Reply) (new : State) (at j : ℕ) (sub after : Subchannel) (a b : UnitState) (mine : StartCounts) → OneUnit s new at sub after j a b → j ≡ sub.setup.«unit» →
+      IsKept (IsEnd sub a r) sub after a b k mine → (IsEnd sub a r → IsDownTo s e at) → HoldEndsByReset s e r new
   unit-ends e r new at j sub after a b mine o its kept down i x y u v ex ey eu ev d =
       let got : slice_get (slice_set s.subs at after) i ≡ Some y = subst (λ (xs : List Subchannel). slice_get xs i ≡ Some y) o.subs ey in
       let now : slice_get (slice_set s.units j b) x.setup.«unit» ≡ Some v = subst (λ (us : List UnitState). slice_get us x.setup.«unit» ≡ Some v) o.units ev in
@@ -152,7 +152,7 @@ module _ (laws : AreLaws) (s : State) (which : Option ℕ) (k : Starts) (linked 
             ]))
       ]
 
-  pub ends-walk : (e : Event) (r : Reply) (new : State) → Walked s e r new → EndsByReset s e r new
+  pub ends-walk : (e : Event) (r : Reply) (new : State) → Walked s e r new → HoldEndsByReset s e r new
   ends-walk _ _ _ (walked.Stays e r new q sets subs units) = λ i x y u v ex ey eu ev d.
       inl (subst (λ (w : UnitState). IsOutstanding y.state.hold.phase (side_of w x.setup.side))
       (some-same (slice_get s.units x.setup.«unit») u v eu (subst (λ (us : List UnitState). slice_get us x.setup.«unit» ≡ Some v) units ev))
@@ -187,8 +187,8 @@ module _ (laws : AreLaws) (s : State) (which : Option ℕ) (k : Starts) (linked 
           none None = tt
           none (Some step) = if-ok (λ t. IsEnd sub u t.reply → ⊥) (finds_full sub.wires.up step.sent) _ _ tt (λ z. z)
 
-pub run-ends : IsGood opening → AreLaws → (setup : Setup) (h : List Entry) (s : State) (e : Event) (r : Reply) (new : State) → IsLawful setup → Run (opening_of setup) h s → Step s e r new →
-    EndsByReset s e r new
+pub run-ends : IsGood opening_links → AreLaws → (setup : Setup) (h : List Entry) (s : State) (e : Event) (r : Reply) (new : State) → IsLawful setup → Run (opening_of setup) h s → Step s e r new →
+    HoldEndsByReset s e r new
 run-ends good laws setup h s e r new lawful run step =
     let told = run-told laws setup (record { set = 0; number = 0 }) h s lawful good run in
     ends-walk laws s _ _ told.1.linked e r new (laws.walks s e r new step)

@@ -14,7 +14,7 @@ use Rattle.chan_model.specs.declared.unit_state.UnitState.{UnitState}
 use Rattle.wires.specs.Queues.{queue, taken}
 use Rattle.agreement_laws.specs.Claims.{IsSound, IsPassed, EndsByReset, IsResetDue}
 use Rattle.agreement_laws.specs.Links.{Link, Links, link_of, Carries, with_accepted}
-use Rattle.agreement_laws.specs.Moving.{HoldAct, HoldActed, still, hold_acts, LinkStep, Cause, Hold_acts, IsHoldGiven, Step}
+use Rattle.agreement_laws.specs.Moving.{HoldAct, HoldActed, still, hold_acts, LinkStep, LinkCause, Hold_acts, IsHoldGiven, LinksStep}
 use Rattle.agreement_laws.specs.Invariant.{IsGood}
 use Rattle.step_laws.specs.Walks.{AreWalks}
 use Rattle.subchannel_model.specs.declared.state.Subchannel.{Subchannel}
@@ -119,7 +119,7 @@ links_of Second u l other = record { «unit» = u; first = other; second = l }
 
 -- each step keeps what holds of a unit and its links
 abbrev pub Keeps : Type 0
-Keeps = (old : Links) (cause : Cause) (new : Links) → IsGood old → Step old cause new → IsGood new × ((j : Side) → EndsByReset old cause new j)
+Keeps = (old : Links) (cause : LinkCause) (new : Links) → IsGood old → LinksStep old cause new → IsGood new × ((j : Side) → EndsByReset old cause new j)
 
 -- what both sides are sound by; a Busy that may arrive is passed, and what is passed stays so
 pub record AreLaws : Type 0 where
@@ -127,13 +127,13 @@ pub record AreLaws : Type 0 where
   pub keeps : Keeps
   pub means : (w : Links) (side : Side) → IsGood w → IsSound w side
   pub busy : (w : Links) (side : Side) (x : OnPath Up) (t : ℕ) → IsGood w → Contains (link_of w side).ups x → x.signal ≡ up.Busy t → IsPassed w side t
-  pub stays : (old : Links) (cause : Cause) (new : Links) (side : Side) (t : ℕ) → IsGood old → Step old cause new → IsPassed old side t → IsPassed new side t
+  pub stays : (old : Links) (cause : LinkCause) (new : Links) (side : Side) (t : ℕ) → IsGood old → LinksStep old cause new → IsPassed old side t → IsPassed new side t
 
-pub laws-of : AreWalks → ((old : Links) (cause : Cause) (new : Links) → IsGood old → Step old cause new → IsGood new) →
-    ((old : Links) (cause : Cause) (new : Links) (j : Side) → IsGood old → Step old cause new → EndsByReset old cause new j) →
+pub laws-of : AreWalks → ((old : Links) (cause : LinkCause) (new : Links) → IsGood old → LinksStep old cause new → IsGood new) →
+    ((old : Links) (cause : LinkCause) (new : Links) (j : Side) → IsGood old → LinksStep old cause new → EndsByReset old cause new j) →
     ((w : Links) (side : Side) → IsGood w → IsSound w side) →
     ((w : Links) (side : Side) (x : OnPath Up) (t : ℕ) → IsGood w → Contains (link_of w side).ups x → x.signal ≡ up.Busy t → IsPassed w side t) →
-    ((old : Links) (cause : Cause) (new : Links) (side : Side) (t : ℕ) → IsGood old → Step old cause new → IsPassed old side t → IsPassed new side t) → AreLaws
+    ((old : Links) (cause : LinkCause) (new : Links) (side : Side) (t : ℕ) → IsGood old → LinksStep old cause new → IsPassed old side t → IsPassed new side t) → AreLaws
 laws-of walks keeps resets means busy stays = record {
   walks = walks;
   keeps = λ old cause new g s. (keeps old cause new g s, λ j. resets old cause new j g s);

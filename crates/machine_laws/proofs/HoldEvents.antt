@@ -12,31 +12,31 @@ use Rattle.chan_model.specs.declared.signal.Load.{Load}
 use Rattle.chan_model.specs.declared.signal.OnPath.{OnPath}
 use Rattle.chan_model.specs.declared.signal.Up.{Up}
 use Rattle.chan_model.specs.declared.signal.Up.TheVariants as up
-use Rattle.chan_model.specs.HoldTable.{HoldStep, begun, hold_after, hold_takes, is_connected, is_on, letting_go, sending_reset, came_of}
+use Rattle.chan_model.specs.HoldTable.{HoldStep, program_begun, hold_after, hold_takes, is_connected, is_on, letting_go, sending_reset, came_of}
 use Rattle.chan_model.specs.UnitReports.{is_last_end, is_outward, has_device_end}
 use Rattle.wires.specs.Queues.{queue}
 use Rattle.agreement_laws.specs.Links.{Link}
-use Rattle.agreement_laws.specs.Moving.{reset_again, Offers, Sends_reset, Lets_go, Is_reset, Takes, Sends, HoldActed, still, stepped, offered, hold_acts}
+use Rattle.agreement_laws.specs.Moving.{reset_again, Offers, Sends_reset, Lets_go, Is_reset, Takes, Sends, HoldActed, still, hold_stepped, hold_offered, hold_acts}
 use Rattle.subchannel_model.specs.declared.signals.DataSignal.{DataSignal}
 use Rattle.subchannel_model.specs.declared.signals.EndSignal.{EndSignal}
-use Rattle.subchannel_model.specs.declared.state.Begun.{Begun}
-use Rattle.channel_program.specs.Walks.{Place}
+use Rattle.subchannel_model.specs.declared.state.ActiveProgram.{ActiveProgram}
+use Rattle.channel_program.specs.Walks.{WalkPlace}
 use Rattle.subchannel_model.specs.declared.state.Chosen.{Chosen}
 use Rattle.subchannel_model.specs.declared.state.Chosen.TheVariants as chosen
 use Rattle.subchannel_model.specs.declared.state.Subchannel.{Subchannel}
 use Rattle.subchannel_model.specs.declared.state.SubchannelState.{SubchannelState}
-use Rattle.transfer.specs.declared.Came.{Came}
-use Rattle.transfer.specs.declared.Came.TheVariants as came
+use Rattle.transfer.specs.declared.CommandStart.{CommandStart}
+use Rattle.transfer.specs.declared.CommandStart.TheVariants as came
 use Rattle.data_move.specs.Moving.{residual}
 use Rattle.chan_model.specs.Loads.{load_length}
-use Rattle.transfer.specs.declared.Given.{Given}
-use Rattle.transfer.specs.declared.Roomy.{Roomy}
+use Rattle.transfer.specs.declared.NextChunk.{NextChunk}
+use Rattle.transfer.specs.declared.WithRoom.{WithRoom}
 use Rattle.transfer.specs.Commands.{first_command, next_command, begun_with_room, with_room}
-use Rattle.transfer.specs.Chunks.{absorbed, next_given, brought, is_answered}
+use Rattle.transfer.specs.Chunks.{taken_by_device, next_given, brought, is_answered}
 use Rattle.subchannel_model.specs.Clear.{cleared}
 use Rattle.subchannel_model.specs.declared.state.UpStep.{UpStep}
-use Rattle.subchannel_model.specs.declared.cause.Cause.TheVariants as cause
-use Rattle.subchannel_model.specs.declared.state.Standing.{Standing}
+use Rattle.subchannel_model.specs.declared.cause.StatusCause.TheVariants as cause
+use Rattle.subchannel_model.specs.declared.state.ProgramPosition.{ProgramPosition}
 use Rattle.subchannel_model.specs.Causes.{with_cause}
 use Rattle.subchannel_model.specs.Choosing.{IsFitFor, reset_sent, halt_sent}
 use Rattle.subchannel_model.specs.Ends.{has_status_modifier, chains_command}
@@ -44,7 +44,7 @@ use Rattle.machine_model.specs.Turns.{SubTurn, UpTurn}
 use Rattle.machine_model.specs.ChooseSteps.{choose_sub}
 use Rattle.subchannel_model.specs.Sending.{is_full, finds_full}
 use Rattle.machine_model.specs.UpSteps.{up_front, up_sub}
-use Rattle.subchannel_model.specs.Taking.{Met, with_known, meets, ignoring, quietly, sending, let_go, by_hold, moving_on, giving, give_next, answering, take_in, bytes_of, standing, goes_ahead, with_path, taking_over, interrupted, suspending, beginning, begin_standing, halt_done, accept, move_bytes, move_data, with_end, end_taken, chaining, chain_with, goes_on, end_shown_at, stops_at, command_ended, end_of, reset_taken, may_attend, with_attention, takes_up}
+use Rattle.subchannel_model.specs.Taking.{Met, with_known, meets, ignoring, quietly, sending, let_go, by_hold, moving_on, giving, give_next, answering, take_in, bytes_of_load, standing, goes_ahead, path_used, taking_over, interrupted, suspending, beginning, begin_standing, halt_done, accept, move_bytes, move_data, with_end, end_taken, chaining, chain_with, goes_on, end_shown_at, stops_at, command_ended, end_of, reset_taken, may_attend, with_attention, takes_up}
 use Rattle.subchannel_model.specs.Losing.{has_any, is_offered_or_held, reset_for}
 use Rattle.machine_laws.proofs.Resetting.{reset-acted}
 use Rattle.machine_laws.proofs.SameHold.{IsSameHold, same-hold, same-then, cause-same, interrupted-same, moving-same, suspending-same, halt_done-same, clear_done-same, attention-same}
@@ -75,7 +75,7 @@ if-meets l false x y e f = f
 ignored : (l : Link) (s : SubchannelState) → IsOf l s → Leaves l (ignoring s)
 ignored l s at = stays l s.drawn s.hold at
 
-stepped-is : (n : ℕ) (h : HoldState) (step : Option HoldStep) → stepped n h step ≡ record { drawn = n; hold = hold_after h step; sent = (came_of step).sent }
+stepped-is : (n : ℕ) (h : HoldState) (step : Option HoldStep) → hold_stepped n h step ≡ record { drawn = n; hold = hold_after h step; sent = (came_of step).sent }
 stepped-is n h None = refl
 stepped-is n h (Some step) = refl
 
@@ -121,7 +121,7 @@ module _ (keeps : Keeps) where
   let_go-leaves l n h at = acts keeps l n h Lets_go _ tt at (stepped-is n h (letting_go h h.phase))
 
   by_hold-leaves : (returns : Bool) → (l : Link) (s : SubchannelState) (p : ℕ) (x : Up) → Contains l.ups (record { path = p; signal = x }) → IsOf l s →
-      hold_acts s.drawn s.hold (Takes (record { path = p; signal = x }) returns) ≡ stepped s.drawn s.hold (hold_takes s.hold p x returns) →
+      hold_acts s.drawn s.hold (Takes (record { path = p; signal = x }) returns) ≡ hold_stepped s.drawn s.hold (hold_takes s.hold p x returns) →
       Leaves l (by_hold s (hold_takes s.hold p x returns))
   by_hold-leaves returns l s p x c at e =
       acts keeps l s.drawn s.hold (Takes (record { path = p; signal = x }) returns) _ c at (e ∙ stepped-is s.drawn s.hold (hold_takes s.hold p x returns))
@@ -143,7 +143,7 @@ module _ (keeps : Keeps) where
   command-leaves l s x p t n code room h at = acts keeps l x.drawn x.hold (Sends _) _ tt (still-of l s x h at) refl
 
   -- Accept: the program that was offered begins or goes on, or lets the device go
-  beginning-leaves : (storage : Contents) (l : Link) (s : SubchannelState) (p t : ℕ) (st : Standing) (walk : Place) (r : Came) → IsOf l s →
+  beginning-leaves : (storage : Contents) (l : Link) (s : SubchannelState) (p t : ℕ) (st : ProgramPosition) (walk : WalkPlace) (r : CommandStart) → IsOf l s →
       Leaves l (beginning storage s p t st walk r)
   beginning-leaves storage l s p t st walk (came.Begins transfer) at =
       let next = taking_over s st.program (begun_with_room storage transfer).transfer in
@@ -152,24 +152,24 @@ module _ (keeps : Keeps) where
   beginning-leaves storage l s p t st walk (came.Stops check) at =
       let-leaves l s (with_cause s (cause.FetchFault walk.tried check st.count)) (cause-same s (cause.FetchFault walk.tried check st.count)) at
 
-  begin-leaves : (storage : Contents) (l : Link) (s : SubchannelState) (p t : ℕ) (st : Option Standing) → IsOf l s → Leaves l (begin_standing storage s p t st)
+  begin-leaves : (storage : Contents) (l : Link) (s : SubchannelState) (p t : ℕ) (st : Option ProgramPosition) → IsOf l s → Leaves l (begin_standing storage s p t st)
   begin-leaves storage l s p t None at = ignored l s at
   begin-leaves storage l s p t (Some st) at = beginning-leaves storage l s p t st (first_command storage st.walk).walk (first_command storage st.walk).came at
 
   -- the hold offers the number u, or another
   begun-leaves : (storage : Contents) (l : Link) (s : SubchannelState) (h : HoldState) (p t q u : ℕ) (may same : Bool) →
       Contains l.ups (record { path = p; signal = up.Accept u }) → IsAt l s.drawn (record h { phase = hold.Offer t q }) → (u == t) ≡ same →
-      Leaves l (accept storage (record s { hold = record h { phase = hold.Offer t q } }) (if same then Some (begun (record h { phase = hold.Offer t q }) t q may) else None))
+      Leaves l (accept storage (record s { hold = record h { phase = hold.Offer t q } }) (if same then Some (program_begun (record h { phase = hold.Offer t q }) t q may) else None))
   begun-leaves storage l s h p t q u true true c at e =
       chain l (still s.drawn (record h { phase = hold.On t q 0; seen = 0; first_path = Some q })) _
       (acts keeps l s.drawn (record h { phase = hold.Offer t q }) (Takes (record { path = p; signal = up.Accept u }) true) _ c at
-      (ap (λ (b : Bool). stepped s.drawn (record h { phase = hold.Offer t q }) (if b then Some (begun (record h { phase = hold.Offer t q }) t q true) else None)) e))
-      (λ m on. begin-leaves storage m (record s { hold = record h { phase = hold.On t q 0; seen = 0; first_path = Some q }; pmcw = with_path s.pmcw q }) q t (standing s) on)
+      (ap (λ (b : Bool). hold_stepped s.drawn (record h { phase = hold.Offer t q }) (if b then Some (program_begun (record h { phase = hold.Offer t q }) t q true) else None)) e))
+      (λ m on. begin-leaves storage m (record s { hold = record h { phase = hold.On t q 0; seen = 0; first_path = Some q }; pmcw = path_used s.pmcw q }) q t (standing s) on)
   begun-leaves storage l s h p t q u false true c at e =
-      let next = record s { hold = record h { phase = hold.Letting t q; seen = 0; first_path = Some q }; pmcw = with_path s.pmcw q } in
+      let next = record s { hold = record h { phase = hold.Letting t q; seen = 0; first_path = Some q }; pmcw = path_used s.pmcw q } in
       reaches-same l next (halt_done next) (Some (record { path = q; signal = down.Release t })) (halt_done-same next)
       (acts keeps l s.drawn (record h { phase = hold.Offer t q }) (Takes (record { path = p; signal = up.Accept u }) false) _ c at
-      (ap (λ (b : Bool). stepped s.drawn (record h { phase = hold.Offer t q }) (if b then Some (begun (record h { phase = hold.Offer t q }) t q false) else None)) e))
+      (ap (λ (b : Bool). hold_stepped s.drawn (record h { phase = hold.Offer t q }) (if b then Some (program_begun (record h { phase = hold.Offer t q }) t q false) else None)) e))
   begun-leaves storage l s h p t q u may false c at e = stays l s.drawn (record h { phase = hold.Offer t q }) at
 
   accept-leaves : (storage : Contents) (l : Link) (s : SubchannelState) (h : HoldState) (phase : HoldPhase) (p u : ℕ) (may : Bool) →
@@ -183,26 +183,26 @@ module _ (keeps : Keeps) where
   accept-leaves storage l s h (hold.Reset r) p u may c at = stays l s.drawn (record h { phase = hold.Reset r }) at
 
   -- Data
-  given-leaves : (l : Link) (s : SubchannelState) (b : Begun) (signal : DataSignal) (given : Given) → IsOf l s → Leaves l (giving s b signal given)
+  given-leaves : (l : Link) (s : SubchannelState) (b : ActiveProgram) (signal : DataSignal) (given : NextChunk) → IsOf l s → Leaves l (giving s b signal given)
   given-leaves l s b signal given at =
       let x = moving_on s b given.transfer in acts keeps l x.drawn x.hold (Sends _) _ tt (still-of l s x (moving-same s b given.transfer) at) refl
 
-  answer-leaves : (l : Link) (s : SubchannelState) (b : Begun) (signal : DataSignal) (roomy : Roomy) → IsOf l s → Leaves l (answering s b signal roomy)
+  answer-leaves : (l : Link) (s : SubchannelState) (b : ActiveProgram) (signal : DataSignal) (roomy : WithRoom) → IsOf l s → Leaves l (answering s b signal roomy)
   answer-leaves l s b signal roomy at =
       let x = moving_on s b roomy.transfer in acts keeps l x.drawn x.hold (Sends _) _ tt (still-of l s x (moving-same s b roomy.transfer) at) refl
 
-  move-leaves : (storage : Contents) (l : Link) (s : SubchannelState) (b : Option Begun) (signal : DataSignal) (load : Load) → IsOf l s →
+  move-leaves : (storage : Contents) (l : Link) (s : SubchannelState) (b : Option ActiveProgram) (signal : DataSignal) (load : Load) → IsOf l s →
       Leaves l (move_data storage s b signal load).step
   move-leaves storage l s None signal load at = ignored l s at
   move-leaves storage l s (Some b) signal load at =
       if-meets l (is_answered b.transfer signal.command signal.sequence) (move_bytes storage s b signal load) (meets storage (ignoring s))
-      (if-meets l (is_outward b.transfer.code) (meets storage (give_next storage s b signal (load_length load))) (take_in s b signal (brought storage b.transfer signal.sequence (bytes_of load)))
-      (given-leaves l s b signal (next_given storage (absorbed storage b.transfer signal.sequence (load_length load))) at)
-      (answer-leaves l s b signal (with_room (brought storage b.transfer signal.sequence (bytes_of load)).storage (brought storage b.transfer signal.sequence (bytes_of load)).transfer) at))
+      (if-meets l (is_outward b.transfer.code) (meets storage (give_next storage s b signal (load_length load))) (take_in s b signal (brought storage b.transfer signal.sequence (bytes_of_load load)))
+      (given-leaves l s b signal (next_given storage (taken_by_device storage b.transfer signal.sequence (load_length load))) at)
+      (answer-leaves l s b signal (with_room (brought storage b.transfer signal.sequence (bytes_of_load load)).storage (brought storage b.transfer signal.sequence (bytes_of_load load)).transfer) at))
       (ignored l s at)
 
   -- End
-  chaining-leaves : (storage : Contents) (l : Link) (s : SubchannelState) (b : Begun) (signal : EndSignal) (walk : Place) (r : Came) → IsOf l s →
+  chaining-leaves : (storage : Contents) (l : Link) (s : SubchannelState) (b : ActiveProgram) (signal : EndSignal) (walk : WalkPlace) (r : CommandStart) → IsOf l s →
       Leaves l (chaining storage s b signal walk r)
   chaining-leaves storage l s b signal walk (came.Begins transfer) at =
       let x = moving_on s b (begun_with_room storage transfer).transfer in
@@ -214,14 +214,14 @@ module _ (keeps : Keeps) where
       let x = with_cause (end_taken s signal) (cause.FetchFault walk.tried check (residual b.transfer.moving)) in
       let-leaves l (end_taken s signal) x (cause-same (end_taken s signal) (cause.FetchFault walk.tried check (residual b.transfer.moving))) at
 
-  stops-leaves : (l : Link) (s : SubchannelState) (b : Begun) (signal : EndSignal) → IsOf l s → Leaves l (stops_at s b signal)
+  stops-leaves : (l : Link) (s : SubchannelState) (b : ActiveProgram) (signal : EndSignal) → IsOf l s → Leaves l (stops_at s b signal)
   stops-leaves l s b signal at =
       let e : IsSameHold s (with_cause s (cause.End b signal.status signal.more)) = cause-same s (cause.End b signal.status signal.more) in
       let x = end_shown_at s b signal in
       let same : IsSameHold s x = same-hold s x e.drawn e.hold in
       if-leaves l (is_last_end signal.status) (let_go x) (quietly x) (let-leaves l s x same at) (quiet-leaves l s x same at)
 
-  end_of-leaves : (storage : Contents) (l : Link) (s : SubchannelState) (b : Option Begun) (signal : EndSignal) → IsOf l s →
+  end_of-leaves : (storage : Contents) (l : Link) (s : SubchannelState) (b : Option ActiveProgram) (signal : EndSignal) → IsOf l s →
       Leaves l (end_of storage s b signal)
   end_of-leaves storage l s None signal at = ignored l s at
   end_of-leaves storage l s (Some b) signal at =
@@ -284,7 +284,7 @@ module _ (keeps : Keeps) where
             ∙ ap (λ (phase : HoldPhase). record { drawn = sub.state.drawn; hold = (reset_sent sub.state path).hold; sent = (came_of (sending_reset sub.state.hold phase path)).sent }) fit))
             (λ m c. c);
       })
-  choose-turns sub chosen.Clears fit = same-turns sub (with_cause sub.state cause.ClearDone) (cause-same sub.state cause.ClearDone)
+  choose-turns sub chosen.PerformsClear fit = same-turns sub (with_cause sub.state cause.ClearDone) (cause-same sub.state cause.ClearDone)
   choose-turns sub (chosen.Halts t path) fit =
       if-turns (λ t. IsOfHold sub t.sub) (is_full sub.wires.down path) _ _ tt
       (record {
@@ -294,8 +294,8 @@ module _ (keeps : Keeps) where
             (acts keeps l sub.state.drawn sub.state.hold (Sends _) _ tt (record { drawn = k.drawn; hold = k.hold }) refl)
             (λ m c. c);
       })
-  choose-turns sub chosen.Ends fit = same-turns sub (with_cause sub.state cause.HaltDone) (cause-same sub.state cause.HaltDone)
-  choose-turns sub chosen.Over fit = same-turns sub (with_cause sub.state cause.NoPath) (cause-same sub.state cause.NoPath)
+  choose-turns sub chosen.PerformsHalt fit = same-turns sub (with_cause sub.state cause.HaltDone) (cause-same sub.state cause.HaltDone)
+  choose-turns sub chosen.FindsNoPath fit = same-turns sub (with_cause sub.state cause.NoPath) (cause-same sub.state cause.NoPath)
   choose-turns sub (chosen.Offers c path) fit =
       if-turns (λ t. IsOfHold sub t.sub) (is_full sub.wires.down path) _ _ tt
       (record {
@@ -303,7 +303,7 @@ module _ (keeps : Keeps) where
         reaches = λ l k.
             reached sub l _ (Some (record { path = path; signal = down.Select (sub.state.drawn + 1) })) sub.wires.up k
             (acts keeps l sub.state.drawn sub.state.hold (Offers path c.program.single_path) _ tt (record { drawn = k.drawn; hold = k.hold })
-            (ap (λ (phase : HoldPhase). offered sub.state.drawn sub.state.hold phase path c.program.single_path) fit))
+            (ap (λ (phase : HoldPhase). hold_offered sub.state.drawn sub.state.hold phase path c.program.single_path) fit))
             (λ m c. c);
       })
 

@@ -14,12 +14,12 @@ use Rattle.channel_config.specs.declared.parts.UnitKind.{UnitKind}
 use Rattle.channel_config.specs.Lawful.{IsLawful}
 use Rattle.channel_config.specs.Setup.{Setup}
 use Rattle.wires.specs.Queues.{queue}
-use Rattle.agreement_laws.specs.Links.{Links, link_of, opening}
+use Rattle.agreement_laws.specs.Links.{Links, link_of, opening_links}
 use Rattle.agreement_laws.specs.Invariant.{IsGood}
 use Rattle.subchannel_model.specs.declared.state.Subchannel.{Subchannel}
 use Rattle.machine_model.specs.State.{opening_of, idle_of}
 use Rattle.subchannel_model.specs.Opening.{opened}
-use Rattle.machine_laws.specs.Beginnings.{Starts, no_starts}
+use Rattle.machine_laws.specs.Beginnings.{StartCounts, no_starts}
 use Rattle.machine_laws.proofs.Growth.{Covers, IsLink, link-wider, AreLaws}
 use Rattle.machine_laws.proofs.HoldEvents.{IsOfHold}
 use Rattle.machine_laws.proofs.TaleEvents.{Tells}
@@ -28,7 +28,7 @@ use Rattle.machine_laws.proofs.UnitEvents.{Follows, IsKept, hold-kept}
 use Rattle.step_laws.proofs.Places.{set-get, map-get, one-place}
 
 -- the links of the unit at a place, and what is told of one subchannel
-pub record IsLinked (subs : List Subchannel) (at : ℕ) (u : UnitState) (which : Option ℕ) (k : Starts) : Type 0 where
+pub record IsLinked (subs : List Subchannel) (at : ℕ) (u : UnitState) (which : Option ℕ) (k : StartCounts) : Type 0 where
   pub links : Links
   pub good : IsGood links
   pub «unit» : links.«unit» ≡ u
@@ -36,14 +36,14 @@ pub record IsLinked (subs : List Subchannel) (at : ℕ) (u : UnitState) (which :
   pub told : (place : ℕ) (sub : Subchannel) → slice_get subs place ≡ Some sub → sub.setup.«unit» ≡ at → which ≡ Some place → IsTold k sub.state links sub.setup.side
 
 -- what is told after an event at a place: of the subchannel of that place, and of another
-pub record IsAbout (which : Option ℕ) (place : ℕ) (k mine next : Starts) : Type 0 where
+pub record IsAbout (which : Option ℕ) (place : ℕ) (k mine next : StartCounts) : Type 0 where
   pub here : which ≡ Some place → mine ≡ next
   pub there : (which ≡ Some place → ⊥) → k ≡ next
 
 abbrev pub AreApart : List Subchannel → Type 0
 AreApart subs = (i j : ℕ) (x y : Subchannel) → slice_get subs i ≡ Some x → slice_get subs j ≡ Some y → x.setup.«unit» ≡ y.setup.«unit» → same_side x.setup.side y.setup.side ≡ true → i ≡ j
 
-pub record AreLinked (subs : List Subchannel) (units : List UnitState) (which : Option ℕ) (k : Starts) : Type 0 where
+pub record AreLinked (subs : List Subchannel) (units : List UnitState) (which : Option ℕ) (k : StartCounts) : Type 0 where
   pub apart : AreApart subs
   pub linked : (at : ℕ) (u : UnitState) → slice_get units at ≡ Some u → IsLinked subs at u which k
 
@@ -65,7 +65,7 @@ apart-kept subs place sub new at s apart i j x y e f u side =
     (ap (λ (z : SubchannelSetup). same_side z.side b.0.setup.side) (sym a.2) ∙ (ap (λ (z : SubchannelSetup). same_side x.setup.side z.side) (sym b.2) ∙ side))
 
 -- a unit of other subchannels
-other-linked : (subs : List Subchannel) (place : ℕ) (sub new : Subchannel) (at : ℕ) (u : UnitState) (which : Option ℕ) (k mine next : Starts) →
+other-linked : (subs : List Subchannel) (place : ℕ) (sub new : Subchannel) (at : ℕ) (u : UnitState) (which : Option ℕ) (k mine next : StartCounts) →
     slice_get subs place ≡ Some sub → new.setup ≡ sub.setup → at ≢ sub.setup.«unit» → IsAbout which place k mine next → IsLinked subs at u which k →
     IsLinked (slice_set subs place new) at u which next
 other-linked subs place sub new at u which k mine next there s n about l =
@@ -81,7 +81,7 @@ other-linked subs place sub new at u which k mine next there s n about l =
       told = λ i x e h q.
           elim (set-get subs place new i x e) [
             | inl p ↦ absurd (n (sym h ∙ (ap (λ (y : Subchannel). y.setup.«unit») p.1 ∙ ap (λ (z : SubchannelSetup). z.«unit») s)))
-            | inr p ↦ subst (λ (y : Starts). IsTold y x.state l.links x.setup.side) (about.there (λ r. p.0 (cc (sym q ∙ r)))) (l.told i x p.1 h q)
+            | inr p ↦ subst (λ (y : StartCounts). IsTold y x.state l.links x.setup.side) (about.there (λ r. p.0 (cc (sym q ∙ r)))) (l.told i x p.1 h q)
           ];
     }
 
@@ -90,7 +90,7 @@ not-true : (b : Bool) → (b ≡ true → ⊥) → b ≡ false
 not-true true n = absurd (n refl)
 not-true false n = refl
 
-here-linked : (T : Type 0) (subs : List Subchannel) (place : ℕ) (sub new : Subchannel) (at : ℕ) (u v : UnitState) (which : Option ℕ) (k mine next : Starts) →
+here-linked : (T : Type 0) (subs : List Subchannel) (place : ℕ) (sub new : Subchannel) (at : ℕ) (u v : UnitState) (which : Option ℕ) (k mine next : StartCounts) →
     slice_get subs place ≡ Some sub → AreApart subs → at ≡ sub.setup.«unit» → IsKept T sub new u v k mine → IsAbout which place k mine next → IsLinked subs at u which k →
     IsLinked (slice_set subs place new) at v which next
 here-linked T subs place sub new at u v which k mine next there apart e kept about l =
@@ -113,14 +113,14 @@ here-linked T subs place sub new at u v which k mine next there apart e kept abo
                 let r : which ≡ Some place = q ∙ ap Some p.0 in
                 subst (λ (y : Subchannel). IsTold next y.state f.links y.setup.side) (sym p.1)
                 (subst (λ (z : SubchannelSetup). IsTold next new.state f.links z.side) (sym kept.setup)
-                (subst (λ (y : Starts). IsTold y new.state f.links sub.setup.side) (about.here r) (f.told (l.told place sub there (sym e) r))))
-            | inr p ↦ subst (λ (y : Starts). IsTold y x.state f.links x.setup.side) (about.there (λ r. p.0 (cc (sym q ∙ r))))
+                (subst (λ (y : StartCounts). IsTold y new.state f.links sub.setup.side) (about.here r) (f.told (l.told place sub there (sym e) r))))
+            | inr p ↦ subst (λ (y : StartCounts). IsTold y x.state f.links x.setup.side) (about.there (λ r. p.0 (cc (sym q ∙ r))))
                 (told-wider k x.state l.links f.links x.setup.side (f.passed x.setup.side) (f.accepted x.setup.side) (l.told i x p.1 g q))
           ];
     }
 
 -- the units, of which that of this subchannel was changed, or none
-abbrev AreAfter : Type 0 → List UnitState → List UnitState → Subchannel → Subchannel → Starts → Starts → Type 0
+abbrev AreAfter : Type 0 → List UnitState → List UnitState → Subchannel → Subchannel → StartCounts → StartCounts → Type 0
 AreAfter T old units sub new k mine = (at : ℕ) (v : UnitState) → slice_get units at ≡ Some v →
     (u : UnitState) × (slice_get old at ≡ Some u) × (((at ≢ sub.setup.«unit») × (v ≡ u)) ⊎ ((at ≡ sub.setup.«unit») × IsKept T sub new u v k mine))
 
@@ -128,7 +128,7 @@ same-or-not : (a b : ℕ) (same : Bool) → (a == b) ≡ same → (a ≡ b) ⊎ 
 same-or-not a b true e = inl (eqb-true a b e)
 same-or-not a b false e = inr (eqb-false a b e)
 
-same-after : (T : Type 0) (units : List UnitState) (sub new : Subchannel) (k mine : Starts) → ((u : UnitState) → IsKept T sub new u u k mine) → AreAfter T units units sub new k mine
+same-after : (T : Type 0) (units : List UnitState) (sub new : Subchannel) (k mine : StartCounts) → ((u : UnitState) → IsKept T sub new u u k mine) → AreAfter T units units sub new k mine
 same-after T units sub new k mine f at v e = (
   v,
   e,
@@ -138,7 +138,7 @@ same-after T units sub new k mine f at v e = (
   ],
 )
 
-set-after : (T : Type 0) (units : List UnitState) (sub new : Subchannel) (place : ℕ) (u v : UnitState) (k mine : Starts) → slice_get units place ≡ Some u → place ≡ sub.setup.«unit» →
+set-after : (T : Type 0) (units : List UnitState) (sub new : Subchannel) (place : ℕ) (u v : UnitState) (k mine : StartCounts) → slice_get units place ≡ Some u → place ≡ sub.setup.«unit» →
     IsKept T sub new u v k mine → AreAfter T units (slice_set units place v) sub new k mine
 set-after T units sub new place u v k mine there e f at w h =
     elim (set-get units place v at w h) [
@@ -146,7 +146,7 @@ set-after T units sub new place u v k mine there e f at w h =
       | inr p ↦ (w, p.1, inl (λ q. p.0 (q ∙ sym e), refl))
     ]
 
-all-linked : (T : Type 0) (subs : List Subchannel) (units after : List UnitState) (place : ℕ) (sub new : Subchannel) (which : Option ℕ) (k mine next : Starts) → slice_get subs place ≡ Some sub →
+all-linked : (T : Type 0) (subs : List Subchannel) (units after : List UnitState) (place : ℕ) (sub new : Subchannel) (which : Option ℕ) (k mine next : StartCounts) → slice_get subs place ≡ Some sub →
     new.setup ≡ sub.setup → IsAbout which place k mine next → AreAfter T units after sub new k mine → AreLinked subs units which k → AreLinked (slice_set subs place new) after which next
 all-linked T subs units after place sub new which k mine next there s about a l =
     record {
@@ -160,13 +160,13 @@ all-linked T subs units after place sub new which k mine next there s about a l 
           ];
     }
 
-pub hold-linked : AreLaws → (subs : List Subchannel) (units : List UnitState) (place : ℕ) (sub new : Subchannel) (which : Option ℕ) (k mine next : Starts) → slice_get subs place ≡ Some sub → IsOfHold sub new →
+pub hold-linked : AreLaws → (subs : List Subchannel) (units : List UnitState) (place : ℕ) (sub new : Subchannel) (which : Option ℕ) (k mine next : StartCounts) → slice_get subs place ≡ Some sub → IsOfHold sub new →
     Tells sub new.state k mine → IsAbout which place k mine next → AreLinked subs units which k → AreLinked (slice_set subs place new) units which next
 hold-linked laws subs units place sub new which k mine next there h f about l =
     all-linked ⊥ subs units units place sub new which k mine next there h.setup about
     (same-after ⊥ units sub new k mine (λ u. hold-kept laws sub new u k mine h f)) l
 
-pub unit-linked : (T : Type 0) (subs : List Subchannel) (units : List UnitState) (place at : ℕ) (sub new : Subchannel) (u v : UnitState) (which : Option ℕ) (k mine next : Starts) → slice_get subs place ≡ Some sub →
+pub unit-linked : (T : Type 0) (subs : List Subchannel) (units : List UnitState) (place at : ℕ) (sub new : Subchannel) (u v : UnitState) (which : Option ℕ) (k mine next : StartCounts) → slice_get subs place ≡ Some sub →
     slice_get units at ≡ Some u → at ≡ sub.setup.«unit» → IsKept T sub new u v k mine → IsAbout which place k mine next → AreLinked subs units which k →
     AreLinked (slice_set subs place new) (slice_set units at v) which next
 unit-linked T subs units place at sub new u v which k mine next there found e f about l =
@@ -181,11 +181,11 @@ no-signal (suc n) (suc p) = no-signal n p
 covers-none : {A : Type 0} (l : List (OnPath A)) (n : ℕ) → Covers l (replicate n [])
 covers-none {A} l n p = let P : A → Type 0 = λ x. Contains l (record { path = p; signal = x }) in subst (λ (xs : List A). All P xs) (sym (no-signal n p)) (All-nil P)
 
-opened-link : (setup : SubchannelSetup) (side : Side) → IsLink (opened setup) (link_of opening side)
+opened-link : (setup : SubchannelSetup) (side : Side) → IsLink (opened setup) (link_of opening_links side)
 opened-link setup First = record { drawn = refl; hold = refl; downs = covers-none [] 8; ups = covers-none [] 8 }
 opened-link setup Second = record { drawn = refl; hold = refl; downs = covers-none [] 8; ups = covers-none [] 8 }
 
-pub opens-linked : (setup : Setup) (which : Option ℕ) → IsLawful setup → IsGood opening → AreLinked (opening_of setup).subs (opening_of setup).units which no_starts
+pub opens-linked : (setup : Setup) (which : Option ℕ) → IsLawful setup → IsGood opening_links → AreLinked (opening_of setup).subs (opening_of setup).units which no_starts
 opens-linked setup which lawful good =
     record {
       apart = λ i j x y e f u side.
@@ -197,14 +197,14 @@ opens-linked setup which lawful good =
       linked = λ at u e.
           let a : (kind : UnitKind) × (slice_get setup.units at ≡ Some kind) × (idle_of kind ≡ u) = map-get idle_of setup.units at u e in
           record {
-            links = opening;
+            links = opening_links;
             good = good;
             «unit» = a.2;
             stand = λ place sub h g.
                 let b : (s : SubchannelSetup) × (slice_get setup.subchannels place ≡ Some s) × (opened s ≡ sub) = map-get opened setup.subchannels place sub h in
-                subst (λ (y : Subchannel). IsLink y (link_of opening y.setup.side)) b.2 (opened-link b.0 b.0.side);
+                subst (λ (y : Subchannel). IsLink y (link_of opening_links y.setup.side)) b.2 (opened-link b.0 b.0.side);
             told = λ place sub h g q.
                 let b : (s : SubchannelSetup) × (slice_get setup.subchannels place ≡ Some s) × (opened s ≡ sub) = map-get opened setup.subchannels place sub h in
-                subst (λ (y : Subchannel). IsTold no_starts y.state opening y.setup.side) b.2 (told-opened opening b.0.side);
+                subst (λ (y : Subchannel). IsTold no_starts y.state opening_links y.setup.side) b.2 (told-opened opening_links b.0.side);
           };
     }

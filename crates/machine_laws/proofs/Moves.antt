@@ -23,13 +23,13 @@ use Rattle.chan_model.specs.UnitReports.{unit_reports}
 use Rattle.wires.specs.Queues.{queue}
 use Rattle.subchannel_model.specs.declared.state.Chosen.{Chosen}
 use Rattle.subchannel_model.specs.declared.state.Chosen.TheVariants as chosen_is
-use Rattle.subchannel_model.specs.declared.state.Pmcw.{Pmcw}
+use Rattle.subchannel_model.specs.declared.state.PmcwState.{PmcwState}
 use Rattle.subchannel_model.specs.declared.state.Program.{Program}
 use Rattle.subchannel_model.specs.declared.state.Subchannel.{Subchannel}
 use Rattle.subchannel_model.specs.declared.state.SubchannelState.{SubchannelState}
 use Rattle.machine_model.specs.State.{State}
 use Rattle.machine_model.specs.Setups.{IsSetUp}
-use Rattle.subchannel_model.specs.declared.cause.Cause.TheVariants as cause
+use Rattle.subchannel_model.specs.declared.cause.StatusCause.TheVariants as cause
 use Rattle.subchannel_model.specs.Causes.{with_cause}
 use Rattle.subchannel_model.specs.Choosing.{chosen, reset_sent, halt_sent, offered}
 use Rattle.subchannel_model.specs.Test.{tested_wholly}
@@ -51,7 +51,7 @@ pub record IsKept (R : SubchannelState → SubchannelState → Type 0) : Type 0 
   pub same : (s : SubchannelState) → R s s
   pub starts : (s : SubchannelState) (orb : Orb) → R s (started s orb)
   pub tests : (s : SubchannelState) → R s (tested_wholly s)
-  pub modifies : (s : SubchannelState) (pmcw : Pmcw) → R s (record s { pmcw = pmcw })
+  pub modifies : (s : SubchannelState) (pmcw : PmcwState) → R s (record s { pmcw = pmcw })
   pub functions : (s : SubchannelState) (f : Function) → R s (effect_of f s)
   pub resets : (s : SubchannelState) (path : ℕ) → R s (reset_sent s path)
   pub clears : (s : SubchannelState) → R s (with_cause s cause.ClearDone)
@@ -127,11 +127,11 @@ module _ (R : SubchannelState → SubchannelState → Type 0) (k : IsKept R) whe
   choose-kept sub chosen_is.Idle = unchanged sub
   choose-kept sub (chosen_is.Resets r path) =
       if-ok (λ t. Changed R sub t.sub) (is_full sub.wires.down path) _ _ tt (record { setup = refl; state = k.resets sub.state path })
-  choose-kept sub chosen_is.Clears = record { setup = refl; state = k.clears sub.state }
+  choose-kept sub chosen_is.PerformsClear = record { setup = refl; state = k.clears sub.state }
   choose-kept sub (chosen_is.Halts t path) =
       if-ok (λ t. Changed R sub t.sub) (is_full sub.wires.down path) _ _ tt (record { setup = refl; state = k.halts sub.state })
-  choose-kept sub chosen_is.Ends = record { setup = refl; state = k.ends sub.state }
-  choose-kept sub chosen_is.Over = record { setup = refl; state = k.over sub.state }
+  choose-kept sub chosen_is.PerformsHalt = record { setup = refl; state = k.ends sub.state }
+  choose-kept sub chosen_is.FindsNoPath = record { setup = refl; state = k.over sub.state }
   choose-kept sub (chosen_is.Offers c path) =
       if-ok (λ t. Changed R sub t.sub) (is_full sub.wires.down path) _ _ tt (record { setup = refl; state = k.offers sub.state c.program path })
 

@@ -4,9 +4,9 @@ use Rattle.std.specs.Prelude.{if◌then◌else◌}
 use Rattle.chan_model.specs.declared.hold_state.HoldPhase.{HoldPhase}
 use Rattle.chan_model.specs.declared.hold_state.HoldPhase.TheVariants as hold
 use Rattle.agreement_laws.specs.Moving.{reset_again}
-use Rattle.subchannel_model.specs.declared.state.Begun.{Begun}
+use Rattle.subchannel_model.specs.declared.state.ActiveProgram.{ActiveProgram}
 use Rattle.subchannel_model.specs.declared.state.Program.{Program}
-use Rattle.subchannel_model.specs.declared.state.Standing.{Standing}
+use Rattle.subchannel_model.specs.declared.state.ProgramPosition.{ProgramPosition}
 use Rattle.subchannel_model.specs.declared.state.SubchannelState.{SubchannelState}
 use Rattle.subchannel_model.specs.Losing.{has_any, is_offered_or_held, reset_drawn, reset_with, reset_for}
 use Rattle.subchannel_model.specs.Taking.{quietly, ignoring, with_known}
@@ -24,7 +24,7 @@ still-spent A B s x phase program e n a k =
       ];
     }
 
-waits-reset : (A : Type 0) (B : ℕ → Type 0) (s x : SubchannelState) (phase : HoldPhase) (w : Option Program) (b : Option Begun) (d : Option Standing) → s.hold.phase ≡ phase →
+waits-reset : (A : Type 0) (B : ℕ → Type 0) (s x : SubchannelState) (phase : HoldPhase) (w : Option Program) (b : Option ActiveProgram) (d : Option ProgramPosition) → s.hold.phase ≡ phase →
     (is_offered_or_held phase && has_any w b d) ≡ false → x.starts ≡ s.starts → WaitsAs A B s w → WaitsAs A B x w
 waits-reset A B s x phase None b d e f a k = tt
 waits-reset A B s x hold.Free (Some program) b d e f a k = still-spent A B s x hold.Free program e (λ t p g. absurd (cc g)) a k
@@ -34,7 +34,7 @@ waits-reset A B s x (hold.Away t) (Some program) b d e f a k = absurd (cc f)
 waits-reset A B s x (hold.Letting t p) (Some program) b d e f a k = still-spent A B s x (hold.Letting t p) program e (λ t p g. absurd (cc g)) a k
 waits-reset A B s x (hold.Reset r) (Some program) b d e f a k = still-spent A B s x (hold.Reset r) program e (λ t p g. absurd (cc g)) a k
 
-begun-reset : (phase next : HoldPhase) (w : Option Program) (b : Option Begun) (d : Option Standing) → (is_offered_or_held phase && has_any w b d) ≡ false → IsBegunHeld b phase →
+begun-reset : (phase next : HoldPhase) (w : Option Program) (b : Option ActiveProgram) (d : Option ProgramPosition) → (is_offered_or_held phase && has_any w b d) ≡ false → IsBegunHeld b phase →
     IsBegunHeld b next
 begun-reset phase next w None d f h = tt
 begun-reset hold.Free next w (Some b) d f h = absurd (cc h)

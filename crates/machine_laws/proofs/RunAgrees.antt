@@ -27,7 +27,7 @@ use Rattle.channel_config.specs.Setup.{Setup, set_count}
 use Rattle.channel_config.specs.SubchannelWords.{subchannel_named}
 use Rattle.orb_block.specs.declared.Orb.{Orb}
 use Rattle.schib_block.specs.declared.pmcw.Pmcw as block
-use Rattle.agreement_laws.specs.Links.{Links, link_of, opening}
+use Rattle.agreement_laws.specs.Links.{Links, link_of, opening_links}
 use Rattle.agreement_laws.specs.Invariant.{IsGood}
 use Rattle.agreement_laws.specs.Claims.{IsSound}
 use Rattle.subchannel_model.specs.declared.state.Subchannel.{Subchannel}
@@ -44,7 +44,7 @@ use Rattle.machine_model.specs.Turns.{SubTurn, UpTurn, DownTurn}
 use Rattle.machine_model.specs.InstructionSteps.{test_with, function_sub}
 use Rattle.machine_model.specs.Steps.{Run, Opened, Stepped}
 use Rattle.machine_laws.specs.Agreeing.{IsAgreed, AllAgree, AreAbove, IsEnd}
-use Rattle.machine_laws.specs.Beginnings.{Starts, no_starts, with_start, with_offer, with_taken, starts_after, starts_by, starts, IsBegunOnce}
+use Rattle.machine_laws.specs.Beginnings.{StartCounts, no_starts, with_start, with_offer, with_taken, starts_after, starts_by, starts, IsBegunOnce}
 use Rattle.machine_laws.specs.Claims.{is_same_id, is_id}
 use Rattle.step_laws.specs.Walks as walked
 use Rattle.step_laws.specs.Walks.{Walked, IsQuiet, is_start, OneSub, OneUnit, Function, Resumes, Halts, Clears, Cancels, effect_of}
@@ -91,12 +91,12 @@ place-set id (x ∷ xs) zero sub new e s =
 place-set id (x ∷ xs) (suc place) sub new e s = ap (λ (p : Option ℕ). if is_named id x then Some 0 else one_later p) (place-set id xs place sub new e s)
 
 -- a state after entries that tell this of the subchannel of an id
-pub record IsStateTold (id : SubchannelId) (k : Starts) (subs : List Subchannel) (units : List UnitState) : Type 0 where
+pub record IsStateTold (id : SubchannelId) (k : StartCounts) (subs : List Subchannel) (units : List UnitState) : Type 0 where
   pub linked : AreLinked subs units (place_in id subs) k
   pub rises : AllPairs (λ x y. x < y) k.begun
 
 -- an event that tells nothing, and one of the subchannel that a word names
-silent-about : (which : Option ℕ) (place : ℕ) (k next : Starts) → next ≡ k → IsAbout which place k k next
+silent-about : (which : Option ℕ) (place : ℕ) (k next : StartCounts) → next ≡ k → IsAbout which place k k next
 silent-about which place k next e = record { here = λ h. sym e; there = λ h. sym e }
 
 not-both : (id named : SubchannelId) (sub : Subchannel) → is_named id sub ≡ true → is_named named sub ≡ true → is_same_id named id ≡ true
@@ -107,7 +107,7 @@ not-both id named sub e f =
     (eq-eqb named.set id.set (sym (eqb-true sub.setup.id.set named.set b.0) ∙ eqb-true sub.setup.id.set id.set a.0))
     (eq-eqb named.number id.number (sym (eqb-true sub.setup.id.number named.number b.1) ∙ eqb-true sub.setup.id.number id.number a.1))
 
-id-about : (subs : List Subchannel) (id named : SubchannelId) (place : ℕ) (sub : Subchannel) (same : Bool) (k mine : Starts) → is_same_id named id ≡ same → place_in named subs ≡ Some place →
+id-about : (subs : List Subchannel) (id named : SubchannelId) (place : ℕ) (sub : Subchannel) (same : Bool) (k mine : StartCounts) → is_same_id named id ≡ same → place_in named subs ≡ Some place →
     slice_get subs place ≡ Some sub → IsAbout (place_in id subs) place k mine (if same then mine else k)
 id-about subs id named place sub true k mine e at there =
     record { here = λ h. refl; there = λ n. absurd (n (subst (λ (x : SubchannelId). place_in x subs ≡ Some place) (same-id named id e) at)) }
@@ -118,26 +118,26 @@ id-about subs id named place sub false k mine e at there =
       there = λ n. refl;
     }
 
-named-about : (subs : List Subchannel) (id : SubchannelId) (x : Option SubchannelId) (place : ℕ) (sub : Subchannel) (k mine : Starts) → place_of_id subs x ≡ Some place →
+named-about : (subs : List Subchannel) (id : SubchannelId) (x : Option SubchannelId) (place : ℕ) (sub : Subchannel) (k mine : StartCounts) → place_of_id subs x ≡ Some place →
     slice_get subs place ≡ Some sub → IsAbout (place_in id subs) place k mine (if is_id x id then mine else k)
 named-about subs id None place sub k mine at there = absurd (cc at)
 named-about subs id (Some named) place sub k mine at there = id-about subs id named place sub (is_same_id named id) k mine refl at there
 
 -- what rises stays so where nothing begins
-if-rises : (b : Bool) (k mine : Starts) → mine.begun ≡ k.begun → (if b then mine else k).begun ≡ k.begun
+if-rises : (b : Bool) (k mine : StartCounts) → mine.begun ≡ k.begun → (if b then mine else k).begun ≡ k.begun
 if-rises true k mine e = e
 if-rises false k mine e = refl
 
-rises-same : (k next : Starts) → next.begun ≡ k.begun → AllPairs (λ x y. x < y) k.begun → AllPairs (λ x y. x < y) next.begun
+rises-same : (k next : StartCounts) → next.begun ≡ k.begun → AllPairs (λ x y. x < y) k.begun → AllPairs (λ x y. x < y) next.begun
 rises-same k next e r = subst (λ (xs : List ℕ). AllPairs (λ x y. x < y) xs) (sym e) r
 
-start-begun : (sub : Subchannel) (orb : Orb) (c : ConditionCode) (k : Starts) → (with_start (function_sub sub c (started sub.state orb)).reply k).begun ≡ k.begun
+start-begun : (sub : Subchannel) (orb : Orb) (c : ConditionCode) (k : StartCounts) → (with_start (function_sub sub c (started sub.state orb)).reply k).begun ≡ k.begun
 start-begun sub orb code.Zero k = refl
 start-begun sub orb code.One k = refl
 start-begun sub orb code.Two k = refl
 start-begun sub orb code.Three k = refl
 
-offer-begun : (r : Reply) (k : Starts) → (with_offer r k).begun ≡ k.begun
+offer-begun : (r : Reply) (k : StartCounts) → (with_offer r k).begun ≡ k.begun
 offer-begun reply.Done k = refl
 offer-begun (reply.Shown bytes) k = refl
 offer-begun (reply.Code a) k = refl
@@ -152,7 +152,7 @@ offer-begun (reply.Up x taken one) k = refl
 offer-begun (reply.Down x taken one) k = refl
 
 -- an event that begins a program is one of that subchannel
-down-rises : (b : Bool) (k mine : Starts) → (b ≡ true → AllPairs (λ x y. x < y) mine.begun) → AllPairs (λ x y. x < y) k.begun → AllPairs (λ x y. x < y) (if b then mine else k).begun
+down-rises : (b : Bool) (k mine : StartCounts) → (b ≡ true → AllPairs (λ x y. x < y) mine.begun) → AllPairs (λ x y. x < y) k.begun → AllPairs (λ x y. x < y) (if b then mine else k).begun
 down-rises true k mine f r = f refl
 down-rises false k mine f r = r
 
@@ -161,7 +161,7 @@ named-place subs id None place at e = absurd (cc e)
 named-place subs id (Some named) place at e = subst (λ (x : SubchannelId). place_in x subs ≡ Some place) (same-id named id e) at
 
 -- an entry more
-starts-more : (sets : ℕ) (id : SubchannelId) (k : Starts) (h : List Entry) (x : Entry) → starts_by sets id k (h ++ x ∷ []) ≡ starts_after sets id x.event x.reply (starts_by sets id k h)
+starts-more : (sets : ℕ) (id : SubchannelId) (k : StartCounts) (h : List Entry) (x : Entry) → starts_by sets id k (h ++ x ∷ []) ≡ starts_after sets id x.event x.reply (starts_by sets id k h)
 starts-more sets id k [] x = refl
 starts-more sets id k (y ∷ h) x = starts-more sets id (starts_after sets id y.event y.reply k) h x
 
@@ -180,7 +180,7 @@ module _ (laws : AreLaws) where
   function-hold sub f code.Three = same-hold sub
 
   -- an event at the subchannel of a place
-  told-at : (id : SubchannelId) (s new : State) (place : ℕ) (sub after : Subchannel) (k mine next : Starts) → OneSub s new place sub after → IsOfHold sub after →
+  told-at : (id : SubchannelId) (s new : State) (place : ℕ) (sub after : Subchannel) (k mine next : StartCounts) → OneSub s new place sub after → IsOfHold sub after →
       Tells sub after.state k mine → IsAbout (place_in id s.subs) place k mine next → next.begun ≡ k.begun → IsStateTold id k s.subs s.units →
       IsStateTold id next new.subs new.units
   told-at id s new place sub after k mine next one h f about same l =
@@ -192,7 +192,7 @@ module _ (laws : AreLaws) where
         rises = rises-same k next same l.rises;
       }))
 
-  told-unit : (T : Type 0) (id : SubchannelId) (s new : State) (place at : ℕ) (sub after : Subchannel) (u v : UnitState) (k mine next : Starts) → OneUnit s new place sub after at u v →
+  told-unit : (T : Type 0) (id : SubchannelId) (s new : State) (place at : ℕ) (sub after : Subchannel) (u v : UnitState) (k mine next : StartCounts) → OneUnit s new place sub after at u v →
       at ≡ sub.setup.«unit» → IsKept T sub after u v k mine → IsAbout (place_in id s.subs) place k mine next →
       AllPairs (λ x y. x < y) next.begun → IsStateTold id k s.subs s.units → IsStateTold id next new.subs new.units
   told-unit T id s new place at sub after u v k mine next one e f about r l =
@@ -205,7 +205,7 @@ module _ (laws : AreLaws) where
       }))
 
   -- what began rises, where the unit of the subchannel took a signal
-  unit-rises : (T : Type 0) (id : SubchannelId) (s : State) (place at : ℕ) (sub new : Subchannel) (u v : UnitState) (k mine : Starts) → slice_get s.subs place ≡ Some sub →
+  unit-rises : (T : Type 0) (id : SubchannelId) (s : State) (place at : ℕ) (sub new : Subchannel) (u v : UnitState) (k mine : StartCounts) → slice_get s.subs place ≡ Some sub →
       slice_get s.units at ≡ Some u → at ≡ sub.setup.«unit» → IsKept T sub new u v k mine → place_in id s.subs ≡ Some place → IsStateTold id k s.subs s.units → AllPairs (λ x y. x < y) mine.begun
   unit-rises T id s place at sub new u v k mine there found e f which l =
       let x : IsLinked s.subs at u (place_in id s.subs) k = l.linked.linked at u found in
@@ -213,7 +213,7 @@ module _ (laws : AreLaws) where
       (g.told (x.told place sub there (sym e) which)).rises
 
   -- a quiet event tells nothing of the starts of any subchannel
-  start-quiet : (r : Reply) (k : Starts) → is_start r ≡ false → with_start r k ≡ k
+  start-quiet : (r : Reply) (k : StartCounts) → is_start r ≡ false → with_start r k ≡ k
   start-quiet reply.Done k q = refl
   start-quiet (reply.Shown bytes) k q = refl
   start-quiet (reply.Code (answer.Zero serials)) k q = absurd (cc q)
@@ -229,11 +229,11 @@ module _ (laws : AreLaws) where
   start-quiet (reply.Up x taken one) k q = refl
   start-quiet (reply.Down x taken one) k q = refl
 
-  if-quiet : (b : Bool) (k next : Starts) → next ≡ k → (if b then next else k) ≡ k
+  if-quiet : (b : Bool) (k next : StartCounts) → next ≡ k → (if b then next else k) ≡ k
   if-quiet true k next e = e
   if-quiet false k next e = refl
 
-  quiet-tells : (sets : ℕ) (id : SubchannelId) (e : Event) (r : Reply) (k : Starts) → IsQuiet e r → starts_after sets id e r k ≡ k
+  quiet-tells : (sets : ℕ) (id : SubchannelId) (e : Event) (r : Reply) (k : StartCounts) → IsQuiet e r → starts_after sets id e r k ≡ k
   quiet-tells sets id (event.Put address bytes) r k q = refl
   quiet-tells sets id (event.SetKey address key) r k q = refl
   quiet-tells sets id (event.SetPrefix cpu address) r k q = refl
@@ -253,18 +253,18 @@ module _ (laws : AreLaws) where
   quiet-tells sets id (event.Report at report) r k q = absurd q
 
   -- an event that tells nothing, at one subchannel
-  quiet-at : (id : SubchannelId) (s new : State) (e : Event) (r : Reply) (place : ℕ) (sub after : Subchannel) (k : Starts) → IsQuiet e r → OneSub s new place sub after → IsOfHold sub after →
+  quiet-at : (id : SubchannelId) (s new : State) (e : Event) (r : Reply) (place : ℕ) (sub after : Subchannel) (k : StartCounts) → IsQuiet e r → OneSub s new place sub after → IsOfHold sub after →
       Tells sub after.state k k → IsStateTold id k s.subs s.units → IsStateTold id (starts_after s.sets id e r k) new.subs new.units
   quiet-at id s new e r place sub after k q one h f l =
       let same : starts_after s.sets id e r k ≡ k = quiet-tells s.sets id e r k q in
-      told-at id s new place sub after k k _ one h f (silent-about _ place k _ same) (ap (λ (x : Starts). x.begun) same) l
+      told-at id s new place sub after k k _ one h f (silent-about _ place k _ same) (ap (λ (x : StartCounts). x.begun) same) l
 
-  links-walk : (id : SubchannelId) (k : Starts) (s : State) (e : Event) (r : Reply) (new : State) → Walked s e r new → IsStateTold id k s.subs s.units →
+  links-walk : (id : SubchannelId) (k : StartCounts) (s : State) (e : Event) (r : Reply) (new : State) → Walked s e r new → IsStateTold id k s.subs s.units →
       IsStateTold id (starts_after s.sets id e r k) new.subs new.units
   links-walk id k s _ _ _ (walked.Stays e r new q sets subs units) l =
       subst (λ (xs : List UnitState). IsStateTold id (starts_after s.sets id e r k) new.subs xs) (sym units)
       (subst (λ (xs : List Subchannel). IsStateTold id (starts_after s.sets id e r k) xs s.units) (sym subs)
-      (subst (λ (next : Starts). IsStateTold id next s.subs s.units) (sym (quiet-tells s.sets id e r k q)) l))
+      (subst (λ (next : StartCounts). IsStateTold id next s.subs s.units) (sym (quiet-tells s.sets id e r k q)) l))
   links-walk id k s _ _ _ (walked.Started cpu word address place sub orb c new n one) l =
       told-at id s new place sub _ k (with_start (function_sub sub c (started sub.state orb)).reply k) _ one (start-hold sub orb c) (start-tells sub orb c k)
       (named-about s.subs id (subchannel_named s.sets word) place sub k (with_start (function_sub sub c (started sub.state orb)).reply k) n one.there)
@@ -298,7 +298,7 @@ module _ (laws : AreLaws) where
       (subst (λ (r : Result DownTurn Fault). IfOk r (λ t. IsKept (IsEnd sub u t.reply) sub t.sub u t.«unit» k k)) h (report-kept laws sub u report k both.1))
       (silent-about _ place k _ refl) l.rises l
 
-  pub run-told : (setup : Setup) (id : SubchannelId) (h : List Entry) (s : State) → IsLawful setup → IsGood opening → Run (opening_of setup) h s →
+  pub run-told : (setup : Setup) (id : SubchannelId) (h : List Entry) (s : State) → IsLawful setup → IsGood opening_links → Run (opening_of setup) h s →
       (s.sets ≡ set_count setup) × IsStateTold id (starts (set_count setup) id h) s.subs s.units
   run-told setup id _ _ lawful good Opened =
       (refl, record { linked = opens-linked setup (place_in id (opening_of setup).subs) lawful good; rises = λ i j d less within. absurd (omega (arith, within)) })
@@ -307,7 +307,7 @@ module _ (laws : AreLaws) where
       let next : (new.sets ≡ old.sets) × IsStateTold id (starts_after old.sets id e r (starts (set_count setup) id h)) new.subs new.units =
       (sets-stay old e r new (laws.walks old e r new step), links-walk id (starts (set_count setup) id h) old e r new (laws.walks old e r new step) told.1) in (
         next.0 ∙ told.0,
-        subst (λ (k : Starts). IsStateTold id k new.subs new.units)
+        subst (λ (k : StartCounts). IsStateTold id k new.subs new.units)
             (ap (λ (sets : ℕ). starts_after sets id e r (starts (set_count setup) id h)) told.0 ∙ sym (starts-more (set_count setup) id no_starts h (record { event = e; reply = r })))
             next.1,
       )
@@ -318,12 +318,12 @@ sound-agreed phase u w side e f k =
     subst (λ (v : UnitState). IsAgreed phase v side) f
     (subst (λ (x : HoldPhase). IsAgreed x w.«unit» side) e (record { agree = k.agree; one_path = k.one_path }))
 
-pub linked-agree : ((w : Links) (side : Side) → IsGood w → IsSound w side) → (s : State) (which : Option ℕ) (k : Starts) → AreLinked s.subs s.units which k → AllAgree s
+pub linked-agree : ((w : Links) (side : Side) → IsGood w → IsSound w side) → (s : State) (which : Option ℕ) (k : StartCounts) → AreLinked s.subs s.units which k → AllAgree s
 linked-agree means s which k l = λ place sub u e f.
     let x : IsLinked s.subs sub.setup.«unit» u which k = l.linked sub.setup.«unit» u f in
     sound-agreed sub.state.hold.phase u x.links sub.setup.side (ap (λ (h : HoldState). h.phase) (x.stand place sub e refl).hold) x.«unit» (means x.links sub.setup.side x.good)
 
-pub run-agrees : IsGood opening → AreLaws → (setup : Setup) (h : List Entry) (s : State) → IsLawful setup → Run (opening_of setup) h s → AllAgree s
+pub run-agrees : IsGood opening_links → AreLaws → (setup : Setup) (h : List Entry) (s : State) → IsLawful setup → Run (opening_of setup) h s → AllAgree s
 run-agrees good laws setup h s lawful run =
     let told = run-told laws setup (record { set = 0; number = 0 }) h s lawful good run in
     linked-agree laws.means s _ _ told.1.linked
@@ -333,7 +333,7 @@ abbrev pub Rises : Type 0
 Rises = (w : Links) (side : Side) (p r b : ℕ) → IsGood w → Contains (link_of w side).downs (record { path = p; signal = down.Reset r b }) → resets w.«unit» side r b ≡ true →
     (side_of w.«unit» side).floor < r
 
-linked-above : Rises → (s : State) (which : Option ℕ) (k : Starts) → AreLinked s.subs s.units which k → AreAbove s
+linked-above : Rises → (s : State) (which : Option ℕ) (k : StartCounts) → AreLinked s.subs s.units which k → AreAbove s
 linked-above rises s which k l = λ place sub u p r b e f front takes.
     let x : IsLinked s.subs sub.setup.«unit» u which k = l.linked sub.setup.«unit» u f in
     let link : IsLink sub (link_of x.links sub.setup.side) = x.stand place sub e refl in
@@ -341,11 +341,11 @@ linked-above rises s which k l = λ place sub u p r b e f front takes.
     (rises x.links sub.setup.side p r b x.good (covers-first (link_of x.links sub.setup.side).downs sub.wires.down p (down.Reset r b) link.downs front)
     (subst (λ (v : UnitState). resets v sub.setup.side r b ≡ true) (sym x.«unit») takes))
 
-pub run-above : IsGood opening → AreLaws → Rises → (setup : Setup) (h : List Entry) (s : State) → IsLawful setup → Run (opening_of setup) h s → AreAbove s
+pub run-above : IsGood opening_links → AreLaws → Rises → (setup : Setup) (h : List Entry) (s : State) → IsLawful setup → Run (opening_of setup) h s → AreAbove s
 run-above good laws rises setup h s lawful run =
     let told = run-told laws setup (record { set = 0; number = 0 }) h s lawful good run in
     linked-above rises s _ _ told.1.linked
 
 -- the starts that began a program, of each subchannel, rise
-pub run-begins : IsGood opening → AreLaws → (setup : Setup) (h : List Entry) (s : State) → IsLawful setup → Run (opening_of setup) h s → IsBegunOnce (set_count setup) h
+pub run-begins : IsGood opening_links → AreLaws → (setup : Setup) (h : List Entry) (s : State) → IsLawful setup → Run (opening_of setup) h s → IsBegunOnce (set_count setup) h
 run-begins good laws setup h s lawful run = λ id. (run-told laws setup id h s lawful good run).1.rises

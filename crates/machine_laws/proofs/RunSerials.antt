@@ -31,12 +31,12 @@ use Rattle.machine_model.specs.Turns.{Turn, does, with_state}
 use Rattle.machine_model.specs.InstructionSteps.{code_at, test_sub, test_at, tests, Executes_on, Executes}
 use Rattle.machine_model.specs.Steps.{Step, Run, Opened, Stepped}
 use Rattle.step_laws.specs.Walks.{AreWalks}
-use Rattle.machine_laws.specs.Claims.{IsLater, is_same_id, is_id, serial_shown, serial_by, serial_of, serial_at, serials}
+use Rattle.machine_laws.specs.Claims.{IsLaterSubchannel, is_same_id, is_id, serial_shown, serial_by, serial_of, serial_at, serials}
 use Rattle.machine_laws.proofs.Sound.{AreNumbered}
 use Rattle.machine_laws.proofs.RunSound.{SoundSub, one-of, run-sound, step-sets, step-later}
 
 -- the places of subchannels stay
-place-stays : (id : SubchannelId) (xs ys : List Subchannel) → AllZip IsLater xs ys → place_in id ys ≡ place_in id xs
+place-stays : (id : SubchannelId) (xs ys : List Subchannel) → AllZip IsLaterSubchannel xs ys → place_in id ys ≡ place_in id xs
 place-stays id [] [] z = refl
 place-stays id [] (y ∷ ys) z = absurd z
 place-stays id (x ∷ xs) [] z = absurd z
@@ -47,16 +47,16 @@ place-stays id (x ∷ xs) (y ∷ ys) z =
 -- a subchannel, where there is one, and what a step left of it
 abbrev AreLater : Option Subchannel → Option Subchannel → Type 0
 AreLater None q = q ≡ None
-AreLater (Some x) q = (y : Subchannel) × (q ≡ Some y) × IsLater x y
+AreLater (Some x) q = (y : Subchannel) × (q ≡ Some y) × IsLaterSubchannel x y
 
-get-later : (xs ys : List Subchannel) (place : ℕ) → AllZip IsLater xs ys → AreLater (slice_get xs place) (slice_get ys place)
+get-later : (xs ys : List Subchannel) (place : ℕ) → AllZip IsLaterSubchannel xs ys → AreLater (slice_get xs place) (slice_get ys place)
 get-later [] [] place z = refl
 get-later [] (y ∷ ys) place z = absurd z
 get-later (x ∷ xs) [] place z = absurd z
 get-later (x ∷ xs) (y ∷ ys) zero z = (y, refl, z.0)
 get-later (x ∷ xs) (y ∷ ys) (suc place) z = get-later xs ys place z.1
 
-at-later : (xs ys : List Subchannel) (p : Option ℕ) → AllZip IsLater xs ys → AreLater (sub_at xs p) (sub_at ys p)
+at-later : (xs ys : List Subchannel) (p : Option ℕ) → AllZip IsLaterSubchannel xs ys → AreLater (sub_at xs p) (sub_at ys p)
 at-later xs ys None z = refl
 at-later xs ys (Some place) z = get-later xs ys place z
 
@@ -64,7 +64,7 @@ at-later xs ys (Some place) z = get-later xs ys place z
 abbrev of_id : SubchannelId → List Subchannel → Option Subchannel
 of_id id subs = sub_at subs (place_in id subs)
 
-of_id-later : (id : SubchannelId) (xs ys : List Subchannel) → AllZip IsLater xs ys → AreLater (of_id id xs) (of_id id ys)
+of_id-later : (id : SubchannelId) (xs ys : List Subchannel) → AllZip IsLaterSubchannel xs ys → AreLater (of_id id xs) (of_id id ys)
 of_id-later id xs ys z =
     subst (λ (p : Option ℕ). AreLater (of_id id xs) (sub_at ys p)) (sym (place-stays id xs ys z)) (at-later xs ys (place_in id xs) z)
 
@@ -109,7 +109,7 @@ nil-end (x ∷ xs) = ap (λ (ys : List ℕ). x ∷ ys) (nil-end xs)
 more : (sets : ℕ) (id : SubchannelId) (h : List Entry) (x : Entry) (ns : List ℕ) → serial_at sets id x ≡ ns → serials sets id (h ++ x ∷ []) ≡ serials sets id h ++ ns
 more sets id h x ns e = flat_map-append (serial_at sets id) h (x ∷ []) ∙ ap (λ (ys : List ℕ). serials sets id h ++ ys) (nil-end (serial_at sets id x) ∙ e)
 
-told-none : (sets : ℕ) (id : SubchannelId) (h : List Entry) (old new : State) (x : Entry) → Told sets id h old → AllZip IsLater old.subs new.subs → new.sets ≡ old.sets →
+told-none : (sets : ℕ) (id : SubchannelId) (h : List Entry) (old new : State) (x : Entry) → Told sets id h old → AllZip IsLaterSubchannel old.subs new.subs → new.sets ≡ old.sets →
     serial_at sets id x ≡ [] → Told sets id (h ++ x ∷ []) new
 told-none sets id h old new x t z same e =
     let eq : serials sets id (h ++ x ∷ []) ≡ serials sets id h = more sets id h x [] e ∙ nil-end (serials sets id h) in
@@ -138,7 +138,7 @@ told-one sets id h old new x m t same e c =
           (all_pairs_push (λ x y. x < y) (serials sets id h) m t.rises (λ k d within. omega (arith, below k d within, c.above)));
     }
 
-told-step : (sets : ℕ) (id : SubchannelId) (h : List Entry) (old new : State) (x : Entry) → Told sets id h old → AllZip IsLater old.subs new.subs → new.sets ≡ old.sets →
+told-step : (sets : ℕ) (id : SubchannelId) (h : List Entry) (old new : State) (x : Entry) → Told sets id h old → AllZip IsLaterSubchannel old.subs new.subs → new.sets ≡ old.sets →
     Shows id old new (serial_at sets id x) → Told sets id (h ++ x ∷ []) new
 told-step sets id h old new x t z same w =
     elim w [
@@ -271,7 +271,7 @@ run-told walks numbered setup id _ _ Opened =
     }
 run-told walks numbered setup id _ _ (Stepped h old e r new run step) =
     let told : Told (set_count setup) id h old = run-told walks numbered setup id h old run in
-    let zip : AllZip IsLater old.subs new.subs = step-later walks numbered setup h old e r new run step in
+    let zip : AllZip IsLaterSubchannel old.subs new.subs = step-later walks numbered setup h old e r new run step in
     told-step (set_count setup) id h old new (record { event = e; reply = r }) told zip (step-sets walks old e r new step)
     (subst (λ (sets : ℕ). Shows id old new (serial_of sets id e r)) told.same_sets
     (step-shows (length h) id old e r new (run-sound walks numbered setup h old run) (place-stays id old.subs new.subs zip) step))

@@ -10,13 +10,13 @@ use Rattle.channel_config.specs.Setup.{Setup}
 use Rattle.chan_events.specs.declared.event.Event.{Event}
 use Rattle.chan_events.specs.declared.reply.Entry.{Entry}
 use Rattle.chan_events.specs.declared.reply.Reply.{Reply}
-use Rattle.subchannel_model.specs.declared.cause.Cause.TheVariants as cause
+use Rattle.subchannel_model.specs.declared.cause.StatusCause.TheVariants as cause
 use Rattle.subchannel_model.specs.declared.state.Subchannel.{Subchannel}
 use Rattle.subchannel_model.specs.declared.state.SubchannelState.{SubchannelState}
 use Rattle.machine_model.specs.State.{State, opening_of}
 use Rattle.subchannel_model.specs.Opening.{opened}
 use Rattle.machine_model.specs.Steps.{Step, Run, Opened, Stepped}
-use Rattle.machine_laws.specs.Claims.{IsLater}
+use Rattle.machine_laws.specs.Claims.{IsLaterSubchannel}
 use Rattle.machine_laws.proofs.Sound.{Sound, AreNumbered, later, started-sound, wholly-sound, modified-sound, effect-sound, reset_sent-sound, halt_sent-sound, made-sound, offered-sound, up-sound}
 use Rattle.step_laws.specs.Walks.{AreWalks}
 use Rattle.machine_laws.proofs.Moves.{IsKept, Changed, step-moves, sets-stay}
@@ -61,12 +61,12 @@ all-after n xs ys z a =
 own : (floor : Serials) (n : ℕ) (s : SubchannelState) → Sound floor n s → Sound s.serials n s
 own floor n s k = (k.0, k.1, k.2, k.3, k.4, k.5, omega arith, omega arith)
 
-is-later : (n : ℕ) (x y : Subchannel) → SoundSub n x → Changed (Turns n) x y → IsLater x y
+is-later : (n : ℕ) (x y : Subchannel) → SoundSub n x → Changed (Turns n) x y → IsLaterSubchannel x y
 is-later n x y k c =
     let sound : Sound x.state.serials (n + 1) y.state = c.state x.state.serials (own no_serials n x.state k) in
     record { setup = c.setup; cleared = sound.6; made = sound.7 }
 
-all-later : (n : ℕ) (xs ys : List Subchannel) → All (SoundSub n) xs → AllZip (Changed (Turns n)) xs ys → AllZip IsLater xs ys
+all-later : (n : ℕ) (xs ys : List Subchannel) → All (SoundSub n) xs → AllZip (Changed (Turns n)) xs ys → AllZip IsLaterSubchannel xs ys
 all-later n [] [] a z = tt
 all-later n [] (y ∷ ys) a z = absurd z
 all-later n (x ∷ xs) [] a z = absurd z
@@ -87,6 +87,6 @@ pub step-sets : AreWalks → (s : State) (e : Event) (r : Reply) (new : State) �
 step-sets walks s e r new step = sets-stay s e r new (walks s e r new step)
 
 pub step-later : AreWalks → AreNumbered → (setup : Setup) (h : List Entry) (s : State) (e : Event) (r : Reply) (new : State) → Run (opening_of setup) h s → Step s e r new →
-    AllZip IsLater s.subs new.subs
+    AllZip IsLaterSubchannel s.subs new.subs
 step-later walks numbered setup h s e r new run step =
     all-later (length h) s.subs new.subs (run-sound walks numbered setup h s run) (step-moves (Turns (length h)) (turns numbered (length h)) s e r new (walks s e r new step)).subs

@@ -7,7 +7,7 @@ use Rattle.orb_block.specs.declared.Orb.{Orb}
 use Rattle.scsw_irb.specs.declared.scsw.Scsw.{Scsw}
 use Rattle.scsw_irb.specs.declared.serials.Serials.{Serials}
 use Rattle.storage_keys.specs.Storage.{Contents}
-use Rattle.channel_program.specs.Walks.{Place}
+use Rattle.channel_program.specs.Walks.{WalkPlace}
 use Rattle.chan_model.specs.declared.hold_state.HoldPhase.{HoldPhase}
 use Rattle.chan_model.specs.declared.hold_state.HoldPhase.TheVariants as hold
 use Rattle.chan_model.specs.declared.hold_state.HoldState.{HoldState}
@@ -25,30 +25,30 @@ use Rattle.chan_model.specs.UnitReports.{is_last_end, is_outward, has_device_end
 use Rattle.data_move.specs.Moving.{residual}
 use Rattle.transfer.specs.declared.Transfer.{Transfer}
 use Rattle.transfer.specs.Commands.{first_command, next_command, with_room, begun_with_room}
-use Rattle.transfer.specs.Chunks.{absorbed, next_given, brought, is_answered}
-use Rattle.transfer.specs.declared.Came.{Came}
-use Rattle.transfer.specs.declared.Came.TheVariants as came
-use Rattle.transfer.specs.Numbers.{IsSame, IsLater, IsNew, IfBegins}
-use Rattle.subchannel_model.specs.declared.cause.Cause.{Cause}
-use Rattle.subchannel_model.specs.declared.cause.Cause.TheVariants as cause
+use Rattle.transfer.specs.Chunks.{taken_by_device, next_given, brought, is_answered}
+use Rattle.transfer.specs.declared.CommandStart.{CommandStart}
+use Rattle.transfer.specs.declared.CommandStart.TheVariants as came
+use Rattle.transfer.specs.Numbers.{IsSame, IsLaterTransfer, IsNew, IfBegins}
+use Rattle.subchannel_model.specs.declared.cause.StatusCause.{StatusCause}
+use Rattle.subchannel_model.specs.declared.cause.StatusCause.TheVariants as cause
 use Rattle.subchannel_model.specs.declared.signals.DataSignal.{DataSignal}
 use Rattle.subchannel_model.specs.declared.signals.EndSignal.{EndSignal}
-use Rattle.subchannel_model.specs.declared.state.Begun.{Begun}
-use Rattle.subchannel_model.specs.declared.state.Pmcw.{Pmcw}
+use Rattle.subchannel_model.specs.declared.state.ActiveProgram.{ActiveProgram}
+use Rattle.subchannel_model.specs.declared.state.PmcwState.{PmcwState}
 use Rattle.subchannel_model.specs.declared.state.Program.{Program}
-use Rattle.subchannel_model.specs.declared.state.Standing.{Standing}
+use Rattle.subchannel_model.specs.declared.state.ProgramPosition.{ProgramPosition}
 use Rattle.subchannel_model.specs.declared.state.SubchannelState.{SubchannelState}
 use Rattle.subchannel_model.specs.declared.state.UpStep.{UpStep}
 use Rattle.machine_model.specs.Bounds.{IsMovedWithin}
 use Rattle.subchannel_model.specs.Start.{started}
-use Rattle.subchannel_model.specs.Causes.{row_of, scsw_joined, clear_scsw, without_intermediate, with_status, without_begun, without_waiting, after_end, with_cause}
+use Rattle.subchannel_model.specs.Causes.{row_of, scsw_joined, clear_scsw, without_intermediate, with_status, without_begun, without_waiting, programs_after_end, with_cause}
 use Rattle.subchannel_model.specs.Choosing.{reset_sent, halt_sent, offered}
-use Rattle.subchannel_model.specs.Halt.{halting, dropped, drops_status}
+use Rattle.subchannel_model.specs.Halt.{halt_begun, status_dropped, drops_status}
 use Rattle.subchannel_model.specs.Clear.{cleared_scsw}
 use Rattle.subchannel_model.specs.Programs.{without_programs}
 use Rattle.subchannel_model.specs.Ends.{has_status_modifier, chains_command, has_shown}
 use Rattle.subchannel_model.specs.Losing.{has_any, is_offered_or_held, reset_drawn, reset_with, reset_for}
-use Rattle.subchannel_model.specs.Taking.{with_known, Met, meets, ignoring, quietly, without_interruption, interrupted_by, standing, goes_ahead, taking_over, suspended_alone, standing_still, suspending, beginning, begin_standing, halt_done, accepted_by, accept_by, with_transfer, moving_on, give_next, take_in, bytes_of, move_bytes, move_data, take_data, with_end, end_taken, chaining, chain_with, goes_on, end_shown_at, stops_at, command_ended, end_of, end_command, reset_taken, may_attend, takes_up, with_path, let_go}
+use Rattle.subchannel_model.specs.Taking.{with_known, Met, meets, ignoring, quietly, without_pci, with_pci_of, standing, goes_ahead, taking_over, suspended_alone, standing_still, suspending, beginning, begin_standing, halt_done, accepted_by, accept_by, with_transfer, moving_on, give_next, take_in, bytes_of_load, move_bytes, move_data, take_data, with_end, end_taken, chaining, chain_with, goes_on, end_shown_at, stops_at, command_ended, end_of, end_command, reset_taken, may_attend, takes_up, path_used, let_go}
 use Rattle.step_laws.specs.Walks.{Function, Resumes, Halts, Clears, Cancels, effect_of}
 
 abbrev pub Sound : Serials → ℕ → SubchannelState → Type 0
@@ -57,7 +57,7 @@ Sound floor n s =
     × (s.scsw.status.pending ≡ is_uncleared s.serials) × (s.serials.cleared ≤ s.serials.made)
     × (floor.cleared ≤ s.serials.cleared) × (floor.made ≤ s.serials.made)
 
-moved-later : (n : ℕ) (b : Option Begun) → IsMovedWithin n b → IsMovedWithin (n + 1) b
+moved-later : (n : ℕ) (b : Option ActiveProgram) → IsMovedWithin n b → IsMovedWithin (n + 1) b
 moved-later n None m = tt
 moved-later n (Some b) m = (omega (arith, m.0), omega (arith, m.1))
 
@@ -100,7 +100,7 @@ to-ready floor n s k = (omega (arith, k.0), omega (arith, k.1), k.2, moved-later
 ready-sound : (floor : Serials) (n : ℕ) (s : SubchannelState) → Ready floor n s → Sound floor (n + 1) s
 ready-sound floor n s k = (k.0, k.1, omega (arith, k.2), k.3, k.4, k.5, k.6, k.7)
 
-left-sound : (floor : Serials) (n : ℕ) (s : SubchannelState) (w : Option Program) (b : Option Begun) (st : Option Standing) (joins : Scsw) (shown : Shown) →
+left-sound : (floor : Serials) (n : ℕ) (s : SubchannelState) (w : Option Program) (b : Option ActiveProgram) (st : Option ProgramPosition) (joins : Scsw) (shown : Shown) →
     IsMovedWithin (n + 1) b → Ready floor n s →
     Sound floor (n + 1) (with_status (record s { waiting = w; begun = b; suspended = st; scsw = scsw_joined s.pmcw.enabled s.scsw joins }) shown)
 left-sound floor n s w b st joins shown m k =
@@ -115,12 +115,12 @@ left-sound floor n s w b st joins shown m k =
       above.1,
     )
 
-after_end-sound : (floor : Serials) (n : ℕ) (s : SubchannelState) (b : Begun) (last : Bool) (joins : Scsw) (shown : Shown) → IsMovedWithin (n + 1) (Some b) → Ready floor n s →
-    Sound floor (n + 1) (with_status (record (after_end s b last) { scsw = scsw_joined s.pmcw.enabled s.scsw joins }) shown)
+after_end-sound : (floor : Serials) (n : ℕ) (s : SubchannelState) (b : ActiveProgram) (last : Bool) (joins : Scsw) (shown : Shown) → IsMovedWithin (n + 1) (Some b) → Ready floor n s →
+    Sound floor (n + 1) (with_status (record (programs_after_end s b last) { scsw = scsw_joined s.pmcw.enabled s.scsw joins }) shown)
 after_end-sound floor n s b true joins shown m k = left-sound floor n s None None None joins shown tt k
 after_end-sound floor n s b false joins shown m k = left-sound floor n s s.waiting (Some (has_shown b)) s.suspended joins shown m k
 
-without_begun-sound : (floor : Serials) (n : ℕ) (s : SubchannelState) (b : Option Begun) (joins : Scsw) (shown : Shown) → Ready floor n s →
+without_begun-sound : (floor : Serials) (n : ℕ) (s : SubchannelState) (b : Option ActiveProgram) (joins : Scsw) (shown : Shown) → Ready floor n s →
     Sound floor (n + 1) (with_status (record (without_begun b s) { scsw = scsw_joined s.pmcw.enabled s.scsw joins }) shown)
 without_begun-sound floor n s None joins shown k = left-sound floor n s None s.begun None joins shown k.3 k
 without_begun-sound floor n s (Some b) joins shown k = left-sound floor n s s.waiting None s.suspended joins shown tt k
@@ -131,11 +131,11 @@ without_waiting-sound floor n s None joins shown k = left-sound floor n s s.wait
 without_waiting-sound floor n s (Some w) joins shown k = left-sound floor n s None s.begun s.suspended joins shown k.3 k
 
 -- the program that ends
-abbrev IsEndWithin : ℕ → Cause → Type 0
+abbrev IsEndWithin : ℕ → StatusCause → Type 0
 IsEndWithin n (cause.End b status more) = IsMovedWithin n (Some b)
 IsEndWithin n c = Unit {0}
 
-cause-sound : (floor : Serials) (n : ℕ) (s : SubchannelState) (c : Cause) → IsEndWithin (n + 1) c → Ready floor n s → Sound floor (n + 1) (with_cause s c)
+cause-sound : (floor : Serials) (n : ℕ) (s : SubchannelState) (c : StatusCause) → IsEndWithin (n + 1) c → Ready floor n s → Sound floor (n + 1) (with_cause s c)
 cause-sound floor n s (cause.End b status more) m k =
     after_end-sound floor n s b (is_last_end status) s.scsw (row_of s (cause.End b status more)).shown m k
 cause-sound floor n s (cause.FetchFault tried check count) m k =
@@ -144,8 +144,8 @@ cause-sound floor n s cause.Attention m k = left-sound floor n s None s.begun s.
 cause-sound floor n s cause.NoPath m k = without_waiting-sound floor n s s.waiting s.scsw (row_of s cause.NoPath).shown k
 cause-sound floor n s cause.InterfaceControlCheck m k =
     left-sound floor n s None None None s.scsw (row_of s cause.InterfaceControlCheck).shown tt k
-cause-sound floor n s (cause.Interruption tried count) m k =
-    left-sound floor n s s.waiting s.begun s.suspended s.scsw (row_of s (cause.Interruption tried count)).shown k.3 k
+cause-sound floor n s (cause.Pci tried count) m k =
+    left-sound floor n s s.waiting s.begun s.suspended s.scsw (row_of s (cause.Pci tried count)).shown k.3 k
 cause-sound floor n s (cause.Suspension tried count) m k =
     left-sound floor n s s.waiting s.begun s.suspended s.scsw (row_of s (cause.Suspension tried count)).shown k.3 k
 cause-sound floor n s cause.ClearDone m k =
@@ -157,7 +157,7 @@ cause-sound floor n s cause.HaltDone m k =
 pub started-sound : (floor : Serials) (n : ℕ) (s : SubchannelState) (orb : Orb) → Sound floor n s → Sound floor (n + 1) (started s orb)
 started-sound floor n s orb k = (omega (arith, k.0), omega (arith, k.1), omega (arith, k.2), moved-later n s.begun k.3, k.4, k.5, k.6, k.7)
 
-pub modified-sound : (floor : Serials) (n : ℕ) (s : SubchannelState) (pmcw : Pmcw) → Sound floor n s → Sound floor (n + 1) (record s { pmcw = pmcw })
+pub modified-sound : (floor : Serials) (n : ℕ) (s : SubchannelState) (pmcw : PmcwState) → Sound floor n s → Sound floor (n + 1) (record s { pmcw = pmcw })
 modified-sound floor n s pmcw k = later floor n s k
 
 cleared-scsw : (b c d : Bool) (x y z w : Scsw) → x.status.pending ≡ false → y.status.pending ≡ false → z.status.pending ≡ false → w.status.pending ≡ false →
@@ -202,15 +202,15 @@ wholly-sound floor n s k =
     pick-state floor (n + 1) (ends_suspended s.scsw) (without_programs (tested s)) (tested s) (t.0, t.1, t.2, tt, t.4, t.5, t.6, t.7) t
 
 -- all status counts as cleared
-none-sound : (floor : Serials) (n : ℕ) (s : SubchannelState) (b : Option Begun) (m : ℕ) (scsw : Scsw) → scsw.status.pending ≡ false → m ≤ n + 1 → IsMovedWithin (n + 1) b →
+none-sound : (floor : Serials) (n : ℕ) (s : SubchannelState) (b : Option ActiveProgram) (m : ℕ) (scsw : Scsw) → scsw.status.pending ≡ false → m ≤ n + 1 → IsMovedWithin (n + 1) b →
     Ready floor n s → Sound floor (n + 1) (record s { drawn = m; begun = b; scsw = scsw; serials = serials_cleared s.serials })
 none-sound floor n s b m scsw p d w k = (d, k.1, omega (arith, k.2), w, p ∙ not-below s.serials.made, omega arith, omega (arith, k.5, k.6), k.7)
 
 pub effect-sound : (floor : Serials) (n : ℕ) (s : SubchannelState) (f : Function) → Sound floor n s → Sound floor (n + 1) (effect_of f s)
 effect-sound floor n s Resumes k = later floor n s k
 effect-sound floor n s Halts k =
-    pick-state floor (n + 1) (drops_status s.scsw) (dropped (halting s)) (halting s)
-    (none-sound floor n (halting s) s.begun s.drawn (without_status (halting s).scsw) refl (omega (arith, k.0)) (moved-later n s.begun k.3) (to-ready floor n (halting s) k)) (later floor n s k)
+    pick-state floor (n + 1) (drops_status s.scsw) (status_dropped (halt_begun s)) (halt_begun s)
+    (none-sound floor n (halt_begun s) s.begun s.drawn (without_status (halt_begun s).scsw) refl (omega (arith, k.0)) (moved-later n s.begun k.3) (to-ready floor n (halt_begun s) k)) (later floor n s k)
 effect-sound floor n s Clears k = none-sound floor n s None (s.drawn + 1) cleared_scsw refl (omega (arith, k.0)) tt (to-ready floor n s k)
 effect-sound floor n s Cancels k = later floor n s k
 
@@ -220,7 +220,7 @@ reset_sent-sound floor n s p k = later floor n s k
 pub halt_sent-sound : (floor : Serials) (n : ℕ) (s : SubchannelState) → Sound floor n s → Sound floor (n + 1) (halt_sent s)
 halt_sent-sound floor n s k = later floor n s k
 
-pub made-sound : (floor : Serials) (n : ℕ) (s : SubchannelState) (c : Cause) → IsEndWithin (n + 1) c → Sound floor n s → Sound floor (n + 1) (with_cause s c)
+pub made-sound : (floor : Serials) (n : ℕ) (s : SubchannelState) (c : StatusCause) → IsEndWithin (n + 1) c → Sound floor n s → Sound floor (n + 1) (with_cause s c)
 made-sound floor n s c m k = cause-sound floor n s c m (to-ready floor n s k)
 
 -- signals
@@ -233,21 +233,21 @@ pick-met floor n true x y k l = k
 pick-met floor n false x y k l = l
 
 -- another transfer is at hand
-interrupted-sound : (floor : Serials) (n : ℕ) (s : SubchannelState) (b : Begun) → IsMovedWithin (n + 1) (Some b) → Ready floor n s → Sound floor (n + 1) (interrupted_by s b)
+interrupted-sound : (floor : Serials) (n : ℕ) (s : SubchannelState) (b : ActiveProgram) → IsMovedWithin (n + 1) (Some b) → Ready floor n s → Sound floor (n + 1) (with_pci_of s b)
 interrupted-sound floor n s b m k =
-    pick-state floor (n + 1) b.transfer.interrupts
-    (with_cause (record s { begun = Some (without_interruption b) }) (cause.Interruption b.transfer.walk.tried (residual b.transfer.moving))) s
-    (cause-sound floor n (record s { begun = Some (without_interruption b) }) (cause.Interruption b.transfer.walk.tried (residual b.transfer.moving)) tt
+    pick-state floor (n + 1) b.transfer.pci_pending
+    (with_cause (record s { begun = Some (without_pci b) }) (cause.Pci b.transfer.walk.tried (residual b.transfer.moving))) s
+    (cause-sound floor n (record s { begun = Some (without_pci b) }) (cause.Pci b.transfer.walk.tried (residual b.transfer.moving)) tt
     (k.0, k.1, k.2, m, k.4, k.5, k.6, k.7))
     (ready-sound floor n s k)
 
-transferred : (floor : Serials) (n : ℕ) (s : SubchannelState) (b : Begun) (t : Transfer) → t.sequence ≤ n + 1 → t.command ≤ n + 1 → Ready floor n s →
+transferred : (floor : Serials) (n : ℕ) (s : SubchannelState) (b : ActiveProgram) (t : Transfer) → t.sequence ≤ n + 1 → t.command ≤ n + 1 → Ready floor n s →
     Sound floor (n + 1) (moving_on s b t)
 transferred floor n s b t q m k =
     interrupted-sound floor n (with_transfer s b t) (record b { transfer = t }) (q, m) (k.0, k.1, k.2, (q, m), k.4, k.5, k.6, k.7)
 
 -- a program is suspended
-suspending-sound : (floor : Serials) (n : ℕ) (s : SubchannelState) (program : Program) (walk : Place) (count : ℕ) → Ready floor n s →
+suspending-sound : (floor : Serials) (n : ℕ) (s : SubchannelState) (program : Program) (walk : WalkPlace) (count : ℕ) → Ready floor n s →
     Sound floor (n + 1) (suspending s program walk count)
 suspending-sound floor n s program walk count k =
     pick-state floor (n + 1) program.orb.suppress_suspended
@@ -257,27 +257,27 @@ suspending-sound floor n s program walk count k =
 
 -- how commands and their chunks are numbered
 pub record AreNumbered : Type 0 where
-  pub first : (storage : Contents) (walk : Place) → IfBegins (first_command storage walk).came (IsNew 1)
+  pub first : (storage : Contents) (walk : WalkPlace) → IfBegins (first_command storage walk).came (IsNew 1)
   pub next : (storage : Contents) (t : Transfer) (modifier : Bool) → IfBegins (next_command storage t modifier).came (IsNew (t.command + 1))
   pub begun : (storage : Contents) (t : Transfer) → IsSame t (begun_with_room storage t).transfer
   pub room : (storage : Contents) (t : Transfer) → IsSame t (with_room storage t).transfer
   pub given : (storage : Contents) (t : Transfer) → IsSame t (next_given storage t).transfer
-  pub absorbed : (storage : Contents) (t : Transfer) (s count : ℕ) → IsLater t (absorbed storage t s count)
-  pub brought : (storage : Contents) (t : Transfer) (s : ℕ) (bytes : List ℕ) → IsLater t (brought storage t s bytes).transfer
+  pub absorbed : (storage : Contents) (t : Transfer) (s count : ℕ) → IsLaterTransfer t (taken_by_device storage t s count)
+  pub brought : (storage : Contents) (t : Transfer) (s : ℕ) (bytes : List ℕ) → IsLaterTransfer t (brought storage t s bytes).transfer
 
 module _ (numbered : AreNumbered) where
-  beginning-sound : (floor : Serials) (n : ℕ) (storage : Contents) (s : SubchannelState) (p t : ℕ) (st : Standing) (walk : Place) (r : Came) →
+  beginning-sound : (floor : Serials) (n : ℕ) (storage : Contents) (s : SubchannelState) (p t : ℕ) (st : ProgramPosition) (walk : WalkPlace) (r : CommandStart) →
       IfBegins r (IsNew 1) → Ready floor n s → Sound floor (n + 1) (beginning storage s p t st walk r).state
   beginning-sound floor n storage s p t st walk (came.Begins transfer) f k =
       let b : IsSame transfer (begun_with_room storage transfer).transfer = numbered.begun storage transfer in
       let q : (begun_with_room storage transfer).transfer.sequence ≤ n + 1 = omega (arith, b.sequence, f.sequence) in
       let m : (begun_with_room storage transfer).transfer.command ≤ n + 1 = omega (arith, b.command, f.command) in
-      let new : Begun = record { program = st.program; primary_shown = false; transfer = (begun_with_room storage transfer).transfer } in
+      let new : ActiveProgram = record { program = st.program; primary_shown = false; transfer = (begun_with_room storage transfer).transfer } in
       interrupted-sound floor n (taking_over s st.program (begun_with_room storage transfer).transfer) new (q, m) (k.0, k.1, k.2, (q, m), k.4, k.5, k.6, k.7)
   beginning-sound floor n storage s p t st walk came.Suspends f k = suspending-sound floor n s st.program walk st.count k
   beginning-sound floor n storage s p t st walk (came.Stops check) f k = cause-sound floor n s (cause.FetchFault walk.tried check st.count) tt k
 
-  begin_standing-sound : (floor : Serials) (n : ℕ) (storage : Contents) (s : SubchannelState) (p t : ℕ) (st : Option Standing) → Ready floor n s →
+  begin_standing-sound : (floor : Serials) (n : ℕ) (storage : Contents) (s : SubchannelState) (p t : ℕ) (st : Option ProgramPosition) → Ready floor n s →
       Sound floor (n + 1) (begin_standing storage s p t st).state
   begin_standing-sound floor n storage s p t None k = ready-sound floor n s k
   begin_standing-sound floor n storage s p t (Some st) k =
@@ -292,9 +292,9 @@ module _ (numbered : AreNumbered) where
   accepted_by-sound floor n storage s hold.Free taken k = later floor n s k
   accepted_by-sound floor n storage s (hold.Offer t p) taken k = later floor n s k
   accepted_by-sound floor n storage s (hold.On t p c) taken k =
-      begin_standing-sound floor n storage (record s { pmcw = with_path s.pmcw p }) p t (standing s) (to-ready floor n s k)
+      begin_standing-sound floor n storage (record s { pmcw = path_used s.pmcw p }) p t (standing s) (to-ready floor n s k)
   accepted_by-sound floor n storage s (hold.Away t) taken k = later floor n s k
-  accepted_by-sound floor n storage s (hold.Letting t p) taken k = halt_done-sound floor n (record s { pmcw = with_path s.pmcw p }) (to-ready floor n s k)
+  accepted_by-sound floor n storage s (hold.Letting t p) taken k = halt_done-sound floor n (record s { pmcw = path_used s.pmcw p }) (to-ready floor n s k)
   accepted_by-sound floor n storage s (hold.Reset r) taken k = later floor n s k
 
   accept-sound : (floor : Serials) (n : ℕ) (storage : Contents) (s : SubchannelState) (h : HoldState) (taken : Taken Down) → Sound floor n s →
@@ -304,31 +304,31 @@ module _ (numbered : AreNumbered) where
       (accepted_by-sound floor n storage (record s { hold = h }) h.phase taken k) (later floor n s k)
 
   -- Data
-  given-sound : (floor : Serials) (n : ℕ) (storage : Contents) (s : SubchannelState) (b : Begun) (signal : DataSignal) (count : ℕ) → IsMovedWithin n (Some b) → Sound floor n s →
+  given-sound : (floor : Serials) (n : ℕ) (storage : Contents) (s : SubchannelState) (b : ActiveProgram) (signal : DataSignal) (count : ℕ) → IsMovedWithin n (Some b) → Sound floor n s →
       Sound floor (n + 1) (give_next storage s b signal count).state
   given-sound floor n storage s b signal count w k =
-      let a : IsLater b.transfer (absorbed storage b.transfer signal.sequence count) = numbered.absorbed storage b.transfer signal.sequence count in
-      let g : IsSame (absorbed storage b.transfer signal.sequence count) (next_given storage (absorbed storage b.transfer signal.sequence count)).transfer =
-      numbered.given storage (absorbed storage b.transfer signal.sequence count) in
-      transferred floor n s b (next_given storage (absorbed storage b.transfer signal.sequence count)).transfer (omega (arith, w.0, a.sequence, g.sequence)) (omega (arith, w.1, a.command, g.command))
+      let a : IsLaterTransfer b.transfer (taken_by_device storage b.transfer signal.sequence count) = numbered.absorbed storage b.transfer signal.sequence count in
+      let g : IsSame (taken_by_device storage b.transfer signal.sequence count) (next_given storage (taken_by_device storage b.transfer signal.sequence count)).transfer =
+      numbered.given storage (taken_by_device storage b.transfer signal.sequence count) in
+      transferred floor n s b (next_given storage (taken_by_device storage b.transfer signal.sequence count)).transfer (omega (arith, w.0, a.sequence, g.sequence)) (omega (arith, w.1, a.command, g.command))
       (to-ready floor n s k)
 
-  taken-sound : (floor : Serials) (n : ℕ) (storage : Contents) (s : SubchannelState) (b : Begun) (signal : DataSignal) (bytes : List ℕ) → IsMovedWithin n (Some b) → Sound floor n s →
+  taken-sound : (floor : Serials) (n : ℕ) (storage : Contents) (s : SubchannelState) (b : ActiveProgram) (signal : DataSignal) (bytes : List ℕ) → IsMovedWithin n (Some b) → Sound floor n s →
       Sound floor (n + 1) (take_in s b signal (brought storage b.transfer signal.sequence bytes)).step.state
   taken-sound floor n storage s b signal bytes w k =
       let x = brought storage b.transfer signal.sequence bytes in
-      let a : IsLater b.transfer x.transfer = numbered.brought storage b.transfer signal.sequence bytes in
+      let a : IsLaterTransfer b.transfer x.transfer = numbered.brought storage b.transfer signal.sequence bytes in
       let r : IsSame x.transfer (with_room x.storage x.transfer).transfer = numbered.room x.storage x.transfer in
       transferred floor n s b (with_room x.storage x.transfer).transfer (omega (arith, w.0, a.sequence, r.sequence)) (omega (arith, w.1, a.command, r.command))
       (to-ready floor n s k)
 
-  move-sound : (floor : Serials) (n : ℕ) (storage : Contents) (s : SubchannelState) (b : Option Begun) (signal : DataSignal) (load : Load) → IsMovedWithin n b → Sound floor n s →
+  move-sound : (floor : Serials) (n : ℕ) (storage : Contents) (s : SubchannelState) (b : Option ActiveProgram) (signal : DataSignal) (load : Load) → IsMovedWithin n b → Sound floor n s →
       Sound floor (n + 1) (move_data storage s b signal load).step.state
   move-sound floor n storage s None signal load w k = later floor n s k
   move-sound floor n storage s (Some b) signal load w k =
       pick-met floor (n + 1) (is_answered b.transfer signal.command signal.sequence) (move_bytes storage s b signal load) (meets storage (ignoring s))
       (pick-met floor (n + 1) (is_outward b.transfer.code) (meets storage (give_next storage s b signal (load_length load))) _
-      (given-sound floor n storage s b signal (load_length load) w k) (taken-sound floor n storage s b signal (bytes_of load) w k))
+      (given-sound floor n storage s b signal (load_length load) w k) (taken-sound floor n storage s b signal (bytes_of_load load) w k))
       (later floor n s k)
 
   data-sound : (floor : Serials) (n : ℕ) (storage : Contents) (s : SubchannelState) (signal : DataSignal) (load : Load) → Sound floor n s →
@@ -338,7 +338,7 @@ module _ (numbered : AreNumbered) where
       (move-sound floor n storage s s.begun signal load k.3 k) (later floor n s k)
 
   -- End
-  chaining-sound : (floor : Serials) (n : ℕ) (storage : Contents) (s : SubchannelState) (b : Begun) (signal : EndSignal) (walk : Place) (r : Came) → b.transfer.command ≤ n →
+  chaining-sound : (floor : Serials) (n : ℕ) (storage : Contents) (s : SubchannelState) (b : ActiveProgram) (signal : EndSignal) (walk : WalkPlace) (r : CommandStart) → b.transfer.command ≤ n →
       IfBegins r (IsNew (b.transfer.command + 1)) → Ready floor n s → Sound floor (n + 1) (chaining storage s b signal walk r).state
   chaining-sound floor n storage s b signal walk (came.Begins transfer) w f k =
       let g : IsSame transfer (begun_with_room storage transfer).transfer = numbered.begun storage transfer in
@@ -348,7 +348,7 @@ module _ (numbered : AreNumbered) where
   chaining-sound floor n storage s b signal walk (came.Stops check) w f k =
       cause-sound floor n (end_taken s signal) (cause.FetchFault walk.tried check (residual b.transfer.moving)) tt k
 
-  goes_on-sound : (floor : Serials) (n : ℕ) (storage : Contents) (s : SubchannelState) (b : Begun) (signal : EndSignal) → IsMovedWithin n (Some b) → Sound floor n s →
+  goes_on-sound : (floor : Serials) (n : ℕ) (storage : Contents) (s : SubchannelState) (b : ActiveProgram) (signal : EndSignal) → IsMovedWithin n (Some b) → Sound floor n s →
       Sound floor (n + 1) (goes_on storage s b signal).state
   goes_on-sound floor n storage s b signal w k =
       pick floor (n + 1) (has_device_end signal.status) (chain_with storage s b signal (next_command storage b.transfer (has_status_modifier signal.status)))
@@ -356,13 +356,13 @@ module _ (numbered : AreNumbered) where
       (chaining-sound floor n storage s b signal _ _ w.1 (numbered.next storage b.transfer (has_status_modifier signal.status)) (to-ready floor n s k))
       (omega (arith, k.0), omega (arith, k.1), omega (arith, k.2), moved-later n (Some b) w, k.4, k.5, k.6, k.7)
 
-  stops-sound : (floor : Serials) (n : ℕ) (s : SubchannelState) (b : Begun) (signal : EndSignal) → IsMovedWithin n (Some b) → Sound floor n s →
+  stops-sound : (floor : Serials) (n : ℕ) (s : SubchannelState) (b : ActiveProgram) (signal : EndSignal) → IsMovedWithin n (Some b) → Sound floor n s →
       Sound floor (n + 1) (stops_at s b signal).state
   stops-sound floor n s b signal w k =
       let e : Sound floor (n + 1) (with_cause s (cause.End b signal.status signal.more)) = made-sound floor n s (cause.End b signal.status signal.more) (moved-later n (Some b) w) k in
       pick floor (n + 1) (is_last_end signal.status) (let_go (end_shown_at s b signal)) (quietly (end_shown_at s b signal)) e e
 
-  end_of-sound : (floor : Serials) (n : ℕ) (storage : Contents) (s : SubchannelState) (b : Option Begun) (signal : EndSignal) → IsMovedWithin n b → Sound floor n s →
+  end_of-sound : (floor : Serials) (n : ℕ) (storage : Contents) (s : SubchannelState) (b : Option ActiveProgram) (signal : EndSignal) → IsMovedWithin n b → Sound floor n s →
       Sound floor (n + 1) (end_of storage s b signal).state
   end_of-sound floor n storage s None signal w k = later floor n s k
   end_of-sound floor n storage s (Some b) signal w k =

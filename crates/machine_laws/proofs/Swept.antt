@@ -14,7 +14,7 @@ use Rattle.subchannel_model.specs.declared.state.Subchannel.{Subchannel}
 use Rattle.subchannel_model.specs.declared.state.SubchannelState.{SubchannelState}
 use Rattle.subchannel_model.specs.Losing.{has_any, is_offered_or_held, reset_with, path_lost, path_index, loses_at, loses}
 use Rattle.subchannel_model.specs.Places.{place_in}
-use Rattle.machine_laws.specs.Beginnings.{Starts}
+use Rattle.machine_laws.specs.Beginnings.{StartCounts}
 use Rattle.machine_laws.proofs.Growth.{Covers, queue-set, IsLink, Keeps, Reaches, acts, IsReached, reached-by, AreLaws}
 use Rattle.machine_laws.proofs.HoldEvents.{IsOfHold}
 use Rattle.machine_laws.proofs.Linked.{AreLinked, hold-linked}
@@ -57,17 +57,17 @@ loses_at-hold keeps sub (Some p) =
           (lost-acted sub.state (rests_on sub.state.hold p) (is_offered_or_held sub.state.hold.phase && has_any sub.state.waiting sub.state.begun sub.state.suspended)));
     }
 
-reset-told : (s : SubchannelState) (k : Starts) (w : Links) (side : Side) (shows : Bool) → (is_offered_or_held s.hold.phase && has_any s.waiting s.begun s.suspended) ≡ shows →
+reset-told : (s : SubchannelState) (k : StartCounts) (w : Links) (side : Side) (shows : Bool) → (is_offered_or_held s.hold.phase && has_any s.waiting s.begun s.suspended) ≡ shows →
     IsTold k s w side → IsTold k (reset_with s shows) w side
 reset-told s k w side true e t = told-same k s (reset_with s true) w side refl (omega arith) (reset-waits (AreSpent w side k) (AreSpentBut w side k) s true e t.waits) t
 reset-told s k w side false e t = told-same k s (reset_with s false) w side refl (omega arith) (reset-waits (AreSpent w side k) (AreSpentBut w side k) s false e t.waits) t
 
-lost-told : (s : SubchannelState) (k : Starts) (w : Links) (side : Side) (rests : Bool) → IsTold k s w side →
+lost-told : (s : SubchannelState) (k : StartCounts) (w : Links) (side : Side) (rests : Bool) → IsTold k s w side →
     IsTold k (if rests then reset_with s (is_offered_or_held s.hold.phase && has_any s.waiting s.begun s.suspended) else s) w side
 lost-told s k w side true t = reset-told s k w side (is_offered_or_held s.hold.phase && has_any s.waiting s.begun s.suspended) refl t
 lost-told s k w side false t = t
 
-loses_at-tells : (sub : Subchannel) (q : Option ℕ) (k : Starts) → Tells sub (loses_at q sub).state k k
+loses_at-tells : (sub : Subchannel) (q : Option ℕ) (k : StartCounts) → Tells sub (loses_at q sub).state k k
 loses_at-tells sub None k w side b t = t
 loses_at-tells sub (Some p) k w side b t = lost-told sub.state k w side (rests_on sub.state.hold p) t
 
@@ -75,7 +75,7 @@ module _ (laws : AreLaws) (chpid : ℕ) where
   loses-hold : (sub : Subchannel) → IsOfHold sub (loses chpid sub)
   loses-hold sub = loses_at-hold laws.keeps sub (path_index chpid sub.setup.paths)
 
-  swept-linked : (subs : List Subchannel) (units : List UnitState) (which : Option ℕ) (k : Starts) → AreLinked subs units which k → AreLinked (map (loses chpid) subs) units which k
+  swept-linked : (subs : List Subchannel) (units : List UnitState) (which : Option ℕ) (k : StartCounts) → AreLinked subs units which k → AreLinked (map (loses chpid) subs) units which k
   swept-linked subs units which k l =
       map-by-places (λ (xs : List Subchannel). AreLinked xs units which k) (loses chpid)
       (λ xs i x e h. hold-linked laws xs units i x (loses chpid x) which k k k e (loses-hold x) (loses_at-tells x (path_index chpid x.setup.paths) k) (record { here = λ h. refl; there = λ h. refl }) h)
@@ -87,7 +87,7 @@ module _ (laws : AreLaws) (chpid : ℕ) where
       map-by-places (λ (xs : List Subchannel). place_in id xs ≡ place_in id subs) (loses chpid)
       (λ xs i x e h. place-set id xs i x (loses chpid x) e (loses-hold x).setup ∙ h) subs refl
 
-  pub swept-told : (id : SubchannelId) (k : Starts) (subs : List Subchannel) (units : List UnitState) → IsStateTold id k subs units → IsStateTold id k (map (loses chpid) subs) units
+  pub swept-told : (id : SubchannelId) (k : StartCounts) (subs : List Subchannel) (units : List UnitState) → IsStateTold id k subs units → IsStateTold id k (map (loses chpid) subs) units
   swept-told id k subs units l =
       record {
         linked = subst (λ (which : Option ℕ). AreLinked (map (loses chpid) subs) units which k) (sym (place-swept id subs)) (swept-linked subs units (place_in id subs) k l.linked);

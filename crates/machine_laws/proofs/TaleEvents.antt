@@ -26,8 +26,8 @@ use Rattle.wires.specs.Queues.{queue}
 use Rattle.schib_block.specs.declared.pmcw.Pmcw as block
 use Rattle.agreement_laws.specs.Claims.{IsPassed}
 use Rattle.agreement_laws.specs.Links.{Links, link_of, with_signal, with_accepted}
-use Rattle.subchannel_model.specs.declared.cause.Cause.TheVariants as cause
-use Rattle.subchannel_model.specs.declared.state.Begun.{Begun}
+use Rattle.subchannel_model.specs.declared.cause.StatusCause.TheVariants as cause
+use Rattle.subchannel_model.specs.declared.state.ActiveProgram.{ActiveProgram}
 use Rattle.subchannel_model.specs.declared.state.Candidate.{Candidate}
 use Rattle.subchannel_model.specs.declared.state.Chosen.{Chosen}
 use Rattle.subchannel_model.specs.declared.state.Chosen.TheVariants as chosen_is
@@ -38,7 +38,7 @@ use Rattle.subchannel_model.specs.Choosing.{IsFitFor, reset_sent, halt_sent, off
 use Rattle.subchannel_model.specs.Test.{ends_suspended, tested}
 use Rattle.subchannel_model.specs.Programs.{without_programs}
 use Rattle.subchannel_model.specs.Resume.{resumed}
-use Rattle.subchannel_model.specs.Halt.{drops_status, dropped, halting}
+use Rattle.subchannel_model.specs.Halt.{drops_status, status_dropped, halt_begun}
 use Rattle.subchannel_model.specs.Clear.{cleared}
 use Rattle.subchannel_model.specs.Cancel.{cancelled}
 use Rattle.subchannel_model.specs.Modify.{modified_state}
@@ -48,12 +48,12 @@ use Rattle.machine_model.specs.ChooseSteps.{choose_sub}
 use Rattle.subchannel_model.specs.Sending.{is_full, finds_full}
 use Rattle.machine_model.specs.UpSteps.{up_front, up_sub}
 use Rattle.subchannel_model.specs.Taking.{takes_up}
-use Rattle.machine_laws.specs.Beginnings.{Starts, with_start, with_offer, with_answer, with_sent, with_taken}
+use Rattle.machine_laws.specs.Beginnings.{StartCounts, with_start, with_offer, starts_with_answer, starts_with_sent, with_taken}
 use Rattle.machine_laws.proofs.Moves.{if-ok}
 use Rattle.machine_laws.proofs.Tales.{IsAccepted, AreSpent, AreSpentBut, IsTold, told-wider, told-same, told-turned, told-start, told-offer, told-resume, busy-spent, begun-of}
 use Rattle.machine_laws.proofs.Waits.{IsBegunHeld, Waits, Turned, IsCalm, kept, none, cause-calm, without_waiting-begun, none-held, held-on, moved-as, calm-turned}
 use Rattle.machine_laws.proofs.WaitsUp.{takes-turned}
-use Rattle.step_laws.specs.Walks.{Function, Resumes, Halts, Clears, Cancels, effect_of, IsFound, IsOfProgram}
+use Rattle.step_laws.specs.Walks.{Function, Resumes, Halts, Clears, Cancels, effect_of, IsFound, IsForProgram}
 
 -- Select is answered by an Accept of its own number, or by no Accept
 abbrev IsAcceptOf : ℕ → Up → Type 0
@@ -115,11 +115,11 @@ pub record Wide (v w : Links) (side : Side) (one : Option (OnPath Up)) : Type 0 
   pub once : AllPairs (λ a b. a < b) (link_of w side).accepted
   pub list : (link_of w side).accepted ≡ with_accepted (link_of v side).accepted one
 
-wide-told : (k : Starts) (s : SubchannelState) (v w : Links) (side : Side) (one : Option (OnPath Up)) → Wide v w side one → IsTold k s v side → IsTold k s w side
+wide-told : (k : StartCounts) (s : SubchannelState) (v w : Links) (side : Side) (one : Option (OnPath Up)) → Wide v w side one → IsTold k s v side → IsTold k s w side
 wide-told k s v w side one h t = told-wider k s v w side h.passed h.accepted t
 
-answer-told : (k : Starts) (s : SubchannelState) (v w : Links) (side : Side) (t p : ℕ) (x : Up) → Wide v w side (Some (record { path = p; signal = x })) → IsAcceptOf t x →
-    IsTold k s v side → IsTold (with_answer t x k) s w side
+answer-told : (k : StartCounts) (s : SubchannelState) (v w : Links) (side : Side) (t p : ℕ) (x : Up) → Wide v w side (Some (record { path = p; signal = x })) → IsAcceptOf t x →
+    IsTold k s v side → IsTold (starts_with_answer t x k) s w side
 answer-told k s v w side t p (up.Accept u) h e told =
     let list : (link_of w side).accepted ≡ (link_of v side).accepted ++ t ∷ [] = h.list ∙ ap (λ (n : ℕ). (link_of v side).accepted ++ n ∷ []) e in
     begun-of k s v w side t k.offers h.passed h.accepted (subst (λ (ts : List ℕ). AllPairs (λ a b. a < b) ts) list h.once)
@@ -135,12 +135,12 @@ answer-told k s v w side t p (up.Cleared r) h e told = wide-told k s v w side _ 
 answer-told k s v w side t p (up.Notice b) h e told = wide-told k s v w side _ h told
 answer-told k s v w side t p (up.Attn a status) h e told = wide-told k s v w side _ h told
 
-sent-told : (k : Starts) (s : SubchannelState) (v w : Links) (side : Side) (t : ℕ) (one : Option (OnPath Up)) → Wide v w side one → IsOfSelect t one → IsTold k s v side →
-    IsTold (with_sent t one k) s w side
+sent-told : (k : StartCounts) (s : SubchannelState) (v w : Links) (side : Side) (t : ℕ) (one : Option (OnPath Up)) → Wide v w side one → IsOfSelect t one → IsTold k s v side →
+    IsTold (starts_with_sent t one k) s w side
 sent-told k s v w side t None h e told = wide-told k s v w side None h told
 sent-told k s v w side t (Some x) h e told = answer-told k s v w side t x.path x.signal h e told
 
-pub taken-told : (k : Starts) (s : SubchannelState) (v w : Links) (side : Side) (d : Down) (taken : Bool) (one : Option (OnPath Up)) → Wide v w side one → IsOfDown d one →
+pub taken-told : (k : StartCounts) (s : SubchannelState) (v w : Links) (side : Side) (d : Down) (taken : Bool) (one : Option (OnPath Up)) → Wide v w side one → IsOfDown d one →
     IsTold k s v side → IsTold (with_taken (reply.Down d taken one) k) s w side
 taken-told k s v w side (down.Select t) true one h e told = sent-told k s v w side t one h e told
 taken-told k s v w side (down.Select t) false one h e told = wide-told k s v w side one h told
@@ -158,38 +158,38 @@ taken-told k s v w side (down.Got a) taken one h e told = wide-told k s v w side
 abbrev pub AreBusyPassed : Subchannel → Links → Side → Type 0
 AreBusyPassed sub w side = (p t : ℕ) → slice_get (queue sub.wires.up p) 0 ≡ Some (up.Busy t) → IsPassed w side t
 
-abbrev pub Tells : Subchannel → SubchannelState → Starts → Starts → Type 0
+abbrev pub Tells : Subchannel → SubchannelState → StartCounts → StartCounts → Type 0
 Tells sub x k next = (w : Links) (side : Side) → AreBusyPassed sub w side → IsTold k sub.state w side → IsTold next x w side
 
-pub tells-same : (sub : Subchannel) (k : Starts) → Tells sub sub.state k k
+pub tells-same : (sub : Subchannel) (k : StartCounts) → Tells sub sub.state k k
 tells-same sub k w side b t = t
 
-tells-turned : (sub : Subchannel) (x : SubchannelState) (k : Starts) →
+tells-turned : (sub : Subchannel) (x : SubchannelState) (k : StartCounts) →
     ((w : Links) (side : Side) → Waits (AreSpent w side k) (AreSpentBut w side k) sub.state → Turned (AreSpent w side k) (AreSpentBut w side k) sub.state x) → Tells sub x k k
 tells-turned sub x k f w side b t = told-turned k sub.state x w side (f w side t.waits) t
 
 -- instructions
-pub start-tells : (sub : Subchannel) (orb : Orb) (c : ConditionCode) (k : Starts) → Tells sub (function_sub sub c (started sub.state orb)).sub.state k (with_start (function_sub sub c (started sub.state orb)).reply k)
+pub start-tells : (sub : Subchannel) (orb : Orb) (c : ConditionCode) (k : StartCounts) → Tells sub (function_sub sub c (started sub.state orb)).sub.state k (with_start (function_sub sub c (started sub.state orb)).reply k)
 start-tells sub orb code.Zero k w side b t = told-start k sub.state orb w side t
 start-tells sub orb code.One k w side b t = t
 start-tells sub orb code.Two k w side b t = t
 start-tells sub orb code.Three k w side b t = t
 
-calm-tells : (sub : Subchannel) (x : SubchannelState) (k : Starts) → IsCalm sub.state x → x.begun ≡ None ⊎ (x.begun ≡ sub.state.begun) → Tells sub x k k
+calm-tells : (sub : Subchannel) (x : SubchannelState) (k : StartCounts) → IsCalm sub.state x → x.begun ≡ None ⊎ (x.begun ≡ sub.state.begun) → Tells sub x k k
 calm-tells sub x k c g =
     tells-turned sub x k
     (λ w side h. calm-turned (AreSpent w side k) (AreSpentBut w side k) sub.state x c h.waiting
     (elim g [
       | inl e ↦ none-held x.begun x.hold.phase e
-      | inr e ↦ subst (λ (y : Option Begun). IsBegunHeld y x.hold.phase) (sym e)
+      | inr e ↦ subst (λ (y : Option ActiveProgram). IsBegunHeld y x.hold.phase) (sym e)
           (subst (λ (g : HoldState). IsBegunHeld sub.state.begun g.phase) (sym c.hold) h.begun)
     ]))
 
-if-tells : (sub : Subchannel) (b : Bool) (x y : SubchannelState) (k : Starts) → Tells sub x k k → Tells sub y k k → Tells sub (if b then x else y) k k
+if-tells : (sub : Subchannel) (b : Bool) (x y : SubchannelState) (k : StartCounts) → Tells sub x k k → Tells sub y k k → Tells sub (if b then x else y) k k
 if-tells sub true x y k e f = e
 if-tells sub false x y k e f = f
 
-pub test-tells : (sub : Subchannel) (c : ConditionCode) (k : Starts) → Tells sub (test_with sub c).sub.state k k
+pub test-tells : (sub : Subchannel) (c : ConditionCode) (k : StartCounts) → Tells sub (test_with sub c).sub.state k k
 test-tells sub code.Zero k =
     if-tells sub (ends_suspended sub.state.scsw) (without_programs (tested sub.state)) (tested sub.state) k
     (calm-tells sub (without_programs (tested sub.state)) k (none sub.state (without_programs (tested sub.state)) refl refl refl refl refl) (inl refl))
@@ -198,23 +198,23 @@ test-tells sub code.One k = tells-same sub k
 test-tells sub code.Two k = tells-same sub k
 test-tells sub code.Three k = tells-same sub k
 
-pub modify-tells : (sub : Subchannel) (given : block.Pmcw) (c : ConditionCode) (k : Starts) → Tells sub (function_sub sub c (modified_state sub given)).sub.state k k
+pub modify-tells : (sub : Subchannel) (given : block.Pmcw) (c : ConditionCode) (k : StartCounts) → Tells sub (function_sub sub c (modified_state sub given)).sub.state k k
 modify-tells sub given code.Zero k =
     calm-tells sub (modified_state sub given) k (kept sub.state (modified_state sub given) refl refl refl refl refl) (inr refl)
 modify-tells sub given code.One k = tells-same sub k
 modify-tells sub given code.Two k = tells-same sub k
 modify-tells sub given code.Three k = tells-same sub k
 
-effect-tells : (sub : Subchannel) (f : Function) (k : Starts) → Tells sub (effect_of f sub.state) k k
+effect-tells : (sub : Subchannel) (f : Function) (k : StartCounts) → Tells sub (effect_of f sub.state) k k
 effect-tells sub Resumes k = calm-tells sub (resumed sub.state) k (kept sub.state (resumed sub.state) refl refl refl refl refl) (inr refl)
 effect-tells sub Halts k =
-    if-tells sub (drops_status sub.state.scsw) (dropped (halting sub.state)) (halting sub.state) k
-    (calm-tells sub (dropped (halting sub.state)) k (kept sub.state (dropped (halting sub.state)) refl refl refl refl refl) (inr refl))
-    (calm-tells sub (halting sub.state) k (kept sub.state (halting sub.state) refl refl refl refl refl) (inr refl))
+    if-tells sub (drops_status sub.state.scsw) (status_dropped (halt_begun sub.state)) (halt_begun sub.state) k
+    (calm-tells sub (status_dropped (halt_begun sub.state)) k (kept sub.state (status_dropped (halt_begun sub.state)) refl refl refl refl refl) (inr refl))
+    (calm-tells sub (halt_begun sub.state) k (kept sub.state (halt_begun sub.state) refl refl refl refl refl) (inr refl))
 effect-tells sub Clears k = λ w side b t. told-same k sub.state (cleared sub.state) w side refl (omega arith) (record { waiting = tt; begun = tt }) t
 effect-tells sub Cancels k = calm-tells sub (cancelled sub.state) k (none sub.state (cancelled sub.state) refl refl refl refl refl) (inr refl)
 
-pub function-tells : (sub : Subchannel) (f : Function) (c : ConditionCode) (k : Starts) → Tells sub (function_sub sub c (effect_of f sub.state)).sub.state k k
+pub function-tells : (sub : Subchannel) (f : Function) (c : ConditionCode) (k : StartCounts) → Tells sub (function_sub sub c (effect_of f sub.state)).sub.state k k
 function-tells sub f code.Zero k = effect-tells sub f k
 function-tells sub f code.One k = tells-same sub k
 function-tells sub f code.Two k = tells-same sub k
@@ -229,7 +229,7 @@ reset-phase h (hold.Away t) path = refl
 reset-phase h (hold.Letting t p) path = refl
 reset-phase h (hold.Reset r) path = refl
 
-reset-tells : (sub : Subchannel) (path : ℕ) (k : Starts) → Tells sub (reset_sent sub.state path) k k
+reset-tells : (sub : Subchannel) (path : ℕ) (k : StartCounts) → Tells sub (reset_sent sub.state path) k k
 reset-tells sub path k w side b t =
     told-same k sub.state (reset_sent sub.state path) w side refl (omega arith)
     (record {
@@ -240,43 +240,43 @@ reset-tells sub path k w side b t =
     })
     t
 
-offer-tells : (sub : Subchannel) (c : Candidate) (path : ℕ) (resumes : Bool) (k : Starts) → c.resumes ≡ resumes → IsFitFor (chosen_is.Offers c path) sub.state.hold →
-    IsOfProgram (chosen_is.Offers c path) sub.state → Tells sub (offered sub.state c.program path) k (with_offer (reply.Offered (sub.state.drawn + 1) path resumes) k)
+offer-tells : (sub : Subchannel) (c : Candidate) (path : ℕ) (resumes : Bool) (k : StartCounts) → c.resumes ≡ resumes → IsFitFor (chosen_is.Offers c path) sub.state.hold →
+    IsForProgram (chosen_is.Offers c path) sub.state → Tells sub (offered sub.state c.program path) k (with_offer (reply.Offered (sub.state.drawn + 1) path resumes) k)
 offer-tells sub c path true k e fit of w side b t = told-resume k sub.state c.program path w side fit t
 offer-tells sub c path false k e fit of w side b t = told-offer k sub.state c.program path w side (subst (λ (b : Bool). IsFound sub.state.waiting sub.state.suspended b c.program) e of) fit t
 
-pub choose-tells : (sub : Subchannel) (c : Chosen) (k : Starts) → IsFitFor c sub.state.hold → IsOfProgram c sub.state →
+pub choose-tells : (sub : Subchannel) (c : Chosen) (k : StartCounts) → IsFitFor c sub.state.hold → IsForProgram c sub.state →
     IfOk (choose_sub sub c) (λ t. Tells sub t.sub.state k (with_offer t.reply k))
 choose-tells sub chosen_is.Idle k fit of = tells-same sub k
 choose-tells sub (chosen_is.Resets r path) k fit of =
     if-ok (λ t. Tells sub t.sub.state k (with_offer t.reply k)) (is_full sub.wires.down path) _ _ tt (reset-tells sub path k)
-choose-tells sub chosen_is.Clears k fit of =
+choose-tells sub chosen_is.PerformsClear k fit of =
     calm-tells sub (with_cause sub.state cause.ClearDone) k (cause-calm sub.state cause.ClearDone) (inr refl)
 choose-tells sub (chosen_is.Halts t path) k fit of =
     if-ok (λ t. Tells sub t.sub.state k (with_offer t.reply k)) (is_full sub.wires.down path) _ _ tt
     (calm-tells sub (halt_sent sub.state) k (kept sub.state (halt_sent sub.state) refl refl refl refl refl) (inr refl))
-choose-tells sub chosen_is.Ends k fit of =
+choose-tells sub chosen_is.PerformsHalt k fit of =
     calm-tells sub (with_cause sub.state cause.HaltDone) k (cause-calm sub.state cause.HaltDone) (inl refl)
-choose-tells sub chosen_is.Over k fit of =
+choose-tells sub chosen_is.FindsNoPath k fit of =
     calm-tells sub (with_cause sub.state cause.NoPath) k (cause-calm sub.state cause.NoPath) (inr (without_waiting-begun sub.state sub.state.waiting))
 choose-tells sub (chosen_is.Offers c path) k fit of =
     if-ok (λ t. Tells sub t.sub.state k (with_offer t.reply k)) (is_full sub.wires.down path) _ _ tt (offer-tells sub c path c.resumes k refl fit of)
 
 -- Up
-up-tells : (returns : Bool) → (storage : Contents) (sub : Subchannel) (path : ℕ) (x : Up) (k : Starts) → slice_get (queue sub.wires.up path) 0 ≡ Some x →
+up-tells : (returns : Bool) → (storage : Contents) (sub : Subchannel) (path : ℕ) (x : Up) (k : StartCounts) → slice_get (queue sub.wires.up path) 0 ≡ Some x →
     Tells sub (takes_up returns storage sub.state path x).step.state k k
 up-tells returns storage sub path x k e w side b t =
     told-turned k sub.state (takes_up returns storage sub.state path x).step.state w side
     (takes-turned (AreSpent w side k) (AreSpentBut w side k) returns storage sub.state path x (λ u f but. busy-spent k w side u (b path u (e ∙ ap Some f)) but) t.waits)
     t
 
-front-tells : (returns : Bool) → (storage : Contents) (sub : Subchannel) (path : ℕ) (front : Option Up) (k : Starts) → slice_get (queue sub.wires.up path) 0 ≡ front →
+front-tells : (returns : Bool) → (storage : Contents) (sub : Subchannel) (path : ℕ) (front : Option Up) (k : StartCounts) → slice_get (queue sub.wires.up path) 0 ≡ front →
     IfOk (up_front returns storage sub path front) (λ t. Tells sub t.sub.state k k)
 front-tells returns storage sub path None k e = tt
 front-tells returns storage sub path (Some x) k e =
     if-ok (λ t. Tells sub t.sub.state k k) (finds_full sub.wires.down (takes_up returns storage sub.state path x).step.came.sent) _ _ tt (up-tells returns storage sub path x k e)
 
-pub up_sub-tells : (returns : Bool) → (storage : Contents) (sub : Subchannel) (path : ℕ) (k : Starts) → IfOk (up_sub returns storage sub path) (λ t. Tells sub t.sub.state k k)
+pub up_sub-tells : (returns : Bool) → (storage : Contents) (sub : Subchannel) (path : ℕ) (k : StartCounts) → IfOk (up_sub returns storage sub path) (λ t. Tells sub t.sub.state k k)
 up_sub-tells returns storage sub path k =
     if-ok (λ t. Tells sub t.sub.state k k) (nat_lt path (length sub.setup.paths)) (up_front returns storage sub path (slice_get (queue sub.wires.up path) 0)) _
     (front-tells returns storage sub path (slice_get (queue sub.wires.up path) 0) k refl) tt

@@ -16,7 +16,7 @@ use Rattle.subchannel_model.specs.declared.state.SubchannelState.{SubchannelStat
 use Rattle.subchannel_model.specs.Opening.{opening_subchannel}
 use Rattle.subchannel_model.specs.Choosing.{offered}
 use Rattle.subchannel_model.specs.Start.{started}
-use Rattle.machine_laws.specs.Beginnings.{Offer, Starts, no_starts, with_begun}
+use Rattle.machine_laws.specs.Beginnings.{Offer, StartCounts, no_starts, with_begun}
 use Rattle.machine_laws.proofs.Pairs.{contains-more, all-rest, pairs-weaker, pair-of, before-last}
 use Rattle.machine_laws.proofs.Waits.{IsWaiting, WaitsAs, IsBegunHeld, Waits, Turned, not-begun, none-held, waits-wider}
 
@@ -28,10 +28,10 @@ abbrev pub IsSpent : Links → Side → ℕ → Offer → Type 0
 IsSpent w side start o = (o.start < start) ⊎ IsPassed w side o.number
 
 -- all offers are, or all but that of this number
-abbrev pub AreSpent : Links → Side → Starts → Type 0
+abbrev pub AreSpent : Links → Side → StartCounts → Type 0
 AreSpent w side k = All (IsSpent w side k.accepted) k.offers
 
-abbrev pub AreSpentBut : Links → Side → Starts → ℕ → Type 0
+abbrev pub AreSpentBut : Links → Side → StartCounts → ℕ → Type 0
 AreSpentBut w side k t = All (λ o. IsSpent w side k.accepted o ⊎ (o.number ≡ t)) k.offers
 
 -- numbers rise, and so do the starts of those that may be accepted
@@ -42,7 +42,7 @@ AreApart w side later earlier = (earlier.number < later.number) × IsSpent w sid
 abbrev IsBegunBy : Links → Side → List Offer → ℕ → Type 0
 IsBegunBy w side offers y = (o : Offer) × Contains offers o × (o.start ≡ y) × IsAccepted w side o.number
 
-pub record IsTold (k : Starts) (s : SubchannelState) (w : Links) (side : Side) : Type 0 where
+pub record IsTold (k : StartCounts) (s : SubchannelState) (w : Links) (side : Side) : Type 0 where
   pub accepted : k.accepted ≡ s.starts
   pub drawn : All (λ o. o.number ≤ s.drawn) k.offers
   pub bound : All (λ o. o.start ≤ k.accepted) k.offers
@@ -79,7 +79,7 @@ but-wider v w side start t o f k =
       | inr e ↦ inr e
     ]
 
-pub told-wider : (k : Starts) (s : SubchannelState) (v w : Links) (side : Side) → ((t : ℕ) → IsPassed v side t → IsPassed w side t) →
+pub told-wider : (k : StartCounts) (s : SubchannelState) (v w : Links) (side : Side) → ((t : ℕ) → IsPassed v side t → IsPassed w side t) →
     ((t : ℕ) → IsAccepted v side t → IsAccepted w side t) → IsTold k s v side → IsTold k s w side
 told-wider k s v w side f g t =
     record {
@@ -97,7 +97,7 @@ told-wider k s v w side f g t =
     }
 
 -- a subchannel that neither started nor offered
-pub told-same : (k : Starts) (s x : SubchannelState) (w : Links) (side : Side) → x.starts ≡ s.starts → s.drawn ≤ x.drawn → Waits (AreSpent w side k) (AreSpentBut w side k) x →
+pub told-same : (k : StartCounts) (s x : SubchannelState) (w : Links) (side : Side) → x.starts ≡ s.starts → s.drawn ≤ x.drawn → Waits (AreSpent w side k) (AreSpentBut w side k) x →
     IsTold k s w side → IsTold k x w side
 told-same k s x w side a d h t =
     record {
@@ -110,11 +110,11 @@ told-same k s x w side a d h t =
       waits = h;
     }
 
-pub told-turned : (k : Starts) (s x : SubchannelState) (w : Links) (side : Side) → Turned (AreSpent w side k) (AreSpentBut w side k) s x → IsTold k s w side → IsTold k x w side
+pub told-turned : (k : StartCounts) (s x : SubchannelState) (w : Links) (side : Side) → Turned (AreSpent w side k) (AreSpentBut w side k) s x → IsTold k s w side → IsTold k x w side
 told-turned k s x w side h t = told-same k s x w side h.starts (omega (arith, h.drawn)) h.waits t
 
 -- a start: every offer is of an earlier one
-pub told-start : (k : Starts) (s : SubchannelState) (orb : Orb) (w : Links) (side : Side) → IsTold k s w side → IsTold (record k { accepted = k.accepted + 1 }) (started s orb) w side
+pub told-start : (k : StartCounts) (s : SubchannelState) (orb : Orb) (w : Links) (side : Side) → IsTold k s w side → IsTold (record k { accepted = k.accepted + 1 }) (started s orb) w side
 told-start k s orb w side t =
     record {
       accepted = ap (λ (n : ℕ). n + 1) t.accepted;
@@ -133,7 +133,7 @@ told-start k s orb w side t =
     }
 
 -- nothing is offered where the hold is free
-all-spent : (k : Starts) (s : SubchannelState) (w : Links) (side : Side) (program : Program) → s.hold.phase ≡ hold.Free →
+all-spent : (k : StartCounts) (s : SubchannelState) (w : Links) (side : Side) (program : Program) → s.hold.phase ≡ hold.Free →
     IsWaiting (AreSpent w side k) (AreSpentBut w side k) s program → AreSpent w side k
 all-spent k s w side program e h =
     elim h.spent [
@@ -142,14 +142,14 @@ all-spent k s w side program e h =
     ]
 
 -- an offer of the program that waits
-pub told-offer : (k : Starts) (s : SubchannelState) (program : Program) (path : ℕ) (w : Links) (side : Side) → s.waiting ≡ Some program → s.hold.phase ≡ hold.Free → IsTold k s w side →
+pub told-offer : (k : StartCounts) (s : SubchannelState) (program : Program) (path : ℕ) (w : Links) (side : Side) → s.waiting ≡ Some program → s.hold.phase ≡ hold.Free → IsTold k s w side →
     IsTold (record k { offers = record { number = s.drawn + 1; start = k.accepted } ∷ k.offers }) (offered s program path) w side
 told-offer k s program path w side e f t =
     let x : Offer = record { number = s.drawn + 1; start = k.accepted } in
     let h : IsWaiting (AreSpent w side k) (AreSpentBut w side k) s program =
     subst (λ (p : Option Program). WaitsAs (AreSpent w side k) (AreSpentBut w side k) s p) e t.waits.waiting in
     let a : AreSpent w side k = all-spent k s w side program f h in
-    let next : Starts = record k { offers = x ∷ k.offers } in
+    let next : StartCounts = record k { offers = x ∷ k.offers } in
     record {
       accepted = t.accepted;
       drawn = All-cons (λ o. o.number ≤ s.drawn + 1) x k.offers (omega arith)
@@ -176,12 +176,12 @@ told-offer k s program path w side e f t =
     }
 
 -- an offer of a program that was suspended
-resumed-as : (k : Starts) (s : SubchannelState) (program : Program) (path : ℕ) (w : Links) (side : Side) (p : Option Program) → s.hold.phase ≡ hold.Free →
+resumed-as : (k : StartCounts) (s : SubchannelState) (program : Program) (path : ℕ) (w : Links) (side : Side) (p : Option Program) → s.hold.phase ≡ hold.Free →
     WaitsAs (AreSpent w side k) (AreSpentBut w side k) s p → WaitsAs (AreSpent w side k) (AreSpentBut w side k) (offered s program path) p
 resumed-as k s program path w side None e h = tt
 resumed-as k s program path w side (Some x) e h = record { start = h.start; spent = inl (all-spent k s w side x e h) }
 
-pub told-resume : (k : Starts) (s : SubchannelState) (program : Program) (path : ℕ) (w : Links) (side : Side) → s.hold.phase ≡ hold.Free → IsTold k s w side →
+pub told-resume : (k : StartCounts) (s : SubchannelState) (program : Program) (path : ℕ) (w : Links) (side : Side) → s.hold.phase ≡ hold.Free → IsTold k s w side →
     IsTold k (offered s program path) w side
 told-resume k s program path w side f t =
     told-same k s (offered s program path) w side refl (omega arith)
@@ -199,12 +199,12 @@ busy-one w side start t o p k =
       | inr e ↦ inr (subst (IsPassed w side) (sym e) p)
     ]
 
-pub busy-spent : (k : Starts) (w : Links) (side : Side) (t : ℕ) → IsPassed w side t → AreSpentBut w side k t → AreSpent w side k
+pub busy-spent : (k : StartCounts) (w : Links) (side : Side) (t : ℕ) → IsPassed w side t → AreSpentBut w side k t → AreSpent w side k
 busy-spent k w side t p a =
     All-weaker (λ o. IsSpent w side k.accepted o ⊎ (o.number ≡ t)) (IsSpent w side k.accepted) (λ o b. busy-one w side k.accepted t o p b) k.offers a
 
 -- an offer is accepted: those that were accepted before are of earlier starts
-accepted-after : (k : Starts) (s : SubchannelState) (v w : Links) (side : Side) (t : ℕ) (x : Offer) (y : ℕ) → IsTold k s v side → Contains k.offers x → x.number ≡ t →
+accepted-after : (k : StartCounts) (s : SubchannelState) (v w : Links) (side : Side) (t : ℕ) (x : Offer) (y : ℕ) → IsTold k s v side → Contains k.offers x → x.number ≡ t →
     AllPairs (λ a b. a < b) ((link_of v side).accepted ++ t ∷ []) → IsBegunBy v side k.offers y → y < x.start
 accepted-after k s v w side t x y told c e once b =
     let less : b.0.number < t = before-last (λ a b. a < b) (link_of v side).accepted t b.0.number once b.3 in
@@ -220,7 +220,7 @@ accepted-after k s v w side t x y told c e once b =
       ]
     ]
 
-begun-more : (k : Starts) (s : SubchannelState) (v w : Links) (side : Side) (t : ℕ) (x : Offer) → ((t : ℕ) → IsPassed v side t → IsPassed w side t) →
+begun-more : (k : StartCounts) (s : SubchannelState) (v w : Links) (side : Side) (t : ℕ) (x : Offer) → ((t : ℕ) → IsPassed v side t → IsPassed w side t) →
     ((t : ℕ) → IsAccepted v side t → IsAccepted w side t) → AllPairs (λ a b. a < b) ((link_of v side).accepted ++ t ∷ []) → IsAccepted w side t → Contains k.offers x → x.number ≡ t →
     IsTold k s v side → IsTold (record k { begun = k.begun ++ x.start ∷ [] }) s w side
 begun-more k s v w side t x f g once a c e told =
@@ -235,7 +235,7 @@ begun-more k s v w side t x f g once a c e told =
       waits = wide.waits;
     }
 
-pub begun-of : (k : Starts) (s : SubchannelState) (v w : Links) (side : Side) (t : ℕ) (xs : List Offer) → ((t : ℕ) → IsPassed v side t → IsPassed w side t) →
+pub begun-of : (k : StartCounts) (s : SubchannelState) (v w : Links) (side : Side) (t : ℕ) (xs : List Offer) → ((t : ℕ) → IsPassed v side t → IsPassed w side t) →
     ((t : ℕ) → IsAccepted v side t → IsAccepted w side t) → AllPairs (λ a b. a < b) ((link_of v side).accepted ++ t ∷ []) → IsAccepted w side t → All (Contains k.offers) xs →
     IsTold k s v side → IsTold (with_begun t xs k) s w side
 begun-of k s v w side t [] f g once a c told = told-wider k s v w side f g told
@@ -243,7 +243,7 @@ begun-of k s v w side t (x ∷ xs) f g once a c told =
     let r : Contains k.offers x × All (Contains k.offers) xs = all-rest (Contains k.offers) x xs c in
     begun-if k s v w side t x xs (x.number == t) refl f g once a r.0 told (begun-of k s v w side t xs f g once a r.1 told)
   where
-    begun-if : (k : Starts) (s : SubchannelState) (v w : Links) (side : Side) (t : ℕ) (x : Offer) (xs : List Offer) (same : Bool) → (x.number == t) ≡ same →
+    begun-if : (k : StartCounts) (s : SubchannelState) (v w : Links) (side : Side) (t : ℕ) (x : Offer) (xs : List Offer) (same : Bool) → (x.number == t) ≡ same →
         ((t : ℕ) → IsPassed v side t → IsPassed w side t) → ((t : ℕ) → IsAccepted v side t → IsAccepted w side t) →
         AllPairs (λ a b. a < b) ((link_of v side).accepted ++ t ∷ []) → IsAccepted w side t → Contains k.offers x → IsTold k s v side → IsTold (with_begun t xs k) s w side →
         IsTold (if same then record k { begun = k.begun ++ x.start ∷ [] } else with_begun t xs k) s w side

@@ -25,7 +25,7 @@ use Rattle.chan_model.specs.declared.signal.Down.TheVariants as down
 use Rattle.chan_model.specs.declared.hold_state.HoldState.{HoldState}
 use Rattle.chan_model.specs.declared.hold_state.HoldPhase.TheVariants as hold
 use Rattle.agreement_laws.specs.Links.{Link, Links, link_of, with_accepted}
-use Rattle.agreement_laws.specs.Moving.{UnitAct, Takes_down, Reports, unit_steps, is_to, is_owner_side, sent_by, sent_to, up_sent, Unit_acts, IsUnitGiven, Step}
+use Rattle.agreement_laws.specs.Moving.{UnitAct, Takes_down, Reports, unit_steps, is_to, is_owner_side, sent_by, sent_to, up_sent, Unit_acts, IsUnitGiven, LinksStep}
 use Rattle.agreement_laws.specs.Invariant.{IsGood}
 use Rattle.subchannel_model.specs.declared.state.Subchannel.{Subchannel}
 use Rattle.machine_model.specs.Turns.{DownTurn}
@@ -33,14 +33,14 @@ use Rattle.subchannel_model.specs.Sending.{with_any_sent, finds_full}
 use Rattle.machine_model.specs.DownSteps.{down_front, down_sub}
 use Rattle.machine_model.specs.ReportSteps.{report_taken, report_sub}
 use Rattle.machine_laws.proofs.Growth.{one-wider, one-within, Covers, covers-taken, covers-sent, covers-wider, covers-first, IsLink, IsWider, told, told-step, AreLaws, IsReached, links_of}
-use Rattle.machine_laws.specs.Beginnings.{Starts, with_taken}
+use Rattle.machine_laws.specs.Beginnings.{StartCounts, with_taken}
 use Rattle.machine_laws.proofs.Tales.{IsAccepted, IsTold, told-wider}
 use Rattle.machine_laws.proofs.TaleEvents.{takes-of, accepted-wider, Wide, taken-told, AreBusyPassed, Tells}
 use Rattle.machine_laws.proofs.HoldEvents.{IsOfHold}
 use Rattle.step_laws.proofs.Places.{same-side, one-side}
 
 -- the links of a unit after an event at the subchannel of this side, and what is told of the subchannel before and after it
-pub record Follows (T : Type 0) (w : Links) (side : Side) (sub new : Subchannel) (v : UnitState) (k next : Starts) : Type 0 where
+pub record Follows (T : Type 0) (w : Links) (side : Side) (sub new : Subchannel) (v : UnitState) (k next : StartCounts) : Type 0 where
   pub links : Links
   pub good : IsGood links
   pub «unit» : links.«unit» ≡ v
@@ -52,7 +52,7 @@ pub record Follows (T : Type 0) (w : Links) (side : Side) (sub new : Subchannel)
   pub ends : (j : Side) → IsResetDue w j → IsResetDue links j ⊎ ((same_side side j ≡ true) × T × DoAgree links j)
 
 -- an event that left these of a subchannel and its unit, and in which, or in none, a reset is taken
-pub record IsKept (T : Type 0) (sub new : Subchannel) (u v : UnitState) (k next : Starts) : Type 0 where
+pub record IsKept (T : Type 0) (sub new : Subchannel) (u v : UnitState) (k next : StartCounts) : Type 0 where
   pub setup : new.setup ≡ sub.setup
   pub follows : (w : Links) → IsGood w → w.«unit» ≡ u → IsLink sub (link_of w sub.setup.side) → Follows T w sub.setup.side sub new v k next
 
@@ -82,11 +82,11 @@ second-accepted : (w : Links) (l : Link) → l.accepted ≡ w.second.accepted �
 second-accepted w l e First t c = c
 second-accepted w l e Second t c = same-accepted w.second.accepted l.accepted t e c
 
-hold-told : (sub new : Subchannel) (k next : Starts) (w m : Links) (side : Side) → Tells sub new.state k next → AreBusyPassed sub w side →
+hold-told : (sub new : Subchannel) (k next : StartCounts) (w m : Links) (side : Side) → Tells sub new.state k next → AreBusyPassed sub w side →
     ((t : ℕ) → IsPassed w side t → IsPassed m side t) → ((t : ℕ) → IsAccepted w side t → IsAccepted m side t) → IsTold k sub.state w side → IsTold next new.state m side
 hold-told sub new k next w m side f b p a t = f m side (λ path n e. p n (b path n e)) (told-wider k sub.state w m side p a t)
 
-hold-follows : (w : Links) (side : Side) (sub new : Subchannel) (k next : Starts) → IsGood w → IsReached (link_of w side) new → Tells sub new.state k next → AreBusyPassed sub w side →
+hold-follows : (w : Links) (side : Side) (sub new : Subchannel) (k next : StartCounts) → IsGood w → IsReached (link_of w side) new → Tells sub new.state k next → AreBusyPassed sub w side →
     Follows ⊥ w side sub new w.«unit» k next
 hold-follows w First sub new k next g r f b =
     record {
@@ -117,7 +117,7 @@ busy-passed : AreLaws → (sub : Subchannel) (w : Links) (side : Side) → IsGoo
 busy-passed laws sub w side g k path t e =
     laws.busy w side (record { path = path; signal = up.Busy t }) t g (covers-first (link_of w side).ups sub.wires.up path (up.Busy t) k.ups e) refl
 
-pub hold-kept : AreLaws → (sub new : Subchannel) (u : UnitState) (k next : Starts) → IsOfHold sub new → Tells sub new.state k next → IsKept ⊥ sub new u u k next
+pub hold-kept : AreLaws → (sub new : Subchannel) (u : UnitState) (k next : StartCounts) → IsOfHold sub new → Tells sub new.state k next → IsKept ⊥ sub new u u k next
 hold-kept laws sub new u k next h f =
     record {
       setup = h.setup;
@@ -169,10 +169,10 @@ came-sent : (step : Option UnitStep) → sent_by step ≡ (unit_table.came_of st
 came-sent None = refl
 came-sent (Some step) = refl
 
-abbrev pub AreKept : Subchannel → UnitState → Starts → (Reply → Starts) → Result DownTurn Fault → Type 0
+abbrev pub AreKept : Subchannel → UnitState → StartCounts → (Reply → StartCounts) → Result DownTurn Fault → Type 0
 AreKept sub u k g r = IfOk r (λ t. IsKept (IsEnd sub u t.reply) sub t.sub u t.«unit» k (g t.reply))
 
-if-kept : (sub : Subchannel) (u : UnitState) (k : Starts) (g : Reply → Starts) (b : Bool) (x y : Result DownTurn Fault) → AreKept sub u k g x → AreKept sub u k g y →
+if-kept : (sub : Subchannel) (u : UnitState) (k : StartCounts) (g : Reply → StartCounts) (b : Bool) (x y : Result DownTurn Fault) → AreKept sub u k g x → AreKept sub u k g y →
     AreKept sub u k g (if b then x else y)
 if-kept sub u k g true x y e f = e
 if-kept sub u k g false x y e f = f
@@ -188,7 +188,7 @@ told-list w act First e = ap (λ (b : Bool). with_accepted w.first.accepted (sen
 told-list w act Second e = ap (λ (b : Bool). with_accepted w.second.accepted (sent_to b (sent_by (unit_steps w.«unit» act)))) e
 
 -- what is told after it
-abbrev TellsUnit : Subchannel → UnitState → UnitAct → Starts → Starts → Type 0
+abbrev TellsUnit : Subchannel → UnitState → UnitAct → StartCounts → StartCounts → Type 0
 TellsUnit sub u act k next = (w m : Links) (side : Side) → Wide w m side (sent_by (unit_steps u act)) → IsTold k sub.state w side → IsTold next sub.state m side
 
 -- Report: one that is taken is of the side of the program that holds the device
@@ -204,11 +204,11 @@ report-side u (own.Owned k t place) r y e =
     owner-side k r.side ((r.number == t) && (r.command == u.last_command)) (report_on u t place u.at_hand r) y e
 
 module _ (laws : AreLaws) where
-  unit-follows : (T : Type 0) (w : Links) (act : UnitAct) (side : Side) (sub : Subchannel) (downs : List (List Down)) (k next : Starts) → IsGood w → IsUnitGiven w act →
+  unit-follows : (T : Type 0) (w : Links) (act : UnitAct) (side : Side) (sub : Subchannel) (downs : List (List Down)) (k next : StartCounts) → IsGood w → IsUnitGiven w act →
       is_to w.«unit» act side ≡ true → IsLink sub (link_of w side) → IsFewer sub.wires.down downs → TellsUnit sub w.«unit» act k next →
       ((j : Side) → IsTakenBy w.«unit» (link_of w j).hold.phase act j → (same_side side j ≡ true) × T) → Follows T w side sub (sent_up sub downs (sent_by (unit_steps w.«unit» act))) (unit_after w.«unit» (unit_steps w.«unit» act)) k next
   unit-follows T w act side sub downs k next g given e l f tells taken =
-      let step : Step w (Unit_acts act) (told_links w act) =
+      let step : LinksStep w (Unit_acts act) (told_links w act) =
       record { given = given; «unit» = refl; first = told-step w.first (up_sent w.«unit» act First); second = told-step w.second (up_sent w.«unit» act Second) } in
       let all = laws.keeps w (Unit_acts act) (told_links w act) g step in
       let good : IsGood (told_links w act) = all.0 in
@@ -233,7 +233,7 @@ module _ (laws : AreLaws) where
         });
       }
 
-  unit-kept : (T : Type 0) (sub : Subchannel) (u : UnitState) (act : UnitAct) (downs : List (List Down)) (k next : Starts) →
+  unit-kept : (T : Type 0) (sub : Subchannel) (u : UnitState) (act : UnitAct) (downs : List (List Down)) (k next : StartCounts) →
       ((w : Links) → IsLink sub (link_of w sub.setup.side) → IsUnitGiven w act) → is_to u act sub.setup.side ≡ true → IsFewer sub.wires.down downs →
       TellsUnit sub u act k next →
       ((w : Links) → IsLink sub (link_of w sub.setup.side) → (j : Side) → IsTakenBy u (link_of w j).hold.phase act j → (same_side sub.setup.side j ≡ true) × T) →
@@ -249,7 +249,7 @@ module _ (laws : AreLaws) where
       }
 
   -- Down
-  down-tells : (may : Bool) → (sub : Subchannel) (path : ℕ) (u : UnitState) (x : Down) (k : Starts) →
+  down-tells : (may : Bool) → (sub : Subchannel) (path : ℕ) (u : UnitState) (x : Down) (k : StartCounts) →
       TellsUnit sub u (Takes_down sub.setup.side (record { path = path; signal = x }) may) k
       (with_taken (reply.Down x (unit_table.came_of (unit_takes u sub.setup.side path x may)).taken (unit_table.came_of (unit_takes u sub.setup.side path x may)).sent) k)
   down-tells may sub path u x k w m side h t =
@@ -286,7 +286,7 @@ module _ (laws : AreLaws) where
   down-ends may sub path u (down.Release t) w l j x = absurd x.1
   down-ends may sub path u (down.Got a) w l j x = absurd x.1
 
-  down_front-kept : (may : Bool) → (sub : Subchannel) (path : ℕ) (u : UnitState) (k : Starts) (front : Option Down) → slice_get (queue sub.wires.down path) 0 ≡ front →
+  down_front-kept : (may : Bool) → (sub : Subchannel) (path : ℕ) (u : UnitState) (k : StartCounts) (front : Option Down) → slice_get (queue sub.wires.down path) 0 ≡ front →
       AreKept sub u k (λ r. with_taken r k) (down_front may sub path u front)
   down_front-kept may sub path u k None e = tt
   down_front-kept may sub path u k (Some x) e =
@@ -300,13 +300,13 @@ module _ (laws : AreLaws) where
       (λ m c. covers-taken m sub.wires.down path c) (down-tells may sub path u x k)
       (down-ends may sub path u x)))
 
-  pub down-kept : (may : Bool) → (sub : Subchannel) (path : ℕ) (u : UnitState) (k : Starts) → AreKept sub u k (λ r. with_taken r k) (down_sub may sub path u)
+  pub down-kept : (may : Bool) → (sub : Subchannel) (path : ℕ) (u : UnitState) (k : StartCounts) → AreKept sub u k (λ r. with_taken r k) (down_sub may sub path u)
   down-kept may sub path u k =
       if-kept sub u k (λ r. with_taken r k) (nat_lt path (length sub.setup.paths)) (down_front may sub path u (slice_get (queue sub.wires.down path) 0)) _
       (down_front-kept may sub path u k (slice_get (queue sub.wires.down path) 0) refl) tt
 
   -- Report
-  taken-kept : (sub : Subchannel) (u : UnitState) (r : Report) (k : Starts) (step : Option UnitStep) → unit_reports u r ≡ step → same_side sub.setup.side r.side ≡ true →
+  taken-kept : (sub : Subchannel) (u : UnitState) (r : Report) (k : StartCounts) (step : Option UnitStep) → unit_reports u r ≡ step → same_side sub.setup.side r.side ≡ true →
       AreKept sub u k (λ r. k) (report_taken sub step)
   taken-kept sub u r k None h e = tt
   taken-kept sub u r k (Some y) h e =
@@ -316,5 +316,5 @@ module _ (laws : AreLaws) where
       (subst (λ (side : Side). is_owner_side u.own side ≡ true) (sym (one-side sub.setup.side r.side e)) (report-side u u.own r y h)) (λ m c. c)
       (λ w m side h t. told-wider k sub.state w m side h.passed h.accepted t) (λ w l j t. absurd t)))
 
-  pub report-kept : (sub : Subchannel) (u : UnitState) (r : Report) (k : Starts) → same_side sub.setup.side r.side ≡ true → AreKept sub u k (λ r. k) (report_sub sub u r)
+  pub report-kept : (sub : Subchannel) (u : UnitState) (r : Report) (k : StartCounts) → same_side sub.setup.side r.side ≡ true → AreKept sub u k (λ r. k) (report_sub sub u r)
   report-kept sub u r k e = taken-kept sub u r k (unit_reports u r) refl e

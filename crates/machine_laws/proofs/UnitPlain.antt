@@ -22,8 +22,8 @@ use Rattle.chan_model.specs.declared.unit_state.Progress.TheVariants as progress
 use Rattle.chan_model.specs.declared.unit_state.SideState.{SideState}
 use Rattle.chan_model.specs.declared.unit_state.UnitState.{UnitState}
 use Rattle.chan_model.specs.Sides.{same_side}
-use Rattle.chan_model.specs.UnitTable.{UnitStep, changes, with_given, with_answer, side_of, with_side, owns, is_owner, is_owner_on, freed, raised, selected, given_next, answered_load, answered_last, granted_at, granted, refused_at, refused, without_side, resets, forgetting, unit_works, unit_takes, unit_after, telling}
-use Rattle.chan_model.specs.UnitReports.{is_outward, is_to_supply, most_of, may_end, shown_end, end_sent, begun, absorbed, with_supplied, supplied, sent_again, answer_taken, report_on, report_of, unit_reports}
+use Rattle.chan_model.specs.UnitTable.{UnitStep, changes, with_given, at_hand_answered, side_of, with_side, owns, is_owner, is_owner_on, freed, raised, selected, given_next, answered_load, answered_last, granted_at, granted, grant_refused_at, grant_refused, without_side, resets, forgetting, unit_works, unit_takes, unit_after, telling}
+use Rattle.chan_model.specs.UnitReports.{is_outward, is_to_supply, most_of, may_end, shown_end, end_sent, command_begun, report_absorbed, with_supplied, report_supplied, sent_again, answer_taken, report_on, report_of, unit_reports}
 use Rattle.machine_model.specs.Bounds.{IsAtWithin}
 
 -- a unit after a step that does not restart it
@@ -83,7 +83,7 @@ given-plain u (Some x) s bytes h = given-if (s == x.sequence + 1) refl
 load-plain : (u : UnitState) (x : AtHand) (load : Option Load) (room : ℕ) → u.at_hand ≡ Some x → IsPlainStep u (answered_load u x load room)
 load-plain u x None room h = stays u
 load-plain u x (Some load) room h =
-    with-hand u (with_answer x load room) (λ n w. let w : x.sequence ≤ n = subst (IsAtWithin n) h w in omega (arith, w))
+    with-hand u (at_hand_answered x load room) (λ n w. let w : x.sequence ≤ n = subst (IsAtWithin n) h w in omega (arith, w))
 
 answered-plain : (u : UnitState) (x : Option AtHand) (s room : ℕ) → u.at_hand ≡ x → IsPlainStep u (answered_last u x s room)
 answered-plain u None s room h = stays u
@@ -98,12 +98,12 @@ granted-plain : (u : UnitState) (o : Own) (side : Side) (p t c : ℕ) → IsPlai
 granted-plain u own.Idle side p t c = stays u
 granted-plain u (own.Owned k v place) side p t c = if-plain u (same_side k side && (t == v)) _ None (granted_at-plain u k v place p c) (stays u)
 
-refused_at-plain : (u : UnitState) (side : Side) (t : ℕ) (place : Place) (c : ℕ) → IsPlainStep u (refused_at u side t place c)
+refused_at-plain : (u : UnitState) (side : Side) (t : ℕ) (place : Place) (c : ℕ) → IsPlainStep u (grant_refused_at u side t place c)
 refused_at-plain u side t (Ask q d) c = if-plain u (c == d) _ None (same-hand u _ refl refl) (stays u)
 refused_at-plain u side t (On q d) c = stays u
 refused_at-plain u side t (Away d) c = stays u
 
-refused-plain : (u : UnitState) (o : Own) (side : Side) (t c : ℕ) → IsPlainStep u (refused u o side t c)
+refused-plain : (u : UnitState) (o : Own) (side : Side) (t c : ℕ) → IsPlainStep u (grant_refused u o side t c)
 refused-plain u own.Idle side t c = stays u
 refused-plain u (own.Owned k v place) side t c = if-plain u (same_side k side && (t == v)) _ None (refused_at-plain u k v place c) (stays u)
 
@@ -162,7 +162,7 @@ takes-plain u side p (down.Got a) may = fresh-plain u side p _ (works-plain u si
 hand-same : (u : UnitState) (x y : AtHand) → u.at_hand ≡ Some x → y.sequence ≡ x.sequence → IsPlain u (record u { at_hand = Some y })
 hand-same u x y h e = with-hand u y (λ n w. let w : x.sequence ≤ n = subst (IsAtWithin n) h w in omega (arith, w, e))
 
-absorbed-plain : (u : UnitState) (p t c : ℕ) (x : AtHand) (given : Option (List ℕ)) (count : ℕ) → u.at_hand ≡ Some x → IsPlainStep u (absorbed u p t c x given count)
+absorbed-plain : (u : UnitState) (p t c : ℕ) (x : AtHand) (given : Option (List ℕ)) (count : ℕ) → u.at_hand ≡ Some x → IsPlainStep u (report_absorbed u p t c x given count)
 absorbed-plain u p t c x None count h = stays u
 absorbed-plain u p t c x (Some bytes) count h = if-plain u (nat_le count (length bytes)) _ None (hand-same u x _ h refl) (stays u)
 
@@ -170,12 +170,12 @@ again-plain : (u : UnitState) (p t c : ℕ) (x : AtHand) (load : Option Load) �
 again-plain u p t c x None h = stays u
 again-plain u p t c x (Some load) h = if-plain u x.again _ None (hand-same u x _ h refl) (stays u)
 
-supplied-plain : (u : UnitState) (p t c : ℕ) (x : AtHand) (bytes : List ℕ) → u.at_hand ≡ Some x → IsPlainStep u (supplied u p t c x bytes)
+supplied-plain : (u : UnitState) (p t c : ℕ) (x : AtHand) (bytes : List ℕ) → u.at_hand ≡ Some x → IsPlainStep u (report_supplied u p t c x bytes)
 supplied-plain u p t c x bytes h =
     if-plain u (is_to_supply x && nat_le (length bytes) (most_of x)) _ None
     (with-hand u (with_supplied x bytes) (λ n w. let w : x.sequence ≤ n = subst (IsAtWithin n) h w in omega (arith, w))) (stays u)
 
-begun-plain : (u : UnitState) (p t c : ℕ) (x : AtHand) → u.at_hand ≡ Some x → IsPlainStep u (begun u p t c x)
+begun-plain : (u : UnitState) (p t c : ℕ) (x : AtHand) → u.at_hand ≡ Some x → IsPlainStep u (command_begun u p t c x)
 begun-plain u p t c x h = if-plain u (is_outward x.code) _ _ (hand-same u x _ h refl) (hand-same u x _ h refl)
 
 ended-plain : (u : UnitState) (p t : ℕ) (x : AtHand) (may : Bool) (status : DeviceStatus) (more : Bool) → u.at_hand ≡ Some x →

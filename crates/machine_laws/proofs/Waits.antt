@@ -8,12 +8,12 @@ use Rattle.chan_model.specs.declared.hold_state.HoldState.{HoldState}
 use Rattle.chan_model.specs.HoldTable.{hold_after, letting_go}
 use Rattle.chan_model.specs.ResetCauses.{is_held}
 use Rattle.chan_model.specs.UnitReports.{is_last_end}
-use Rattle.subchannel_model.specs.declared.cause.Cause.{Cause}
-use Rattle.subchannel_model.specs.declared.cause.Cause.TheVariants as cause
-use Rattle.subchannel_model.specs.declared.state.Begun.{Begun}
+use Rattle.subchannel_model.specs.declared.cause.StatusCause.{StatusCause}
+use Rattle.subchannel_model.specs.declared.cause.StatusCause.TheVariants as cause
+use Rattle.subchannel_model.specs.declared.state.ActiveProgram.{ActiveProgram}
 use Rattle.subchannel_model.specs.declared.state.Program.{Program}
 use Rattle.subchannel_model.specs.declared.state.SubchannelState.{SubchannelState}
-use Rattle.subchannel_model.specs.Causes.{without_begun, without_waiting, after_end, with_cause}
+use Rattle.subchannel_model.specs.Causes.{without_begun, without_waiting, programs_after_end, with_cause}
 
 -- the program is offered under this number
 pub record IsOffered (B : ℕ → Type 0) (s : SubchannelState) : Type 0 where
@@ -31,7 +31,7 @@ abbrev pub WaitsAs : (A : Type 0) (B : ℕ → Type 0) → SubchannelState → O
 WaitsAs A B s None = Unit {0}
 WaitsAs A B s (Some program) = IsWaiting A B s program
 
-abbrev pub IsBegunHeld : Option Begun → HoldPhase → Type 0
+abbrev pub IsBegunHeld : Option ActiveProgram → HoldPhase → Type 0
 IsBegunHeld None phase = Unit {0}
 IsBegunHeld (Some b) phase = is_held phase ≡ true
 
@@ -63,11 +63,11 @@ pub none : (s x : SubchannelState) → x.starts ≡ s.starts → x.drawn ≡ s.d
 none s x a n o w h = record { starts = a; drawn = n; offered = o; waiting = inl w; hold = h }
 
 -- a status that is made
-after_end-calm : (s : SubchannelState) (b : Begun) (last : Bool) → IsCalm s (after_end s b last)
+after_end-calm : (s : SubchannelState) (b : ActiveProgram) (last : Bool) → IsCalm s (programs_after_end s b last)
 after_end-calm s b true = none s _ refl refl refl refl refl
 after_end-calm s b false = kept s _ refl refl refl refl refl
 
-without_begun-calm : (s : SubchannelState) (b : Option Begun) → IsCalm s (without_begun b s)
+without_begun-calm : (s : SubchannelState) (b : Option ActiveProgram) → IsCalm s (without_begun b s)
 without_begun-calm s None = none s _ refl refl refl refl refl
 without_begun-calm s (Some b) = kept s _ refl refl refl refl refl
 
@@ -88,13 +88,13 @@ calm-like s x y c a n o w h =
       hold = h ∙ c.hold;
     }
 
-pub cause-calm : (s : SubchannelState) (c : Cause) → IsCalm s (with_cause s c)
-cause-calm s (cause.End b status more) = calm-like s (after_end s b (is_last_end status)) _ (after_end-calm s b (is_last_end status)) refl refl refl refl refl
+pub cause-calm : (s : SubchannelState) (c : StatusCause) → IsCalm s (with_cause s c)
+cause-calm s (cause.End b status more) = calm-like s (programs_after_end s b (is_last_end status)) _ (after_end-calm s b (is_last_end status)) refl refl refl refl refl
 cause-calm s (cause.FetchFault tried check count) = calm-like s (without_begun s.begun s) _ (without_begun-calm s s.begun) refl refl refl refl refl
 cause-calm s cause.Attention = none s _ refl refl refl refl refl
 cause-calm s cause.NoPath = calm-like s (without_waiting s.waiting s) _ (without_waiting-calm s s.waiting) refl refl refl refl refl
 cause-calm s cause.InterfaceControlCheck = none s _ refl refl refl refl refl
-cause-calm s (cause.Interruption tried count) = kept s _ refl refl refl refl refl
+cause-calm s (cause.Pci tried count) = kept s _ refl refl refl refl refl
 cause-calm s (cause.Suspension tried count) = kept s _ refl refl refl refl refl
 cause-calm s cause.ClearDone = kept s _ refl refl refl refl refl
 cause-calm s cause.HaltDone = none s _ refl refl refl refl refl
@@ -104,34 +104,34 @@ pub without_waiting-begun : (s : SubchannelState) (w : Option Program) → (with
 without_waiting-begun s None = refl
 without_waiting-begun s (Some w) = refl
 
-pub fault-begun : (s : SubchannelState) (b : Option Begun) → s.begun ≡ b → (without_begun b s).begun ≡ None
+pub fault-begun : (s : SubchannelState) (b : Option ActiveProgram) → s.begun ≡ b → (without_begun b s).begun ≡ None
 fault-begun s None e = e
 fault-begun s (Some b) e = refl
 
-pub fault-waiting : (s : SubchannelState) (b : Option Begun) → b ≡ None → (without_begun b s).waiting ≡ None
+pub fault-waiting : (s : SubchannelState) (b : Option ActiveProgram) → b ≡ None → (without_begun b s).waiting ≡ None
 fault-waiting s None e = refl
 fault-waiting s (Some b) e = absurd (cc e)
 
-pub end-held : (s : SubchannelState) (b : Begun) (last : Bool) (phase : HoldPhase) → is_held phase ≡ true → IsBegunHeld (after_end s b last).begun phase
+pub end-held : (s : SubchannelState) (b : ActiveProgram) (last : Bool) (phase : HoldPhase) → is_held phase ≡ true → IsBegunHeld (programs_after_end s b last).begun phase
 end-held s b true phase h = tt
 end-held s b false phase h = h
 
-pub end-begun : (s : SubchannelState) (b : Begun) (last : Bool) → last ≡ true → (after_end s b last).begun ≡ None
+pub end-begun : (s : SubchannelState) (b : ActiveProgram) (last : Bool) → last ≡ true → (programs_after_end s b last).begun ≡ None
 end-begun s b true e = refl
 end-begun s b false e = absurd (cc e)
 
 -- no program is begun where none holds the device
-pub not-begun : (b : Option Begun) (phase : HoldPhase) → is_held phase ≡ false → IsBegunHeld b phase → b ≡ None
+pub not-begun : (b : Option ActiveProgram) (phase : HoldPhase) → is_held phase ≡ false → IsBegunHeld b phase → b ≡ None
 not-begun None phase e h = refl
 not-begun (Some b) phase e h = absurd (cc (sym e ∙ h))
 
-pub none-held : (b : Option Begun) (phase : HoldPhase) → b ≡ None → IsBegunHeld b phase
-none-held b phase e = subst (λ (x : Option Begun). IsBegunHeld x phase) (sym e) tt
+pub none-held : (b : Option ActiveProgram) (phase : HoldPhase) → b ≡ None → IsBegunHeld b phase
+none-held b phase e = subst (λ (x : Option ActiveProgram). IsBegunHeld x phase) (sym e) tt
 
-pub held-by : (b : Option Begun) (x : Begun) (phase : HoldPhase) → b ≡ Some x → IsBegunHeld b phase → is_held phase ≡ true
-held-by b x phase e h = subst (λ (y : Option Begun). IsBegunHeld y phase) e h
+pub held-by : (b : Option ActiveProgram) (x : ActiveProgram) (phase : HoldPhase) → b ≡ Some x → IsBegunHeld b phase → is_held phase ≡ true
+held-by b x phase e h = subst (λ (y : Option ActiveProgram). IsBegunHeld y phase) e h
 
-pub held-on : (b : Option Begun) (phase next : HoldPhase) → (is_held phase ≡ true → is_held next ≡ true) → IsBegunHeld b phase → IsBegunHeld b next
+pub held-on : (b : Option ActiveProgram) (phase next : HoldPhase) → (is_held phase ≡ true → is_held next ≡ true) → IsBegunHeld b phase → IsBegunHeld b next
 held-on None phase next f h = tt
 held-on (Some b) phase next f h = f h
 

@@ -9,29 +9,29 @@ use Rattle.chan_model.specs.declared.hold_state.HoldState.{HoldState}
 use Rattle.chan_model.specs.declared.signal.Load.{Load}
 use Rattle.chan_model.specs.declared.signal.Up.{Up}
 use Rattle.chan_model.specs.declared.signal.Up.TheVariants as up
-use Rattle.chan_model.specs.HoldTable.{came_of, HoldStep, begun, found_busy, left, asked_back, released, cleared, attended, hold_takes, hold_after, is_connected, is_on}
+use Rattle.chan_model.specs.HoldTable.{came_of, HoldStep, program_begun, found_busy, left, asked_back, released, reset_cleared, attended, hold_takes, hold_after, is_connected, is_on}
 use Rattle.chan_model.specs.Loads.{load_length}
 use Rattle.chan_model.specs.ResetCauses.{is_held}
 use Rattle.chan_model.specs.UnitReports.{is_last_end, is_outward, has_device_end}
-use Rattle.channel_program.specs.Walks.{Place}
+use Rattle.channel_program.specs.Walks.{WalkPlace}
 use Rattle.data_move.specs.Moving.{residual}
-use Rattle.transfer.specs.declared.Came.{Came}
-use Rattle.transfer.specs.declared.Came.TheVariants as came
+use Rattle.transfer.specs.declared.CommandStart.{CommandStart}
+use Rattle.transfer.specs.declared.CommandStart.TheVariants as came
 use Rattle.transfer.specs.declared.Transfer.{Transfer}
 use Rattle.transfer.specs.Commands.{first_command, next_command, begun_with_room, with_room}
-use Rattle.transfer.specs.Chunks.{absorbed, next_given, brought, is_answered}
-use Rattle.subchannel_model.specs.declared.cause.Cause.TheVariants as cause
+use Rattle.transfer.specs.Chunks.{taken_by_device, next_given, brought, is_answered}
+use Rattle.subchannel_model.specs.declared.cause.StatusCause.TheVariants as cause
 use Rattle.subchannel_model.specs.declared.signals.DataSignal.{DataSignal}
 use Rattle.subchannel_model.specs.declared.signals.EndSignal.{EndSignal}
-use Rattle.subchannel_model.specs.declared.state.Begun.{Begun}
+use Rattle.subchannel_model.specs.declared.state.ActiveProgram.{ActiveProgram}
 use Rattle.subchannel_model.specs.declared.state.Program.{Program}
-use Rattle.subchannel_model.specs.declared.state.Standing.{Standing}
+use Rattle.subchannel_model.specs.declared.state.ProgramPosition.{ProgramPosition}
 use Rattle.subchannel_model.specs.declared.state.SubchannelState.{SubchannelState}
 use Rattle.subchannel_model.specs.declared.state.UpStep.{UpStep}
 use Rattle.scsw_irb.specs.declared.scsw.Scsw.{Scsw}
 use Rattle.subchannel_model.specs.Causes.{with_cause}
 use Rattle.subchannel_model.specs.Ends.{has_status_modifier, chains_command}
-use Rattle.subchannel_model.specs.Taking.{back, may_attend, with_attention, Met, meets, ignoring, quietly, let_go, by_hold, without_interruption, interrupted_by, from_start, suspended_as, standing_as, standing, goes_ahead, with_path, taking_over, suspended_alone, standing_still, suspending, beginning, begin_standing, halt_done, accept, with_transfer, moving_on, give_next, take_in, bytes_of, move_bytes, move_data, with_end, end_taken, chaining, chain_with, goes_on, end_shown_at, stops_at, command_ended, end_of, reset_taken, takes_up}
+use Rattle.subchannel_model.specs.Taking.{back, may_attend, with_attention, Met, meets, ignoring, quietly, let_go, by_hold, without_pci, with_pci_of, from_start, suspended_as, standing_as, standing, goes_ahead, path_used, taking_over, suspended_alone, standing_still, suspending, beginning, begin_standing, halt_done, accept, with_transfer, moving_on, give_next, take_in, bytes_of_load, move_bytes, move_data, with_end, end_taken, chaining, chain_with, goes_on, end_shown_at, stops_at, command_ended, end_of, reset_taken, takes_up}
 use Rattle.machine_laws.proofs.Resetting.{notice-turned}
 use Rattle.machine_laws.proofs.Waits.{no-less, WaitsAs, IsBegunHeld, Waits, Turned, IsCalm, kept, cause-calm, fault-begun, fault-waiting, end-held, end-begun, not-begun, none-held, held-by, held-on, let-offer, moved-as, calm-as, calm-turned, same-turned, if-turned}
 
@@ -81,7 +81,7 @@ released-still h (hold.Away t) u e = no-step h
 released-still h (hold.Letting t p) u e = if-still h (u == t) _ None (other-phase h (hold.Letting t p) _ e (λ v q g. absurd (cc g)) (λ g. absurd (cc g))) (no-step h)
 released-still h (hold.Reset r) u e = no-step h
 
-cleared-still : (h : HoldState) (phase : HoldPhase) (u : ℕ) → h.phase ≡ phase → IsStill h (cleared h phase u)
+cleared-still : (h : HoldState) (phase : HoldPhase) (u : ℕ) → h.phase ≡ phase → IsStill h (reset_cleared h phase u)
 cleared-still h hold.Free u e = no-step h
 cleared-still h (hold.Offer t p) u e = no-step h
 cleared-still h (hold.On t p c) u e = no-step h
@@ -105,7 +105,7 @@ if-bare : (b : Bool) (x y : SubchannelState) → IsBare x → IsBare y → IsBar
 if-bare true x y e f = e
 if-bare false x y e f = f
 
-suspending-bare : (s : SubchannelState) (program : Program) (walk : Place) (count : ℕ) → IsBare (suspending s program walk count)
+suspending-bare : (s : SubchannelState) (program : Program) (walk : WalkPlace) (count : ℕ) → IsBare (suspending s program walk count)
 suspending-bare s program walk count =
     if-bare program.orb.suppress_suspended
     (record (standing_still s program walk count) { scsw = suspended_alone s.scsw }) (with_cause (standing_still s program walk count) (cause.Suspension walk.tried count))
@@ -120,14 +120,14 @@ if-numbered : (s : SubchannelState) (b : Bool) (x y : SubchannelState) → IsNum
 if-numbered s true x y e f = e
 if-numbered s false x y e f = f
 
-suspending-numbered : (s : SubchannelState) (program : Program) (walk : Place) (count : ℕ) → IsNumbered s (suspending s program walk count)
+suspending-numbered : (s : SubchannelState) (program : Program) (walk : WalkPlace) (count : ℕ) → IsNumbered s (suspending s program walk count)
 suspending-numbered s program walk count =
     if-numbered s program.orb.suppress_suspended
     (record (standing_still s program walk count) { scsw = suspended_alone s.scsw }) (with_cause (standing_still s program walk count) (cause.Suspension walk.tried count))
     (record { starts = refl; drawn = refl }) (record { starts = refl; drawn = refl })
 
 -- the program that was offered goes ahead where no halt is pending
-goes-on : (program : Program) (suspended : Option Standing) (start : ℕ) (halt : Bool) → program.start ≡ start → halt ≡ false →
+goes-on : (program : Program) (suspended : Option ProgramPosition) (start : ℕ) (halt : Bool) → program.start ≡ start → halt ≡ false →
     (is_some (standing_as (Some program) suspended start) && not halt) ≡ true
 goes-on program suspended start halt e f =
     ap (λ (h : Bool). is_some (standing_as (Some program) suspended start) && not h) f
@@ -203,23 +203,23 @@ module _ (A : Type 0) (B : ℕ → Type 0) where
       (λ e. k)
 
   -- a command takes control
-  interrupted-turned : (s t : SubchannelState) (b : Begun) → IsCalm s t → WaitsAs A B s s.waiting → is_held t.hold.phase ≡ true → t.begun ≡ Some b → Turned A B s (interrupted_by t b)
+  interrupted-turned : (s t : SubchannelState) (b : ActiveProgram) → IsCalm s t → WaitsAs A B s s.waiting → is_held t.hold.phase ≡ true → t.begun ≡ Some b → Turned A B s (with_pci_of t b)
   interrupted-turned s t b c k h e =
-      if-turned A B s b.transfer.interrupts
-      (with_cause (record t { begun = Some (without_interruption b) }) (cause.Interruption b.transfer.walk.tried (residual b.transfer.moving))) t
+      if-turned A B s b.transfer.pci_pending
+      (with_cause (record t { begun = Some (without_pci b) }) (cause.Pci b.transfer.walk.tried (residual b.transfer.moving))) t
       (λ i. calm-turned A B s _ (record { starts = c.starts; drawn = c.drawn; offered = c.offered; waiting = c.waiting; hold = c.hold }) k h)
-      (λ i. calm-turned A B s t c k (subst (λ (x : Option Begun). IsBegunHeld x t.hold.phase) (sym e) h))
+      (λ i. calm-turned A B s t c k (subst (λ (x : Option ActiveProgram). IsBegunHeld x t.hold.phase) (sym e) h))
 
-  moving-turned : (s : SubchannelState) (b : Begun) (t : Transfer) → WaitsAs A B s s.waiting → is_held s.hold.phase ≡ true → Turned A B s (moving_on s b t)
+  moving-turned : (s : SubchannelState) (b : ActiveProgram) (t : Transfer) → WaitsAs A B s s.waiting → is_held s.hold.phase ≡ true → Turned A B s (moving_on s b t)
   moving-turned s b t k h =
       interrupted-turned s (with_transfer s b t) (record b { transfer = t }) (kept s (with_transfer s b t) refl refl refl refl refl) k h refl
 
   -- Accept
-  begins-turned : (storage : Contents) (s : SubchannelState) (p t : ℕ) (st : Standing) (walk : Place) (r : Came) → s.begun ≡ None → is_held s.hold.phase ≡ true →
+  begins-turned : (storage : Contents) (s : SubchannelState) (p t : ℕ) (st : ProgramPosition) (walk : WalkPlace) (r : CommandStart) → s.begun ≡ None → is_held s.hold.phase ≡ true →
       Turned A B s (beginning storage s p t st walk r).state
   begins-turned storage s p t st walk (came.Begins transfer) n h =
       let next = taking_over s st.program (begun_with_room storage transfer).transfer in
-      let over : Turned A B next (interrupted_by next _) =
+      let over : Turned A B next (with_pci_of next _) =
       interrupted-turned next next (record { program = st.program; primary_shown = false; transfer = (begun_with_room storage transfer).transfer })
       (kept next next refl refl refl refl refl) tt h refl in
       record { starts = over.starts; drawn = over.drawn; waits = over.waits }
@@ -230,7 +230,7 @@ module _ (A : Type 0) (B : ℕ → Type 0) where
       let c : IsCalm s x = cause-calm s (cause.FetchFault walk.tried check st.count) in
       let-bare s x (fault-waiting s s.begun n, fault-begun s s.begun refl) (record { starts = c.starts; drawn = c.drawn })
 
-  standing-turned : (storage : Contents) (s : SubchannelState) (p t : ℕ) (st : Option Standing) → is_some st ≡ true → s.begun ≡ None → is_held s.hold.phase ≡ true →
+  standing-turned : (storage : Contents) (s : SubchannelState) (p t : ℕ) (st : Option ProgramPosition) → is_some st ≡ true → s.begun ≡ None → is_held s.hold.phase ≡ true →
       Turned A B s (begin_standing storage s p t st).state
   standing-turned storage s p t None e n h = absurd (cc e)
   standing-turned storage s p t (Some st) e n h = begins-turned storage s p t st (first_command storage st.walk).walk (first_command storage st.walk).came n h
@@ -270,17 +270,17 @@ module _ (A : Type 0) (B : ℕ → Type 0) where
   offered-turned : (storage : Contents) (s : SubchannelState) (h : HoldState) (t q u : ℕ) (may same : Bool) → goes_ahead s ≡ may →
       Waits A B (record s { hold = record h { phase = hold.Offer t q } }) →
       Turned A B (record s { hold = record h { phase = hold.Offer t q } })
-      (accept storage (record s { hold = record h { phase = hold.Offer t q } }) (if same then Some (begun (record h { phase = hold.Offer t q }) t q may) else None)).state
+      (accept storage (record s { hold = record h { phase = hold.Offer t q } }) (if same then Some (program_begun (record h { phase = hold.Offer t q }) t q may) else None)).state
   offered-turned storage s h t q u may false g k = same-turned A B _ k
   offered-turned storage s h t q u true true g k =
       let both : (is_some (standing s) ≡ true) × (not s.scsw.activity.halt_pending ≡ true) = and_parts (is_some (standing s)) (not s.scsw.activity.halt_pending) g in
       let x : Turned A B _ _ =
-      standing-turned storage (record s { hold = record h { phase = hold.On t q 0; seen = 0; first_path = Some q }; pmcw = with_path s.pmcw q }) q t (standing s) both.0
+      standing-turned storage (record s { hold = record h { phase = hold.On t q 0; seen = 0; first_path = Some q }; pmcw = path_used s.pmcw q }) q t (standing s) both.0
       (not-begun s.begun (hold.Offer t q) refl k.begun) refl in
       record { starts = x.starts; drawn = x.drawn; waits = x.waits }
   offered-turned storage s h t q u false true g k =
       letting-turned (record s { hold = record h { phase = hold.Offer t q } })
-      (record s { hold = record h { phase = hold.Letting t q; seen = 0; first_path = Some q }; pmcw = with_path s.pmcw q })
+      (record s { hold = record h { phase = hold.Letting t q; seen = 0; first_path = Some q }; pmcw = path_used s.pmcw q })
       refl refl refl (not-begun s.begun (hold.Offer t q) refl k.begun) refl g k.waiting
 
   accept-turned : (storage : Contents) (s : SubchannelState) (h : HoldState) (phase : HoldPhase) (p u : ℕ) (may : Bool) → goes_ahead s ≡ may →
@@ -336,19 +336,19 @@ module _ (A : Type 0) (B : ℕ → Type 0) where
   busy-turned s h (hold.Reset r) u f k = same-turned A B _ k
 
   -- Data
-  move-turned : (storage : Contents) (s : SubchannelState) (b : Option Begun) (signal : DataSignal) (load : Load) → s.begun ≡ b → Waits A B s →
+  move-turned : (storage : Contents) (s : SubchannelState) (b : Option ActiveProgram) (signal : DataSignal) (load : Load) → s.begun ≡ b → Waits A B s →
       Turned A B s (move_data storage s b signal load).step.state
   move-turned storage s None signal load e k = same-turned A B s k
   move-turned storage s (Some b) signal load e k =
       let held : is_held s.hold.phase ≡ true = held-by s.begun b s.hold.phase e k.begun in
       if-met s (is_answered b.transfer signal.command signal.sequence) (move_bytes storage s b signal load) (meets storage (ignoring s))
-      (if-met s (is_outward b.transfer.code) (meets storage (give_next storage s b signal (load_length load))) (take_in s b signal (brought storage b.transfer signal.sequence (bytes_of load)))
-      (moving-turned s b (next_given storage (absorbed storage b.transfer signal.sequence (load_length load))).transfer k.waiting held)
-      (moving-turned s b (with_room (brought storage b.transfer signal.sequence (bytes_of load)).storage (brought storage b.transfer signal.sequence (bytes_of load)).transfer).transfer k.waiting held))
+      (if-met s (is_outward b.transfer.code) (meets storage (give_next storage s b signal (load_length load))) (take_in s b signal (brought storage b.transfer signal.sequence (bytes_of_load load)))
+      (moving-turned s b (next_given storage (taken_by_device storage b.transfer signal.sequence (load_length load))).transfer k.waiting held)
+      (moving-turned s b (with_room (brought storage b.transfer signal.sequence (bytes_of_load load)).storage (brought storage b.transfer signal.sequence (bytes_of_load load)).transfer).transfer k.waiting held))
       (same-turned A B s k)
 
   -- End
-  chaining-turned : (storage : Contents) (s : SubchannelState) (b : Begun) (signal : EndSignal) (walk : Place) (r : Came) → is_held s.hold.phase ≡ true →
+  chaining-turned : (storage : Contents) (s : SubchannelState) (b : ActiveProgram) (signal : EndSignal) (walk : WalkPlace) (r : CommandStart) → is_held s.hold.phase ≡ true →
       WaitsAs A B s s.waiting → Turned A B s (chaining storage s b signal walk r).state
   chaining-turned storage s b signal walk (came.Begins transfer) h k = moving-turned s b (begun_with_room storage transfer).transfer k h
   chaining-turned storage s b signal walk came.Suspends h k =
@@ -361,7 +361,7 @@ module _ (A : Type 0) (B : ℕ → Type 0) where
       let-turned s x (record { starts = c.starts; drawn = c.drawn; offered = c.offered; waiting = c.waiting; hold = c.hold })
       (fault-begun (end_taken s signal) s.begun refl) k
 
-  stops-turned : (s : SubchannelState) (b : Begun) (signal : EndSignal) → is_held s.hold.phase ≡ true → WaitsAs A B s s.waiting →
+  stops-turned : (s : SubchannelState) (b : ActiveProgram) (signal : EndSignal) → is_held s.hold.phase ≡ true → WaitsAs A B s s.waiting →
       Turned A B s (stops_at s b signal).state
   stops-turned s b signal h k =
       let x = end_shown_at s b signal in
@@ -372,7 +372,7 @@ module _ (A : Type 0) (B : ℕ → Type 0) where
       (λ e. calm-turned A B s x calm k
       (subst (λ (g : HoldState). IsBegunHeld x.begun g.phase) (sym c.hold) (end-held s b (is_last_end signal.status) s.hold.phase h)))
 
-  end_of-turned : (storage : Contents) (s : SubchannelState) (b : Option Begun) (signal : EndSignal) → s.begun ≡ b → Waits A B s →
+  end_of-turned : (storage : Contents) (s : SubchannelState) (b : Option ActiveProgram) (signal : EndSignal) → s.begun ≡ b → Waits A B s →
       Turned A B s (end_of storage s b signal).state
   end_of-turned storage s None signal e k = same-turned A B s k
   end_of-turned storage s (Some b) signal e k =
@@ -404,7 +404,7 @@ module _ (A : Type 0) (B : ℕ → Type 0) where
       (λ e. end_of-turned storage s s.begun (record { path = p; number = t; command = n; status = status; more = more }) refl k) (λ e. same-turned A B s k)
   takes-turned returns storage s p (up.Released t) f k = still-turned s (released s.hold s.hold.phase t) (released-still s.hold s.hold.phase t refl) k
   takes-turned returns storage s p (up.Cleared r) f k =
-      reset-turned s (cleared s.hold s.hold.phase r) (still-turned s (cleared s.hold s.hold.phase r) (cleared-still s.hold s.hold.phase r refl) k)
+      reset-turned s (reset_cleared s.hold s.hold.phase r) (still-turned s (reset_cleared s.hold s.hold.phase r) (cleared-still s.hold s.hold.phase r refl) k)
   takes-turned returns storage s p (up.Notice b) f k = notice-turned A B s b (nat_lt s.hold.known b) k
   takes-turned returns storage s p (up.Attn a status) f k =
       let step : Option HoldStep = attended s.hold s.hold.phase p a (may_attend s) in

@@ -42,8 +42,8 @@ IsDownTo s (event.Down word path) place = place_of s word ≡ Some place
 IsDownTo s e place = ⊥
 
 -- a reset that isn't yet taken stays so in a step, but where in that step the unit takes it, and they agree right after
-abbrev pub EndsByReset : State → Event → Reply → State → Type 0
-EndsByReset s e r new = (place : ℕ) (sub after : Subchannel) (u v : UnitState) → slice_get s.subs place ≡ Some sub → slice_get new.subs place ≡ Some after →
+abbrev pub HoldEndsByReset : State → Event → Reply → State → Type 0
+HoldEndsByReset s e r new = (place : ℕ) (sub after : Subchannel) (u v : UnitState) → slice_get s.subs place ≡ Some sub → slice_get new.subs place ≡ Some after →
     slice_get s.units sub.setup.«unit» ≡ Some u → slice_get new.units sub.setup.«unit» ≡ Some v → IsOutstanding sub.state.hold.phase (side_of u sub.setup.side) →
     IsOutstanding after.state.hold.phase (side_of v sub.setup.side)
     ⊎ (IsDownTo s e place × IsEnd sub u r × Agrees after.state.hold.phase (owner_of v.own sub.setup.side))

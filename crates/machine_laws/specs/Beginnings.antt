@@ -23,58 +23,58 @@ pub record Offer : Type 0 where
 
 -- how many starts of a subchannel were accepted, the numbers that were offered but for a resume, the latest first, and the
 -- starts that began a program, in their order
-pub record Starts : Type 0 where
+pub record StartCounts : Type 0 where
   pub accepted : ℕ
   pub offers : List Offer
   pub begun : List ℕ
 
-abbrev pub no_starts : Starts
+abbrev pub no_starts : StartCounts
 no_starts = record { accepted = 0; offers = []; begun = [] }
 
 -- START was accepted
-abbrev pub with_start : Reply → Starts → Starts
+abbrev pub with_start : Reply → StartCounts → StartCounts
 with_start (reply.Code (answer.Zero serials)) k = record k { accepted = k.accepted + 1 }
 with_start r k = k
 
 -- an offer belongs to the latest start that was accepted before it
-abbrev pub with_offer : Reply → Starts → Starts
+abbrev pub with_offer : Reply → StartCounts → StartCounts
 with_offer (reply.Offered t p false) k = record k { offers = record { number = t; start = k.accepted } ∷ k.offers }
 with_offer r k = k
 
 -- the start that a number was offered for begins a program, where there is one
-abbrev pub with_begun : ℕ → List Offer → Starts → Starts
+abbrev pub with_begun : ℕ → List Offer → StartCounts → StartCounts
 with_begun t [] k = k
 with_begun t (x ∷ xs) k = if x.number == t then record k { begun = k.begun ++ x.start ∷ [] } else with_begun t xs k
 
 -- the unit takes a Select by an Accept
-abbrev pub with_answer : ℕ → Up → Starts → Starts
-with_answer t (up.Accept u) k = with_begun t k.offers k
-with_answer t signal k = k
+abbrev pub starts_with_answer : ℕ → Up → StartCounts → StartCounts
+starts_with_answer t (up.Accept u) k = with_begun t k.offers k
+starts_with_answer t signal k = k
 
-abbrev pub with_sent : ℕ → Option (OnPath Up) → Starts → Starts
-with_sent t None k = k
-with_sent t (Some x) k = with_answer t x.signal k
+abbrev pub starts_with_sent : ℕ → Option (OnPath Up) → StartCounts → StartCounts
+starts_with_sent t None k = k
+starts_with_sent t (Some x) k = starts_with_answer t x.signal k
 
-abbrev pub with_taken : Reply → Starts → Starts
-with_taken (reply.Down (down.Select t) true sent) k = with_sent t sent k
+abbrev pub with_taken : Reply → StartCounts → StartCounts
+with_taken (reply.Down (down.Select t) true sent) k = starts_with_sent t sent k
 with_taken r k = k
 
-abbrev pub instructed : ℕ → SubchannelId → Instruction → Reply → Starts → Starts
+abbrev pub instructed : ℕ → SubchannelId → Instruction → Reply → StartCounts → StartCounts
 instructed sets id (instruction.Ssch word address) r k = if is_id (subchannel_named sets word) id then with_start r k else k
 instructed sets id i r k = k
 
-abbrev pub starts_after : ℕ → SubchannelId → Event → Reply → Starts → Starts
+abbrev pub starts_after : ℕ → SubchannelId → Event → Reply → StartCounts → StartCounts
 starts_after sets id (event.Execute cpu i) r k = instructed sets id i r k
 starts_after sets id (event.Choose word) r k = if is_id (subchannel_named sets word) id then with_offer r k else k
 starts_after sets id (event.Down word path) r k = if is_id (subchannel_named sets word) id then with_taken r k else k
 starts_after sets id e r k = k
 
 -- the starts of a subchannel after these entries
-abbrev pub starts_by : ℕ → SubchannelId → Starts → List Entry → Starts
+abbrev pub starts_by : ℕ → SubchannelId → StartCounts → List Entry → StartCounts
 starts_by sets id k [] = k
 starts_by sets id k (entry ∷ entries) = starts_by sets id (starts_after sets id entry.event entry.reply k) entries
 
-abbrev pub starts : ℕ → SubchannelId → List Entry → Starts
+abbrev pub starts : ℕ → SubchannelId → List Entry → StartCounts
 starts sets id h = starts_by sets id no_starts h
 
 -- each start begins at most one program: those that did, of each subchannel, rise

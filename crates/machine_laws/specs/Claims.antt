@@ -21,7 +21,7 @@ pub record IsPendingUncleared (sub : Subchannel) : Type 0 where
   pub pending : sub.state.scsw.status.pending ≡ is_uncleared sub.state.serials
 
 -- a subchannel, and the same some steps later: set up as it was, with no fewer statuses made or cleared
-pub record IsLater (old new : Subchannel) : Type 0 where
+pub record IsLaterSubchannel (old new : Subchannel) : Type 0 where
   pub setup : new.setup ≡ old.setup
   pub cleared : old.state.serials.cleared ≤ new.state.serials.cleared
   pub made : old.state.serials.made ≤ new.state.serials.made

@@ -13,9 +13,9 @@ ghost use Rattle.machine_model.specs.State.{State, opening_of};
 ghost use Rattle.machine_model.specs.Setups.{IsSetUp};
 ghost use Rattle.machine_model.specs.Steps.{Step, Run};
 ghost use Rattle.machine_model.specs.Bounds.{IsWithin, IsUnitWithin};
-ghost use Rattle.machine_laws.specs.Agreeing.{AllAgree, LeadsToAgreed, AreAbove, EndsByReset};
+ghost use Rattle.machine_laws.specs.Agreeing.{AllAgree, LeadsToAgreed, AreAbove, HoldEndsByReset};
 ghost use Rattle.machine_laws.specs.Beginnings.{IsBegunOnce};
-ghost use Rattle.machine_laws.specs.Claims.{IsPendingUncleared, IsLater, IsClearedOnce};
+ghost use Rattle.machine_laws.specs.Claims.{IsPendingUncleared, IsLaterSubchannel, IsClearedOnce};
 
 use agreement_laws::{agreement, passing, resets, rising};
 use step_laws::{storage_blocks, walks};
@@ -37,7 +37,7 @@ pub fn numbers()
 pub fn steps()
     ensures sets { (s : State) (e : Event) (r : Reply) (new : State) → Step s e r new → new.sets ≡ s.sets }
     ensures subs { (setup : Setup) (h : List Entry) (s : State) (e : Event) (r : Reply) (new : State) → Run (opening_of setup) h s →
-        Step s e r new → AllZip IsLater s.subs new.subs }
+        Step s e r new → AllZip IsLaterSubchannel s.subs new.subs }
 {
     walks();
     command_numbers();
@@ -111,7 +111,7 @@ pub fn reset_numbers()
 /// sides agree right after.
 pub fn ends()
     ensures by_reset { (setup : Setup) (h : List Entry) (s : State) (e : Event) (r : Reply) (new : State) → IsLawful setup → Run (opening_of setup) h s →
-        Step s e r new → EndsByReset s e r new }
+        Step s e r new → HoldEndsByReset s e r new }
 {
     walks();
     agreement();

@@ -10,11 +10,11 @@ use Rattle.machine_model.specs.State.{State, Past, IsSpent}
 use Rattle.machine_model.specs.Steps.{Performs}
 
 -- the events that were accepted, with their replies
-abbrev pub accepted : List Event → List (Result Reply Fault) → List Entry
-accepted [] answers = []
-accepted (e ∷ events) [] = []
-accepted (e ∷ events) (Ok r ∷ answers) = record { event = e; reply = r } ∷ accepted events answers
-accepted (e ∷ events) (Err f ∷ answers) = accepted events answers
+abbrev pub accepted_entries : List Event → List (Result Reply Fault) → List Entry
+accepted_entries [] answers = []
+accepted_entries (e ∷ events) [] = []
+accepted_entries (e ∷ events) (Ok r ∷ answers) = record { event = e; reply = r } ∷ accepted_entries events answers
+accepted_entries (e ∷ events) (Err f ∷ answers) = accepted_entries events answers
 
 -- each event in order came to its answer: a step with its reply, by a path that the rule gives, or a refusal that changed
 -- nothing
@@ -28,7 +28,7 @@ Answered picks old (e ∷ events) [] new = ⊥
 -- so many events were answered, and the history grew by those that were accepted
 pub record HasAnswered (picks : Rule) (old : Past) (events : List Event) (answers : List (Result Reply Fault)) (new : Past) : Type 0 where
   pub answered : Answered picks old.state events answers new.state
-  pub history : new.history ≡ old.history ++ accepted events answers
+  pub history : new.history ≡ old.history ++ accepted_entries events answers
 
 -- the first of the events were, but not all: none where a growth was refused before them, else up to the first for which there
 -- was neither room nor a number

@@ -2,11 +2,11 @@
 use Rattle.std.specs.Prelude.{◌≤◌, ◌^◌, ℕ, Option, None, Some}
 use Rattle.chan_model.specs.declared.unit_state.AtHand.{AtHand}
 use Rattle.chan_model.specs.declared.unit_state.UnitState.{UnitState}
-use Rattle.subchannel_model.specs.declared.state.Begun.{Begun}
+use Rattle.subchannel_model.specs.declared.state.ActiveProgram.{ActiveProgram}
 use Rattle.subchannel_model.specs.declared.state.Subchannel.{Subchannel}
 
 -- the last chunk of a program that was begun has at most this number, and so has its last command
-abbrev pub IsMovedWithin : ℕ → Option Begun → Type 0
+abbrev pub IsMovedWithin : ℕ → Option ActiveProgram → Type 0
 IsMovedWithin n None = Unit {0}
 IsMovedWithin n (Some b) = (b.transfer.sequence ≤ n) × (b.transfer.command ≤ n)
 

@@ -10,11 +10,11 @@ use Rattle.path_select.specs.Choice.{IsChoice}
 use Rattle.wires.specs.Queues.{sent}
 use Rattle.subchannel_model.specs.declared.state.SubchannelState.{SubchannelState}
 use Rattle.subchannel_model.specs.declared.state.Subchannel.{Subchannel}
-use Rattle.subchannel_model.specs.declared.cause.Cause.{Cause}
-use Rattle.subchannel_model.specs.declared.cause.Cause.TheVariants as cause
+use Rattle.subchannel_model.specs.declared.cause.StatusCause.{StatusCause}
+use Rattle.subchannel_model.specs.declared.cause.StatusCause.TheVariants as cause
 use Rattle.machine_model.specs.State.{State}
 use Rattle.subchannel_model.specs.declared.state.Chosen.{Chosen}
-use Rattle.subchannel_model.specs.declared.state.Chosen.TheVariants.{Idle, Resets, Clears, Halts, Ends, Over, Offers}
+use Rattle.subchannel_model.specs.declared.state.Chosen.TheVariants.{Idle, Resets, PerformsClear, Halts, PerformsHalt, FindsNoPath, Offers}
 use Rattle.subchannel_model.specs.Causes.{with_cause}
 use Rattle.subchannel_model.specs.Choosing.{chosen, paths_to_choose, reset_sent, halt_sent, offered}
 use Rattle.machine_model.specs.Turns.{Outcome, SubTurn, leaves, with_state, at_sub}
@@ -28,16 +28,16 @@ send_sub sub state path signal r =
     else Ok (leaves r (record sub { state = state; wires = record sub.wires { down = sent sub.wires.down path signal } }))
 
 -- a status is made pending
-abbrev pub pend_sub : Subchannel → Cause → Result SubTurn Fault
+abbrev pub pend_sub : Subchannel → StatusCause → Result SubTurn Fault
 pend_sub sub cause = Ok (leaves reply.Pending (with_state sub (with_cause sub.state cause)))
 
 abbrev pub choose_sub : Subchannel → Chosen → Result SubTurn Fault
 choose_sub sub Idle = Ok (leaves reply.Idle sub)
 choose_sub sub (Resets r path) = send_sub sub (reset_sent sub.state path) path (down.Reset r sub.state.hold.known) (reply.ResetSent r path)
-choose_sub sub Clears = pend_sub sub cause.ClearDone
+choose_sub sub PerformsClear = pend_sub sub cause.ClearDone
 choose_sub sub (Halts t path) = send_sub sub (halt_sent sub.state) path (down.Halt t) (reply.HaltSent t path)
-choose_sub sub Ends = pend_sub sub cause.HaltDone
-choose_sub sub Over = pend_sub sub cause.NoPath
+choose_sub sub PerformsHalt = pend_sub sub cause.HaltDone
+choose_sub sub FindsNoPath = pend_sub sub cause.NoPath
 choose_sub sub (Offers c path) =
     send_sub sub (offered sub.state c.program path) path (down.Select (sub.state.drawn + 1)) (reply.Offered (sub.state.drawn + 1) path c.resumes)
 

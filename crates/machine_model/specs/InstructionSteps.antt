@@ -3,7 +3,7 @@ use Rattle.std.specs.Prelude.{◌≡◌, ℕ, Bool, true, false, if◌then◌els
 use Rattle.zbits.specs.Layout.{image_of}
 use Rattle.zbits.specs.Words.{bytes_of_words, word_at}
 use Rattle.orb_block.specs.declared.Orb.{Orb}
-use Rattle.orb_block.specs.OrbTable.{tables, IsAllowed}
+use Rattle.orb_block.specs.OrbTable.{tables, IsAllowedOrb}
 use Rattle.scsw_irb.specs.ScswTable.{irb_tables}
 use Rattle.schib_block.specs.declared.pmcw.Pmcw as block
 use Rattle.schib_block.specs.declared.schib.Schib.{Schib}
@@ -26,7 +26,7 @@ use Rattle.subchannel_model.specs.Resume.{rsch_code, resumed}
 use Rattle.subchannel_model.specs.Halt.{hsch_code, halted}
 use Rattle.subchannel_model.specs.Clear.{csch_code, cleared}
 use Rattle.subchannel_model.specs.Cancel.{xsch_code, cancelled}
-use Rattle.chan_model.specs.ConditionCodes.{answer_of}
+use Rattle.chan_model.specs.ConditionCodes.{answer_of_code}
 use Rattle.channel_config.specs.declared.names.SubchannelId.{SubchannelId}
 use Rattle.channel_config.specs.SubchannelWords.{subchannel_named}
 use Rattle.subchannel_model.specs.declared.state.SubchannelState.{SubchannelState}
@@ -46,14 +46,14 @@ abbrev pub code_at : (Condition → ConditionCode) → Subchannel → ConditionC
 code_at code sub = code (condition_of (Some sub.state))
 
 abbrev pub function_left : Subchannel → ConditionCode → SubchannelState → SubTurn
-function_left sub code state = leaves (reply.Code (answer_of code state.serials)) (with_state sub state)
+function_left sub code state = leaves (reply.Code (answer_of_code code state.serials)) (with_state sub state)
 
 abbrev pub function_sub : Subchannel → ConditionCode → SubchannelState → SubTurn
 function_sub sub code effect = function_left sub code (left_by code sub.state effect)
 
 -- of a subchannel that is not provided nothing is left
 abbrev pub not_provided : State → (Condition → ConditionCode) → Outcome
-not_provided s code = does (reply.Code (answer_of (code (condition_of None)) (record { made = 0; cleared = 0 }))) s
+not_provided s code = does (reply.Code (answer_of_code (code (condition_of None)) (record { made = 0; cleared = 0 }))) s
 
 abbrev pub function_at : State → Option Found → (Condition → ConditionCode) → (Subchannel → SubchannelState) → Outcome
 function_at s None code effect = not_provided s code
@@ -65,12 +65,12 @@ start_at s found orb = function_at s found ssch_code (λ sub. started sub.state 
 
 abbrev pub Starts_with : State → Option Found → List ℕ → Outcome → Type 0
 Starts_with s found image r =
-    (¬ IsAllowed image × (r ≡ Err fault.Operand))
+    (¬ IsAllowedOrb image × (r ≡ Err fault.Operand))
     ⊎ ((orb : Orb) × (image ≡ image_of (tables orb)) × (r ≡ start_at s found orb))
 
-abbrev pub Starts : State → Option Found → Result (List ℕ) StorageFault → Outcome → Type 0
-Starts s found (Err f) r = r ≡ Err (fault.Storage f)
-Starts s found (Ok image) r = Starts_with s found image r
+abbrev pub PerformsStart : State → Option Found → Result (List ℕ) StorageFault → Outcome → Type 0
+PerformsStart s found (Err f) r = r ≡ Err (fault.Storage f)
+PerformsStart s found (Ok image) r = Starts_with s found image r
 
 -- TEST: with code 0 and 1 the IRB is stored, and the reply shows the status word as it was
 abbrev pub stores_irb : ConditionCode → Bool
@@ -90,7 +90,7 @@ status_reply code.Two answer scsw = reply.Code answer
 status_reply code.Three answer scsw = reply.Code answer
 
 abbrev pub test_left : Subchannel → ConditionCode → SubchannelState → SubTurn
-test_left sub code state = leaves (status_reply code (answer_of code state.serials) sub.state.scsw) (with_state sub state)
+test_left sub code state = leaves (status_reply code (answer_of_code code state.serials) sub.state.scsw) (with_state sub state)
 
 abbrev pub test_with : Subchannel → ConditionCode → SubTurn
 test_with sub code = test_left sub code (left_by code sub.state (tested_wholly sub.state))
@@ -111,7 +111,7 @@ abbrev pub with_schib : State → ℕ → ℕ → Schib → State
 with_schib s cpu address schib = record s { storage = operand_stored s.storage cpu address (image_of (schib_tables schib)) }
 
 abbrev pub store_answer : Subchannel → Answer
-store_answer sub = answer_of (code_at stsch_code sub) sub.state.serials
+store_answer sub = answer_of_code (code_at stsch_code sub) sub.state.serials
 
 abbrev pub store_at : State → ℕ → ℕ → Option Found → Outcome
 store_at s cpu address None = not_provided s stsch_code
@@ -130,7 +130,7 @@ modify_at s found given = function_at s found msch_code (λ sub. modified_state 
 
 abbrev pub Modifies_with : State → Option Found → block.Pmcw → Outcome → Type 0
 Modifies_with s found given r =
-    (¬ modify.IsAllowed given × (r ≡ Err fault.Operand)) ⊎ (modify.IsAllowed given × (r ≡ modify_at s found given))
+    (¬ modify.IsAllowedPmcw given × (r ≡ Err fault.Operand)) ⊎ (modify.IsAllowedPmcw given × (r ≡ modify_at s found given))
 
 -- of the SCHIB, the path-management-control word counts
 abbrev pub Modifies_by : State → Option Found → List ℕ → Outcome → Type 0
@@ -161,7 +161,7 @@ Enables s cpu found subclass multipath (Ok image) r = Enables_with s cpu found s
 
 -- the tests of an instruction: general register 1, alignment, addressing, contents, condition code
 abbrev pub Executes_at : State → ℕ → Instruction → Option Found → Outcome → Type 0
-Executes_at s cpu (instruction.Ssch word address) found r = Starts s found (operand_at s.storage cpu address 12 4) r
+Executes_at s cpu (instruction.Ssch word address) found r = PerformsStart s found (operand_at s.storage cpu address 12 4) r
 Executes_at s cpu (instruction.Tsch word address) found r = r ≡ tests s cpu address found (operand_check s.storage cpu address 64 4)
 Executes_at s cpu (instruction.Stsch word address) found r = r ≡ stores s cpu address found (operand_check s.storage cpu address 52 4)
 Executes_at s cpu (instruction.Msch word address) found r = Modifies s found (operand_at s.storage cpu address 52 4) r
@@ -176,16 +176,16 @@ abbrev pub Executes_on : State → ℕ → Instruction → Option SubchannelId �
 Executes_on s cpu i None r = r ≡ Err fault.Operand
 Executes_on s cpu i (Some id) r = Executes_at s cpu i (found_at s.subs (place_in id s.subs)) r
 
-abbrev pub word_of : Instruction → ℕ
-word_of (instruction.Ssch word address) = word
-word_of (instruction.Tsch word address) = word
-word_of (instruction.Stsch word address) = word
-word_of (instruction.Msch word address) = word
-word_of (instruction.Enable word subclass multipath) = word
-word_of (instruction.Rsch word) = word
-word_of (instruction.Hsch word) = word
-word_of (instruction.Csch word) = word
-word_of (instruction.Xsch word) = word
+abbrev pub subchannel_word : Instruction → ℕ
+subchannel_word (instruction.Ssch word address) = word
+subchannel_word (instruction.Tsch word address) = word
+subchannel_word (instruction.Stsch word address) = word
+subchannel_word (instruction.Msch word address) = word
+subchannel_word (instruction.Enable word subclass multipath) = word
+subchannel_word (instruction.Rsch word) = word
+subchannel_word (instruction.Hsch word) = word
+subchannel_word (instruction.Csch word) = word
+subchannel_word (instruction.Xsch word) = word
 
 abbrev pub Executes : State → ℕ → Instruction → Outcome → Type 0
-Executes s cpu i r = Executes_on s cpu i (subchannel_named s.sets (word_of i)) r
+Executes s cpu i r = Executes_on s cpu i (subchannel_named s.sets (subchannel_word i)) r

@@ -1,6 +1,6 @@
 -- What there is of a channel subsystem, as small values.
 use Rattle.std.specs.Prelude.{◌≡◌, ◌≤◌, ◌^◌, ◌⊎◌, ℕ, zero, suc, ◌+◌, ◌%◌, ◌==◌, not, nat_lt, Bool, List, map, length, slice_get, slice_set, unwrap_or, Option, None, Some, if◌then◌else◌}
-use Rattle.storage_keys.specs.Storage.{Contents, cleared}
+use Rattle.storage_keys.specs.Storage.{Contents, cleared_storage}
 use Rattle.chan_model.specs.declared.unit_state.UnitState.{UnitState}
 use Rattle.chan_events.specs.declared.reply.Entry.{Entry}
 use Rattle.chan_model.specs.UnitTable.{idle_unit}
@@ -59,7 +59,7 @@ idle_of kind = idle_unit
 -- the opening of a machine that is set up so; where no storage is said there is the least, 16 blocks of 4,096 bytes (own)
 abbrev pub opening_of : Setup → State
 opening_of setup = record {
-  storage = cleared (unwrap_or setup.blocks 16);
+  storage = cleared_storage (unwrap_or setup.blocks 16);
   sets = set_count setup;
   subs = map opened setup.subchannels;
   units = map idle_of setup.units;
@@ -81,8 +81,8 @@ found_of s word = found_at s.subs (place_of s word)
 abbrev pub with_sub : State → ℕ → Subchannel → State
 with_sub s place sub = record s { subs = slice_set s.subs place sub }
 
-abbrev pub with_unit : State → ℕ → UnitState → State
-with_unit s place u = record s { units = slice_set s.units place u }
+abbrev pub state_with_unit : State → ℕ → UnitState → State
+state_with_unit s place u = record s { units = slice_set s.units place u }
 
 -- the serials of the subchannel that a word names
 abbrev pub serials_in : Option Subchannel → Option Serials

@@ -6,7 +6,7 @@ use Rattle.chan_model.specs.declared.unit_state.UnitState.{UnitState}
 use Rattle.chan_events.specs.declared.reply.Reply.{Reply}
 use Rattle.subchannel_model.specs.declared.state.SubchannelState.{SubchannelState}
 use Rattle.subchannel_model.specs.declared.state.Subchannel.{Subchannel}
-use Rattle.machine_model.specs.State.{State, with_sub, with_unit}
+use Rattle.machine_model.specs.State.{State, with_sub, state_with_unit}
 
 -- what an accepted event answers and leaves
 pub record Turn : Type 0 where
@@ -56,4 +56,4 @@ at_storage s place (Ok t) = does t.reply (with_sub (record s { storage = t.stora
 
 abbrev pub at_unit : State → ℕ → ℕ → Result DownTurn Fault → Outcome
 at_unit s place «unit» (Err f) = Err f
-at_unit s place «unit» (Ok t) = does t.reply (with_unit (with_sub s place t.sub) «unit» t.«unit»)
+at_unit s place «unit» (Ok t) = does t.reply (state_with_unit (with_sub s place t.sub) «unit» t.«unit»)

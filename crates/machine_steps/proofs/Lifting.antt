@@ -14,7 +14,7 @@ use Rattle.chan_model.specs.declared.report.Report.{Report}
 use Rattle.chan_model.specs.declared.unit_state.UnitState.{UnitState}
 use Rattle.path_select.specs.Choice.{Rule, IsChoice}
 use Rattle.subchannel_model.specs.declared.state.Subchannel.{Subchannel}
-use Rattle.machine_model.specs.State.{State, place_of, found_of, with_sub, with_unit}
+use Rattle.machine_model.specs.State.{State, place_of, found_of, with_sub, state_with_unit}
 use Rattle.subchannel_model.specs.Places.{Found, found_with, found_at, place_in, reached_in}
 use Rattle.subchannel_model.specs.Choosing.{chosen, paths_to_choose}
 use Rattle.machine_model.specs.Ruled.{RulesAt, GoesByRule, outcome_of}
@@ -25,7 +25,7 @@ use Rattle.machine_model.specs.ChooseSteps.{Chooses, choose_sub}
 use Rattle.machine_model.specs.UpSteps.{up_at, up_sub}
 use Rattle.machine_model.specs.DownSteps.{down_at, down_unit, down_sub}
 use Rattle.machine_model.specs.ReportSteps.{report_at, report_to, report_sub}
-use Rattle.machine_model.specs.InstructionSteps.{Executes_at, Executes_on, word_of}
+use Rattle.machine_model.specs.InstructionSteps.{Executes_at, Executes_on, subchannel_word}
 use Rattle.io_step.specs.Executing.{Executed, Executed_absent}
 
 -- an element that stands at a place
@@ -67,7 +67,7 @@ lifted_storage s place sub new d after outcome (Err f) there g = (
 
 lifted_both : (s : State) (place k : ℕ) (sub new d : Subchannel) (u v w : UnitState) (outcome : Result DownTurn Fault) (r : Result Reply Fault) →
     sub ≡ slice_index_or s.subs place d → u ≡ slice_index_or s.units k w → GivesBoth sub u outcome r new v →
-    Gives s (at_unit s place k outcome) r (with_unit (with_sub s place new) k v)
+    Gives s (at_unit s place k outcome) r (state_with_unit (with_sub s place new) k v)
 lifted_both s place k sub new d u v w outcome (Ok reply) there here g = ap (at_unit s place k) g
 lifted_both s place k sub new d u v w outcome (Err f) there here g = (
   ap (at_unit s place k) g.0,
@@ -110,27 +110,27 @@ choose-ruled picks s word place sub new d choice r at within there chose picked 
 
 down-performs : (s : State) (word path place : ℕ) (sub new d : Subchannel) (u v w : UnitState) (r : Result Reply Fault) → place_of s word ≡ Some place →
     place < length s.subs → sub ≡ slice_index_or s.subs place d → sub.setup.«unit» < length s.units → u ≡ slice_index_or s.units sub.setup.«unit» w →
-    GivesBoth sub u (down_sub true sub path u) r new v → Performs s (event.Down word path) r (with_unit (with_sub s place new) sub.setup.«unit» v)
+    GivesBoth sub u (down_sub true sub path u) r new v → Performs s (event.Down word path) r (state_with_unit (with_sub s place new) sub.setup.«unit» v)
 down-performs s word path place sub new d u v w r at within there inside here g =
     let k = sub.setup.«unit» in
     let outcome = down_sub true sub path u in
     let steps : (o : Outcome) → o ≡ at_unit s place k outcome → Steps s (event.Down word path) o =
     λ o e. named s word place sub (λ (f : Option Found). o ≡ down_at s f path) at (at_place s.subs place sub d within there)
     (subst (λ (x : Option UnitState). o ≡ down_unit s (record { place = place; sub = sub }) path x) (sym (at_place s.units k u w inside here)) e) in
-    performed s (event.Down word path) (at_unit s place k outcome) r (with_unit (with_sub s place new) k v) steps
+    performed s (event.Down word path) (at_unit s place k outcome) r (state_with_unit (with_sub s place new) k v) steps
     (lifted_both s place k sub new d u v w outcome r there here g)
 
 pub report-performs : (s : State) (k place : ℕ) (report : Report) (sub new d : Subchannel) (u v w : UnitState) (r : Result Reply Fault) →
     reached_in k report.side s.subs ≡ Some place → place < length s.subs → sub ≡ slice_index_or s.subs place d → k < length s.units →
     u ≡ slice_index_or s.units k w → GivesBoth sub u (report_sub sub u report) r new v →
-    Performs s (event.Report k report) r (with_unit (with_sub s place new) k v)
+    Performs s (event.Report k report) r (state_with_unit (with_sub s place new) k v)
 report-performs s k place report sub new d u v w r at within there inside here g =
     let outcome = report_sub sub u report in
     let steps : (o : Outcome) → o ≡ at_unit s place k outcome → Steps s (event.Report k report) o =
     λ o e. subst (λ (x : Option UnitState). o ≡ report_at s k x report) (sym (at_place s.units k u w inside here))
     (subst (λ (p : Option ℕ). o ≡ report_to s k u report (found_at s.subs p)) (sym at)
     (subst (λ (q : Option Subchannel). o ≡ report_to s k u report (found_with place q)) (sym (at_place s.subs place sub d within there)) e)) in
-    performed s (event.Report k report) (at_unit s place k outcome) r (with_unit (with_sub s place new) k v) steps
+    performed s (event.Report k report) (at_unit s place k outcome) r (state_with_unit (with_sub s place new) k v) steps
     (lifted_both s place k sub new d u v w outcome r there here g)
 
 -- there is one element at a place
@@ -143,9 +143,9 @@ one_there xs i x y d e within f g = some_inj x y (sym (at_place xs i x d within 
 -- the unit's place under another name
 pub down-performs-at : (s : State) (word path place k : ℕ) (sub new d : Subchannel) (u v w : UnitState) (r : Result Reply Fault) → sub.setup.«unit» ≡ k →
     place_of s word ≡ Some place → place < length s.subs → sub ≡ slice_index_or s.subs place d → k < length s.units → u ≡ slice_index_or s.units k w →
-    GivesBoth sub u (down_sub true sub path u) r new v → Performs s (event.Down word path) r (with_unit (with_sub s place new) k v)
+    GivesBoth sub u (down_sub true sub path u) r new v → Performs s (event.Down word path) r (state_with_unit (with_sub s place new) k v)
 down-performs-at s word path place k sub new d u v w r same at within there inside here g =
-    subst (λ (j : ℕ). j < length s.units → u ≡ slice_index_or s.units j w → Performs s (event.Down word path) r (with_unit (with_sub s place new) j v)) same
+    subst (λ (j : ℕ). j < length s.units → u ≡ slice_index_or s.units j w → Performs s (event.Down word path) r (state_with_unit (with_sub s place new) j v)) same
     (λ inside' here'. down-performs s word path place sub new d u v w r at within there inside' here' g) inside here
 
 executed : (s : State) (cpu place : ℕ) (i : Instruction) (sub new d : Subchannel) (after : Contents) (r : Result Reply Fault) →
@@ -166,7 +166,7 @@ executed-absent s cpu i after (Err f) lift g = (lift (Err f) (g.0 s), ap (λ (st
 
 -- an instruction on a subchannel that is provided, and on one that is not
 pub executes : (s : State) (cpu place : ℕ) (i : Instruction) (id : SubchannelId) (sub new d : Subchannel) (after : Contents) (r : Result Reply Fault) →
-    subchannel_named s.sets (word_of i) ≡ Some id → place_in id s.subs ≡ Some place → place < length s.subs → sub ≡ slice_index_or s.subs place d →
+    subchannel_named s.sets (subchannel_word i) ≡ Some id → place_in id s.subs ≡ Some place → place < length s.subs → sub ≡ slice_index_or s.subs place d →
     Executed s.storage sub cpu i r after new → Performs s (event.Execute cpu i) r (with_sub (record s { storage = after }) place new)
 executes s cpu place i id sub new d after r named placed within there g =
     let at : slice_get s.subs place ≡ Some sub = at_place s.subs place sub d within there in
@@ -177,7 +177,7 @@ executes s cpu place i id sub new d after r named placed within there g =
     executed s cpu place i sub new d after r at there lift g
 
 pub executes-absent : (s : State) (cpu : ℕ) (i : Instruction) (id : SubchannelId) (after : Contents) (r : Result Reply Fault) →
-    subchannel_named s.sets (word_of i) ≡ Some id → place_in id s.subs ≡ None → Executed_absent s.storage cpu i r after →
+    subchannel_named s.sets (subchannel_word i) ≡ Some id → place_in id s.subs ≡ None → Executed_absent s.storage cpu i r after →
     Performs s (event.Execute cpu i) r (record s { storage = after })
 executes-absent s cpu i id after r named placed g =
     let lift : (o : Outcome) → Executes_at s cpu i None o → Steps s (event.Execute cpu i) o =

@@ -31,9 +31,9 @@ GivesStorage before old outcome (Ok r) after new = outcome ≡ Ok (record { repl
 GivesStorage before old outcome (Err f) after new = (outcome ≡ Err f) × ((new ≡ old) × (after ≡ before))
 
 -- where the wire of a signal that must be sent is not full, there is room on it
-abbrev pub HasRoom : {A : Type 0} → List (List A) → Option (OnPath A) → Bool → Type 0
-HasRoom queues None full = Unit {0}
-HasRoom queues (Some s) full = full ≡ false → length (queue queues s.path) < 8
+abbrev pub HasRoomFor : {A : Type 0} → List (List A) → Option (OnPath A) → Bool → Type 0
+HasRoomFor queues None full = Unit {0}
+HasRoomFor queues (Some s) full = full ≡ false → length (queue queues s.path) < 8
 
 -- the path of this index, where the subchannel has one
 abbrev pub PathOf : Subchannel → ℕ → Option ℕ → Type 0

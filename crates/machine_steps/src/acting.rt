@@ -1,7 +1,7 @@
 //! What an event does at one subchannel, with storage beside it.
 
 ghost use Rattle.machine_model.specs.Bounds.{IsRoomy};
-ghost use Rattle.machine_steps.specs.Acting.{Acts, IsFit};
+ghost use Rattle.machine_steps.specs.Acting.{ActsOnSubchannel, IsFit};
 
 use crate::turns::{choose_sub, up_sub};
 use chan_events::event::Instruction;
@@ -14,7 +14,7 @@ use subchannel_model::state::{Chosen, Subchannel};
 
 /// What an event does at one subchannel, which may engage another engine after it.
 #[derive(Clone, Copy)]
-pub enum Act {
+pub enum SubchannelAct {
     /// A CPU executes an instruction.
     Execute { cpu: Cpu, instruction: Instruction },
     /// The subsystem does what was chosen.
@@ -24,14 +24,18 @@ pub enum Act {
 }
 
 /// Does it. A refusal changes nothing.
-pub fn perform_act(storage: &mut Storage, sub: &mut Subchannel, act: Act) -> Result<Reply, Fault>
+pub fn perform_act(
+    storage: &mut Storage,
+    sub: &mut Subchannel,
+    act: SubchannelAct,
+) -> Result<Reply, Fault>
     requires roomy { IsRoomy sub.old }
     requires fits { IsFit act sub.old }
-    ensures { Acts act storage.old sub.old result storage.new sub.new }
+    ensures { ActsOnSubchannel act storage.old sub.old result storage.new sub.new }
 {
     match act {
-        Act::Execute { cpu, instruction } => execute(storage, sub, cpu, instruction),
-        Act::Choose { chosen } => choose_sub(sub, chosen),
-        Act::TakeUp { path } => up_sub(storage, sub, path),
+        SubchannelAct::Execute { cpu, instruction } => execute(storage, sub, cpu, instruction),
+        SubchannelAct::Choose { chosen } => choose_sub(sub, chosen),
+        SubchannelAct::TakeUp { path } => up_sub(storage, sub, path),
     }
 }

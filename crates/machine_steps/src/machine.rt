@@ -13,7 +13,7 @@ ghost use Rattle.machine_model.specs.Bounds.{IsRoomy, IsUnitRoomy};
 ghost use Rattle.chan_events.specs.declared.event.Event.TheVariants as event_spec;
 ghost use Rattle.finding.specs.Tables.{Fits};
 
-use crate::acting::{Act, perform_act};
+use crate::acting::{SubchannelAct, perform_act};
 use crate::turns::{down_sub, report_sub};
 use crate::unit_turns::turn_of_unit;
 use chan_events::event::{Event, Instruction};
@@ -38,7 +38,7 @@ use unit::Unit;
 
 /// General register 1: the word that names the subchannel of an instruction.
 fn word_of(instruction: Instruction) -> u32
-    ensures { result ≡ instruction_steps.word_of instruction }
+    ensures { result ≡ instruction_steps.subchannel_word instruction }
 {
     match instruction {
         Instruction::Ssch { subchannel, .. }
@@ -148,7 +148,7 @@ impl Machine {
     }
 
     /// Does what an event does at the subchannel of a place, and counts anew the engine that it engages after it.
-    fn at_place(&mut self, place: usize, act: Act) -> Result<Reply, Fault>
+    fn at_place(&mut self, place: usize, act: SubchannelAct) -> Result<Reply, Fault>
         requires place { place < length self.old.subs }
         requires roomy { All IsRoomy self.old.subs }
         requires fits { (sub : Subchannel) → StandsAt self.old.subs place sub → IsFit act sub }
@@ -178,7 +178,7 @@ impl Machine {
         let Some(place) = places.place_in(id, self.subs.as_slice()) else {
             return execute_absent(&mut self.storage, cpu, instruction);
         };
-        self.at_place(place, Act::Execute { cpu, instruction })
+        self.at_place(place, SubchannelAct::Execute { cpu, instruction })
     }
 
     fn choose<P: PathChoice>(
@@ -200,7 +200,7 @@ impl Machine {
         let paths = paths_to_choose(&counted, sub);
         let path = choice.choose(&paths, sub.state.last_path);
         let chosen = chosen(sub, path);
-        self.at_place(place, Act::Choose { chosen })
+        self.at_place(place, SubchannelAct::Choose { chosen })
     }
 
     fn up(&mut self, places: &Places, word: u32, path: u32) -> Result<Reply, Fault>
@@ -211,7 +211,7 @@ impl Machine {
         let Some(place) = self.place_of(places, word) else {
             return Err(Fault::NoSuchSubchannel);
         };
-        self.at_place(place, Act::TakeUp { path })
+        self.at_place(place, SubchannelAct::TakeUp { path })
     }
 
     fn down(&mut self, places: &Places, word: u32, path: u32) -> Result<Reply, Fault>

@@ -16,7 +16,7 @@ use scsw_irb::scsw::Scsw;
 use scsw_irb::serials::Serials;
 use std::alloc::{AllocError, Global};
 use storage_keys::Storage;
-use subchannel_model::state::{Pmcw, Subchannel, SubchannelState};
+use subchannel_model::state::{PmcwState, Subchannel, SubchannelState};
 use supply::{Supply, push};
 use unit::Unit;
 use wires::Wires;
@@ -32,10 +32,10 @@ fn opened(setup: &SubchannelSetup) -> Subchannel
     }
 }
 
-fn opening_pmcw() -> Pmcw
+fn opening_pmcw() -> PmcwState
     ensures { result ≡ opening_spec.opening_pmcw }
 {
-    Pmcw {
+    PmcwState {
         parameter: 0,
         subclass: 0,
         enabled: false,

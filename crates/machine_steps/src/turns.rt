@@ -27,7 +27,7 @@ use storage_keys::Storage;
 use subchannel::answering::answer_path;
 use subchannel::choosing::{offer, send_halt, send_reset};
 use subchannel::taking::take_up;
-use subchannel_model::cause::Cause;
+use subchannel_model::cause::StatusCause;
 use subchannel_model::state::{Candidate, Chosen, Subchannel};
 use unit::Unit;
 use wires::Wires;
@@ -83,7 +83,7 @@ fn offer_sub(sub: &mut Subchannel, candidate: Candidate, path: Path) -> Result<R
 }
 
 /// A status is made pending.
-fn pend_sub(sub: &mut Subchannel, cause: &Cause) -> Result<Reply, Fault>
+fn pend_sub(sub: &mut Subchannel, cause: &StatusCause) -> Result<Reply, Fault>
     requires { IsRoomy sub.old }
     ensures { giving_spec.GivesSub sub.old (choose_spec.pend_sub sub.old cause.now) result sub.new }
 {
@@ -100,10 +100,10 @@ pub fn choose_sub(sub: &mut Subchannel, chosen: Chosen) -> Result<Reply, Fault>
     match chosen {
         Chosen::Idle => Ok(Reply::Idle),
         Chosen::Resets { number, path } => reset_sub(sub, number, path),
-        Chosen::Clears => pend_sub(sub, &Cause::ClearDone),
+        Chosen::PerformsClear => pend_sub(sub, &StatusCause::ClearDone),
         Chosen::Halts { number, path } => halt_on(sub, number, path),
-        Chosen::Ends => pend_sub(sub, &Cause::HaltDone),
-        Chosen::Over => pend_sub(sub, &Cause::NoPath),
+        Chosen::PerformsHalt => pend_sub(sub, &StatusCause::HaltDone),
+        Chosen::FindsNoPath => pend_sub(sub, &StatusCause::NoPath),
         Chosen::Offers { candidate, path } => offer_sub(sub, candidate, path),
     }
 }
@@ -121,7 +121,7 @@ fn up_finds_full(storage: &Storage, sub: &Subchannel, path: Path, signal: &Up) -
     requires { IsBelow sub.now.state.begun }
     ensures full { result ≡ sending_spec.finds_full sub.now.wires.down
         (takes_up false storage.now sub.now.state path signal.now).step.came.sent }
-    ensures room { giving_spec.HasRoom sub.now.wires.down
+    ensures room { giving_spec.HasRoomFor sub.now.wires.down
         (takes_up false storage.now sub.now.state path signal.now).step.came.sent result }
 {
     match answer_path(storage, &sub.state, path, signal, false) {
@@ -131,7 +131,7 @@ fn up_finds_full(storage: &Storage, sub: &Subchannel, path: Path, signal: &Up) -
 }
 
 fn send_any_down(wires: &mut Wires, sent: &Option<OnPath<Down>>)
-    requires { giving_spec.HasRoom wires.old.down sent.now false }
+    requires { giving_spec.HasRoomFor wires.old.down sent.now false }
     ensures { wires.new ≡ record wires.old { down = sending_spec.with_any_sent wires.old.down sent.now } }
 {
     if let Some(signal) = sent {
@@ -180,14 +180,14 @@ pub fn up_sub(storage: &mut Storage, sub: &mut Subchannel, path: u32) -> Result<
 fn answer_finds_full(wires: &Wires, unit: &Unit, side: Side, path: Path, signal: &Down) -> bool
     ensures full { result ≡ sending_spec.finds_full wires.now.up
         (unit_spec.came_of (unit_spec.unit_takes «unit».now side path signal.now true)).sent }
-    ensures room { giving_spec.HasRoom wires.now.up
+    ensures room { giving_spec.HasRoomFor wires.now.up
         (unit_spec.came_of (unit_spec.unit_takes «unit».now side path signal.now true)).sent result }
 {
     unit.answers(side, signal) && wires.up_is_full(path)
 }
 
 fn send_any_up(wires: &mut Wires, sent: &Option<OnPath<Up>>)
-    requires { giving_spec.HasRoom wires.old.up sent.now false }
+    requires { giving_spec.HasRoomFor wires.old.up sent.now false }
     ensures { wires.new ≡ record wires.old { up = sending_spec.with_any_sent wires.old.up sent.now } }
 {
     if let Some(signal) = sent {
@@ -233,7 +233,7 @@ fn report_finds_full(wires: &Wires, path: &ReportPath) -> bool
     ensures full { (step : Option UnitStep) → reports_spec.report_path step ≡ path.now →
         result ≡ sending_spec.finds_full wires.now.up (unit_spec.came_of step).sent }
     ensures room { (step : Option UnitStep) → reports_spec.report_path step ≡ path.now →
-        giving_spec.HasRoom wires.now.up (unit_spec.came_of step).sent result }
+        giving_spec.HasRoomFor wires.now.up (unit_spec.came_of step).sent result }
 {
     match path {
         ReportPath::SentOn(path) => finds_up_full(wires, *path),

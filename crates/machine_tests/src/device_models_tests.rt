@@ -8,7 +8,7 @@ use device_law::answering::answer;
 use device_law::{Device, Finish};
 use device_models::any_device::AnyDevice;
 use device_models::block_store::BlockStore;
-use device_models::command::Command;
+use device_models::command::BlockCommand;
 use device_models::console::Console;
 use device_models::console_command::ConsoleCommand;
 use device_models::rejecting::Rejecting;
@@ -89,8 +89,11 @@ fn a_block_is_sought_by_its_number(rt: HostRuntime) {
 
 #[test]
 fn a_code_names_its_command(rt: HostRuntime) {
-    assert_eq!(rt; Command::of_code(0x0B), Some(Command::Recalibrate));
-    assert_eq!(rt; Command::of_code(0x0A), None);
+    assert_eq!(rt;
+        BlockCommand::of_code(0x0B),
+        Some(BlockCommand::Recalibrate)
+    );
+    assert_eq!(rt; BlockCommand::of_code(0x0A), None);
 }
 
 #[test]

@@ -3,7 +3,7 @@
 use chan_events::reply::Reply;
 use chan_model::chunk::Chunk;
 use chan_model::fault::Fault;
-use script_text::{Told, put_bad_line, put_event_line};
+use script_text::{ActionResult, put_bad_line, put_event_line};
 use scsw_irb::serials::Serials;
 use std::io;
 use std::io::Write;
@@ -15,8 +15,8 @@ fn put_lines<S: Sink>(sink: &mut S) -> bool {
         made: 12,
         cleared: 9,
     };
-    put_event_line(sink, 5, &Ok(Told::Reply(Reply::Done)))
-        && put_event_line(sink, 6, &Ok(Told::Serials(serials)))
+    put_event_line(sink, 5, &Ok(ActionResult::Reply(Reply::Done)))
+        && put_event_line(sink, 6, &Ok(ActionResult::Serials(serials)))
         && put_event_line(sink, 1_000, &Err(Fault::Operand))
         && put_bad_line(sink, 9, 2)
 }
@@ -86,6 +86,6 @@ fn a_line_is_written_at_once(rt: HostRuntime) {
     let shown = Reply::Shown {
         bytes: Chunk::of(&[0xC1; 64]),
     };
-    assert!(rt; put_event_line(&mut sink, 5, &Ok(Told::Reply(shown))));
+    assert!(rt; put_event_line(&mut sink, 5, &Ok(ActionResult::Reply(shown))));
     assert_eq!(rt; sink.writer.calls, 1);
 }

@@ -175,7 +175,7 @@ module _ (laws : AreAccesses) where
     pub others : (place : ℕ) → Contains (each_below (next_place m) (length bytes)) (Some place) ⊎ (slice_get new.bytes place ≡ slice_get old.bytes place)
 
   stored-by : (storage after : Contents) (key : ℕ) (m : Moving) (bytes : List ℕ) (b : Bool) → m.skipped ≡ b →
-      (if b then Ok storage else checked (keys.stored storage key m.piece bytes)) ≡ Ok after → IsStore storage after m bytes
+      (if b then Ok storage else checked (keys.stored_bytes storage key m.piece bytes)) ≡ Ok after → IsStore storage after m bytes
   stored-by storage after key m bytes true s e =
       let same : storage ≡ after = cc e in
       subst (λ (x : Contents). IsStore storage x m bytes) same
@@ -184,7 +184,7 @@ module _ (laws : AreAccesses) where
         others = λ place. inr refl;
       })
   stored-by storage after key m bytes false s e =
-      let got : keys.stored storage key m.piece bytes ≡ Ok after = was-checked (keys.stored storage key m.piece bytes) after e in
+      let got : keys.stored_bytes storage key m.piece bytes ≡ Ok after = was-checked (keys.stored_bytes storage key m.piece bytes) after e in
       let did : (_ : is_inside storage m.piece (length bytes) ≡ true) × (put_at storage m.piece bytes ≡ after) =
       was-permitted (is_inside storage m.piece (length bytes)) (permits_store storage key m.piece (length bytes)) (put_at storage m.piece bytes) after got in
       subst (λ (x : Contents). IsStore storage x m bytes) did.1
@@ -196,5 +196,5 @@ module _ (laws : AreAccesses) where
         others = λ place. put-others storage m bytes s did.0 place;
       })
 
-  pub stored-bytes : (storage after : Contents) (key : ℕ) (m : Moving) (bytes : List ℕ) → access.stored storage key m bytes ≡ Ok after → IsStore storage after m bytes
+  pub stored-bytes : (storage after : Contents) (key : ℕ) (m : Moving) (bytes : List ℕ) → access.stored_or_skipped storage key m bytes ≡ Ok after → IsStore storage after m bytes
   stored-bytes storage after key m bytes e = stored-by storage after key m bytes m.skipped refl e

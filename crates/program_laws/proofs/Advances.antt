@@ -15,9 +15,9 @@ use Rattle.channel_program.specs.declared.Reading.TheVariants.{Transfers, Takes,
 use Rattle.channel_program.specs.Acts.{Act, Block, Unfetched}
 use Rattle.channel_program.specs.Blocks.{reads}
 use Rattle.channel_program.specs.Programs.{Command, next, next_after, role_of, role_after, commands, commands_after}
-use Rattle.channel_program.specs.Walks.{place, after_block, is_program_misplaced, act_of_fetch, fetch_act, with_target, acts_from, acts_at, advance_acts, block_advance, advance_of}
+use Rattle.channel_program.specs.Walks.{walk_place, after_block, is_program_misplaced, act_of_fetch, fetch_act, with_target, acts_from, acts_at, advance_acts, block_advance, advance_of}
 use Rattle.idaw.specs.Places.{Reach}
-use Rattle.program_laws.specs.Reaches.{reaches, reaches_after}
+use Rattle.program_laws.specs.DataAreas.{data_areas, reaches_after}
 
 -- a block is fetched, or cannot be
 fetch_or_check : (P : Act → Type 0) (test : Bool) (address : ℕ) (answer : Result (List ℕ) StorageFault) → ((bytes : List ℕ) → P (Block address bytes)) →
@@ -49,8 +49,8 @@ block-went cs rs address role Shows = (refl, refl)
 -- from the acts before to those after
 abbrev pub WentTo : Orb → List Act → List Act → Type 0
 WentTo orb before acts =
-    Went (role_of orb before).chained (commands orb before) (commands orb (acts ++ before)) (reaches orb before) (reaches orb (acts ++ before))
-    (next orb (acts ++ before)) (role_of orb (acts ++ before)) (advance_of (place orb before) acts)
+    Went (role_of orb before).chained (commands orb before) (commands orb (acts ++ before)) (data_areas orb before) (data_areas orb (acts ++ before))
+    (next orb (acts ++ before)) (role_of orb (acts ++ before)) (advance_of (walk_place orb before) acts)
 
 went-from : (c d : Bool) (cs ds es : List Command) (rs qs ps : List Reach) (n : Option ℕ) (role : Role) (a : Option Advance) → d ≡ c → ds ≡ cs → qs ≡ rs →
     Went d ds es qs ps n role a → Went c cs es rs ps n role a
@@ -59,29 +59,29 @@ went-from c d cs ds es rs qs ps n role a e f g w =
     (subst (λ (x : List Command). Went d x es rs ps n role a) f (subst (λ (x : List Reach). Went d ds es x ps n role a) g w))
 
 target-went : (storage : Contents) (orb : Orb) (before : List Act) (address : ℕ) (bytes : List ℕ) (r : Reading) → reads orb (role_of orb before) bytes ≡ r →
-    WentTo orb before (with_target storage (after_block (place orb before) address bytes) r (Block address bytes ∷ []))
+    WentTo orb before (with_target storage (after_block (walk_place orb before) address bytes) r (Block address bytes ∷ []))
 target-went storage orb before address bytes (Transfers target) e =
     let role : Role = role_of orb before in
     let cs : List Command = commands orb before in
-    let rs : List Reach = reaches orb before in
+    let rs : List Reach = data_areas orb before in
     let mid : List Act = Block address bytes ∷ before in
     let same : (role_of orb mid).chained ≡ role.chained = ap (λ (r : Reading). (role_after role r).chained) e in
     let commanded : commands orb mid ≡ cs = ap (λ (r : Reading). commands_after role.chained cs r) e in
-    let reached : reaches orb mid ≡ rs = ap (λ (r : Reading). reaches_after role.chained cs rs r) e in
+    let reached : data_areas orb mid ≡ rs = ap (λ (r : Reading). reaches_after role.chained cs rs r) e in
     fetch_cases (λ act. WentTo orb before (act ∷ Block address bytes ∷ [])) storage orb (role_of orb mid) target
-    (λ more. went-from role.chained (role_of orb mid).chained cs (commands orb mid) _ rs (reaches orb mid) _ _ (role_of orb (Block target more ∷ mid)) _ same commanded reached
-    (block-went (commands orb mid) (reaches orb mid) target (role_of orb mid) (reads orb (role_of orb mid) more)))
+    (λ more. went-from role.chained (role_of orb mid).chained cs (commands orb mid) _ rs (data_areas orb mid) _ _ (role_of orb (Block target more ∷ mid)) _ same commanded reached
+    (block-went (commands orb mid) (data_areas orb mid) target (role_of orb mid) (reads orb (role_of orb mid) more)))
     (λ check. (commanded, reached))
-target-went storage orb before address bytes (Takes ccw) e = block-went (commands orb before) (reaches orb before) address (role_of orb before) (reads orb (role_of orb before) bytes)
-target-went storage orb before address bytes Suspends e = block-went (commands orb before) (reaches orb before) address (role_of orb before) (reads orb (role_of orb before) bytes)
-target-went storage orb before address bytes Shows e = block-went (commands orb before) (reaches orb before) address (role_of orb before) (reads orb (role_of orb before) bytes)
+target-went storage orb before address bytes (Takes ccw) e = block-went (commands orb before) (data_areas orb before) address (role_of orb before) (reads orb (role_of orb before) bytes)
+target-went storage orb before address bytes Suspends e = block-went (commands orb before) (data_areas orb before) address (role_of orb before) (reads orb (role_of orb before) bytes)
+target-went storage orb before address bytes Shows e = block-went (commands orb before) (data_areas orb before) address (role_of orb before) (reads orb (role_of orb before) bytes)
 
-at-went : (storage : Contents) (orb : Orb) (before : List Act) (n : Option ℕ) → WentTo orb before (acts_at storage (place orb before) n)
+at-went : (storage : Contents) (orb : Orb) (before : List Act) (n : Option ℕ) → WentTo orb before (acts_at storage (walk_place orb before) n)
 at-went storage orb before None = (refl, refl)
 at-went storage orb before (Some address) =
-    fetch_cases (λ act. WentTo orb before (acts_from storage (place orb before) act)) storage orb (role_of orb before) address
+    fetch_cases (λ act. WentTo orb before (acts_from storage (walk_place orb before) act)) storage orb (role_of orb before) address
     (λ bytes. target-went storage orb before address bytes (reads orb (role_of orb before) bytes) refl)
     (λ check. (refl, refl))
 
-pub advance-went : (storage : Contents) (orb : Orb) (before : List Act) → WentTo orb before (advance_acts storage (place orb before))
+pub advance-went : (storage : Contents) (orb : Orb) (before : List Act) → WentTo orb before (advance_acts storage (walk_place orb before))
 advance-went storage orb before = at-went storage orb before (next orb before)

@@ -2,18 +2,18 @@
 use Rattle.std.proofs.Common.{◌≡◌, refl, ℕ, Bool, true, false, Option, None, Some, inl, inr}
 use Rattle.std.specs.Prelude.{◌⊎◌, if◌then◌else◌}
 use Rattle.chan_model.specs.UnitReports.{is_last_end}
-use Rattle.channel_program.specs.Walks.{Place}
+use Rattle.channel_program.specs.Walks.{WalkPlace}
 use Rattle.data_move.specs.Moving.{residual}
-use Rattle.subchannel_model.specs.declared.cause.Cause.{Cause}
-use Rattle.subchannel_model.specs.declared.cause.Cause.TheVariants as cause
-use Rattle.subchannel_model.specs.declared.state.Begun.{Begun}
+use Rattle.subchannel_model.specs.declared.cause.StatusCause.{StatusCause}
+use Rattle.subchannel_model.specs.declared.cause.StatusCause.TheVariants as cause
+use Rattle.subchannel_model.specs.declared.state.ActiveProgram.{ActiveProgram}
 use Rattle.subchannel_model.specs.declared.state.Program.{Program}
 use Rattle.subchannel_model.specs.declared.state.SubchannelState.{SubchannelState}
-use Rattle.subchannel_model.specs.Causes.{row_of, with_cause, without_begun, without_waiting, after_end}
+use Rattle.subchannel_model.specs.Causes.{row_of, with_cause, without_begun, without_waiting, programs_after_end}
 use Rattle.subchannel_model.specs.Programs.{without_programs}
-use Rattle.subchannel_model.specs.Halt.{halting, drops_status, dropped, halted}
+use Rattle.subchannel_model.specs.Halt.{halt_begun, drops_status, status_dropped, halted}
 use Rattle.subchannel_model.specs.Test.{ends_suspended, tested_wholly, tested}
-use Rattle.subchannel_model.specs.Taking.{with_attention, without_interruption, interrupted, standing_still, suspended_alone, suspending, halt_done, clear_done}
+use Rattle.subchannel_model.specs.Taking.{with_attention, without_pci, interrupted, standing_still, suspended_alone, suspending, halt_done, clear_done}
 
 -- the hold, and the numbers that were drawn
 pub record IsHoldKept (s x : SubchannelState) : Type 0 where
@@ -23,11 +23,11 @@ pub record IsHoldKept (s x : SubchannelState) : Type 0 where
 same-kept : (s : SubchannelState) → IsHoldKept s s
 same-kept s = record { hold = refl; drawn = refl }
 
-end-kept : (s : SubchannelState) (b : Begun) (last : Bool) → IsHoldKept s (after_end s b last)
+end-kept : (s : SubchannelState) (b : ActiveProgram) (last : Bool) → IsHoldKept s (programs_after_end s b last)
 end-kept s b true = record { hold = refl; drawn = refl }
 end-kept s b false = record { hold = refl; drawn = refl }
 
-begun-kept : (s : SubchannelState) (b : Option Begun) → IsHoldKept s (without_begun b s)
+begun-kept : (s : SubchannelState) (b : Option ActiveProgram) → IsHoldKept s (without_begun b s)
 begun-kept s None = record { hold = refl; drawn = refl }
 begun-kept s (Some b) = record { hold = refl; drawn = refl }
 
@@ -35,18 +35,18 @@ waiting-kept : (s : SubchannelState) (p : Option Program) → IsHoldKept s (with
 waiting-kept s None = record { hold = refl; drawn = refl }
 waiting-kept s (Some p) = record { hold = refl; drawn = refl }
 
-programs-kept : (s : SubchannelState) (c : Cause) → IsHoldKept s (row_of s c).left
+programs-kept : (s : SubchannelState) (c : StatusCause) → IsHoldKept s (row_of s c).left
 programs-kept s (cause.End b status more) = end-kept s b (is_last_end status)
 programs-kept s (cause.FetchFault tried check count) = begun-kept s s.begun
 programs-kept s cause.Attention = record { hold = refl; drawn = refl }
 programs-kept s cause.NoPath = waiting-kept s s.waiting
 programs-kept s cause.InterfaceControlCheck = record { hold = refl; drawn = refl }
-programs-kept s (cause.Interruption tried count) = same-kept s
+programs-kept s (cause.Pci tried count) = same-kept s
 programs-kept s (cause.Suspension tried count) = same-kept s
 programs-kept s cause.ClearDone = same-kept s
 programs-kept s cause.HaltDone = record { hold = refl; drawn = refl }
 
-pub cause-kept : (s : SubchannelState) (c : Cause) → IsHoldKept s (with_cause s c)
+pub cause-kept : (s : SubchannelState) (c : StatusCause) → IsHoldKept s (with_cause s c)
 cause-kept s c = let k : IsHoldKept s (row_of s c).left = programs-kept s c in record { hold = k.hold; drawn = k.drawn }
 
 -- a path that is missing leaves the program at work
@@ -55,28 +55,28 @@ path-begun s None = refl
 path-begun s (Some p) = refl
 
 -- a check ends the program at work, or the one that was to begin
-pub fault-begun : (s : SubchannelState) (b : Option Begun) → s.begun ≡ b → (without_begun b s).begun ≡ None
+pub fault-begun : (s : SubchannelState) (b : Option ActiveProgram) → s.begun ≡ b → (without_begun b s).begun ≡ None
 fault-begun s None e = e
 fault-begun s (Some b) e = refl
 
 -- the command at work is as it was, but for its interruption
-pub record IsUninterrupted (b c : Begun) : Type 0 where
+pub record IsUninterrupted (b c : ActiveProgram) : Type 0 where
   pub code : c.transfer.code ≡ b.transfer.code
   pub command : c.transfer.command ≡ b.transfer.command
   pub sequence : c.transfer.sequence ≡ b.transfer.sequence
   pub moving : c.transfer.moving ≡ b.transfer.moving
 
-pub record IsInterrupted (s x : SubchannelState) (b : Begun) : Type 0 where
-  pub begun : Begun
+pub record IsInterrupted (s x : SubchannelState) (b : ActiveProgram) : Type 0 where
+  pub begun : ActiveProgram
   pub is : x.begun ≡ Some begun
   pub same : IsUninterrupted b begun
   pub kept : IsHoldKept s x
 
-pub interrupted-work : (s : SubchannelState) (b : Begun) → s.begun ≡ Some b → IsInterrupted s (interrupted s (Some b)) b
-interrupted-work s b e = by b.transfer.interrupts
+pub interrupted-work : (s : SubchannelState) (b : ActiveProgram) → s.begun ≡ Some b → IsInterrupted s (interrupted s (Some b)) b
+interrupted-work s b e = by b.transfer.pci_pending
   where
-    by : (c : Bool) → IsInterrupted s (if c then with_cause (record s { begun = Some (without_interruption b) }) (cause.Interruption b.transfer.walk.tried (residual b.transfer.moving)) else s) b
-    by true = record { begun = without_interruption b; is = refl; same = record { code = refl; command = refl; sequence = refl; moving = refl }; kept = record { hold = refl; drawn = refl } }
+    by : (c : Bool) → IsInterrupted s (if c then with_cause (record s { begun = Some (without_pci b) }) (cause.Pci b.transfer.walk.tried (residual b.transfer.moving)) else s) b
+    by true = record { begun = without_pci b; is = refl; same = record { code = refl; command = refl; sequence = refl; moving = refl }; kept = record { hold = refl; drawn = refl } }
     by false = record { begun = b; is = e; same = record { code = refl; command = refl; sequence = refl; moving = refl }; kept = same-kept s }
 
 -- a program that is suspended
@@ -84,7 +84,7 @@ pub record IsWorkless (s x : SubchannelState) : Type 0 where
   pub begun : x.begun ≡ None
   pub kept : IsHoldKept s x
 
-pub suspending-workless : (s : SubchannelState) (program : Program) (walk : Place) (count : ℕ) → IsWorkless s (suspending s program walk count)
+pub suspending-workless : (s : SubchannelState) (program : Program) (walk : WalkPlace) (count : ℕ) → IsWorkless s (suspending s program walk count)
 suspending-workless s program walk count = by program.orb.suppress_suspended
   where
     by : (c : Bool) → IsWorkless s (if c then record (standing_still s program walk count) { scsw = suspended_alone s.scsw } else with_cause (standing_still s program walk count) (cause.Suspension walk.tried count))
@@ -135,7 +135,7 @@ tested-kept s = by (ends_suspended s.scsw)
 pub halted-kept : (s : SubchannelState) → IsHoldKept s (halted s)
 halted-kept s = by (drops_status s.scsw)
   where
-    by : (c : Bool) → IsHoldKept s (if c then dropped (halting s) else halting s)
+    by : (c : Bool) → IsHoldKept s (if c then status_dropped (halt_begun s) else halt_begun s)
     by true = record { hold = refl; drawn = refl }
     by false = record { hold = refl; drawn = refl }
 
@@ -150,6 +150,6 @@ tested-begun s = by (ends_suspended s.scsw)
 pub halted-begun : (s : SubchannelState) → (halted s).begun ≡ s.begun
 halted-begun s = by (drops_status s.scsw)
   where
-    by : (c : Bool) → (if c then dropped (halting s) else halting s).begun ≡ s.begun
+    by : (c : Bool) → (if c then status_dropped (halt_begun s) else halt_begun s).begun ≡ s.begun
     by true = refl
     by false = refl

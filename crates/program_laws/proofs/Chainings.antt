@@ -13,31 +13,31 @@ use Rattle.channel_program.specs.declared.Advance.TheVariants as advance
 use Rattle.channel_program.specs.declared.Reading.TheVariants.{Takes}
 use Rattle.channel_program.specs.Acts.{Act, Used_up}
 use Rattle.channel_program.specs.Programs.{IsProgram, Command, role_of, latest, next, tried, commands, commands_after, join_last}
-use Rattle.channel_program.specs.Walks.{Place, place, after_acts, after_used_up, acts_at, advance_acts, advance_of}
+use Rattle.channel_program.specs.Walks.{WalkPlace, walk_place, after_acts, after_used_up, acts_at, advance_acts, advance_of}
 use Rattle.idaw.specs.Lists.{block, kind_of}
-use Rattle.idaw.specs.Places.{Reach, place_of, each_below, places}
+use Rattle.idaw.specs.Places.{Reach, place_of_byte, each_below, places_of_bytes}
 use Rattle.data_move.specs.Moving as movement
 use Rattle.data_move.specs.Moving.{Moving, moved, next_place, residual, IsAt}
 use Rattle.transfer.specs.declared.Transfer.{Transfer}
 use Rattle.transfer.specs.Commands.{is_skipped, data_of}
 use Rattle.transfer.specs.Chunks.{chains_data, chained_to, chained_from, chained, with_moved, moved_on}
-use Rattle.program_laws.specs.Reaches.{reach, reaches, reaches_after, reaches_with, chained_reach}
-use Rattle.program_laws.specs.Doings as doing
-use Rattle.program_laws.specs.Doings.{Part, chained_acts, with_acts, with_places}
+use Rattle.program_laws.specs.DataAreas.{reach, data_areas, reaches_after, reaches_with, chained_reach}
+use Rattle.program_laws.specs.CommandActs as doing
+use Rattle.program_laws.specs.CommandActs.{CommandTrace, chained_acts, with_acts, with_places}
 use Rattle.program_laws.proofs.Lists.{none-some}
 use Rattle.program_laws.proofs.Advances.{Went, advance-went}
 use Rattle.program_laws.proofs.Ties.{AreLaws, HasCode, IsMovedTo, Tied, spot-changed, ccw-of, done-within, with_moved-tied}
 
 module _ (laws : AreLaws) where
   -- where the count is used up, the places are all of them
-  whole : (orb : Orb) (rs : List Reach) (t : Transfer) (ps : List (Option ℕ)) → residual t.moving ≡ 0 → IsMovedTo orb rs t ps → ps ≡ places (block (kind_of orb)) rs
+  whole : (orb : Orb) (rs : List Reach) (t : Transfer) (ps : List (Option ℕ)) → residual t.moving ≡ 0 → IsMovedTo orb rs t ps → ps ≡ places_of_bytes (block (kind_of orb)) rs
   whole orb [] t ps z k = absurd k
   whole orb (r ∷ rs) t ps z k =
       let le : t.moving.done ≤ r.ccw.count = done-within r t k.0 in
       let same : t.moving.ccw.count ≡ r.ccw.count = ap (λ (x : Ccw). x.count) (ccw-of r t k.0) in
       let none : t.moving.ccw.count - t.moving.done ≡ 0 = z in
       let all : t.moving.done ≡ r.ccw.count = omega (arith, le, same, none) in
-      k.1 ∙ ap (λ (n : ℕ). places (block (kind_of orb)) rs ++ each_below (place_of (block (kind_of orb)) r) n) all
+      k.1 ∙ ap (λ (n : ℕ). places_of_bytes (block (kind_of orb)) rs ++ each_below (place_of_byte (block (kind_of orb)) r) n) all
 
   -- data is chained to a block: one that is joined to the command at work
   joined-code : (cs : List Command) (ccw : Ccw) (c : ℕ) → HasCode cs c → HasCode (join_last cs ccw) c
@@ -48,43 +48,43 @@ module _ (laws : AreLaws) where
   joined-length [] ccw = refl
   joined-length (x ∷ xs) ccw = refl
 
-  joined-spot : (orb : Orb) (cs : List Command) (rs : List Reach) (t : Transfer) (walk : Place) (ps : List (Option ℕ)) (ccw : Ccw) → walk.orb ≡ orb → HasCode cs t.code →
-      ps ≡ places (block (kind_of orb)) rs → IsMovedTo orb (chained_reach cs rs ccw) (record t { walk = walk; moving = data_of walk t.code ccw; interrupts = ccw.program_controlled }) ps
+  joined-spot : (orb : Orb) (cs : List Command) (rs : List Reach) (t : Transfer) (walk : WalkPlace) (ps : List (Option ℕ)) (ccw : Ccw) → walk.orb ≡ orb → HasCode cs t.code →
+      ps ≡ places_of_bytes (block (kind_of orb)) rs → IsMovedTo orb (chained_reach cs rs ccw) (record t { walk = walk; moving = data_of walk t.code ccw; pci_pending = ccw.program_controlled }) ps
   joined-spot orb [] rs t walk ps ccw e h w = absurd h
   joined-spot orb (x ∷ xs) rs t walk ps ccw e h w =
-      (inl (subst (λ (c : ℕ). IsAt (reach c ccw) (data_of walk t.code ccw)) (sym h) (laws.begins (kind_of walk.orb) ccw (is_skipped t.code ccw))), w ∙ sym (append-nil (places (block (kind_of orb)) rs)))
+      (inl (subst (λ (c : ℕ). IsAt (reach c ccw) (data_of walk t.code ccw)) (sym h) (laws.begins (kind_of walk.orb) ccw (is_skipped t.code ccw))), w ∙ sym (append-nil (places_of_bytes (block (kind_of orb)) rs)))
 
   -- so many commands were sent under earlier numbers
   module _ (earlier : ℕ) where
-    joins : (orb : Orb) (before acts : List Act) (t : Transfer) (walk : Place) (ps : List (Option ℕ)) (ccw : Ccw) →
-        walk ≡ place orb acts → IsProgram orb acts → (role_of orb before).chained ≡ true → HasCode (commands orb before) t.code → t.moving.kind ≡ kind_of orb →
-        length (commands orb before) ≡ earlier + t.command → IsMovedTo orb (reaches orb before) t ps → residual t.moving ≡ 0 →
+    joins : (orb : Orb) (before acts : List Act) (t : Transfer) (walk : WalkPlace) (ps : List (Option ℕ)) (ccw : Ccw) →
+        walk ≡ walk_place orb acts → IsProgram orb acts → (role_of orb before).chained ≡ true → HasCode (commands orb before) t.code → t.moving.kind ≡ kind_of orb →
+        length (commands orb before) ≡ earlier + t.command → IsMovedTo orb (data_areas orb before) t ps → residual t.moving ≡ 0 →
         commands orb acts ≡ commands_after (role_of orb before).chained (commands orb before) (Takes ccw) →
-        reaches orb acts ≡ reaches_after (role_of orb before).chained (commands orb before) (reaches orb before) (Takes ccw) → next orb acts ≡ None →
+        data_areas orb acts ≡ reaches_after (role_of orb before).chained (commands orb before) (data_areas orb before) (Takes ccw) → next orb acts ≡ None →
         (role_of orb acts).chained ≡ ccw.chain_data →
-        Tied earlier orb acts ps (record t { walk = walk; moving = data_of walk t.code ccw; interrupts = ccw.program_controlled })
+        Tied earlier orb acts ps (record t { walk = walk; moving = data_of walk t.code ccw; pci_pending = ccw.program_controlled })
     joins orb before acts t walk ps ccw w p c h m l s z f g n i =
         let cs : List Command = commands orb before in
         let commanded : commands orb acts ≡ join_last cs ccw = f ∙ ap (λ (x : Bool). if x then join_last cs ccw else record { first = ccw; more = [] } ∷ cs) c in
-        let reached : reaches orb acts ≡ chained_reach cs (reaches orb before) ccw =
-        g ∙ ap (λ (x : Bool). reaches_with x cs (reaches orb before) ccw) c in
+        let reached : data_areas orb acts ≡ chained_reach cs (data_areas orb before) ccw =
+        g ∙ ap (λ (x : Bool). reaches_with x cs (data_areas orb before) ccw) c in
         record {
           walk = w;
           program = p;
           stands = λ x. n;
           chained = λ x. i;
           coded = subst (λ (xs : List Command). HasCode xs t.code) (sym commanded) (joined-code cs ccw t.code h);
-          kind = ap (λ (x : Place). kind_of x.orb) w;
+          kind = ap (λ (x : WalkPlace). kind_of x.orb) w;
           spot =
-              subst (λ (rs : List Reach). IsMovedTo orb rs (record t { walk = walk; moving = data_of walk t.code ccw; interrupts = ccw.program_controlled }) ps) (sym reached)
-              (joined-spot orb cs (reaches orb before) t walk ps ccw (ap (λ (x : Place). x.orb) w) h (whole orb (reaches orb before) t ps z s));
+              subst (λ (rs : List Reach). IsMovedTo orb rs (record t { walk = walk; moving = data_of walk t.code ccw; pci_pending = ccw.program_controlled }) ps) (sym reached)
+              (joined-spot orb cs (data_areas orb before) t walk ps ccw (ap (λ (x : WalkPlace). x.orb) w) h (whole orb (data_areas orb before) t ps z s));
           number = ap length commanded ∙ joined-length cs ccw ∙ l;
         }
 
     -- none is: the program stopped
-    unjoined : (orb : Orb) (before acts : List Act) (t : Transfer) (walk : Place) (ps : List (Option ℕ)) (check : Check) → walk ≡ place orb acts → IsProgram orb acts →
-        HasCode (commands orb before) t.code → t.moving.kind ≡ kind_of orb → length (commands orb before) ≡ earlier + t.command → IsMovedTo orb (reaches orb before) t ps →
-        commands orb acts ≡ commands orb before → reaches orb acts ≡ reaches orb before → Tied earlier orb acts ps (record t { walk = walk; fault = Some check })
+    unjoined : (orb : Orb) (before acts : List Act) (t : Transfer) (walk : WalkPlace) (ps : List (Option ℕ)) (check : Check) → walk ≡ walk_place orb acts → IsProgram orb acts →
+        HasCode (commands orb before) t.code → t.moving.kind ≡ kind_of orb → length (commands orb before) ≡ earlier + t.command → IsMovedTo orb (data_areas orb before) t ps →
+        commands orb acts ≡ commands orb before → data_areas orb acts ≡ data_areas orb before → Tied earlier orb acts ps (record t { walk = walk; fault = Some check })
     unjoined orb before acts t walk ps check w p h m l s f g = record {
       walk = w;
       program = p;
@@ -94,7 +94,7 @@ module _ (laws : AreLaws) where
       kind = m;
       spot =
           subst (λ (rs : List Reach). IsMovedTo orb rs (record t { walk = walk; fault = Some check }) ps) (sym g)
-          (spot-changed orb (reaches orb before) t (record t { walk = walk; fault = Some check }) ps refl (λ x. refl) s);
+          (spot-changed orb (data_areas orb before) t (record t { walk = walk; fault = Some check }) ps refl (λ x. refl) s);
       number = ap length f ∙ l;
     }
 
@@ -103,7 +103,7 @@ module _ (laws : AreLaws) where
         Tied earlier orb (Used_up ∷ before) ps t
     stays-tied orb before t ps f n k = record {
       walk =
-          k.walk ∙ ap (λ (x : Option ℕ). (let p : Place = record { orb = orb; role = role_of orb before; latest = latest orb before; next = x; tried = tried orb before } in p)) (k.stands f ∙ sym n);
+          k.walk ∙ ap (λ (x : Option ℕ). (let p : WalkPlace = record { orb = orb; role = role_of orb before; latest = latest orb before; next = x; tried = tried orb before } in p)) (k.stands f ∙ sym n);
       program = (k.stands f, k.program);
       stands = λ x. n;
       chained = k.chained;
@@ -113,9 +113,9 @@ module _ (laws : AreLaws) where
       number = k.number;
     }
 
-    chained-by : (storage : Contents) (orb : Orb) (before acts : List Act) (t : Transfer) (walk : Place) (ps : List (Option ℕ)) (a : Option Advance) → walk ≡ place orb acts →
+    chained-by : (storage : Contents) (orb : Orb) (before acts : List Act) (t : Transfer) (walk : WalkPlace) (ps : List (Option ℕ)) (a : Option Advance) → walk ≡ walk_place orb acts →
         IsProgram orb acts → is_some t.fault ≡ false → (role_of orb before).chained ≡ true → residual t.moving ≡ 0 → Tied earlier orb before ps t →
-        Went (role_of orb before).chained (commands orb before) (commands orb acts) (reaches orb before) (reaches orb acts) (next orb acts) (role_of orb acts) a →
+        Went (role_of orb before).chained (commands orb before) (commands orb acts) (data_areas orb before) (data_areas orb acts) (next orb acts) (role_of orb acts) a →
         (a ≡ None → Tied earlier orb acts ps t) → Tied earlier orb acts ps (chained_to t walk a)
     chained-by storage orb before acts t walk ps (Some (advance.Takes ccw)) w p f c z k g o =
         joins orb before acts t walk ps ccw w p c k.coded k.kind k.number k.spot z g.0 g.1 g.2 g.3
@@ -123,7 +123,7 @@ module _ (laws : AreLaws) where
     chained-by storage orb before acts t walk ps (Some (advance.Stops check)) w p f c z k g o = unjoined orb before acts t walk ps check w p k.coded k.kind k.number k.spot g.0 g.1
     chained-by storage orb before acts t walk ps None w p f c z k g o = o refl
 
-    none-next : (storage : Contents) (old : Place) (n : Option ℕ) → old.next ≡ n → advance_of old (advance_acts storage old) ≡ None → n ≡ None
+    none-next : (storage : Contents) (old : WalkPlace) (n : Option ℕ) → old.next ≡ n → advance_of old (advance_acts storage old) ≡ None → n ≡ None
     none-next storage old None e a = refl
     none-next storage old (Some address) e a =
         let s : IsSome (advance_of old (advance_acts storage old)) = (laws.stands storage old).1 (ap (λ (x : Option ℕ). is_some x) e) in
@@ -133,7 +133,7 @@ module _ (laws : AreLaws) where
         residual t.moving ≡ 0 → Tied earlier orb acts ps t → Tied earlier orb (chained_acts storage t ++ acts) ps (chained storage t)
     chained-tied storage orb acts ps t f d z k =
         let used : List Act = Used_up ∷ acts in
-        let old : Place = place orb used in
+        let old : WalkPlace = walk_place orb used in
         let news : List Act = advance_acts storage old in
         let by : Tied earlier orb (news ++ used) ps (chained_from storage t old) =
         chained-by storage orb acts (news ++ used) t (after_acts old news) ps (advance_of old news) (laws.leads orb used news) (laws.goes storage orb used (k.stands f, k.program)) f (k.chained f ∙ d) z
@@ -143,12 +143,12 @@ module _ (laws : AreLaws) where
         let n : next orb used ≡ None = none-next storage old (next orb used) refl e in
         let none : news ≡ [] = ap (λ (x : Option ℕ). acts_at storage old x) n in
         subst (λ (xs : List Act). Tied earlier orb (xs ++ used) ps t) (sym none) (stays-tied orb acts t ps f n k)) in
-        subst (λ (w : Place). Tied earlier orb ((advance_acts storage (after_used_up w) ++ Used_up ∷ []) ++ acts) ps (chained_from storage t (after_used_up w))) (sym k.walk)
+        subst (λ (w : WalkPlace). Tied earlier orb ((advance_acts storage (after_used_up w) ++ Used_up ∷ []) ++ acts) ps (chained_from storage t (after_used_up w))) (sym k.walk)
         (subst (λ (xs : List Act). Tied earlier orb xs ps (chained_from storage t old)) (sym (append_assoc news (Used_up ∷ []) acts)) by)
 
-    moved_on-by : (storage : Contents) (orb : Orb) (p : Part) (t : Transfer) (n : ℕ) (b : Bool) → chains_data (with_moved t n) n ≡ b → n ≤ t.moving.left →
+    moved_on-by : (storage : Contents) (orb : Orb) (p : CommandTrace) (t : Transfer) (n : ℕ) (b : Bool) → chains_data (with_moved t n) n ≡ b → n ≤ t.moving.left →
         Tied earlier orb p.acts p.moved t →
-        let q : Part = if b then with_acts (with_places p t.moving n) (chained_acts storage (with_moved t n)) else with_places p t.moving n in
+        let q : CommandTrace = if b then with_acts (with_places p t.moving n) (chained_acts storage (with_moved t n)) else with_places p t.moving n in
         Tied earlier orb q.acts q.moved (if b then chained storage (with_moved t n) else with_moved t n)
     moved_on-by storage orb p t n true e l k =
         let m : Moving = movement.moved t.moving n in
@@ -160,6 +160,6 @@ module _ (laws : AreLaws) where
         (with_moved-tied earlier laws orb p.acts p.moved t n l k)
     moved_on-by storage orb p t n false e l k = with_moved-tied earlier laws orb p.acts p.moved t n l k
 
-    pub moved_on-tied : (storage : Contents) (orb : Orb) (p : Part) (t : Transfer) (n : ℕ) → n ≤ t.moving.left → Tied earlier orb p.acts p.moved t →
-        Tied earlier orb (doing.moved_on storage t n p).acts (doing.moved_on storage t n p).moved (moved_on storage t n)
+    pub moved_on-tied : (storage : Contents) (orb : Orb) (p : CommandTrace) (t : Transfer) (n : ℕ) → n ≤ t.moving.left → Tied earlier orb p.acts p.moved t →
+        Tied earlier orb (doing.trace_moved_on storage t n p).acts (doing.trace_moved_on storage t n p).moved (moved_on storage t n)
     moved_on-tied storage orb p t n l k = moved_on-by storage orb p t n (chains_data (with_moved t n) n) refl l k

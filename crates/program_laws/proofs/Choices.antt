@@ -31,18 +31,18 @@ use Rattle.chan_model.specs.HoldTable as hold_table
 use Rattle.scsw_irb.specs.declared.status.DeviceStatus.{DeviceStatus}
 use Rattle.chan_model.specs.HoldTable.{hold_after, sending_reset, is_connected, is_on}
 use Rattle.wires.specs.Queues.{queue}
-use Rattle.subchannel_model.specs.declared.state.Begun.{Begun}
+use Rattle.subchannel_model.specs.declared.state.ActiveProgram.{ActiveProgram}
 use Rattle.subchannel_model.specs.declared.state.Chosen.{Chosen}
-use Rattle.subchannel_model.specs.declared.state.Chosen.TheVariants.{Idle, Resets, Clears, Halts, Ends, Over, Offers}
-use Rattle.subchannel_model.specs.declared.cause.Cause.TheVariants as cause
-use Rattle.subchannel_model.specs.declared.state.Standing.{Standing}
+use Rattle.subchannel_model.specs.declared.state.Chosen.TheVariants.{Idle, Resets, PerformsClear, Halts, PerformsHalt, FindsNoPath, Offers}
+use Rattle.subchannel_model.specs.declared.cause.StatusCause.TheVariants as cause
+use Rattle.subchannel_model.specs.declared.state.ProgramPosition.{ProgramPosition}
 use Rattle.subchannel_model.specs.declared.state.Program.{Program}
 use Rattle.subchannel_model.specs.declared.state.Subchannel.{Subchannel}
 use Rattle.subchannel_model.specs.declared.state.SubchannelState.{SubchannelState}
 use Rattle.subchannel_model.specs.Choosing.{chosen, reset_sent, halt_sent, offered}
 use Rattle.subchannel_model.specs.Causes.{without_waiting, with_cause}
 use Rattle.subchannel_model.specs.Resume.{resumed}
-use Rattle.subchannel_model.specs.Halt.{halting, drops_status, dropped, halted}
+use Rattle.subchannel_model.specs.Halt.{halt_begun, drops_status, status_dropped, halted}
 use Rattle.subchannel_model.specs.Clear.{cleared}
 use Rattle.subchannel_model.specs.Cancel.{cancelled}
 use Rattle.subchannel_model.specs.Test.{ends_suspended, tested_wholly, tested}
@@ -62,10 +62,10 @@ use Rattle.machine_model.specs.Steps.{Run, Opened, Stepped}
 use Rattle.subchannel_model.specs.Losing.{has_any, is_offered_or_held, reset_with, reset_for}
 use Rattle.step_laws.specs.Walks.{IsFound, Suits}
 use Rattle.machine_laws.proofs.TaleEvents.{reset-phase}
-use Rattle.program_laws.specs.Stories as stories
-use Rattle.program_laws.specs.Stories.{Story, offered_for, resumed_for, chosen_at, met_with, met_at, meets, takes, taken_at, absorbs, reported, reported_at, story, story_after}
+use Rattle.program_laws.specs.Traces as stories
+use Rattle.program_laws.specs.Traces.{ProgramTrace, offered_for, resumed_for, chosen_at, met_with, met_at, trace_meets, takes, taken_at, absorbs, reported, reported_at, trace, trace_after}
 use Rattle.program_laws.specs.Claims.{IsCopied}
-use Rattle.program_laws.proofs.Turns.{Happening, Stays, Starts_with_orb, Is_tested, Is_resumed, Is_halted, Is_cleared, Is_cancelled, Is_modified, Is_chosen, Meets, Sinks, Is_reported, Other_sinks, Other_reported, if-ok, step-happens}
+use Rattle.program_laws.proofs.Turns.{PlaceStep, Stays, Starts_with_orb, Is_tested, Is_resumed, Is_halted, Is_cleared, Is_cancelled, Is_modified, Is_chosen, Meets, Sinks, Is_reported, Other_sinks, Other_reported, if-ok, step-happens}
 use Rattle.program_laws.proofs.Accesses.{AreAccesses}
 use Rattle.program_laws.proofs.Ties.{AreLaws}
 use Rattle.program_laws.proofs.Holds.{IsPhase, IsDrawn, HasWork, IsStanding, IsHeld, IsUnheld, IsUntold, HeldBy, done-held, none-begun, none-stands, without-held, nothing-done, past-done}
@@ -75,44 +75,44 @@ use Rattle.program_laws.proofs.RunSides.{run-one-sided}
 use Rattle.step_laws.proofs.Places.{map-get}
 
 -- what is kept of its program, and what was copied for it
-abbrev pub IsKept : SubchannelState → Story → Type 0
+abbrev pub IsKept : SubchannelState → ProgramTrace → Type 0
 IsKept s k = IsHeld s k × AreCopied k
 
-abbrev pub KeptBy : SubchannelState → Option Story → Type 0
+abbrev pub KeptBy : SubchannelState → Option ProgramTrace → Type 0
 KeptBy s None = IsUntold s
 KeptBy s (Some k) = IsKept s k
 
-pub kept-held : (s : SubchannelState) (k : Option Story) → KeptBy s k → HeldBy s k
+pub kept-held : (s : SubchannelState) (k : Option ProgramTrace) → KeptBy s k → HeldBy s k
 kept-held s None h = h
 kept-held s (Some k) h = h.0
 
 -- none is suspended beside one that waits, as an offer is made of it
-waiting-alone : (w : Option Program) (b : Option Begun) (st : Option Standing) (program : Program) (k : Story) → w ≡ Some program → IsStanding w b st k → st ≡ None
+waiting-alone : (w : Option Program) (b : Option ActiveProgram) (st : Option ProgramPosition) (program : Program) (k : ProgramTrace) → w ≡ Some program → IsStanding w b st k → st ≡ None
 waiting-alone w b None program k e x = refl
 waiting-alone w b (Some st) program k e x = absurd (cc (sym e ∙ x.0))
 
-alone-kept : (s : SubchannelState) (program : Program) (k : Option Story) → s.waiting ≡ Some program → KeptBy s k → s.suspended ≡ None
+alone-kept : (s : SubchannelState) (program : Program) (k : Option ProgramTrace) → s.waiting ≡ Some program → KeptBy s k → s.suspended ≡ None
 alone-kept s program None e h = h.suspended
 alone-kept s program (Some k) e h = waiting-alone s.waiting s.begun s.suspended program k e h.0.standing
 
 offered-held : (s : SubchannelState) (program : Program) (path : ℕ) → s.begun ≡ None → s.suspended ≡ None →
-    IsKept (offered s program path) (stories.offered (s.drawn + 1) program.orb)
+    IsKept (offered s program path) (stories.trace_offered (s.drawn + 1) program.orb)
 offered-held s program path z e = (
   record {
     number = omega arith;
     phase = (refl, z, refl);
     drawn = tt;
-    work = subst (λ (b : Option Begun). HasWork b (stories.offered (s.drawn + 1) program.orb)) (sym z) (nothing-done program.orb);
-    standing = none-stands s.waiting s.begun s.suspended (stories.offered (s.drawn + 1) program.orb) e;
+    work = subst (λ (b : Option ActiveProgram). HasWork b (stories.trace_offered (s.drawn + 1) program.orb)) (sym z) (nothing-done program.orb);
+    standing = none-stands s.waiting s.begun s.suspended (stories.trace_offered (s.drawn + 1) program.orb) e;
   },
   (All-nil IsCopied, All-nil IsCopied),
 )
 
-resumed-stands : (w : Option Program) (b : Option Begun) (st : Option Standing) (t : ℕ) (k : Story) → IsStanding w b st k → IsStanding w b st (stories.resumed t k)
+resumed-stands : (w : Option Program) (b : Option ActiveProgram) (st : Option ProgramPosition) (t : ℕ) (k : ProgramTrace) → IsStanding w b st k → IsStanding w b st (stories.trace_resumed t k)
 resumed-stands w b None t k x = tt
 resumed-stands w b (Some st) t k x = x
 
-resumed-held : (s : SubchannelState) (program : Program) (path : ℕ) (st : Standing) (k : Option Story) → s.begun ≡ None → s.suspended ≡ Some st → KeptBy s k →
+resumed-held : (s : SubchannelState) (program : Program) (path : ℕ) (st : ProgramPosition) (k : Option ProgramTrace) → s.begun ≡ None → s.suspended ≡ Some st → KeptBy s k →
     KeptBy (offered s program path) (resumed_for (s.drawn + 1) k)
 resumed-held s program path st None z e h = absurd (cc (sym h.suspended ∙ e))
 resumed-held s program path st (Some k) z e h = (
@@ -120,13 +120,13 @@ resumed-held s program path st (Some k) z e h = (
     number = omega arith;
     phase = (refl, z, refl);
     drawn = tt;
-    work = subst (λ (b : Option Begun). HasWork b (stories.resumed (s.drawn + 1) k)) (sym z) (past-done k.orb k.now (done-held s k h.0));
+    work = subst (λ (b : Option ActiveProgram). HasWork b (stories.trace_resumed (s.drawn + 1) k)) (sym z) (past-done k.orb k.now (done-held s k h.0));
     standing = resumed-stands s.waiting s.begun s.suspended (s.drawn + 1) k h.0.standing;
   },
   (All-nil IsCopied, All-nil IsCopied),
 )
 
-found-held : (sub : Subchannel) (program : Program) (path : ℕ) (resumes : Bool) (k : Option Story) → sub.state.begun ≡ None →
+found-held : (sub : Subchannel) (program : Program) (path : ℕ) (resumes : Bool) (k : Option ProgramTrace) → sub.state.begun ≡ None →
     IsFound sub.state.waiting sub.state.suspended resumes program → KeptBy sub.state k →
     KeptBy (offered sub.state program path) (chosen_at (Some sub) (reply.Offered (sub.state.drawn + 1) path resumes) k)
 found-held sub program path false k z f h =
@@ -135,7 +135,7 @@ found-held sub program path false k z f h =
 found-held sub program path true k z f h = resumed-held sub.state program path f.0 k z f.1 h
 
 -- a change of nothing that is told of
-same-kept : (s u : SubchannelState) (k : Option Story) → u.hold.phase ≡ s.hold.phase → u.drawn ≡ s.drawn → u.begun ≡ s.begun → u.waiting ≡ s.waiting →
+same-kept : (s u : SubchannelState) (k : Option ProgramTrace) → u.hold.phase ≡ s.hold.phase → u.drawn ≡ s.drawn → u.begun ≡ s.begun → u.waiting ≡ s.waiting →
     u.suspended ≡ s.suspended → KeptBy s k → KeptBy u k
 same-kept s u None e d b w q h = record {
   phase = subst (λ (x : HoldPhase). IsUnheld x u.drawn) (sym e) (subst (λ (n : ℕ). IsUnheld s.hold.phase n) (sym d) h.phase);
@@ -147,24 +147,24 @@ same-kept s u (Some k) e d b w q h = (
     number = subst (λ (n : ℕ). k.number ≤ n) (sym d) h.0.number;
     phase =
         subst (λ (x : HoldPhase). IsPhase x k.number u.begun k.sent) (sym e)
-        (subst (λ (x : Option Begun). IsPhase s.hold.phase k.number x k.sent) (sym b) h.0.phase);
+        (subst (λ (x : Option ActiveProgram). IsPhase s.hold.phase k.number x k.sent) (sym b) h.0.phase);
     drawn = subst (λ (x : HoldPhase). IsDrawn x u.drawn) (sym e) (subst (λ (n : ℕ). IsDrawn s.hold.phase n) (sym d) h.0.drawn);
-    work = subst (λ (x : Option Begun). HasWork x k) (sym b) h.0.work;
+    work = subst (λ (x : Option ActiveProgram). HasWork x k) (sym b) h.0.work;
     standing =
         subst (λ (x : Option Program). IsStanding x u.begun u.suspended k) (sym w)
-        (subst (λ (x : Option Begun). IsStanding s.waiting x u.suspended k) (sym b)
-        (subst (λ (x : Option Standing). IsStanding s.waiting s.begun x k) (sym q) h.0.standing));
+        (subst (λ (x : Option ActiveProgram). IsStanding s.waiting x u.suspended k) (sym b)
+        (subst (λ (x : Option ProgramPosition). IsStanding s.waiting s.begun x k) (sym q) h.0.standing));
   },
   h.1,
 )
 
 -- all programs are over
-without-kept : (s : SubchannelState) (k : Option Story) → KeptBy s k → KeptBy (without_programs s) k
+without-kept : (s : SubchannelState) (k : Option ProgramTrace) → KeptBy s k → KeptBy (without_programs s) k
 without-kept s None h = record { phase = h.phase; begun = refl; suspended = refl }
 without-kept s (Some k) h = (without-held s k h.0, h.1)
 
 -- the one that waits is, or where none does the one that is suspended
-over-kept : (s : SubchannelState) (w : Option Program) (k : Option Story) → s.waiting ≡ w → KeptBy s k → KeptBy (without_waiting w s) k
+over-kept : (s : SubchannelState) (w : Option Program) (k : Option ProgramTrace) → s.waiting ≡ w → KeptBy s k → KeptBy (without_waiting w s) k
 over-kept s None None e h = record { phase = h.phase; begun = h.begun; suspended = refl }
 over-kept s None (Some k) e h = (record { number = h.0.number; phase = h.0.phase; drawn = h.0.drawn; work = h.0.work; standing = tt }, h.1)
 over-kept s (Some program) None e h = record { phase = h.phase; begun = h.begun; suspended = h.suspended }
@@ -179,50 +179,50 @@ over-kept s (Some program) (Some k) e h = (
   h.1,
 )
 
-choose-held : (sub : Subchannel) (k : Option Story) (c : Chosen) → Suits c sub.state → KeptBy sub.state k →
+choose-held : (sub : Subchannel) (k : Option ProgramTrace) (c : Chosen) → Suits c sub.state → KeptBy sub.state k →
     IfOk (choose_sub sub c) (λ t. KeptBy t.sub.state (chosen_at (Some sub) t.reply k))
 choose-held sub k Idle o h = h
 choose-held sub k (Resets r path) o h =
     if-ok (λ t. KeptBy t.sub.state (chosen_at (Some sub) t.reply k)) (is_full sub.wires.down path) (Err fault.WireFull) _ tt
     (same-kept sub.state (reset_sent sub.state path) k (reset-phase sub.state.hold sub.state.hold.phase path) refl refl refl refl h)
-choose-held sub k Clears o h = same-kept sub.state (with_cause sub.state cause.ClearDone) k refl refl refl refl refl h
+choose-held sub k PerformsClear o h = same-kept sub.state (with_cause sub.state cause.ClearDone) k refl refl refl refl refl h
 choose-held sub k (Halts t path) o h =
     if-ok (λ t. KeptBy t.sub.state (chosen_at (Some sub) t.reply k)) (is_full sub.wires.down path) (Err fault.WireFull) _ tt
     (same-kept sub.state (halt_sent sub.state) k refl refl refl refl refl h)
-choose-held sub k Ends o h =
+choose-held sub k PerformsHalt o h =
     same-kept (without_programs sub.state) (with_cause sub.state cause.HaltDone) k refl refl refl refl refl (without-kept sub.state k h)
-choose-held sub k Over o h =
+choose-held sub k FindsNoPath o h =
     same-kept (without_waiting sub.state.waiting sub.state) (with_cause sub.state cause.NoPath) k refl refl refl refl refl (over-kept sub.state sub.state.waiting k refl h)
 choose-held sub k (Offers c path) o h =
     if-ok (λ t. KeptBy t.sub.state (chosen_at (Some sub) t.reply k)) (is_full sub.wires.down path) (Err fault.WireFull) _ tt
     (found-held sub c.program path c.resumes k (none-begun sub.state k (kept-held sub.state k h) o.fits) o.found h)
 
-pub chosen-held : (sub : Subchannel) (k : Option Story) (choice : Option ℕ) (t : SubTurn) → Suits (chosen sub choice) sub.state → choose_sub sub (chosen sub choice) ≡ Ok t → KeptBy sub.state k →
+pub chosen-held : (sub : Subchannel) (k : Option ProgramTrace) (choice : Option ℕ) (t : SubTurn) → Suits (chosen sub choice) sub.state → choose_sub sub (chosen sub choice) ≡ Ok t → KeptBy sub.state k →
     KeptBy t.sub.state (chosen_at (Some sub) t.reply k)
 chosen-held sub k choice t f e h =
     subst (λ (r : Result SubTurn Fault). IfOk r (λ t. KeptBy t.sub.state (chosen_at (Some sub) t.reply k))) e
     (choose-held sub k (chosen sub choice) f h)
 
 -- the unit's doings leave it
-untaken-held : (s : SubchannelState) (k : Story) (taken : List ℕ) (absorbed : List ℕ) → IsKept s k → IsKept s (record k { taken = taken; absorbed = absorbed })
+untaken-held : (s : SubchannelState) (k : ProgramTrace) (taken : List ℕ) (absorbed : List ℕ) → IsKept s k → IsKept s (record k { taken = taken; absorbed = absorbed })
 untaken-held s k taken absorbed h = (
   record { number = h.0.number; phase = h.0.phase; drawn = h.0.drawn; work = work s.begun h.0.work; standing = stands s.waiting s.begun s.suspended h.0.standing },
   h.1,
 )
   where
-    stands : (w : Option Program) (b : Option Begun) (st : Option Standing) → IsStanding w b st k → IsStanding w b st (record k { taken = taken; absorbed = absorbed })
+    stands : (w : Option Program) (b : Option ActiveProgram) (st : Option ProgramPosition) → IsStanding w b st k → IsStanding w b st (record k { taken = taken; absorbed = absorbed })
     stands w b None x = tt
     stands w b (Some st) x = x
 
-    work : (b : Option Begun) → HasWork b k → HasWork b (record k { taken = taken; absorbed = absorbed })
+    work : (b : Option ActiveProgram) → HasWork b k → HasWork b (record k { taken = taken; absorbed = absorbed })
     work None w = w
     work (Some b) w = w
 
-takes-if : (s : SubchannelState) (k : Story) (code : ℕ) (b : Bool) → IsKept s k → IsKept s (if b then record k { taken = code ∷ k.taken; absorbed = [] } else k)
+takes-if : (s : SubchannelState) (k : ProgramTrace) (code : ℕ) (b : Bool) → IsKept s k → IsKept s (if b then record k { taken = code ∷ k.taken; absorbed = [] } else k)
 takes-if s k code true h = untaken-held s k (code ∷ k.taken) [] h
 takes-if s k code false h = h
 
-takes-held : (s : SubchannelState) (d : Down) (k : Story) → IsKept s k → IsKept s (takes d k)
+takes-held : (s : SubchannelState) (d : Down) (k : ProgramTrace) → IsKept s k → IsKept s (takes d k)
 takes-held s (down.Select t) k h = h
 takes-held s (down.Command t n code room) k h = takes-if s k code (t == k.number) h
 takes-held s (down.Grant t c) k h = h
@@ -234,13 +234,13 @@ takes-held s (down.Release t) k h = h
 takes-held s (down.Reset r b) k h = h
 takes-held s (down.Got a) k h = h
 
-taken-held : (s : SubchannelState) (d : Down) (came : Bool) (sent : Option (OnPath Up)) (k : Option Story) → KeptBy s k → KeptBy s (taken_at (reply.Down d came sent) k)
+taken-held : (s : SubchannelState) (d : Down) (came : Bool) (sent : Option (OnPath Up)) (k : Option ProgramTrace) → KeptBy s k → KeptBy s (taken_at (reply.Down d came sent) k)
 taken-held s d false sent k h = h
 taken-held s d true (Some x) k h = h
 taken-held s d true None None h = h
 taken-held s d true None (Some k) h = takes-held s d k h
 
-down_front-held : (may : Bool) → (sub : Subchannel) (path : ℕ) (u : UnitState) (front : Option Down) (k : Option Story) → KeptBy sub.state k →
+down_front-held : (may : Bool) → (sub : Subchannel) (path : ℕ) (u : UnitState) (front : Option Down) (k : Option ProgramTrace) → KeptBy sub.state k →
     IfOk (down_front may sub path u front) (λ t. KeptBy t.sub.state (taken_at t.reply k))
 down_front-held may sub path u None k h = tt
 down_front-held may sub path u (Some d) k h =
@@ -248,13 +248,13 @@ down_front-held may sub path u (Some d) k h =
     if-ok (λ t. KeptBy t.sub.state (taken_at t.reply k)) (finds_full sub.wires.up (unit_table.came_of step).sent) (Err fault.WireFull) _ tt
     (taken-held sub.state d (unit_table.came_of step).taken (unit_table.came_of step).sent k h)
 
-pub sunk-held : (may : Bool) → (sub : Subchannel) (path : ℕ) (u : UnitState) (t : DownTurn) (k : Option Story) → down_sub may sub path u ≡ Ok t → KeptBy sub.state k → KeptBy t.sub.state (taken_at t.reply k)
+pub sunk-held : (may : Bool) → (sub : Subchannel) (path : ℕ) (u : UnitState) (t : DownTurn) (k : Option ProgramTrace) → down_sub may sub path u ≡ Ok t → KeptBy sub.state k → KeptBy t.sub.state (taken_at t.reply k)
 sunk-held may sub path u t k e h =
     subst (λ (r : Result DownTurn Fault). IfOk r (λ t. KeptBy t.sub.state (taken_at t.reply k))) e
     (if-ok (λ t. KeptBy t.sub.state (taken_at t.reply k)) (nat_lt path (length sub.setup.paths)) (down_front may sub path u (slice_get (queue sub.wires.down path) 0)) (Err fault.NoSuchPath)
     (down_front-held may sub path u (slice_get (queue sub.wires.down path) 0) k h) tt)
 
-absorbs-held : (s : SubchannelState) (count : ℕ) (x : Option AtHand) (k : Story) → IsKept s k → IsKept s (absorbs count x k)
+absorbs-held : (s : SubchannelState) (count : ℕ) (x : Option AtHand) (k : ProgramTrace) → IsKept s k → IsKept s (absorbs count x k)
 absorbs-held s count None k h = h
 absorbs-held s count (Some x) k h = by x.given
   where
@@ -262,28 +262,28 @@ absorbs-held s count (Some x) k h = by x.given
     by None = h
     by (Some bytes) = untaken-held s k k.taken (k.absorbed ++ take count bytes) h
 
-report-if : (s : SubchannelState) (count : ℕ) (x : Option AtHand) (k : Story) (b : Bool) → IsKept s k → IsKept s (if b then absorbs count x k else k)
+report-if : (s : SubchannelState) (count : ℕ) (x : Option AtHand) (k : ProgramTrace) (b : Bool) → IsKept s k → IsKept s (if b then absorbs count x k else k)
 report-if s count x k true h = absorbs-held s count x k h
 report-if s count x k false h = h
 
-reported-held : (s : SubchannelState) (u : UnitState) (report : Report) (a : DeviceAnswer) (k : Story) → IsKept s k → IsKept s (reported u report a k)
+reported-held : (s : SubchannelState) (u : UnitState) (report : Report) (a : DeviceAnswer) (k : ProgramTrace) → IsKept s k → IsKept s (reported u report a k)
 reported-held s u report answer.Begins k h = h
 reported-held s u report (answer.Absorbed count) k h = report-if s count u.at_hand k (report.number == k.number) h
 reported-held s u report (answer.Supplied bytes) k h = h
 reported-held s u report answer.Again k h = h
 reported-held s u report (answer.Ended status more) k h = h
 
-reported_at-held : (s : SubchannelState) (u : UnitState) (report : Report) (k : Option Story) → KeptBy s k → KeptBy s (reported_at (Some u) report k)
+reported_at-held : (s : SubchannelState) (u : UnitState) (report : Report) (k : Option ProgramTrace) → KeptBy s k → KeptBy s (reported_at (Some u) report k)
 reported_at-held s u report None h = h
 reported_at-held s u report (Some k) h = reported-held s u report report.answer k h
 
-report_taken-held : (sub : Subchannel) (u : UnitState) (report : Report) (step : Option UnitStep) (k : Option Story) → KeptBy sub.state k →
+report_taken-held : (sub : Subchannel) (u : UnitState) (report : Report) (step : Option UnitStep) (k : Option ProgramTrace) → KeptBy sub.state k →
     IfOk (report_taken sub step) (λ t. KeptBy t.sub.state (reported_at (Some u) report k))
 report_taken-held sub u report None k h = tt
 report_taken-held sub u report (Some step) k h =
     if-ok (λ t. KeptBy t.sub.state (reported_at (Some u) report k)) (finds_full sub.wires.up step.sent) (Err fault.WireFull) _ tt (reported_at-held sub.state u report k h)
 
-pub told-held : (sub : Subchannel) (u : UnitState) (report : Report) (t : DownTurn) (k : Option Story) → report_sub sub u report ≡ Ok t → KeptBy sub.state k →
+pub told-held : (sub : Subchannel) (u : UnitState) (report : Report) (t : DownTurn) (k : Option ProgramTrace) → report_sub sub u report ≡ Ok t → KeptBy sub.state k →
     KeptBy t.sub.state (reported_at (Some u) report k)
 told-held sub u report t k e h =
     subst (λ (r : Result DownTurn Fault). IfOk r (λ t. KeptBy t.sub.state (reported_at (Some u) report k))) e (report_taken-held sub u report (unit_reports u report) k h)
@@ -312,7 +312,7 @@ freed-if s true u = record { phase = u.phase; begun = u.begun; suspended = u.sus
 freed-if s false u = u
 
 cleared-if : (s : SubchannelState) (b : Bool) → IsUntold s →
-    IsUntold (reset_taken s (if b then Some (hold_table.quietly (record s.hold { phase = hold.Free; reset_path = None })) else None)).state
+    IsUntold (reset_taken s (if b then Some (hold_table.hold_quietly (record s.hold { phase = hold.Free; reset_path = None })) else None)).state
 cleared-if s true u =
     freed-if (record s { hold = record s.hold { phase = hold.Free; reset_path = None } }) s.scsw.activity.clear_pending
     (record { phase = tt; begun = u.begun; suspended = u.suspended })
@@ -333,7 +333,7 @@ module _ (laws : AreLaws) (accesses : AreAccesses) where
   unmet s f u x y = unheld-by s f s.hold.phase u.phase x y
 
   pub untold-met : (returns : Bool) → (storage : Contents) (s : SubchannelState) (p : ℕ) (signal : Up) → IsUntold s → IsUntold (takes_up returns storage s p signal).step.state
-  untold-met returns storage s p (up.Accept t) u = unmet s (λ x. (taking.accept storage s (hold_table.accepted s.hold x t (goes_ahead s))).state) u u (λ r. u)
+  untold-met returns storage s p (up.Accept t) u = unmet s (λ x. (taking.accept storage s (hold_table.offer_accepted s.hold x t (goes_ahead s))).state) u u (λ r. u)
   untold-met returns storage s p (up.Busy t) u = unmet s (λ x. (by_hold s (hold_table.found_busy s.hold x t)).state) u u (λ r. u)
   untold-met returns storage s p (up.Leave t c) u = unmet s (λ x. (by_hold s (hold_table.left s.hold x t c)).state) u u (λ r. u)
   untold-met returns storage s p (up.Back t c) u = unmet s (λ x. (taking.back s p (hold_table.asked_back s.hold x p t c returns)).state) u u (λ r. u)
@@ -342,24 +342,24 @@ module _ (laws : AreLaws) (accesses : AreAccesses) where
   untold-met returns storage s p (up.End t n status more) u =
       unmet s (λ x. (if is_on x t then taking.end_of storage s s.begun (record { path = p; number = t; command = n; status = status; more = more }) else taking.ignoring s).state) u u (λ r. u)
   untold-met returns storage s p (up.Released t) u = unmet s (λ x. (by_hold s (hold_table.released s.hold x t)).state) u u (λ r. u)
-  untold-met returns storage s p (up.Cleared r) u = unmet s (λ x. (reset_taken s (hold_table.cleared s.hold x r)).state) u u (λ q. cleared-if s (r == q) u)
+  untold-met returns storage s p (up.Cleared r) u = unmet s (λ x. (reset_taken s (hold_table.reset_cleared s.hold x r)).state) u u (λ q. cleared-if s (r == q) u)
   untold-met returns storage s p (up.Notice b) u = noticed-untold s b (nat_lt s.hold.known b) u
   untold-met returns storage s p (up.Attn a status) u =
       unmet s (λ x. (taking.attend s status (hold_table.attended s.hold x p a (taking.may_attend s))).state) u
       (attended-untold s p a status (taking.may_attend s) u) (λ r. u)
 
-  any-met : (returns : Bool) → (storage : Contents) (s : SubchannelState) (p : ℕ) (signal : Up) (k : Option Story) → KeptBy s k → KeptBy (takes_up returns storage s p signal).step.state (met_with storage s p (Some signal) k)
+  any-met : (returns : Bool) → (storage : Contents) (s : SubchannelState) (p : ℕ) (signal : Up) (k : Option ProgramTrace) → KeptBy s k → KeptBy (takes_up returns storage s p signal).step.state (met_with storage s p (Some signal) k)
   any-met returns storage s p signal None h = untold-met returns storage s p signal h
   any-met returns storage s p signal (Some k) h = (signal-held laws accesses returns storage s p signal k h.0, meets-copied accesses storage s p signal k h.1)
 
-  up_front-held : (returns : Bool) → (storage : Contents) (sub : Subchannel) (path : ℕ) (front : Option Up) (k : Option Story) → KeptBy sub.state k →
+  up_front-held : (returns : Bool) → (storage : Contents) (sub : Subchannel) (path : ℕ) (front : Option Up) (k : Option ProgramTrace) → KeptBy sub.state k →
       IfOk (up_front returns storage sub path front) (λ t. KeptBy t.sub.state (met_with storage sub.state path front k))
   up_front-held returns storage sub path None k h = tt
   up_front-held returns storage sub path (Some signal) k h =
       if-ok (λ t. KeptBy t.sub.state (met_with storage sub.state path (Some signal) k)) (finds_full sub.wires.down (takes_up returns storage sub.state path signal).step.came.sent) (Err fault.WireFull) _ tt
       (any-met returns storage sub.state path signal k h)
 
-  pub met-held : (returns : Bool) → (storage : Contents) (sub : Subchannel) (path : ℕ) (t : UpTurn) (k : Option Story) → up_sub returns storage sub path ≡ Ok t → KeptBy sub.state k →
+  pub met-held : (returns : Bool) → (storage : Contents) (sub : Subchannel) (path : ℕ) (t : UpTurn) (k : Option ProgramTrace) → up_sub returns storage sub path ≡ Ok t → KeptBy sub.state k →
       KeptBy t.sub.state (met_at storage (Some sub) path k)
   met-held returns storage sub path t k e h =
       subst (λ (r : Result UpTurn Fault). IfOk r (λ t. KeptBy t.sub.state (met_at storage (Some sub) path k))) e
@@ -367,29 +367,29 @@ module _ (laws : AreLaws) (accesses : AreAccesses) where
       (up_front-held returns storage sub path (slice_get (queue sub.wires.up path) 0) k h) tt)
 
   -- whatever happens
-  same-held : (old new : Subchannel) (f : Option Story → Option Story) (k : Option Story) → new ≡ old → f k ≡ k → KeptBy old.state k → KeptBy new.state (f k)
-  same-held old new f k e g h = subst (λ (x : Option Story). KeptBy new.state x) (sym g) (subst (λ (x : Subchannel). KeptBy x.state k) (sym e) h)
+  same-held : (old new : Subchannel) (f : Option ProgramTrace → Option ProgramTrace) (k : Option ProgramTrace) → new ≡ old → f k ≡ k → KeptBy old.state k → KeptBy new.state (f k)
+  same-held old new f k e g h = subst (λ (x : Option ProgramTrace). KeptBy new.state x) (sym g) (subst (λ (x : Subchannel). KeptBy x.state k) (sym e) h)
 
   -- an instruction
-  started-held : (s : SubchannelState) (orb : Orb) (k : Option Story) → KeptBy s k → KeptBy (started s orb) k
+  started-held : (s : SubchannelState) (orb : Orb) (k : Option ProgramTrace) → KeptBy s k → KeptBy (started s orb) k
   started-held s orb None h = record { phase = h.phase; begun = h.begun; suspended = refl }
   started-held s orb (Some k) h = (record { number = h.0.number; phase = h.0.phase; drawn = h.0.drawn; work = h.0.work; standing = tt }, h.1)
 
-  tested-held : (s : SubchannelState) (k : Option Story) → KeptBy s k → KeptBy (tested_wholly s) k
+  tested-held : (s : SubchannelState) (k : Option ProgramTrace) → KeptBy s k → KeptBy (tested_wholly s) k
   tested-held s k h = by (ends_suspended s.scsw)
     where
       by : (b : Bool) → KeptBy (if b then without_programs (tested s) else tested s) k
       by true = same-kept (without_programs s) (without_programs (tested s)) k refl refl refl refl refl (without-kept s k h)
       by false = same-kept s (tested s) k refl refl refl refl refl h
 
-  halted-kept : (s : SubchannelState) (k : Option Story) → KeptBy s k → KeptBy (halted s) k
+  halted-kept : (s : SubchannelState) (k : Option ProgramTrace) → KeptBy s k → KeptBy (halted s) k
   halted-kept s k h = by (drops_status s.scsw)
     where
-      by : (b : Bool) → KeptBy (if b then dropped (halting s) else halting s) k
-      by true = same-kept s (dropped (halting s)) k refl refl refl refl refl h
-      by false = same-kept s (halting s) k refl refl refl refl refl h
+      by : (b : Bool) → KeptBy (if b then status_dropped (halt_begun s) else halt_begun s) k
+      by true = same-kept s (status_dropped (halt_begun s)) k refl refl refl refl refl h
+      by false = same-kept s (halt_begun s) k refl refl refl refl refl h
 
-  cleared-kept : (s : SubchannelState) (k : Option Story) → KeptBy s k → KeptBy (cleared s) k
+  cleared-kept : (s : SubchannelState) (k : Option ProgramTrace) → KeptBy s k → KeptBy (cleared s) k
   cleared-kept s None h = record { phase = omega arith; begun = refl; suspended = refl }
   cleared-kept s (Some k) h =
       let n : k.number ≤ s.drawn = h.0.number in (
@@ -397,17 +397,17 @@ module _ (laws : AreLaws) (accesses : AreAccesses) where
         h.1,
       )
 
-  cancelled-held : (s : SubchannelState) (k : Option Story) → KeptBy s k → KeptBy (cancelled s) k
+  cancelled-held : (s : SubchannelState) (k : Option ProgramTrace) → KeptBy s k → KeptBy (cancelled s) k
   cancelled-held s None h = record { phase = h.phase; begun = h.begun; suspended = refl }
   cancelled-held s (Some k) h = (record { number = h.0.number; phase = h.0.phase; drawn = h.0.drawn; work = h.0.work; standing = tt }, h.1)
 
-  told : (new : Subchannel) (s : SubchannelState) (f : Option Story → Option Story) (k next : Option Story) → new.state ≡ s → f k ≡ next → KeptBy s next → KeptBy new.state (f k)
-  told new s f k next e g h = subst (λ (x : Option Story). KeptBy new.state x) (sym g) (subst (λ (x : SubchannelState). KeptBy x next) (sym e) h)
+  told : (new : Subchannel) (s : SubchannelState) (f : Option ProgramTrace → Option ProgramTrace) (k next : Option ProgramTrace) → new.state ≡ s → f k ≡ next → KeptBy s next → KeptBy new.state (f k)
+  told new s f k next e g h = subst (λ (x : Option ProgramTrace). KeptBy new.state x) (sym g) (subst (λ (x : SubchannelState). KeptBy x next) (sym e) h)
 
   abbrev state-of : Subchannel → SubchannelState
   state-of x = x.state
 
-  pub happens-held : (storage : Contents) (old new : Subchannel) (u v : Option UnitState) (f : Option Story → Option Story) → Happening storage old new u v f → (k : Option Story) →
+  pub happens-held : (storage : Contents) (old new : Subchannel) (u v : Option UnitState) (f : Option ProgramTrace → Option ProgramTrace) → PlaceStep storage old new u v f → (k : Option ProgramTrace) →
       KeptBy old.state k → KeptBy new.state (f k)
   happens-held storage old new u v f (Stays e w g) k h = same-held old new f k e (g k) h
   happens-held storage old new u v f (Starts_with_orb orb e w g) k h = told new (started old.state orb) f k k (ap state-of e) (g k) (started-held old.state orb k h)
@@ -435,11 +435,11 @@ module _ (laws : AreLaws) (accesses : AreAccesses) where
   free-untold sub setup e = subst (λ (x : Subchannel). IsUntold x.state) e (record { phase = tt; begun = refl; suspended = refl })
 
   pub run-held : (setup : Setup) → IsLawful setup → (h : List Entry) (s : State) (run : Run (opening_of setup) h s) (place : ℕ) (sub : Subchannel) → slice_get s.subs place ≡ Some sub →
-      KeptBy sub.state (story place (opening_of setup) h s run)
+      KeptBy sub.state (trace place (opening_of setup) h s run)
   run-held setup lawful _ _ Opened place sub e =
       let a : (s : SubchannelSetup) × (slice_get setup.subchannels place ≡ Some s) × (opened s ≡ sub) = map-get opened setup.subchannels place sub e in
       free-untold sub a.0 a.2
   run-held setup lawful _ _ (Stepped h old e r new run step) place sub at =
       let a = step-happens old (run-one-sided laws.walks setup lawful h old run) place e r new (laws.walks old e r new step) sub at in
-      happens-held old.storage a.0 sub (slice_get old.units a.0.setup.«unit») (slice_get new.units a.0.setup.«unit») (story_after place old e r) a.3
-      (story place (opening_of setup) h old run) (run-held setup lawful h old run place a.0 a.1)
+      happens-held old.storage a.0 sub (slice_get old.units a.0.setup.«unit») (slice_get new.units a.0.setup.«unit») (trace_after place old e r) a.3
+      (trace place (opening_of setup) h old run) (run-held setup lawful h old run place a.0 a.1)

@@ -13,7 +13,7 @@ use Rattle.subchannel_model.specs.declared.state.Program.{Program}
 use Rattle.subchannel_model.specs.declared.state.SubchannelState.{SubchannelState}
 use Rattle.subchannel_model.specs.Opening.{opening_subchannel}
 use Rattle.subchannel_model.specs.Taking.{takes_up}
-use Rattle.program_laws.specs.Stories.{Story, offered, resumed, meets}
+use Rattle.program_laws.specs.Traces.{ProgramTrace, trace_offered, trace_resumed, trace_meets}
 use Rattle.program_laws.specs.Claims.{codes}
 
 -- at 8 a block of format 1: code 1, count 2, address 16
@@ -57,18 +57,18 @@ offered_state = record opening_subchannel { drawn = 1; starts = 1; offered = 1; 
 abbrev sent_state : SubchannelState
 sent_state = (takes_up false storage offered_state 0 (up.Accept 1)).step.state
 
-abbrev sent_story : Story
-sent_story = meets storage offered_state 0 (up.Accept 1) (offered 1 orb)
+abbrev sent_story : ProgramTrace
+sent_story = trace_meets storage offered_state 0 (up.Accept 1) (trace_offered 1 orb)
 
 -- the device asks for bytes, and absorbs them
 abbrev given_state : SubchannelState
 given_state = (takes_up false storage sent_state 0 (up.Data 1 0 1 0 (load.Absorbed 0))).step.state
 
-abbrev given_story : Story
-given_story = meets storage sent_state 0 (up.Data 1 0 1 0 (load.Absorbed 0)) sent_story
+abbrev given_story : ProgramTrace
+given_story = trace_meets storage sent_state 0 (up.Data 1 0 1 0 (load.Absorbed 0)) sent_story
 
-abbrev moved_story : Story
-moved_story = meets storage given_state 0 (up.Data 1 0 1 1 (load.Absorbed 2)) given_story
+abbrev moved_story : ProgramTrace
+moved_story = trace_meets storage given_state 0 (up.Data 1 0 1 1 (load.Absorbed 2)) given_story
 
 example_sent : sent_story.sent ≡ 1
 unfolding storage
@@ -110,8 +110,8 @@ waiting_state = record offered_state { waiting = Some (record program { orb = su
 abbrev working_state : SubchannelState
 working_state = (takes_up false marked waiting_state 0 (up.Accept 1)).step.state
 
-abbrev working_story : Story
-working_story = meets marked waiting_state 0 (up.Accept 1) (offered 1 suspendable)
+abbrev working_story : ProgramTrace
+working_story = trace_meets marked waiting_state 0 (up.Accept 1) (trace_offered 1 suspendable)
 
 abbrev ended : DeviceStatus
 ended = record { 0 = 0x0C }
@@ -119,14 +119,14 @@ ended = record { 0 = 0x0C }
 abbrev suspended_state : SubchannelState
 suspended_state = (takes_up false marked working_state 0 (up.End 1 1 ended false)).step.state
 
-abbrev suspended_story : Story
-suspended_story = meets marked working_state 0 (up.End 1 1 ended false) working_story
+abbrev suspended_story : ProgramTrace
+suspended_story = trace_meets marked working_state 0 (up.End 1 1 ended false) working_story
 
 abbrev resumed_state : SubchannelState
 resumed_state = record suspended_state { drawn = 2; hold = record free_hold { phase = hold.Offer 2 0 } }
 
-abbrev resumed_story : Story
-resumed_story = meets unmarked resumed_state 0 (up.Accept 2) (resumed 2 suspended_story)
+abbrev resumed_story : ProgramTrace
+resumed_story = trace_meets unmarked resumed_state 0 (up.Accept 2) (trace_resumed 2 suspended_story)
 
 example_suspended : is_some suspended_state.suspended ≡ true
 unfolding stored

@@ -21,33 +21,33 @@ use Rattle.channel_program.specs.declared.check.Check.{Check}
 use Rattle.channel_program.specs.declared.Ended.{Ended}
 use Rattle.channel_program.specs.Acts.{Act, End}
 use Rattle.channel_program.specs.Programs.{IsProgram, role_of, commands}
-use Rattle.channel_program.specs.Walks.{Place, place, after_end}
+use Rattle.channel_program.specs.Walks.{WalkPlace, walk_place, walk_after_end}
 use Rattle.idaw.specs.Lists.{block, kind_of}
-use Rattle.idaw.specs.Places.{places}
+use Rattle.idaw.specs.Places.{places_of_bytes}
 use Rattle.data_move.specs.Moving.{residual}
 use Rattle.transfer.specs.declared.Transfer.{Transfer}
 use Rattle.transfer.specs.declared.Beginning.{Beginning}
-use Rattle.transfer.specs.declared.Came.{Came}
-use Rattle.transfer.specs.declared.Came.TheVariants as came
+use Rattle.transfer.specs.declared.CommandStart.{CommandStart}
+use Rattle.transfer.specs.declared.CommandStart.TheVariants as came
 use Rattle.transfer.specs.Commands.{first_command, next_command, goes_to, begun_with_room, with_room}
-use Rattle.transfer.specs.Chunks.{absorbed, next_given, brought, is_answered}
+use Rattle.transfer.specs.Chunks.{taken_by_device, next_given, brought, is_answered}
 use Rattle.subchannel_model.specs.declared.signals.DataSignal.{DataSignal}
 use Rattle.subchannel_model.specs.declared.signals.EndSignal.{EndSignal}
-use Rattle.subchannel_model.specs.declared.state.Begun.{Begun}
+use Rattle.subchannel_model.specs.declared.state.ActiveProgram.{ActiveProgram}
 use Rattle.subchannel_model.specs.declared.state.Program.{Program}
 use Rattle.subchannel_model.specs.declared.state.SubchannelState.{SubchannelState}
-use Rattle.subchannel_model.specs.declared.state.Standing.{Standing}
-use Rattle.subchannel_model.specs.declared.cause.Cause.TheVariants as cause
+use Rattle.subchannel_model.specs.declared.state.ProgramPosition.{ProgramPosition}
+use Rattle.subchannel_model.specs.declared.cause.StatusCause.TheVariants as cause
 use Rattle.subchannel_model.specs.Ends.{has_status_modifier, chains_command, breaks_chain, shows_length, has_unit_exception, has_shown, end_shown}
 use Rattle.subchannel_model.specs.Causes as causes
 use Rattle.subchannel_model.specs.Causes.{with_cause, with_row, without_begun, fetch_fault_shown}
 use Rattle.subchannel_model.specs.Taking as taking
-use Rattle.subchannel_model.specs.Taking.{takes_up, goes_ahead, with_path, let_go, bytes_of, with_end, without_interruption, interrupted, taking_over, from_start, suspended_as, standing_as, standing_still, suspended_alone, suspending}
-use Rattle.program_laws.specs.Doings.{Part, no_part, with_acts, goes_acts, first_acts, next_acts, gives, takes_in}
-use Rattle.program_laws.specs.Stories as stories
-use Rattle.program_laws.specs.Stories.{Story, past_part, meets}
+use Rattle.subchannel_model.specs.Taking.{takes_up, goes_ahead, path_used, let_go, bytes_of_load, with_end, without_pci, interrupted, taking_over, from_start, suspended_as, standing_as, standing_still, suspended_alone, suspending}
+use Rattle.program_laws.specs.CommandActs.{CommandTrace, no_trace, with_acts, goes_acts, first_acts, next_acts, gives, takes_in}
+use Rattle.program_laws.specs.Traces as stories
+use Rattle.program_laws.specs.Traces.{ProgramTrace, past_part, trace_meets}
 use Rattle.program_laws.specs.Claims.{IsBeginning, places_of, places_arrived}
-use Rattle.program_laws.specs.Reaches.{reaches}
+use Rattle.program_laws.specs.DataAreas.{data_areas}
 use Rattle.program_laws.proofs.Accesses.{AreAccesses}
 use Rattle.program_laws.proofs.Ties.{AreLaws, Tied, changed}
 use Rattle.program_laws.proofs.Parts.{IsDone, IsAtWork, done-of, arrived-none, gives-work, takes_in-work, WentOn, goes-on, IsSame, absorbed-same, next_given-same, located-same, brought-same, room-same}
@@ -56,10 +56,10 @@ use Rattle.program_laws.proofs.Holds.{IsPhase, IsDrawn, HasWork, IsStanding, IsH
 
 module _ (laws : AreLaws) (accesses : AreAccesses) where
   -- the program is over or suspended, where a command can't begin
-  over-done : (orb : Orb) (before acts : List Act) (p : Part) → IsProgram orb acts → reaches orb acts ≡ reaches orb before → reaches orb before ≡ reaches orb p.acts →
+  over-done : (orb : Orb) (before acts : List Act) (p : CommandTrace) → IsProgram orb acts → data_areas orb acts ≡ data_areas orb before → data_areas orb before ≡ data_areas orb p.acts →
       IsDone orb p → IsDone orb (record p { acts = acts })
   over-done orb before acts p w f e d =
-      let same : places_of orb acts ≡ places_of orb p.acts = ap (places (block (kind_of orb))) (f ∙ e) in
+      let same : places_of orb acts ≡ places_of orb p.acts = ap (places_of_bytes (block (kind_of orb))) (f ∙ e) in
       record {
         program = w;
         moves = subst (λ (xs : List (Option ℕ)). IsBeginning p.moved xs) (sym same) d.moves;
@@ -68,31 +68,31 @@ module _ (laws : AreLaws) (accesses : AreAccesses) where
       }
 
   -- an interruption by the program
-  interrupted-if : (s : SubchannelState) (b : Begun) (k : Story) (x : Bool) → s.begun ≡ Some b → IsHeld s k →
-      IsHeld (if x then with_cause (record s { begun = Some (without_interruption b) }) (cause.Interruption b.transfer.walk.tried (residual b.transfer.moving)) else s) k
+  interrupted-if : (s : SubchannelState) (b : ActiveProgram) (k : ProgramTrace) (x : Bool) → s.begun ≡ Some b → IsHeld s k →
+      IsHeld (if x then with_cause (record s { begun = Some (without_pci b) }) (cause.Pci b.transfer.walk.tried (residual b.transfer.moving)) else s) k
   interrupted-if s b k true e h =
-      let w : HasWork (Some b) k = subst (λ (x : Option Begun). HasWork x k) e h.work in
-      let t : Transfer = record b.transfer { interrupts = false } in
+      let w : HasWork (Some b) k = subst (λ (x : Option ActiveProgram). HasWork x k) e h.work in
+      let t : Transfer = record b.transfer { pci_pending = false } in
       record {
         number = h.number;
-        phase = phase-some s.hold.phase k.number b (without_interruption b) k.sent k.sent (subst (λ (x : Option Begun). IsPhase s.hold.phase k.number x k.sent) e h.phase);
+        phase = phase-some s.hold.phase k.number b (without_pci b) k.sent k.sent (subst (λ (x : Option ActiveProgram). IsPhase s.hold.phase k.number x k.sent) e h.phase);
         drawn = h.drawn;
         work = (
           record { tied = changed k.earlier k.orb k.now.acts k.now.moved b.transfer t refl refl refl refl (λ y. y) (λ y. y) w.0.tied; arrived = w.0.arrived },
           w.1,
           w.2,
         );
-        standing = none-stands s.waiting (Some (without_interruption b)) s.suspended k (standing-some s.waiting s.begun b s.suspended k e h.standing);
+        standing = none-stands s.waiting (Some (without_pci b)) s.suspended k (standing-some s.waiting s.begun b s.suspended k e h.standing);
       }
   interrupted-if s b k false e h = h
 
-  interrupted-held : (s : SubchannelState) (b : Option Begun) (k : Story) → s.begun ≡ b → IsHeld s k → IsHeld (interrupted s b) k
+  interrupted-held : (s : SubchannelState) (b : Option ActiveProgram) (k : ProgramTrace) → s.begun ≡ b → IsHeld s k → IsHeld (interrupted s b) k
   interrupted-held s None k e h = h
-  interrupted-held s (Some b) k e h = interrupted-if s b k b.transfer.interrupts e h
+  interrupted-held s (Some b) k e h = interrupted-if s b k b.transfer.pci_pending e h
 
   -- the program is suspended, or over as a command can't begin
-  suspends-held : (s : SubchannelState) (program : Program) (walk : Place) (count : ℕ) (k : Story) → k.number ≤ s.drawn →
-      IsHold s.drawn k.number s.begun k.sent s.hold.phase → IsDone k.orb k.now → walk ≡ place k.orb k.now.acts → (role_of k.orb k.now.acts).chained ≡ false →
+  suspends-held : (s : SubchannelState) (program : Program) (walk : WalkPlace) (count : ℕ) (k : ProgramTrace) → k.number ≤ s.drawn →
+      IsHold s.drawn k.number s.begun k.sent s.hold.phase → IsDone k.orb k.now → walk ≡ walk_place k.orb k.now.acts → (role_of k.orb k.now.acts).chained ≡ false →
       IsHeld (let_go (suspending s program walk count)).state k
   suspends-held s program walk count k n p d w c = by program.orb.suppress_suspended
     where
@@ -103,31 +103,31 @@ module _ (laws : AreLaws) (accesses : AreAccesses) where
       by false =
           let_go-held (with_cause (standing_still s program walk count) (cause.Suspension walk.tried count)) k n (phase-none s.hold.phase k.number s.begun k.sent p.0, p.1) refl d (refl, refl, w, c)
 
-  abbrev fault-left : SubchannelState → Option Begun → ℕ → Check → ℕ → SubchannelState
+  abbrev fault-left : SubchannelState → Option ActiveProgram → ℕ → Check → ℕ → SubchannelState
   fault-left s b tried check count =
       with_row s (record { shown = fetch_fault_shown tried check count; left = without_begun b s; joins = s.scsw })
 
-  fault-by : (s : SubchannelState) (b : Option Begun) (tried : ℕ) (check : Check) (count : ℕ) (k : Story) → s.begun ≡ b → k.number ≤ s.drawn →
-      IsHold s.drawn k.number s.begun k.sent s.hold.phase → IsDone k.orb k.now → ((c : Begun) → s.begun ≡ Some c → s.suspended ≡ None) →
+  fault-by : (s : SubchannelState) (b : Option ActiveProgram) (tried : ℕ) (check : Check) (count : ℕ) (k : ProgramTrace) → s.begun ≡ b → k.number ≤ s.drawn →
+      IsHold s.drawn k.number s.begun k.sent s.hold.phase → IsDone k.orb k.now → ((c : ActiveProgram) → s.begun ≡ Some c → s.suspended ≡ None) →
       IsHeld (let_go (fault-left s b tried check count)).state k
   fault-by s None tried check count k e n p d f = let_go-held (fault-left s None tried check count) k n p e d tt
   fault-by s (Some b) tried check count k e n p d f =
       let_go-held (fault-left s (Some b) tried check count) k n (phase-none s.hold.phase k.number s.begun k.sent p.0, p.1) refl d (none-stands s.waiting None s.suspended k (f b e))
 
-  fault-held : (s : SubchannelState) (tried : ℕ) (check : Check) (count : ℕ) (k : Story) → k.number ≤ s.drawn → IsHold s.drawn k.number s.begun k.sent s.hold.phase →
-      IsDone k.orb k.now → ((c : Begun) → s.begun ≡ Some c → s.suspended ≡ None) → IsHeld (let_go (with_cause s (cause.FetchFault tried check count))).state k
+  fault-held : (s : SubchannelState) (tried : ℕ) (check : Check) (count : ℕ) (k : ProgramTrace) → k.number ≤ s.drawn → IsHold s.drawn k.number s.begun k.sent s.hold.phase →
+      IsDone k.orb k.now → ((c : ActiveProgram) → s.begun ≡ Some c → s.suspended ≡ None) → IsHeld (let_go (with_cause s (cause.FetchFault tried check count))).state k
   fault-held s tried check count k n p d f = fault-by s s.begun tried check count k refl n p d f
 
   -- Accept
-  on-hold : (s : SubchannelState) (t p n sent : ℕ) → s.hold.phase ≡ hold.On t p 0 → t ≡ n → (b : Option Begun) → IsHold s.drawn n b sent s.hold.phase
+  on-hold : (s : SubchannelState) (t p n sent : ℕ) → s.hold.phase ≡ hold.On t p 0 → t ≡ n → (b : Option ActiveProgram) → IsHold s.drawn n b sent s.hold.phase
   on-hold s t p n sent e f b = subst (λ (x : HoldPhase). IsHold s.drawn n b sent x) (sym e) (f, tt)
 
-  begins-held : (storage : Contents) (s : SubchannelState) (p t : ℕ) (st : Standing) (walk : Place) (k : Story) (c : Came) (acts : List Act) →
+  begins-held : (storage : Contents) (s : SubchannelState) (p t : ℕ) (st : ProgramPosition) (walk : WalkPlace) (k : ProgramTrace) (c : CommandStart) (acts : List Act) →
       WentOn k.earlier laws storage k.orb k.now.acts (acts ++ k.now.acts) 1 walk c → k.number ≤ s.drawn → s.hold.phase ≡ hold.On t p 0 → t ≡ k.number →
-      s.begun ≡ None → k.sent ≡ 0 → IsDone k.orb k.now → IsHeld (taking.beginning storage s p t st walk c).state (stories.goes_on c acts k)
+      s.begun ≡ None → k.sent ≡ 0 → IsDone k.orb k.now → IsHeld (taking.beginning storage s p t st walk c).state (stories.trace_goes_on c acts k)
   begins-held storage s p t st walk k (came.Begins transfer) acts w n on f z none d =
-      let b : Begun = record { program = st.program; primary_shown = false; transfer = (begun_with_room storage transfer).transfer } in
-      let new : Story = stories.goes_on (came.Begins transfer) acts k in
+      let b : ActiveProgram = record { program = st.program; primary_shown = false; transfer = (begun_with_room storage transfer).transfer } in
+      let new : ProgramTrace = stories.trace_goes_on (came.Begins transfer) acts k in
       let next : SubchannelState = taking_over s st.program (begun_with_room storage transfer).transfer in
       let x : IsHold s.drawn k.number (Some b) (k.sent + 1) s.hold.phase = on-hold s t p k.number (k.sent + 1) on f (Some b) in
       interrupted-held next (Some b) new refl
@@ -136,7 +136,7 @@ module _ (laws : AreLaws) (accesses : AreAccesses) where
         phase = x.0;
         drawn = x.1;
         work = (
-          record { tied = w.0; arrived = arrived-none (record no_part { acts = acts ++ k.now.acts }) (is_outward b.transfer.code) refl refl },
+          record { tied = w.0; arrived = arrived-none (record no_trace { acts = acts ++ k.now.acts }) (is_outward b.transfer.code) refl refl },
           (room-same storage transfer).1 ∙ w.1 ∙ (let y : 1 ≡ k.sent + 1 = omega (arith, none) in y),
           omega arith,
         );
@@ -150,60 +150,60 @@ module _ (laws : AreLaws) (accesses : AreAccesses) where
       (over-done k.orb k.now.acts (acts ++ k.now.acts) k.now w.0 w.1 refl d) (λ c e. absurd (cc (sym z ∙ e)))
 
   -- where it was suspended
-  again-held : (storage : Contents) (s : SubchannelState) (p t : ℕ) (k : Story) (st : Standing) (x : Bool) → IsHeld s k → s.hold.phase ≡ hold.On t p 0 → t ≡ k.number → s.begun ≡ None →
-      k.sent ≡ 0 → st.walk ≡ place k.orb k.now.acts → (role_of k.orb k.now.acts).chained ≡ false →
+  again-held : (storage : Contents) (s : SubchannelState) (p t : ℕ) (k : ProgramTrace) (st : ProgramPosition) (x : Bool) → IsHeld s k → s.hold.phase ≡ hold.On t p 0 → t ≡ k.number → s.begun ≡ None →
+      k.sent ≡ 0 → st.walk ≡ walk_place k.orb k.now.acts → (role_of k.orb k.now.acts).chained ≡ false →
       IsHeld (taking.begin_standing storage s p t (if x then Some st else None)).state (if x then stories.begins_again storage st k else k)
   again-held storage s p t k st true h on f z none w c =
-      let past : Story = record k { earlier = length (commands k.orb k.now.acts); now = past_part k.now } in
+      let past : ProgramTrace = record k { earlier = length (commands k.orb k.now.acts); now = past_part k.now } in
       let d : IsDone k.orb k.now = done-held s k h in
       subst
-      (λ (old : Place). IsHeld (taking.beginning storage s p t st (first_command storage old).walk (first_command storage old).came).state
-      (stories.goes_on (first_command storage old).came (first_acts storage old) past))
+      (λ (old : WalkPlace). IsHeld (taking.beginning storage s p t st (first_command storage old).walk (first_command storage old).came).state
+      (stories.trace_goes_on (first_command storage old).came (first_acts storage old) past))
       (sym w)
-      (let old : Place = place k.orb k.now.acts in
+      (let old : WalkPlace = walk_place k.orb k.now.acts in
       begins-held storage s p t st (first_command storage old).walk past (first_command storage old).came (first_acts storage old)
       (goes-on past.earlier laws storage k.orb k.now.acts 1 c refl d.program) h.number on f z none (past-done k.orb k.now d))
   again-held storage s p t k st false h on f z none w c = h
 
-  suspended-held : (storage : Contents) (s : SubchannelState) (p t : ℕ) (k : Story) (w : Option Program) (b : Option Begun) (st : Option Standing) (start : ℕ) → IsHeld s k →
+  suspended-held : (storage : Contents) (s : SubchannelState) (p t : ℕ) (k : ProgramTrace) (w : Option Program) (b : Option ActiveProgram) (st : Option ProgramPosition) (start : ℕ) → IsHeld s k →
       s.hold.phase ≡ hold.On t p 0 → t ≡ k.number → s.begun ≡ None → k.sent ≡ 0 → IsStanding w b st k →
       IsHeld (taking.begin_standing storage s p t (suspended_as st start)).state (stories.again_as storage st start k)
   suspended-held storage s p t k w b None start h on f z none x = h
   suspended-held storage s p t k w b (Some st) start h on f z none x = again-held storage s p t k st (st.program.start == start) h on f z none x.2 x.3
 
-  anew-held : (storage : Contents) (s : SubchannelState) (p t : ℕ) (k : Story) (w : Option Program) (b : Option Begun) (st : Option Standing) (start : ℕ) (program : Program) (x : Bool) →
+  anew-held : (storage : Contents) (s : SubchannelState) (p t : ℕ) (k : ProgramTrace) (w : Option Program) (b : Option ActiveProgram) (st : Option ProgramPosition) (start : ℕ) (program : Program) (x : Bool) →
       IsHeld s k → s.hold.phase ≡ hold.On t p 0 → t ≡ k.number → s.begun ≡ None → k.sent ≡ 0 → IsStanding w b st k →
       IsHeld (taking.begin_standing storage s p t (if x then Some (from_start program) else suspended_as st start)).state
       (if x then stories.begins_anew storage program k else stories.again_as storage st start k)
   anew-held storage s p t k w b st start program true h on f z none x =
-      let old : Place = place program.orb [] in
-      begins-held storage s p t (from_start program) (first_command storage old).walk (record k { orb = program.orb; earlier = 0; now = no_part }) (first_command storage old).came
+      let old : WalkPlace = walk_place program.orb [] in
+      begins-held storage s p t (from_start program) (first_command storage old).walk (record k { orb = program.orb; earlier = 0; now = no_trace }) (first_command storage old).came
       (first_acts storage old) (goes-on 0 laws storage program.orb [] 1 refl refl tt) h.number on f z none (nothing-done program.orb)
   anew-held storage s p t k w b st start program false h on f z none x = suspended-held storage s p t k w b st start h on f z none x
 
-  stands-held : (storage : Contents) (s : SubchannelState) (p t : ℕ) (k : Story) (w : Option Program) (b : Option Begun) (st : Option Standing) (start : ℕ) → IsHeld s k →
+  stands-held : (storage : Contents) (s : SubchannelState) (p t : ℕ) (k : ProgramTrace) (w : Option Program) (b : Option ActiveProgram) (st : Option ProgramPosition) (start : ℕ) → IsHeld s k →
       s.hold.phase ≡ hold.On t p 0 → t ≡ k.number → s.begun ≡ None → k.sent ≡ 0 → IsStanding w b st k →
       IsHeld (taking.begin_standing storage s p t (standing_as w st start)).state (stories.begins_as storage w st start k)
   stands-held storage s p t k None b st start h on f z none x = suspended-held storage s p t k None b st start h on f z none x
   stands-held storage s p t k (Some program) b st start h on f z none x = anew-held storage s p t k (Some program) b st start program (program.start == start) h on f z none x
 
-  begun-held : (storage : Contents) (s : SubchannelState) (k : Story) (t q : ℕ) (may : Bool) → IsHeld s k → t ≡ k.number → s.begun ≡ None → k.sent ≡ 0 →
-      IsHeld (taking.accept storage s (Some (hold_table.begun s.hold t q may))).state (stories.accepted storage s (Some (hold_table.begun s.hold t q may)) k)
+  begun-held : (storage : Contents) (s : SubchannelState) (k : ProgramTrace) (t q : ℕ) (may : Bool) → IsHeld s k → t ≡ k.number → s.begun ≡ None → k.sent ≡ 0 →
+      IsHeld (taking.accept storage s (Some (hold_table.program_begun s.hold t q may))).state (stories.trace_accepted storage s (Some (hold_table.program_begun s.hold t q may)) k)
   begun-held storage s k t q true h e z none =
-      stands-held storage (record s { hold = record s.hold { phase = hold.On t q 0; seen = 0; first_path = Some q }; pmcw = with_path s.pmcw q }) q t k s.waiting s.begun s.suspended s.offered
+      stands-held storage (record s { hold = record s.hold { phase = hold.On t q 0; seen = 0; first_path = Some q }; pmcw = path_used s.pmcw q }) q t k s.waiting s.begun s.suspended s.offered
       (record { number = h.number; phase = e; drawn = tt; work = h.work; standing = h.standing }) refl e z none h.standing
   begun-held storage s k t q false h e z none =
-      halt_done-held (record s { hold = record s.hold { phase = hold.Letting t q; seen = 0; first_path = Some q }; pmcw = with_path s.pmcw q }) k
+      halt_done-held (record s { hold = record s.hold { phase = hold.Letting t q; seen = 0; first_path = Some q }; pmcw = path_used s.pmcw q }) k
       (record { number = h.number; phase = (e, z); drawn = tt; work = h.work; standing = h.standing })
 
-  offer-held : (storage : Contents) (s : SubchannelState) (k : Story) (t q : ℕ) (x may : Bool) → IsHeld s k → t ≡ k.number → s.begun ≡ None → k.sent ≡ 0 →
-      let step : Option HoldStep = if x then Some (hold_table.begun s.hold t q may) else None in
-      IsHeld (taking.accept storage s step).state (stories.accepted storage s step k)
+  offer-held : (storage : Contents) (s : SubchannelState) (k : ProgramTrace) (t q : ℕ) (x may : Bool) → IsHeld s k → t ≡ k.number → s.begun ≡ None → k.sent ≡ 0 →
+      let step : Option HoldStep = if x then Some (hold_table.program_begun s.hold t q may) else None in
+      IsHeld (taking.accept storage s step).state (stories.trace_accepted storage s step k)
   offer-held storage s k t q true may h e z none = begun-held storage s k t q may h e z none
   offer-held storage s k t q false may h e z none = h
 
-  accept-held : (storage : Contents) (s : SubchannelState) (k : Story) (u : ℕ) (may : Bool) (phase : HoldPhase) → s.hold.phase ≡ phase → IsHeld s k →
-      IsHeld (taking.accept storage s (hold_table.accepted s.hold phase u may)).state (stories.accepted storage s (hold_table.accepted s.hold phase u may) k)
+  accept-held : (storage : Contents) (s : SubchannelState) (k : ProgramTrace) (u : ℕ) (may : Bool) (phase : HoldPhase) → s.hold.phase ≡ phase → IsHeld s k →
+      IsHeld (taking.accept storage s (hold_table.offer_accepted s.hold phase u may)).state (stories.trace_accepted storage s (hold_table.offer_accepted s.hold phase u may) k)
   accept-held storage s k u may hold.Free e h = h
   accept-held storage s k u may (hold.Offer t q) e h =
       let f : IsPhase (hold.Offer t q) k.number s.begun k.sent = subst (λ (x : HoldPhase). IsPhase x k.number s.begun k.sent) e h.phase in
@@ -214,25 +214,25 @@ module _ (laws : AreLaws) (accesses : AreAccesses) where
   accept-held storage s k u may (hold.Reset r) e h = h
 
   -- Data
-  transfer-held : (s : SubchannelState) (b : Begun) (k : Story) (t : Transfer) (now : Part) → s.begun ≡ Some b → IsHeld s k → IsSame b.transfer t →
+  transfer-held : (s : SubchannelState) (b : ActiveProgram) (k : ProgramTrace) (t : Transfer) (now : CommandTrace) → s.begun ≡ Some b → IsHeld s k → IsSame b.transfer t →
       IsAtWork k.earlier k.orb now t (is_outward b.transfer.code) → (b.transfer.command ≡ k.sent) × (1 ≤ k.sent) → IsHeld (taking.moving_on s b t) (record k { now = now })
   transfer-held s b k t now e h same w n =
       interrupted-held (taking.with_transfer s b t) (Some (record b { transfer = t })) (record k { now = now }) refl
       (record {
         number = h.number;
-        phase = phase-some s.hold.phase k.number b (record b { transfer = t }) k.sent k.sent (subst (λ (x : Option Begun). IsPhase s.hold.phase k.number x k.sent) e h.phase);
+        phase = phase-some s.hold.phase k.number b (record b { transfer = t }) k.sent k.sent (subst (λ (x : Option ActiveProgram). IsPhase s.hold.phase k.number x k.sent) e h.phase);
         drawn = h.drawn;
         work = (subst (λ (c : ℕ). IsAtWork k.earlier k.orb now t (is_outward c)) (sym same.0) w, same.1 ∙ n.0, n.1);
         standing = none-stands s.waiting (Some (record b { transfer = t })) s.suspended (record k { now = now }) (standing-some s.waiting s.begun b s.suspended k e h.standing);
       })
 
-  out-held : (storage : Contents) (s : SubchannelState) (b : Begun) (k : Story) (signal : DataSignal) (load : Load) (x : Bool) → is_outward b.transfer.code ≡ x → s.begun ≡ Some b → IsHeld s k →
+  out-held : (storage : Contents) (s : SubchannelState) (b : ActiveProgram) (k : ProgramTrace) (signal : DataSignal) (load : Load) (x : Bool) → is_outward b.transfer.code ≡ x → s.begun ≡ Some b → IsHeld s k →
       IsAtWork k.earlier k.orb k.now b.transfer (is_outward b.transfer.code) → (b.transfer.command ≡ k.sent) × (1 ≤ k.sent) →
       IsHeld (if x then taking.meets storage (taking.give_next storage s b signal (load_length load))
-      else taking.take_in s b signal (brought storage b.transfer signal.sequence (bytes_of load))).step.state
-      (if x then record k { now = gives storage b.transfer signal.sequence (load_length load) k.now } else record k { now = takes_in storage b.transfer signal.sequence (bytes_of load) k.now })
+      else taking.take_in s b signal (brought storage b.transfer signal.sequence (bytes_of_load load))).step.state
+      (if x then record k { now = gives storage b.transfer signal.sequence (load_length load) k.now } else record k { now = takes_in storage b.transfer signal.sequence (bytes_of_load load) k.now })
   out-held storage s b k signal load true d e h w m =
-      let a : Transfer = absorbed storage b.transfer signal.sequence (load_length load) in
+      let a : Transfer = taken_by_device storage b.transfer signal.sequence (load_length load) in
       let u : Transfer = (next_given storage a).transfer in
       let f : IsSame b.transfer a = absorbed-same storage b.transfer signal.sequence (load_length load) in
       let g : IsSame a u = next_given-same storage a in
@@ -241,28 +241,28 @@ module _ (laws : AreLaws) (accesses : AreAccesses) where
       (gives-work k.earlier laws storage k.orb k.now b.transfer signal.sequence (load_length load) (subst (λ (y : Bool). IsAtWork k.earlier k.orb k.now b.transfer y) d w)))
       m
   out-held storage s b k signal load false d e h w m =
-      let a = brought storage b.transfer signal.sequence (bytes_of load) in
+      let a = brought storage b.transfer signal.sequence (bytes_of_load load) in
       let u : Transfer = (with_room a.storage a.transfer).transfer in
-      let f : IsSame b.transfer a.transfer = brought-same storage b.transfer signal.sequence (bytes_of load) in
+      let f : IsSame b.transfer a.transfer = brought-same storage b.transfer signal.sequence (bytes_of_load load) in
       let g : IsSame a.transfer u = located-same a.storage a.transfer in
-      transfer-held s b k u (takes_in storage b.transfer signal.sequence (bytes_of load) k.now) e h (g.0 ∙ f.0, g.1 ∙ f.1)
-      (subst (λ (y : Bool). IsAtWork k.earlier k.orb (takes_in storage b.transfer signal.sequence (bytes_of load) k.now) u y) (sym d)
-      (takes_in-work k.earlier laws accesses storage k.orb k.now b.transfer signal.sequence (bytes_of load) (subst (λ (y : Bool). IsAtWork k.earlier k.orb k.now b.transfer y) d w)))
+      transfer-held s b k u (takes_in storage b.transfer signal.sequence (bytes_of_load load) k.now) e h (g.0 ∙ f.0, g.1 ∙ f.1)
+      (subst (λ (y : Bool). IsAtWork k.earlier k.orb (takes_in storage b.transfer signal.sequence (bytes_of_load load) k.now) u y) (sym d)
+      (takes_in-work k.earlier laws accesses storage k.orb k.now b.transfer signal.sequence (bytes_of_load load) (subst (λ (y : Bool). IsAtWork k.earlier k.orb k.now b.transfer y) d w)))
       m
 
-  answered-held : (storage : Contents) (s : SubchannelState) (b : Begun) (k : Story) (signal : DataSignal) (load : Load) (x : Bool) → s.begun ≡ Some b → IsHeld s k →
+  answered-held : (storage : Contents) (s : SubchannelState) (b : ActiveProgram) (k : ProgramTrace) (signal : DataSignal) (load : Load) (x : Bool) → s.begun ≡ Some b → IsHeld s k →
       IsAtWork k.earlier k.orb k.now b.transfer (is_outward b.transfer.code) → (b.transfer.command ≡ k.sent) × (1 ≤ k.sent) →
       IsHeld (if x then taking.move_bytes storage s b signal load else taking.meets storage (taking.ignoring s)).step.state
       (if x then stories.moves storage b.transfer signal.sequence load k else k)
   answered-held storage s b k signal load true e h w m = out-held storage s b k signal load (is_outward b.transfer.code) refl e h w m
   answered-held storage s b k signal load false e h w m = h
 
-  data-held : (storage : Contents) (s : SubchannelState) (b : Option Begun) (k : Story) (signal : DataSignal) (load : Load) → s.begun ≡ b → IsHeld s k → HasWork b k →
+  data-held : (storage : Contents) (s : SubchannelState) (b : Option ActiveProgram) (k : ProgramTrace) (signal : DataSignal) (load : Load) → s.begun ≡ b → IsHeld s k → HasWork b k →
       IsHeld (taking.move_data storage s b signal load).step.state (stories.answers storage b signal.command signal.sequence load k)
   data-held storage s None k signal load e h w = h
   data-held storage s (Some b) k signal load e h w = answered-held storage s b k signal load (is_answered b.transfer signal.command signal.sequence) e h w.0 (w.1, w.2)
 
-  connected-held : (storage : Contents) (s : SubchannelState) (k : Story) (signal : DataSignal) (load : Load) (x : Bool) → IsHeld s k →
+  connected-held : (storage : Contents) (s : SubchannelState) (k : ProgramTrace) (signal : DataSignal) (load : Load) (x : Bool) → IsHeld s k →
       IsHeld (if x then taking.move_data storage s s.begun signal load else taking.meets storage (taking.ignoring s)).step.state
       (if x then stories.answers storage s.begun signal.command signal.sequence load k else k)
   connected-held storage s k signal load true h = data-held storage s s.begun k signal load refl h h.work
@@ -277,7 +277,7 @@ module _ (laws : AreLaws) (accesses : AreAccesses) where
   or-false true b e = absurd (cc e)
   or-false false b e = (refl, e)
 
-  pub chains-facts : (scsw : Scsw) (b : Begun) (status : DeviceStatus) (more : Bool) → chains_command scsw b status more ≡ true →
+  pub chains-facts : (scsw : Scsw) (b : ActiveProgram) (status : DeviceStatus) (more : Bool) → chains_command scsw b status more ≡ true →
       (_ : b.transfer.moving.ccw.chain_data ≡ false) × (is_some b.transfer.fault ≡ false)
   chains-facts scsw b status more e =
       let unbroken : Bool = not (breaks_chain scsw b status more) in
@@ -297,41 +297,41 @@ module _ (laws : AreLaws) (accesses : AreAccesses) where
   abbrev ending : Bool → Ended
   ending modifier = record { goes_on = true; modifier = modifier }
 
-  pub next-went : (earlier : ℕ) (storage : Contents) (orb : Orb) (p : Part) (t : Transfer) (modifier : Bool) → Tied earlier orb p.acts p.moved t → t.moving.ccw.chain_data ≡ false →
+  pub next-went : (earlier : ℕ) (storage : Contents) (orb : Orb) (p : CommandTrace) (t : Transfer) (modifier : Bool) → Tied earlier orb p.acts p.moved t → t.moving.ccw.chain_data ≡ false →
       is_some t.fault ≡ false →
       WentOn earlier laws storage orb (End (ending modifier) ∷ p.acts) (next_acts storage t modifier ++ p.acts) (t.command + 1) (next_command storage t modifier).walk
       (next_command storage t modifier).came
   next-went earlier storage orb p t modifier k d f =
       let before : List Act = End (ending modifier) ∷ p.acts in
       let n : ℕ = t.command + 1 in
-      let old : Place = place orb before in
+      let old : WalkPlace = walk_place orb before in
       let m : length (commands orb before) ≡ earlier + t.command = k.number in
       let went : WentOn earlier laws storage orb before (goes_acts storage n old ++ before) n (goes_to storage n old).walk (goes_to storage n old).came =
       goes-on earlier laws storage orb before n (k.chained f ∙ d) (omega (arith, m)) (k.stands f, k.program) in
       subst
-      (λ (w : Place). WentOn earlier laws storage orb before ((goes_acts storage n (after_end w (ending modifier)) ++ End (ending modifier) ∷ []) ++ p.acts) n
-      (goes_to storage n (after_end w (ending modifier))).walk (goes_to storage n (after_end w (ending modifier))).came)
+      (λ (w : WalkPlace). WentOn earlier laws storage orb before ((goes_acts storage n (walk_after_end w (ending modifier)) ++ End (ending modifier) ∷ []) ++ p.acts) n
+      (goes_to storage n (walk_after_end w (ending modifier))).walk (goes_to storage n (walk_after_end w (ending modifier))).came)
       (sym k.walk)
       (subst (λ (xs : List Act). WentOn earlier laws storage orb before xs n (goes_to storage n old).walk (goes_to storage n old).came)
       (sym (append_assoc (goes_acts storage n old) (End (ending modifier) ∷ []) p.acts)) went)
 
-  chains-held : (storage : Contents) (s : SubchannelState) (b : Begun) (k : Story) (signal : EndSignal) (walk : Place) (c : Came) (acts before : List Act) (n : ℕ) →
+  chains-held : (storage : Contents) (s : SubchannelState) (b : ActiveProgram) (k : ProgramTrace) (signal : EndSignal) (walk : WalkPlace) (c : CommandStart) (acts before : List Act) (n : ℕ) →
       s.begun ≡ Some b → IsHeld s k → IsDone k.orb k.now → WentOn k.earlier laws storage k.orb before (acts ++ k.now.acts) n walk c →
-      reaches k.orb before ≡ reaches k.orb k.now.acts → n ≡ k.sent + 1 → IsHeld (taking.chaining storage s (with_end b) signal walk c).state (stories.goes_on c acts k)
+      data_areas k.orb before ≡ data_areas k.orb k.now.acts → n ≡ k.sent + 1 → IsHeld (taking.chaining storage s (with_end b) signal walk c).state (stories.trace_goes_on c acts k)
   chains-held storage s b k signal walk (came.Begins transfer) acts before n e h d w r m =
       let u : Transfer = (begun_with_room storage transfer).transfer in
-      let next : Begun = record (with_end b) { transfer = u } in
-      interrupted-held (taking.with_transfer s (with_end b) u) (Some next) (stories.goes_on (came.Begins transfer) acts k) refl
+      let next : ActiveProgram = record (with_end b) { transfer = u } in
+      interrupted-held (taking.with_transfer s (with_end b) u) (Some next) (stories.trace_goes_on (came.Begins transfer) acts k) refl
       (record {
         number = h.number;
-        phase = phase-some s.hold.phase k.number b next k.sent (k.sent + 1) (subst (λ (x : Option Begun). IsPhase s.hold.phase k.number x k.sent) e h.phase);
+        phase = phase-some s.hold.phase k.number b next k.sent (k.sent + 1) (subst (λ (x : Option ActiveProgram). IsPhase s.hold.phase k.number x k.sent) e h.phase);
         drawn = h.drawn;
         work = (
-          record { tied = w.0; arrived = arrived-none (record no_part { acts = acts ++ k.now.acts }) (is_outward u.code) refl refl },
+          record { tied = w.0; arrived = arrived-none (record no_trace { acts = acts ++ k.now.acts }) (is_outward u.code) refl refl },
           (room-same storage transfer).1 ∙ w.1 ∙ m,
           omega arith,
         );
-        standing = none-stands s.waiting (Some next) s.suspended (stories.goes_on (came.Begins transfer) acts k) (standing-some s.waiting s.begun b s.suspended k e h.standing);
+        standing = none-stands s.waiting (Some next) s.suspended (stories.trace_goes_on (came.Begins transfer) acts k) (standing-some s.waiting s.begun b s.suspended k e h.standing);
       })
   chains-held storage s b k signal walk came.Suspends acts before n e h d w r m =
       suspends-held (taking.end_taken s signal) b.program walk (residual b.transfer.moving) (record k { now = with_acts k.now acts }) h.number (h.phase, h.drawn)
@@ -341,7 +341,7 @@ module _ (laws : AreLaws) (accesses : AreAccesses) where
       (over-done k.orb before (acts ++ k.now.acts) k.now w.0 w.1 r d) (λ c f. standing-some s.waiting s.begun c s.suspended k f h.standing)
 
   -- the transfer has ended
-  shown-held : (s : SubchannelState) (b c : Begun) (k : Story) (u : SubchannelState) → s.begun ≡ Some b → IsHeld s k →
+  shown-held : (s : SubchannelState) (b c : ActiveProgram) (k : ProgramTrace) (u : SubchannelState) → s.begun ≡ Some b → IsHeld s k →
       IsAtWork k.earlier k.orb k.now b.transfer (is_outward b.transfer.code) → (b.transfer.command ≡ k.sent) × (1 ≤ k.sent) → u.begun ≡ Some c → u.hold ≡ s.hold → u.drawn ≡ s.drawn →
       u.suspended ≡ s.suspended → c.transfer.walk ≡ b.transfer.walk → c.transfer.moving ≡ b.transfer.moving → c.transfer.code ≡ b.transfer.code →
       c.transfer.command ≡ b.transfer.command → c.transfer.fault ≡ b.transfer.fault → IsHeld u k
@@ -357,21 +357,21 @@ module _ (laws : AreLaws) (accesses : AreAccesses) where
       record {
         number = subst (λ (x : ℕ). k.number ≤ x) (sym n) h.number;
         phase =
-            subst (λ (x : Option Begun). IsPhase u.hold.phase k.number x k.sent) (sym f)
+            subst (λ (x : Option ActiveProgram). IsPhase u.hold.phase k.number x k.sent) (sym f)
             (subst (λ (x : HoldState). IsPhase x.phase k.number (Some c) k.sent) (sym g)
-            (phase-some s.hold.phase k.number b c k.sent k.sent (subst (λ (x : Option Begun). IsPhase s.hold.phase k.number x k.sent) e h.phase)));
+            (phase-some s.hold.phase k.number b c k.sent k.sent (subst (λ (x : Option ActiveProgram). IsPhase s.hold.phase k.number x k.sent) e h.phase)));
         drawn = subst (λ (x : HoldState). IsDrawn x.phase u.drawn) (sym g) (subst (λ (x : ℕ). IsDrawn s.hold.phase x) (sym n) h.drawn);
-        work = subst (λ (x : Option Begun). HasWork x k) (sym f) (work, command ∙ m.0, m.1);
+        work = subst (λ (x : Option ActiveProgram). HasWork x k) (sym f) (work, command ∙ m.0, m.1);
         standing = none-stands u.waiting u.begun u.suspended k (v ∙ standing-some s.waiting s.begun b s.suspended k e h.standing);
       }
 
-  abbrev end-left : SubchannelState → Begun → EndSignal → Shown → Bool → SubchannelState
+  abbrev end-left : SubchannelState → ActiveProgram → EndSignal → Shown → Bool → SubchannelState
   end-left s b signal shown last =
-      record (with_row s (record { shown = shown; left = causes.after_end s b last; joins = s.scsw })) {
+      record (with_row s (record { shown = shown; left = causes.programs_after_end s b last; joins = s.scsw })) {
         dedicated = taking.dedicated_by_end s.dedicated signal;
       }
 
-  stops-held : (s : SubchannelState) (b : Begun) (k : Story) (signal : EndSignal) (shown : Shown) (last : Bool) → s.begun ≡ Some b → IsHeld s k →
+  stops-held : (s : SubchannelState) (b : ActiveProgram) (k : ProgramTrace) (signal : EndSignal) (shown : Shown) (last : Bool) → s.begun ≡ Some b → IsHeld s k →
       IsAtWork k.earlier k.orb k.now b.transfer (is_outward b.transfer.code) → (b.transfer.command ≡ k.sent) × (1 ≤ k.sent) →
       IsHeld (if last then let_go (end-left s b signal shown last) else taking.quietly (end-left s b signal shown last)).state k
   stops-held s b k signal shown true e h w m =
@@ -380,12 +380,12 @@ module _ (laws : AreLaws) (accesses : AreAccesses) where
   stops-held s b k signal shown false e h w m =
       shown-held s b (has_shown b) k (end-left s b signal shown false) e h w m refl refl refl refl refl refl refl refl refl
 
-  goes-held : (storage : Contents) (s : SubchannelState) (b : Begun) (k : Story) (signal : EndSignal) (x y : Bool) → chains_command s.scsw b signal.status signal.more ≡ x →
+  goes-held : (storage : Contents) (s : SubchannelState) (b : ActiveProgram) (k : ProgramTrace) (signal : EndSignal) (x y : Bool) → chains_command s.scsw b signal.status signal.more ≡ x →
       s.begun ≡ Some b → IsHeld s k → IsAtWork k.earlier k.orb k.now b.transfer (is_outward b.transfer.code) → (b.transfer.command ≡ k.sent) × (1 ≤ k.sent) →
       IsHeld (if x then (if y then taking.chain_with storage s (with_end b) signal (next_command storage (with_end b).transfer (has_status_modifier signal.status))
       else taking.quietly (record (taking.end_taken s signal) { begun = Some (with_end b) }))
       else taking.stops_at s b signal).state
-      (if x && y then stories.goes_on (next_command storage b.transfer (has_status_modifier signal.status)).came (next_acts storage b.transfer (has_status_modifier signal.status)) k else k)
+      (if x && y then stories.trace_goes_on (next_command storage b.transfer (has_status_modifier signal.status)).came (next_acts storage b.transfer (has_status_modifier signal.status)) k else k)
   goes-held storage s b k signal true true c e h w m =
       let f : (_ : b.transfer.moving.ccw.chain_data ≡ false) × (is_some b.transfer.fault ≡ false) = chains-facts s.scsw b signal.status signal.more c in
       let modifier : Bool = has_status_modifier signal.status in
@@ -397,24 +397,24 @@ module _ (laws : AreLaws) (accesses : AreAccesses) where
       shown-held s b (with_end b) k (record (taking.end_taken s signal) { begun = Some (with_end b) }) e h w m refl refl refl refl refl refl refl refl refl
   goes-held storage s b k signal false y c e h w m = stops-held s b k signal (end_shown s b signal.status signal.more) (is_last_end signal.status) e h w m
 
-  same-command-held : (storage : Contents) (s : SubchannelState) (b : Begun) (k : Story) (signal : EndSignal) (x : Bool) → s.begun ≡ Some b → IsHeld s k →
+  same-command-held : (storage : Contents) (s : SubchannelState) (b : ActiveProgram) (k : ProgramTrace) (signal : EndSignal) (x : Bool) → s.begun ≡ Some b → IsHeld s k →
       IsAtWork k.earlier k.orb k.now b.transfer (is_outward b.transfer.code) → (b.transfer.command ≡ k.sent) × (1 ≤ k.sent) →
       IsHeld (if x then taking.command_ended storage s b signal else taking.ignoring s).state (if x then stories.chains storage s b signal.status signal.more k else k)
   same-command-held storage s b k signal true e h w m = goes-held storage s b k signal (chains_command s.scsw b signal.status signal.more) (has_device_end signal.status) refl e h w m
   same-command-held storage s b k signal false e h w m = h
 
-  end-held : (storage : Contents) (s : SubchannelState) (b : Option Begun) (k : Story) (signal : EndSignal) → s.begun ≡ b → IsHeld s k → HasWork b k →
-      IsHeld (taking.end_of storage s b signal).state (stories.ends storage s b signal.command signal.status signal.more k)
+  end-held : (storage : Contents) (s : SubchannelState) (b : Option ActiveProgram) (k : ProgramTrace) (signal : EndSignal) → s.begun ≡ b → IsHeld s k → HasWork b k →
+      IsHeld (taking.end_of storage s b signal).state (stories.trace_ends storage s b signal.command signal.status signal.more k)
   end-held storage s None k signal e h w = h
   end-held storage s (Some b) k signal e h w = same-command-held storage s b k signal (signal.command == b.transfer.command) e h w.0 (w.1, w.2)
 
-  on-held : (storage : Contents) (s : SubchannelState) (k : Story) (signal : EndSignal) (x : Bool) → IsHeld s k →
-      IsHeld (if x then taking.end_of storage s s.begun signal else taking.ignoring s).state (if x then stories.ends storage s s.begun signal.command signal.status signal.more k else k)
+  on-held : (storage : Contents) (s : SubchannelState) (k : ProgramTrace) (signal : EndSignal) (x : Bool) → IsHeld s k →
+      IsHeld (if x then taking.end_of storage s s.begun signal else taking.ignoring s).state (if x then stories.trace_ends storage s s.begun signal.command signal.status signal.more k else k)
   on-held storage s k signal true h = end-held storage s s.begun k signal refl h h.work
   on-held storage s k signal false h = h
 
   -- the hold is to be reset: no program is begun any more
-  unshown-begun : (phase : HoldPhase) (n sent : ℕ) (w : Option Program) (b : Option Begun) (d : Option Standing) → (is_offered_or_held phase && has_any w b d) ≡ false →
+  unshown-begun : (phase : HoldPhase) (n sent : ℕ) (w : Option Program) (b : Option ActiveProgram) (d : Option ProgramPosition) → (is_offered_or_held phase && has_any w b d) ≡ false →
       IsPhase phase n b sent → b ≡ None
   unshown-begun phase n sent w None d f k = refl
   unshown-begun hold.Free n sent w (Some b) d f k = k
@@ -426,7 +426,7 @@ module _ (laws : AreLaws) (accesses : AreAccesses) where
   unshown-begun (hold.Letting t p) n sent w (Some b) d f k = k.1
   unshown-begun (hold.Reset r) n sent w (Some b) d f k = k.0
 
-  reset-held : (s : SubchannelState) (k : Story) (shows : Bool) → (is_offered_or_held s.hold.phase && has_any s.waiting s.begun s.suspended) ≡ shows → IsHeld s k → IsHeld (reset_with s shows) k
+  reset-held : (s : SubchannelState) (k : ProgramTrace) (shows : Bool) → (is_offered_or_held s.hold.phase && has_any s.waiting s.begun s.suspended) ≡ shows → IsHeld s k → IsHeld (reset_with s shows) k
   reset-held s k true e h =
       let n : k.number ≤ s.drawn = h.number in
       record { number = omega (arith, n); phase = (refl, omega (arith, n)); drawn = omega arith; work = done-held s k h; standing = tt }
@@ -440,15 +440,15 @@ module _ (laws : AreLaws) (accesses : AreAccesses) where
         standing = h.standing;
       }
 
-  notice-held : (s : SubchannelState) (k : Story) (b : ℕ) (more : Bool) → IsHeld s k → IsHeld (if more then taking.quietly (reset_for (taking.with_known s b)) else taking.ignoring s).state k
+  notice-held : (s : SubchannelState) (k : ProgramTrace) (b : ℕ) (more : Bool) → IsHeld s k → IsHeld (if more then taking.quietly (reset_for (taking.with_known s b)) else taking.ignoring s).state k
   notice-held s k b true h =
       reset-held (taking.with_known s b) k (is_offered_or_held s.hold.phase && has_any s.waiting s.begun s.suspended) refl
       (record { number = h.number; phase = h.phase; drawn = h.drawn; work = h.work; standing = h.standing })
   notice-held s k b false h = h
 
   -- a signal
-  pub signal-held : (returns : Bool) → (storage : Contents) (s : SubchannelState) (p : ℕ) (signal : Up) (k : Story) → IsHeld s k →
-      IsHeld (takes_up returns storage s p signal).step.state (meets storage s p signal k)
+  pub signal-held : (returns : Bool) → (storage : Contents) (s : SubchannelState) (p : ℕ) (signal : Up) (k : ProgramTrace) → IsHeld s k →
+      IsHeld (takes_up returns storage s p signal).step.state (trace_meets storage s p signal k)
   signal-held returns storage s p (up.Accept t) k h = accept-held storage s k t (goes_ahead s) s.hold.phase refl h
   signal-held returns storage s p (up.Busy t) k h =
       by_hold-held s k (hold_takes s.hold p (up.Busy t) false) h (busy-phase s.drawn k.number s.begun k.sent s.hold s.hold.phase t refl (h.phase, h.drawn))

@@ -10,24 +10,24 @@ use Rattle.chan_model.specs.HoldTable as hold_table
 use Rattle.chan_model.specs.HoldTable.{HoldStep, hold_after, letting_go}
 use Rattle.chan_model.specs.UnitReports.{is_outward}
 use Rattle.channel_program.specs.Programs.{role_of}
-use Rattle.channel_program.specs.Walks.{place}
-use Rattle.subchannel_model.specs.declared.state.Begun.{Begun}
+use Rattle.channel_program.specs.Walks.{walk_place}
+use Rattle.subchannel_model.specs.declared.state.ActiveProgram.{ActiveProgram}
 use Rattle.subchannel_model.specs.declared.state.Program.{Program}
 use Rattle.subchannel_model.specs.declared.state.SubchannelState.{SubchannelState}
-use Rattle.subchannel_model.specs.declared.state.Standing.{Standing}
-use Rattle.subchannel_model.specs.declared.cause.Cause.TheVariants as cause
+use Rattle.subchannel_model.specs.declared.state.ProgramPosition.{ProgramPosition}
+use Rattle.subchannel_model.specs.declared.cause.StatusCause.TheVariants as cause
 use Rattle.subchannel_model.specs.Causes.{with_cause}
 use Rattle.subchannel_model.specs.Programs.{without_programs}
 use Rattle.subchannel_model.specs.Taking.{let_go, by_hold, back, halt_done, clear_done, with_attention, reset_taken}
-use Rattle.program_laws.specs.Doings.{Part, no_part}
-use Rattle.program_laws.specs.Stories.{Story, past_part}
+use Rattle.program_laws.specs.CommandActs.{CommandTrace, no_trace}
+use Rattle.program_laws.specs.Traces.{ProgramTrace, past_part}
 use Rattle.program_laws.specs.Claims.{IsStored, places_of}
 use Rattle.program_laws.proofs.Lists.{begins-all}
 use Rattle.program_laws.proofs.Parts.{IsDone, IsAtWork, done-of}
 
 -- the number of a hold's phase is that of the offer, or of a Reset that was drawn later; a program is at work only where it
 -- is connected or away; one that is offered has sent nothing
-abbrev pub IsPhase : HoldPhase → ℕ → Option Begun → ℕ → Type 0
+abbrev pub IsPhase : HoldPhase → ℕ → Option ActiveProgram → ℕ → Type 0
 IsPhase hold.Free n b sent = b ≡ None
 IsPhase (hold.Offer t p) n b sent = (t ≡ n) × (b ≡ None) × (sent ≡ 0)
 IsPhase (hold.On t p c) n b sent = t ≡ n
@@ -45,17 +45,17 @@ IsDrawn (hold.Letting t p) drawn = Unit {0}
 IsDrawn (hold.Reset r) drawn = r ≤ drawn
 
 -- the program is at work, or over
-abbrev pub HasWork : Option Begun → Story → Type 0
+abbrev pub HasWork : Option ActiveProgram → ProgramTrace → Type 0
 HasWork None k = IsDone k.orb k.now
 HasWork (Some b) k = IsAtWork k.earlier k.orb k.now b.transfer (is_outward b.transfer.code) × (b.transfer.command ≡ k.sent) × (1 ≤ k.sent)
 
 -- one that is suspended stands where the story left it, where a command may begin; no other waits or is at work
-abbrev pub IsStanding : Option Program → Option Begun → Option Standing → Story → Type 0
+abbrev pub IsStanding : Option Program → Option ActiveProgram → Option ProgramPosition → ProgramTrace → Type 0
 IsStanding waiting begun None k = Unit {0}
 IsStanding waiting begun (Some st) k =
-    (waiting ≡ None) × (begun ≡ None) × (st.walk ≡ place k.orb k.now.acts) × ((role_of k.orb k.now.acts).chained ≡ false)
+    (waiting ≡ None) × (begun ≡ None) × (st.walk ≡ walk_place k.orb k.now.acts) × ((role_of k.orb k.now.acts).chained ≡ false)
 
-pub record IsHeld (s : SubchannelState) (k : Story) : Type 0 where
+pub record IsHeld (s : SubchannelState) (k : ProgramTrace) : Type 0 where
   pub number : k.number ≤ s.drawn
   pub phase : IsPhase s.hold.phase k.number s.begun k.sent
   pub drawn : IsDrawn s.hold.phase s.drawn
@@ -76,19 +76,19 @@ pub record IsUntold (s : SubchannelState) : Type 0 where
   pub begun : s.begun ≡ None
   pub suspended : s.suspended ≡ None
 
-abbrev pub HeldBy : SubchannelState → Option Story → Type 0
+abbrev pub HeldBy : SubchannelState → Option ProgramTrace → Type 0
 HeldBy s None = IsUntold s
 HeldBy s (Some k) = IsHeld s k
 
-pub done-held : (s : SubchannelState) (k : Story) → IsHeld s k → IsDone k.orb k.now
+pub done-held : (s : SubchannelState) (k : ProgramTrace) → IsHeld s k → IsDone k.orb k.now
 done-held s k h = by s.begun h.work
   where
-    by : (b : Option Begun) → HasWork b k → IsDone k.orb k.now
+    by : (b : Option ActiveProgram) → HasWork b k → IsDone k.orb k.now
     by None w = w
     by (Some b) w = done-of k.earlier k.orb k.now b.transfer (is_outward b.transfer.code) w.0
 
 -- phases
-pub phase-some : (phase : HoldPhase) (n : ℕ) (b c : Begun) (sent more : ℕ) → IsPhase phase n (Some b) sent → IsPhase phase n (Some c) more
+pub phase-some : (phase : HoldPhase) (n : ℕ) (b c : ActiveProgram) (sent more : ℕ) → IsPhase phase n (Some b) sent → IsPhase phase n (Some c) more
 phase-some hold.Free n b c sent more k = absurd (cc k)
 phase-some (hold.Offer t p) n b c sent more k = absurd (cc k.1)
 phase-some (hold.On t p d) n b c sent more k = k
@@ -96,7 +96,7 @@ phase-some (hold.Away t) n b c sent more k = k
 phase-some (hold.Letting t p) n b c sent more k = absurd (cc k.1)
 phase-some (hold.Reset r) n b c sent more k = absurd (cc k.0)
 
-pub phase-none : (phase : HoldPhase) (n : ℕ) (b : Option Begun) (sent : ℕ) → IsPhase phase n b sent → IsPhase phase n None sent
+pub phase-none : (phase : HoldPhase) (n : ℕ) (b : Option ActiveProgram) (sent : ℕ) → IsPhase phase n b sent → IsPhase phase n None sent
 phase-none hold.Free n b sent k = refl
 phase-none (hold.Offer t p) n b sent k = (k.0, refl, k.2)
 phase-none (hold.On t p d) n b sent k = k
@@ -104,10 +104,10 @@ phase-none (hold.Away t) n b sent k = k
 phase-none (hold.Letting t p) n b sent k = (k.0, refl)
 phase-none (hold.Reset r) n b sent k = (refl, k.1)
 
-phase-free : (phase : HoldPhase) (n : ℕ) (b : Option Begun) (sent : ℕ) → phase ≡ hold.Free → IsPhase phase n b sent → b ≡ None
+phase-free : (phase : HoldPhase) (n : ℕ) (b : Option ActiveProgram) (sent : ℕ) → phase ≡ hold.Free → IsPhase phase n b sent → b ≡ None
 phase-free phase n b sent e k = subst (λ (x : HoldPhase). IsPhase x n b sent) e k
 
-module _ (drawn n : ℕ) (b : Option Begun) (sent : ℕ) where
+module _ (drawn n : ℕ) (b : Option ActiveProgram) (sent : ℕ) where
   abbrev pub IsHold : HoldPhase → Type 0
   IsHold phase = IsPhase phase n b sent × IsDrawn phase drawn
 
@@ -124,7 +124,7 @@ module _ (drawn n : ℕ) (b : Option Begun) (sent : ℕ) where
 
   pub busy-phase : (h : HoldState) (phase : HoldPhase) (u : ℕ) → Keeps h phase (hold_table.found_busy h phase u)
   busy-phase h hold.Free u = same-phase h hold.Free
-  busy-phase h (hold.Offer t p) u = step-phase h (hold.Offer t p) (u == t) (hold_table.quietly (record h { phase = hold.Free })) (λ k. (k.0.1, tt))
+  busy-phase h (hold.Offer t p) u = step-phase h (hold.Offer t p) (u == t) (hold_table.hold_quietly (record h { phase = hold.Free })) (λ k. (k.0.1, tt))
   busy-phase h (hold.On t p c) u = same-phase h (hold.On t p c)
   busy-phase h (hold.Away t) u = same-phase h (hold.Away t)
   busy-phase h (hold.Letting t p) u = same-phase h (hold.Letting t p)
@@ -133,7 +133,7 @@ module _ (drawn n : ℕ) (b : Option Begun) (sent : ℕ) where
   pub left-phase : (h : HoldState) (phase : HoldPhase) (u d : ℕ) → Keeps h phase (hold_table.left h phase u d)
   left-phase h hold.Free u d = same-phase h hold.Free
   left-phase h (hold.Offer t p) u d = same-phase h (hold.Offer t p)
-  left-phase h (hold.On t p c) u d = step-phase h (hold.On t p c) ((u == t) && (d == c)) (hold_table.quietly (record h { phase = hold.Away t })) (λ k. k)
+  left-phase h (hold.On t p c) u d = step-phase h (hold.On t p c) ((u == t) && (d == c)) (hold_table.hold_quietly (record h { phase = hold.Away t })) (λ k. k)
   left-phase h (hold.Away t) u d = same-phase h (hold.Away t)
   left-phase h (hold.Letting t p) u d = same-phase h (hold.Letting t p)
   left-phase h (hold.Reset r) u d = same-phase h (hold.Reset r)
@@ -161,7 +161,7 @@ module _ (drawn n : ℕ) (b : Option Begun) (sent : ℕ) where
   released-phase h (hold.Offer t p) u = same-phase h (hold.Offer t p)
   released-phase h (hold.On t p c) u = same-phase h (hold.On t p c)
   released-phase h (hold.Away t) u = same-phase h (hold.Away t)
-  released-phase h (hold.Letting t p) u = step-phase h (hold.Letting t p) (u == t) (hold_table.quietly (record h { phase = hold.Free })) (λ k. (k.0.1, tt))
+  released-phase h (hold.Letting t p) u = step-phase h (hold.Letting t p) (u == t) (hold_table.hold_quietly (record h { phase = hold.Free })) (λ k. (k.0.1, tt))
   released-phase h (hold.Reset r) u = same-phase h (hold.Reset r)
 
   pub attended-phase : (h : HoldState) (phase : HoldPhase) (p a : ℕ) (may : Bool) → Keeps h phase (hold_table.attended h phase p a may)
@@ -182,15 +182,15 @@ module _ (drawn n : ℕ) (b : Option Begun) (sent : ℕ) where
   let_go-phase h (hold.Letting t p) z = same-phase h (hold.Letting t p)
   let_go-phase h (hold.Reset r) z = same-phase h (hold.Reset r)
 
-pub by_hold-held : (s : SubchannelState) (k : Story) (step : Option HoldStep) → IsHeld s k → IsHold s.drawn k.number s.begun k.sent (hold_after s.hold step).phase →
+pub by_hold-held : (s : SubchannelState) (k : ProgramTrace) (step : Option HoldStep) → IsHeld s k → IsHold s.drawn k.number s.begun k.sent (hold_after s.hold step).phase →
     IsHeld (by_hold s step).state k
 by_hold-held s k step h p = record { number = h.number; phase = p.0; drawn = p.1; work = h.work; standing = h.standing }
 
-pub back-held : (s : SubchannelState) (k : Story) (p : ℕ) (step : Option HoldStep) → IsHeld s k →
+pub back-held : (s : SubchannelState) (k : ProgramTrace) (p : ℕ) (step : Option HoldStep) → IsHeld s k →
     IsHold s.drawn k.number s.begun k.sent (hold_after s.hold step).phase → IsHeld (back s p step).state k
 back-held s k p step h i = record { number = h.number; phase = i.0; drawn = i.1; work = h.work; standing = h.standing }
 
-pub let_go-held : (s : SubchannelState) (k : Story) → k.number ≤ s.drawn → IsHold s.drawn k.number s.begun k.sent s.hold.phase → s.begun ≡ None → IsDone k.orb k.now →
+pub let_go-held : (s : SubchannelState) (k : ProgramTrace) → k.number ≤ s.drawn → IsHold s.drawn k.number s.begun k.sent s.hold.phase → s.begun ≡ None → IsDone k.orb k.now →
     IsStanding s.waiting s.begun s.suspended k → IsHeld (let_go s).state k
 let_go-held s k n p z d st =
     let next : IsHold s.drawn k.number s.begun k.sent (let_go s).state.hold.phase = let_go-phase s.drawn k.number s.begun k.sent s.hold s.hold.phase z refl p in
@@ -198,20 +198,20 @@ let_go-held s k n p z d st =
       number = n;
       phase = next.0;
       drawn = next.1;
-      work = subst (λ (b : Option Begun). HasWork b k) (sym z) d;
+      work = subst (λ (b : Option ActiveProgram). HasWork b k) (sym z) d;
       standing = st;
     }
 
 -- none stands still beside a program at work
-pub standing-some : (w : Option Program) (b : Option Begun) (c : Begun) (st : Option Standing) (k : Story) → b ≡ Some c → IsStanding w b st k → st ≡ None
+pub standing-some : (w : Option Program) (b : Option ActiveProgram) (c : ActiveProgram) (st : Option ProgramPosition) (k : ProgramTrace) → b ≡ Some c → IsStanding w b st k → st ≡ None
 standing-some w b c None k e x = refl
 standing-some w b c (Some st) k e x = absurd (cc (sym e ∙ x.1))
 
-pub none-stands : (w : Option Program) (b : Option Begun) (st : Option Standing) (k : Story) → st ≡ None → IsStanding w b st k
-none-stands w b st k e = subst (λ (x : Option Standing). IsStanding w b x k) (sym e) tt
+pub none-stands : (w : Option Program) (b : Option ActiveProgram) (st : Option ProgramPosition) (k : ProgramTrace) → st ≡ None → IsStanding w b st k
+none-stands w b st k e = subst (λ (x : Option ProgramPosition). IsStanding w b x k) (sym e) tt
 
 -- a halt or a clear that is pending is performed
-pub without-held : (s : SubchannelState) (k : Story) → IsHeld s k → IsHeld (without_programs s) k
+pub without-held : (s : SubchannelState) (k : ProgramTrace) → IsHeld s k → IsHeld (without_programs s) k
 without-held s k h = record {
   number = h.number;
   phase = phase-none s.hold.phase k.number s.begun k.sent h.phase;
@@ -220,10 +220,10 @@ without-held s k h = record {
   standing = tt;
 }
 
-pub halted-held : (s : SubchannelState) (k : Story) → IsHeld s k → IsHeld (with_cause s cause.HaltDone) k
+pub halted-held : (s : SubchannelState) (k : ProgramTrace) → IsHeld s k → IsHeld (with_cause s cause.HaltDone) k
 halted-held s k h = let x : IsHeld (without_programs s) k = without-held s k h in record { number = x.number; phase = x.phase; drawn = x.drawn; work = x.work; standing = x.standing }
 
-pub halt_done-held : (s : SubchannelState) (k : Story) → IsHeld s k → IsHeld (halt_done s) k
+pub halt_done-held : (s : SubchannelState) (k : ProgramTrace) → IsHeld s k → IsHeld (halt_done s) k
 halt_done-held s k h = by s.scsw.activity.halt_pending
   where
     by : (b : Bool) → IsHeld (if b then with_cause s cause.HaltDone else s) k
@@ -231,27 +231,27 @@ halt_done-held s k h = by s.scsw.activity.halt_pending
     by false = h
 
 -- attention: a start that waits is over
-unwaiting : (w : Option Program) (b : Option Begun) (st : Option Standing) (k : Story) → IsStanding w b st k → IsStanding None b st k
+unwaiting : (w : Option Program) (b : Option ActiveProgram) (st : Option ProgramPosition) (k : ProgramTrace) → IsStanding w b st k → IsStanding None b st k
 unwaiting w b None k x = tt
 unwaiting w b (Some st) k x = (refl, x.1, x.2, x.3)
 
-pub attention-held : (s : SubchannelState) (k : Story) (shows : Bool) → IsHeld s k → IsHeld (with_attention s shows) k
+pub attention-held : (s : SubchannelState) (k : ProgramTrace) (shows : Bool) → IsHeld s k → IsHeld (with_attention s shows) k
 attention-held s k true h =
     record { number = h.number; phase = h.phase; drawn = h.drawn; work = h.work; standing = unwaiting s.waiting s.begun s.suspended k h.standing }
 attention-held s k false h = h
 
-pub cleared-held : (s : SubchannelState) (k : Story) → IsHeld s k → IsHeld (with_cause s cause.ClearDone) k
+pub cleared-held : (s : SubchannelState) (k : ProgramTrace) → IsHeld s k → IsHeld (with_cause s cause.ClearDone) k
 cleared-held s k h = record { number = h.number; phase = h.phase; drawn = h.drawn; work = h.work; standing = h.standing }
 
-pub clear_done-held : (s : SubchannelState) (k : Story) → IsHeld s k → IsHeld (clear_done s) k
+pub clear_done-held : (s : SubchannelState) (k : ProgramTrace) → IsHeld s k → IsHeld (clear_done s) k
 clear_done-held s k h = by s.scsw.activity.clear_pending
   where
     by : (b : Bool) → IsHeld (if b then with_cause s cause.ClearDone else s) k
     by true = cleared-held s k h
     by false = h
 
-pub reset_taken-held : (s : SubchannelState) (k : Story) (u : ℕ) (phase : HoldPhase) → s.hold.phase ≡ phase → IsHeld s k →
-    IsHeld (reset_taken s (hold_table.cleared s.hold phase u)).state k
+pub reset_taken-held : (s : SubchannelState) (k : ProgramTrace) (u : ℕ) (phase : HoldPhase) → s.hold.phase ≡ phase → IsHeld s k →
+    IsHeld (reset_taken s (hold_table.reset_cleared s.hold phase u)).state k
 reset_taken-held s k u hold.Free e h = h
 reset_taken-held s k u (hold.Offer t p) e h = h
 reset_taken-held s k u (hold.On t p c) e h = h
@@ -259,19 +259,19 @@ reset_taken-held s k u (hold.Away t) e h = h
 reset_taken-held s k u (hold.Letting t p) e h = h
 reset_taken-held s k u (hold.Reset r) e h = by (u == r)
   where
-    by : (x : Bool) → IsHeld (reset_taken s (if x then Some (hold_table.quietly (record s.hold { phase = hold.Free; reset_path = None })) else None)).state k
+    by : (x : Bool) → IsHeld (reset_taken s (if x then Some (hold_table.hold_quietly (record s.hold { phase = hold.Free; reset_path = None })) else None)).state k
     by true =
         let f : IsPhase (hold.Reset r) k.number s.begun k.sent = subst (λ (x : HoldPhase). IsPhase x k.number s.begun k.sent) e h.phase in
         clear_done-held (record s { hold = record s.hold { phase = hold.Free; reset_path = None } }) k
         (record { number = h.number; phase = f.0; drawn = tt; work = h.work; standing = h.standing })
     by false = h
 
-pub none-begun : (s : SubchannelState) (k : Option Story) → HeldBy s k → s.hold.phase ≡ hold.Free → s.begun ≡ None
+pub none-begun : (s : SubchannelState) (k : Option ProgramTrace) → HeldBy s k → s.hold.phase ≡ hold.Free → s.begun ≡ None
 none-begun s None h e = h.begun
 none-begun s (Some k) h e = phase-free s.hold.phase k.number s.begun k.sent e h.phase
 
-pub nothing-done : (orb : Orb) → IsDone orb no_part
+pub nothing-done : (orb : Orb) → IsDone orb no_trace
 nothing-done orb = record { program = tt; moves = begins-all (places_of orb []); arrived = All-nil IsStored; arrives = begins-all (places_of orb []) }
 
-pub past-done : (orb : Orb) (p : Part) → IsDone orb p → IsDone orb (past_part p)
+pub past-done : (orb : Orb) (p : CommandTrace) → IsDone orb p → IsDone orb (past_part p)
 past-done orb p d = record { program = d.program; moves = begins-all (places_of orb p.acts); arrived = All-nil IsStored; arrives = begins-all (places_of orb p.acts) }

@@ -18,19 +18,19 @@ use Rattle.chan_model.specs.declared.unit_state.UnitState.{UnitState}
 use Rattle.chan_model.specs.Sides.{same_side}
 use Rattle.chan_model.specs.UnitTable.{UnitStep, came_of, unit_takes, unit_after}
 use Rattle.chan_model.specs.UnitReports.{is_outward}
-use Rattle.channel_program.specs.Acts.{Chunk}
+use Rattle.channel_program.specs.Acts.{PlacedBytes}
 use Rattle.idaw.specs.Lists.{kind_of, block}
-use Rattle.idaw.specs.Places.{Reach, places, each_below}
+use Rattle.idaw.specs.Places.{Reach, places_of_bytes, each_below}
 use Rattle.data_move.specs.Moving.{Moving, room, next_place}
 use Rattle.transfer.specs.declared.Transfer.{Transfer}
 use Rattle.transfer.specs.Chunks.{with_moved}
 use Rattle.wires.specs.Queues.{queue, taken}
-use Rattle.subchannel_model.specs.declared.state.Begun.{Begun}
+use Rattle.subchannel_model.specs.declared.state.ActiveProgram.{ActiveProgram}
 use Rattle.subchannel_model.specs.declared.state.SubchannelState.{SubchannelState}
 use Rattle.subchannel_model.specs.Sending.{with_any_sent}
-use Rattle.program_laws.specs.Doings.{Part}
-use Rattle.program_laws.specs.Reaches.{reaches}
-use Rattle.program_laws.specs.Stories.{Story, takes, taken_at, absorbs, reported}
+use Rattle.program_laws.specs.CommandActs.{CommandTrace}
+use Rattle.program_laws.specs.DataAreas.{data_areas}
+use Rattle.program_laws.specs.Traces.{ProgramTrace, takes, taken_at, absorbs, reported}
 use Rattle.program_laws.specs.Claims.{AbsorbsInOrder, IsBeginning, IsFirstOf, places_of}
 use Rattle.program_laws.proofs.Ties.{AreLaws, Tied, spot-begins, with_moved-tied}
 use Rattle.program_laws.proofs.Holds.{HasWork, HeldBy}
@@ -48,28 +48,28 @@ use Rattle.program_laws.proofs.LinkWires.{HandClosed, IsWired}
 use Rattle.program_laws.proofs.LinkModes.{AnyGive, AnyData, HandFlow, Mode, Waits, Over, Reads, Writes, ModeOf, IsFit, fit-closed, mode-carried, mode-down}
 
 -- the command of the program that is at work or over; or one of a program that was over before the device was done with it
-pub data Course (side : Side) (begun : Option Begun) (k : Story) (downs : List (List Down)) (ups : List (List Up)) (u : UnitState) : Type 0 where
+pub data Course (side : Side) (begun : Option ActiveProgram) (k : ProgramTrace) (downs : List (List Down)) (ups : List (List Up)) (u : UnitState) : Type 0 where
   Follows : Mode side begun k downs ups u → Course side begun k downs ups u
-  Cut : begun ≡ None → (b : Begun) → HasWork (Some b) k → Mode side (Some b) k downs ups u → Course side begun k downs ups u
+  Cut : begun ≡ None → (b : ActiveProgram) → HasWork (Some b) k → Mode side (Some b) k downs ups u → Course side begun k downs ups u
 
-abbrev pub CourseOf : Side → Option Begun → Option Story → List (List Down) → List (List Up) → UnitState → Type 0
+abbrev pub CourseOf : Side → Option ActiveProgram → Option ProgramTrace → List (List Down) → List (List Up) → UnitState → Type 0
 CourseOf side begun None downs ups u = IsWired side 0 0 HandClosed AnyGive AnyData downs ups u
 CourseOf side begun (Some k) downs ups u = Course side begun k downs ups u
 
 -- the program is over
-pub course-over : (side : Side) (begun : Option Begun) (k : Story) (downs : List (List Down)) (ups : List (List Up)) (u : UnitState) → HasWork begun k → Course side begun k downs ups u →
+pub course-over : (side : Side) (begun : Option ActiveProgram) (k : ProgramTrace) (downs : List (List Down)) (ups : List (List Up)) (u : UnitState) → HasWork begun k → Course side begun k downs ups u →
     Course side None k downs ups u
 course-over side None k downs ups u w c = c
 course-over side (Some b) k downs ups u w (Follows m) = Cut refl b w m
 course-over side (Some b) k downs ups u w (Cut e c v m) = absurd (cc e)
 
-pub over-course : (side : Side) (s : SubchannelState) (k : Option Story) (downs : List (List Down)) (ups : List (List Up)) (u : UnitState) → HeldBy s k → CourseOf side s.begun k downs ups u →
+pub over-course : (side : Side) (s : SubchannelState) (k : Option ProgramTrace) (downs : List (List Down)) (ups : List (List Up)) (u : UnitState) → HeldBy s k → CourseOf side s.begun k downs ups u →
     CourseOf side None k downs ups u
 over-course side s None downs ups u h c = c
 over-course side s (Some k) downs ups u h c = course-over side s.begun k downs ups u h.work c
 
 -- wires and a unit that carry it
-pub course-carried : (side : Side) (begun : Option Begun) (k : Option Story) (downs downs' : List (List Down)) (ups ups' : List (List Up)) (u v : UnitState) →
+pub course-carried : (side : Side) (begun : Option ActiveProgram) (k : Option ProgramTrace) (downs downs' : List (List Down)) (ups ups' : List (List Up)) (u v : UnitState) →
     ((P : Option AtHand → Type 0) (Q : ℕ → List ℕ → Type 0) (R : ℕ → Load → Type 0) → IsFit P Q → IsWired side (number_of k) (length (took_of k)) P Q R downs ups u →
     IsWired side (number_of k) (length (took_of k)) P Q R downs' ups' v) →
     CourseOf side begun k downs ups u → CourseOf side begun k downs' ups' v
@@ -78,15 +78,15 @@ course-carried side begun (Some k) downs downs' ups ups' u v f (Follows m) = Fol
 course-carried side begun (Some k) downs downs' ups ups' u v f (Cut e b w m) = Cut e b w (mode-carried side (Some b) k downs downs' ups ups' u v f m)
 
 -- what the unit does leaves the command that is at work for the story
-abbrev pub WorkOf : Begun → Option Story → Type 0
+abbrev pub WorkOf : ActiveProgram → Option ProgramTrace → Type 0
 WorkOf b None = Unit {0}
 WorkOf b (Some k) = HasWork (Some b) k
 
-takes-if : (b : Begun) (k : Story) (code : ℕ) (c : Bool) → HasWork (Some b) k → HasWork (Some b) (if c then record k { taken = code ∷ k.taken; absorbed = [] } else k)
+takes-if : (b : ActiveProgram) (k : ProgramTrace) (code : ℕ) (c : Bool) → HasWork (Some b) k → HasWork (Some b) (if c then record k { taken = code ∷ k.taken; absorbed = [] } else k)
 takes-if b k code true w = w
 takes-if b k code false w = w
 
-takes-work : (b : Begun) (k : Story) (d : Down) → HasWork (Some b) k → HasWork (Some b) (takes d k)
+takes-work : (b : ActiveProgram) (k : ProgramTrace) (d : Down) → HasWork (Some b) k → HasWork (Some b) (takes d k)
 takes-work b k (down.Select t) w = w
 takes-work b k (down.Command t n code room) w = takes-if b k code (t == k.number) w
 takes-work b k (down.Grant t c) w = w
@@ -98,26 +98,26 @@ takes-work b k (down.Release t) w = w
 takes-work b k (down.Reset r c) w = w
 takes-work b k (down.Got a) w = w
 
-taken-work : (b : Begun) (k : Story) (d : Down) (came : Bool) (sent : Option (OnPath Up)) → HasWork (Some b) k → WorkOf b (taken_at (reply.Down d came sent) (Some k))
+taken-work : (b : ActiveProgram) (k : ProgramTrace) (d : Down) (came : Bool) (sent : Option (OnPath Up)) → HasWork (Some b) k → WorkOf b (taken_at (reply.Down d came sent) (Some k))
 taken-work b k d true None w = takes-work b k d w
 taken-work b k d true (Some x) w = w
 taken-work b k d false sent w = w
 
-follows-of : (side : Side) (begun : Option Begun) (k : Option Story) (downs : List (List Down)) (ups : List (List Up)) (u : UnitState) → ModeOf side begun k downs ups u → CourseOf side begun k downs ups u
+follows-of : (side : Side) (begun : Option ActiveProgram) (k : Option ProgramTrace) (downs : List (List Down)) (ups : List (List Up)) (u : UnitState) → ModeOf side begun k downs ups u → CourseOf side begun k downs ups u
 follows-of side begun None downs ups u m = m
 follows-of side begun (Some k) downs ups u m = Follows m
 
-cut-of : (side : Side) (begun : Option Begun) (b : Begun) (k : Option Story) (downs : List (List Down)) (ups : List (List Up)) (u : UnitState) → begun ≡ None → WorkOf b k →
+cut-of : (side : Side) (begun : Option ActiveProgram) (b : ActiveProgram) (k : Option ProgramTrace) (downs : List (List Down)) (ups : List (List Up)) (u : UnitState) → begun ≡ None → WorkOf b k →
     ModeOf side (Some b) k downs ups u → CourseOf side begun k downs ups u
 cut-of side begun b None downs ups u e w m = m
 cut-of side begun b (Some k) downs ups u e w m = Cut e b w m
 
-same-last : (k : Story) (b c : Begun) → HasWork (Some b) k → Some b ≡ Some c → IsLast (codes_of k) k.sent c.transfer
-same-last k b c w e = let same : b ≡ c = cc e in subst (λ (x : Begun). IsLast (codes_of k) k.sent x.transfer) same (work-last b k w)
+same-last : (k : ProgramTrace) (b c : ActiveProgram) → HasWork (Some b) k → Some b ≡ Some c → IsLast (codes_of k) k.sent c.transfer
+same-last k b c w e = let same : b ≡ c = cc e in subst (λ (x : ActiveProgram). IsLast (codes_of k) k.sent x.transfer) same (work-last b k w)
 
 -- Down
-pub course-down : (may : Bool) → (side : Side) (drawn : ℕ) (k : Story) (downs : List (List Down)) (ups : List (List Up)) (u : UnitState) (path : ℕ) → IsOrdered side drawn k.number k.sent (codes_of k) k.taken downs u →
-    (begun : Option Begun) (d : Down) → ((b : Begun) → begun ≡ Some b → IsLast (codes_of k) k.sent b.transfer) → slice_get (queue downs path) 0 ≡ Some d →
+pub course-down : (may : Bool) → (side : Side) (drawn : ℕ) (k : ProgramTrace) (downs : List (List Down)) (ups : List (List Up)) (u : UnitState) (path : ℕ) → IsOrdered side drawn k.number k.sent (codes_of k) k.taken downs u →
+    (begun : Option ActiveProgram) (d : Down) → ((b : ActiveProgram) → begun ≡ Some b → IsLast (codes_of k) k.sent b.transfer) → slice_get (queue downs path) 0 ≡ Some d →
     IsDown drawn k.number k.sent (codes_of k) d → Course side begun k downs ups u →
     CourseOf side begun (taken_at (reply.Down d (came_of (unit_takes u side path d may)).taken (came_of (unit_takes u side path d may)).sent) (Some k)) (taken downs path)
     (with_any_sent ups (came_of (unit_takes u side path d may)).sent) (unit_after u (unit_takes u side path d may))
@@ -127,7 +127,7 @@ course-down may side drawn k downs ups u path o begun d last q i (Cut e b w m) =
     (mode-down side drawn k downs ups u path o may (Some b) d (λ c f. same-last k b c w f) q i m)
 
 -- Report
-absorbs-work : (b : Begun) (k : Story) (count : ℕ) (x : Option AtHand) → HasWork (Some b) k → HasWork (Some b) (absorbs count x k)
+absorbs-work : (b : ActiveProgram) (k : ProgramTrace) (count : ℕ) (x : Option AtHand) → HasWork (Some b) k → HasWork (Some b) (absorbs count x k)
 absorbs-work b k count None w = w
 absorbs-work b k count (Some x) w = by x.given
   where
@@ -135,18 +135,18 @@ absorbs-work b k count (Some x) w = by x.given
     by None = w
     by (Some bytes) = w
 
-report-if : (b : Begun) (k : Story) (count : ℕ) (x : Option AtHand) (c : Bool) → HasWork (Some b) k → HasWork (Some b) (if c then absorbs count x k else k)
+report-if : (b : ActiveProgram) (k : ProgramTrace) (count : ℕ) (x : Option AtHand) (c : Bool) → HasWork (Some b) k → HasWork (Some b) (if c then absorbs count x k else k)
 report-if b k count x true w = absorbs-work b k count x w
 report-if b k count x false w = w
 
-reported-work : (b : Begun) (k : Story) (u : UnitState) (report : Report) (a : DeviceAnswer) → HasWork (Some b) k → HasWork (Some b) (reported u report a k)
+reported-work : (b : ActiveProgram) (k : ProgramTrace) (u : UnitState) (report : Report) (a : DeviceAnswer) → HasWork (Some b) k → HasWork (Some b) (reported u report a k)
 reported-work b k u report answer.Begins w = w
 reported-work b k u report (answer.Absorbed count) w = report-if b k count u.at_hand (report.number == k.number) w
 reported-work b k u report (answer.Supplied bytes) w = w
 reported-work b k u report answer.Again w = w
 reported-work b k u report (answer.Ended status more) w = w
 
-pub course-reports : (side : Side) (drawn : ℕ) (begun : Option Begun) (k : Story) (downs : List (List Down)) (ups : List (List Up)) (u : UnitState) (report : Report) (y : UnitStep) →
+pub course-reports : (side : Side) (drawn : ℕ) (begun : Option ActiveProgram) (k : ProgramTrace) (downs : List (List Down)) (ups : List (List Up)) (u : UnitState) (report : Report) (y : UnitStep) →
     same_side side report.side ≡ true → IsNumbered side drawn k.number k.taken u → IsReportTaken u report y → Course side begun k downs ups u →
     Course side begun (reported u report report.answer k) downs (with_any_sent ups y.sent) y.state
 course-reports side drawn begun k downs ups u report y s n t (Follows m) = Follows (mode-reports side drawn begun k downs ups u report y s n t m)
@@ -154,36 +154,36 @@ course-reports side drawn begun k downs ups u report y s n t (Cut e b w m) =
     Cut e b (reported-work b k u report report.answer w) (mode-reports side drawn (Some b) k downs ups u report y s n t m)
 
 -- the transfer is marked, or its block's interruption was made
-pub mode-marked : (side : Side) (b c : Begun) (k : Story) (downs : List (List Down)) (ups : List (List Up)) (u : UnitState) → IsUninterrupted b c → Mode side (Some b) k downs ups u →
+pub mode-marked : (side : Side) (b c : ActiveProgram) (k : ProgramTrace) (downs : List (List Down)) (ups : List (List Up)) (u : UnitState) → IsUninterrupted b c → Mode side (Some b) k downs ups u →
     Mode side (Some c) k downs ups u
 mode-marked side b c k downs ups u i (Waits d e g r y a w) =
-    let same : b ≡ d = cc e in Waits c refl g (i.sequence ∙ (ap (λ (x : Begun). x.transfer.sequence) same ∙ r)) y a w
+    let same : b ≡ d = cc e in Waits c refl g (i.sequence ∙ (ap (λ (x : ActiveProgram). x.transfer.sequence) same ∙ r)) y a w
 mode-marked side b c k downs ups u i (Over e g r a w) = absurd (cc e)
 mode-marked side b c k downs ups u i (Reads d e g o r w) =
-    let same : b ≡ d = cc e in Reads c refl g (ap is_outward i.code ∙ (ap (λ (x : Begun). is_outward x.transfer.code) same ∙ o)) r w
+    let same : b ≡ d = cc e in Reads c refl g (ap is_outward i.code ∙ (ap (λ (x : ActiveProgram). is_outward x.transfer.code) same ∙ o)) r w
 mode-marked side b c k downs ups u i (Writes d e g o lead f w) =
     let same : b ≡ d = cc e in
     let V : ℕ → Moving → View = λ q m. record { seq = q; next = next_place m; room = room m; moved = k.now.moved; copied = k.now.copied } in
     let views : view_of d.transfer k.now ≡ view_of c.transfer k.now =
-    ap (λ (x : Begun). view_of x.transfer k.now) (sym same) ∙ sym (ap (λ (q : ℕ). V q c.transfer.moving) i.sequence ∙ ap (V b.transfer.sequence) i.moving) in
-    let codes : d.transfer.code ≡ c.transfer.code = ap (λ (x : Begun). x.transfer.code) (sym same) ∙ sym i.code in
+    ap (λ (x : ActiveProgram). view_of x.transfer k.now) (sym same) ∙ sym (ap (λ (q : ℕ). V q c.transfer.moving) i.sequence ∙ ap (V b.transfer.sequence) i.moving) in
+    let codes : d.transfer.code ≡ c.transfer.code = ap (λ (x : ActiveProgram). x.transfer.code) (sym same) ∙ sym i.code in
     let P : View → ℕ → Type 0 = λ x y. IsWired side k.number (length k.taken) (HandFlow y x lead) (IsGive x) (IsData x lead) downs ups u in
     Writes c refl g (ap is_outward (sym codes) ∙ o) lead (subst (λ (x : View). Flow x k.absorbed lead) views f)
     (subst (λ (x : View). P x c.transfer.code) views (subst (λ (y : ℕ). P (view_of d.transfer k.now) y) codes w))
 
-pub interrupted-mode : (side : Side) (x : SubchannelState) (b : Begun) (k : Story) (downs : List (List Down)) (ups : List (List Up)) (u : UnitState) → x.begun ≡ Some b →
+pub interrupted-mode : (side : Side) (x : SubchannelState) (b : ActiveProgram) (k : ProgramTrace) (downs : List (List Down)) (ups : List (List Up)) (u : UnitState) → x.begun ≡ Some b →
     Mode side (Some b) k downs ups u → Mode side (interrupted x (Some b)).begun k downs ups u
 interrupted-mode side x b k downs ups u e m =
     let i : IsInterrupted x (interrupted x (Some b)) b = interrupted-work x b e in
-    subst (λ (c : Option Begun). Mode side c k downs ups u) (sym i.is) (mode-marked side b i.begun k downs ups u i.same m)
+    subst (λ (c : Option ActiveProgram). Mode side c k downs ups u) (sym i.is) (mode-marked side b i.begun k downs ups u i.same m)
 
 -- what was absorbed is of the command that the story has last
-module _ (laws : AreLaws) (k : Story) where
+module _ (laws : AreLaws) (k : ProgramTrace) where
   flow-begins : (t : Transfer) (lead : Option ℕ) → Tied k.earlier k.orb k.now.acts k.now.moved t → IsLead (view_of t k.now) lead → IsBeginning (lead_places (view_of t k.now) lead) (places_of k.orb k.now.acts)
-  flow-begins t None i l = spot-begins k.orb (reaches k.orb k.now.acts) t k.now.moved i.spot
+  flow-begins t None i l = spot-begins k.orb (data_areas k.orb k.now.acts) t k.now.moved i.spot
   flow-begins t (Some j) i l =
       let within : room t.moving ≤ t.moving.left = min-le_left t.moving.left 256 in
-      spot-begins k.orb (reaches k.orb k.now.acts) (with_moved t j) (k.now.moved ++ each_below (next_place t.moving) j)
+      spot-begins k.orb (data_areas k.orb k.now.acts) (with_moved t j) (k.now.moved ++ each_below (next_place t.moving) j)
       (with_moved-tied k.earlier laws k.orb k.now.acts k.now.moved t j (let h : j ≤ room t.moving = l in omega (arith, h, within)) i).spot
 
   pub flow-absorbs : (t : Transfer) (lead : Option ℕ) → Tied k.earlier k.orb k.now.acts k.now.moved t → Flow (view_of t k.now) k.absorbed lead → AbsorbsInOrder k.orb k.now k.absorbed
@@ -191,10 +191,10 @@ module _ (laws : AreLaws) (k : Story) where
       (f.chunks, f.firsts, f.bytes, subst (λ (xs : List (Option ℕ)). IsBeginning xs (places_of k.orb k.now.acts)) (sym f.places) (flow-begins t lead i f.within))
 
   -- the same places
-  pub absorbs-on : (after : Part) → after.copied ≡ k.now.copied → reaches k.orb after.acts ≡ reaches k.orb k.now.acts → AbsorbsInOrder k.orb k.now k.absorbed → AbsorbsInOrder k.orb after k.absorbed
+  pub absorbs-on : (after : CommandTrace) → after.copied ≡ k.now.copied → data_areas k.orb after.acts ≡ data_areas k.orb k.now.acts → AbsorbsInOrder k.orb k.now k.absorbed → AbsorbsInOrder k.orb after k.absorbed
   absorbs-on after c r a = (
     a.0,
-    subst (λ (xs : List Chunk). All (IsFirstOf xs) a.0) (sym c) a.1,
+    subst (λ (xs : List PlacedBytes). All (IsFirstOf xs) a.0) (sym c) a.1,
     a.2,
-    subst (λ (xs : List Reach). IsBeginning (flat_map (λ (x : Chunk). x.places) a.0) (places (block (kind_of k.orb)) xs)) (sym r) a.3,
+    subst (λ (xs : List Reach). IsBeginning (flat_map (λ (x : PlacedBytes). x.places) a.0) (places_of_bytes (block (kind_of k.orb)) xs)) (sym r) a.3,
   )

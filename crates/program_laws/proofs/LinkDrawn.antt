@@ -11,22 +11,22 @@ use Rattle.chan_model.specs.declared.signal.Up.{Up}
 use Rattle.chan_model.specs.declared.signal.Up.TheVariants as up
 use Rattle.chan_model.specs.HoldTable.{HoldStep, hold_takes, hold_after, came_of, is_connected, is_on}
 use Rattle.chan_model.specs.UnitReports.{is_last_end, is_outward, has_device_end}
-use Rattle.channel_program.specs.Walks.{Place}
+use Rattle.channel_program.specs.Walks.{WalkPlace}
 use Rattle.data_move.specs.Moving.{residual}
-use Rattle.transfer.specs.declared.Came.{Came}
-use Rattle.transfer.specs.declared.Came.TheVariants as came
+use Rattle.transfer.specs.declared.CommandStart.{CommandStart}
+use Rattle.transfer.specs.declared.CommandStart.TheVariants as came
 use Rattle.transfer.specs.declared.Transfer.{Transfer}
 use Rattle.transfer.specs.Commands.{first_command, next_command, begun_with_room}
 use Rattle.transfer.specs.Chunks.{is_answered}
-use Rattle.subchannel_model.specs.declared.cause.Cause.TheVariants as cause
+use Rattle.subchannel_model.specs.declared.cause.StatusCause.TheVariants as cause
 use Rattle.subchannel_model.specs.declared.signals.DataSignal.{DataSignal}
 use Rattle.subchannel_model.specs.declared.signals.EndSignal.{EndSignal}
-use Rattle.subchannel_model.specs.declared.state.Begun.{Begun}
-use Rattle.subchannel_model.specs.declared.state.Standing.{Standing}
+use Rattle.subchannel_model.specs.declared.state.ActiveProgram.{ActiveProgram}
+use Rattle.subchannel_model.specs.declared.state.ProgramPosition.{ProgramPosition}
 use Rattle.subchannel_model.specs.declared.state.SubchannelState.{SubchannelState}
 use Rattle.subchannel_model.specs.declared.state.UpStep.{UpStep}
 use Rattle.subchannel_model.specs.Ends.{has_status_modifier, chains_command}
-use Rattle.subchannel_model.specs.Taking.{Met, goes_ahead, standing, with_path, taking_over, with_transfer, moving_on, reset_taken, beginning, begin_standing, accepted_by, accept, move_bytes, move_data, with_end, end_taken, chaining, goes_on, stops_at, end_of, takes_up}
+use Rattle.subchannel_model.specs.Taking.{Met, goes_ahead, standing, path_used, taking_over, with_transfer, moving_on, reset_taken, beginning, begin_standing, accepted_by, accept, move_bytes, move_data, with_end, end_taken, chaining, goes_on, stops_at, end_of, takes_up}
 use Rattle.subchannel_model.specs.Losing.{has_any, is_offered_or_held, reset_with, reset_for}
 use Rattle.subchannel_model.specs.Taking as taking
 use Rattle.program_laws.proofs.Caused.{cause-kept, interrupted-work, suspending-workless, halt-kept, clear-kept}
@@ -44,18 +44,18 @@ module _ (storage : Contents) where
   if-met s false x y e f = f
 
   -- Accept
-  beginning-same : (s : SubchannelState) (p t : ℕ) (st : Standing) (walk : Place) (r : Came) → IsSame s (beginning storage s p t st walk r)
+  beginning-same : (s : SubchannelState) (p t : ℕ) (st : ProgramPosition) (walk : WalkPlace) (r : CommandStart) → IsSame s (beginning storage s p t st walk r)
   beginning-same s p t st walk (came.Begins transfer) = (interrupted-work (taking_over s st.program (begun_with_room storage transfer).transfer) _ refl).kept.drawn
   beginning-same s p t st walk came.Suspends = (suspending-workless s st.program walk st.count).kept.drawn
   beginning-same s p t st walk (came.Stops check) = (cause-kept s (cause.FetchFault walk.tried check st.count)).drawn
 
-  standing-same : (s : SubchannelState) (p t : ℕ) (st : Option Standing) → IsSame s (begin_standing storage s p t st)
+  standing-same : (s : SubchannelState) (p t : ℕ) (st : Option ProgramPosition) → IsSame s (begin_standing storage s p t st)
   standing-same s p t None = refl
   standing-same s p t (Some st) = beginning-same s p t st (first_command storage st.walk).walk (first_command storage st.walk).came
 
   accepted_by-same : (s : SubchannelState) (phase : HoldPhase) (taken : Taken Down) → IsSame s (accepted_by storage s phase taken)
-  accepted_by-same s (hold.On t p c) taken = standing-same (record s { pmcw = with_path s.pmcw p }) p t (standing s)
-  accepted_by-same s (hold.Letting t p) taken = (halt-kept (record s { pmcw = with_path s.pmcw p })).drawn
+  accepted_by-same s (hold.On t p c) taken = standing-same (record s { pmcw = path_used s.pmcw p }) p t (standing s)
+  accepted_by-same s (hold.Letting t p) taken = (halt-kept (record s { pmcw = path_used s.pmcw p })).drawn
   accepted_by-same s hold.Free taken = refl
   accepted_by-same s (hold.Offer t p) taken = refl
   accepted_by-same s (hold.Away t) taken = refl
@@ -66,31 +66,31 @@ module _ (storage : Contents) where
       if-same s (came_of step).taken _ _ (accepted_by-same (record s { hold = hold_after s.hold step }) (hold_after s.hold step).phase (came_of step)) refl
 
   -- Data
-  moving-same : (s : SubchannelState) (b : Begun) (t : Transfer) → (moving_on s b t).drawn ≡ s.drawn
+  moving-same : (s : SubchannelState) (b : ActiveProgram) (t : Transfer) → (moving_on s b t).drawn ≡ s.drawn
   moving-same s b t = (interrupted-work (with_transfer s b t) (record b { transfer = t }) refl).kept.drawn
 
-  move_bytes-same : (s : SubchannelState) (b : Begun) (signal : DataSignal) (load : Load) → IsSame s (move_bytes storage s b signal load).step
+  move_bytes-same : (s : SubchannelState) (b : ActiveProgram) (signal : DataSignal) (load : Load) → IsSame s (move_bytes storage s b signal load).step
   move_bytes-same s b signal load = if-met s (is_outward b.transfer.code) _ _ (moving-same s b _) (moving-same s b _)
 
-  move_data-same : (s : SubchannelState) (b : Option Begun) (signal : DataSignal) (load : Load) → IsSame s (move_data storage s b signal load).step
+  move_data-same : (s : SubchannelState) (b : Option ActiveProgram) (signal : DataSignal) (load : Load) → IsSame s (move_data storage s b signal load).step
   move_data-same s None signal load = refl
   move_data-same s (Some b) signal load = if-met s (is_answered b.transfer signal.command signal.sequence) _ _ (move_bytes-same s b signal load) refl
 
   -- End
-  chaining-same : (s : SubchannelState) (b : Begun) (signal : EndSignal) (walk : Place) (r : Came) → IsSame s (chaining storage s b signal walk r)
+  chaining-same : (s : SubchannelState) (b : ActiveProgram) (signal : EndSignal) (walk : WalkPlace) (r : CommandStart) → IsSame s (chaining storage s b signal walk r)
   chaining-same s b signal walk (came.Begins transfer) = moving-same s b (begun_with_room storage transfer).transfer
   chaining-same s b signal walk came.Suspends = (suspending-workless (end_taken s signal) b.program walk (residual b.transfer.moving)).kept.drawn
   chaining-same s b signal walk (came.Stops check) = (cause-kept (end_taken s signal) (cause.FetchFault walk.tried check (residual b.transfer.moving))).drawn
 
-  goes_on-same : (s : SubchannelState) (b : Begun) (signal : EndSignal) → IsSame s (goes_on storage s b signal)
+  goes_on-same : (s : SubchannelState) (b : ActiveProgram) (signal : EndSignal) → IsSame s (goes_on storage s b signal)
   goes_on-same s b signal =
       if-same s (has_device_end signal.status) _ _
       (chaining-same s b signal (next_command storage b.transfer (has_status_modifier signal.status)).walk (next_command storage b.transfer (has_status_modifier signal.status)).came) refl
 
-  stops_at-same : (s : SubchannelState) (b : Begun) (signal : EndSignal) → IsSame s (stops_at s b signal)
+  stops_at-same : (s : SubchannelState) (b : ActiveProgram) (signal : EndSignal) → IsSame s (stops_at s b signal)
   stops_at-same s b signal = if-same s (is_last_end signal.status) _ _ (cause-kept s (cause.End b signal.status signal.more)).drawn (cause-kept s (cause.End b signal.status signal.more)).drawn
 
-  end_of-same : (s : SubchannelState) (b : Option Begun) (signal : EndSignal) → IsSame s (end_of storage s b signal)
+  end_of-same : (s : SubchannelState) (b : Option ActiveProgram) (signal : EndSignal) → IsSame s (end_of storage s b signal)
   end_of-same s None signal = refl
   end_of-same s (Some b) signal =
       if-same s (signal.command == b.transfer.command) _ _

@@ -22,9 +22,9 @@ use Rattle.chan_model.specs.Sides.{same_side}
 use Rattle.chan_model.specs.UnitTable.{UnitStep, came_of, is_owner, unit_takes, unit_after}
 use Rattle.chan_model.specs.UnitReports.{unit_reports}
 use Rattle.wires.specs.Queues.{queue, taken}
-use Rattle.subchannel_model.specs.declared.state.Begun.{Begun}
+use Rattle.subchannel_model.specs.declared.state.ActiveProgram.{ActiveProgram}
 use Rattle.subchannel_model.specs.declared.state.Chosen.{Chosen}
-use Rattle.subchannel_model.specs.declared.state.Chosen.TheVariants.{Idle, Resets, Clears, Halts, Ends, Over, Offers}
+use Rattle.subchannel_model.specs.declared.state.Chosen.TheVariants.{Idle, Resets, PerformsClear, Halts, PerformsHalt, FindsNoPath, Offers}
 use Rattle.subchannel_model.specs.declared.state.Program.{Program}
 use Rattle.subchannel_model.specs.declared.state.Subchannel.{Subchannel}
 use Rattle.subchannel_model.specs.declared.state.SubchannelState.{SubchannelState}
@@ -38,7 +38,7 @@ use Rattle.machine_model.specs.ReportSteps.{report_taken}
 use Rattle.subchannel_model.specs.Losing.{has_any, is_offered_or_held, reset_with, reset_for}
 use Rattle.subchannel_model.specs.Taking as taking
 use Rattle.step_laws.specs.Walks.{IsFound, Suits}
-use Rattle.program_laws.specs.Stories.{Story, offered, offered_for, resumed, chosen_at, meets, met_with, met_at, taken_at, reported_at}
+use Rattle.program_laws.specs.Traces.{ProgramTrace, trace_offered, offered_for, trace_resumed, chosen_at, trace_meets, met_with, met_at, taken_at, reported_at}
 use Rattle.program_laws.proofs.Turns.{if-ok}
 use Rattle.program_laws.proofs.Ties.{AreLaws}
 use Rattle.program_laws.proofs.Accesses.{AreAccesses}
@@ -60,11 +60,11 @@ use Rattle.program_laws.proofs.UnitFlows.{IsGive, IsData}
 use Rattle.program_laws.proofs.LinkReports.{one-side, report-owner, told-closed, told-own}
 use Rattle.program_laws.proofs.LinkMeets.{quiet, mode-meets}
 
-abbrev pub AtSub : Side → Subchannel → Option Story → UnitState → Type 0
+abbrev pub AtSub : Side → Subchannel → Option ProgramTrace → UnitState → Type 0
 AtSub side sub k u = CourseOf side sub.state.begun k sub.wires.down sub.wires.up u
 
 -- Choose: a greater number is drawn
-mode-offer : (side : Side) (drawn : ℕ) (begun : Option Begun) (k : Story) (took : List ℕ) (downs : List (List Down)) (ups : List (List Up)) (u : UnitState) (path : ℕ) → k.number ≤ drawn →
+mode-offer : (side : Side) (drawn : ℕ) (begun : Option ActiveProgram) (k : ProgramTrace) (took : List ℕ) (downs : List (List Down)) (ups : List (List Up)) (u : UnitState) (path : ℕ) → k.number ≤ drawn →
     IsNumbered side drawn k.number took u → Mode side begun k downs ups u →
     IsWired side (drawn + 1) 0 HandClosed AnyGive AnyData (with_any_sent downs (Some (record { path = path; signal = down.Select (drawn + 1) }))) ups u
 mode-offer side drawn begun k took downs ups u path l n (Waits b h g q y a w) =
@@ -77,7 +77,7 @@ mode-offer side drawn begun k took downs ups u path l n (Writes b h g o lead f w
     wired-offers side drawn k.number (drawn + 1) (length k.taken) took (HandFlow b.transfer.code (view_of b.transfer k.now) lead) HandClosed (IsGive (view_of b.transfer k.now)) AnyGive
     (IsData (view_of b.transfer k.now) lead) AnyData downs ups u path l (omega arith) n w
 
-offer-wires : (side : Side) (drawn : ℕ) (begun : Option Begun) (k : Option Story) (took : List ℕ) (downs : List (List Down)) (ups : List (List Up)) (u : UnitState) (path : ℕ) → number_of k ≤ drawn →
+offer-wires : (side : Side) (drawn : ℕ) (begun : Option ActiveProgram) (k : Option ProgramTrace) (took : List ℕ) (downs : List (List Down)) (ups : List (List Up)) (u : UnitState) (path : ℕ) → number_of k ≤ drawn →
     IsNumbered side drawn (number_of k) took u → CourseOf side begun k downs ups u →
     IsWired side (drawn + 1) 0 HandClosed AnyGive AnyData (with_any_sent downs (Some (record { path = path; signal = down.Select (drawn + 1) }))) ups u
 offer-wires side drawn begun None took downs ups u path l n w =
@@ -86,7 +86,7 @@ offer-wires side drawn begun (Some k) took downs ups u path l n (Follows m) = mo
 offer-wires side drawn begun (Some k) took downs ups u path l n (Cut e b w m) = mode-offer side drawn (Some b) k took downs ups u path l n m
 
 -- the program is offered: nothing was sent of it under this number
-offers-over : (sub : Subchannel) (path : ℕ) (t : Subchannel) (k : Option Story) (new : Story) (u : UnitState) → HeldBy sub.state k → IsLinked sub.setup.side sub.state.drawn sub.wires.down k u →
+offers-over : (sub : Subchannel) (path : ℕ) (t : Subchannel) (k : Option ProgramTrace) (new : ProgramTrace) (u : UnitState) → HeldBy sub.state k → IsLinked sub.setup.side sub.state.drawn sub.wires.down k u →
     AtSub sub.setup.side sub k u → t.wires.down ≡ with_any_sent sub.wires.down (Some (record { path = path; signal = down.Select (sub.state.drawn + 1) })) → t.wires.up ≡ sub.wires.up →
     t.state.begun ≡ None → new.number ≡ sub.state.drawn + 1 → new.sent ≡ 0 → new.taken ≡ [] → new.absorbed ≡ [] → AtSub sub.setup.side t (Some new) u
 offers-over sub path t k new u h l a d x b i n g z =
@@ -99,10 +99,10 @@ offers-over sub path t k new u h l a d x b i n g z =
     (subst (λ (y : List (List Down)). P (sub.state.drawn + 1) 0 y t.wires.up) (sym d) (subst (λ (y : List (List Up)). P (sub.state.drawn + 1) 0 (with_any_sent sub.wires.down (Some (record { path = path; signal = down.Select (sub.state.drawn + 1) }))) y) (sym x) w))) in
     Follows (modes.Over b (ap length g ∙ sym n) (λ y. z) (absorbs-none new.orb new.now new.absorbed z) v)
 
-offered-begun : (s : SubchannelState) (n path : ℕ) (k : Story) → s.hold.phase ≡ hold.Offer n path → IsHeld s k → s.begun ≡ None
+offered-begun : (s : SubchannelState) (n path : ℕ) (k : ProgramTrace) → s.hold.phase ≡ hold.Offer n path → IsHeld s k → s.begun ≡ None
 offered-begun s n path k e h = (subst (λ (x : HoldPhase). IsPhase x k.number s.begun k.sent) e h.phase).1
 
-offers-flows : (sub : Subchannel) (program : Program) (path : ℕ) (resumes : Bool) (t : Subchannel) (k : Option Story) (u : UnitState) →
+offers-flows : (sub : Subchannel) (program : Program) (path : ℕ) (resumes : Bool) (t : Subchannel) (k : Option ProgramTrace) (u : UnitState) →
     IsFound sub.state.waiting sub.state.suspended resumes program → HeldBy sub.state k → IsLinked sub.setup.side sub.state.drawn sub.wires.down k u → AtSub sub.setup.side sub k u →
     t.wires.down ≡ with_any_sent sub.wires.down (Some (record { path = path; signal = down.Select (sub.state.drawn + 1) })) → t.wires.up ≡ sub.wires.up →
     t.state.hold.phase ≡ hold.Offer (sub.state.drawn + 1) path →
@@ -110,35 +110,35 @@ offers-flows : (sub : Subchannel) (program : Program) (path : ℕ) (resumes : Bo
     AtSub sub.setup.side t (chosen_at (Some sub) (reply.Offered (sub.state.drawn + 1) path resumes) k) u
 offers-flows sub program path false t k u w h l a d x f =
     let n : ℕ = sub.state.drawn + 1 in
-    let P : Option Story → Type 0 = λ y. HeldBy t.state y → AtSub sub.setup.side t y u in
-    let made : P (Some (offered n program.orb)) = λ y. offers-over sub path t k (offered n program.orb) u h l a d x (offered-begun t.state n path (offered n program.orb) f y) refl refl refl refl in
+    let P : Option ProgramTrace → Type 0 = λ y. HeldBy t.state y → AtSub sub.setup.side t y u in
+    let made : P (Some (trace_offered n program.orb)) = λ y. offers-over sub path t k (trace_offered n program.orb) u h l a d x (offered-begun t.state n path (trace_offered n program.orb) f y) refl refl refl refl in
     subst (λ (y : Option Program). P (offered_for y n k)) (sym w) made
 offers-flows sub program path true t None u w h l a d x f = absurd (cc (sym h.suspended ∙ w.1))
 offers-flows sub program path true t (Some k) u w h l a d x f =
     let n : ℕ = sub.state.drawn + 1 in
-    λ y. offers-over sub path t (Some k) (resumed n k) u h l a d x (offered-begun t.state n path (resumed n k) f y) refl refl refl refl
+    λ y. offers-over sub path t (Some k) (trace_resumed n k) u h l a d x (offered-begun t.state n path (trace_resumed n k) f y) refl refl refl refl
 
 -- a signal that gives nothing
-sends-flows : (side : Side) (begun : Option Begun) (k : Option Story) (downs : List (List Down)) (ups : List (List Up)) (u : UnitState) (path : ℕ) (d : Down) →
+sends-flows : (side : Side) (begun : Option ActiveProgram) (k : Option ProgramTrace) (downs : List (List Down)) (ups : List (List Up)) (u : UnitState) (path : ℕ) (d : Down) →
     ((number m : ℕ) (Q : ℕ → List ℕ → Type 0) → IsGiving number m Q d) → CourseOf side begun k downs ups u → CourseOf side begun k (with_any_sent downs (Some (record { path = path; signal = d }))) ups u
 sends-flows side begun k downs ups u path d g a =
     let one : Option (OnPath Down) = Some (record { path = path; signal = d }) in
     course-carried side begun k downs (with_any_sent downs one) ups ups u u
     (λ P Q R f w. wired-sends side (number_of k) (length (took_of k)) P Q R downs ups u one (g (number_of k) (length (took_of k)) Q) w) a
 
-pub choose-flows : (sub : Subchannel) (c : Chosen) (k : Option Story) (u : UnitState) → Suits c sub.state → HeldBy sub.state k → IsLinked sub.setup.side sub.state.drawn sub.wires.down k u →
+pub choose-flows : (sub : Subchannel) (c : Chosen) (k : Option ProgramTrace) (u : UnitState) → Suits c sub.state → HeldBy sub.state k → IsLinked sub.setup.side sub.state.drawn sub.wires.down k u →
     AtSub sub.setup.side sub k u → IfOk (choose_sub sub c) (λ t. HeldBy t.sub.state (chosen_at (Some sub) t.reply k) → AtSub sub.setup.side t.sub (chosen_at (Some sub) t.reply k) u)
 choose-flows sub Idle k u w h l a = λ x. a
 choose-flows sub (Resets r path) k u w h l a =
     if-ok (λ t. HeldBy t.sub.state (chosen_at (Some sub) t.reply k) → AtSub sub.setup.side t.sub (chosen_at (Some sub) t.reply k) u) (is_full sub.wires.down path) (Err fault.WireFull) _ tt
     (λ x. sends-flows sub.setup.side sub.state.begun k sub.wires.down sub.wires.up u path (down.Reset r sub.state.hold.known) (λ n m Q. tt) a)
-choose-flows sub Clears k u w h l a = λ x. a
+choose-flows sub PerformsClear k u w h l a = λ x. a
 choose-flows sub (Halts t path) k u w h l a =
     if-ok (λ t. HeldBy t.sub.state (chosen_at (Some sub) t.reply k) → AtSub sub.setup.side t.sub (chosen_at (Some sub) t.reply k) u) (is_full sub.wires.down path) (Err fault.WireFull) _ tt
     (λ x. sends-flows sub.setup.side sub.state.begun k sub.wires.down sub.wires.up u path (down.Halt t) (λ n m Q. tt) a)
-choose-flows sub Ends k u w h l a = λ x. over-course sub.setup.side sub.state k sub.wires.down sub.wires.up u h a
-choose-flows sub Over k u w h l a =
-    λ x. subst (λ (b : Option Begun). CourseOf sub.setup.side b k sub.wires.down sub.wires.up u) (sym (path-begun sub.state sub.state.waiting)) a
+choose-flows sub PerformsHalt k u w h l a = λ x. over-course sub.setup.side sub.state k sub.wires.down sub.wires.up u h a
+choose-flows sub FindsNoPath k u w h l a =
+    λ x. subst (λ (b : Option ActiveProgram). CourseOf sub.setup.side b k sub.wires.down sub.wires.up u) (sym (path-begun sub.state sub.state.waiting)) a
 choose-flows sub (Offers c path) k u w h l a =
     let t : Subchannel = record sub {
       state = choosing.offered sub.state c.program path;
@@ -151,38 +151,38 @@ choose-flows sub (Offers c path) k u w h l a =
 untold-no-offer : (phase : HoldPhase) (drawn : ℕ) → IsUnheld phase drawn → IsNoOffer phase
 untold-no-offer phase drawn h t p e = absurd (subst (λ (x : HoldPhase). IsUnheld x drawn) e h)
 
-sent-no-offer : (s : SubchannelState) (k : Story) (b : Begun) → IsHeld s k → HasWork (Some b) k → IsNoOffer s.hold.phase
+sent-no-offer : (s : SubchannelState) (k : ProgramTrace) (b : ActiveProgram) → IsHeld s k → HasWork (Some b) k → IsNoOffer s.hold.phase
 sent-no-offer s k b h w t p e =
     let none : k.sent ≡ 0 = (subst (λ (x : HoldPhase). IsPhase x k.number s.begun k.sent) e h.phase).2 in
     absurd (omega (arith, none, w.2))
 
 module _ (laws : AreLaws) (accesses : AreAccesses) where
-  cut-meets : (returns : Bool) → (storage : Contents) (side : Side) (s : SubchannelState) (k : Story) (downs : List (List Down)) (ups : List (List Up)) (u : UnitState) (path : ℕ) (x : Up) (b : Begun) → IsHeld s k →
+  cut-meets : (returns : Bool) → (storage : Contents) (side : Side) (s : SubchannelState) (k : ProgramTrace) (downs : List (List Down)) (ups : List (List Up)) (u : UnitState) (path : ℕ) (x : Up) (b : ActiveProgram) → IsHeld s k →
       s.begun ≡ None → HasWork (Some b) k → Mode side (Some b) k downs ups u →
-      Course side (takes_up returns storage s path x).step.state.begun (meets storage s path x k) (with_any_sent downs (takes_up returns storage s path x).step.came.sent) (taken ups path) u
+      Course side (takes_up returns storage s path x).step.state.begun (trace_meets storage s path x k) (with_any_sent downs (takes_up returns storage s path x).step.came.sent) (taken ups path) u
   cut-meets returns storage side s k downs ups u path x b h e w m =
-      let i : IsIdle s (takes_up returns storage s path x).step (meets storage s path x) = idle-meets storage s e returns (sent-no-offer s k b h w) path x in
+      let i : IsIdle s (takes_up returns storage s path x).step (trace_meets storage s path x) = idle-meets storage s e returns (sent-no-offer s k b h w) path x in
       let one : Option (OnPath Down) = (takes_up returns storage s path x).step.came.sent in
-      subst (λ (y : Story). Course side (takes_up returns storage s path x).step.state.begun y (with_any_sent downs one) (taken ups path) u) (sym (i.same k))
+      subst (λ (y : ProgramTrace). Course side (takes_up returns storage s path x).step.state.begun y (with_any_sent downs one) (taken ups path) u) (sym (i.same k))
       (Cut (i.begun ∙ e) b w
       (mode-carried side (Some b) k downs (with_any_sent downs one) ups (taken ups path) u u
       (λ P Q R f v. wired-holds side k.number (length k.taken) P P Q Q R R downs ups u one path (λ z y. y) (λ j bytes y. y) (λ j l y. y) (sent-hold k.number (length k.taken) Q one i.sends) v) m))
 
-  reset-course : (s : SubchannelState) (shows : Bool) (side : Side) (k : Story) (downs : List (List Down)) (ups : List (List Up)) (u : UnitState) → IsHeld s k → Course side s.begun k downs ups u →
+  reset-course : (s : SubchannelState) (shows : Bool) (side : Side) (k : ProgramTrace) (downs : List (List Down)) (ups : List (List Up)) (u : UnitState) → IsHeld s k → Course side s.begun k downs ups u →
       Course side (reset_with s shows).begun k downs ups u
   reset-course s true side k downs ups u h c = over-course side s (Some k) downs ups u h c
   reset-course s false side k downs ups u h c = c
 
-  notice-course : (s : SubchannelState) (b : ℕ) (more : Bool) (side : Side) (k : Story) (downs : List (List Down)) (ups : List (List Up)) (u : UnitState) → IsHeld s k →
+  notice-course : (s : SubchannelState) (b : ℕ) (more : Bool) (side : Side) (k : ProgramTrace) (downs : List (List Down)) (ups : List (List Up)) (u : UnitState) → IsHeld s k →
       Course side s.begun k downs ups u → Course side (if more then taking.quietly (reset_for (taking.with_known s b)) else taking.ignoring s).state.begun k (with_any_sent downs (if more then taking.quietly (reset_for (taking.with_known s b)) else taking.ignoring s).came.sent) ups u
   notice-course s b true side k downs ups u h c =
       reset-course (taking.with_known s b) (is_offered_or_held s.hold.phase && has_any s.waiting s.begun s.suspended) side k downs ups u
       (record { number = h.number; phase = h.phase; drawn = h.drawn; work = h.work; standing = h.standing }) c
   notice-course s b false side k downs ups u h c = c
 
-  course-meets : (returns : Bool) → (storage : Contents) (side : Side) (s : SubchannelState) (k : Story) (downs : List (List Down)) (ups : List (List Up)) (u : UnitState) (path : ℕ) (x : Up) →
+  course-meets : (returns : Bool) → (storage : Contents) (side : Side) (s : SubchannelState) (k : ProgramTrace) (downs : List (List Down)) (ups : List (List Up)) (u : UnitState) (path : ℕ) (x : Up) →
       slice_get (queue ups path) 0 ≡ Some x → IsHeld s k → Course side s.begun k downs ups u →
-      Course side (takes_up returns storage s path x).step.state.begun (meets storage s path x k) (with_any_sent downs (takes_up returns storage s path x).step.came.sent) (taken ups path) u
+      Course side (takes_up returns storage s path x).step.state.begun (trace_meets storage s path x k) (with_any_sent downs (takes_up returns storage s path x).step.came.sent) (taken ups path) u
   course-meets returns storage side s k downs ups u path (up.Accept t) e h (Follows m) =
       Follows (mode-meets laws accesses storage side s k downs ups u path h m returns (up.Accept t) (λ P Q R w. first-tells side k.number (length k.taken) P Q R downs ups u path (up.Accept t) e w) tt)
   course-meets returns storage side s k downs ups u path (up.Busy t) e h (Follows m) =
@@ -205,26 +205,26 @@ module _ (laws : AreLaws) (accesses : AreAccesses) where
       notice-course s b (nat_lt s.hold.known b) side k downs (taken ups path) u h (Follows (quiet laws accesses storage side s k downs ups u path h m s.begun None refl tt))
   course-meets returns storage side s k downs ups u path x e h (Cut z b w m) = cut-meets returns storage side s k downs ups u path x b h z w m
 
-  met-flows : (returns : Bool) → (storage : Contents) (sub : Subchannel) (path : ℕ) (x : Up) (k : Option Story) (u : UnitState) → slice_get (queue sub.wires.up path) 0 ≡ Some x → HeldBy sub.state k →
+  met-flows : (returns : Bool) → (storage : Contents) (sub : Subchannel) (path : ℕ) (x : Up) (k : Option ProgramTrace) (u : UnitState) → slice_get (queue sub.wires.up path) 0 ≡ Some x → HeldBy sub.state k →
       AtSub sub.setup.side sub k u →
       CourseOf sub.setup.side (takes_up returns storage sub.state path x).step.state.begun (met_with storage sub.state path (Some x) k)
       (with_any_sent sub.wires.down (takes_up returns storage sub.state path x).step.came.sent) (taken sub.wires.up path) u
   met-flows returns storage sub path x None u e h a =
       let one : Option (OnPath Down) = (takes_up returns storage sub.state path x).step.came.sent in
-      let i : IsIdle sub.state (takes_up returns storage sub.state path x).step (meets storage sub.state path x) =
+      let i : IsIdle sub.state (takes_up returns storage sub.state path x).step (trace_meets storage sub.state path x) =
       idle-meets storage sub.state h.begun returns (untold-no-offer sub.state.hold.phase sub.state.drawn h.phase) path x in
       wired-holds sub.setup.side 0 0 HandClosed HandClosed AnyGive AnyGive AnyData AnyData sub.wires.down sub.wires.up u one path (λ i y. y) (λ i bytes y. y) (λ i l y. y)
       (sent-hold 0 0 AnyGive one i.sends) a
   met-flows returns storage sub path x (Some k) u e h a = course-meets returns storage sub.setup.side sub.state k sub.wires.down sub.wires.up u path x e h a
 
-  up_front-flows : (returns : Bool) → (storage : Contents) (sub : Subchannel) (path : ℕ) (front : Option Up) (k : Option Story) (u : UnitState) → slice_get (queue sub.wires.up path) 0 ≡ front → HeldBy sub.state k →
+  up_front-flows : (returns : Bool) → (storage : Contents) (sub : Subchannel) (path : ℕ) (front : Option Up) (k : Option ProgramTrace) (u : UnitState) → slice_get (queue sub.wires.up path) 0 ≡ front → HeldBy sub.state k →
       AtSub sub.setup.side sub k u → IfOk (up_front returns storage sub path front) (λ t. AtSub sub.setup.side t.sub (met_with storage sub.state path front k) u)
   up_front-flows returns storage sub path None k u e h a = tt
   up_front-flows returns storage sub path (Some x) k u e h a =
       if-ok (λ t. AtSub sub.setup.side t.sub (met_with storage sub.state path (Some x) k) u) (finds_full sub.wires.down (takes_up returns storage sub.state path x).step.came.sent) (Err fault.WireFull) _ tt
       (met-flows returns storage sub path x k u e h a)
 
-  pub up-flows : (returns : Bool) → (storage : Contents) (sub : Subchannel) (path : ℕ) (k : Option Story) (u : UnitState) → HeldBy sub.state k → AtSub sub.setup.side sub k u →
+  pub up-flows : (returns : Bool) → (storage : Contents) (sub : Subchannel) (path : ℕ) (k : Option ProgramTrace) (u : UnitState) → HeldBy sub.state k → AtSub sub.setup.side sub k u →
       IfOk (up_sub returns storage sub path) (λ t. AtSub sub.setup.side t.sub (met_at storage (Some sub) path k) u)
   up-flows returns storage sub path k u h a =
       if-ok (λ t. AtSub sub.setup.side t.sub (met_at storage (Some sub) path k) u) (nat_lt path (length sub.setup.paths)) (up_front returns storage sub path (slice_get (queue sub.wires.up path) 0))
@@ -248,14 +248,14 @@ none-taken d true None = refl
 none-taken d true (Some x) = refl
 none-taken d false sent = refl
 
-sunk-flows : (may : Bool) → (sub : Subchannel) (path : ℕ) (d : Down) (k : Option Story) (u : UnitState) → slice_get (queue sub.wires.down path) 0 ≡ Some d → HeldBy sub.state k →
+sunk-flows : (may : Bool) → (sub : Subchannel) (path : ℕ) (d : Down) (k : Option ProgramTrace) (u : UnitState) → slice_get (queue sub.wires.down path) 0 ≡ Some d → HeldBy sub.state k →
     IsLinked sub.setup.side sub.state.drawn sub.wires.down k u → AtSub sub.setup.side sub k u →
     CourseOf sub.setup.side sub.state.begun
     (taken_at (reply.Down d (came_of (unit_takes u sub.setup.side path d may)).taken (came_of (unit_takes u sub.setup.side path d may)).sent) k) (taken sub.wires.down path)
     (with_any_sent sub.wires.up (came_of (unit_takes u sub.setup.side path d may)).sent) (unit_after u (unit_takes u sub.setup.side path d may))
 sunk-flows may sub path d None u e h l a =
     let i : IsDown sub.state.drawn 0 0 [] d = on-first (IsDown sub.state.drawn 0 0 []) sub.wires.down path d l.downs e in
-    subst (λ (x : Option Story). CourseOf sub.setup.side sub.state.begun x (taken sub.wires.down path)
+    subst (λ (x : Option ProgramTrace). CourseOf sub.setup.side sub.state.begun x (taken sub.wires.down path)
     (with_any_sent sub.wires.up (came_of (unit_takes u sub.setup.side path d may)).sent) (unit_after u (unit_takes u sub.setup.side path d may)))
     (sym (none-taken d (came_of (unit_takes u sub.setup.side path d may)).taken (came_of (unit_takes u sub.setup.side path d may)).sent))
     (wired-takes may sub.setup.side sub.state.drawn 0 0 0 [] HandClosed AnyGive AnyData sub.wires.down sub.wires.up u path d e i fit-closed.none fit-closed.answered fit-closed.gives l.kept.last
@@ -264,7 +264,7 @@ sunk-flows may sub path d (Some k) u e h l a =
     let i : IsDown sub.state.drawn k.number k.sent _ d = on-first (IsDown sub.state.drawn k.number k.sent _) sub.wires.down path d l.downs e in
     course-down may sub.setup.side sub.state.drawn k sub.wires.down sub.wires.up u path l sub.state.begun d (held-needs (Some k) sub.state h).begun e i a
 
-down_front-flows : (may : Bool) → (sub : Subchannel) (path : ℕ) (u : UnitState) (front : Option Down) (k : Option Story) → slice_get (queue sub.wires.down path) 0 ≡ front → HeldBy sub.state k →
+down_front-flows : (may : Bool) → (sub : Subchannel) (path : ℕ) (u : UnitState) (front : Option Down) (k : Option ProgramTrace) → slice_get (queue sub.wires.down path) 0 ≡ front → HeldBy sub.state k →
     IsLinked sub.setup.side sub.state.drawn sub.wires.down k u → AtSub sub.setup.side sub k u →
     IfOk (down_front may sub path u front) (λ t. AtSub sub.setup.side t.sub (taken_at t.reply k) t.«unit»)
 down_front-flows may sub path u None k e h l a = tt
@@ -272,7 +272,7 @@ down_front-flows may sub path u (Some d) k e h l a =
     if-ok (λ t. AtSub sub.setup.side t.sub (taken_at t.reply k) t.«unit») (finds_full sub.wires.up (came_of (unit_takes u sub.setup.side path d may)).sent) (Err fault.WireFull) _ tt
     (sunk-flows may sub path d k u e h l a)
 
-pub down-flows : (may : Bool) → (sub : Subchannel) (path : ℕ) (u : UnitState) (k : Option Story) → HeldBy sub.state k → IsLinked sub.setup.side sub.state.drawn sub.wires.down k u → AtSub sub.setup.side sub k u →
+pub down-flows : (may : Bool) → (sub : Subchannel) (path : ℕ) (u : UnitState) (k : Option ProgramTrace) → HeldBy sub.state k → IsLinked sub.setup.side sub.state.drawn sub.wires.down k u → AtSub sub.setup.side sub k u →
     IfOk (down_sub may sub path u) (λ t. AtSub sub.setup.side t.sub (taken_at t.reply k) t.«unit»)
 down-flows may sub path u k h l a =
     if-ok (λ t. AtSub sub.setup.side t.sub (taken_at t.reply k) t.«unit») (nat_lt path (length sub.setup.paths)) (down_front may sub path u (slice_get (queue sub.wires.down path) 0))
@@ -300,7 +300,7 @@ reported-none side drawn downs ups u report y s n t w =
     wired-tells side 0 0 HandClosed HandClosed AnyGive AnyData AnyData downs ups u y.state y.sent (λ o. closed) (λ i l r. r) (λ z o. closed)
     (none-told u t.path report.number t.connection t.hand report.answer y 0 0 (IsClosed side 0 y.state) t.told (omega (arith, zero), λ e. (omega (arith, last), λ i o. closed))) w
 
-pub report-flows : (sub : Subchannel) (u : UnitState) (report : Report) (k : Option Story) (step : Option UnitStep) → unit_reports u report ≡ step → same_side sub.setup.side report.side ≡ true →
+pub report-flows : (sub : Subchannel) (u : UnitState) (report : Report) (k : Option ProgramTrace) (step : Option UnitStep) → unit_reports u report ≡ step → same_side sub.setup.side report.side ≡ true →
     IsLinked sub.setup.side sub.state.drawn sub.wires.down k u → AtSub sub.setup.side sub k u →
     IfOk (report_taken sub step) (λ t. AtSub sub.setup.side t.sub (reported_at (Some u) report k) t.«unit»)
 report-flows sub u report k None e s l a = tt
@@ -312,7 +312,7 @@ report-flows sub u report (Some k) (Some y) e s l a =
     (course-reports sub.setup.side sub.state.drawn sub.state.begun k sub.wires.down sub.wires.up u report y s l.kept (report-taken u report y e) a)
 
 -- the other side
-pub calm-flows : (side : Side) (sub : Subchannel) (k : Option Story) (u v : UnitState) → IsCalm side u v → AtSub side sub k u → AtSub side sub k v
+pub calm-flows : (side : Side) (sub : Subchannel) (k : Option ProgramTrace) (u v : UnitState) → IsCalm side u v → AtSub side sub k u → AtSub side sub k v
 calm-flows side sub k u v c a =
     course-carried side sub.state.begun k sub.wires.down sub.wires.down sub.wires.up sub.wires.up u v
     (λ P Q R f w. wired-calm side (number_of k) (length (took_of k)) P Q R sub.wires.down sub.wires.up u v c w) a

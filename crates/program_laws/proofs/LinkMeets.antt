@@ -19,39 +19,39 @@ use Rattle.chan_model.specs.declared.signal.Up.TheVariants as up
 use Rattle.chan_model.specs.declared.unit_state.AtHand.{AtHand}
 use Rattle.chan_model.specs.declared.unit_state.UnitState.{UnitState}
 use Rattle.chan_model.specs.HoldTable as hold_table
-use Rattle.chan_model.specs.HoldTable.{HoldStep, hold_after, came_of, is_connected, is_on, letting_go, left, asked_back, found_busy, released, cleared, attended}
+use Rattle.chan_model.specs.HoldTable.{HoldStep, hold_after, came_of, is_connected, is_on, letting_go, left, asked_back, found_busy, released, reset_cleared, attended}
 use Rattle.chan_model.specs.Loads.{load_length}
 use Rattle.chan_model.specs.UnitReports.{is_outward, is_last_end, has_device_end}
 use Rattle.channel_program.specs.Acts.{Act, End}
 use Rattle.channel_program.specs.Programs.{commands}
-use Rattle.channel_program.specs.Walks.{Place, after_end}
+use Rattle.channel_program.specs.Walks.{WalkPlace, walk_after_end}
 use Rattle.idaw.specs.Places.{each_below}
 use Rattle.data_move.specs.Moving.{residual, room}
 use Rattle.transfer.specs.declared.Transfer.{Transfer}
-use Rattle.transfer.specs.declared.Came.{Came}
-use Rattle.transfer.specs.declared.Came.TheVariants as came
-use Rattle.transfer.specs.declared.Given.{Given}
+use Rattle.transfer.specs.declared.CommandStart.{CommandStart}
+use Rattle.transfer.specs.declared.CommandStart.TheVariants as came
+use Rattle.transfer.specs.declared.NextChunk.{NextChunk}
 use Rattle.transfer.specs.Commands.{first_command, next_command, begun_with_room, with_room}
-use Rattle.transfer.specs.Chunks.{Brought, absorbed, next_given, brought, is_answered}
+use Rattle.transfer.specs.Chunks.{Brought, taken_by_device, next_given, brought, is_answered}
 use Rattle.subchannel_model.specs.declared.signals.DataSignal.{DataSignal}
 use Rattle.subchannel_model.specs.declared.signals.EndSignal.{EndSignal}
-use Rattle.subchannel_model.specs.declared.state.Begun.{Begun}
+use Rattle.subchannel_model.specs.declared.state.ActiveProgram.{ActiveProgram}
 use Rattle.subchannel_model.specs.declared.state.Program.{Program}
-use Rattle.subchannel_model.specs.declared.state.Standing.{Standing}
+use Rattle.subchannel_model.specs.declared.state.ProgramPosition.{ProgramPosition}
 use Rattle.subchannel_model.specs.declared.state.SubchannelState.{SubchannelState}
 use Rattle.subchannel_model.specs.declared.state.UpStep.{UpStep}
 use Rattle.subchannel_model.specs.Ends.{has_status_modifier, has_shown, chains_command}
 use Rattle.subchannel_model.specs.Causes as causes
 use Rattle.subchannel_model.specs.Causes.{with_cause}
-use Rattle.subchannel_model.specs.declared.cause.Cause.TheVariants as cause
+use Rattle.subchannel_model.specs.declared.cause.StatusCause.TheVariants as cause
 use Rattle.subchannel_model.specs.Taking as taking
-use Rattle.subchannel_model.specs.Taking.{goes_ahead, from_start, bytes_of, takes_up, with_end}
+use Rattle.subchannel_model.specs.Taking.{goes_ahead, from_start, bytes_of_load, takes_up, with_end}
 use Rattle.subchannel_model.specs.Sending.{with_any_sent}
 use Rattle.wires.specs.Queues.{taken}
-use Rattle.program_laws.specs.Reaches.{reaches}
-use Rattle.program_laws.specs.Doings.{Part, no_part, with_acts, gives, takes_in, first_acts, next_acts}
-use Rattle.program_laws.specs.Stories as stories
-use Rattle.program_laws.specs.Stories.{Story, meets}
+use Rattle.program_laws.specs.DataAreas.{data_areas}
+use Rattle.program_laws.specs.CommandActs.{CommandTrace, no_trace, with_acts, gives, takes_in, first_acts, next_acts}
+use Rattle.program_laws.specs.Traces as stories
+use Rattle.program_laws.specs.Traces.{ProgramTrace, trace_meets}
 use Rattle.program_laws.specs.Claims.{AbsorbsInOrder}
 use Rattle.program_laws.proofs.Ties.{AreLaws}
 use Rattle.program_laws.proofs.Accesses.{AreAccesses}
@@ -62,7 +62,7 @@ use Rattle.program_laws.proofs.Caused.{IsUninterrupted, suspending-workless, fau
 use Rattle.program_laws.proofs.UnitFlows.{View, Flow, IsGive, IsData, IsGood, answered-hand, answered-flow, answered-give, answered-data, located-give, located-data, located-hand, located-flow}
 use Rattle.program_laws.proofs.UnitFlows as flows
 use Rattle.program_laws.proofs.UnitGrowth.{codes_of}
-use Rattle.program_laws.proofs.LinkSent.{IsOfHold, Mutters, busy-mutters, left-mutters, back-mutters, released-mutters, cleared-mutters, attended-mutters, letting-mutters}
+use Rattle.program_laws.proofs.LinkSent.{IsOfHold, SendsHoldSignal, busy-mutters, left-mutters, back-mutters, released-mutters, cleared-mutters, attended-mutters, letting-mutters}
 use Rattle.program_laws.proofs.LinkNeeds.{IsLast, on-number, connected-number, held-needs}
 use Rattle.program_laws.proofs.LinkViews.{view_of, answers-view, repeats-view, goes-new, room-seq, current-facts}
 use Rattle.program_laws.proofs.LinkWires.{HandClosed, IsClosed, IsGiving, IsTelling, IsWired, wired-holds, sent-hold}
@@ -78,22 +78,22 @@ abbrev pub IsNoNotice : Up → Type 0
 IsNoNotice (up.Notice b) = ⊥
 IsNoNotice signal = Unit {0}
 
-module _ (laws : AreLaws) (accesses : AreAccesses) (storage : Contents) (side : Side) (s : SubchannelState) (k : Story) (downs : List (List Down)) (ups : List (List Up)) (u : UnitState) (path : ℕ)
+module _ (laws : AreLaws) (accesses : AreAccesses) (storage : Contents) (side : Side) (s : SubchannelState) (k : ProgramTrace) (downs : List (List Down)) (ups : List (List Up)) (u : UnitState) (path : ℕ)
     (held : IsHeld s k) (mode : Mode side s.begun k downs ups u) where
-  abbrev Goes : UpStep → Story → Type 0
+  abbrev Goes : UpStep → ProgramTrace → Type 0
   Goes step new = Mode side step.state.begun new (with_any_sent downs step.came.sent) (taken ups path) u
 
   abbrev m : ℕ
   m = length k.taken
 
   -- nothing is done for the program
-  pub quiet : (begun : Option Begun) (one : Option (OnPath Down)) → begun ≡ s.begun → IfSome one (λ d. IsOfHold d.signal) → Mode side begun k (with_any_sent downs one) (taken ups path) u
+  pub quiet : (begun : Option ActiveProgram) (one : Option (OnPath Down)) → begun ≡ s.begun → IfSome one (λ d. IsOfHold d.signal) → Mode side begun k (with_any_sent downs one) (taken ups path) u
   quiet begun one e h =
-      subst (λ (b : Option Begun). Mode side b k (with_any_sent downs one) (taken ups path) u) (sym e)
+      subst (λ (b : Option ActiveProgram). Mode side b k (with_any_sent downs one) (taken ups path) u) (sym e)
       (mode-carried side s.begun k downs (with_any_sent downs one) ups (taken ups path) u u
       (λ P Q R f w. wired-holds side k.number m P P Q Q R R downs ups u one path (λ x y. y) (λ i bytes y. y) (λ i l y. y) (sent-hold k.number m Q one h) w) mode)
 
-  by_hold-goes : (step : Option HoldStep) → Mutters step → Goes (taking.by_hold s step) k
+  by_hold-goes : (step : Option HoldStep) → SendsHoldSignal step → Goes (taking.by_hold s step) k
   by_hold-goes step h = quiet s.begun (came_of step).sent refl h
 
   -- wires, where the device's command is over
@@ -108,7 +108,7 @@ module _ (laws : AreLaws) (accesses : AreAccesses) (storage : Contents) (side : 
       record { hand = c; gives = n.gives; tells = n.tells }
 
   -- Accept
-  over-facts : (begun : Option Begun) → Mode side begun k downs ups u → begun ≡ None →
+  over-facts : (begun : Option ActiveProgram) → Mode side begun k downs ups u → begun ≡ None →
       (length k.taken ≡ k.sent) × (k.sent ≡ 0 → k.absorbed ≡ []) × Closed downs ups
   over-facts begun (Waits b e n q i a w) z = absurd (cc (sym e ∙ z))
   over-facts begun (Over e n q a w) z = (n, q, w)
@@ -116,10 +116,10 @@ module _ (laws : AreLaws) (accesses : AreAccesses) (storage : Contents) (side : 
   over-facts begun (Writes b e n o lead f w) z = absurd (cc (sym e ∙ z))
 
   -- from the beginning, or from where it was suspended
-  abbrev from : Orb → ℕ → Part → Story
+  abbrev from : Orb → ℕ → CommandTrace → ProgramTrace
   from orb earlier part = record k { orb = orb; earlier = earlier; now = part }
 
-  let_go-goes : (x : SubchannelState) (orb : Orb) (earlier : ℕ) (part : Part) (acts : List Act) → x.begun ≡ None → s.begun ≡ None → k.sent ≡ 0 →
+  let_go-goes : (x : SubchannelState) (orb : Orb) (earlier : ℕ) (part : CommandTrace) (acts : List Act) → x.begun ≡ None → s.begun ≡ None → k.sent ≡ 0 →
       Goes (taking.let_go x) (record (from orb earlier part) { now = with_acts part acts })
   let_go-goes x orb earlier part acts e n z =
       let f = over-facts s.begun mode n in
@@ -128,15 +128,15 @@ module _ (laws : AreLaws) (accesses : AreAccesses) (storage : Contents) (side : 
       (wired-holds side k.number m HandClosed HandClosed AnyGive AnyGive AnyData AnyData downs ups u one path (λ x y. y) (λ i bytes y. y) (λ i l y. y)
       (sent-hold k.number m AnyGive one (letting-mutters x.hold x.hold.phase)) f.2)
 
-  begins-goes : (r : SubchannelState) (p t : ℕ) (st : Standing) (walk : Place) (c : Came) (orb : Orb) (earlier : ℕ) (part : Part) → (first_command storage st.walk).came ≡ c → r.begun ≡ s.begun →
+  begins-goes : (r : SubchannelState) (p t : ℕ) (st : ProgramPosition) (walk : WalkPlace) (c : CommandStart) (orb : Orb) (earlier : ℕ) (part : CommandTrace) → (first_command storage st.walk).came ≡ c → r.begun ≡ s.begun →
       s.begun ≡ None → k.sent ≡ 0 →
-      Goes (taking.beginning storage r p t st walk c) (stories.goes_on c (first_acts storage st.walk) (from orb earlier part))
+      Goes (taking.beginning storage r p t st walk c) (stories.trace_goes_on c (first_acts storage st.walk) (from orb earlier part))
   begins-goes r p t st walk (came.Begins tr) orb earlier part c e n z =
       let f = over-facts s.begun mode n in
       let x : Transfer = (begun_with_room storage tr).transfer in
-      let b : Begun = record { program = st.program; primary_shown = false; transfer = x } in
+      let b : ActiveProgram = record { program = st.program; primary_shown = false; transfer = x } in
       let one : Option (OnPath Down) = Some (record { path = p; signal = down.Command t x.command x.code (begun_with_room storage tr).room }) in
-      let new : Story = stories.goes_on (came.Begins tr) (first_acts storage st.walk) (from orb earlier part) in
+      let new : ProgramTrace = stories.trace_goes_on (came.Begins tr) (first_acts storage st.walk) (from orb earlier part) in
       let made : Mode side (Some b) new (with_any_sent downs one) (taken ups path) u =
       Waits b refl (ap (λ (i : ℕ). i + 1) f.0) (room-seq storage tr ∙ goes-new storage 1 st.walk tr c) refl (absorbs-none orb part k.absorbed (f.1 z))
       (wired-holds side k.number m HandClosed HandClosed AnyGive AnyGive AnyData AnyData downs ups u one path (λ x y. y) (λ i bytes y. y) (λ i l y. y) tt f.2) in
@@ -146,7 +146,7 @@ module _ (laws : AreLaws) (accesses : AreAccesses) (storage : Contents) (side : 
   begins-goes r p t st walk (came.Stops check) orb earlier part c e n z =
       let_go-goes (with_cause r (cause.FetchFault walk.tried check st.count)) orb earlier part (first_acts storage st.walk) (fault-begun r r.begun refl) n z
 
-  again-goes : (r : SubchannelState) (p t start : ℕ) (suspended : Option Standing) → r.begun ≡ s.begun → s.begun ≡ None → k.sent ≡ 0 →
+  again-goes : (r : SubchannelState) (p t start : ℕ) (suspended : Option ProgramPosition) → r.begun ≡ s.begun → s.begun ≡ None → k.sent ≡ 0 →
       Goes (taking.begin_standing storage r p t (taking.suspended_as suspended start)) (stories.again_as storage suspended start k)
   again-goes r p t start None e n z = quiet r.begun None e tt
   again-goes r p t start (Some st) e n z = by (st.program.start == start)
@@ -156,7 +156,7 @@ module _ (laws : AreLaws) (accesses : AreAccesses) (storage : Contents) (side : 
           begins-goes r p t st (first_command storage st.walk).walk (first_command storage st.walk).came k.orb (length (commands k.orb k.now.acts)) (stories.past_part k.now) refl e n z
       by false = quiet r.begun None e tt
 
-  standing-goes : (r : SubchannelState) (p t start : ℕ) (waiting : Option Program) (suspended : Option Standing) → r.begun ≡ s.begun → s.begun ≡ None → k.sent ≡ 0 →
+  standing-goes : (r : SubchannelState) (p t start : ℕ) (waiting : Option Program) (suspended : Option ProgramPosition) → r.begun ≡ s.begun → s.begun ≡ None → k.sent ≡ 0 →
       Goes (taking.begin_standing storage r p t (taking.standing_as waiting suspended start)) (stories.begins_as storage waiting suspended start k)
   standing-goes r p t start None suspended e n z = again-goes r p t start suspended e n z
   standing-goes r p t start (Some program) suspended e n z = by (program.start == start)
@@ -164,24 +164,24 @@ module _ (laws : AreLaws) (accesses : AreAccesses) (storage : Contents) (side : 
       by : (b : Bool) → Goes (taking.begin_standing storage r p t (if b then Some (from_start program) else taking.suspended_as suspended start))
           (if b then stories.begins_anew storage program k else stories.again_as storage suspended start k)
       by true =
-          let st : Standing = from_start program in
-          begins-goes r p t st (first_command storage st.walk).walk (first_command storage st.walk).came program.orb 0 no_part refl e n z
+          let st : ProgramPosition = from_start program in
+          begins-goes r p t st (first_command storage st.walk).walk (first_command storage st.walk).came program.orb 0 no_trace refl e n z
       by false = again-goes r p t start suspended e n z
 
   begun-goes : (h : HoldState) (t p : ℕ) (may : Bool) → s.begun ≡ None → k.sent ≡ 0 →
-      Goes (taking.accept storage s (Some (hold_table.begun h t p may))) (stories.accepted storage s (Some (hold_table.begun h t p may)) k)
+      Goes (taking.accept storage s (Some (hold_table.program_begun h t p may))) (stories.trace_accepted storage s (Some (hold_table.program_begun h t p may)) k)
   begun-goes h t p true n z =
-      standing-goes (record s { hold = record h { phase = hold.On t p 0; seen = 0; first_path = Some p }; pmcw = taking.with_path s.pmcw p }) p t s.offered s.waiting s.suspended refl n z
+      standing-goes (record s { hold = record h { phase = hold.On t p 0; seen = 0; first_path = Some p }; pmcw = taking.path_used s.pmcw p }) p t s.offered s.waiting s.suspended refl n z
   begun-goes h t p false n z =
-      let x : SubchannelState = record s { hold = record h { phase = hold.Letting t p; seen = 0; first_path = Some p }; pmcw = taking.with_path s.pmcw p } in
+      let x : SubchannelState = record s { hold = record h { phase = hold.Letting t p; seen = 0; first_path = Some p }; pmcw = taking.path_used s.pmcw p } in
       quiet (taking.halt_done x).begun (Some (record { path = p; signal = down.Release t })) (halt-begun x n ∙ sym n) tt
 
   accepts-goes : (h : HoldState) (phase : HoldPhase) (t : ℕ) (may : Bool) → IsPhase phase k.number s.begun k.sent →
-      Goes (taking.accept storage s (hold_table.accepted h phase t may)) (stories.accepted storage s (hold_table.accepted h phase t may) k)
+      Goes (taking.accept storage s (hold_table.offer_accepted h phase t may)) (stories.trace_accepted storage s (hold_table.offer_accepted h phase t may) k)
   accepts-goes h hold.Free t may i = quiet s.begun None refl tt
   accepts-goes h (hold.Offer v p) t may i = by (t == v)
     where
-      by : (b : Bool) → Goes (taking.accept storage s (if b then Some (hold_table.begun h v p may) else None)) (stories.accepted storage s (if b then Some (hold_table.begun h v p may) else None) k)
+      by : (b : Bool) → Goes (taking.accept storage s (if b then Some (hold_table.program_begun h v p may) else None)) (stories.trace_accepted storage s (if b then Some (hold_table.program_begun h v p may) else None) k)
       by true = begun-goes h v p may i.1 i.2
       by false = quiet s.begun None refl tt
   accepts-goes h (hold.On v p c) t may i = quiet s.begun None refl tt
@@ -190,19 +190,19 @@ module _ (laws : AreLaws) (accesses : AreAccesses) (storage : Contents) (side : 
   accepts-goes h (hold.Reset r) t may i = quiet s.begun None refl tt
 
   -- Data
-  at-work : (b : Begun) → s.begun ≡ Some b → HasWork (Some b) k
-  at-work b e = subst (λ (x : Option Begun). HasWork x k) e held.work
+  at-work : (b : ActiveProgram) → s.begun ≡ Some b → HasWork (Some b) k
+  at-work b e = subst (λ (x : Option ActiveProgram). HasWork x k) e held.work
 
   -- of the command that was sent last
   abbrev Front : (ℕ → Load → Type 0) → Up → Type 0
   Front R x = IsTelling k.number m R (IsClosed side k.number u) x
 
-  data-front : (R : ℕ → Load → Type 0) (b : Begun) (t c n seq : ℕ) (l : Load) → s.begun ≡ Some b → t ≡ k.number → n ≡ b.transfer.command → Front R (up.Data t c n seq l) → (n ≤ m) × (n ≡ m → R seq l) × (n ≡ k.sent)
+  data-front : (R : ℕ → Load → Type 0) (b : ActiveProgram) (t c n seq : ℕ) (l : Load) → s.begun ≡ Some b → t ≡ k.number → n ≡ b.transfer.command → Front R (up.Data t c n seq l) → (n ≤ m) × (n ≡ m → R seq l) × (n ≡ k.sent)
   data-front R b t c n seq l e z i f =
       let g = f.1 z in
       (g.0, g.1, i ∙ (at-work b e).1)
 
-  abbrev with_now : Part → Story
+  abbrev with_now : CommandTrace → ProgramTrace
   with_now now = record k { now = now }
 
   now-wires : (P W : Option AtHand → Type 0) (Q X : ℕ → List ℕ → Type 0) (R Y : ℕ → Load → Type 0) (one : Option (OnPath Down)) → ((h : Option AtHand) → P h → W h) → ((i : ℕ) (bytes : List ℕ) → Q i bytes → X i bytes) → ((i : ℕ) (l : Load) → R i l → Y i l) →
@@ -210,12 +210,12 @@ module _ (laws : AreLaws) (accesses : AreAccesses) (storage : Contents) (side : 
   now-wires P W Q X R Y one f g h d w = wired-holds side k.number m P W Q X R Y downs ups u one path f g h d w
 
   -- a read
-  reads-goes : (b : Begun) (signal : DataSignal) (x : Brought) (now : Part) → IsSame b.transfer x.transfer → length k.taken ≡ k.sent → is_outward b.transfer.code ≡ false → k.absorbed ≡ [] →
+  reads-goes : (b : ActiveProgram) (signal : DataSignal) (x : Brought) (now : CommandTrace) → IsSame b.transfer x.transfer → length k.taken ≡ k.sent → is_outward b.transfer.code ≡ false → k.absorbed ≡ [] →
       IsWired side k.number m HandPlain NoGive AnyData downs ups u → Goes (taking.take_in s b signal x).step (record k { now = now })
   reads-goes b signal x now same l out z w =
       let y : Transfer = (with_room x.storage x.transfer).transfer in
       let code : y.code ≡ b.transfer.code = (located-same x.storage x.transfer).0 ∙ same.0 in
-      let c : Begun = record b { transfer = y } in
+      let c : ActiveProgram = record b { transfer = y } in
       let one : Option (OnPath Down) = Some (record { path = signal.path; signal = down.Took signal.number signal.command signal.sequence (with_room x.storage x.transfer).room }) in
       let made : Mode side (Some c) (record k { now = now }) (with_any_sent downs one) (taken ups path) u =
       Reads c refl l (ap is_outward code ∙ out) z (now-wires HandPlain HandPlain NoGive NoGive AnyData AnyData one (λ h r. r) (λ i bytes r. r) (λ i r q. q) tt w) in
@@ -230,21 +230,21 @@ module _ (laws : AreLaws) (accesses : AreAccesses) (storage : Contents) (side : 
   same-hand c d v w lead after e f None r = tt
   same-hand c d v w lead after e f (Some x) r = (r.0 ∙ sym e, f x r.1)
 
-  module _ (b : Begun) (signal : DataSignal) (l : Load) where
+  module _ (b : ActiveProgram) (signal : DataSignal) (l : Load) where
     abbrev v : View
     v = view_of b.transfer k.now
 
-    abbrev x : Given
-    x = next_given storage (absorbed storage b.transfer signal.sequence (load_length l))
+    abbrev x : NextChunk
+    x = next_given storage (taken_by_device storage b.transfer signal.sequence (load_length l))
 
-    abbrev now : Part
+    abbrev now : CommandTrace
     now = gives storage b.transfer signal.sequence (load_length l) k.now
 
     abbrev w : View
     w = view_of x.transfer now
 
     code : x.transfer.code ≡ b.transfer.code
-    code = (next_given-same storage (absorbed storage b.transfer signal.sequence (load_length l))).0 ∙ (absorbed-same storage b.transfer signal.sequence (load_length l)).0
+    code = (next_given-same storage (taken_by_device storage b.transfer signal.sequence (load_length l))).0 ∙ (absorbed-same storage b.transfer signal.sequence (load_length l)).0
 
     given :
         Mode side (Some (record b { transfer = x.transfer })) (with_now now) (with_any_sent downs (Some (record { path = signal.path; signal = down.Give signal.number signal.connection signal.command (signal.sequence + 1) x.bytes }))) (taken ups path) u →
@@ -285,7 +285,7 @@ module _ (laws : AreLaws) (accesses : AreAccesses) (storage : Contents) (side : 
             (λ i r q. located-data v w lead i r a.located q) (given-signal w signal.number signal.connection signal.command signal.sequence x.bytes z le (is ∙ sym a.located.seq) a.good) wired))
 
   -- by the direction
-  moves-goes : (b : Begun) (signal : DataSignal) (l : Load) → s.begun ≡ Some b → signal.number ≡ k.number → signal.command ≡ b.transfer.command → (signal.sequence ≡ b.transfer.sequence) ⊎ (signal.sequence ≡ b.transfer.sequence + 1) →
+  moves-goes : (b : ActiveProgram) (signal : DataSignal) (l : Load) → s.begun ≡ Some b → signal.number ≡ k.number → signal.command ≡ b.transfer.command → (signal.sequence ≡ b.transfer.sequence) ⊎ (signal.sequence ≡ b.transfer.sequence + 1) →
       ((P : Option AtHand → Type 0) (Q : ℕ → List ℕ → Type 0) (R : ℕ → Load → Type 0) → IsWired side k.number m P Q R downs ups u → Front R (up.Data signal.number signal.connection signal.command signal.sequence l)) →
       Goes (taking.move_bytes storage s b signal l).step (stories.moves storage b.transfer signal.sequence l k)
   moves-goes b signal l e z i at f = by mode
@@ -297,24 +297,24 @@ module _ (laws : AreLaws) (accesses : AreAccesses) (storage : Contents) (side : 
       by (Over h g q a w) = absurd (cc (sym e ∙ h))
       by (Reads d h g o q w) =
           let same : d ≡ b = cc (sym h ∙ e) in
-          let out : is_outward b.transfer.code ≡ false = subst (λ (x : Begun). is_outward x.transfer.code ≡ false) same o in
-          subst (λ (x : Bool). Goes (if x then taking.meets storage (taking.give_next storage s b signal (load_length l)) else taking.take_in s b signal (brought storage b.transfer signal.sequence (bytes_of l))).step
-          (if x then with_now (gives storage b.transfer signal.sequence (load_length l) k.now) else with_now (takes_in storage b.transfer signal.sequence (bytes_of l) k.now))) (sym out)
-          (reads-goes b signal (brought storage b.transfer signal.sequence (bytes_of l)) (takes_in storage b.transfer signal.sequence (bytes_of l) k.now) (brought-same storage b.transfer signal.sequence (bytes_of l)) g out q w)
+          let out : is_outward b.transfer.code ≡ false = subst (λ (x : ActiveProgram). is_outward x.transfer.code ≡ false) same o in
+          subst (λ (x : Bool). Goes (if x then taking.meets storage (taking.give_next storage s b signal (load_length l)) else taking.take_in s b signal (brought storage b.transfer signal.sequence (bytes_of_load l))).step
+          (if x then with_now (gives storage b.transfer signal.sequence (load_length l) k.now) else with_now (takes_in storage b.transfer signal.sequence (bytes_of_load l) k.now))) (sym out)
+          (reads-goes b signal (brought storage b.transfer signal.sequence (bytes_of_load l)) (takes_in storage b.transfer signal.sequence (bytes_of_load l) k.now) (brought-same storage b.transfer signal.sequence (bytes_of_load l)) g out q w)
       by (Writes d h g o lead y w) =
           let same : d ≡ b = cc (sym h ∙ e) in
-          let out : is_outward b.transfer.code ≡ true = subst (λ (x : Begun). is_outward x.transfer.code ≡ true) same o in
-          let y' : Flow (view_of b.transfer k.now) k.absorbed lead = subst (λ (x : Begun). Flow (view_of x.transfer k.now) k.absorbed lead) same y in
+          let out : is_outward b.transfer.code ≡ true = subst (λ (x : ActiveProgram). is_outward x.transfer.code ≡ true) same o in
+          let y' : Flow (view_of b.transfer k.now) k.absorbed lead = subst (λ (x : ActiveProgram). Flow (view_of x.transfer k.now) k.absorbed lead) same y in
           let w' : IsWired side k.number m (HandFlow b.transfer.code (view_of b.transfer k.now) lead) (IsGive (view_of b.transfer k.now)) (IsData (view_of b.transfer k.now) lead) downs ups u =
-          subst (λ (x : Begun). IsWired side k.number m (HandFlow x.transfer.code (view_of x.transfer k.now) lead) (IsGive (view_of x.transfer k.now)) (IsData (view_of x.transfer k.now) lead) downs ups u) same w in
+          subst (λ (x : ActiveProgram). IsWired side k.number m (HandFlow x.transfer.code (view_of x.transfer k.now) lead) (IsGive (view_of x.transfer k.now)) (IsData (view_of x.transfer k.now) lead) downs ups u) same w in
           let r = data-front (IsData (view_of b.transfer k.now) lead) b signal.number signal.connection signal.command signal.sequence l e z i
           (f (HandFlow b.transfer.code (view_of b.transfer k.now) lead) (IsGive (view_of b.transfer k.now)) (IsData (view_of b.transfer k.now) lead) w') in
-          subst (λ (x : Bool). Goes (if x then taking.meets storage (taking.give_next storage s b signal (load_length l)) else taking.take_in s b signal (brought storage b.transfer signal.sequence (bytes_of l))).step
-          (if x then with_now (gives storage b.transfer signal.sequence (load_length l) k.now) else with_now (takes_in storage b.transfer signal.sequence (bytes_of l) k.now))) (sym out)
+          subst (λ (x : Bool). Goes (if x then taking.meets storage (taking.give_next storage s b signal (load_length l)) else taking.take_in s b signal (brought storage b.transfer signal.sequence (bytes_of_load l))).step
+          (if x then with_now (gives storage b.transfer signal.sequence (load_length l) k.now) else with_now (takes_in storage b.transfer signal.sequence (bytes_of_load l) k.now))) (sym out)
           (writes-goes b signal l lead e z r.0 g out at (r.1 (r.2 ∙ sym g)) y' w')
 
   module _ (signal : DataSignal) (l : Load) (front : (P : Option AtHand → Type 0) (Q : ℕ → List ℕ → Type 0) (R : ℕ → Load → Type 0) → IsWired side k.number m P Q R downs ups u → Front R (up.Data signal.number signal.connection signal.command signal.sequence l)) where
-    answers-goes : (begun : Option Begun) → s.begun ≡ begun → signal.number ≡ k.number → Goes (taking.move_data storage s begun signal l).step (stories.answers storage begun signal.command signal.sequence l k)
+    answers-goes : (begun : Option ActiveProgram) → s.begun ≡ begun → signal.number ≡ k.number → Goes (taking.move_data storage s begun signal l).step (stories.answers storage begun signal.command signal.sequence l k)
     answers-goes None e z = quiet s.begun None refl tt
     answers-goes (Some b) e z = by (is_answered b.transfer signal.command signal.sequence) refl
       where
@@ -334,18 +334,18 @@ module _ (laws : AreLaws) (accesses : AreAccesses) (storage : Contents) (side : 
         by false x = quiet s.begun None refl tt
 
   -- the device's command is over
-  pub record IsOver (b : Begun) : Type 0 where
+  pub record IsOver (b : ActiveProgram) : Type 0 where
     pub taken_all : length k.taken ≡ k.sent
     pub absorbs : AbsorbsInOrder k.orb k.now k.absorbed
     pub some : k.sent ≡ 0 → k.absorbed ≡ []
     pub wires : (one : Option (OnPath Down)) → IfSome one (λ d. IsGiving k.number m AnyGive d.signal) → Closed (with_any_sent downs one) (taken ups path)
 
-  none-sent : (b : Begun) → s.begun ≡ Some b → k.sent ≡ 0 → k.absorbed ≡ []
+  none-sent : (b : ActiveProgram) → s.begun ≡ Some b → k.sent ≡ 0 → k.absorbed ≡ []
   none-sent b e z =
       let l : IsLast (codes_of k) k.sent b.transfer = (held-needs (Some k) s held).begun b e in
       absurd (omega (arith, l.count, l.at, z))
 
-  is-over : (b : Begun) (t n : ℕ) (status : DeviceStatus) (more : Bool) → s.begun ≡ Some b → t ≡ k.number → n ≡ b.transfer.command →
+  is-over : (b : ActiveProgram) (t n : ℕ) (status : DeviceStatus) (more : Bool) → s.begun ≡ Some b → t ≡ k.number → n ≡ b.transfer.command →
       ((P : Option AtHand → Type 0) (Q : ℕ → List ℕ → Type 0) (R : ℕ → Load → Type 0) → IsWired side k.number m P Q R downs ups u → Front R (up.End t n status more)) → IsOver b
   is-over b t n status more e z i f = by mode
     where
@@ -371,30 +371,30 @@ module _ (laws : AreLaws) (accesses : AreAccesses) (storage : Contents) (side : 
           let r = (f (HandFlow d.transfer.code (view_of d.transfer k.now) lead) (IsGive (view_of d.transfer k.now)) (IsData (view_of d.transfer k.now) lead) w).1 number in
           record {
             taken_all = g;
-            absorbs = flow-absorbs laws k b.transfer lead (at-work b e).0.tied (subst (λ (x : Begun). Flow (view_of x.transfer k.now) k.absorbed lead) same y);
+            absorbs = flow-absorbs laws k b.transfer lead (at-work b e).0.tied (subst (λ (x : ActiveProgram). Flow (view_of x.transfer k.now) k.absorbed lead) same y);
             some = none-sent b e;
             wires = λ one x. closed-holds (HandFlow d.transfer.code (view_of d.transfer k.now) lead) (IsGive (view_of d.transfer k.now)) (IsData (view_of d.transfer k.now) lead) one (r.1 (at ∙ sym g)) x w;
           }
 
   -- the transfer is marked
-  marked : (b c : Begun) (begun : Option Begun) (one : Option (OnPath Down)) → s.begun ≡ Some b → begun ≡ Some c → IsUninterrupted b c → IfSome one (λ d. IsOfHold d.signal) →
+  marked : (b c : ActiveProgram) (begun : Option ActiveProgram) (one : Option (OnPath Down)) → s.begun ≡ Some b → begun ≡ Some c → IsUninterrupted b c → IfSome one (λ d. IsOfHold d.signal) →
       Mode side begun k (with_any_sent downs one) (taken ups path) u
   marked b c begun one e g i h =
-      subst (λ (x : Option Begun). Mode side x k (with_any_sent downs one) (taken ups path) u) (sym g)
+      subst (λ (x : Option ActiveProgram). Mode side x k (with_any_sent downs one) (taken ups path) u) (sym g)
       (mode-marked side b c k (with_any_sent downs one) (taken ups path) u i
-      (subst (λ (x : Option Begun). Mode side x k (with_any_sent downs one) (taken ups path) u) e (quiet s.begun one refl h)))
+      (subst (λ (x : Option ActiveProgram). Mode side x k (with_any_sent downs one) (taken ups path) u) e (quiet s.begun one refl h)))
 
   -- the next command, or the program is suspended or over
-  next-over : (b : Begun) (x : SubchannelState) (acts : List Act) → x.begun ≡ None → IsOver b → reaches k.orb (acts ++ k.now.acts) ≡ reaches k.orb k.now.acts →
+  next-over : (b : ActiveProgram) (x : SubchannelState) (acts : List Act) → x.begun ≡ None → IsOver b → data_areas k.orb (acts ++ k.now.acts) ≡ data_areas k.orb k.now.acts →
       Goes (taking.let_go x) (record k { now = with_acts k.now acts })
   next-over b x acts e o r =
       let one : Option (OnPath Down) = (came_of (letting_go x.hold x.hold.phase)).sent in
       Over e o.taken_all o.some (absorbs-on laws k (with_acts k.now acts) refl r o.absorbs) (o.wires one (sent-hold k.number m AnyGive one (letting-mutters x.hold x.hold.phase)))
 
-  chains-goes : (b : Begun) (signal : EndSignal) (walk : Place) (c : Came) → (next_command storage b.transfer (has_status_modifier signal.status)).walk ≡ walk →
+  chains-goes : (b : ActiveProgram) (signal : EndSignal) (walk : WalkPlace) (c : CommandStart) → (next_command storage b.transfer (has_status_modifier signal.status)).walk ≡ walk →
       (next_command storage b.transfer (has_status_modifier signal.status)).came ≡ c → s.begun ≡ Some b → IsOver b →
       b.transfer.moving.ccw.chain_data ≡ false → is_some b.transfer.fault ≡ false →
-      Goes (taking.chaining storage s (with_end b) signal walk c) (stories.goes_on c (next_acts storage b.transfer (has_status_modifier signal.status)) k)
+      Goes (taking.chaining storage s (with_end b) signal walk c) (stories.trace_goes_on c (next_acts storage b.transfer (has_status_modifier signal.status)) k)
   chains-goes b signal walk c at is e o d f = by c is
     where
       acts : List Act
@@ -404,20 +404,20 @@ module _ (laws : AreLaws) (accesses : AreAccesses) (storage : Contents) (side : 
           (next_command storage b.transfer (has_status_modifier signal.status)).walk (next_command storage b.transfer (has_status_modifier signal.status)).came
       went = next-went laws accesses k.earlier storage k.orb k.now b.transfer (has_status_modifier signal.status) (at-work b e).0.tied d f
 
-      Went : Came → Type 0
+      Went : CommandStart → Type 0
       Went c =
           WentOn k.earlier laws storage k.orb (End (record { goes_on = true; modifier = has_status_modifier signal.status }) ∷ k.now.acts) (acts ++ k.now.acts) (b.transfer.command + 1)
           (next_command storage b.transfer (has_status_modifier signal.status)).walk c
 
-      by : (c : Came) → (next_command storage b.transfer (has_status_modifier signal.status)).came ≡ c → Goes (taking.chaining storage s (with_end b) signal walk c) (stories.goes_on c acts k)
+      by : (c : CommandStart) → (next_command storage b.transfer (has_status_modifier signal.status)).came ≡ c → Goes (taking.chaining storage s (with_end b) signal walk c) (stories.trace_goes_on c acts k)
       by (came.Begins tr) c =
           let x : Transfer = (begun_with_room storage tr).transfer in
-          let n : Begun = record (with_end b) { transfer = x } in
+          let n : ActiveProgram = record (with_end b) { transfer = x } in
           let one : Option (OnPath Down) = Some (record { path = signal.path; signal = down.Command signal.number x.command x.code (begun_with_room storage tr).room }) in
-          let new : Story = stories.goes_on (came.Begins tr) acts k in
+          let new : ProgramTrace = stories.trace_goes_on (came.Begins tr) acts k in
           let made : Mode side (Some n) new (with_any_sent downs one) (taken ups path) u =
           Waits n refl (ap (λ (i : ℕ). i + 1) o.taken_all)
-          (room-seq storage tr ∙ goes-new storage (b.transfer.command + 1) (after_end b.transfer.walk (record { goes_on = true; modifier = has_status_modifier signal.status })) tr c) refl o.absorbs (o.wires one tt) in
+          (room-seq storage tr ∙ goes-new storage (b.transfer.command + 1) (walk_after_end b.transfer.walk (record { goes_on = true; modifier = has_status_modifier signal.status })) tr c) refl o.absorbs (o.wires one tt) in
           interrupted-mode side (taking.with_transfer s (with_end b) x) n new (with_any_sent downs one) (taken ups path) u refl made
       by came.Suspends c =
           next-over b (taking.suspending (taking.end_taken s signal) (with_end b).program walk (residual (with_end b).transfer.moving)) acts
@@ -426,20 +426,20 @@ module _ (laws : AreLaws) (accesses : AreAccesses) (storage : Contents) (side : 
           next-over b (with_cause (taking.end_taken s signal) (cause.FetchFault walk.tried check (residual (with_end b).transfer.moving))) acts
           (fault-begun (taking.end_taken s signal) s.begun refl) o (subst Went c went).1
 
-  end-begun : (b : Begun) (signal : EndSignal) (last : Bool) → is_last_end signal.status ≡ last →
+  end-begun : (b : ActiveProgram) (signal : EndSignal) (last : Bool) → is_last_end signal.status ≡ last →
       (taking.end_shown_at s b signal).begun ≡ (if last then None else Some (has_shown b))
-  end-begun b signal last e = ap (λ (x : Bool). (causes.after_end s b x).begun) e ∙ by last
+  end-begun b signal last e = ap (λ (x : Bool). (causes.programs_after_end s b x).begun) e ∙ by last
     where
-      by : (x : Bool) → (causes.after_end s b x).begun ≡ (if x then None else Some (has_shown b))
+      by : (x : Bool) → (causes.programs_after_end s b x).begun ≡ (if x then None else Some (has_shown b))
       by true = refl
       by false = refl
 
-  ends-by : (b : Begun) (signal : EndSignal) (x y : Bool) → chains_command s.scsw b signal.status signal.more ≡ x → s.begun ≡ Some b → IsOver b →
+  ends-by : (b : ActiveProgram) (signal : EndSignal) (x y : Bool) → chains_command s.scsw b signal.status signal.more ≡ x → s.begun ≡ Some b → IsOver b →
       Goes
       (if x then (if y then taking.chain_with storage s (with_end b) signal (next_command storage (with_end b).transfer (has_status_modifier signal.status))
       else taking.quietly (record (taking.end_taken s signal) { begun = Some (with_end b) }))
       else taking.stops_at s b signal)
-      (if x && y then stories.goes_on (next_command storage b.transfer (has_status_modifier signal.status)).came (next_acts storage b.transfer (has_status_modifier signal.status)) k else k)
+      (if x && y then stories.trace_goes_on (next_command storage b.transfer (has_status_modifier signal.status)).came (next_acts storage b.transfer (has_status_modifier signal.status)) k else k)
   ends-by b signal true true c e o =
       let f = chains-facts laws accesses s.scsw b signal.status signal.more c in
       chains-goes b signal (next_command storage b.transfer (has_status_modifier signal.status)).walk (next_command storage b.transfer (has_status_modifier signal.status)).came refl refl e o f.0 f.1
@@ -457,7 +457,7 @@ module _ (laws : AreLaws) (accesses : AreAccesses) (storage : Contents) (side : 
 
   module _ (signal : EndSignal)
       (front : (P : Option AtHand → Type 0) (Q : ℕ → List ℕ → Type 0) (R : ℕ → Load → Type 0) → IsWired side k.number m P Q R downs ups u → Front R (up.End signal.number signal.command signal.status signal.more)) where
-    ended-goes : (begun : Option Begun) → s.begun ≡ begun → signal.number ≡ k.number → Goes (taking.end_of storage s begun signal) (stories.ends storage s begun signal.command signal.status signal.more k)
+    ended-goes : (begun : Option ActiveProgram) → s.begun ≡ begun → signal.number ≡ k.number → Goes (taking.end_of storage s begun signal) (stories.trace_ends storage s begun signal.command signal.status signal.more k)
     ended-goes None e z = quiet s.begun None refl tt
     ended-goes (Some b) e z = by (signal.command == b.transfer.command) refl
       where
@@ -466,22 +466,22 @@ module _ (laws : AreLaws) (accesses : AreAccesses) (storage : Contents) (side : 
         by true x = ends-by b signal (chains_command s.scsw b signal.status signal.more) (has_device_end signal.status) refl e (is-over b signal.number signal.command signal.status signal.more e z (eqb-true signal.command b.transfer.command x) front)
         by false x = quiet s.begun None refl tt
 
-    end-goes : Goes (taking.end_command storage s signal) (if is_on s.hold.phase signal.number then stories.ends storage s s.begun signal.command signal.status signal.more k else k)
+    end-goes : Goes (taking.end_command storage s signal) (if is_on s.hold.phase signal.number then stories.trace_ends storage s s.begun signal.command signal.status signal.more k else k)
     end-goes = by (is_on s.hold.phase signal.number) refl
       where
         by : (x : Bool) → is_on s.hold.phase signal.number ≡ x →
-            Goes (if x then taking.end_of storage s s.begun signal else taking.ignoring s) (if x then stories.ends storage s s.begun signal.command signal.status signal.more k else k)
+            Goes (if x then taking.end_of storage s s.begun signal else taking.ignoring s) (if x then stories.trace_ends storage s s.begun signal.command signal.status signal.more k else k)
         by true x = ended-goes s.begun refl (on-number s.hold.phase k.number s.begun k.sent signal.number held.phase x)
         by false x = quiet s.begun None refl tt
 
-  reset-goes : (step : Option HoldStep) → Mutters step → Goes (taking.reset_taken s step) k
+  reset-goes : (step : Option HoldStep) → SendsHoldSignal step → Goes (taking.reset_taken s step) k
   reset-goes None h = quiet s.begun None refl tt
   reset-goes (Some step) h =
       quiet (taking.clear_done (record s { hold = step.state })).begun (came_of (Some step)).sent (clear-begun (record s { hold = step.state })) h
 
   -- any signal
   pub mode-meets : (returns : Bool) → (x : Up) → ((P : Option AtHand → Type 0) (Q : ℕ → List ℕ → Type 0) (R : ℕ → Load → Type 0) → IsWired side k.number m P Q R downs ups u → Front R x) → IsNoNotice x →
-      Goes (takes_up returns storage s path x).step (meets storage s path x k)
+      Goes (takes_up returns storage s path x).step (trace_meets storage s path x k)
   mode-meets returns (up.Accept t) f other = accepts-goes s.hold s.hold.phase t (goes_ahead s) held.phase
   mode-meets returns (up.Data t c n seq l) f other = data-goes (record { path = path; number = t; connection = c; command = n; sequence = seq }) l f
   mode-meets returns (up.End t n status more) f other = end-goes (record { path = path; number = t; command = n; status = status; more = more }) f
@@ -489,7 +489,7 @@ module _ (laws : AreLaws) (accesses : AreAccesses) (storage : Contents) (side : 
   mode-meets returns (up.Leave t c) f other = by_hold-goes (left s.hold s.hold.phase t c) (left-mutters s.hold s.hold.phase t c)
   mode-meets returns (up.Back t c) f other = by_hold-goes (asked_back s.hold s.hold.phase path t c returns) (back-mutters s.hold s.hold.phase path t c returns)
   mode-meets returns (up.Released t) f other = by_hold-goes (released s.hold s.hold.phase t) (released-mutters s.hold s.hold.phase t)
-  mode-meets returns (up.Cleared r) f other = reset-goes (cleared s.hold s.hold.phase r) (cleared-mutters s.hold s.hold.phase r)
+  mode-meets returns (up.Cleared r) f other = reset-goes (reset_cleared s.hold s.hold.phase r) (cleared-mutters s.hold s.hold.phase r)
   mode-meets returns (up.Notice b) f other = absurd other
   mode-meets returns (up.Attn a status) f other =
       let step : Option HoldStep = attended s.hold s.hold.phase path a (taking.may_attend s) in

@@ -19,10 +19,10 @@ use Rattle.chan_model.specs.UnitReports.{is_outward}
 use Rattle.data_move.specs.Moving.{room}
 use Rattle.transfer.specs.declared.Transfer.{Transfer}
 use Rattle.wires.specs.Queues.{queue, taken}
-use Rattle.subchannel_model.specs.declared.state.Begun.{Begun}
+use Rattle.subchannel_model.specs.declared.state.ActiveProgram.{ActiveProgram}
 use Rattle.subchannel_model.specs.Sending.{with_any_sent}
-use Rattle.program_laws.specs.Doings.{Part}
-use Rattle.program_laws.specs.Stories.{silent, silent_by, Story, taken_at}
+use Rattle.program_laws.specs.CommandActs.{CommandTrace}
+use Rattle.program_laws.specs.Traces.{silent, silent_by, ProgramTrace, taken_at}
 use Rattle.program_laws.specs.Claims.{AbsorbsInOrder, IsFirstOf}
 use Rattle.program_laws.proofs.UnitOrders.{IsNth, IsDown, IsOrdered, ends-same}
 use Rattle.program_laws.proofs.UnitGrowth.{codes_of}
@@ -52,18 +52,18 @@ HandFlow code v lead None = Unit {0}
 HandFlow code v lead (Some x) = (x.code ≡ code) × Hand v lead x
 
 -- the device is to take the last command that was sent; or it took it, and the program is over, reads or writes
-pub data Mode (side : Side) (begun : Option Begun) (k : Story) (downs : List (List Down)) (ups : List (List Up)) (u : UnitState) : Type 0 where
-  Waits : (b : Begun) → begun ≡ Some b → length k.taken + 1 ≡ k.sent → b.transfer.sequence ≡ 0 → k.now.moved ≡ [] → AbsorbsInOrder k.orb k.before k.absorbed →
+pub data Mode (side : Side) (begun : Option ActiveProgram) (k : ProgramTrace) (downs : List (List Down)) (ups : List (List Up)) (u : UnitState) : Type 0 where
+  Waits : (b : ActiveProgram) → begun ≡ Some b → length k.taken + 1 ≡ k.sent → b.transfer.sequence ≡ 0 → k.now.moved ≡ [] → AbsorbsInOrder k.orb k.before k.absorbed →
       IsWired side k.number (length k.taken) HandClosed AnyGive AnyData downs ups u → Mode side begun k downs ups u
   Over : begun ≡ None → length k.taken ≡ k.sent → (k.sent ≡ 0 → k.absorbed ≡ []) → AbsorbsInOrder k.orb k.now k.absorbed →
       IsWired side k.number (length k.taken) HandClosed AnyGive AnyData downs ups u → Mode side begun k downs ups u
-  Reads : (b : Begun) → begun ≡ Some b → length k.taken ≡ k.sent → is_outward b.transfer.code ≡ false → k.absorbed ≡ [] →
+  Reads : (b : ActiveProgram) → begun ≡ Some b → length k.taken ≡ k.sent → is_outward b.transfer.code ≡ false → k.absorbed ≡ [] →
       IsWired side k.number (length k.taken) HandPlain NoGive AnyData downs ups u → Mode side begun k downs ups u
-  Writes : (b : Begun) → begun ≡ Some b → length k.taken ≡ k.sent → is_outward b.transfer.code ≡ true → (lead : Option ℕ) → Flow (view_of b.transfer k.now) k.absorbed lead →
+  Writes : (b : ActiveProgram) → begun ≡ Some b → length k.taken ≡ k.sent → is_outward b.transfer.code ≡ true → (lead : Option ℕ) → Flow (view_of b.transfer k.now) k.absorbed lead →
       IsWired side k.number (length k.taken) (HandFlow b.transfer.code (view_of b.transfer k.now) lead) (IsGive (view_of b.transfer k.now)) (IsData (view_of b.transfer k.now) lead) downs ups u →
       Mode side begun k downs ups u
 
-abbrev pub ModeOf : Side → Option Begun → Option Story → List (List Down) → List (List Up) → UnitState → Type 0
+abbrev pub ModeOf : Side → Option ActiveProgram → Option ProgramTrace → List (List Down) → List (List Up) → UnitState → Type 0
 ModeOf side begun None downs ups u = IsWired side 0 0 HandClosed AnyGive AnyData downs ups u
 ModeOf side begun (Some k) downs ups u = Mode side begun k downs ups u
 
@@ -86,7 +86,7 @@ fit-flow code v lead = record {
   gives = λ s bytes q x e h. (h.0, give-hand v lead x s bytes h.1 q e);
 }
 
-pub mode-carried : (side : Side) (begun : Option Begun) (k : Story) (downs downs' : List (List Down)) (ups ups' : List (List Up)) (u v : UnitState) →
+pub mode-carried : (side : Side) (begun : Option ActiveProgram) (k : ProgramTrace) (downs downs' : List (List Down)) (ups ups' : List (List Up)) (u v : UnitState) →
     ((P : Option AtHand → Type 0) (Q : ℕ → List ℕ → Type 0) (R : ℕ → Load → Type 0) → IsFit P Q → IsWired side k.number (length k.taken) P Q R downs ups u →
     IsWired side k.number (length k.taken) P Q R downs' ups' v) →
     Mode side begun k downs ups u → Mode side begun k downs' ups' v
@@ -97,11 +97,11 @@ mode-carried side begun k downs downs' ups ups' u v f (Writes b e n o lead q w) 
     Writes b e n o lead q (f (HandFlow b.transfer.code (view_of b.transfer k.now) lead) (IsGive (view_of b.transfer k.now)) (IsData (view_of b.transfer k.now) lead) (fit-flow b.transfer.code (view_of b.transfer k.now) lead) w)
 
 -- nothing is absorbed
-pub absorbs-none : (orb : Orb) (p : Part) (absorbed : List ℕ) → absorbed ≡ [] → AbsorbsInOrder orb p absorbed
+pub absorbs-none : (orb : Orb) (p : CommandTrace) (absorbed : List ℕ) → absorbed ≡ [] → AbsorbsInOrder orb p absorbed
 absorbs-none orb p absorbed e = ([], All-nil (IsFirstOf p.copied), sym e, (_, refl))
 
 -- Down: where the device took all that was sent, it takes no Command
-story-same : (d : Down) (came : Bool) (sent : Option (OnPath Up)) (k : Story) → IsNoNext k.number d (silent_by came sent) → taken_at (reply.Down d came sent) (Some k) ≡ Some k
+story-same : (d : Down) (came : Bool) (sent : Option (OnPath Up)) (k : ProgramTrace) → IsNoNext k.number d (silent_by came sent) → taken_at (reply.Down d came sent) (Some k) ≡ Some k
 story-same d true (Some x) k n = refl
 story-same d false (Some x) k n = refl
 story-same d false None k n = refl
@@ -132,17 +132,17 @@ last-code codes sent n code t l k e =
     let same : (t.code ∷ l.before) ≡ (code ∷ k.mid) = ends-same [] k.later (t.code ∷ l.before) (code ∷ k.mid) list long in
     sym (cc same)
 
-module _ (side : Side) (drawn : ℕ) (k : Story) (downs : List (List Down)) (ups : List (List Up)) (u : UnitState) (path : ℕ) (o : IsOrdered side drawn k.number k.sent (codes_of k) k.taken downs u) where
-  abbrev After : (may : Bool) → Option Begun → Down → Type 0
+module _ (side : Side) (drawn : ℕ) (k : ProgramTrace) (downs : List (List Down)) (ups : List (List Up)) (u : UnitState) (path : ℕ) (o : IsOrdered side drawn k.number k.sent (codes_of k) k.taken downs u) where
+  abbrev After : (may : Bool) → Option ActiveProgram → Down → Type 0
   After may begun d =
       ModeOf side begun (taken_at (reply.Down d (came_of (unit_takes u side path d may)).taken (came_of (unit_takes u side path d may)).sent) (Some k)) (taken downs path)
       (with_any_sent ups (came_of (unit_takes u side path d may)).sent) (unit_after u (unit_takes u side path d may))
 
-  carried-down : (may : Bool) → (begun : Option Begun) (d : Down) → slice_get (queue downs path) 0 ≡ Some d → IsDown drawn k.number k.sent (codes_of k) d → IsAnswered may side k.number u path d →
+  carried-down : (may : Bool) → (begun : Option ActiveProgram) (d : Down) → slice_get (queue downs path) 0 ≡ Some d → IsDown drawn k.number k.sent (codes_of k) d → IsAnswered may side k.number u path d →
       Mode side begun k downs ups u → After may begun d
   carried-down may begun d e i n m =
       subst
-      (λ (x : Option Story). ModeOf side begun x (taken downs path) (with_any_sent ups (came_of (unit_takes u side path d may)).sent) (unit_after u (unit_takes u side path d may)))
+      (λ (x : Option ProgramTrace). ModeOf side begun x (taken downs path) (with_any_sent ups (came_of (unit_takes u side path d may)).sent) (unit_after u (unit_takes u side path d may)))
       (sym (story-same d (came_of (unit_takes u side path d may)).taken (came_of (unit_takes u side path d may)).sent k n))
       (mode-carried side begun k downs (taken downs path) ups (with_any_sent ups (came_of (unit_takes u side path d may)).sent) u (unit_after u (unit_takes u side path d may))
       (λ P Q R f w. wired-takes may side drawn k.number (length k.taken) k.sent (codes_of k) P Q R downs ups u path d e i f.none f.answered f.gives o.kept.last n w) m)
@@ -171,7 +171,7 @@ module _ (side : Side) (drawn : ℕ) (k : Story) (downs : List (List Down)) (ups
   all-answered may (down.Got a) i f = tt
 
   -- the Command that it waits for
-  abbrev next_story : ℕ → Story
+  abbrev next_story : ℕ → ProgramTrace
   next_story code = record k { taken = code ∷ k.taken; absorbed = [] }
 
   taken-wires : (P : Option AtHand → Type 0) (Q : ℕ → List ℕ → Type 0) (R : ℕ → Load → Type 0) (code n room : ℕ) → P (Some (new_command code room)) →
@@ -182,7 +182,7 @@ module _ (side : Side) (drawn : ℕ) (k : Story) (downs : List (List Down)) (ups
       subst (λ (i : ℕ). IsWired side k.number i P Q R (taken downs path) ups (record u { last_command = n; at_hand = Some (new_command code room) })) long
       (wired-next side k.number (length k.taken) HandClosed P AnyGive Q AnyData R downs ups u (record u { last_command = n; at_hand = Some (new_command code room) }) path p w)
 
-  takes-next : (begun : Option Begun) (b : Begun) (code n room : ℕ) (out : Bool) → is_outward b.transfer.code ≡ out → begun ≡ Some b → length k.taken + 1 ≡ k.sent → b.transfer.sequence ≡ 0 →
+  takes-next : (begun : Option ActiveProgram) (b : ActiveProgram) (code n room : ℕ) (out : Bool) → is_outward b.transfer.code ≡ out → begun ≡ Some b → length k.taken + 1 ≡ k.sent → b.transfer.sequence ≡ 0 →
       k.now.moved ≡ [] → code ≡ b.transfer.code → IsWired side k.number (length k.taken) HandClosed AnyGive AnyData downs ups u →
       Mode side begun (next_story code) (taken downs path) ups (record u { last_command = n; at_hand = Some (new_command code room) })
   takes-next begun b code n room false z e l s m c w = Reads b e (omega (arith, l)) z refl (taken-wires HandPlain NoGive AnyData code n room refl w)
@@ -190,7 +190,7 @@ module _ (side : Side) (drawn : ℕ) (k : Story) (downs : List (List Down)) (ups
       let v : View = view_of b.transfer k.now in
       Writes b e (omega (arith, l)) z None (begins-flow v m) (taken-wires (HandFlow b.transfer.code v None) (IsGive v) (IsData v None) code n room (c, begins-hand v code room s) w)
 
-  module _ (begun : Option Begun) (t n code room : ℕ) where
+  module _ (begun : Option ActiveProgram) (t n code room : ℕ) where
     abbrev Then : Bool → Bool → Bool → Type 0
     Then fresh owner next =
         let step : Option UnitStep = command_step u path n code room fresh owner next in
@@ -202,7 +202,7 @@ module _ (side : Side) (drawn : ℕ) (k : Story) (downs : List (List Down)) (ups
         subst (λ (b : Bool). Mode side begun (if b then next_story code else k) (taken downs path) ups (record u { last_command = n; at_hand = Some (new_command code room) }))
         (sym (eq-eqb t k.number e)) m
 
-    waits-by : (may : Bool) → (b : Begun) → begun ≡ Some b → IsLast (codes_of k) k.sent b.transfer → length k.taken + 1 ≡ k.sent → b.transfer.sequence ≡ 0 → k.now.moved ≡ [] →
+    waits-by : (may : Bool) → (b : ActiveProgram) → begun ≡ Some b → IsLast (codes_of k) k.sent b.transfer → length k.taken + 1 ≡ k.sent → b.transfer.sequence ≡ 0 → k.now.moved ≡ [] →
         slice_get (queue downs path) 0 ≡ Some (down.Command t n code room) → IsDown drawn k.number k.sent (codes_of k) (down.Command t n code room) →
         IsWired side k.number (length k.taken) HandClosed AnyGive AnyData downs ups u → Mode side begun k downs ups u → After may begun (down.Command t n code room)
     waits-by may b e last l s m q i w mode =
@@ -247,8 +247,8 @@ module _ (side : Side) (drawn : ℕ) (k : Story) (downs : List (List Down)) (ups
         by false false next same f g h j = other (λ fresh owner next a c d z. untaken false g refl fresh owner next a c)
 
   -- any signal
-  mode-next : (may : Bool) → (begun : Option Begun) (d : Down) → ((b : Begun) → begun ≡ Some b → IsLast (codes_of k) k.sent b.transfer) → slice_get (queue downs path) 0 ≡ Some d →
-      IsDown drawn k.number k.sent (codes_of k) d → Mode side begun k downs ups u → (b : Begun) → begun ≡ Some b → length k.taken + 1 ≡ k.sent → b.transfer.sequence ≡ 0 → k.now.moved ≡ [] →
+  mode-next : (may : Bool) → (begun : Option ActiveProgram) (d : Down) → ((b : ActiveProgram) → begun ≡ Some b → IsLast (codes_of k) k.sent b.transfer) → slice_get (queue downs path) 0 ≡ Some d →
+      IsDown drawn k.number k.sent (codes_of k) d → Mode side begun k downs ups u → (b : ActiveProgram) → begun ≡ Some b → length k.taken + 1 ≡ k.sent → b.transfer.sequence ≡ 0 → k.now.moved ≡ [] →
       IsWired side k.number (length k.taken) HandClosed AnyGive AnyData downs ups u → After may begun d
   mode-next may begun (down.Select t) last q i m b e l s z w = carried-down may begun (down.Select t) q i tt m
   mode-next may begun (down.Command t n code room) last q i m b e l s z w = waits-by begun t n code room may b e (last b e) l s z q i w m
@@ -261,7 +261,7 @@ module _ (side : Side) (drawn : ℕ) (k : Story) (downs : List (List Down)) (ups
   mode-next may begun (down.Reset r y) last q i m b e l s z w = carried-down may begun (down.Reset r y) q i tt m
   mode-next may begun (down.Got a) last q i m b e l s z w = carried-down may begun (down.Got a) q i tt m
 
-  pub mode-down : (may : Bool) → (begun : Option Begun) (d : Down) → ((b : Begun) → begun ≡ Some b → IsLast (codes_of k) k.sent b.transfer) → slice_get (queue downs path) 0 ≡ Some d →
+  pub mode-down : (may : Bool) → (begun : Option ActiveProgram) (d : Down) → ((b : ActiveProgram) → begun ≡ Some b → IsLast (codes_of k) k.sent b.transfer) → slice_get (queue downs path) 0 ≡ Some d →
       IsDown drawn k.number k.sent (codes_of k) d → Mode side begun k downs ups u → After may begun d
   mode-down may begun d last q i (Waits b e n s m a w) = mode-next may begun d last q i (Waits b e n s m a w) b e n s m w
   mode-down may begun d last q i (Over e n z a w) = carried-down may begun d q i (all-answered may d i n) (Over e n z a w)

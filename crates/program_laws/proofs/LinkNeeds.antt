@@ -7,9 +7,9 @@ use Rattle.chan_model.specs.declared.hold_state.HoldPhase.TheVariants as hold
 use Rattle.chan_model.specs.HoldTable.{is_connected, is_on}
 use Rattle.channel_program.specs.Programs.{Command, commands, code}
 use Rattle.transfer.specs.declared.Transfer.{Transfer}
-use Rattle.subchannel_model.specs.declared.state.Begun.{Begun}
+use Rattle.subchannel_model.specs.declared.state.ActiveProgram.{ActiveProgram}
 use Rattle.subchannel_model.specs.declared.state.SubchannelState.{SubchannelState}
-use Rattle.program_laws.specs.Stories.{Story}
+use Rattle.program_laws.specs.Traces.{ProgramTrace}
 use Rattle.program_laws.proofs.Ties.{HasCode}
 use Rattle.program_laws.proofs.Holds.{IsPhase, IsDrawn, IsUnheld, IsUntold, HasWork, HeldBy}
 use Rattle.program_laws.proofs.UnitGrowth.{later_codes, later-length, later-first, codes_of, IsUnbegun}
@@ -22,19 +22,19 @@ pub record IsLast (codes : List ℕ) (sent : ℕ) (t : Transfer) : Type 0 where
   pub at : t.command ≡ sent
 
 -- what is to be known of a subchannel and the story of its program
-pub record IsNeeded (k : Story) (s : SubchannelState) : Type 0 where
+pub record IsNeeded (k : ProgramTrace) (s : SubchannelState) : Type 0 where
   pub number : k.number ≤ s.drawn
   pub on : (t : ℕ) → is_on s.hold.phase t ≡ true → t ≡ k.number
   pub unbegun : IsUnbegun s.hold.phase k
-  pub begun : (b : Begun) → s.begun ≡ Some b → IsLast (codes_of k) k.sent b.transfer
+  pub begun : (b : ActiveProgram) → s.begun ≡ Some b → IsLast (codes_of k) k.sent b.transfer
   pub drawn : IsDrawn s.hold.phase s.drawn
 
-abbrev pub Needs : Option Story → SubchannelState → Type 0
+abbrev pub Needs : Option ProgramTrace → SubchannelState → Type 0
 Needs None s = IsUntold s
 Needs (Some k) s = IsNeeded k s
 
 -- what a subchannel keeps of its program tells this
-pub on-number : (phase : HoldPhase) (n : ℕ) (b : Option Begun) (sent : ℕ) (t : ℕ) → IsPhase phase n b sent → is_on phase t ≡ true → t ≡ n
+pub on-number : (phase : HoldPhase) (n : ℕ) (b : Option ActiveProgram) (sent : ℕ) (t : ℕ) → IsPhase phase n b sent → is_on phase t ≡ true → t ≡ n
 on-number hold.Free n b sent t k e = absurd (cc e)
 on-number (hold.Offer u p) n b sent t k e = absurd (cc e)
 on-number (hold.On u p c) n b sent t k e = eqb-true t u e ∙ k
@@ -43,7 +43,7 @@ on-number (hold.Letting u p) n b sent t k e = absurd (cc e)
 on-number (hold.Reset r) n b sent t k e = absurd (cc e)
 
 -- the program that is connected
-pub connected-number : (phase : HoldPhase) (n : ℕ) (b : Option Begun) (sent p t c : ℕ) → IsPhase phase n b sent → is_connected phase p t c ≡ true → t ≡ n
+pub connected-number : (phase : HoldPhase) (n : ℕ) (b : Option ActiveProgram) (sent p t c : ℕ) → IsPhase phase n b sent → is_connected phase p t c ≡ true → t ≡ n
 connected-number hold.Free n b sent p t c k e = absurd (cc e)
 connected-number (hold.Offer u q) n b sent p t c k e = absurd (cc e)
 connected-number (hold.On u q d) n b sent p t c k e = eqb-true t u (and_parts (t == u) ((p == q) && (c == d)) e).0 ∙ k
@@ -64,16 +64,16 @@ last-coded (x ∷ cs) earlier sent t c n m l =
       at = m;
     }
 
-pub work-last : (b : Begun) (k : Story) → HasWork (Some b) k → IsLast (codes_of k) k.sent b.transfer
+pub work-last : (b : ActiveProgram) (k : ProgramTrace) → HasWork (Some b) k → IsLast (codes_of k) k.sent b.transfer
 work-last b k w = last-coded (commands k.orb k.now.acts) k.earlier k.sent b.transfer w.0.tied.coded w.0.tied.number w.1 w.2
 
-begun-last : (b : Option Begun) (c : Begun) (k : Story) → HasWork b k → b ≡ Some c → IsLast (codes_of k) k.sent c.transfer
+begun-last : (b : Option ActiveProgram) (c : ActiveProgram) (k : ProgramTrace) → HasWork b k → b ≡ Some c → IsLast (codes_of k) k.sent c.transfer
 begun-last None c k w e = absurd (cc e)
 begun-last (Some b) c k w e =
     let same : b ≡ c = cc e in
-    subst (λ (x : Begun). IsLast (codes_of k) k.sent x.transfer) same (work-last b k w)
+    subst (λ (x : ActiveProgram). IsLast (codes_of k) k.sent x.transfer) same (work-last b k w)
 
-pub held-needs : (k : Option Story) (s : SubchannelState) → HeldBy s k → Needs k s
+pub held-needs : (k : Option ProgramTrace) (s : SubchannelState) → HeldBy s k → Needs k s
 held-needs None s h = h
 held-needs (Some k) s h = record {
   number = h.number;
@@ -90,6 +90,6 @@ reset-drawn phase drawn r e d = subst (λ (x : HoldPhase). IsDrawn x drawn) e d
 unheld-drawn : (phase : HoldPhase) (drawn r : ℕ) → phase ≡ hold.Reset r → IsUnheld phase drawn → r ≤ drawn
 unheld-drawn phase drawn r e d = subst (λ (x : HoldPhase). IsUnheld x drawn) e d
 
-pub reset-needs : (k : Option Story) (s : SubchannelState) (r : ℕ) → s.hold.phase ≡ hold.Reset r → Needs k s → r ≤ s.drawn
+pub reset-needs : (k : Option ProgramTrace) (s : SubchannelState) (r : ℕ) → s.hold.phase ≡ hold.Reset r → Needs k s → r ≤ s.drawn
 reset-needs None s r e n = unheld-drawn s.hold.phase s.drawn r e n.phase
 reset-needs (Some k) s r e n = reset-drawn s.hold.phase s.drawn r e n.drawn

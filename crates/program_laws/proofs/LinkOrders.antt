@@ -24,8 +24,8 @@ use Rattle.chan_model.specs.UnitTable.{UnitStep, side_of, resets, unit_takes, un
 use Rattle.chan_model.specs.UnitReports.{unit_reports}
 use Rattle.wires.specs.Queues.{queue, first_of, taken}
 use Rattle.subchannel_model.specs.declared.state.Chosen.{Chosen}
-use Rattle.subchannel_model.specs.declared.state.Chosen.TheVariants.{Idle, Resets, Clears, Halts, Ends, Over, Offers}
-use Rattle.subchannel_model.specs.declared.cause.Cause.TheVariants as cause
+use Rattle.subchannel_model.specs.declared.state.Chosen.TheVariants.{Idle, Resets, PerformsClear, Halts, PerformsHalt, FindsNoPath, Offers}
+use Rattle.subchannel_model.specs.declared.cause.StatusCause.TheVariants as cause
 use Rattle.subchannel_model.specs.declared.state.Program.{Program}
 use Rattle.subchannel_model.specs.declared.state.Subchannel.{Subchannel}
 use Rattle.subchannel_model.specs.declared.state.SubchannelState.{SubchannelState}
@@ -45,8 +45,8 @@ use Rattle.machine_model.specs.UpSteps.{up_front, up_sub}
 use Rattle.machine_model.specs.DownSteps.{down_front, down_sub}
 use Rattle.machine_model.specs.ReportSteps.{report_taken}
 use Rattle.step_laws.specs.Walks.{IsFound, Suits}
-use Rattle.program_laws.specs.Stories.{silent_by, Story, offered, offered_for, chosen_at, meets, met_with, met_at, taken_at, absorbs, reported, reported_at}
-use Rattle.program_laws.proofs.Turns.{Happening, Stays, Starts_with_orb, Is_tested, Is_resumed, Is_halted, Is_cleared, Is_cancelled, Is_modified, Is_chosen, Meets, Sinks, Is_reported, Other_sinks, Other_reported, if-ok}
+use Rattle.program_laws.specs.Traces.{silent_by, ProgramTrace, trace_offered, offered_for, chosen_at, trace_meets, met_with, met_at, taken_at, absorbs, reported, reported_at}
+use Rattle.program_laws.proofs.Turns.{PlaceStep, Stays, Starts_with_orb, Is_tested, Is_resumed, Is_halted, Is_cleared, Is_cancelled, Is_modified, Is_chosen, Meets, Sinks, Is_reported, Other_sinks, Other_reported, if-ok}
 use Rattle.channel_program.specs.Programs.{Command, commands, code}
 use Rattle.program_laws.proofs.Caused.{cause-kept, tested-kept, halted-kept}
 use Rattle.program_laws.proofs.Holds.{IsUnheld, IsUntold}
@@ -59,23 +59,23 @@ use Rattle.program_laws.proofs.UnitGrowth.{later_codes, later-none, codes_of, Is
 use Rattle.program_laws.proofs.LinkSent.{IsOf, IsAtWork, up-sends}
 
 -- the orders between the story and a unit
-abbrev pub number_of : Option Story → ℕ
+abbrev pub number_of : Option ProgramTrace → ℕ
 number_of None = 0
 number_of (Some k) = k.number
 
-abbrev pub sent_of : Option Story → ℕ
+abbrev pub sent_of : Option ProgramTrace → ℕ
 sent_of None = 0
 sent_of (Some k) = k.sent
 
-abbrev pub all_codes : Option Story → List ℕ
+abbrev pub all_codes : Option ProgramTrace → List ℕ
 all_codes None = []
 all_codes (Some k) = codes_of k
 
-abbrev pub took_of : Option Story → List ℕ
+abbrev pub took_of : Option ProgramTrace → List ℕ
 took_of None = []
 took_of (Some k) = k.taken
 
-abbrev pub IsLinked : Side → ℕ → List (List Down) → Option Story → UnitState → Type 0
+abbrev pub IsLinked : Side → ℕ → List (List Down) → Option ProgramTrace → UnitState → Type 0
 IsLinked side drawn wires k u = IsOrdered side drawn (number_of k) (sent_of k) (all_codes k) (took_of k) wires u
 
 abbrev pub AtUnit : (UnitState → Type 0) → Option UnitState → Type 0
@@ -83,7 +83,7 @@ AtUnit P None = ⊥
 AtUnit P (Some u) = P u
 
 -- what is sent as a signal is met is of the codes then
-down-of : (k : Story) (s : SubchannelState) (d : Down) → IsNeeded k s → IsOf s d → IsDown s.drawn k.number k.sent (codes_of k) d
+down-of : (k : ProgramTrace) (s : SubchannelState) (d : Down) → IsNeeded k s → IsOf s d → IsDown s.drawn k.number k.sent (codes_of k) d
 down-of k s (down.Select t) n h = absurd h
 down-of k s (down.Command t m code room) n h =
     let w : IsAtWork s t m code = h in
@@ -131,29 +131,29 @@ if-some P Q None f h = tt
 if-some P Q (Some x) f h = f x h
 
 -- Choose
-pub number-drawn : (k : Option Story) (s : SubchannelState) → Needs k s → number_of k ≤ s.drawn
+pub number-drawn : (k : Option ProgramTrace) (s : SubchannelState) → Needs k s → number_of k ≤ s.drawn
 number-drawn None s n = omega arith
 number-drawn (Some k) s n = n.number
 
 -- something is sent that isn't of a program's commands
-same-linked : (side : Side) (drawn path : ℕ) (d : Down) (wires : List (List Down)) (k : Option Story) (u : UnitState) → IsDown drawn (number_of k) (sent_of k) (all_codes k) d →
+same-linked : (side : Side) (drawn path : ℕ) (d : Down) (wires : List (List Down)) (k : Option ProgramTrace) (u : UnitState) → IsDown drawn (number_of k) (sent_of k) (all_codes k) d →
     IsLinked side drawn wires k u → IsLinked side drawn (with_any_sent wires (Some (record { path = path; signal = d }))) k u
 same-linked side drawn path d wires k u h l =
     hold-sends side drawn (number_of k) (sent_of k) (sent_of k) (all_codes k) [] (took_of k) wires u (Some (record { path = path; signal = d })) l (omega arith) h
 
-offer-linked : (side : Side) (drawn path : ℕ) (wires : List (List Down)) (k : Option Story) (u : UnitState) → number_of k ≤ drawn → IsLinked side drawn wires k u →
+offer-linked : (side : Side) (drawn path : ℕ) (wires : List (List Down)) (k : Option ProgramTrace) (u : UnitState) → number_of k ≤ drawn → IsLinked side drawn wires k u →
     IsOrdered side (drawn + 1) (drawn + 1) 0 [] [] (with_any_sent wires (Some (record { path = path; signal = down.Select (drawn + 1) }))) u
 offer-linked side drawn path wires k u le l =
     hold-offers side drawn (number_of k) (sent_of k) (drawn + 1) (all_codes k) (took_of k) wires u path le (omega arith) l
 
-offered-linked : (sub : Subchannel) (path : ℕ) (program : Program) (resumes : Bool) (k : Option Story) (u : UnitState) → IsFound sub.state.waiting sub.state.suspended resumes program →
+offered-linked : (sub : Subchannel) (path : ℕ) (program : Program) (resumes : Bool) (k : Option ProgramTrace) (u : UnitState) → IsFound sub.state.waiting sub.state.suspended resumes program →
     Needs k sub.state → IsLinked sub.setup.side sub.state.drawn sub.wires.down k u →
     IsLinked sub.setup.side (sub.state.drawn + 1) (with_any_sent sub.wires.down (Some (record { path = path; signal = down.Select (sub.state.drawn + 1) })))
     (chosen_at (Some sub) (reply.Offered (sub.state.drawn + 1) path resumes) k) u
 offered-linked sub path program false k u w n l =
     let t : ℕ = sub.state.drawn + 1 in
-    let P : Option Story → Type 0 = λ x. IsLinked sub.setup.side t (with_any_sent sub.wires.down (Some (record { path = path; signal = down.Select t }))) x u in
-    let made : P (Some (offered t program.orb)) = offer-linked sub.setup.side sub.state.drawn path sub.wires.down k u (number-drawn k sub.state n) l in
+    let P : Option ProgramTrace → Type 0 = λ x. IsLinked sub.setup.side t (with_any_sent sub.wires.down (Some (record { path = path; signal = down.Select t }))) x u in
+    let made : P (Some (trace_offered t program.orb)) = offer-linked sub.setup.side sub.state.drawn path sub.wires.down k u (number-drawn k sub.state n) l in
     subst (λ (x : Option Program). P (offered_for x t k)) (sym w) made
 offered-linked sub path program true None u w n l = absurd (cc (sym n.suspended ∙ w.1))
 offered-linked sub path program true (Some k) u w n l =
@@ -165,26 +165,26 @@ offered-linked sub path program true (Some k) u w n l =
     subst (λ (xs : List ℕ). IsOrdered sub.setup.side t t 0 xs [] wires u) (sym none) (offer-linked sub.setup.side sub.state.drawn path sub.wires.down (Some k) u n.number l)
 
 -- whatever is chosen
-choose-linked : (sub : Subchannel) (c : Chosen) (k : Option Story) (u : UnitState) → Suits c sub.state → Needs k sub.state →
+choose-linked : (sub : Subchannel) (c : Chosen) (k : Option ProgramTrace) (u : UnitState) → Suits c sub.state → Needs k sub.state →
     IsLinked sub.setup.side sub.state.drawn sub.wires.down k u →
     IfOk (choose_sub sub c) (λ t. IsLinked sub.setup.side t.sub.state.drawn t.sub.wires.down (chosen_at (Some sub) t.reply k) u)
 choose-linked sub Idle k u w n l = l
 choose-linked sub (Resets r path) k u w n l =
     if-ok (λ t. IsLinked sub.setup.side t.sub.state.drawn t.sub.wires.down (chosen_at (Some sub) t.reply k) u) (is_full sub.wires.down path) (Err fault.WireFull) _ tt
     (same-linked sub.setup.side sub.state.drawn path (down.Reset r sub.state.hold.known) sub.wires.down k u (reset-needs k sub.state r w.fits n) l)
-choose-linked sub Clears k u w n l = l
+choose-linked sub PerformsClear k u w n l = l
 choose-linked sub (Halts t path) k u w n l =
     if-ok (λ t. IsLinked sub.setup.side t.sub.state.drawn t.sub.wires.down (chosen_at (Some sub) t.reply k) u) (is_full sub.wires.down path) (Err fault.WireFull) _ tt
     (same-linked sub.setup.side sub.state.drawn path (down.Halt t) sub.wires.down k u tt l)
-choose-linked sub Ends k u w n l = l
-choose-linked sub Over k u w n l =
+choose-linked sub PerformsHalt k u w n l = l
+choose-linked sub FindsNoPath k u w n l =
     subst (λ (i : ℕ). IsLinked sub.setup.side i sub.wires.down k u) (sym (cause-kept sub.state cause.NoPath).drawn) l
 choose-linked sub (Offers c path) k u w n l =
     if-ok (λ t. IsLinked sub.setup.side t.sub.state.drawn t.sub.wires.down (chosen_at (Some sub) t.reply k) u) (is_full sub.wires.down path) (Err fault.WireFull) _ tt
     (offered-linked sub path c.program c.resumes k u w.found n l)
 
 -- Up
-met-linked : (returns : Bool) → (storage : Contents) (sub : Subchannel) (path : ℕ) (x : Up) (k : Option Story) (u : UnitState) (drawn : ℕ) →
+met-linked : (returns : Bool) → (storage : Contents) (sub : Subchannel) (path : ℕ) (x : Up) (k : Option ProgramTrace) (u : UnitState) (drawn : ℕ) →
     drawn ≡ (takes_up returns storage sub.state path x).step.state.drawn → Needs k sub.state →
     Needs (met_with storage sub.state path (Some x) k) (takes_up returns storage sub.state path x).step.state → IsLinked sub.setup.side drawn sub.wires.down k u →
     IsLinked sub.setup.side drawn (with_any_sent sub.wires.down (takes_up returns storage sub.state path x).step.came.sent) (met_with storage sub.state path (Some x) k) u
@@ -193,7 +193,7 @@ met-linked returns storage sub path x None u drawn same n m l =
     (if-some (λ d. IsOf (takes_up returns storage sub.state path x).step.state d.signal) (λ d. IsDown drawn 0 0 [] d.signal) (takes_up returns storage sub.state path x).step.came.sent
     (λ d h. subst (λ (i : ℕ). IsDown i 0 0 [] d.signal) (sym same) (down-untold (takes_up returns storage sub.state path x).step.state d.signal m h)) (up-sends returns storage sub.state path x))
 met-linked returns storage sub path x (Some k) u drawn same n m l =
-    let new : Story = meets storage sub.state path x k in
+    let new : ProgramTrace = trace_meets storage sub.state path x k in
     let s : SubchannelState = (takes_up returns storage sub.state path x).step.state in
     let one : Option (OnPath Down) = (takes_up returns storage sub.state path x).step.came.sent in
     let g : IsGrown k new = meets-grown storage sub.state path x k n.unbegun in
@@ -213,10 +213,10 @@ met-linked returns storage sub path x (Some k) u drawn same n m l =
     ] in
     subst (λ (t : List ℕ). Q new.number (codes_of new) t) (sym g.taken) (subst (λ (i : ℕ). Q i (codes_of new) k.taken) (sym g.number) made)
 
-abbrev IsMet : Subchannel → Option Story → UnitState → UpTurn → Type 0
+abbrev IsMet : Subchannel → Option ProgramTrace → UnitState → UpTurn → Type 0
 IsMet sub k u t = Needs k t.sub.state → IsLinked sub.setup.side t.sub.state.drawn t.sub.wires.down k u
 
-signal-linked : (returns : Bool) → (storage : Contents) (sub : Subchannel) (path : ℕ) (x : Up) (k : Option Story) (u : UnitState) → Needs k sub.state →
+signal-linked : (returns : Bool) → (storage : Contents) (sub : Subchannel) (path : ℕ) (x : Up) (k : Option ProgramTrace) (u : UnitState) → Needs k sub.state →
     Needs (met_with storage sub.state path (Some x) k) (takes_up returns storage sub.state path x).step.state → IsLinked sub.setup.side sub.state.drawn sub.wires.down k u →
     IsLinked sub.setup.side (takes_up returns storage sub.state path x).step.state.drawn (with_any_sent sub.wires.down (takes_up returns storage sub.state path x).step.came.sent)
     (met_with storage sub.state path (Some x) k) u
@@ -224,21 +224,21 @@ signal-linked returns storage sub path x k u n m l =
     met-linked returns storage sub path x k u (takes_up returns storage sub.state path x).step.state.drawn refl n m
     (hold-draws sub.setup.side sub.state.drawn (takes_up returns storage sub.state path x).step.state.drawn (number_of k) (sent_of k) (all_codes k) (took_of k) sub.wires.down u (up-drawn storage returns sub.state path x) l)
 
-up_front-linked : (returns : Bool) → (storage : Contents) (sub : Subchannel) (path : ℕ) (front : Option Up) (k : Option Story) (u : UnitState) → Needs k sub.state →
+up_front-linked : (returns : Bool) → (storage : Contents) (sub : Subchannel) (path : ℕ) (front : Option Up) (k : Option ProgramTrace) (u : UnitState) → Needs k sub.state →
     IsLinked sub.setup.side sub.state.drawn sub.wires.down k u → IfOk (up_front returns storage sub path front) (IsMet sub (met_with storage sub.state path front k) u)
 up_front-linked returns storage sub path None k u n l = tt
 up_front-linked returns storage sub path (Some x) k u n l =
     if-ok (IsMet sub (met_with storage sub.state path (Some x) k) u) (finds_full sub.wires.down (takes_up returns storage sub.state path x).step.came.sent) (Err fault.WireFull) _ tt
     (λ m. signal-linked returns storage sub path x k u n m l)
 
-up-linked : (returns : Bool) → (storage : Contents) (sub : Subchannel) (path : ℕ) (k : Option Story) (u : UnitState) → Needs k sub.state →
+up-linked : (returns : Bool) → (storage : Contents) (sub : Subchannel) (path : ℕ) (k : Option ProgramTrace) (u : UnitState) → Needs k sub.state →
     IsLinked sub.setup.side sub.state.drawn sub.wires.down k u → IfOk (up_sub returns storage sub path) (IsMet sub (met_at storage (Some sub) path k) u)
 up-linked returns storage sub path k u n l =
     if-ok (IsMet sub (met_at storage (Some sub) path k) u) (nat_lt path (length sub.setup.paths)) (up_front returns storage sub path (slice_get (queue sub.wires.up path) 0)) (Err fault.NoSuchPath)
     (up_front-linked returns storage sub path (slice_get (queue sub.wires.up path) 0) k u n l) tt
 
 -- Down
-took-story : (side : Side) (drawn : ℕ) (wires : List (List Down)) (v : UnitState) (d : Down) (came : Bool) (sent : Option (OnPath Up)) (k : Option Story) →
+took-story : (side : Side) (drawn : ℕ) (wires : List (List Down)) (v : UnitState) (d : Down) (came : Bool) (sent : Option (OnPath Up)) (k : Option ProgramTrace) →
     IsOrdered side drawn (number_of k) (sent_of k) (all_codes k) (took_after (number_of k) (silent_by came sent) d (took_of k)) wires v → IsLinked side drawn wires (taken_at (reply.Down d came sent) k) v
 took-story side drawn wires v d true (Some x) k o = o
 took-story side drawn wires v d false (Some x) k o = o
@@ -293,7 +293,7 @@ above-of u side (down.Halt t) f = tt
 above-of u side (down.Release t) f = tt
 above-of u side (down.Got a) f = tt
 
-down_front-linked : (may : Bool) → (sub : Subchannel) (path : ℕ) (u : UnitState) (front : Option Down) (k : Option Story) → slice_get (queue sub.wires.down path) 0 ≡ front → AreAbove sub u → Needs k sub.state →
+down_front-linked : (may : Bool) → (sub : Subchannel) (path : ℕ) (u : UnitState) (front : Option Down) (k : Option ProgramTrace) → slice_get (queue sub.wires.down path) 0 ≡ front → AreAbove sub u → Needs k sub.state →
     IsLinked sub.setup.side sub.state.drawn sub.wires.down k u → IfOk (down_front may sub path u front) (λ t. IsLinked sub.setup.side t.sub.state.drawn t.sub.wires.down (taken_at t.reply k) t.«unit»)
 down_front-linked may sub path u None k e a n l = tt
 down_front-linked may sub path u (Some d) k e a n l =
@@ -305,7 +305,7 @@ down_front-linked may sub path u (Some d) k e a n l =
     (unit-takes may sub.setup.side sub.state.drawn (number_of k) (sent_of k) (all_codes k) (took_of k) sub.wires.down u path d (number-drawn k sub.state n)
     (on-first (IsDown sub.state.drawn (number_of k) (sent_of k) (all_codes k)) sub.wires.down path d l.downs e) (above-of u sub.setup.side d (λ r b f. a path r b (e ∙ ap Some f))) l)))
 
-down-linked : (may : Bool) → (sub : Subchannel) (path : ℕ) (u : UnitState) (k : Option Story) → AreAbove sub u → Needs k sub.state → IsLinked sub.setup.side sub.state.drawn sub.wires.down k u →
+down-linked : (may : Bool) → (sub : Subchannel) (path : ℕ) (u : UnitState) (k : Option ProgramTrace) → AreAbove sub u → Needs k sub.state → IsLinked sub.setup.side sub.state.drawn sub.wires.down k u →
     IfOk (down_sub may sub path u) (λ t. IsLinked sub.setup.side t.sub.state.drawn t.sub.wires.down (taken_at t.reply k) t.«unit»)
 down-linked may sub path u k a n l =
     if-ok (λ t. IsLinked sub.setup.side t.sub.state.drawn t.sub.wires.down (taken_at t.reply k) t.«unit») (nat_lt path (length sub.setup.paths))
@@ -313,12 +313,12 @@ down-linked may sub path u k a n l =
     (down_front-linked may sub path u (slice_get (queue sub.wires.down path) 0) k refl a n l) tt
 
 -- what leaves the side still
-still-linked : (side : Side) (drawn : ℕ) (wires : List (List Down)) (k : Option Story) (u : UnitState) (step : Option UnitStep) → IsStillStep side u step → IsLinked side drawn wires k u →
+still-linked : (side : Side) (drawn : ℕ) (wires : List (List Down)) (k : Option ProgramTrace) (u : UnitState) (step : Option UnitStep) → IsStillStep side u step → IsLinked side drawn wires k u →
     IsLinked side drawn wires k (unit_after u step)
 still-linked side drawn wires k u step s l = ordered-still side drawn (number_of k) (sent_of k) (all_codes k) (took_of k) wires u (unit_after u step) s l
 
 -- Report
-absorbs-same : (side : Side) (drawn : ℕ) (wires : List (List Down)) (v : UnitState) (k : Story) (count : ℕ) (x : Option AtHand) → IsLinked side drawn wires (Some k) v →
+absorbs-same : (side : Side) (drawn : ℕ) (wires : List (List Down)) (v : UnitState) (k : ProgramTrace) (count : ℕ) (x : Option AtHand) → IsLinked side drawn wires (Some k) v →
     IsLinked side drawn wires (Some (absorbs count x k)) v
 absorbs-same side drawn wires v k count None l = l
 absorbs-same side drawn wires v k count (Some x) l = by x.given
@@ -327,12 +327,12 @@ absorbs-same side drawn wires v k count (Some x) l = by x.given
     by None = l
     by (Some bytes) = l
 
-reported-if : (side : Side) (drawn : ℕ) (wires : List (List Down)) (v : UnitState) (k new : Story) (b : Bool) → IsLinked side drawn wires (Some k) v → IsLinked side drawn wires (Some new) v →
+reported-if : (side : Side) (drawn : ℕ) (wires : List (List Down)) (v : UnitState) (k new : ProgramTrace) (b : Bool) → IsLinked side drawn wires (Some k) v → IsLinked side drawn wires (Some new) v →
     IsLinked side drawn wires (Some (if b then new else k)) v
 reported-if side drawn wires v k new true l m = m
 reported-if side drawn wires v k new false l m = l
 
-reported-same : (side : Side) (drawn : ℕ) (wires : List (List Down)) (v u : UnitState) (report : Report) (a : DeviceAnswer) (k : Story) → IsLinked side drawn wires (Some k) v →
+reported-same : (side : Side) (drawn : ℕ) (wires : List (List Down)) (v u : UnitState) (report : Report) (a : DeviceAnswer) (k : ProgramTrace) → IsLinked side drawn wires (Some k) v →
     IsLinked side drawn wires (Some (reported u report a k)) v
 reported-same side drawn wires v u report answer.Begins k l = l
 reported-same side drawn wires v u report (answer.Absorbed count) k l =
@@ -341,12 +341,12 @@ reported-same side drawn wires v u report (answer.Supplied bytes) k l = l
 reported-same side drawn wires v u report answer.Again k l = l
 reported-same side drawn wires v u report (answer.Ended status more) k l = l
 
-reported-linked : (side : Side) (drawn : ℕ) (wires : List (List Down)) (v u : UnitState) (report : Report) (k : Option Story) → IsLinked side drawn wires k v →
+reported-linked : (side : Side) (drawn : ℕ) (wires : List (List Down)) (v u : UnitState) (report : Report) (k : Option ProgramTrace) → IsLinked side drawn wires k v →
     IsLinked side drawn wires (reported_at (Some u) report k) v
 reported-linked side drawn wires v u report None l = l
 reported-linked side drawn wires v u report (Some k) l = reported-same side drawn wires v u report report.answer k l
 
-report-linked : (sub : Subchannel) (u : UnitState) (report : Report) (k : Option Story) (step : Option UnitStep) → unit_reports u report ≡ step →
+report-linked : (sub : Subchannel) (u : UnitState) (report : Report) (k : Option ProgramTrace) (step : Option UnitStep) → unit_reports u report ≡ step →
     IsLinked sub.setup.side sub.state.drawn sub.wires.down k u →
     IfOk (report_taken sub step) (λ t. IsLinked sub.setup.side t.sub.state.drawn t.sub.wires.down (reported_at (Some u) report k) t.«unit»)
 report-linked sub u report k None e l = tt
@@ -356,7 +356,7 @@ report-linked sub u report k (Some step) e l =
     (still-linked sub.setup.side sub.state.drawn sub.wires.down k u (Some step) (subst (IsStillStep sub.setup.side u) e (report-still sub.setup.side u report)) l))
 
 -- the other side of the unit
-other-down_front : (may : Bool) → (sub other : Subchannel) (path : ℕ) (u : UnitState) (front : Option Down) (k : Option Story) → same_side other.setup.side sub.setup.side ≡ false →
+other-down_front : (may : Bool) → (sub other : Subchannel) (path : ℕ) (u : UnitState) (front : Option Down) (k : Option ProgramTrace) → same_side other.setup.side sub.setup.side ≡ false →
     IsLinked sub.setup.side sub.state.drawn sub.wires.down k u → IfOk (down_front may other path u front) (λ t. IsLinked sub.setup.side sub.state.drawn sub.wires.down k t.«unit»)
 other-down_front may sub other path u None k e l = tt
 other-down_front may sub other path u (Some d) k e l =
@@ -364,14 +364,14 @@ other-down_front may sub other path u (Some d) k e l =
     if-ok (λ t. IsLinked sub.setup.side sub.state.drawn sub.wires.down k t.«unit») (finds_full other.wires.up (unit_table.came_of step).sent) (Err fault.WireFull) _ tt
     (still-linked sub.setup.side sub.state.drawn sub.wires.down k u step (other-still sub.setup.side u other.setup.side path d may e) l)
 
-other-down : (may : Bool) → (sub other : Subchannel) (path : ℕ) (u : UnitState) (k : Option Story) → same_side other.setup.side sub.setup.side ≡ false →
+other-down : (may : Bool) → (sub other : Subchannel) (path : ℕ) (u : UnitState) (k : Option ProgramTrace) → same_side other.setup.side sub.setup.side ≡ false →
     IsLinked sub.setup.side sub.state.drawn sub.wires.down k u → IfOk (down_sub may other path u) (λ t. IsLinked sub.setup.side sub.state.drawn sub.wires.down k t.«unit»)
 other-down may sub other path u k e l =
     if-ok (λ t. IsLinked sub.setup.side sub.state.drawn sub.wires.down k t.«unit») (nat_lt path (length other.setup.paths))
     (down_front may other path u (slice_get (queue other.wires.down path) 0)) (Err fault.NoSuchPath)
     (other-down_front may sub other path u (slice_get (queue other.wires.down path) 0) k e l) tt
 
-other-report : (sub other : Subchannel) (u : UnitState) (report : Report) (k : Option Story) (step : Option UnitStep) → unit_reports u report ≡ step →
+other-report : (sub other : Subchannel) (u : UnitState) (report : Report) (k : Option ProgramTrace) (step : Option UnitStep) → unit_reports u report ≡ step →
     IsLinked sub.setup.side sub.state.drawn sub.wires.down k u → IfOk (report_taken other step) (λ t. IsLinked sub.setup.side sub.state.drawn sub.wires.down k t.«unit»)
 other-report sub other u report k None e l = tt
 other-report sub other u report k (Some step) e l =
@@ -379,13 +379,13 @@ other-report sub other u report k (Some step) e l =
     (still-linked sub.setup.side sub.state.drawn sub.wires.down k u (Some step) (subst (IsStillStep sub.setup.side u) e (report-still sub.setup.side u report)) l)
 
 -- a step at the place
-at-same : (side j : Side) (drawn later : ℕ) (wires after : List (List Down)) (k m : Option Story) (u v : Option UnitState) → j ≡ side → later ≡ drawn → after ≡ wires → m ≡ k → v ≡ u →
+at-same : (side j : Side) (drawn later : ℕ) (wires after : List (List Down)) (k m : Option ProgramTrace) (u v : Option UnitState) → j ≡ side → later ≡ drawn → after ≡ wires → m ≡ k → v ≡ u →
     AtUnit (IsLinked side drawn wires k) u → AtUnit (IsLinked j later after m) v
 at-same side j drawn later wires after k m u v a z b c d l =
     subst (λ (x : Side). AtUnit (IsLinked x later after m) v) (sym a)
     (subst (λ (x : ℕ). AtUnit (IsLinked side x after m) v) (sym z)
     (subst (λ (x : List (List Down)). AtUnit (IsLinked side drawn x m) v) (sym b)
-    (subst (λ (x : Option Story). AtUnit (IsLinked side drawn wires x) v) (sym c)
+    (subst (λ (x : Option ProgramTrace). AtUnit (IsLinked side drawn wires x) v) (sym c)
     (subst (λ (x : Option UnitState). AtUnit (IsLinked side drawn wires k) x) (sym d) l))))
 
 side-of : (new old : Subchannel) → new.setup ≡ old.setup → new.setup.side ≡ old.setup.side
@@ -397,26 +397,26 @@ drawn-of x y e = ap (λ (z : Subchannel). z.state.drawn) e
 down-of-sub : (x y : Subchannel) → x ≡ y → x.wires.down ≡ y.wires.down
 down-of-sub x y e = ap (λ (z : Subchannel). z.wires.down) e
 
-chosen-at : (sub : Subchannel) (choice : Option ℕ) (k : Option Story) (u : Option UnitState) (t : SubTurn) → Suits (chosen sub choice) sub.state → choose_sub sub (chosen sub choice) ≡ Ok t → Needs k sub.state →
+chosen-at : (sub : Subchannel) (choice : Option ℕ) (k : Option ProgramTrace) (u : Option UnitState) (t : SubTurn) → Suits (chosen sub choice) sub.state → choose_sub sub (chosen sub choice) ≡ Ok t → Needs k sub.state →
     AtUnit (IsLinked sub.setup.side sub.state.drawn sub.wires.down k) u → AtUnit (IsLinked sub.setup.side t.sub.state.drawn t.sub.wires.down (chosen_at (Some sub) t.reply k)) u
 chosen-at sub choice k None t f e n l = absurd l
 chosen-at sub choice k (Some u) t f e n l =
     subst (λ (r : Result SubTurn Fault). IfOk r (λ t. IsLinked sub.setup.side t.sub.state.drawn t.sub.wires.down (chosen_at (Some sub) t.reply k) u)) e
     (choose-linked sub (chosen sub choice) k u f n l)
 
-met-at : (returns : Bool) → (storage : Contents) (sub : Subchannel) (path : ℕ) (k : Option Story) (u : Option UnitState) (t : UpTurn) → up_sub returns storage sub path ≡ Ok t → Needs k sub.state →
+met-at : (returns : Bool) → (storage : Contents) (sub : Subchannel) (path : ℕ) (k : Option ProgramTrace) (u : Option UnitState) (t : UpTurn) → up_sub returns storage sub path ≡ Ok t → Needs k sub.state →
     Needs (met_at storage (Some sub) path k) t.sub.state → AtUnit (IsLinked sub.setup.side sub.state.drawn sub.wires.down k) u →
     AtUnit (IsLinked sub.setup.side t.sub.state.drawn t.sub.wires.down (met_at storage (Some sub) path k)) u
 met-at returns storage sub path k None t e n m l = absurd l
 met-at returns storage sub path k (Some u) t e n m l =
     (subst (λ (r : Result UpTurn Fault). IfOk r (IsMet sub (met_at storage (Some sub) path k) u)) e (up-linked returns storage sub path k u n l)) m
 
-draws-linked : (side : Side) (drawn : ℕ) (wires : List (List Down)) (k : Option Story) (u : Option UnitState) → AtUnit (IsLinked side drawn wires k) u → AtUnit (IsLinked side (drawn + 1) wires k) u
+draws-linked : (side : Side) (drawn : ℕ) (wires : List (List Down)) (k : Option ProgramTrace) (u : Option UnitState) → AtUnit (IsLinked side drawn wires k) u → AtUnit (IsLinked side (drawn + 1) wires k) u
 draws-linked side drawn wires k None l = absurd l
 draws-linked side drawn wires k (Some u) l = hold-draws side drawn (drawn + 1) (number_of k) (sent_of k) (all_codes k) (took_of k) wires u (omega arith) l
 
-pub happens-linked : (storage : Contents) (old new : Subchannel) (u v : Option UnitState) (f : Option Story → Option Story) → Happening storage old new u v f → new.setup ≡ old.setup → ((x : UnitState) → u ≡ Some x → AreAbove old x) →
-    (k : Option Story) → Needs k old.state → Needs (f k) new.state →
+pub happens-linked : (storage : Contents) (old new : Subchannel) (u v : Option UnitState) (f : Option ProgramTrace → Option ProgramTrace) → PlaceStep storage old new u v f → new.setup ≡ old.setup → ((x : UnitState) → u ≡ Some x → AreAbove old x) →
+    (k : Option ProgramTrace) → Needs k old.state → Needs (f k) new.state →
     AtUnit (IsLinked old.setup.side old.state.drawn old.wires.down k) u → AtUnit (IsLinked new.setup.side new.state.drawn new.wires.down (f k)) v
 happens-linked storage old new u v f (Stays e w s) i a k n m l =
     at-same old.setup.side new.setup.side old.state.drawn new.state.drawn old.wires.down new.wires.down k (f k) u v (side-of new old i) (drawn-of new old e) (down-of-sub new old e) (s k) w l
@@ -447,7 +447,7 @@ happens-linked storage old new u v f (Is_chosen choice t x c e w s) i a k n m l 
 happens-linked storage old new u v f (Meets path returns t c e w s) i a k n m l =
     at-same old.setup.side new.setup.side t.sub.state.drawn new.state.drawn t.sub.wires.down new.wires.down (met_at storage (Some old) path k) (f k) u v (side-of new old i) (drawn-of new t.sub e) (down-of-sub new t.sub e) (s k) w
     (met-at returns storage old path k u t c n
-    (subst (λ (x : Subchannel). Needs (met_at storage (Some old) path k) x.state) e (subst (λ (x : Option Story). Needs x new.state) (s k) m)) l)
+    (subst (λ (x : Subchannel). Needs (met_at storage (Some old) path k) x.state) e (subst (λ (x : Option ProgramTrace). Needs x new.state) (s k) m)) l)
 happens-linked storage old new u v f (Sinks path may x t is c e w s) i a k n m l =
     at-same old.setup.side new.setup.side t.sub.state.drawn new.state.drawn t.sub.wires.down new.wires.down (taken_at t.reply k) (f k) (Some t.«unit») v (side-of new old i) (drawn-of new t.sub e) (down-of-sub new t.sub e) (s k) w
     (subst (λ (r : Result DownTurn Fault). IfOk r (λ t. IsLinked old.setup.side t.sub.state.drawn t.sub.wires.down (taken_at t.reply k) t.«unit»)) c

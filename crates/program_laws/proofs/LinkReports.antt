@@ -23,10 +23,10 @@ use Rattle.chan_model.specs.declared.unit_state.UnitState.{UnitState}
 use Rattle.chan_model.specs.Loads.{load_length}
 use Rattle.chan_model.specs.Sides.{same_side}
 use Rattle.chan_model.specs.UnitTable.{UnitStep, is_owner}
-use Rattle.chan_model.specs.UnitReports.{is_outward, is_last_end, after_end, with_absorbed}
-use Rattle.subchannel_model.specs.declared.state.Begun.{Begun}
+use Rattle.chan_model.specs.UnitReports.{is_outward, is_last_end, progress_after_end, with_absorbed}
+use Rattle.subchannel_model.specs.declared.state.ActiveProgram.{ActiveProgram}
 use Rattle.subchannel_model.specs.Sending.{with_any_sent}
-use Rattle.program_laws.specs.Stories.{Story, absorbs, reported}
+use Rattle.program_laws.specs.Traces.{ProgramTrace, absorbs, reported}
 use Rattle.program_laws.proofs.UnitOrders.{IsNumbered, one-number}
 use Rattle.program_laws.proofs.UnitFlows.{View, Hand, Level, Pending, Ahead, Flow, IsGive, IsData, IsStarted, absorbs-flow, none-flow, none-data}
 use Rattle.program_laws.proofs.LinkViews.{view_of}
@@ -36,14 +36,14 @@ use Rattle.program_laws.proofs.LinkWires.{IsEnded, HandClosed, IsClosed, IsOfCom
 use Rattle.program_laws.proofs.LinkModes.{AnyGive, NoGive, AnyData, HandPlain, HandFlow, Mode, Waits, Over, Reads, Writes, mode-carried}
 
 -- what is ended stays so
-ended-after : (status : DeviceStatus) → IsEnded (after_end status)
+ended-after : (status : DeviceStatus) → IsEnded (progress_after_end status)
 ended-after status = by (is_last_end status)
   where
     by : (b : Bool) → IsEnded (if b then progress.Ended else progress.ChannelEnded)
     by true = tt
     by false = tt
 
-started-after : (status : DeviceStatus) → IsStarted (after_end status)
+started-after : (status : DeviceStatus) → IsStarted (progress_after_end status)
 started-after status = by (is_last_end status)
   where
     by : (b : Bool) → IsStarted (if b then progress.Ended else progress.ChannelEnded)
@@ -83,14 +83,14 @@ told-own u p t c x _ _ (Tells_again l e w) = refl
 told-own u p t c x _ _ (Ends given shown more) = refl
 
 -- the story, at a report of its number and of another
-reported-other : (u : UnitState) (report : Report) (a : DeviceAnswer) (k : Story) → (report.number == k.number) ≡ false → reported u report a k ≡ k
+reported-other : (u : UnitState) (report : Report) (a : DeviceAnswer) (k : ProgramTrace) → (report.number == k.number) ≡ false → reported u report a k ≡ k
 reported-other u report answer.Begins k e = refl
 reported-other u report (answer.Absorbed count) k e = ap (λ (b : Bool). if b then absorbs count u.at_hand k else k) e
 reported-other u report (answer.Supplied bytes) k e = refl
 reported-other u report answer.Again k e = refl
 reported-other u report (answer.Ended status more) k e = refl
 
-absorbed-here : (u : UnitState) (report : Report) (count : ℕ) (k : Story) (x : AtHand) (bytes : List ℕ) → (report.number == k.number) ≡ true → u.at_hand ≡ Some x → x.given ≡ Some bytes →
+absorbed-here : (u : UnitState) (report : Report) (count : ℕ) (k : ProgramTrace) (x : AtHand) (bytes : List ℕ) → (report.number == k.number) ≡ true → u.at_hand ≡ Some x → x.given ≡ Some bytes →
     reported u report (answer.Absorbed count) k ≡ record k { absorbed = k.absorbed ++ take count bytes }
 absorbed-here u report count k x bytes e h g =
     ap (λ (b : Bool). if b then absorbs count u.at_hand k else k) e ∙ ap (λ (z : Option AtHand). absorbs count z k) h
@@ -100,7 +100,7 @@ some-none : (o : Option (List ℕ)) (bytes : List ℕ) → o ≡ Some bytes → 
 some-none o bytes e f = absurd (cc (sym e ∙ f))
 
 -- at the unit, of the side's program
-module _ (side : Side) (begun : Option Begun) (k : Story) (downs : List (List Down)) (ups : List (List Up)) (u : UnitState) (p c : ℕ) (x : AtHand)
+module _ (side : Side) (begun : Option ActiveProgram) (k : ProgramTrace) (downs : List (List Down)) (ups : List (List Up)) (u : UnitState) (p c : ℕ) (x : AtHand)
     (report : Report) (same : (report.number == k.number) ≡ true) (owner : is_owner u.own side k.number ≡ true) (hand : u.at_hand ≡ Some x) (last : u.last_command ≡ length k.taken) where
   abbrev m : ℕ
   m = length k.taken
@@ -142,11 +142,11 @@ module _ (side : Side) (begun : Option Begun) (k : Story) (downs : List (List Do
   plain-told _ y (Ends given shown more) g = (g, of-it (IsClosed side k.number y.state) (λ o. ended-after shown), refl)
 
   -- it writes
-  module _ (b : Begun) (e : begun ≡ Some b) (n : length k.taken ≡ k.sent) (out : is_outward b.transfer.code ≡ true) where
+  module _ (b : ActiveProgram) (e : begun ≡ Some b) (n : length k.taken ≡ k.sent) (out : is_outward b.transfer.code ≡ true) where
     abbrev v : View
     v = view_of b.transfer k.now
 
-    abbrev IsWrite : Story → UnitStep → Type 0
+    abbrev IsWrite : ProgramTrace → UnitStep → Type 0
     IsWrite new y = Mode side begun new downs (with_any_sent ups y.sent) y.state
 
     not-inward : x.code ≡ b.transfer.code → is_outward x.code ≡ false → ⊥
@@ -198,7 +198,7 @@ module _ (side : Side) (begun : Option Begun) (k : Story) (downs : List (List Do
         stays-writing (telling_data u p report.number c (record x { again = false }) l) lead lead f (λ o. (z, Ahead q g j i a y)) (λ r t d. d) (closes answer.Again (telling_data u p report.number c (record x { again = false }) l) (Tells_again l h w))
         (of-it (IsData v lead x.sequence l) (omega (arith, q), λ d. i ∙ ap (λ (r : ℕ). Some r) (sym (a l h)))) s
 
-    ended-hand : (lead : Option ℕ) (status : DeviceStatus) → Hand v lead x → Hand v lead (record x { progress = after_end status })
+    ended-hand : (lead : Option ℕ) (status : DeviceStatus) → Hand v lead x → Hand v lead (record x { progress = progress_after_end status })
     ended-hand lead status (Level q g i) = Level q g i
     ended-hand lead status (Pending q a i g) = Pending q a i g
     ended-hand lead status (Ahead q g j i a y) = Ahead q g j i a (started-after status)
@@ -208,7 +208,7 @@ module _ (side : Side) (begun : Option Begun) (k : Story) (downs : List (List Do
     writes-told _ _ lead (Begins_out new) z h f w = begins-told lead z h new f w
     writes-told _ _ lead (Begins_in o new) z h f w = absurd (not-inward z o)
     writes-told _ y lead (Absorbs bytes count g i l) z h f w =
-        subst (λ (s : Story). IsWrite s y) (sym (absorbed-here u report count k x bytes same hand i)) (absorbs-told lead bytes count z h g i l f w)
+        subst (λ (s : ProgramTrace). IsWrite s y) (sym (absorbed-here u report count k x bytes same hand i)) (absorbs-told lead bytes count z h g i l f w)
     writes-told _ _ lead (Supplies bytes o g) z h f w = absurd (not-inward z o)
     writes-told _ _ lead (Tells_again l i g) z h f w = again-told lead l z h i g f w
     writes-told _ y lead (Ends given shown more) z h f w =
@@ -218,13 +218,13 @@ module _ (side : Side) (begun : Option Begun) (k : Story) (downs : List (List Do
   mode-told : (a : DeviceAnswer) (y : UnitStep) → IsTold u p report.number c x a y → Mode side begun k downs ups u → Mode side begun (reported u report a k) downs (with_any_sent ups y.sent) y.state
   mode-told a y t (Waits b e n s z i w) =
       let ended : IsEnded x.progress = subst HandClosed hand (w.hand owner) in
-      subst (λ (r : Story). Mode side begun r downs (with_any_sent ups y.sent) y.state) (sym (closed-told a y (Unit {0}) t ended tt).1) (Waits b e n s z i (closed-wired a y t w))
+      subst (λ (r : ProgramTrace). Mode side begun r downs (with_any_sent ups y.sent) y.state) (sym (closed-told a y (Unit {0}) t ended tt).1) (Waits b e n s z i (closed-wired a y t w))
   mode-told a y t (Over e n z i w) =
       let ended : IsEnded x.progress = subst HandClosed hand (w.hand owner) in
-      subst (λ (r : Story). Mode side begun r downs (with_any_sent ups y.sent) y.state) (sym (closed-told a y (Unit {0}) t ended tt).1) (Over e n z i (closed-wired a y t w))
+      subst (λ (r : ProgramTrace). Mode side begun r downs (with_any_sent ups y.sent) y.state) (sym (closed-told a y (Unit {0}) t ended tt).1) (Over e n z i (closed-wired a y t w))
   mode-told a y t (Reads b e n o z w) =
       let got = plain-told a y t (subst HandPlain hand (w.hand owner)) in
-      subst (λ (r : Story). Mode side begun r downs (with_any_sent ups y.sent) y.state) (sym got.2)
+      subst (λ (r : ProgramTrace). Mode side begun r downs (with_any_sent ups y.sent) y.state) (sym got.2)
       (Reads b e n o z (wired-tells side k.number m HandPlain HandPlain NoGive AnyData AnyData downs ups u y.state y.sent (λ q. got.0) (λ s l r. r) (closes a y t) got.1 w))
   mode-told a y t (Writes b e n o lead f w) =
       let h : (x.code ≡ b.transfer.code) × Hand (view_of b.transfer k.now) lead x = subst (HandFlow b.transfer.code (view_of b.transfer k.now) lead) hand (w.hand owner) in
@@ -247,7 +247,7 @@ report-owner side u report y s t =
     ap (λ (o : Own). is_owner o side report.number) t.own
     ∙ subst (λ (z : Side). is_owner (own.Owned z report.number (On t.path t.connection)) side report.number ≡ true) (sym at) (is-owner-self side report.number t.path t.connection)
 
-pub mode-reports : (side : Side) (drawn : ℕ) (begun : Option Begun) (k : Story) (downs : List (List Down)) (ups : List (List Up)) (u : UnitState) (report : Report) (y : UnitStep) →
+pub mode-reports : (side : Side) (drawn : ℕ) (begun : Option ActiveProgram) (k : ProgramTrace) (downs : List (List Down)) (ups : List (List Up)) (u : UnitState) (report : Report) (y : UnitStep) →
     same_side side report.side ≡ true → IsNumbered side drawn k.number k.taken u → IsReportTaken u report y → Mode side begun k downs ups u →
     Mode side begun (reported u report report.answer k) downs (with_any_sent ups y.sent) y.state
 mode-reports side drawn begun k downs ups u report y s n t mode = by (report.number == k.number) refl
@@ -264,7 +264,7 @@ mode-reports side drawn begun k downs ups u report y s n t mode = by (report.num
         let none : is_owner y.state.own side k.number ≡ true → ⊥ =
         λ z. other (one-number u.own side report.number k.number owns (ap (λ (o : Own). is_owner o side k.number) (sym (told-own u t.path report.number t.connection t.hand report.answer y t.told)) ∙ z)) in
         let le : report.number ≤ k.number = n.named report.number owns in
-        subst (λ (r : Story). Mode side begun r downs (with_any_sent ups y.sent) y.state) (sym (reported-other u report report.answer k e))
+        subst (λ (r : ProgramTrace). Mode side begun r downs (with_any_sent ups y.sent) y.state) (sym (reported-other u report report.answer k e))
         (mode-carried side begun k downs downs ups (with_any_sent ups y.sent) u y.state
         (λ P Q R f w. wired-tells side k.number (length k.taken) P P Q R R downs ups u y.state y.sent (λ z. absurd (none z)) (λ i l r. r) (λ z o. absurd (none o))
         (told-other u t.path report.number t.connection t.hand k.number (length k.taken) R (IsClosed side k.number y.state) le other report.answer y t.told) w) mode)

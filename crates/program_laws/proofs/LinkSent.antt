@@ -13,29 +13,29 @@ use Rattle.chan_model.specs.declared.signal.OnPath.{OnPath}
 use Rattle.chan_model.specs.declared.signal.Taken.{Taken}
 use Rattle.chan_model.specs.declared.signal.Up.{Up}
 use Rattle.chan_model.specs.declared.signal.Up.TheVariants as up
-use Rattle.chan_model.specs.HoldTable.{HoldStep, refusing, granting, begun, accepted, left, asked_back, found_busy, released, cleared, attended, hold_after, came_of, is_connected, is_on, letting_go}
+use Rattle.chan_model.specs.HoldTable.{HoldStep, refusing, granting, program_begun, offer_accepted, left, asked_back, found_busy, released, reset_cleared, attended, hold_after, came_of, is_connected, is_on, letting_go}
 use Rattle.chan_model.specs.UnitReports.{is_last_end, is_outward, has_device_end}
-use Rattle.channel_program.specs.Walks.{Place}
-use Rattle.transfer.specs.declared.Came.{Came}
-use Rattle.transfer.specs.declared.Came.TheVariants as came
-use Rattle.transfer.specs.declared.Roomy.{Roomy}
+use Rattle.channel_program.specs.Walks.{WalkPlace}
+use Rattle.transfer.specs.declared.CommandStart.{CommandStart}
+use Rattle.transfer.specs.declared.CommandStart.TheVariants as came
+use Rattle.transfer.specs.declared.WithRoom.{WithRoom}
 use Rattle.transfer.specs.Commands.{first_command, next_command, begun_with_room}
 use Rattle.transfer.specs.Chunks.{is_answered}
 use Rattle.subchannel_model.specs.declared.signals.DataSignal.{DataSignal}
 use Rattle.subchannel_model.specs.declared.signals.EndSignal.{EndSignal}
-use Rattle.subchannel_model.specs.declared.state.Begun.{Begun}
-use Rattle.subchannel_model.specs.declared.state.Standing.{Standing}
+use Rattle.subchannel_model.specs.declared.state.ActiveProgram.{ActiveProgram}
+use Rattle.subchannel_model.specs.declared.state.ProgramPosition.{ProgramPosition}
 use Rattle.subchannel_model.specs.declared.state.SubchannelState.{SubchannelState}
 use Rattle.subchannel_model.specs.declared.state.UpStep.{UpStep}
 use Rattle.subchannel_model.specs.Ends.{has_status_modifier, chains_command}
 use Rattle.subchannel_model.specs.Taking as taking
 use Rattle.subchannel_model.specs.Losing.{reset_for}
-use Rattle.subchannel_model.specs.Taking.{Met, ignoring, by_hold, let_go, goes_ahead, standing, with_path, taking_over, with_transfer, moving_on, reset_taken, halt_done, clear_done, beginning, begin_standing, accepted_by, accept, move_bytes, move_data, take_data, with_end, chaining, goes_on, stops_at, command_ended, end_of, end_command, takes_up}
+use Rattle.subchannel_model.specs.Taking.{Met, ignoring, by_hold, let_go, goes_ahead, standing, path_used, taking_over, with_transfer, moving_on, reset_taken, halt_done, clear_done, beginning, begin_standing, accepted_by, accept, move_bytes, move_data, take_data, with_end, chaining, goes_on, stops_at, command_ended, end_of, end_command, takes_up}
 use Rattle.program_laws.proofs.Caused.{IsInterrupted, interrupted-work}
 
 -- a Command is of the transfer at work
 pub record IsAtWork (s : SubchannelState) (t n code : ℕ) : Type 0 where
-  pub begun : Begun
+  pub begun : ActiveProgram
   pub is : s.begun ≡ Some begun
   pub command : n ≡ begun.transfer.command
   pub same_code : code ≡ begun.transfer.code
@@ -81,8 +81,8 @@ IsOfHold (down.Release t) = Unit {0}
 IsOfHold (down.Reset r b) = ⊥
 IsOfHold (down.Got a) = Unit {0}
 
-abbrev pub Mutters : Option HoldStep → Type 0
-Mutters step = IfSome (came_of step).sent (λ x. IsOfHold x.signal)
+abbrev pub SendsHoldSignal : Option HoldStep → Type 0
+SendsHoldSignal step = IfSome (came_of step).sent (λ x. IsOfHold x.signal)
 
 of-hold : (s : SubchannelState) (d : Down) → IsOfHold d → IsOf s d
 of-hold s (down.Select t) h = absurd h
@@ -100,18 +100,18 @@ muttered : (s : SubchannelState) (one : Option (OnPath Down)) → IfSome one (λ
 muttered s None h = tt
 muttered s (Some x) h = of-hold s x.signal h
 
-if-mutters : (c : Bool) (x y : Option HoldStep) → Mutters x → Mutters y → Mutters (if c then x else y)
+if-mutters : (c : Bool) (x y : Option HoldStep) → SendsHoldSignal x → SendsHoldSignal y → SendsHoldSignal (if c then x else y)
 if-mutters true x y e f = e
 if-mutters false x y e f = f
 
-nothing : Mutters None
+nothing : SendsHoldSignal None
 nothing = tt
 
-begun-mutters : (h : HoldState) (t p : ℕ) (may : Bool) → Mutters (Some (begun h t p may))
+begun-mutters : (h : HoldState) (t p : ℕ) (may : Bool) → SendsHoldSignal (Some (program_begun h t p may))
 begun-mutters h t p true = tt
 begun-mutters h t p false = tt
 
-pub accepted-mutters : (h : HoldState) (phase : HoldPhase) (u : ℕ) (may : Bool) → Mutters (accepted h phase u may)
+pub accepted-mutters : (h : HoldState) (phase : HoldPhase) (u : ℕ) (may : Bool) → SendsHoldSignal (offer_accepted h phase u may)
 accepted-mutters h hold.Free u may = nothing
 accepted-mutters h (hold.Offer t p) u may = if-mutters (u == t) _ None (begun-mutters h t p may) nothing
 accepted-mutters h (hold.On t p c) u may = nothing
@@ -119,7 +119,7 @@ accepted-mutters h (hold.Away t) u may = nothing
 accepted-mutters h (hold.Letting t p) u may = nothing
 accepted-mutters h (hold.Reset r) u may = nothing
 
-pub busy-mutters : (h : HoldState) (phase : HoldPhase) (u : ℕ) → Mutters (found_busy h phase u)
+pub busy-mutters : (h : HoldState) (phase : HoldPhase) (u : ℕ) → SendsHoldSignal (found_busy h phase u)
 busy-mutters h hold.Free u = nothing
 busy-mutters h (hold.Offer t p) u = if-mutters (u == t) _ None tt nothing
 busy-mutters h (hold.On t p c) u = nothing
@@ -127,7 +127,7 @@ busy-mutters h (hold.Away t) u = nothing
 busy-mutters h (hold.Letting t p) u = nothing
 busy-mutters h (hold.Reset r) u = nothing
 
-pub left-mutters : (h : HoldState) (phase : HoldPhase) (u d : ℕ) → Mutters (left h phase u d)
+pub left-mutters : (h : HoldState) (phase : HoldPhase) (u d : ℕ) → SendsHoldSignal (left h phase u d)
 left-mutters h hold.Free u d = nothing
 left-mutters h (hold.Offer t p) u d = nothing
 left-mutters h (hold.On t p c) u d = if-mutters ((u == t) && (d == c)) _ None tt nothing
@@ -135,7 +135,7 @@ left-mutters h (hold.Away t) u d = nothing
 left-mutters h (hold.Letting t p) u d = nothing
 left-mutters h (hold.Reset r) u d = nothing
 
-pub back-mutters : (h : HoldState) (phase : HoldPhase) (p u c : ℕ) (may : Bool) → Mutters (asked_back h phase p u c may)
+pub back-mutters : (h : HoldState) (phase : HoldPhase) (p u c : ℕ) (may : Bool) → SendsHoldSignal (asked_back h phase p u c may)
 back-mutters h hold.Free p u c may = nothing
 back-mutters h (hold.Offer t q) p u c may = nothing
 back-mutters h (hold.On t q d) p u c may = if-mutters ((u == t) && nat_lt h.seen c) (Some (refusing h p t c)) None tt nothing
@@ -145,7 +145,7 @@ back-mutters h (hold.Away t) p u c may =
 back-mutters h (hold.Letting t q) p u c may = nothing
 back-mutters h (hold.Reset r) p u c may = nothing
 
-pub released-mutters : (h : HoldState) (phase : HoldPhase) (u : ℕ) → Mutters (released h phase u)
+pub released-mutters : (h : HoldState) (phase : HoldPhase) (u : ℕ) → SendsHoldSignal (released h phase u)
 released-mutters h hold.Free u = nothing
 released-mutters h (hold.Offer t p) u = nothing
 released-mutters h (hold.On t p c) u = nothing
@@ -153,7 +153,7 @@ released-mutters h (hold.Away t) u = nothing
 released-mutters h (hold.Letting t p) u = if-mutters (u == t) _ None tt nothing
 released-mutters h (hold.Reset r) u = nothing
 
-pub cleared-mutters : (h : HoldState) (phase : HoldPhase) (u : ℕ) → Mutters (cleared h phase u)
+pub cleared-mutters : (h : HoldState) (phase : HoldPhase) (u : ℕ) → SendsHoldSignal (reset_cleared h phase u)
 cleared-mutters h hold.Free u = nothing
 cleared-mutters h (hold.Offer t p) u = nothing
 cleared-mutters h (hold.On t p c) u = nothing
@@ -161,7 +161,7 @@ cleared-mutters h (hold.Away t) u = nothing
 cleared-mutters h (hold.Letting t p) u = nothing
 cleared-mutters h (hold.Reset r) u = if-mutters (u == r) _ None tt nothing
 
-pub attended-mutters : (h : HoldState) (phase : HoldPhase) (p a : ℕ) (may : Bool) → Mutters (attended h phase p a may)
+pub attended-mutters : (h : HoldState) (phase : HoldPhase) (p a : ℕ) (may : Bool) → SendsHoldSignal (attended h phase p a may)
 attended-mutters h hold.Free p a may = if-mutters may _ None tt nothing
 attended-mutters h (hold.Offer t q) p a may = nothing
 attended-mutters h (hold.On t q c) p a may = nothing
@@ -169,11 +169,11 @@ attended-mutters h (hold.Away t) p a may = nothing
 attended-mutters h (hold.Letting t q) p a may = nothing
 attended-mutters h (hold.Reset r) p a may = nothing
 
-by_hold-sends : (s : SubchannelState) (step : Option HoldStep) → Mutters step → Sends (by_hold s step)
+by_hold-sends : (s : SubchannelState) (step : Option HoldStep) → SendsHoldSignal step → Sends (by_hold s step)
 by_hold-sends s step m = muttered (by_hold s step).state (came_of step).sent m
 
 -- the device is let go
-pub letting-mutters : (h : HoldState) (phase : HoldPhase) → Mutters (letting_go h phase)
+pub letting-mutters : (h : HoldState) (phase : HoldPhase) → SendsHoldSignal (letting_go h phase)
 letting-mutters h hold.Free = nothing
 letting-mutters h (hold.Offer t p) = nothing
 letting-mutters h (hold.On t p c) = tt
@@ -186,7 +186,7 @@ let_go-sends s = muttered (let_go s).state (came_of (letting_go s.hold s.hold.ph
 
 -- Accept
 -- a command that begins is the one at work
-work-sends : (s x : SubchannelState) (b : Begun) (t : ℕ) → IsInterrupted s x b → is_on s.hold.phase t ≡ true → IsAtWork x t b.transfer.command b.transfer.code
+work-sends : (s x : SubchannelState) (b : ActiveProgram) (t : ℕ) → IsInterrupted s x b → is_on s.hold.phase t ≡ true → IsAtWork x t b.transfer.command b.transfer.code
 work-sends s x b t i e = record {
   begun = i.begun;
   is = i.is;
@@ -195,16 +195,16 @@ work-sends s x b t i e = record {
   on = ap (λ (h : HoldState). is_on h.phase t) i.kept.hold ∙ e;
 }
 
-beginning-sends : (storage : Contents) (s : SubchannelState) (p t : ℕ) (st : Standing) (walk : Place) (r : Came) → is_on s.hold.phase t ≡ true →
+beginning-sends : (storage : Contents) (s : SubchannelState) (p t : ℕ) (st : ProgramPosition) (walk : WalkPlace) (r : CommandStart) → is_on s.hold.phase t ≡ true →
     Sends (beginning storage s p t st walk r)
 beginning-sends storage s p t st walk (came.Begins transfer) e =
     let next : SubchannelState = taking_over s st.program (begun_with_room storage transfer).transfer in
-    let b : Begun = record { program = st.program; primary_shown = false; transfer = (begun_with_room storage transfer).transfer } in
+    let b : ActiveProgram = record { program = st.program; primary_shown = false; transfer = (begun_with_room storage transfer).transfer } in
     work-sends next _ b t (interrupted-work next b refl) e
 beginning-sends storage s p t st walk came.Suspends e = let_go-sends _
 beginning-sends storage s p t st walk (came.Stops check) e = let_go-sends _
 
-standing-sends : (storage : Contents) (s : SubchannelState) (p t : ℕ) (st : Option Standing) → is_on s.hold.phase t ≡ true → Sends (begin_standing storage s p t st)
+standing-sends : (storage : Contents) (s : SubchannelState) (p t : ℕ) (st : Option ProgramPosition) → is_on s.hold.phase t ≡ true → Sends (begin_standing storage s p t st)
 standing-sends storage s p t None e = tt
 standing-sends storage s p t (Some st) e =
     beginning-sends storage s p t st (first_command storage st.walk).walk (first_command storage st.walk).came e
@@ -215,22 +215,22 @@ is-self t p c = eq-eqb t t refl
 accepted_by-sends : (storage : Contents) (s : SubchannelState) (phase : HoldPhase) (came : Taken Down) → s.hold.phase ≡ phase → IfSome came.sent (λ x. IsOfHold x.signal) →
     Sends (accepted_by storage s phase came)
 accepted_by-sends storage s (hold.On t p c) came e m =
-    standing-sends storage (record s { pmcw = with_path s.pmcw p }) p t (standing s) (ap (λ (x : HoldPhase). is_on x t) e ∙ is-self t p c)
-accepted_by-sends storage s (hold.Letting t p) came e m = muttered (halt_done (record s { pmcw = with_path s.pmcw p })) came.sent m
+    standing-sends storage (record s { pmcw = path_used s.pmcw p }) p t (standing s) (ap (λ (x : HoldPhase). is_on x t) e ∙ is-self t p c)
+accepted_by-sends storage s (hold.Letting t p) came e m = muttered (halt_done (record s { pmcw = path_used s.pmcw p })) came.sent m
 accepted_by-sends storage s hold.Free came e m = muttered s came.sent m
 accepted_by-sends storage s (hold.Offer t p) came e m = muttered s came.sent m
 accepted_by-sends storage s (hold.Away t) came e m = muttered s came.sent m
 accepted_by-sends storage s (hold.Reset r) came e m = muttered s came.sent m
 
-accept-sends : (storage : Contents) (s : SubchannelState) (step : Option HoldStep) → Mutters step → Sends (accept storage s step)
+accept-sends : (storage : Contents) (s : SubchannelState) (step : Option HoldStep) → SendsHoldSignal step → Sends (accept storage s step)
 accept-sends storage s step m =
     if-sends (came_of step).taken _ _ (accepted_by-sends storage (record s { hold = hold_after s.hold step }) (hold_after s.hold step).phase (came_of step) refl m) tt
 
 -- Data
-move_bytes-sends : (storage : Contents) (s : SubchannelState) (b : Begun) (signal : DataSignal) (load : Load) → Sends (move_bytes storage s b signal load).step
+move_bytes-sends : (storage : Contents) (s : SubchannelState) (b : ActiveProgram) (signal : DataSignal) (load : Load) → Sends (move_bytes storage s b signal load).step
 move_bytes-sends storage s b signal load = if-met (is_outward b.transfer.code) _ _ tt tt
 
-move_data-sends : (storage : Contents) (s : SubchannelState) (b : Option Begun) (signal : DataSignal) (load : Load) → Sends (move_data storage s b signal load).step
+move_data-sends : (storage : Contents) (s : SubchannelState) (b : Option ActiveProgram) (signal : DataSignal) (load : Load) → Sends (move_data storage s b signal load).step
 move_data-sends storage s None signal load = tt
 move_data-sends storage s (Some b) signal load = if-met (is_answered b.transfer signal.command signal.sequence) _ _ (move_bytes-sends storage s b signal load) tt
 
@@ -238,30 +238,30 @@ take_data-sends : (storage : Contents) (s : SubchannelState) (signal : DataSigna
 take_data-sends storage s signal load = if-met (is_connected s.hold.phase signal.path signal.number signal.connection) _ _ (move_data-sends storage s s.begun signal load) tt
 
 -- End
-chaining-sends : (storage : Contents) (s : SubchannelState) (b : Begun) (signal : EndSignal) (walk : Place) (r : Came) → is_on s.hold.phase signal.number ≡ true →
+chaining-sends : (storage : Contents) (s : SubchannelState) (b : ActiveProgram) (signal : EndSignal) (walk : WalkPlace) (r : CommandStart) → is_on s.hold.phase signal.number ≡ true →
     Sends (chaining storage s b signal walk r)
 chaining-sends storage s b signal walk (came.Begins transfer) e =
-    let x : Roomy = begun_with_room storage transfer in
-    let c : Begun = record b { transfer = x.transfer } in
+    let x : WithRoom = begun_with_room storage transfer in
+    let c : ActiveProgram = record b { transfer = x.transfer } in
     let next : SubchannelState = with_transfer s b x.transfer in
     work-sends next (moving_on s b x.transfer) c signal.number (interrupted-work next c refl) e
 chaining-sends storage s b signal walk came.Suspends e = let_go-sends _
 chaining-sends storage s b signal walk (came.Stops check) e = let_go-sends _
 
-goes_on-sends : (storage : Contents) (s : SubchannelState) (b : Begun) (signal : EndSignal) → is_on s.hold.phase signal.number ≡ true → Sends (goes_on storage s b signal)
+goes_on-sends : (storage : Contents) (s : SubchannelState) (b : ActiveProgram) (signal : EndSignal) → is_on s.hold.phase signal.number ≡ true → Sends (goes_on storage s b signal)
 goes_on-sends storage s b signal e =
     if-sends (has_device_end signal.status) _ _
     (chaining-sends storage s b signal (next_command storage b.transfer (has_status_modifier signal.status)).walk (next_command storage b.transfer (has_status_modifier signal.status)).came e) tt
 
-stops_at-sends : (s : SubchannelState) (b : Begun) (signal : EndSignal) → Sends (stops_at s b signal)
+stops_at-sends : (s : SubchannelState) (b : ActiveProgram) (signal : EndSignal) → Sends (stops_at s b signal)
 stops_at-sends s b signal = if-sends (is_last_end signal.status) _ _ (let_go-sends _) tt
 
-command_ended-sends : (storage : Contents) (s : SubchannelState) (b : Begun) (signal : EndSignal) → is_on s.hold.phase signal.number ≡ true →
+command_ended-sends : (storage : Contents) (s : SubchannelState) (b : ActiveProgram) (signal : EndSignal) → is_on s.hold.phase signal.number ≡ true →
     Sends (command_ended storage s b signal)
 command_ended-sends storage s b signal e =
     if-sends (chains_command s.scsw b signal.status signal.more) _ _ (goes_on-sends storage s (with_end b) signal e) (stops_at-sends s b signal)
 
-end_of-sends : (storage : Contents) (s : SubchannelState) (b : Option Begun) (signal : EndSignal) → is_on s.hold.phase signal.number ≡ true →
+end_of-sends : (storage : Contents) (s : SubchannelState) (b : Option ActiveProgram) (signal : EndSignal) → is_on s.hold.phase signal.number ≡ true →
     Sends (end_of storage s b signal)
 end_of-sends storage s None signal e = tt
 end_of-sends storage s (Some b) signal e = if-sends (signal.command == b.transfer.command) _ _ (command_ended-sends storage s b signal e) tt
@@ -273,7 +273,7 @@ end_command-sends storage s signal = by (is_on s.hold.phase signal.number) refl
     by true e = end_of-sends storage s s.begun signal e
     by false e = tt
 
-reset-sends : (s : SubchannelState) (step : Option HoldStep) → Mutters step → Sends (reset_taken s step)
+reset-sends : (s : SubchannelState) (step : Option HoldStep) → SendsHoldSignal step → Sends (reset_taken s step)
 reset-sends s None m = tt
 reset-sends s (Some step) m = muttered (clear_done (record s { hold = step.state })) (came_of (Some step)).sent m
 
@@ -282,7 +282,7 @@ notice-sends s b true = tt
 notice-sends s b false = tt
 
 pub up-sends : (returns : Bool) → (storage : Contents) (s : SubchannelState) (p : ℕ) (x : Up) → Sends (takes_up returns storage s p x).step
-up-sends returns storage s p (up.Accept t) = accept-sends storage s (accepted s.hold s.hold.phase t (goes_ahead s)) (accepted-mutters s.hold s.hold.phase t (goes_ahead s))
+up-sends returns storage s p (up.Accept t) = accept-sends storage s (offer_accepted s.hold s.hold.phase t (goes_ahead s)) (accepted-mutters s.hold s.hold.phase t (goes_ahead s))
 up-sends returns storage s p (up.Data t c n q load) = take_data-sends storage s (record { path = p; number = t; connection = c; command = n; sequence = q }) load
 up-sends returns storage s p (up.End t n status more) = end_command-sends storage s (record { path = p; number = t; command = n; status = status; more = more })
 up-sends returns storage s p (up.Busy t) = by_hold-sends s (found_busy s.hold s.hold.phase t) (busy-mutters s.hold s.hold.phase t)
@@ -291,7 +291,7 @@ up-sends returns storage s p (up.Back t c) =
     let step : Option HoldStep = asked_back s.hold s.hold.phase p t c returns in
     muttered (taking.back s p step).state (came_of step).sent (back-mutters s.hold s.hold.phase p t c returns)
 up-sends returns storage s p (up.Released t) = by_hold-sends s (released s.hold s.hold.phase t) (released-mutters s.hold s.hold.phase t)
-up-sends returns storage s p (up.Cleared r) = reset-sends s (cleared s.hold s.hold.phase r) (cleared-mutters s.hold s.hold.phase r)
+up-sends returns storage s p (up.Cleared r) = reset-sends s (reset_cleared s.hold s.hold.phase r) (cleared-mutters s.hold s.hold.phase r)
 up-sends returns storage s p (up.Notice b) = notice-sends s b (nat_lt s.hold.known b)
 up-sends returns storage s p (up.Attn a status) =
     let step : Option HoldStep = attended s.hold s.hold.phase p a (taking.may_attend s) in

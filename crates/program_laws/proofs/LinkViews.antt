@@ -8,26 +8,26 @@ use Rattle.storage_keys.specs.Storage.{Contents}
 use Rattle.channel_program.specs.declared.check.Check.{Check}
 use Rattle.channel_program.specs.declared.Advance.{Advance}
 use Rattle.channel_program.specs.declared.Advance.TheVariants as advance
-use Rattle.channel_program.specs.Acts.{Chunk}
-use Rattle.channel_program.specs.Walks.{Place, after_acts, after_used_up, advance_acts, advance_of}
+use Rattle.channel_program.specs.Acts.{PlacedBytes}
+use Rattle.channel_program.specs.Walks.{WalkPlace, after_acts, after_used_up, advance_acts, advance_of}
 use Rattle.idaw.specs.Places.{each_below}
 use Rattle.data_move.specs.Moving.{Moving, next_place, needs_word, room}
 use Rattle.data_move.specs.Accesses as access
 use Rattle.transfer.specs.declared.Transfer.{Transfer}
-use Rattle.transfer.specs.declared.Came.TheVariants as came
-use Rattle.transfer.specs.declared.Given.{Given}
-use Rattle.transfer.specs.Commands.{command_of, begins, goes_to, located, with_located, with_room, begun_with_room, brings, has_stopped}
-use Rattle.transfer.specs.Chunks.{is_current, chains_data, chained_to, chained, with_moved, moved_on, with_answer, absorbed, given_of, given_from, next_given}
-use Rattle.program_laws.specs.Doings as doing
-use Rattle.program_laws.specs.Doings.{Part, with_acts, with_places, with_copy, copying, located_acts, chunk_of, chained_acts, answered, gives}
+use Rattle.transfer.specs.declared.CommandStart.TheVariants as came
+use Rattle.transfer.specs.declared.NextChunk.{NextChunk}
+use Rattle.transfer.specs.Commands.{transfer_of, command_begins, goes_to, located_transfer, with_located, with_room, begun_with_room, brings, has_stopped}
+use Rattle.transfer.specs.Chunks.{is_current, chains_data, chained_to, chained, with_moved, moved_on, with_answer, taken_by_device, next_chunk_of, given_from, next_given}
+use Rattle.program_laws.specs.CommandActs as doing
+use Rattle.program_laws.specs.CommandActs.{CommandTrace, with_acts, with_places, with_copy, copying, located_acts, chunk_of, chained_acts, trace_answered, gives}
 use Rattle.program_laws.proofs.Accesses.{AreAccesses, copied-room}
 use Rattle.program_laws.proofs.UnitFlows.{View, IsGood, AreCopied, IsLocated}
 
-abbrev pub view_of : Transfer → Part → View
+abbrev pub view_of : Transfer → CommandTrace → View
 view_of t p = record { seq = t.sequence; next = next_place t.moving; room = room t.moving; moved = p.moved; copied = p.copied }
 
 -- the number of the last chunk stays
-chained_to-seq : (t : Transfer) (walk : Place) (a : Option Advance) → (chained_to t walk a).sequence ≡ t.sequence
+chained_to-seq : (t : Transfer) (walk : WalkPlace) (a : Option Advance) → (chained_to t walk a).sequence ≡ t.sequence
 chained_to-seq t walk (Some (advance.Takes ccw)) = refl
 chained_to-seq t walk (Some advance.Suspends) = refl
 chained_to-seq t walk (Some (advance.Stops check)) = refl
@@ -35,7 +35,7 @@ chained_to-seq t walk None = refl
 
 moved_on-if : (storage : Contents) (t : Transfer) (n : ℕ) (b : Bool) → (if b then chained storage (with_moved t n) else with_moved t n).sequence ≡ t.sequence
 moved_on-if storage t n true =
-    let old : Place = after_used_up t.walk in
+    let old : WalkPlace = after_used_up t.walk in
     chained_to-seq (with_moved t n) (after_acts old (advance_acts storage old)) (advance_of old (advance_acts storage old))
 moved_on-if storage t n false = refl
 
@@ -43,8 +43,8 @@ pub moved_on-seq : (storage : Contents) (t : Transfer) (n : ℕ) → (moved_on s
 moved_on-seq storage t n = moved_on-if storage t n (chains_data (with_moved t n) n)
 
 -- what is moved, and copied
-moved-if : (storage : Contents) (t : Transfer) (n : ℕ) (p : Part) (b : Bool) →
-    let q : Part = if b then with_acts (with_places p t.moving n) (chained_acts storage (with_moved t n)) else with_places p t.moving n in
+moved-if : (storage : Contents) (t : Transfer) (n : ℕ) (p : CommandTrace) (b : Bool) →
+    let q : CommandTrace = if b then with_acts (with_places p t.moving n) (chained_acts storage (with_moved t n)) else with_places p t.moving n in
     (_ : q.moved ≡ p.moved ++ each_below (next_place t.moving) n) × (q.copied ≡ p.copied)
 moved-if storage t n p true = (refl, refl)
 moved-if storage t n p false = (refl, refl)
@@ -54,17 +54,17 @@ pub record IsAnswered (v w : View) (n : ℕ) : Type 0 where
   pub moved : w.moved ≡ v.moved ++ each_below v.next n
   pub copied : AreCopied v w
 
-same-copied : (xs ys : List Chunk) → ys ≡ xs → (c : Chunk) → Contains xs c → Contains ys c
-same-copied xs ys e c k = subst (λ (zs : List Chunk). Contains zs c) (sym e) k
+same-copied : (xs ys : List PlacedBytes) → ys ≡ xs → (c : PlacedBytes) → Contains xs c → Contains ys c
+same-copied xs ys e c k = subst (λ (zs : List PlacedBytes). Contains zs c) (sym e) k
 
-answer-if : (storage : Contents) (t : Transfer) (s count : ℕ) (p : Part) (b : Bool) → b ≡ true → s ≡ t.sequence + 1 →
+answer-if : (storage : Contents) (t : Transfer) (s count : ℕ) (p : CommandTrace) (b : Bool) → b ≡ true → s ≡ t.sequence + 1 →
     IsAnswered (view_of t p)
     (view_of (if b then moved_on storage (with_answer t s count) (min count (room t.moving)) else t)
-    (if b then doing.moved_on storage (with_answer t s count) (min count (room t.moving)) p else p))
+    (if b then doing.trace_moved_on storage (with_answer t s count) (min count (room t.moving)) p else p))
     (min count (room t.moving))
 answer-if storage t s count p true e f =
     let n : ℕ = min count (room t.moving) in
-    let q : Part = doing.moved_on storage (with_answer t s count) n p in
+    let q : CommandTrace = doing.trace_moved_on storage (with_answer t s count) n p in
     let parts : (_ : q.moved ≡ p.moved ++ each_below (next_place t.moving) n) × (q.copied ≡ p.copied) =
     moved-if storage (with_answer t s count) n p (chains_data (with_moved (with_answer t s count) n) n) in
     record { seq = moved_on-seq storage (with_answer t s count) n ∙ f; moved = parts.0; copied = same-copied p.copied q.copied parts.1 }
@@ -86,13 +86,13 @@ no-room m n e l =
     let g : room m ≤ m.left = min-le_left m.left 256 in
     omega (arith, f, g, l)
 
-empty-next : (v : View) (t : Transfer) (p : Part) → ((n : ℕ) → n ≤ v.room → n ≡ 0) → (n : ℕ) → n ≤ v.room →
+empty-next : (v : View) (t : Transfer) (p : CommandTrace) → ((n : ℕ) → n ≤ v.room → n ≡ 0) → (n : ℕ) → n ≤ v.room →
     (n ≤ (view_of t p).room) × (each_below (view_of t p).next n ≡ each_below v.next n)
 empty-next v t p f n l =
     let z : n ≡ 0 = f n l in
     (omega (arith, z), ap (each_below (next_place t.moving)) z ∙ ap (each_below v.next) (sym z))
 
-word-located : (t : Transfer) (p q : Part) (r : Result Moving Check) → needs_word t.moving ≡ true → q.moved ≡ p.moved → q.copied ≡ p.copied →
+word-located : (t : Transfer) (p q : CommandTrace) (r : Result Moving Check) → needs_word t.moving ≡ true → q.moved ≡ p.moved → q.copied ≡ p.copied →
     IsLocated (view_of t p) (view_of (with_located t r) q)
 word-located t p q (Ok m) e f g = record {
   seq = refl;
@@ -102,25 +102,25 @@ word-located t p q (Ok m) e f g = record {
 }
 word-located t p q (Err check) e f g = record { seq = refl; moved = f; copied = same-copied p.copied q.copied g; next = λ n l. (l, refl) }
 
-need-located : (storage : Contents) (t : Transfer) (p q : Part) (r : Result Moving Check) (b : Bool) → needs_word t.moving ≡ b → q.moved ≡ p.moved → q.copied ≡ p.copied →
+need-located : (storage : Contents) (t : Transfer) (p q : CommandTrace) (r : Result Moving Check) (b : Bool) → needs_word t.moving ≡ b → q.moved ≡ p.moved → q.copied ≡ p.copied →
     IsLocated (view_of t p) (view_of (with_located t (if b then r else Ok t.moving)) q)
 need-located storage t p q r true e f g = word-located t p q r e f g
 need-located storage t p q r false e f g = record { seq = refl; moved = f; copied = same-copied p.copied q.copied g; next = λ n l. (l, refl) }
 
-fault-located : (storage : Contents) (t : Transfer) (p q : Part) (b : Bool) → q.moved ≡ p.moved → q.copied ≡ p.copied →
+fault-located : (storage : Contents) (t : Transfer) (p q : CommandTrace) (b : Bool) → q.moved ≡ p.moved → q.copied ≡ p.copied →
     IsLocated (view_of t p) (view_of (if b then t else with_located t (access.located storage t.walk.orb.key t.moving)) q)
 fault-located storage t p q true f g = record { seq = refl; moved = f; copied = same-copied p.copied q.copied g; next = λ n l. (l, refl) }
 fault-located storage t p q false f g =
     need-located storage t p q (access.piece_begun t.moving (length storage.bytes) (access.word_fetched storage t.walk.orb.key t.moving)) (needs_word t.moving) refl f g
 
-pub located-view : (storage : Contents) (t : Transfer) (p : Part) → IsLocated (view_of t p) (view_of (located storage t) (with_acts p (located_acts storage t)))
+pub located-view : (storage : Contents) (t : Transfer) (p : CommandTrace) → IsLocated (view_of t p) (view_of (located_transfer storage t) (with_acts p (located_acts storage t)))
 located-view storage t p = fault-located storage t p (with_acts p (located_acts storage t)) (is_some t.fault) refl refl
 
 -- the next chunk is copied
-contains-later : (xs : List Chunk) (y x : Chunk) → Contains xs x → Contains (y ∷ xs) x
+contains-later : (xs : List PlacedBytes) (y x : PlacedBytes) → Contains xs x → Contains (y ∷ xs) x
 contains-later xs y x k = (suc k.0, omega (arith, k.1), k.2)
 
-contains-first : (xs : List Chunk) (x : Chunk) → Contains (x ∷ xs) x
+contains-first : (xs : List PlacedBytes) (x : PlacedBytes) → Contains (x ∷ xs) x
 contains-first xs x = (zero, omega arith, refl)
 
 pub record IsGiven (v w : View) (bytes : List ℕ) : Type 0 where
@@ -128,8 +128,8 @@ pub record IsGiven (v w : View) (bytes : List ℕ) : Type 0 where
   pub good : (bytes ≡ []) ⊎ IsGood w bytes
 
 module _ (accesses : AreAccesses) where
-  copy-given : (storage : Contents) (t : Transfer) (p : Part) (r : Result (List ℕ) Check) → access.copied storage t.walk.orb.key t.moving ≡ r →
-      IsGiven (view_of t p) (view_of (given_of t r).transfer (with_copy storage t r p)) (given_of t r).bytes
+  copy-given : (storage : Contents) (t : Transfer) (p : CommandTrace) (r : Result (List ℕ) Check) → access.copied storage t.walk.orb.key t.moving ≡ r →
+      IsGiven (view_of t p) (view_of (next_chunk_of t r).transfer (with_copy storage t r p)) (next_chunk_of t r).bytes
   copy-given storage t p (Ok bytes) e = record {
     located = record { seq = refl; moved = refl; copied = contains-later p.copied (chunk_of storage t.moving bytes); next = λ n l. (l, refl) };
     good =
@@ -143,57 +143,57 @@ module _ (accesses : AreAccesses) where
   }
   copy-given storage t p (Err check) e = record { located = record { seq = refl; moved = refl; copied = λ c k. k; next = λ n l. (l, refl) }; good = inl refl }
 
-  stop-given : (storage : Contents) (t : Transfer) (p : Part) (b : Bool) →
+  stop-given : (storage : Contents) (t : Transfer) (p : CommandTrace) (b : Bool) →
       let r : Result (List ℕ) Check = access.copied storage t.walk.orb.key t.moving in
-      let g : Given = if b then record { transfer = record t { offered = 0 }; bytes = [] } else given_of t r in
+      let g : NextChunk = if b then record { transfer = record t { offered = 0 }; bytes = [] } else next_chunk_of t r in
       IsGiven (view_of t p) (view_of g.transfer (if b then p else with_copy storage t r p)) g.bytes
   stop-given storage t p true = record { located = record { seq = refl; moved = refl; copied = λ c k. k; next = λ n l. (l, refl) }; good = inl refl }
   stop-given storage t p false = copy-given storage t p (access.copied storage t.walk.orb.key t.moving) refl
 
-  next-given : (storage : Contents) (t : Transfer) (p : Part) → IsGiven (view_of t p) (view_of (next_given storage t).transfer (doing.giving storage t p)) (next_given storage t).bytes
+  next-given : (storage : Contents) (t : Transfer) (p : CommandTrace) → IsGiven (view_of t p) (view_of (next_given storage t).transfer (doing.trace_giving storage t p)) (next_given storage t).bytes
   next-given storage t p =
-      let u : Transfer = located storage t in
-      let q : Part = with_acts p (located_acts storage t) in
+      let u : Transfer = located_transfer storage t in
+      let q : CommandTrace = with_acts p (located_acts storage t) in
       let g : IsGiven (view_of u q) (view_of (given_from storage u).transfer (copying storage u q)) (given_from storage u).bytes = stop-given storage u q (has_stopped u) in
-      record { located = located-trans (view_of t p) (view_of u q) (view_of (next_given storage t).transfer (doing.giving storage t p)) (located-view storage t p) g.located; good = g.good }
+      record { located = located-trans (view_of t p) (view_of u q) (view_of (next_given storage t).transfer (doing.trace_giving storage t p)) (located-view storage t p) g.located; good = g.good }
 
   -- a Data of the next chunk: the bytes that were absorbed are moved, and the next are given
   answered-located : (v w x : View) (n : ℕ) → IsAnswered v w n → IsLocated w x → IsAnswered v x n
   answered-located v w x n a b = record { seq = b.seq ∙ a.seq; moved = b.moved ∙ a.moved; copied = λ c k. b.copied c (a.copied c k) }
 
-  pub answers-view : (storage : Contents) (t : Transfer) (s count : ℕ) (p : Part) → (s == t.sequence + 1) ≡ true →
-      let g : Given = next_given storage (absorbed storage t s count) in
+  pub answers-view : (storage : Contents) (t : Transfer) (s count : ℕ) (p : CommandTrace) → (s == t.sequence + 1) ≡ true →
+      let g : NextChunk = next_given storage (taken_by_device storage t s count) in
       let w : View = view_of g.transfer (gives storage t s count p) in
       IsAnswered (view_of t p) w (min count (room t.moving)) × ((g.bytes ≡ []) ⊎ IsGood w g.bytes)
   answers-view storage t s count p e =
-      let a : Transfer = absorbed storage t s count in
-      let q : Part = answered storage t s count p in
-      let g : IsGiven (view_of a q) (view_of (next_given storage a).transfer (doing.giving storage a q)) (next_given storage a).bytes = next-given storage a q in (
-        answered-located (view_of t p) (view_of a q) (view_of (next_given storage a).transfer (doing.giving storage a q)) (min count (room t.moving))
+      let a : Transfer = taken_by_device storage t s count in
+      let q : CommandTrace = trace_answered storage t s count p in
+      let g : IsGiven (view_of a q) (view_of (next_given storage a).transfer (doing.trace_giving storage a q)) (next_given storage a).bytes = next-given storage a q in (
+        answered-located (view_of t p) (view_of a q) (view_of (next_given storage a).transfer (doing.trace_giving storage a q)) (min count (room t.moving))
             (answer-if storage t s count p (s == t.sequence + 1) e (eqb-true s (t.sequence + 1) e)) g.located,
         g.good,
       )
 
   -- one of the last chunk: its bytes are moved, and the next are given anew
-  pub repeats-view : (storage : Contents) (t : Transfer) (s count : ℕ) (p : Part) → (s == t.sequence + 1) ≡ false →
-      let g : Given = next_given storage (absorbed storage t s count) in
+  pub repeats-view : (storage : Contents) (t : Transfer) (s count : ℕ) (p : CommandTrace) → (s == t.sequence + 1) ≡ false →
+      let g : NextChunk = next_given storage (taken_by_device storage t s count) in
       IsGiven (view_of t p) (view_of g.transfer (gives storage t s count p)) g.bytes
   repeats-view storage t s count p e =
       subst
       (λ (b : Bool).
       let a : Transfer = if b then moved_on storage (with_answer t s count) (min count (room t.moving)) else t in
-      let q : Part = if b then doing.moved_on storage (with_answer t s count) (min count (room t.moving)) p else p in
-      IsGiven (view_of t p) (view_of (next_given storage a).transfer (doing.giving storage a q)) (next_given storage a).bytes)
+      let q : CommandTrace = if b then doing.trace_moved_on storage (with_answer t s count) (min count (room t.moving)) p else p in
+      IsGiven (view_of t p) (view_of (next_given storage a).transfer (doing.trace_giving storage a q)) (next_given storage a).bytes)
       (sym e) (next-given storage t p)
 
 -- a command that begins has moved nothing
-begins-new : (walk : Place) (n : ℕ) (a : Option Advance) (t : Transfer) → begins walk n a ≡ came.Begins t → t.sequence ≡ 0
-begins-new walk n (Some (advance.Takes ccw)) t e = let same : command_of walk n ccw ≡ t = cc e in ap (λ (x : Transfer). x.sequence) (sym same)
+begins-new : (walk : WalkPlace) (n : ℕ) (a : Option Advance) (t : Transfer) → command_begins walk n a ≡ came.Begins t → t.sequence ≡ 0
+begins-new walk n (Some (advance.Takes ccw)) t e = let same : transfer_of walk n ccw ≡ t = cc e in ap (λ (x : Transfer). x.sequence) (sym same)
 begins-new walk n (Some advance.Suspends) t e = absurd (cc e)
 begins-new walk n (Some (advance.Stops check)) t e = absurd (cc e)
 begins-new walk n None t e = absurd (cc e)
 
-pub goes-new : (storage : Contents) (n : ℕ) (old : Place) (t : Transfer) → (goes_to storage n old).came ≡ came.Begins t → t.sequence ≡ 0
+pub goes-new : (storage : Contents) (n : ℕ) (old : WalkPlace) (t : Transfer) → (goes_to storage n old).came ≡ came.Begins t → t.sequence ≡ 0
 goes-new storage n old t e = begins-new (after_acts old (advance_acts storage old)) n (advance_of old (advance_acts storage old)) t e
 
 with_located-seq : (t : Transfer) (r : Result Moving Check) → (with_located t r).sequence ≡ t.sequence

@@ -12,19 +12,19 @@ use Rattle.channel_program.specs.declared.Advance.{Advance}
 use Rattle.channel_program.specs.declared.Advance.TheVariants as advance
 use Rattle.channel_program.specs.Acts.{Act}
 use Rattle.channel_program.specs.Programs.{IsProgram, Command, role_of, commands, code}
-use Rattle.channel_program.specs.Walks.{Place, place, advance_acts, after_acts, advance_of, after_used_up}
+use Rattle.channel_program.specs.Walks.{WalkPlace, walk_place, advance_acts, after_acts, advance_of, after_used_up}
 use Rattle.idaw.specs.Places.{each_below}
 use Rattle.data_move.specs.Moving.{Moving, next_place, room, needs_word}
 use Rattle.data_move.specs.Accesses as access
 use Rattle.transfer.specs.declared.Transfer.{Transfer}
 use Rattle.transfer.specs.declared.Beginning.{Beginning}
-use Rattle.transfer.specs.declared.Came.{Came}
-use Rattle.transfer.specs.declared.Came.TheVariants as came
-use Rattle.transfer.specs.Commands.{goes_to, located, with_located, begun_with_room, with_room, brings, has_stopped}
-use Rattle.transfer.specs.Chunks.{chains_data, chained_to, chained, with_moved, moved_on, with_answer, absorbed, given_bytes, given_of, given_from, next_given, brought_by, brought_in, brought, fitting}
-use Rattle.program_laws.specs.Reaches.{reaches}
-use Rattle.program_laws.specs.Doings as doing
-use Rattle.program_laws.specs.Doings.{Part, Arrival, with_acts, with_places, with_copy, located_acts, room_acts, goes_acts, chunk_of, chained_acts, answered, giving, gives, with_arrival, storing, arriving, takes_in}
+use Rattle.transfer.specs.declared.CommandStart.{CommandStart}
+use Rattle.transfer.specs.declared.CommandStart.TheVariants as came
+use Rattle.transfer.specs.Commands.{goes_to, located_transfer, with_located, begun_with_room, with_room, brings, has_stopped}
+use Rattle.transfer.specs.Chunks.{chains_data, chained_to, chained, with_moved, moved_on, with_answer, taken_by_device, given_bytes, next_chunk_of, given_from, next_given, brought_by, brought_in, brought, fitting}
+use Rattle.program_laws.specs.DataAreas.{data_areas}
+use Rattle.program_laws.specs.CommandActs as doing
+use Rattle.program_laws.specs.CommandActs.{CommandTrace, Arrival, with_acts, with_places, with_copy, located_acts, room_acts, goes_acts, chunk_of, chained_acts, trace_answered, trace_giving, gives, with_arrival, storing, arriving, takes_in}
 use Rattle.program_laws.specs.Claims.{IsStored, places_arrived, IsBeginning, places_of}
 use Rattle.program_laws.proofs.Lists.{length-each_below}
 use Rattle.program_laws.proofs.Accesses.{AreAccesses, IsStore, stored-bytes}
@@ -38,7 +38,7 @@ IsSame t u = (u.code ≡ t.code) × (u.command ≡ t.command)
 same-trans : (t u v : Transfer) → IsSame t u → IsSame u v → IsSame t v
 same-trans t u v a b = (b.0 ∙ a.0, b.1 ∙ a.1)
 
-chained_to-same : (t : Transfer) (walk : Place) (a : Option Advance) → IsSame t (chained_to t walk a)
+chained_to-same : (t : Transfer) (walk : WalkPlace) (a : Option Advance) → IsSame t (chained_to t walk a)
 chained_to-same t walk (Some (advance.Takes ccw)) = (refl, refl)
 chained_to-same t walk (Some advance.Suspends) = (refl, refl)
 chained_to-same t walk (Some (advance.Stops check)) = (refl, refl)
@@ -46,7 +46,7 @@ chained_to-same t walk None = (refl, refl)
 
 chained-same : (storage : Contents) (t : Transfer) → IsSame t (chained storage t)
 chained-same storage t =
-    let old : Place = after_used_up t.walk in
+    let old : WalkPlace = after_used_up t.walk in
     chained_to-same t (after_acts old (advance_acts storage old)) (advance_of old (advance_acts storage old))
 
 moved_on-if : (storage : Contents) (t : Transfer) (n : ℕ) (b : Bool) → IsSame t (if b then chained storage (with_moved t n) else with_moved t n)
@@ -64,7 +64,7 @@ located-if : (t : Transfer) (r : Result Moving Check) (b : Bool) → IsSame t (i
 located-if t r true = (refl, refl)
 located-if t r false = with_located-same t r
 
-pub located-same : (storage : Contents) (t : Transfer) → IsSame t (located storage t)
+pub located-same : (storage : Contents) (t : Transfer) → IsSame t (located_transfer storage t)
 located-same storage t = located-if t (access.located storage t.walk.orb.key t.moving) (is_some t.fault)
 
 room-if : (storage : Contents) (t : Transfer) (b : Bool) → IsSame t (if b then with_room storage t else record { transfer = t; room = 0 }).transfer
@@ -79,14 +79,14 @@ absorbed-if : (storage : Contents) (t : Transfer) (s count : ℕ) (b : Bool) →
 absorbed-if storage t s count true = moved_on-same storage (with_answer t s count) (min count (room t.moving))
 absorbed-if storage t s count false = (refl, refl)
 
-pub absorbed-same : (storage : Contents) (t : Transfer) (s count : ℕ) → IsSame t (absorbed storage t s count)
+pub absorbed-same : (storage : Contents) (t : Transfer) (s count : ℕ) → IsSame t (taken_by_device storage t s count)
 absorbed-same storage t s count = absorbed-if storage t s count (s == t.sequence + 1)
 
-given_of-same : (t : Transfer) (r : Result (List ℕ) Check) → IsSame t (given_of t r).transfer
+given_of-same : (t : Transfer) (r : Result (List ℕ) Check) → IsSame t (next_chunk_of t r).transfer
 given_of-same t (Ok bytes) = (refl, refl)
 given_of-same t (Err check) = (refl, refl)
 
-given-if : (t : Transfer) (r : Result (List ℕ) Check) (b : Bool) → IsSame t (if b then given_bytes t [] else given_of t r).transfer
+given-if : (t : Transfer) (r : Result (List ℕ) Check) (b : Bool) → IsSame t (if b then given_bytes t [] else next_chunk_of t r).transfer
 given-if t r true = (refl, refl)
 given-if t r false = given_of-same t r
 
@@ -94,7 +94,7 @@ given-same : (storage : Contents) (t : Transfer) → IsSame t (given_from storag
 given-same storage t = given-if t (access.copied storage t.walk.orb.key t.moving) (has_stopped t)
 
 pub next_given-same : (storage : Contents) (t : Transfer) → IsSame t (next_given storage t).transfer
-next_given-same storage t = same-trans t (located storage t) (next_given storage t).transfer (located-same storage t) (given-same storage (located storage t))
+next_given-same storage t = same-trans t (located_transfer storage t) (next_given storage t).transfer (located-same storage t) (given-same storage (located_transfer storage t))
 
 brought_by-same : (storage : Contents) (t : Transfer) (n : ℕ) (r : Result Contents Check) → IsSame t (brought_by storage t n r).transfer
 brought_by-same storage t n (Ok after) = moved_on-same after t n
@@ -108,23 +108,23 @@ brought-in-if storage t n r false = brought_by-same storage t n r
 brought-if : (storage : Contents) (t : Transfer) (s : ℕ) (bytes : List ℕ) (b : Bool) →
     IsSame t (if b then brought_in storage (record t { sequence = s }) (fitting t bytes) else record { transfer = t; storage = storage }).transfer
 brought-if storage t s bytes true =
-    brought-in-if storage (record t { sequence = s }) (length (fitting t bytes)) (access.stored storage t.walk.orb.key t.moving (fitting t bytes)) (is_some t.fault)
+    brought-in-if storage (record t { sequence = s }) (length (fitting t bytes)) (access.stored_or_skipped storage t.walk.orb.key t.moving (fitting t bytes)) (is_some t.fault)
 brought-if storage t s bytes false = (refl, refl)
 
 pub brought-same : (storage : Contents) (t : Transfer) (s : ℕ) (bytes : List ℕ) → IsSame t (brought storage t s bytes).transfer
 brought-same storage t s bytes = brought-if storage t s bytes (s == t.sequence + 1)
 
 -- what arrived, by the direction of the command
-abbrev pub HasArrived : Part → Bool → Type 0
+abbrev pub HasArrived : CommandTrace → Bool → Type 0
 HasArrived p true = p.arrived ≡ []
 HasArrived p false = All IsStored p.arrived × (places_arrived p.arrived ≡ p.moved)
 
-pub arrived-none : (p : Part) (d : Bool) → p.arrived ≡ [] → p.moved ≡ [] → HasArrived p d
+pub arrived-none : (p : CommandTrace) (d : Bool) → p.arrived ≡ [] → p.moved ≡ [] → HasArrived p d
 arrived-none p true e f = e
 arrived-none p false e f = (subst (λ (xs : List Arrival). All IsStored xs) (sym e) (All-nil IsStored), ap places_arrived e ∙ sym f)
 
 -- what holds of a program, at work or over
-pub record IsDone (orb : Orb) (p : Part) : Type 0 where
+pub record IsDone (orb : Orb) (p : CommandTrace) : Type 0 where
   pub program : IsProgram orb p.acts
   pub moves : IsBeginning p.moved (places_of orb p.acts)
   pub arrived : All IsStored p.arrived
@@ -137,8 +137,8 @@ room-left t n =
     omega (arith, f, g)
 
 -- bytes that are moved
-moved_on-parts : (storage : Contents) (t : Transfer) (n : ℕ) (p : Part) (b : Bool) →
-    let q : Part = if b then with_acts (with_places p t.moving n) (chained_acts storage (with_moved t n)) else with_places p t.moving n in
+moved_on-parts : (storage : Contents) (t : Transfer) (n : ℕ) (p : CommandTrace) (b : Bool) →
+    let q : CommandTrace = if b then with_acts (with_places p t.moving n) (chained_acts storage (with_moved t n)) else with_places p t.moving n in
     (_ : q.moved ≡ p.moved ++ each_below (next_place t.moving) n) × (q.arrived ≡ p.arrived)
 moved_on-parts storage t n p true = (refl, refl)
 moved_on-parts storage t n p false = (refl, refl)
@@ -146,16 +146,16 @@ moved_on-parts storage t n p false = (refl, refl)
 -- so many commands were sent under earlier numbers
 module _ (earlier : ℕ) where
   -- what is done, and what is kept of the transfer
-  pub record IsAtWork (orb : Orb) (p : Part) (t : Transfer) (d : Bool) : Type 0 where
+  pub record IsAtWork (orb : Orb) (p : CommandTrace) (t : Transfer) (d : Bool) : Type 0 where
     pub tied : Tied earlier orb p.acts p.moved t
     pub arrived : HasArrived p d
 
-  pub done-of : (orb : Orb) (p : Part) (t : Transfer) (d : Bool) → IsAtWork orb p t d → IsDone orb p
+  pub done-of : (orb : Orb) (p : CommandTrace) (t : Transfer) (d : Bool) → IsAtWork orb p t d → IsDone orb p
   done-of orb p t true k =
       let none : p.arrived ≡ [] = k.arrived in
       record {
         program = k.tied.program;
-        moves = spot-begins orb (reaches orb p.acts) t p.moved k.tied.spot;
+        moves = spot-begins orb (data_areas orb p.acts) t p.moved k.tied.spot;
         arrived = subst (λ (xs : List Arrival). All IsStored xs) (sym none) (All-nil IsStored);
         arrives = subst (λ (xs : List Arrival). IsBeginning (places_arrived xs) (places_of orb p.acts)) (sym none) (places_of orb p.acts, refl);
       }
@@ -163,82 +163,82 @@ module _ (earlier : ℕ) where
       let same : places_arrived p.arrived ≡ p.moved = k.arrived.1 in
       record {
         program = k.tied.program;
-        moves = spot-begins orb (reaches orb p.acts) t p.moved k.tied.spot;
+        moves = spot-begins orb (data_areas orb p.acts) t p.moved k.tied.spot;
         arrived = k.arrived.0;
-        arrives = subst (λ (xs : List (Option ℕ)). IsBeginning xs (places_of orb p.acts)) (sym same) (spot-begins orb (reaches orb p.acts) t p.moved k.tied.spot);
+        arrives = subst (λ (xs : List (Option ℕ)). IsBeginning xs (places_of orb p.acts)) (sym same) (spot-begins orb (data_areas orb p.acts) t p.moved k.tied.spot);
       }
 
   module _ (laws : AreLaws) where
-    moved_on-out : (storage : Contents) (orb : Orb) (p : Part) (t : Transfer) (n : ℕ) → n ≤ t.moving.left → IsAtWork orb p t true →
-        IsAtWork orb (doing.moved_on storage t n p) (moved_on storage t n) true
+    moved_on-out : (storage : Contents) (orb : Orb) (p : CommandTrace) (t : Transfer) (n : ℕ) → n ≤ t.moving.left → IsAtWork orb p t true →
+        IsAtWork orb (doing.trace_moved_on storage t n p) (moved_on storage t n) true
     moved_on-out storage orb p t n l k = record {
       tied = moved_on-tied laws earlier storage orb p t n l k.tied;
       arrived = (moved_on-parts storage t n p (chains_data (with_moved t n) n)).1 ∙ k.arrived;
     }
 
     -- a Data of a command that takes bytes to the device
-    answer-tied : (orb : Orb) (p : Part) (t : Transfer) (s count : ℕ) → IsAtWork orb p t true → IsAtWork orb p (with_answer t s count) true
+    answer-tied : (orb : Orb) (p : CommandTrace) (t : Transfer) (s count : ℕ) → IsAtWork orb p t true → IsAtWork orb p (with_answer t s count) true
     answer-tied orb p t s count k = record {
       tied = changed earlier orb p.acts p.moved t (with_answer t s count) refl refl refl refl (λ e. e) (λ e. e) k.tied;
       arrived = k.arrived;
     }
 
-    answer-by : (storage : Contents) (orb : Orb) (p : Part) (t : Transfer) (s count : ℕ) (b : Bool) → IsAtWork orb p t true →
-        IsAtWork orb (if b then doing.moved_on storage (with_answer t s count) (min count (room t.moving)) p else p)
+    answer-by : (storage : Contents) (orb : Orb) (p : CommandTrace) (t : Transfer) (s count : ℕ) (b : Bool) → IsAtWork orb p t true →
+        IsAtWork orb (if b then doing.trace_moved_on storage (with_answer t s count) (min count (room t.moving)) p else p)
         (if b then moved_on storage (with_answer t s count) (min count (room t.moving)) else t) true
     answer-by storage orb p t s count true k = moved_on-out storage orb p (with_answer t s count) (min count (room t.moving)) (room-left t count) (answer-tied orb p t s count k)
     answer-by storage orb p t s count false k = k
 
-    located-work : (storage : Contents) (orb : Orb) (p : Part) (t : Transfer) (d : Bool) → IsAtWork orb p t d →
-        IsAtWork orb (with_acts p (located_acts storage t)) (located storage t) d
+    located-work : (storage : Contents) (orb : Orb) (p : CommandTrace) (t : Transfer) (d : Bool) → IsAtWork orb p t d →
+        IsAtWork orb (with_acts p (located_acts storage t)) (located_transfer storage t) d
     located-work storage orb p t true k = record { tied = located-tied earlier laws storage orb p.acts p.moved t k.tied; arrived = k.arrived }
     located-work storage orb p t false k = record { tied = located-tied earlier laws storage orb p.acts p.moved t k.tied; arrived = k.arrived }
 
-    given-by : (storage : Contents) (orb : Orb) (p : Part) (t : Transfer) (r : Result (List ℕ) Check) → IsAtWork orb p t true →
-        IsAtWork orb (with_copy storage t r p) (given_of t r).transfer true
+    given-by : (storage : Contents) (orb : Orb) (p : CommandTrace) (t : Transfer) (r : Result (List ℕ) Check) → IsAtWork orb p t true →
+        IsAtWork orb (with_copy storage t r p) (next_chunk_of t r).transfer true
     given-by storage orb p t (Ok bytes) k = record {
-      tied = changed earlier orb p.acts p.moved t (given_of t (Ok bytes)).transfer refl refl refl refl (λ e. e) (λ e. e) k.tied;
+      tied = changed earlier orb p.acts p.moved t (next_chunk_of t (Ok bytes)).transfer refl refl refl refl (λ e. e) (λ e. e) k.tied;
       arrived = k.arrived;
     }
     given-by storage orb p t (Err check) k = record {
-      tied = changed earlier orb p.acts p.moved t (given_of t (Err check)).transfer refl refl refl refl (λ e. absurd (cc e)) (λ e. refl) k.tied;
+      tied = changed earlier orb p.acts p.moved t (next_chunk_of t (Err check)).transfer refl refl refl refl (λ e. absurd (cc e)) (λ e. refl) k.tied;
       arrived = k.arrived;
     }
 
-    copy-by : (storage : Contents) (orb : Orb) (p : Part) (t : Transfer) (r : Result (List ℕ) Check) (b : Bool) → IsAtWork orb p t true →
-        IsAtWork orb (if b then p else with_copy storage t r p) (if b then given_bytes t [] else given_of t r).transfer true
+    copy-by : (storage : Contents) (orb : Orb) (p : CommandTrace) (t : Transfer) (r : Result (List ℕ) Check) (b : Bool) → IsAtWork orb p t true →
+        IsAtWork orb (if b then p else with_copy storage t r p) (if b then given_bytes t [] else next_chunk_of t r).transfer true
     copy-by storage orb p t r true k = record {
       tied = changed earlier orb p.acts p.moved t (record t { offered = 0 }) refl refl refl refl (λ e. e) (λ e. e) k.tied;
       arrived = k.arrived;
     }
     copy-by storage orb p t r false k = given-by storage orb p t r k
 
-    giving-work : (storage : Contents) (orb : Orb) (p : Part) (t : Transfer) → IsAtWork orb p t true → IsAtWork orb (giving storage t p) (next_given storage t).transfer true
+    giving-work : (storage : Contents) (orb : Orb) (p : CommandTrace) (t : Transfer) → IsAtWork orb p t true → IsAtWork orb (trace_giving storage t p) (next_given storage t).transfer true
     giving-work storage orb p t k =
-        let u : Transfer = located storage t in
+        let u : Transfer = located_transfer storage t in
         copy-by storage orb (with_acts p (located_acts storage t)) u (access.copied storage u.walk.orb.key u.moving) (has_stopped u) (located-work storage orb p t true k)
 
-    pub gives-work : (storage : Contents) (orb : Orb) (p : Part) (t : Transfer) (s count : ℕ) → IsAtWork orb p t true →
-        IsAtWork orb (gives storage t s count p) (next_given storage (absorbed storage t s count)).transfer true
+    pub gives-work : (storage : Contents) (orb : Orb) (p : CommandTrace) (t : Transfer) (s count : ℕ) → IsAtWork orb p t true →
+        IsAtWork orb (gives storage t s count p) (next_given storage (taken_by_device storage t s count)).transfer true
     gives-work storage orb p t s count k =
-        giving-work storage orb (answered storage t s count p) (absorbed storage t s count) (answer-by storage orb p t s count (s == t.sequence + 1) k)
+        giving-work storage orb (trace_answered storage t s count p) (taken_by_device storage t s count) (answer-by storage orb p t s count (s == t.sequence + 1) k)
 
     -- a Data of a command that brings bytes in
     module _ (accesses : AreAccesses) where
-      arrival-stored : (storage after : Contents) (t : Transfer) (bytes : List ℕ) → access.stored storage t.walk.orb.key t.moving bytes ≡ Ok after →
+      arrival-stored : (storage after : Contents) (t : Transfer) (bytes : List ℕ) → access.stored_or_skipped storage t.walk.orb.key t.moving bytes ≡ Ok after →
           IsStored (record { former = storage.bytes; chunk = chunk_of after t.moving bytes })
       arrival-stored storage after t bytes e =
           let k : IsStore accesses storage after t.moving bytes = stored-bytes accesses storage after t.walk.orb.key t.moving bytes e in
           record { whole = length-each_below (next_place t.moving) (length bytes); stands = k.stands; others = k.others }
 
-      arrival-by : (storage : Contents) (orb : Orb) (p : Part) (t : Transfer) (bytes : List ℕ) (r : Result Contents Check) → access.stored storage t.walk.orb.key t.moving bytes ≡ r →
+      arrival-by : (storage : Contents) (orb : Orb) (p : CommandTrace) (t : Transfer) (bytes : List ℕ) (r : Result Contents Check) → access.stored_or_skipped storage t.walk.orb.key t.moving bytes ≡ r →
           length bytes ≤ t.moving.left → IsAtWork orb p t false →
           IsAtWork orb (with_arrival storage t bytes r p) (brought_by storage t (length bytes) r).transfer false
       arrival-by storage orb p t bytes (Ok after) e l k =
           let a : Arrival = record { former = storage.bytes; chunk = chunk_of after t.moving bytes } in
-          let q : Part = record p { arrived = a ∷ p.arrived } in
-          let parts : (_ : (doing.moved_on after t (length bytes) q).moved ≡ p.moved ++ each_below (next_place t.moving) (length bytes))
-          × ((doing.moved_on after t (length bytes) q).arrived ≡ a ∷ p.arrived) =
+          let q : CommandTrace = record p { arrived = a ∷ p.arrived } in
+          let parts : (_ : (doing.trace_moved_on after t (length bytes) q).moved ≡ p.moved ++ each_below (next_place t.moving) (length bytes))
+          × ((doing.trace_moved_on after t (length bytes) q).arrived ≡ a ∷ p.arrived) =
           moved_on-parts after t (length bytes) q (chains_data (with_moved t (length bytes)) (length bytes)) in
           record {
             tied = moved_on-tied laws earlier after orb q t (length bytes) l k.tied;
@@ -252,11 +252,11 @@ module _ (earlier : ℕ) where
         arrived = k.arrived;
       }
 
-      store-by : (storage : Contents) (orb : Orb) (p : Part) (t : Transfer) (bytes : List ℕ) (b : Bool) → length bytes ≤ t.moving.left → IsAtWork orb p t false →
-          IsAtWork orb (if b then p else with_arrival storage t bytes (access.stored storage t.walk.orb.key t.moving bytes) p)
-          (if b then record { transfer = t; storage = storage } else brought_by storage t (length bytes) (access.stored storage t.walk.orb.key t.moving bytes)).transfer false
+      store-by : (storage : Contents) (orb : Orb) (p : CommandTrace) (t : Transfer) (bytes : List ℕ) (b : Bool) → length bytes ≤ t.moving.left → IsAtWork orb p t false →
+          IsAtWork orb (if b then p else with_arrival storage t bytes (access.stored_or_skipped storage t.walk.orb.key t.moving bytes) p)
+          (if b then record { transfer = t; storage = storage } else brought_by storage t (length bytes) (access.stored_or_skipped storage t.walk.orb.key t.moving bytes)).transfer false
       store-by storage orb p t bytes true l k = k
-      store-by storage orb p t bytes false l k = arrival-by storage orb p t bytes (access.stored storage t.walk.orb.key t.moving bytes) refl l k
+      store-by storage orb p t bytes false l k = arrival-by storage orb p t bytes (access.stored_or_skipped storage t.walk.orb.key t.moving bytes) refl l k
 
       fitting-left : (t : Transfer) (bytes : List ℕ) → length (fitting t bytes) ≤ t.moving.left
       fitting-left t bytes =
@@ -265,7 +265,7 @@ module _ (earlier : ℕ) where
           let g : room t.moving ≤ t.moving.left = min-le_left t.moving.left 256 in
           omega (arith, e, f, g)
 
-      bring-by : (storage : Contents) (orb : Orb) (p : Part) (t : Transfer) (s : ℕ) (bytes : List ℕ) (b : Bool) → IsAtWork orb p t false →
+      bring-by : (storage : Contents) (orb : Orb) (p : CommandTrace) (t : Transfer) (s : ℕ) (bytes : List ℕ) (b : Bool) → IsAtWork orb p t false →
           IsAtWork orb (if b then storing storage (record t { sequence = s }) (fitting t bytes) p else p)
           (if b then brought_in storage (record t { sequence = s }) (fitting t bytes) else record { transfer = t; storage = storage }).transfer false
       bring-by storage orb p t s bytes true k =
@@ -273,20 +273,20 @@ module _ (earlier : ℕ) where
           (record { tied = changed earlier orb p.acts p.moved t (record t { sequence = s }) refl refl refl refl (λ e. e) (λ e. e) k.tied; arrived = k.arrived })
       bring-by storage orb p t s bytes false k = k
 
-      pub takes_in-work : (storage : Contents) (orb : Orb) (p : Part) (t : Transfer) (s : ℕ) (bytes : List ℕ) → IsAtWork orb p t false →
+      pub takes_in-work : (storage : Contents) (orb : Orb) (p : CommandTrace) (t : Transfer) (s : ℕ) (bytes : List ℕ) → IsAtWork orb p t false →
           IsAtWork orb (takes_in storage t s bytes p) (with_room (brought storage t s bytes).storage (brought storage t s bytes).transfer).transfer false
       takes_in-work storage orb p t s bytes k =
           located-work (brought storage t s bytes).storage orb (arriving storage t s bytes p) (brought storage t s bytes).transfer false
           (bring-by storage orb p t s bytes (s == t.sequence + 1) k)
 
     -- a command begins from these acts, or can't, or the program is suspended
-    abbrev pub WentOn : Contents → Orb → List Act → List Act → ℕ → Place → Came → Type 0
+    abbrev pub WentOn : Contents → Orb → List Act → List Act → ℕ → WalkPlace → CommandStart → Type 0
     WentOn storage orb before acts n walk (came.Begins t) =
         Tied earlier orb acts [] (begun_with_room storage t).transfer × (t.command ≡ n) × ((c : Command) × (commands orb acts ≡ c ∷ commands orb before) × (code c ≡ t.code))
     WentOn storage orb before acts n walk came.Suspends =
-        IsProgram orb acts × (reaches orb acts ≡ reaches orb before) × (commands orb acts ≡ commands orb before) × ((role_of orb acts).chained ≡ false) × (walk ≡ place orb acts)
+        IsProgram orb acts × (data_areas orb acts ≡ data_areas orb before) × (commands orb acts ≡ commands orb before) × ((role_of orb acts).chained ≡ false) × (walk ≡ walk_place orb acts)
     WentOn storage orb before acts n walk (came.Stops check) =
-        IsProgram orb acts × (reaches orb acts ≡ reaches orb before) × (commands orb acts ≡ commands orb before)
+        IsProgram orb acts × (data_areas orb acts ≡ data_areas orb before) × (commands orb acts ≡ commands orb before)
 
     located-commands : (storage : Contents) (orb : Orb) (acts : List Act) (t : Transfer) (b c : Bool) (w : Result ℕ Check) →
         commands orb ((if b then [] else (if c then doing.act_of_word w else [])) ++ acts) ≡ commands orb acts
@@ -301,7 +301,7 @@ module _ (earlier : ℕ) where
         located-commands storage orb acts t (is_some t.fault) (needs_word t.moving) (access.word_fetched storage t.walk.orb.key t.moving)
     room-commands storage orb acts t false = refl
 
-    went-by : (storage : Contents) (orb : Orb) (before acts : List Act) (n : ℕ) (walk : Place) (c : Came) → walk ≡ place orb acts → Begins earlier laws orb before acts n c →
+    went-by : (storage : Contents) (orb : Orb) (before acts : List Act) (n : ℕ) (walk : WalkPlace) (c : CommandStart) → walk ≡ walk_place orb acts → Begins earlier laws orb before acts n c →
         WentOn storage orb before (room_acts storage c ++ acts) n walk c
     went-by storage orb before acts n walk (came.Begins t) w k =
         (room-tied earlier laws storage orb acts t k.0, k.1, (k.2.0, room-commands storage orb acts t (brings (class_of t.code)) ∙ k.2.1, k.2.2))
@@ -310,9 +310,9 @@ module _ (earlier : ℕ) where
 
     pub goes-on : (storage : Contents) (orb : Orb) (before : List Act) (n : ℕ) → (role_of orb before).chained ≡ false → length (commands orb before) + 1 ≡ earlier + n →
         IsProgram orb before →
-        WentOn storage orb before (goes_acts storage n (place orb before) ++ before) n (goes_to storage n (place orb before)).walk (goes_to storage n (place orb before)).came
+        WentOn storage orb before (goes_acts storage n (walk_place orb before) ++ before) n (goes_to storage n (walk_place orb before)).walk (goes_to storage n (walk_place orb before)).came
     goes-on storage orb before n c l p =
-        let old : Place = place orb before in
+        let old : WalkPlace = walk_place orb before in
         let next : Beginning = goes_to storage n old in
         subst (λ (xs : List Act). WentOn storage orb before xs n next.walk next.came) (sym (append_assoc (room_acts storage next.came) (advance_acts storage old) before))
         (went-by storage orb before (advance_acts storage old ++ before) n next.walk next.came (laws.leads orb before (advance_acts storage old))

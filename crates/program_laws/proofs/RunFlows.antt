@@ -16,7 +16,7 @@ use Rattle.chan_model.specs.declared.unit_state.UnitState.{UnitState}
 use Rattle.chan_model.specs.UnitTable.{idle_unit}
 use Rattle.chan_model.specs.UnitReports.{unit_reports}
 use Rattle.wires.specs.Queues.{no_queues}
-use Rattle.subchannel_model.specs.declared.state.Begun.{Begun}
+use Rattle.subchannel_model.specs.declared.state.ActiveProgram.{ActiveProgram}
 use Rattle.subchannel_model.specs.declared.state.Subchannel.{Subchannel}
 use Rattle.subchannel_model.specs.declared.state.SubchannelState.{SubchannelState}
 use Rattle.subchannel_model.specs.Choosing.{chosen}
@@ -33,9 +33,9 @@ use Rattle.machine_model.specs.ChooseSteps.{choose_sub}
 use Rattle.machine_model.specs.UpSteps.{up_sub}
 use Rattle.machine_model.specs.Steps.{Run, Opened, Stepped}
 use Rattle.step_laws.specs.Walks.{Suits}
-use Rattle.program_laws.specs.Stories.{Story, chosen_at, met_at, taken_at, reported_at, story, story_after}
+use Rattle.program_laws.specs.Traces.{ProgramTrace, chosen_at, met_at, taken_at, reported_at, trace, trace_after}
 use Rattle.program_laws.specs.Claims.{AbsorbsInOrder, part_of}
-use Rattle.program_laws.proofs.Turns.{Happening, Stays, Starts_with_orb, Is_tested, Is_resumed, Is_halted, Is_cleared, Is_cancelled, Is_modified, Is_chosen, Meets, Sinks, Is_reported, Other_sinks, Other_reported, step-happens}
+use Rattle.program_laws.proofs.Turns.{PlaceStep, Stays, Starts_with_orb, Is_tested, Is_resumed, Is_halted, Is_cleared, Is_cancelled, Is_modified, Is_chosen, Meets, Sinks, Is_reported, Other_sinks, Other_reported, step-happens}
 use Rattle.program_laws.proofs.Ties.{AreLaws}
 use Rattle.program_laws.proofs.Accesses.{AreAccesses}
 use Rattle.program_laws.proofs.Holds.{HasWork, HeldBy}
@@ -52,17 +52,17 @@ use Rattle.program_laws.proofs.RunOrders.{AllNeeds, on-none, unit-there, idle-th
 use Rattle.step_laws.proofs.Places.{map-get}
 
 -- at one place
-abbrev Flows : Side → Subchannel → Option Story → Option UnitState → Type 0
+abbrev Flows : Side → Subchannel → Option ProgramTrace → Option UnitState → Type 0
 Flows side sub k u = AtUnit (AtSub side sub k) u
 
-flows-as : (side : Side) (new x : Subchannel) (k m : Option Story) (u v : Option UnitState) → new.setup.side ≡ side → new ≡ x → m ≡ k → v ≡ u → Flows side x k u → Flows new.setup.side new m v
+flows-as : (side : Side) (new x : Subchannel) (k m : Option ProgramTrace) (u v : Option UnitState) → new.setup.side ≡ side → new ≡ x → m ≡ k → v ≡ u → Flows side x k u → Flows new.setup.side new m v
 flows-as side new x k m u v a b c d l =
     subst (λ (y : Side). Flows y new m v) (sym a)
     (subst (λ (y : Subchannel). Flows side y m v) (sym b)
-    (subst (λ (y : Option Story). Flows side x y v) (sym c)
+    (subst (λ (y : Option ProgramTrace). Flows side x y v) (sym c)
     (subst (λ (y : Option UnitState). Flows side x k y) (sym d) l)))
 
-chosen-flows : (sub : Subchannel) (choice : Option ℕ) (k : Option Story) (u : Option UnitState) (t : SubTurn) → Suits (chosen sub choice) sub.state → choose_sub sub (chosen sub choice) ≡ Ok t → HeldBy sub.state k →
+chosen-flows : (sub : Subchannel) (choice : Option ℕ) (k : Option ProgramTrace) (u : Option UnitState) (t : SubTurn) → Suits (chosen sub choice) sub.state → choose_sub sub (chosen sub choice) ≡ Ok t → HeldBy sub.state k →
     HeldBy t.sub.state (chosen_at (Some sub) t.reply k) → AtUnit (IsLinked sub.setup.side sub.state.drawn sub.wires.down k) u → Flows sub.setup.side sub k u →
     Flows sub.setup.side t.sub (chosen_at (Some sub) t.reply k) u
 chosen-flows sub choice k None t f e h i l a = absurd l
@@ -71,18 +71,18 @@ chosen-flows sub choice k (Some u) t f e h i l a =
     (choose-flows sub (chosen sub choice) k u f h l a)) i
 
 -- a state with the same program at work
-state-flows : (sub : Subchannel) (x : SubchannelState) (k : Option Story) (u : Option UnitState) → x.begun ≡ sub.state.begun → Flows sub.setup.side sub k u →
+state-flows : (sub : Subchannel) (x : SubchannelState) (k : Option ProgramTrace) (u : Option UnitState) → x.begun ≡ sub.state.begun → Flows sub.setup.side sub k u →
     Flows sub.setup.side (with_state sub x) k u
 state-flows sub x k u e a =
-    subst (λ (b : Option Begun). AtUnit (λ v. CourseOf sub.setup.side b k sub.wires.down sub.wires.up v) u) (sym e) a
+    subst (λ (b : Option ActiveProgram). AtUnit (λ v. CourseOf sub.setup.side b k sub.wires.down sub.wires.up v) u) (sym e) a
 
-over-flows : (sub : Subchannel) (x : SubchannelState) (k : Option Story) (u : Option UnitState) → HeldBy sub.state k → x.begun ≡ None → Flows sub.setup.side sub k u →
+over-flows : (sub : Subchannel) (x : SubchannelState) (k : Option ProgramTrace) (u : Option UnitState) → HeldBy sub.state k → x.begun ≡ None → Flows sub.setup.side sub k u →
     Flows sub.setup.side (with_state sub x) k u
 over-flows sub x k None h e a = absurd a
 over-flows sub x k (Some u) h e a =
-    subst (λ (b : Option Begun). CourseOf sub.setup.side b k sub.wires.down sub.wires.up u) (sym e) (over-course sub.setup.side sub.state k sub.wires.down sub.wires.up u h a)
+    subst (λ (b : Option ActiveProgram). CourseOf sub.setup.side b k sub.wires.down sub.wires.up u) (sym e) (over-course sub.setup.side sub.state k sub.wires.down sub.wires.up u h a)
 
-tested-flows : (sub : Subchannel) (k : Option Story) (u : Option UnitState) → HeldBy sub.state k → Flows sub.setup.side sub k u → Flows sub.setup.side (with_state sub (tested_wholly sub.state)) k u
+tested-flows : (sub : Subchannel) (k : Option ProgramTrace) (u : Option UnitState) → HeldBy sub.state k → Flows sub.setup.side sub k u → Flows sub.setup.side (with_state sub (tested_wholly sub.state)) k u
 tested-flows sub k u h a =
     elim (tested-begun sub.state) [
       | inl e ↦ state-flows sub (tested_wholly sub.state) k u e a
@@ -90,14 +90,14 @@ tested-flows sub k u h a =
     ]
 
 module _ (laws : AreLaws) (accesses : AreAccesses) where
-  met-flows : (returns : Bool) → (storage : Contents) (sub : Subchannel) (path : ℕ) (k : Option Story) (u : Option UnitState) (t : UpTurn) → up_sub returns storage sub path ≡ Ok t → HeldBy sub.state k →
+  met-flows : (returns : Bool) → (storage : Contents) (sub : Subchannel) (path : ℕ) (k : Option ProgramTrace) (u : Option UnitState) (t : UpTurn) → up_sub returns storage sub path ≡ Ok t → HeldBy sub.state k →
       Flows sub.setup.side sub k u → Flows sub.setup.side t.sub (met_at storage (Some sub) path k) u
   met-flows returns storage sub path k None t e h a = absurd a
   met-flows returns storage sub path k (Some u) t e h a =
       subst (λ (r : Result UpTurn Fault). IfOk r (λ t. AtSub sub.setup.side t.sub (met_at storage (Some sub) path k) u)) e (up-flows laws accesses returns storage sub path k u h a)
 
-  happens-flows : (storage : Contents) (old new : Subchannel) (u v : Option UnitState) (f : Option Story → Option Story) → Happening storage old new u v f → new.setup ≡ old.setup →
-      (k : Option Story) → HeldBy old.state k → HeldBy new.state (f k) → AtUnit (IsLinked old.setup.side old.state.drawn old.wires.down k) u → Flows old.setup.side old k u →
+  happens-flows : (storage : Contents) (old new : Subchannel) (u v : Option UnitState) (f : Option ProgramTrace → Option ProgramTrace) → PlaceStep storage old new u v f → new.setup ≡ old.setup →
+      (k : Option ProgramTrace) → HeldBy old.state k → HeldBy new.state (f k) → AtUnit (IsLinked old.setup.side old.state.drawn old.wires.down k) u → Flows old.setup.side old k u →
       Flows new.setup.side new (f k) v
   happens-flows storage old new u v f (Stays e w s) i k n m l a = flows-as old.setup.side new old k (f k) u v (ap (λ (x : SubchannelSetup). x.side) i) e (s k) w a
   happens-flows storage old new u v f (Starts_with_orb orb e w s) i k n m l a =
@@ -119,7 +119,7 @@ module _ (laws : AreLaws) (accesses : AreAccesses) where
   happens-flows storage old new u v f (Is_chosen choice t x c e w s) i k n m l a =
       flows-as old.setup.side new t.sub (chosen_at (Some old) t.reply k) (f k) u v (ap (λ (x : SubchannelSetup). x.side) i) e (s k) w
       (chosen-flows old choice k u t x c n
-      (subst (λ (x : Subchannel). HeldBy x.state (chosen_at (Some old) t.reply k)) e (subst (λ (x : Option Story). HeldBy new.state x) (s k) m)) l a)
+      (subst (λ (x : Subchannel). HeldBy x.state (chosen_at (Some old) t.reply k)) e (subst (λ (x : Option ProgramTrace). HeldBy new.state x) (s k) m)) l a)
   happens-flows storage old new u v f (Meets path returns t c e w s) i k n m l a =
       flows-as old.setup.side new t.sub (met_at storage (Some old) path k) (f k) u v (ap (λ (x : SubchannelSetup). x.side) i) e (s k) w (met-flows returns storage old path k u t c n a)
   happens-flows storage old new u v f (Sinks path may x t is c e w s) i k n m l a =
@@ -159,27 +159,27 @@ module _ (laws : AreLaws) (accesses : AreAccesses) where
   -- after a run, given what is kept of the programs
   abbrev pub AllHeld : Setup → Type 0
   AllHeld setup = (h : List Entry) (s : State) (run : Run (opening_of setup) h s) (place : ℕ) (sub : Subchannel) → slice_get s.subs place ≡ Some sub →
-      HeldBy sub.state (story place (opening_of setup) h s run)
+      HeldBy sub.state (trace place (opening_of setup) h s run)
 
   held-all : (setup : Setup) → AllHeld setup → AllNeeds setup
-  held-all setup held h s run place sub e = held-needs (story place (opening_of setup) h s run) sub.state (held h s run place sub e)
+  held-all setup held h s run place sub e = held-needs (trace place (opening_of setup) h s run) sub.state (held h s run place sub e)
 
   run-flows : (setup : Setup) → IsLawful setup → AllHeld setup → (h : List Entry) (s : State) (run : Run (opening_of setup) h s) (place : ℕ) (sub : Subchannel) → slice_get s.subs place ≡ Some sub →
-      Flows sub.setup.side sub (story place (opening_of setup) h s run) (slice_get s.units sub.setup.«unit»)
+      Flows sub.setup.side sub (trace place (opening_of setup) h s run) (slice_get s.units sub.setup.«unit»)
   run-flows setup lawful held _ _ Opened place sub e = opens-flows setup lawful place sub e
   run-flows setup lawful held _ _ (Stepped h old e r new run step) place sub at =
       let a = step-happens old (run-one-sided laws.walks setup lawful h old run) place e r new (laws.walks old e r new step) sub at in
-      subst (λ (x : SubchannelSetup). Flows sub.setup.side sub (story_after place old e r (story place (opening_of setup) h old run)) (slice_get new.units x.«unit»)) (sym a.2)
-      (happens-flows old.storage a.0 sub (slice_get old.units a.0.setup.«unit») (slice_get new.units a.0.setup.«unit») (story_after place old e r) a.3 a.2
-      (story place (opening_of setup) h old run) (held h old run place a.0 a.1) (held _ new (Stepped h old e r new run step) place sub at)
+      subst (λ (x : SubchannelSetup). Flows sub.setup.side sub (trace_after place old e r (trace place (opening_of setup) h old run)) (slice_get new.units x.«unit»)) (sym a.2)
+      (happens-flows old.storage a.0 sub (slice_get old.units a.0.setup.«unit») (slice_get new.units a.0.setup.«unit») (trace_after place old e r) a.3 a.2
+      (trace place (opening_of setup) h old run) (held h old run place a.0 a.1) (held _ new (Stepped h old e r new run step) place sub at)
       (run-linked laws.walks setup lawful (λ h s run. laws.above setup h s lawful run) (held-all setup held) h old run place a.0 a.1) (run-flows setup lawful held h old run place a.0 a.1))
 
   -- what it means
-  part-now : (k : Story) (b : Bool) → b ≡ true → AbsorbsInOrder k.orb k.now k.absorbed → AbsorbsInOrder k.orb (if b then k.now else k.before) k.absorbed
+  part-now : (k : ProgramTrace) (b : Bool) → b ≡ true → AbsorbsInOrder k.orb k.now k.absorbed → AbsorbsInOrder k.orb (if b then k.now else k.before) k.absorbed
   part-now k true e a = a
   part-now k false e a = absurd (cc e)
 
-  part-before : (k : Story) (b : Bool) → b ≡ false → AbsorbsInOrder k.orb k.before k.absorbed → AbsorbsInOrder k.orb (if b then k.now else k.before) k.absorbed
+  part-before : (k : ProgramTrace) (b : Bool) → b ≡ false → AbsorbsInOrder k.orb k.before k.absorbed → AbsorbsInOrder k.orb (if b then k.now else k.before) k.absorbed
   part-before k true e a = absurd (cc e)
   part-before k false e a = a
 
@@ -190,27 +190,27 @@ module _ (laws : AreLaws) (accesses : AreAccesses) where
       by true f = absurd (let g : n ≡ m = eqb-true n m f in omega (arith, e, g))
       by false f = refl
 
-  mode-absorbs : (side : Side) (begun : Option Begun) (k : Story) (downs : List (List Down)) (ups : List (List Up)) (u : UnitState) → HasWork begun k → Mode side begun k downs ups u →
+  mode-absorbs : (side : Side) (begun : Option ActiveProgram) (k : ProgramTrace) (downs : List (List Down)) (ups : List (List Up)) (u : UnitState) → HasWork begun k → Mode side begun k downs ups u →
       AbsorbsInOrder k.orb (part_of k) k.absorbed
   mode-absorbs side begun k downs ups u h (Waits b e n q y a w) = part-before k (length k.taken == k.sent) (not-same (length k.taken) k.sent n) a
   mode-absorbs side begun k downs ups u h (Over e n z a w) = part-now k (length k.taken == k.sent) (eq-eqb (length k.taken) k.sent n) a
   mode-absorbs side begun k downs ups u h (Reads b e n o z w) =
       part-now k (length k.taken == k.sent) (eq-eqb (length k.taken) k.sent n) (absorbs-none k.orb k.now k.absorbed z)
   mode-absorbs side begun k downs ups u h (Writes b e n o lead f w) =
-      let work : HasWork (Some b) k = subst (λ (x : Option Begun). HasWork x k) e h in
+      let work : HasWork (Some b) k = subst (λ (x : Option ActiveProgram). HasWork x k) e h in
       part-now k (length k.taken == k.sent) (eq-eqb (length k.taken) k.sent n) (flow-absorbs laws k b.transfer lead work.0.tied f)
 
-  course-absorbs : (side : Side) (begun : Option Begun) (k : Story) (downs : List (List Down)) (ups : List (List Up)) (u : UnitState) → HasWork begun k → Course side begun k downs ups u →
+  course-absorbs : (side : Side) (begun : Option ActiveProgram) (k : ProgramTrace) (downs : List (List Down)) (ups : List (List Up)) (u : UnitState) → HasWork begun k → Course side begun k downs ups u →
       AbsorbsInOrder k.orb (part_of k) k.absorbed
   course-absorbs side begun k downs ups u h (Follows m) = mode-absorbs side begun k downs ups u h m
   course-absorbs side begun k downs ups u h (Cut e b w m) = mode-absorbs side (Some b) k downs ups u w m
 
-  unit-absorbs : (sub : Subchannel) (k : Story) (u : Option UnitState) → HeldBy sub.state (Some k) → Flows sub.setup.side sub (Some k) u → AbsorbsInOrder k.orb (part_of k) k.absorbed
+  unit-absorbs : (sub : Subchannel) (k : ProgramTrace) (u : Option UnitState) → HeldBy sub.state (Some k) → Flows sub.setup.side sub (Some k) u → AbsorbsInOrder k.orb (part_of k) k.absorbed
   unit-absorbs sub k None h a = absurd a
   unit-absorbs sub k (Some u) h a = course-absorbs sub.setup.side sub.state.begun k sub.wires.down sub.wires.up u h.work a
 
-  pub run-absorbs : (setup : Setup) → IsLawful setup → AllHeld setup → (h : List Entry) (s : State) (run : Run (opening_of setup) h s) (place : ℕ) (sub : Subchannel) (k : Story) →
-      slice_get s.subs place ≡ Some sub → story place (opening_of setup) h s run ≡ Some k → AbsorbsInOrder k.orb (part_of k) k.absorbed
+  pub run-absorbs : (setup : Setup) → IsLawful setup → AllHeld setup → (h : List Entry) (s : State) (run : Run (opening_of setup) h s) (place : ℕ) (sub : Subchannel) (k : ProgramTrace) →
+      slice_get s.subs place ≡ Some sub → trace place (opening_of setup) h s run ≡ Some k → AbsorbsInOrder k.orb (part_of k) k.absorbed
   run-absorbs setup lawful held h s run place sub k at e =
-      unit-absorbs sub k (slice_get s.units sub.setup.«unit») (subst (λ (x : Option Story). HeldBy sub.state x) e (held h s run place sub at))
-      (subst (λ (x : Option Story). Flows sub.setup.side sub x (slice_get s.units sub.setup.«unit»)) e (run-flows setup lawful held h s run place sub at))
+      unit-absorbs sub k (slice_get s.units sub.setup.«unit») (subst (λ (x : Option ProgramTrace). HeldBy sub.state x) e (held h s run place sub at))
+      (subst (λ (x : Option ProgramTrace). Flows sub.setup.side sub x (slice_get s.units sub.setup.«unit»)) e (run-flows setup lawful held h s run place sub at))

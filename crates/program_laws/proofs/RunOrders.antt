@@ -19,7 +19,7 @@ use Rattle.subchannel_model.specs.declared.state.Subchannel.{Subchannel}
 use Rattle.machine_model.specs.State.{State, opening_of, idle_of}
 use Rattle.subchannel_model.specs.Opening.{opened}
 use Rattle.machine_model.specs.Steps.{Run, Opened, Stepped}
-use Rattle.program_laws.specs.Stories.{Story, story, story_after}
+use Rattle.program_laws.specs.Traces.{ProgramTrace, trace, trace_after}
 use Rattle.program_laws.specs.Claims.{codes, TakesInOrder}
 use Rattle.step_laws.specs.Walks.{AreWalks}
 use Rattle.machine_laws.specs.Agreeing.{AreAbove}
@@ -37,7 +37,7 @@ AllAbove setup = (h : List Entry) (s : State) → Run (opening_of setup) h s →
 
 abbrev pub AllNeeds : Setup → Type 0
 AllNeeds setup = (h : List Entry) (s : State) (run : Run (opening_of setup) h s) (place : ℕ) (sub : Subchannel) → slice_get s.subs place ≡ Some sub →
-    Needs (story place (opening_of setup) h s run) sub.state
+    Needs (trace place (opening_of setup) h s run) sub.state
 
 -- at the opening
 pub no-signal : {A : Type 0} (n p : ℕ) → queue {A = A} (replicate n []) p ≡ []
@@ -90,22 +90,22 @@ opens-linked setup lawful place sub e =
 
 -- after a run
 pub run-linked : AreWalks → (setup : Setup) → IsLawful setup → AllAbove setup → AllNeeds setup → (h : List Entry) (s : State) (run : Run (opening_of setup) h s) (place : ℕ) (sub : Subchannel) →
-    slice_get s.subs place ≡ Some sub → AtUnit (IsLinked sub.setup.side sub.state.drawn sub.wires.down (story place (opening_of setup) h s run)) (slice_get s.units sub.setup.«unit»)
+    slice_get s.subs place ≡ Some sub → AtUnit (IsLinked sub.setup.side sub.state.drawn sub.wires.down (trace place (opening_of setup) h s run)) (slice_get s.units sub.setup.«unit»)
 run-linked walks setup lawful above needs _ _ Opened place sub e = opens-linked setup lawful place sub e
 run-linked walks setup lawful above needs _ _ (Stepped h old e r new run step) place sub at =
     let a = step-happens old (run-one-sided walks setup lawful h old run) place e r new (walks old e r new step) sub at in
-    subst (λ (x : SubchannelSetup). AtUnit (IsLinked sub.setup.side sub.state.drawn sub.wires.down (story_after place old e r (story place (opening_of setup) h old run))) (slice_get new.units x.«unit»)) (sym a.2)
-    (happens-linked old.storage a.0 sub (slice_get old.units a.0.setup.«unit») (slice_get new.units a.0.setup.«unit») (story_after place old e r) a.3 a.2
-    (λ x g p r b front takes. above h old run place a.0 x p r b a.1 g front takes) (story place (opening_of setup) h old run) (needs h old run place a.0 a.1) (needs _ new (Stepped h old e r new run step) place sub at)
+    subst (λ (x : SubchannelSetup). AtUnit (IsLinked sub.setup.side sub.state.drawn sub.wires.down (trace_after place old e r (trace place (opening_of setup) h old run))) (slice_get new.units x.«unit»)) (sym a.2)
+    (happens-linked old.storage a.0 sub (slice_get old.units a.0.setup.«unit») (slice_get new.units a.0.setup.«unit») (trace_after place old e r) a.3 a.2
+    (λ x g p r b front takes. above h old run place a.0 x p r b a.1 g front takes) (trace place (opening_of setup) h old run) (needs h old run place a.0 a.1) (needs _ new (Stepped h old e r new run step) place sub at)
     (run-linked walks setup lawful above needs h old run place a.0 a.1))
 
-linked-takes : (side : Side) (drawn : ℕ) (wires : List (List Down)) (k : Story) (u : Option UnitState) → AtUnit (IsLinked side drawn wires (Some k)) u → TakesInOrder k
+linked-takes : (side : Side) (drawn : ℕ) (wires : List (List Down)) (k : ProgramTrace) (u : Option UnitState) → AtUnit (IsLinked side drawn wires (Some k)) u → TakesInOrder k
 linked-takes side drawn wires k None l = absurd l
 linked-takes side drawn wires k (Some u) l =
     (reverse l.later, sym (reverse-append l.later k.taken) ∙ ap reverse (sym l.order) ∙ reverse-reverse (codes k.earlier k.orb k.now.acts))
 
-pub run-takes : AreWalks → (setup : Setup) → IsLawful setup → AllAbove setup → AllNeeds setup → (h : List Entry) (s : State) (run : Run (opening_of setup) h s) (place : ℕ) (sub : Subchannel) (k : Story) →
-    slice_get s.subs place ≡ Some sub → story place (opening_of setup) h s run ≡ Some k → TakesInOrder k
+pub run-takes : AreWalks → (setup : Setup) → IsLawful setup → AllAbove setup → AllNeeds setup → (h : List Entry) (s : State) (run : Run (opening_of setup) h s) (place : ℕ) (sub : Subchannel) (k : ProgramTrace) →
+    slice_get s.subs place ≡ Some sub → trace place (opening_of setup) h s run ≡ Some k → TakesInOrder k
 run-takes walks setup lawful above needs h s run place sub k at e =
     linked-takes sub.setup.side sub.state.drawn sub.wires.down k (slice_get s.units sub.setup.«unit»)
-    (subst (λ (x : Option Story). AtUnit (IsLinked sub.setup.side sub.state.drawn sub.wires.down x) (slice_get s.units sub.setup.«unit»)) e (run-linked walks setup lawful above needs h s run place sub at))
+    (subst (λ (x : Option ProgramTrace). AtUnit (IsLinked sub.setup.side sub.state.drawn sub.wires.down x) (slice_get s.units sub.setup.«unit»)) e (run-linked walks setup lawful above needs h s run place sub at))

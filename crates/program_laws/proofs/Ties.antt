@@ -14,19 +14,19 @@ use Rattle.channel_program.specs.declared.Advance.TheVariants as advance
 use Rattle.channel_program.specs.declared.Reading.TheVariants.{Takes}
 use Rattle.channel_program.specs.Acts.{Act, Word}
 use Rattle.channel_program.specs.Programs.{IsProgram, Command, role_of, next, commands, commands_after, join_last, code}
-use Rattle.channel_program.specs.Walks.{Place, place, after_acts, advance_acts, advance_of}
+use Rattle.channel_program.specs.Walks.{WalkPlace, walk_place, after_acts, advance_acts, advance_of}
 use Rattle.idaw.specs.declared.ListKind.{ListKind}
 use Rattle.idaw.specs.declared.WordFault.{WordFault}
 use Rattle.idaw.specs.declared.WordFault.TheVariants.{LeftmostBit, OffBlock, OutsideStorage}
 use Rattle.idaw.specs.Lists.{block, kind_of, word_fault, has_leftmost_bit, is_outside}
-use Rattle.idaw.specs.Places.{Reach, place_of, each_below, places, with_word, covered}
+use Rattle.idaw.specs.Places.{Reach, place_of_byte, each_below, places_of_bytes, reach_with_word, covered}
 use Rattle.data_move.specs.Moving as movement
-use Rattle.data_move.specs.Moving.{Moving, begun, with_piece, moved, next_place, needs_word, residual, uses_list, room, IsAt, MayFetch}
+use Rattle.data_move.specs.Moving.{Moving, moving_begun, with_piece, moved, next_place, needs_word, residual, uses_list, room, IsAt, MayFetch}
 use Rattle.data_move.specs.Accesses as access
 use Rattle.transfer.specs.declared.Transfer.{Transfer}
-use Rattle.transfer.specs.declared.Came.{Came}
-use Rattle.transfer.specs.declared.Came.TheVariants as came
-use Rattle.transfer.specs.Commands.{is_skipped, command_of, begins, goes_to, with_located, located, begun_with_room, with_room, brings}
+use Rattle.transfer.specs.declared.CommandStart.{CommandStart}
+use Rattle.transfer.specs.declared.CommandStart.TheVariants as came
+use Rattle.transfer.specs.Commands.{is_skipped, transfer_of, command_begins, goes_to, with_located, located_transfer, begun_with_room, with_room, brings}
 use Rattle.ccw_codec.specs.Command.{class_of}
 use Rattle.transfer.specs.Chunks.{with_moved}
 use Rattle.step_laws.specs.Walks.{AreWalks}
@@ -36,8 +36,8 @@ use Rattle.channel_config.specs.Lawful.{IsLawful}
 use Rattle.channel_config.specs.Setup.{Setup}
 use Rattle.machine_model.specs.State.{State, opening_of}
 use Rattle.machine_model.specs.Steps.{Run}
-use Rattle.program_laws.specs.Reaches.{reach, reaches, reaches_after, reaches_with, word_after, counts}
-use Rattle.program_laws.specs.Doings.{act_of_word, word_acts, located_acts, room_acts}
+use Rattle.program_laws.specs.DataAreas.{reach, data_areas, reaches_after, reaches_with, word_after, counts}
+use Rattle.program_laws.specs.CommandActs.{act_of_word, word_acts, located_acts, room_acts}
 use Rattle.program_laws.specs.Claims.{IsBeginning}
 use Rattle.program_laws.proofs.Lists.{some-begin, length-places, length-each_below}
 use Rattle.program_laws.proofs.Advances.{Went, advance-went}
@@ -46,16 +46,16 @@ use Rattle.program_laws.proofs.Advances.{Went, advance-went}
 pub record AreLaws : Type 0 where
   pub walks : AreWalks
   pub above : (setup : Setup) (h : List Entry) (s : State) → IsLawful setup → Run (opening_of setup) h s → AreAbove s
-  pub begins : (kind : ListKind) (ccw : Ccw) (skipped : Bool) → IsAt (record { ccw = ccw; skipped = skipped; words = [] }) (begun kind ccw skipped)
-  pub word : (r : Reach) (m : Moving) (word : ℕ) → IsAt r m → MayFetch m word → IsAt (with_word r word) (with_piece m word)
+  pub begins : (kind : ListKind) (ccw : Ccw) (skipped : Bool) → IsAt (record { ccw = ccw; skipped = skipped; words = [] }) (moving_begun kind ccw skipped)
+  pub word : (r : Reach) (m : Moving) (word : ℕ) → IsAt r m → MayFetch m word → IsAt (reach_with_word r word) (with_piece m word)
   pub stays : (r : Reach) (m : Moving) (word : ℕ) → IsAt r m → uses_list m ≡ true →
-      each_below (place_of (block m.kind) (with_word r word)) m.done ≡ each_below (place_of (block m.kind) r) m.done
+      each_below (place_of_byte (block m.kind) (reach_with_word r word)) m.done ≡ each_below (place_of_byte (block m.kind) r) m.done
   pub moved : (r : Reach) (m : Moving) (n : ℕ) → IsAt r m → n ≤ m.left → IsAt r (movement.moved m n)
   pub places : (r : Reach) (m : Moving) (n : ℕ) → IsAt r m → n ≤ m.left →
-      each_below (place_of (block m.kind) r) m.done ++ each_below (next_place m) n ≡ each_below (place_of (block m.kind) r) (m.done + n)
-  pub leads : (orb : Orb) (before acts : List Act) → after_acts (place orb before) acts ≡ place orb (acts ++ before)
-  pub stands : (storage : Contents) (old : Place) → IsSome (advance_of old (advance_acts storage old)) ↔ IsSome old.next
-  pub goes : (storage : Contents) (orb : Orb) (before : List Act) → IsProgram orb before → IsProgram orb (advance_acts storage (place orb before) ++ before)
+      each_below (place_of_byte (block m.kind) r) m.done ++ each_below (next_place m) n ≡ each_below (place_of_byte (block m.kind) r) (m.done + n)
+  pub leads : (orb : Orb) (before acts : List Act) → after_acts (walk_place orb before) acts ≡ walk_place orb (acts ++ before)
+  pub stands : (storage : Contents) (old : WalkPlace) → IsSome (advance_of old (advance_acts storage old)) ↔ IsSome old.next
+  pub goes : (storage : Contents) (orb : Orb) (before : List Act) → IsProgram orb before → IsProgram orb (advance_acts storage (walk_place orb before) ++ before)
 
 -- the command at work has this code
 abbrev pub HasCode : List Command → ℕ → Type 0
@@ -73,7 +73,7 @@ pub record IsStuck (r : Reach) (t : Transfer) : Type 0 where
 abbrev pub IsMovedTo : Orb → List Reach → Transfer → List (Option ℕ) → Type 0
 IsMovedTo orb [] t ps = ⊥
 IsMovedTo orb (r ∷ rs) t ps =
-    (IsAt r t.moving ⊎ IsStuck r t) × (ps ≡ places (block (kind_of orb)) rs ++ each_below (place_of (block (kind_of orb)) r) t.moving.done)
+    (IsAt r t.moving ⊎ IsStuck r t) × (ps ≡ places_of_bytes (block (kind_of orb)) rs ++ each_below (place_of_byte (block (kind_of orb)) r) t.moving.done)
 
 -- a change of what isn't told of
 pub spot-changed : (orb : Orb) (rs : List Reach) (t u : Transfer) (ps : List (Option ℕ)) → u.moving ≡ t.moving → (is_some t.fault ≡ true → is_some u.fault ≡ true) →
@@ -90,7 +90,7 @@ spot-changed orb (r ∷ rs) t u ps m f k = (
           fault = f a.fault;
         })
   ],
-  k.1 ∙ ap (λ (x : Moving). places (block (kind_of orb)) rs ++ each_below (place_of (block (kind_of orb)) r) x.done) (sym m),
+  k.1 ∙ ap (λ (x : Moving). places_of_bytes (block (kind_of orb)) rs ++ each_below (place_of_byte (block (kind_of orb)) r) x.done) (sym m),
 )
 
 -- how many bytes there are
@@ -116,7 +116,7 @@ ccw-of r t (inl a) = a.ccw
 ccw-of r t (inr a) = a.ccw
 
 -- so the places are a beginning of the command's, and the count is right
-pub spot-begins : (orb : Orb) (rs : List Reach) (t : Transfer) (ps : List (Option ℕ)) → IsMovedTo orb rs t ps → IsBeginning ps (places (block (kind_of orb)) rs)
+pub spot-begins : (orb : Orb) (rs : List Reach) (t : Transfer) (ps : List (Option ℕ)) → IsMovedTo orb rs t ps → IsBeginning ps (places_of_bytes (block (kind_of orb)) rs)
 spot-begins orb [] t ps k = absurd k
 spot-begins orb (r ∷ rs) t ps k = some-begin (block (kind_of orb)) r rs t.moving.done ps (done-within r t k.0) k.1
 
@@ -124,10 +124,10 @@ pub spot-counts : (orb : Orb) (rs : List Reach) (t : Transfer) (ps : List (Optio
 spot-counts orb [] t ps k = absurd k
 spot-counts orb (r ∷ rs) t ps k =
     let b : ℕ = block (kind_of orb) in
-    let e : length ps ≡ length (places b rs) + length (each_below (place_of b r) t.moving.done) =
-    ap length k.1 ∙ length-append (places b rs) (each_below (place_of b r) t.moving.done) in
-    let f : length (each_below (place_of b r) t.moving.done) ≡ t.moving.done = length-each_below (place_of b r) t.moving.done in
-    let g : length (places b rs) ≡ counts rs = length-places b rs in
+    let e : length ps ≡ length (places_of_bytes b rs) + length (each_below (place_of_byte b r) t.moving.done) =
+    ap length k.1 ∙ length-append (places_of_bytes b rs) (each_below (place_of_byte b r) t.moving.done) in
+    let f : length (each_below (place_of_byte b r) t.moving.done) ≡ t.moving.done = length-each_below (place_of_byte b r) t.moving.done in
+    let g : length (places_of_bytes b rs) ≡ counts rs = length-places b rs in
     let h : t.moving.done ≤ r.ccw.count = done-within r t k.0 in
     let same : t.moving.ccw.count ≡ r.ccw.count = ap (λ (x : Ccw). x.count) (ccw-of r t k.0) in
     omega (arith, e, f, g, h, same)
@@ -135,13 +135,13 @@ spot-counts orb (r ∷ rs) t ps k =
 -- so many commands were sent under earlier numbers
 module _ (earlier : ℕ) where
   pub record Tied (orb : Orb) (acts : List Act) (ps : List (Option ℕ)) (t : Transfer) : Type 0 where
-    pub walk : t.walk ≡ place orb acts
+    pub walk : t.walk ≡ walk_place orb acts
     pub program : IsProgram orb acts
     pub stands : is_some t.fault ≡ false → next orb acts ≡ None
     pub chained : is_some t.fault ≡ false → (role_of orb acts).chained ≡ t.moving.ccw.chain_data
     pub coded : HasCode (commands orb acts) t.code
     pub kind : t.moving.kind ≡ kind_of orb
-    pub spot : IsMovedTo orb (reaches orb acts) t ps
+    pub spot : IsMovedTo orb (data_areas orb acts) t ps
     pub number : length (commands orb acts) ≡ earlier + t.command
 
   pub changed : (orb : Orb) (acts : List Act) (ps : List (Option ℕ)) (t u : Transfer) → u.walk ≡ t.walk → u.moving ≡ t.moving → u.code ≡ t.code → u.command ≡ t.command →
@@ -153,7 +153,7 @@ module _ (earlier : ℕ) where
     chained = λ e. k.chained (f e) ∙ ap (λ (x : Moving). x.ccw.chain_data) (sym m);
     coded = subst (λ (x : ℕ). HasCode (commands orb acts) x) (sym c) k.coded;
     kind = ap (λ (x : Moving). x.kind) m ∙ k.kind;
-    spot = spot-changed orb (reaches orb acts) t u ps m g k.spot;
+    spot = spot-changed orb (data_areas orb acts) t u ps m g k.spot;
     number = k.number ∙ ap (λ (x : ℕ). earlier + x) (sym n);
   }
 
@@ -162,34 +162,34 @@ module _ (earlier : ℕ) where
 
   module _ (laws : AreLaws) where
     -- a command begins, or can't, or the program is suspended where one may begin
-    abbrev pub Begins : Orb → List Act → List Act → ℕ → Came → Type 0
+    abbrev pub Begins : Orb → List Act → List Act → ℕ → CommandStart → Type 0
     Begins orb before acts n (came.Begins t) =
         Tied orb acts [] t × (t.command ≡ n) × ((c : Command) × (commands orb acts ≡ c ∷ commands orb before) × (code c ≡ t.code))
     Begins orb before acts n came.Suspends =
-        IsProgram orb acts × (reaches orb acts ≡ reaches orb before) × (commands orb acts ≡ commands orb before) × ((role_of orb acts).chained ≡ false)
+        IsProgram orb acts × (data_areas orb acts ≡ data_areas orb before) × (commands orb acts ≡ commands orb before) × ((role_of orb acts).chained ≡ false)
     Begins orb before acts n (came.Stops check) =
-        IsProgram orb acts × (reaches orb acts ≡ reaches orb before) × (commands orb acts ≡ commands orb before)
+        IsProgram orb acts × (data_areas orb acts ≡ data_areas orb before) × (commands orb acts ≡ commands orb before)
 
-    taken-begins : (orb : Orb) (before acts : List Act) (walk : Place) (n : ℕ) (ccw : Ccw) → walk ≡ place orb acts →
+    taken-begins : (orb : Orb) (before acts : List Act) (walk : WalkPlace) (n : ℕ) (ccw : Ccw) → walk ≡ walk_place orb acts →
         (role_of orb before).chained ≡ false → length (commands orb before) + 1 ≡ earlier + n → IsProgram orb acts →
         commands orb acts ≡ commands_after (role_of orb before).chained (commands orb before) (Takes ccw) →
-        reaches orb acts ≡ reaches_after (role_of orb before).chained (commands orb before) (reaches orb before) (Takes ccw) → next orb acts ≡ None →
-        (role_of orb acts).chained ≡ ccw.chain_data → Begins orb before acts n (came.Begins (command_of walk n ccw))
+        data_areas orb acts ≡ reaches_after (role_of orb before).chained (commands orb before) (data_areas orb before) (Takes ccw) → next orb acts ≡ None →
+        (role_of orb acts).chained ≡ ccw.chain_data → Begins orb before acts n (came.Begins (transfer_of walk n ccw))
     taken-begins orb before acts walk n ccw w c l p f g h i =
         let cs : List Command = commands orb before in
         let commanded : commands orb acts ≡ record { first = ccw; more = [] } ∷ cs =
         f ∙ ap (λ (x : Bool). if x then join_last cs ccw else record { first = ccw; more = [] } ∷ cs) c in
-        let reached : reaches orb acts ≡ reach ccw.command ccw ∷ [] =
-        g ∙ ap (λ (x : Bool). reaches_with x cs (reaches orb before) ccw) c in (
+        let reached : data_areas orb acts ≡ reach ccw.command ccw ∷ [] =
+        g ∙ ap (λ (x : Bool). reaches_with x cs (data_areas orb before) ccw) c in (
           record {
             walk = w;
             program = p;
             stands = λ z. h;
             chained = λ z. i;
             coded = subst (λ (xs : List Command). HasCode xs ccw.command) (sym commanded) refl;
-            kind = ap (λ (x : Place). kind_of x.orb) w;
+            kind = ap (λ (x : WalkPlace). kind_of x.orb) w;
             spot =
-                subst (λ (rs : List Reach). IsMovedTo orb rs (command_of walk n ccw) []) (sym reached)
+                subst (λ (rs : List Reach). IsMovedTo orb rs (transfer_of walk n ccw) []) (sym reached)
                 (inl (laws.begins (kind_of walk.orb) ccw (is_skipped ccw.command ccw)), refl);
             number = ap length commanded ∙ (let z : suc (length cs) ≡ length cs + 1 = omega arith in z) ∙ l;
           },
@@ -197,19 +197,19 @@ module _ (earlier : ℕ) where
           (record { first = ccw; more = [] }, commanded, refl),
         )
 
-    advance-begins : (orb : Orb) (before acts : List Act) (walk : Place) (n : ℕ) (a : Option Advance) → walk ≡ place orb acts → (role_of orb before).chained ≡ false →
+    advance-begins : (orb : Orb) (before acts : List Act) (walk : WalkPlace) (n : ℕ) (a : Option Advance) → walk ≡ walk_place orb acts → (role_of orb before).chained ≡ false →
         length (commands orb before) + 1 ≡ earlier + n → IsProgram orb acts →
-        Went (role_of orb before).chained (commands orb before) (commands orb acts) (reaches orb before) (reaches orb acts) (next orb acts) (role_of orb acts) a →
-        Begins orb before acts n (begins walk n a)
+        Went (role_of orb before).chained (commands orb before) (commands orb acts) (data_areas orb before) (data_areas orb acts) (next orb acts) (role_of orb acts) a →
+        Begins orb before acts n (command_begins walk n a)
     advance-begins orb before acts walk n (Some (advance.Takes ccw)) w c l p k = taken-begins orb before acts walk n ccw w c l p k.0 k.1 k.2 k.3
     advance-begins orb before acts walk n (Some advance.Suspends) w c l p k = (p, k.1, k.0, k.2 ∙ c)
     advance-begins orb before acts walk n (Some (advance.Stops check)) w c l p k = (p, k.1, k.0)
     advance-begins orb before acts walk n None w c l p k = (p, k.1, k.0)
 
     pub goes-begins : (storage : Contents) (orb : Orb) (before : List Act) (n : ℕ) → (role_of orb before).chained ≡ false → length (commands orb before) + 1 ≡ earlier + n →
-        IsProgram orb before → Begins orb before (advance_acts storage (place orb before) ++ before) n (goes_to storage n (place orb before)).came
+        IsProgram orb before → Begins orb before (advance_acts storage (walk_place orb before) ++ before) n (goes_to storage n (walk_place orb before)).came
     goes-begins storage orb before n c l p =
-        let old : Place = place orb before in
+        let old : WalkPlace = walk_place orb before in
         advance-begins orb before (advance_acts storage old ++ before) (after_acts old (advance_acts storage old)) n (advance_of old (advance_acts storage old))
         (laws.leads orb before (advance_acts storage old)) c l (laws.goes storage orb before p) (advance-went storage orb before)
 
@@ -247,9 +247,9 @@ module _ (earlier : ℕ) where
     }
 
     same-places : (orb : Orb) (r : Reach) (m : Moving) (word : ℕ) → m.kind ≡ kind_of orb → IsAt r m → needs_word m ≡ true →
-        each_below (place_of (block (kind_of orb)) r) m.done ≡ each_below (place_of (block (kind_of orb)) (with_word r word)) m.done
+        each_below (place_of_byte (block (kind_of orb)) r) m.done ≡ each_below (place_of_byte (block (kind_of orb)) (reach_with_word r word)) m.done
     same-places orb r m word e a n =
-        subst (λ (x : ListKind). each_below (place_of (block x) r) m.done ≡ each_below (place_of (block x) (with_word r word)) m.done) e
+        subst (λ (x : ListKind). each_below (place_of_byte (block x) r) m.done ≡ each_below (place_of_byte (block x) (reach_with_word r word)) m.done) e
         (sym (laws.stays r m word a (list-used (uses_list m) r m refl a n)))
 
     wrong-spot : (orb : Orb) (rs : List Reach) (t : Transfer) (ps : List (Option ℕ)) (word : ℕ) → t.moving.kind ≡ kind_of orb → is_some t.fault ≡ false →
@@ -264,7 +264,7 @@ module _ (earlier : ℕ) where
               within = done-within r t (inl a);
               fault = refl;
             }),
-            k.1 ∙ ap (λ (xs : List (Option ℕ)). places (block (kind_of orb)) rs ++ xs) (same-places orb r t.moving word e a n),
+            k.1 ∙ ap (λ (xs : List (Option ℕ)). places_of_bytes (block (kind_of orb)) rs ++ xs) (same-places orb r t.moving word e a n),
           )
           | inr a ↦ absurd (cc (sym a.fault ∙ f))
         ]
@@ -277,7 +277,7 @@ module _ (earlier : ℕ) where
         elim k.0 [
           | inl a ↦ (
             inl (laws.word r t.moving word a (may-fetch r t.moving word size a n w)),
-            k.1 ∙ ap (λ (xs : List (Option ℕ)). places (block (kind_of orb)) rs ++ xs) (same-places orb r t.moving word e a n),
+            k.1 ∙ ap (λ (xs : List (Option ℕ)). places_of_bytes (block (kind_of orb)) rs ++ xs) (same-places orb r t.moving word e a n),
           )
           | inr a ↦ absurd (cc (sym a.fault ∙ f))
         ]
@@ -292,7 +292,7 @@ module _ (earlier : ℕ) where
       chained = k.chained;
       coded = k.coded;
       kind = k.kind;
-      spot = right-spot orb (reaches orb acts) t ps word size k.kind f n e k.spot;
+      spot = right-spot orb (data_areas orb acts) t ps word size k.kind f n e k.spot;
       number = k.number;
     }
     right-tied orb acts ps t word size (Some fault) e f n k = record {
@@ -302,7 +302,7 @@ module _ (earlier : ℕ) where
       chained = λ z. absurd (cc z);
       coded = k.coded;
       kind = k.kind;
-      spot = wrong-spot orb (reaches orb acts) t ps word k.kind f n k.spot;
+      spot = wrong-spot orb (data_areas orb acts) t ps word k.kind f n k.spot;
       number = k.number;
     }
 
@@ -325,7 +325,7 @@ module _ (earlier : ℕ) where
     fault-tied storage orb acts ps t false f k = need-tied storage orb acts ps t (needs_word t.moving) refl f k
 
     pub located-tied : (storage : Contents) (orb : Orb) (acts : List Act) (ps : List (Option ℕ)) (t : Transfer) → Tied orb acts ps t →
-        Tied orb (located_acts storage t ++ acts) ps (located storage t)
+        Tied orb (located_acts storage t ++ acts) ps (located_transfer storage t)
     located-tied storage orb acts ps t k = fault-tied storage orb acts ps t (is_some t.fault) refl k
 
     -- so it is where the command begins
@@ -347,13 +347,13 @@ module _ (earlier : ℕ) where
         let m : Moving = t.moving in
         elim k.0 [
           | inl a ↦
-              let more : each_below (place_of b r) m.done ++ each_below (next_place m) n ≡ each_below (place_of b r) (m.done + n) =
-              subst (λ (x : ListKind). each_below (place_of (block x) r) m.done ++ each_below (next_place m) n ≡ each_below (place_of (block x) r) (m.done + n)) e
+              let more : each_below (place_of_byte b r) m.done ++ each_below (next_place m) n ≡ each_below (place_of_byte b r) (m.done + n) =
+              subst (λ (x : ListKind). each_below (place_of_byte (block x) r) m.done ++ each_below (next_place m) n ≡ each_below (place_of_byte (block x) r) (m.done + n)) e
               (laws.places r m n a l) in (
                 inl (laws.moved r m n a l),
                 ap (λ (xs : List (Option ℕ)). xs ++ each_below (next_place m) n) k.1
-                    ∙ append_assoc (places b rs) (each_below (place_of b r) m.done) (each_below (next_place m) n)
-                    ∙ ap (λ (xs : List (Option ℕ)). places b rs ++ xs) more,
+                    ∙ append_assoc (places_of_bytes b rs) (each_below (place_of_byte b r) m.done) (each_below (next_place m) n)
+                    ∙ ap (λ (xs : List (Option ℕ)). places_of_bytes b rs ++ xs) more,
               )
           | inr a ↦
               let z : n ≡ 0 = let h : m.left ≡ 0 = a.left in omega (arith, l, h) in
@@ -366,7 +366,7 @@ module _ (earlier : ℕ) where
                   fault = a.fault;
                 }),
                 ap (λ (x : ℕ). ps ++ each_below (next_place m) x) z ∙ append-nil ps ∙ k.1
-                    ∙ ap (λ (x : ℕ). places b rs ++ each_below (place_of b r) x) (sym done),
+                    ∙ ap (λ (x : ℕ). places_of_bytes b rs ++ each_below (place_of_byte b r) x) (sym done),
               )
         ]
 
@@ -379,6 +379,6 @@ module _ (earlier : ℕ) where
       chained = k.chained;
       coded = k.coded;
       kind = k.kind;
-      spot = moved-spot orb (reaches orb acts) t ps n k.kind l k.spot;
+      spot = moved-spot orb (data_areas orb acts) t ps n k.kind l k.spot;
       number = k.number;
     }

@@ -3,14 +3,14 @@ use Rattle.std.proofs.Common.{◌≡◌, subst, ◌+◌, Option, None, Some, Lis
 use Rattle.chan_events.specs.declared.reply.Entry.{Entry}
 use Rattle.channel_config.specs.Lawful.{IsLawful}
 use Rattle.channel_config.specs.Setup.{Setup}
-use Rattle.subchannel_model.specs.declared.state.Begun.{Begun}
+use Rattle.subchannel_model.specs.declared.state.ActiveProgram.{ActiveProgram}
 use Rattle.machine_model.specs.State.{State, opening_of}
 use Rattle.machine_model.specs.Steps.{Run}
 use Rattle.scsw_irb.specs.declared.scsw.Scsw.{Scsw}
 use Rattle.data_move.specs.Moving.{residual}
-use Rattle.program_laws.specs.Reaches.{reaches, counts}
-use Rattle.program_laws.specs.Stories.{Story, story}
-use Rattle.program_laws.specs.Claims.{IsCounted, AllTold}
+use Rattle.program_laws.specs.DataAreas.{data_areas, counts}
+use Rattle.program_laws.specs.Traces.{ProgramTrace, trace}
+use Rattle.program_laws.specs.Claims.{IsCountShown, AllTold}
 use Rattle.program_laws.proofs.Ties.{AreLaws, spot-counts}
 use Rattle.program_laws.proofs.Accesses.{AreAccesses}
 use Rattle.program_laws.proofs.Parts.{IsDone}
@@ -22,27 +22,27 @@ use Rattle.program_laws.proofs.Choices.{IsKept, KeptBy, kept-held, run-held}
 use Rattle.program_laws.proofs.RunFlows.{AllHeld, run-absorbs}
 
 -- the count that is shown
-work-counts : (scsw : Scsw) (b : Option Begun) (k : Story) → HasWork b k → IsCounted scsw b k
+work-counts : (scsw : Scsw) (b : Option ActiveProgram) (k : ProgramTrace) → HasWork b k → IsCountShown scsw b k
 work-counts scsw None k w = tt
 work-counts scsw (Some b) k w =
-    let c : counts (reaches k.orb k.now.acts) ≡ length k.now.moved + residual b.transfer.moving =
-    spot-counts k.orb (reaches k.orb k.now.acts) b.transfer k.now.moved w.0.tied.spot in
+    let c : counts (data_areas k.orb k.now.acts) ≡ length k.now.moved + residual b.transfer.moving =
+    spot-counts k.orb (data_areas k.orb k.now.acts) b.transfer k.now.moved w.0.tied.spot in
     λ status more tried check. (c, c, c)
 
 module _ (laws : AreLaws) (accesses : AreAccesses) where
   all-held : (setup : Setup) → IsLawful setup → AllHeld laws accesses setup
   all-held setup lawful h s run place sub e =
-      let k : Option Story = story place (opening_of setup) h s run in
+      let k : Option ProgramTrace = trace place (opening_of setup) h s run in
       kept-held sub.state k (run-held laws accesses setup lawful h s run place sub e)
 
   all-needs : (setup : Setup) → IsLawful setup → AllNeeds setup
   all-needs setup lawful h s run place sub e =
-      let k : Option Story = story place (opening_of setup) h s run in
+      let k : Option ProgramTrace = trace place (opening_of setup) h s run in
       held-needs k sub.state (all-held setup lawful h s run place sub e)
 
   pub run-told : (setup : Setup) → IsLawful setup → (h : List Entry) (s : State) (run : Run (opening_of setup) h s) → AllTold (opening_of setup) h s run
   run-told setup lawful h s run place sub k e f =
-      let kept : IsKept sub.state k = subst (λ (x : Option Story). KeptBy sub.state x) f (run-held laws accesses setup lawful h s run place sub e) in
+      let kept : IsKept sub.state k = subst (λ (x : Option ProgramTrace). KeptBy sub.state x) f (run-held laws accesses setup lawful h s run place sub e) in
       let done : IsDone k.orb k.now = done-held sub.state k kept.0 in (
         record {
           program = done.program;

@@ -25,8 +25,8 @@ use Rattle.chan_model.specs.UnitTable.{UnitStep, unit_takes}
 use Rattle.chan_model.specs.UnitReports.{unit_reports}
 use Rattle.wires.specs.Queues.{queue}
 use Rattle.subchannel_model.specs.declared.state.Chosen.{Chosen}
-use Rattle.subchannel_model.specs.declared.state.Chosen.TheVariants.{Idle, Resets, Clears, Halts, Ends, Over, Offers}
-use Rattle.subchannel_model.specs.declared.state.Pmcw.{Pmcw}
+use Rattle.subchannel_model.specs.declared.state.Chosen.TheVariants.{Idle, Resets, PerformsClear, Halts, PerformsHalt, FindsNoPath, Offers}
+use Rattle.subchannel_model.specs.declared.state.PmcwState.{PmcwState}
 use Rattle.subchannel_model.specs.declared.state.Subchannel.{Subchannel}
 use Rattle.subchannel_model.specs.declared.state.SubchannelState.{SubchannelState}
 use Rattle.machine_model.specs.State.{State, place_of}
@@ -49,7 +49,7 @@ use Rattle.machine_model.specs.DownSteps.{down_front, down_sub}
 use Rattle.machine_model.specs.ReportSteps.{report_taken, report_sub}
 use Rattle.step_laws.specs.Walks as walked
 use Rattle.step_laws.specs.Walks.{Walked, IsQuiet, Suits, OneSub, OneUnit, Function, effect_of}
-use Rattle.program_laws.specs.Stories.{Story, is_place, chosen_at, met_at, taken_at, reported_at, story_after}
+use Rattle.program_laws.specs.Traces.{ProgramTrace, is_place, chosen_at, met_at, taken_at, reported_at, trace_after}
 use Rattle.step_laws.proofs.Places.{same-or-not, get-set, get-other}
 
 -- no two subchannels reach the same side of a unit
@@ -58,34 +58,34 @@ IsOneSided s = (i j : ℕ) (x y : Subchannel) → slice_get s.subs i ≡ Some x 
     same_side x.setup.side y.setup.side ≡ true → i ≡ j
 
 -- what becomes of a subchannel, of its unit and of the story of its program
-pub data Happening (storage : Contents) (old new : Subchannel) (u v : Option UnitState) (f : Option Story → Option Story) : Type 0 where
-  Stays : new ≡ old → v ≡ u → ((k : Option Story) → f k ≡ k) → Happening storage old new u v f
+pub data PlaceStep (storage : Contents) (old new : Subchannel) (u v : Option UnitState) (f : Option ProgramTrace → Option ProgramTrace) : Type 0 where
+  Stays : new ≡ old → v ≡ u → ((k : Option ProgramTrace) → f k ≡ k) → PlaceStep storage old new u v f
   -- instructions
-  Starts_with_orb : (orb : Orb) → new ≡ with_state old (started old.state orb) → v ≡ u → ((k : Option Story) → f k ≡ k) → Happening storage old new u v f
-  Is_tested : new ≡ with_state old (tested_wholly old.state) → v ≡ u → ((k : Option Story) → f k ≡ k) → Happening storage old new u v f
-  Is_resumed : new ≡ with_state old (resumed old.state) → v ≡ u → ((k : Option Story) → f k ≡ k) → Happening storage old new u v f
-  Is_halted : new ≡ with_state old (halted old.state) → v ≡ u → ((k : Option Story) → f k ≡ k) → Happening storage old new u v f
-  Is_cleared : new ≡ with_state old (cleared old.state) → v ≡ u → ((k : Option Story) → f k ≡ k) → Happening storage old new u v f
-  Is_cancelled : new ≡ with_state old (cancelled old.state) → v ≡ u → ((k : Option Story) → f k ≡ k) → Happening storage old new u v f
-  Is_modified : (pmcw : Pmcw) → new ≡ with_state old (record old.state { pmcw = pmcw }) → v ≡ u → ((k : Option Story) → f k ≡ k) → Happening storage old new u v f
+  Starts_with_orb : (orb : Orb) → new ≡ with_state old (started old.state orb) → v ≡ u → ((k : Option ProgramTrace) → f k ≡ k) → PlaceStep storage old new u v f
+  Is_tested : new ≡ with_state old (tested_wholly old.state) → v ≡ u → ((k : Option ProgramTrace) → f k ≡ k) → PlaceStep storage old new u v f
+  Is_resumed : new ≡ with_state old (resumed old.state) → v ≡ u → ((k : Option ProgramTrace) → f k ≡ k) → PlaceStep storage old new u v f
+  Is_halted : new ≡ with_state old (halted old.state) → v ≡ u → ((k : Option ProgramTrace) → f k ≡ k) → PlaceStep storage old new u v f
+  Is_cleared : new ≡ with_state old (cleared old.state) → v ≡ u → ((k : Option ProgramTrace) → f k ≡ k) → PlaceStep storage old new u v f
+  Is_cancelled : new ≡ with_state old (cancelled old.state) → v ≡ u → ((k : Option ProgramTrace) → f k ≡ k) → PlaceStep storage old new u v f
+  Is_modified : (pmcw : PmcwState) → new ≡ with_state old (record old.state { pmcw = pmcw }) → v ≡ u → ((k : Option ProgramTrace) → f k ≡ k) → PlaceStep storage old new u v f
   -- the subsystem chooses a path
   Is_chosen : (choice : Option ℕ) (t : SubTurn) → Suits (chosen old choice) old.state → choose_sub old (chosen old choice) ≡ Ok t → new ≡ t.sub → v ≡ u →
-      ((k : Option Story) → f k ≡ chosen_at (Some old) t.reply k) → Happening storage old new u v f
+      ((k : Option ProgramTrace) → f k ≡ chosen_at (Some old) t.reply k) → PlaceStep storage old new u v f
   -- a signal comes up
   Meets : (path : ℕ) (returns : Bool) (t : UpTurn) → up_sub returns storage old path ≡ Ok t → new ≡ t.sub → v ≡ u →
-      ((k : Option Story) → f k ≡ met_at storage (Some old) path k) → Happening storage old new u v f
+      ((k : Option ProgramTrace) → f k ≡ met_at storage (Some old) path k) → PlaceStep storage old new u v f
   -- a signal goes down
   Sinks : (path : ℕ) (may : Bool) (x : UnitState) (t : DownTurn) → u ≡ Some x → down_sub may old path x ≡ Ok t → new ≡ t.sub → v ≡ Some t.«unit» →
-      ((k : Option Story) → f k ≡ taken_at t.reply k) → Happening storage old new u v f
+      ((k : Option ProgramTrace) → f k ≡ taken_at t.reply k) → PlaceStep storage old new u v f
   -- the unit takes its device's answer
   Is_reported : (report : Report) (x : UnitState) (t : DownTurn) → u ≡ Some x → same_side old.setup.side report.side ≡ true → report_sub old x report ≡ Ok t →
-      new ≡ t.sub → v ≡ Some t.«unit» → ((k : Option Story) → f k ≡ reported_at (Some x) report k) → Happening storage old new u v f
+      new ≡ t.sub → v ≡ Some t.«unit» → ((k : Option ProgramTrace) → f k ≡ reported_at (Some x) report k) → PlaceStep storage old new u v f
   -- the unit does the same for the subchannel on its other side
   Other_sinks : (other : Subchannel) (path : ℕ) (may : Bool) (x : UnitState) (t : DownTurn) → same_side other.setup.side old.setup.side ≡ false → u ≡ Some x →
-      down_sub may other path x ≡ Ok t → new ≡ old → v ≡ Some t.«unit» → ((k : Option Story) → f k ≡ k) → Happening storage old new u v f
+      down_sub may other path x ≡ Ok t → new ≡ old → v ≡ Some t.«unit» → ((k : Option ProgramTrace) → f k ≡ k) → PlaceStep storage old new u v f
   Other_reported : (other : Subchannel) (report : Report) (x : UnitState) (t : DownTurn) → same_side other.setup.side old.setup.side ≡ false → u ≡ Some x →
-      same_side other.setup.side report.side ≡ true → report_sub other x report ≡ Ok t → new ≡ old → v ≡ Some t.«unit» → ((k : Option Story) → f k ≡ k) →
-      Happening storage old new u v f
+      same_side other.setup.side report.side ≡ true → report_sub other x report ≡ Ok t → new ≡ old → v ≡ Some t.«unit» → ((k : Option ProgramTrace) → f k ≡ k) →
+      PlaceStep storage old new u v f
 
 pub if-ok : {A : Type 0} (P : A → Type 0) (b : Bool) (x y : Result A Fault) → IfOk x P → IfOk y P → IfOk (if b then x else y) P
 if-ok P true x y e f = e
@@ -98,10 +98,10 @@ send-setup sub state path signal r = if-ok (λ t. t.sub.setup ≡ sub.setup) (is
 choose-setup : (sub : Subchannel) (c : Chosen) → IfOk (choose_sub sub c) (λ t. t.sub.setup ≡ sub.setup)
 choose-setup sub Idle = refl
 choose-setup sub (Resets r path) = send-setup sub _ path (down.Reset r sub.state.hold.known) (reply.ResetSent r path)
-choose-setup sub Clears = refl
+choose-setup sub PerformsClear = refl
 choose-setup sub (Halts t path) = send-setup sub _ path (down.Halt t) (reply.HaltSent t path)
-choose-setup sub Ends = refl
-choose-setup sub Over = refl
+choose-setup sub PerformsHalt = refl
+choose-setup sub FindsNoPath = refl
 choose-setup sub (Offers c path) = send-setup sub _ path (down.Select (sub.state.drawn + 1)) (reply.Offered (sub.state.drawn + 1) path c.resumes)
 
 up_front-setup : (returns : Bool) → (storage : Contents) (sub : Subchannel) (path : ℕ) (front : Option Up) → IfOk (up_front returns storage sub path front) (λ t. t.sub.setup ≡ sub.setup)
@@ -125,7 +125,7 @@ report-setup sub None = tt
 report-setup sub (Some step) = if-ok (λ t. t.sub.setup ≡ sub.setup) (finds_full sub.wires.up step.sent) _ _ tt refl
 
 -- an event that tells nothing
-quiet-story : (place : ℕ) (s : State) (e : Event) (r : Reply) → IsQuiet e r → (k : Option Story) → story_after place s e r k ≡ k
+quiet-story : (place : ℕ) (s : State) (e : Event) (r : Reply) → IsQuiet e r → (k : Option ProgramTrace) → trace_after place s e r k ≡ k
 quiet-story place s (event.Put address bytes) r q k = refl
 quiet-story place s (event.SetKey address key) r q k = refl
 quiet-story place s (event.SetPrefix cpu address) r q k = refl
@@ -138,27 +138,27 @@ quiet-story place s (event.Report at report) r q k = absurd q
 
 module _ (s : State) (one : IsOneSided s) (place : ℕ) where
   -- what there is at the place after a step, and what was before
-  abbrev At : State → (Option Story → Option Story) → Type 0
+  abbrev At : State → (Option ProgramTrace → Option ProgramTrace) → Type 0
   At new f = (x : Subchannel) → slice_get new.subs place ≡ Some x →
       (sub : Subchannel) × (slice_get s.subs place ≡ Some sub) × (x.setup ≡ sub.setup)
-      × Happening s.storage sub x (slice_get s.units sub.setup.«unit») (slice_get new.units sub.setup.«unit») f
+      × PlaceStep s.storage sub x (slice_get s.units sub.setup.«unit») (slice_get new.units sub.setup.«unit») f
 
   -- the event at a place, and at another
-  here : (p : Option ℕ) (at : ℕ) (f : Option Story → Option Story) → p ≡ Some at → (at == place) ≡ true → (k : Option Story) → (if is_place p place then f k else k) ≡ f k
+  here : (p : Option ℕ) (at : ℕ) (f : Option ProgramTrace → Option ProgramTrace) → p ≡ Some at → (at == place) ≡ true → (k : Option ProgramTrace) → (if is_place p place then f k else k) ≡ f k
   here p at f n e k = ap (λ (b : Bool). if b then f k else k) (ap (λ (q : Option ℕ). is_place q place) n ∙ e)
 
-  elsewhere : (p : Option ℕ) (at : ℕ) (f : Option Story → Option Story) → p ≡ Some at → (at == place) ≡ false → (k : Option Story) → (if is_place p place then f k else k) ≡ k
+  elsewhere : (p : Option ℕ) (at : ℕ) (f : Option ProgramTrace → Option ProgramTrace) → p ≡ Some at → (at == place) ≡ false → (k : Option ProgramTrace) → (if is_place p place then f k else k) ≡ k
   elsewhere p at f n e k = ap (λ (b : Bool). if b then f k else k) (ap (λ (q : Option ℕ). is_place q place) n ∙ e)
 
   -- the subchannels stay
-  stays : (new : State) (f : Option Story → Option Story) → new.subs ≡ s.subs → new.units ≡ s.units → ((k : Option Story) → f k ≡ k) → At new f
+  stays : (new : State) (f : Option ProgramTrace → Option ProgramTrace) → new.subs ≡ s.subs → new.units ≡ s.units → ((k : Option ProgramTrace) → f k ≡ k) → At new f
   stays new f subs units same x e =
       (x, ap (λ (xs : List Subchannel). slice_get xs place) (sym subs) ∙ e, refl, Stays refl (ap (λ (us : List UnitState). slice_get us x.setup.«unit») units) same)
 
   -- one subchannel
-  sub-turns : (new : State) (at : ℕ) (sub after : Subchannel) (f : Option Story → Option Story) → OneSub s new at sub after → after.setup ≡ sub.setup →
-      (slice_get s.subs place ≡ Some sub → (at == place) ≡ true → Happening s.storage sub after (slice_get s.units sub.setup.«unit») (slice_get s.units sub.setup.«unit») f) →
-      ((at == place) ≡ false → (k : Option Story) → f k ≡ k) → At new f
+  sub-turns : (new : State) (at : ℕ) (sub after : Subchannel) (f : Option ProgramTrace → Option ProgramTrace) → OneSub s new at sub after → after.setup ≡ sub.setup →
+      (slice_get s.subs place ≡ Some sub → (at == place) ≡ true → PlaceStep s.storage sub after (slice_get s.units sub.setup.«unit») (slice_get s.units sub.setup.«unit») f) →
+      ((at == place) ≡ false → (k : Option ProgramTrace) → f k ≡ k) → At new f
   sub-turns new at sub after f o kept mine other x h =
       let g : slice_get (slice_set s.subs at after) place ≡ Some x = subst (λ (xs : List Subchannel). slice_get xs place ≡ Some x) o.subs h in
       elim (same-or-not at place) [
@@ -169,16 +169,16 @@ module _ (s : State) (one : IsOneSided s) (place : ℕ) where
               sub,
               there,
               ap (λ (z : Subchannel). z.setup) same ∙ kept,
-              subst (λ (z : Subchannel). Happening s.storage sub z (slice_get s.units sub.setup.«unit») (slice_get new.units sub.setup.«unit») f) (sym same)
-                  (subst (λ (us : List UnitState). Happening s.storage sub after (slice_get s.units sub.setup.«unit») (slice_get us sub.setup.«unit») f) (sym o.units) (mine there w.1)),
+              subst (λ (z : Subchannel). PlaceStep s.storage sub z (slice_get s.units sub.setup.«unit») (slice_get new.units sub.setup.«unit») f) (sym same)
+                  (subst (λ (us : List UnitState). PlaceStep s.storage sub after (slice_get s.units sub.setup.«unit») (slice_get us sub.setup.«unit») f) (sym o.units) (mine there w.1)),
             )
         | inr w ↦
             (x, sym (get-other s.subs at after place (λ n. w.0 (sym n))) ∙ g, refl, Stays refl (ap (λ (us : List UnitState). slice_get us x.setup.«unit») o.units) (other w.1))
       ]
 
   quiet-turns : (new : State) (e : Event) (r : Reply) (at : ℕ) (sub after : Subchannel) → OneSub s new at sub after → after.setup ≡ sub.setup → IsQuiet e r →
-      Happening s.storage sub after (slice_get s.units sub.setup.«unit») (slice_get s.units sub.setup.«unit») (story_after place s e r) → At new (story_after place s e r)
-  quiet-turns new e r at sub after o kept q mine = sub-turns new at sub after (story_after place s e r) o kept (λ there w. mine) (λ w. quiet-story place s e r q)
+      PlaceStep s.storage sub after (slice_get s.units sub.setup.«unit») (slice_get s.units sub.setup.«unit») (trace_after place s e r) → At new (trace_after place s e r)
+  quiet-turns new e r at sub after o kept q mine = sub-turns new at sub after (trace_after place s e r) o kept (λ there w. mine) (λ w. quiet-story place s e r q)
 
   -- another subchannel of the same unit is on its other side
   other-side : (at : ℕ) (sub x : Subchannel) → slice_get s.subs at ≡ Some sub → slice_get s.subs place ≡ Some x → at ≢ place → sub.setup.«unit» ≡ x.setup.«unit» →
@@ -190,10 +190,10 @@ module _ (s : State) (one : IsOneSided s) (place : ℕ) where
       by false w = w
 
   -- one subchannel and its unit
-  unit-turns : (new : State) (at i : ℕ) (sub after : Subchannel) (u v : UnitState) (f : Option Story → Option Story) → OneUnit s new at sub after i u v → i ≡ sub.setup.«unit» →
-      after.setup ≡ sub.setup → ((at == place) ≡ true → Happening s.storage sub after (Some u) (Some v) f) →
-      ((x : Subchannel) → same_side sub.setup.side x.setup.side ≡ false → (at == place) ≡ false → Happening s.storage x x (Some u) (Some v) f) →
-      ((at == place) ≡ false → (k : Option Story) → f k ≡ k) → At new f
+  unit-turns : (new : State) (at i : ℕ) (sub after : Subchannel) (u v : UnitState) (f : Option ProgramTrace → Option ProgramTrace) → OneUnit s new at sub after i u v → i ≡ sub.setup.«unit» →
+      after.setup ≡ sub.setup → ((at == place) ≡ true → PlaceStep s.storage sub after (Some u) (Some v) f) →
+      ((x : Subchannel) → same_side sub.setup.side x.setup.side ≡ false → (at == place) ≡ false → PlaceStep s.storage x x (Some u) (Some v) f) →
+      ((at == place) ≡ false → (k : Option ProgramTrace) → f k ≡ k) → At new f
   unit-turns new at i sub after u v f o its kept mine theirs other x h =
       let g : slice_get (slice_set s.subs at after) place ≡ Some x = subst (λ (xs : List Subchannel). slice_get xs place ≡ Some x) o.subs h in
       let now : slice_get new.units i ≡ Some v = subst (λ (us : List UnitState). slice_get us i ≡ Some v) (sym o.units) (get-set s.units i u v o.found) in
@@ -205,10 +205,10 @@ module _ (s : State) (one : IsOneSided s) (place : ℕ) where
               sub,
               there,
               ap (λ (z : Subchannel). z.setup) same ∙ kept,
-              subst (λ (z : Subchannel). Happening s.storage sub z (slice_get s.units sub.setup.«unit») (slice_get new.units sub.setup.«unit») f) (sym same)
-                  (subst (λ (j : ℕ). Happening s.storage sub after (slice_get s.units j) (slice_get new.units j) f) its
-                  (subst (λ (q : Option UnitState). Happening s.storage sub after q (slice_get new.units i) f) (sym o.found)
-                  (subst (λ (q : Option UnitState). Happening s.storage sub after (Some u) q f) (sym now) (mine w.1)))),
+              subst (λ (z : Subchannel). PlaceStep s.storage sub z (slice_get s.units sub.setup.«unit») (slice_get new.units sub.setup.«unit») f) (sym same)
+                  (subst (λ (j : ℕ). PlaceStep s.storage sub after (slice_get s.units j) (slice_get new.units j) f) its
+                  (subst (λ (q : Option UnitState). PlaceStep s.storage sub after q (slice_get new.units i) f) (sym o.found)
+                  (subst (λ (q : Option UnitState). PlaceStep s.storage sub after (Some u) q f) (sym now) (mine w.1)))),
             )
         | inr w ↦
             let was : slice_get s.subs place ≡ Some x = sym (get-other s.subs at after place (λ n. w.0 (sym n))) ∙ g in
@@ -217,9 +217,9 @@ module _ (s : State) (one : IsOneSided s) (place : ℕ) where
                 x,
                 was,
                 refl,
-                subst (λ (j : ℕ). Happening s.storage x x (slice_get s.units j) (slice_get new.units j) f) same.0
-                    (subst (λ (q : Option UnitState). Happening s.storage x x q (slice_get new.units i) f) (sym o.found)
-                    (subst (λ (q : Option UnitState). Happening s.storage x x (Some u) q f) (sym now) (theirs x (other-side at sub x o.there was w.0 (sym its ∙ same.0)) w.1))),
+                subst (λ (j : ℕ). PlaceStep s.storage x x (slice_get s.units j) (slice_get new.units j) f) same.0
+                    (subst (λ (q : Option UnitState). PlaceStep s.storage x x q (slice_get new.units i) f) (sym o.found)
+                    (subst (λ (q : Option UnitState). PlaceStep s.storage x x (Some u) q f) (sym now) (theirs x (other-side at sub x o.there was w.0 (sym its ∙ same.0)) w.1))),
               )
               | inr l ↦ (
                 x,
@@ -230,42 +230,42 @@ module _ (s : State) (one : IsOneSided s) (place : ℕ) where
             ]
       ]
 
-  start-turns : (e : Event) (r : Reply) (new : State) (at : ℕ) (sub : Subchannel) (orb : Orb) (c : ConditionCode) → ((k : Option Story) → story_after place s e r k ≡ k) →
-      OneSub s new at sub (function_sub sub c (started sub.state orb)).sub → At new (story_after place s e r)
+  start-turns : (e : Event) (r : Reply) (new : State) (at : ℕ) (sub : Subchannel) (orb : Orb) (c : ConditionCode) → ((k : Option ProgramTrace) → trace_after place s e r k ≡ k) →
+      OneSub s new at sub (function_sub sub c (started sub.state orb)).sub → At new (trace_after place s e r)
   start-turns e r new at sub orb code.Zero q o = sub-turns new at sub _ _ o refl (λ there w. Starts_with_orb orb refl refl q) (λ w. q)
   start-turns e r new at sub orb code.One q o = sub-turns new at sub _ _ o refl (λ there w. Stays refl refl q) (λ w. q)
   start-turns e r new at sub orb code.Two q o = sub-turns new at sub _ _ o refl (λ there w. Stays refl refl q) (λ w. q)
   start-turns e r new at sub orb code.Three q o = sub-turns new at sub _ _ o refl (λ there w. Stays refl refl q) (λ w. q)
 
-  test-turns : (e : Event) (r : Reply) (new : State) (at : ℕ) (sub : Subchannel) (c : ConditionCode) → IsQuiet e r → OneSub s new at sub (test_with sub c).sub → At new (story_after place s e r)
+  test-turns : (e : Event) (r : Reply) (new : State) (at : ℕ) (sub : Subchannel) (c : ConditionCode) → IsQuiet e r → OneSub s new at sub (test_with sub c).sub → At new (trace_after place s e r)
   test-turns e r new at sub code.Zero q o = quiet-turns new e r at sub _ o refl q (Is_tested refl refl (quiet-story place s e r q))
   test-turns e r new at sub code.One q o = quiet-turns new e r at sub _ o refl q (Stays refl refl (quiet-story place s e r q))
   test-turns e r new at sub code.Two q o = quiet-turns new e r at sub _ o refl q (Stays refl refl (quiet-story place s e r q))
   test-turns e r new at sub code.Three q o = quiet-turns new e r at sub _ o refl q (Stays refl refl (quiet-story place s e r q))
 
   modify-turns : (e : Event) (r : Reply) (new : State) (at : ℕ) (sub : Subchannel) (given : block.Pmcw) (c : ConditionCode) → IsQuiet e r → OneSub s new at sub (function_sub sub c (modified_state sub given)).sub →
-      At new (story_after place s e r)
+      At new (trace_after place s e r)
   modify-turns e r new at sub given code.Zero q o = quiet-turns new e r at sub _ o refl q (Is_modified _ refl refl (quiet-story place s e r q))
   modify-turns e r new at sub given code.One q o = quiet-turns new e r at sub _ o refl q (Stays refl refl (quiet-story place s e r q))
   modify-turns e r new at sub given code.Two q o = quiet-turns new e r at sub _ o refl q (Stays refl refl (quiet-story place s e r q))
   modify-turns e r new at sub given code.Three q o = quiet-turns new e r at sub _ o refl q (Stays refl refl (quiet-story place s e r q))
 
-  effect : (f : Function) (sub : Subchannel) (g : Option Story → Option Story) → ((k : Option Story) → g k ≡ k) →
-      Happening s.storage sub (with_state sub (effect_of f sub.state)) (slice_get s.units sub.setup.«unit») (slice_get s.units sub.setup.«unit») g
+  effect : (f : Function) (sub : Subchannel) (g : Option ProgramTrace → Option ProgramTrace) → ((k : Option ProgramTrace) → g k ≡ k) →
+      PlaceStep s.storage sub (with_state sub (effect_of f sub.state)) (slice_get s.units sub.setup.«unit») (slice_get s.units sub.setup.«unit») g
   effect walked.Resumes sub g q = Is_resumed refl refl q
   effect walked.Halts sub g q = Is_halted refl refl q
   effect walked.Clears sub g q = Is_cleared refl refl q
   effect walked.Cancels sub g q = Is_cancelled refl refl q
 
   perform-turns : (e : Event) (r : Reply) (new : State) (at : ℕ) (sub : Subchannel) (f : Function) (c : ConditionCode) → IsQuiet e r →
-      OneSub s new at sub (function_sub sub c (effect_of f sub.state)).sub → At new (story_after place s e r)
-  perform-turns e r new at sub f code.Zero q o = quiet-turns new e r at sub _ o refl q (effect f sub (story_after place s e r) (quiet-story place s e r q))
+      OneSub s new at sub (function_sub sub c (effect_of f sub.state)).sub → At new (trace_after place s e r)
+  perform-turns e r new at sub f code.Zero q o = quiet-turns new e r at sub _ o refl q (effect f sub (trace_after place s e r) (quiet-story place s e r q))
   perform-turns e r new at sub f code.One q o = quiet-turns new e r at sub _ o refl q (Stays refl refl (quiet-story place s e r q))
   perform-turns e r new at sub f code.Two q o = quiet-turns new e r at sub _ o refl q (Stays refl refl (quiet-story place s e r q))
   perform-turns e r new at sub f code.Three q o = quiet-turns new e r at sub _ o refl q (Stays refl refl (quiet-story place s e r q))
 
-  step-turns : (e : Event) (r : Reply) (new : State) → Walked s e r new → At new (story_after place s e r)
-  step-turns _ _ _ (walked.Stays e r new q sets subs units) = stays new (story_after place s e r) subs units (quiet-story place s e r q)
+  step-turns : (e : Event) (r : Reply) (new : State) → Walked s e r new → At new (trace_after place s e r)
+  step-turns _ _ _ (walked.Stays e r new q sets subs units) = stays new (trace_after place s e r) subs units (quiet-story place s e r q)
   step-turns _ _ _ (walked.Started cpu word address at sub orb c new n o) = start-turns (event.Execute cpu (instruction.Ssch word address)) (function_sub sub c (started sub.state orb)).reply new at sub orb c (λ k. refl) o
   step-turns _ _ _ (walked.Tested e r at sub c new q o) = test-turns e r new at sub c q o
   step-turns _ _ _ (walked.Modified e r at sub given c new q o) = modify-turns e r new at sub given c q o
@@ -297,5 +297,5 @@ module _ (s : State) (one : IsOneSided s) (place : ℕ) where
 
   pub step-happens : (e : Event) (r : Reply) (new : State) → Walked s e r new → (x : Subchannel) → slice_get new.subs place ≡ Some x →
       (sub : Subchannel) × (slice_get s.subs place ≡ Some sub) × (x.setup ≡ sub.setup)
-      × Happening s.storage sub x (slice_get s.units sub.setup.«unit») (slice_get new.units sub.setup.«unit») (story_after place s e r)
+      × PlaceStep s.storage sub x (slice_get s.units sub.setup.«unit») (slice_get new.units sub.setup.«unit») (trace_after place s e r)
   step-happens e r new w = step-turns e r new w

@@ -12,10 +12,10 @@ use Rattle.chan_model.specs.declared.unit_state.AtHand.{AtHand}
 use Rattle.chan_model.specs.declared.unit_state.Progress.{Progress}
 use Rattle.chan_model.specs.declared.unit_state.Progress.TheVariants as progress
 use Rattle.chan_model.specs.Loads.{load_length}
-use Rattle.chan_model.specs.UnitTable.{kept, with_given, with_answer, new_command}
-use Rattle.channel_program.specs.Acts.{Chunk}
+use Rattle.chan_model.specs.UnitTable.{kept_bytes, with_given, at_hand_answered, new_command}
+use Rattle.channel_program.specs.Acts.{PlacedBytes}
 use Rattle.idaw.specs.Places.{each_below}
-use Rattle.program_laws.specs.Claims.{IsFirstOf, first_of}
+use Rattle.program_laws.specs.Claims.{IsFirstOf, first_bytes}
 use Rattle.data_move.proofs.ListLemmas.{each_below_add}
 use Rattle.program_laws.proofs.Lists.{length-each_below}
 
@@ -26,7 +26,7 @@ pub record View : Type 0 where
   pub next : ℕ → Option ℕ
   pub room : ℕ
   pub moved : List (Option ℕ)
-  pub copied : List Chunk
+  pub copied : List PlacedBytes
 
 -- by how many bytes the device is ahead, where it is
 abbrev pub lead_places : View → Option ℕ → List (Option ℕ)
@@ -39,7 +39,7 @@ IsLead v (Some j) = j ≤ v.room
 
 -- bytes of a chunk that was copied from the next places
 pub record IsGood (v : View) (bytes : List ℕ) : Type 0 where
-  pub chunk : Chunk
+  pub chunk : PlacedBytes
   pub there : Contains v.copied chunk
   pub same : chunk.bytes ≡ bytes
   pub places : chunk.places ≡ each_below v.next (length bytes)
@@ -65,7 +65,7 @@ pub data Hand (v : View) (lead : Option ℕ) (x : AtHand) : Type 0 where
 
 -- what was absorbed is the first bytes of chunks that were copied, from the places that were moved, and those ahead
 pub record Flow (v : View) (absorbed : List ℕ) (lead : Option ℕ) : Type 0 where
-  pub chunks : List Chunk
+  pub chunks : List PlacedBytes
   pub firsts : All (IsFirstOf v.copied) chunks
   pub bytes : flat_map (λ c. c.bytes) chunks ≡ absorbed
   pub places : flat_map (λ c. c.places) chunks ≡ lead_places v lead
@@ -79,7 +79,7 @@ pub begins-hand : (v : View) (code room : ℕ) → v.seq ≡ 0 → Hand v None (
 begins-hand v code room e = Level (sym e) refl refl
 
 -- Give
-kept-good : (v : View) (bs bytes : List ℕ) → (bs ≡ []) ⊎ IsGood v bs → kept bs ≡ Some bytes → IsGood v bytes
+kept-good : (v : View) (bs bytes : List ℕ) → (bs ≡ []) ⊎ IsGood v bs → kept_bytes bs ≡ Some bytes → IsGood v bytes
 kept-good v [] bytes g e = absurd (cc e)
 kept-good v (b ∷ bs) bytes (inl z) e = absurd (cc z)
 kept-good v (b ∷ bs) bytes (inr g) e = let same : (b ∷ bs) ≡ bytes = cc e in subst (IsGood v) same g
@@ -92,7 +92,7 @@ give-hand v lead x s bytes (Pending q a l p) k e = absurd (omega (arith, k.0, e,
 give-hand v lead x s bytes (Ahead q g j l a b) k e = absurd (omega (arith, k.0, e, q))
 
 -- Took
-pub answer-hand : (v : View) (lead : Option ℕ) (x : AtHand) (l : Load) (room : ℕ) → Hand v lead x → Hand v lead (with_answer x l room)
+pub answer-hand : (v : View) (lead : Option ℕ) (x : AtHand) (l : Load) (room : ℕ) → Hand v lead x → Hand v lead (at_hand_answered x l room)
 answer-hand v lead x l room (Level q g m) = Level q g m
 answer-hand v lead x l room (Pending q a m p) = Pending q refl m p
 answer-hand v lead x l room (Ahead q g j m a b) = Ahead q g j m (λ y e. absurd (cc e)) b
@@ -110,13 +110,13 @@ take-below f k n l =
     ∙ take-append-le k (each_below f k) (each_below (λ i. f (k + i)) (n - k)) len
     ∙ take-all k (each_below f k) long
 
-more-of : {B : Type 0} (f : Chunk → List B) (cs : List Chunk) (c : Chunk) → flat_map f (cs ++ c ∷ []) ≡ flat_map f cs ++ f c
+more-of : {B : Type 0} (f : PlacedBytes → List B) (cs : List PlacedBytes) (c : PlacedBytes) → flat_map f (cs ++ c ∷ []) ≡ flat_map f cs ++ f c
 more-of f cs c = flat_map-append f cs (c ∷ []) ∙ ap (λ xs. flat_map f cs ++ xs) (append-nil (f c))
 
 -- Absorbed
 pub absorbs-flow : (v : View) (absorbed bytes : List ℕ) (count : ℕ) → IsGood v bytes → count ≤ length bytes → Flow v absorbed None → Flow v (absorbed ++ take count bytes) (Some count)
 absorbs-flow v absorbed bytes count g l k =
-    let c : Chunk = first_of g.chunk count in
+    let c : PlacedBytes = first_bytes g.chunk count in
     let firsts : take count g.chunk.places ≡ each_below v.next count = ap (take count) g.places ∙ take-below v.next count (length bytes) l in
     record {
       chunks = k.chunks ++ c ∷ [];
@@ -142,9 +142,9 @@ answered-hand v w j x e (Pending q a l p) = absurd (cc l)
 answered-hand v w j x e (Ahead q g i l a b) = Level (q ∙ sym e) g refl
 
 abbrev pub AreCopied : View → View → Type 0
-AreCopied v w = (c : Chunk) → Contains v.copied c → Contains w.copied c
+AreCopied v w = (c : PlacedBytes) → Contains v.copied c → Contains w.copied c
 
-firsts-wider : (v w : View) (chunks : List Chunk) → AreCopied v w → All (IsFirstOf v.copied) chunks → All (IsFirstOf w.copied) chunks
+firsts-wider : (v w : View) (chunks : List PlacedBytes) → AreCopied v w → All (IsFirstOf v.copied) chunks → All (IsFirstOf w.copied) chunks
 firsts-wider v w chunks f a = All-weaker (IsFirstOf v.copied) (IsFirstOf w.copied) (λ c k. (k.0, k.1, f k.0 k.2, k.3)) chunks a
 
 pub answered-flow : (v w : View) (absorbed : List ℕ) (j : ℕ) → AreCopied v w → w.moved ≡ v.moved ++ each_below v.next j → Flow v absorbed (Some j) → Flow w absorbed None

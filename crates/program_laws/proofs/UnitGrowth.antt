@@ -23,26 +23,26 @@ use Rattle.channel_program.specs.declared.Reading.TheVariants.{Transfers, Takes,
 use Rattle.channel_program.specs.Acts.{Act, Block, Unfetched, Used_up, End, Word}
 use Rattle.channel_program.specs.Blocks.{reads}
 use Rattle.channel_program.specs.Programs.{Command, join_last, commands_after, commands, code, role_of}
-use Rattle.channel_program.specs.Walks.{Place, place}
+use Rattle.channel_program.specs.Walks.{WalkPlace, walk_place}
 use Rattle.transfer.specs.declared.Transfer.{Transfer}
-use Rattle.transfer.specs.declared.Came.{Came}
-use Rattle.transfer.specs.declared.Came.TheVariants as came
-use Rattle.transfer.specs.Commands.{first_command, next_command, located, has_stopped}
-use Rattle.transfer.specs.Chunks.{with_moved, chains_data, with_answer, absorbed, fitting, brought, is_answered}
-use Rattle.subchannel_model.specs.declared.state.Begun.{Begun}
+use Rattle.transfer.specs.declared.CommandStart.{CommandStart}
+use Rattle.transfer.specs.declared.CommandStart.TheVariants as came
+use Rattle.transfer.specs.Commands.{first_command, next_command, located_transfer, has_stopped}
+use Rattle.transfer.specs.Chunks.{with_moved, chains_data, with_answer, taken_by_device, fitting, brought, is_answered}
+use Rattle.subchannel_model.specs.declared.state.ActiveProgram.{ActiveProgram}
 use Rattle.subchannel_model.specs.declared.state.Program.{Program}
-use Rattle.subchannel_model.specs.declared.state.Standing.{Standing}
+use Rattle.subchannel_model.specs.declared.state.ProgramPosition.{ProgramPosition}
 use Rattle.subchannel_model.specs.declared.state.SubchannelState.{SubchannelState}
 use Rattle.subchannel_model.specs.Ends.{has_status_modifier, chains_command}
-use Rattle.subchannel_model.specs.Taking.{goes_ahead, bytes_of}
-use Rattle.program_laws.specs.Doings.{Part, no_part, with_acts, with_places, moved_on, answered, with_copy, copying, giving, gives, with_arrival, storing, arriving, takes_in, located_acts, chained_acts, chunk_of, first_acts, next_acts}
-use Rattle.program_laws.specs.Stories.{Story, past_part, goes_on, begins, begins_anew, begins_again, again_as, begins_as, accepted_at, accepted, moves, answers, chains, ends, meets}
+use Rattle.subchannel_model.specs.Taking.{goes_ahead, bytes_of_load}
+use Rattle.program_laws.specs.CommandActs.{CommandTrace, no_trace, with_acts, with_places, trace_moved_on, trace_answered, with_copy, copying, trace_giving, gives, with_arrival, storing, arriving, takes_in, located_acts, chained_acts, chunk_of, first_acts, next_acts}
+use Rattle.program_laws.specs.Traces.{ProgramTrace, past_part, trace_goes_on, trace_begins, begins_anew, begins_again, again_as, begins_as, accepted_at, trace_accepted, moves, answers, chains, trace_ends, trace_meets}
 
 -- the codes of the commands after the earlier ones, the latest first
 abbrev pub later_codes : ℕ → List ℕ → List ℕ
 later_codes earlier cs = reverse (drop earlier (reverse cs))
 
-abbrev pub codes_of : Story → List ℕ
+abbrev pub codes_of : ProgramTrace → List ℕ
 codes_of k = later_codes k.earlier (map code (commands k.orb k.now.acts))
 
 pub later-length : (earlier : ℕ) (cs : List ℕ) → length (later_codes earlier cs) ≡ length cs - earlier
@@ -104,79 +104,79 @@ later-adds earlier xs ys a =
       | inr l ↦ (a.0, ap (λ (cs : List ℕ). later_codes earlier cs) a.1 ∙ later-more earlier a.0 xs l)
     ]
 
-codes-add : (k : Story) (acts : List Act) → Adds (codes_of k) (later_codes k.earlier (map code (commands k.orb (acts ++ k.now.acts))))
+codes-add : (k : ProgramTrace) (acts : List Act) → Adds (codes_of k) (later_codes k.earlier (map code (commands k.orb (acts ++ k.now.acts))))
 codes-add k acts =
     later-adds k.earlier (map code (commands k.orb k.now.acts)) (map code (commands k.orb (acts ++ k.now.acts))) (acts-add k.orb acts k.now.acts)
 
 -- parts whose acts grew
-abbrev pub IsOn : Part → Part → Type 0
+abbrev pub IsOn : CommandTrace → CommandTrace → Type 0
 IsOn k new = (more : List Act) × (new.acts ≡ more ++ k.acts)
 
-on-same : (k new : Part) → new.acts ≡ k.acts → IsOn k new
+on-same : (k new : CommandTrace) → new.acts ≡ k.acts → IsOn k new
 on-same k new e = ([], e)
 
-on-then : (x y z : Part) → IsOn x y → IsOn y z → IsOn x z
+on-then : (x y z : CommandTrace) → IsOn x y → IsOn y z → IsOn x z
 on-then x y z a b = (b.0 ++ a.0, b.1 ∙ ap (λ (l : List Act). b.0 ++ l) a.1 ∙ sym (append_assoc b.0 a.0 x.acts))
 
-if-on : (k : Part) (c : Bool) (x y : Part) → IsOn k x → IsOn k y → IsOn k (if c then x else y)
+if-on : (k : CommandTrace) (c : Bool) (x y : CommandTrace) → IsOn k x → IsOn k y → IsOn k (if c then x else y)
 if-on k true x y e f = e
 if-on k false x y e f = f
 
-moved_on-on : (storage : Contents) (t : Transfer) (n : ℕ) (k : Part) → IsOn k (moved_on storage t n k)
+moved_on-on : (storage : Contents) (t : Transfer) (n : ℕ) (k : CommandTrace) → IsOn k (trace_moved_on storage t n k)
 moved_on-on storage t n k = if-on k (chains_data (with_moved t n) n) _ _ (chained_acts storage (with_moved t n), refl) (on-same k (with_places k t.moving n) refl)
 
-answered-on : (storage : Contents) (t : Transfer) (s count : ℕ) (k : Part) → IsOn k (answered storage t s count k)
+answered-on : (storage : Contents) (t : Transfer) (s count : ℕ) (k : CommandTrace) → IsOn k (trace_answered storage t s count k)
 answered-on storage t s count k = if-on k (s == t.sequence + 1) _ k (moved_on-on storage (with_answer t s count) _ k) (on-same k k refl)
 
-with_copy-on : (storage : Contents) (t : Transfer) (r : Result (List ℕ) Check) (k : Part) → IsOn k (with_copy storage t r k)
+with_copy-on : (storage : Contents) (t : Transfer) (r : Result (List ℕ) Check) (k : CommandTrace) → IsOn k (with_copy storage t r k)
 with_copy-on storage t (Ok bytes) k = on-same k (record k { copied = chunk_of storage t.moving bytes ∷ k.copied }) refl
 with_copy-on storage t (Err check) k = on-same k k refl
 
-copying-on : (storage : Contents) (t : Transfer) (k : Part) → IsOn k (copying storage t k)
+copying-on : (storage : Contents) (t : Transfer) (k : CommandTrace) → IsOn k (copying storage t k)
 copying-on storage t k = if-on k (has_stopped t) k _ (on-same k k refl) (with_copy-on storage t _ k)
 
-giving-on : (storage : Contents) (t : Transfer) (k : Part) → IsOn k (giving storage t k)
-giving-on storage t k = on-then k (with_acts k (located_acts storage t)) (giving storage t k) (located_acts storage t, refl) (copying-on storage (located storage t) (with_acts k (located_acts storage t)))
+giving-on : (storage : Contents) (t : Transfer) (k : CommandTrace) → IsOn k (trace_giving storage t k)
+giving-on storage t k = on-then k (with_acts k (located_acts storage t)) (trace_giving storage t k) (located_acts storage t, refl) (copying-on storage (located_transfer storage t) (with_acts k (located_acts storage t)))
 
-pub gives-on : (storage : Contents) (t : Transfer) (s count : ℕ) (k : Part) → IsOn k (gives storage t s count k)
-gives-on storage t s count k = on-then k (answered storage t s count k) (gives storage t s count k) (answered-on storage t s count k) (giving-on storage (absorbed storage t s count) (answered storage t s count k))
+pub gives-on : (storage : Contents) (t : Transfer) (s count : ℕ) (k : CommandTrace) → IsOn k (gives storage t s count k)
+gives-on storage t s count k = on-then k (trace_answered storage t s count k) (gives storage t s count k) (answered-on storage t s count k) (giving-on storage (taken_by_device storage t s count) (trace_answered storage t s count k))
 
-with_arrival-on : (storage : Contents) (t : Transfer) (bytes : List ℕ) (r : Result Contents Check) (k : Part) → IsOn k (with_arrival storage t bytes r k)
+with_arrival-on : (storage : Contents) (t : Transfer) (bytes : List ℕ) (r : Result Contents Check) (k : CommandTrace) → IsOn k (with_arrival storage t bytes r k)
 with_arrival-on storage t bytes (Ok after) k =
-    let x : Part = record k { arrived = record { former = storage.bytes; chunk = chunk_of after t.moving bytes } ∷ k.arrived } in
-    on-then k x (moved_on after t (length bytes) x) (on-same k x refl) (moved_on-on after t (length bytes) x)
+    let x : CommandTrace = record k { arrived = record { former = storage.bytes; chunk = chunk_of after t.moving bytes } ∷ k.arrived } in
+    on-then k x (trace_moved_on after t (length bytes) x) (on-same k x refl) (moved_on-on after t (length bytes) x)
 with_arrival-on storage t bytes (Err check) k = on-same k k refl
 
-storing-on : (storage : Contents) (t : Transfer) (bytes : List ℕ) (k : Part) → IsOn k (storing storage t bytes k)
+storing-on : (storage : Contents) (t : Transfer) (bytes : List ℕ) (k : CommandTrace) → IsOn k (storing storage t bytes k)
 storing-on storage t bytes k = if-on k (is_some t.fault) k _ (on-same k k refl) (with_arrival-on storage t bytes _ k)
 
-arriving-on : (storage : Contents) (t : Transfer) (s : ℕ) (bytes : List ℕ) (k : Part) → IsOn k (arriving storage t s bytes k)
+arriving-on : (storage : Contents) (t : Transfer) (s : ℕ) (bytes : List ℕ) (k : CommandTrace) → IsOn k (arriving storage t s bytes k)
 arriving-on storage t s bytes k = if-on k (s == t.sequence + 1) (storing storage (record t { sequence = s }) (fitting t bytes) k) k (storing-on storage (record t { sequence = s }) (fitting t bytes) k) (on-same k k refl)
 
-pub takes_in-on : (storage : Contents) (t : Transfer) (s : ℕ) (bytes : List ℕ) (k : Part) → IsOn k (takes_in storage t s bytes k)
+pub takes_in-on : (storage : Contents) (t : Transfer) (s : ℕ) (bytes : List ℕ) (k : CommandTrace) → IsOn k (takes_in storage t s bytes k)
 takes_in-on storage t s bytes k =
     on-then k (arriving storage t s bytes k) (takes_in storage t s bytes k) (arriving-on storage t s bytes k)
     (located_acts (brought storage t s bytes).storage (brought storage t s bytes).transfer, refl)
 
 -- a story in which the codes grew or stayed, or before any was sent, and the device took and absorbed nothing
-abbrev pub IsMore : Story → Story → Type 0
+abbrev pub IsMore : ProgramTrace → ProgramTrace → Type 0
 IsMore k new = Adds (codes_of k) (codes_of new) ⊎ (k.sent ≡ 0)
 
-pub record IsGrown (k new : Story) : Type 0 where
+pub record IsGrown (k new : ProgramTrace) : Type 0 where
   pub number : new.number ≡ k.number
   pub taken : new.taken ≡ k.taken
   pub absorbed : new.absorbed ≡ k.absorbed
   pub sent : k.sent ≤ new.sent
   pub codes : IsMore k new
 
-pub same-grown : (k : Story) → IsGrown k k
+pub same-grown : (k : ProgramTrace) → IsGrown k k
 same-grown k = record { number = refl; taken = refl; absorbed = refl; sent = omega arith; codes = inl ([], refl) }
 
-if-grown : (k : Story) (c : Bool) (x y : Story) → IsGrown k x → IsGrown k y → IsGrown k (if c then x else y)
+if-grown : (k : ProgramTrace) (c : Bool) (x y : ProgramTrace) → IsGrown k x → IsGrown k y → IsGrown k (if c then x else y)
 if-grown k true x y e f = e
 if-grown k false x y e f = f
 
-now-grown : (k : Story) (now : Part) → IsOn k.now now → IsGrown k (record k { now = now })
+now-grown : (k : ProgramTrace) (now : CommandTrace) → IsOn k.now now → IsGrown k (record k { now = now })
 now-grown k now a =
     let c : Adds (codes_of k) (later_codes k.earlier (map code (commands k.orb (a.0 ++ k.now.acts)))) = codes-add k a.0 in
     record {
@@ -187,36 +187,36 @@ now-grown k now a =
       codes = inl (c.0, ap (λ (l : List Act). later_codes k.earlier (map code (commands k.orb l))) a.1 ∙ c.1);
     }
 
-goes_on-grown : (c : Came) (acts : List Act) (k : Story) → IsGrown k (goes_on c acts k)
+goes_on-grown : (c : CommandStart) (acts : List Act) (k : ProgramTrace) → IsGrown k (trace_goes_on c acts k)
 goes_on-grown (came.Begins t) acts k = record { number = refl; taken = refl; absorbed = refl; sent = omega arith; codes = inl (codes-add k acts) }
 goes_on-grown came.Suspends acts k = now-grown k (with_acts k.now acts) (acts, refl)
 goes_on-grown (came.Stops check) acts k = now-grown k (with_acts k.now acts) (acts, refl)
 
 -- where none was sent
-begins-grown : (storage : Contents) (walk : Place) (k new : Story) → k.sent ≡ 0 → new.number ≡ k.number → new.taken ≡ k.taken → new.absorbed ≡ k.absorbed →
-    IsGrown k (begins storage walk new)
+begins-grown : (storage : Contents) (walk : WalkPlace) (k new : ProgramTrace) → k.sent ≡ 0 → new.number ≡ k.number → new.taken ≡ k.taken → new.absorbed ≡ k.absorbed →
+    IsGrown k (trace_begins storage walk new)
 begins-grown storage walk k new e f g h = by (first_command storage walk).came
   where
-    by : (c : Came) → IsGrown k (goes_on c (first_acts storage walk) new)
+    by : (c : CommandStart) → IsGrown k (trace_goes_on c (first_acts storage walk) new)
     by (came.Begins t) = record { number = f; taken = g; absorbed = h; sent = omega (arith, e); codes = inr e }
     by came.Suspends = record { number = f; taken = g; absorbed = h; sent = omega (arith, e); codes = inr e }
     by (came.Stops check) = record { number = f; taken = g; absorbed = h; sent = omega (arith, e); codes = inr e }
 
-again-grown : (storage : Contents) (suspended : Option Standing) (start : ℕ) (k : Story) → k.sent ≡ 0 → IsGrown k (again_as storage suspended start k)
+again-grown : (storage : Contents) (suspended : Option ProgramPosition) (start : ℕ) (k : ProgramTrace) → k.sent ≡ 0 → IsGrown k (again_as storage suspended start k)
 again-grown storage None start k e = same-grown k
 again-grown storage (Some st) start k e =
     if-grown k (st.program.start == start) (begins_again storage st k) k
     (begins-grown storage st.walk k (record k { earlier = length (commands k.orb k.now.acts); now = past_part k.now }) e refl refl refl) (same-grown k)
 
-begins_as-grown : (storage : Contents) (waiting : Option Program) (suspended : Option Standing) (start : ℕ) (k : Story) → k.sent ≡ 0 →
+begins_as-grown : (storage : Contents) (waiting : Option Program) (suspended : Option ProgramPosition) (start : ℕ) (k : ProgramTrace) → k.sent ≡ 0 →
     IsGrown k (begins_as storage waiting suspended start k)
 begins_as-grown storage None suspended start k e = again-grown storage suspended start k e
 begins_as-grown storage (Some program) suspended start k e =
     if-grown k (program.start == start) (begins_anew storage program k) (again_as storage suspended start k)
-    (begins-grown storage (place program.orb []) k (record k { orb = program.orb; earlier = 0; now = no_part }) e refl refl refl)
+    (begins-grown storage (walk_place program.orb []) k (record k { orb = program.orb; earlier = 0; now = no_trace }) e refl refl refl)
     (again-grown storage suspended start k e)
 
-accepted_at-grown : (storage : Contents) (phase : HoldPhase) (s : SubchannelState) (k : Story) → k.sent ≡ 0 → IsGrown k (accepted_at storage phase s k)
+accepted_at-grown : (storage : Contents) (phase : HoldPhase) (s : SubchannelState) (k : ProgramTrace) → k.sent ≡ 0 → IsGrown k (accepted_at storage phase s k)
 accepted_at-grown storage (hold.On t p c) s k e = begins_as-grown storage s.waiting s.suspended s.offered k e
 accepted_at-grown storage hold.Free s k e = same-grown k
 accepted_at-grown storage (hold.Offer t p) s k e = same-grown k
@@ -224,41 +224,41 @@ accepted_at-grown storage (hold.Away t) s k e = same-grown k
 accepted_at-grown storage (hold.Letting t p) s k e = same-grown k
 accepted_at-grown storage (hold.Reset r) s k e = same-grown k
 
-accepted-grown : (storage : Contents) (s : SubchannelState) (step : Option HoldStep) (k : Story) → k.sent ≡ 0 → IsGrown k (accepted storage s step k)
+accepted-grown : (storage : Contents) (s : SubchannelState) (step : Option HoldStep) (k : ProgramTrace) → k.sent ≡ 0 → IsGrown k (trace_accepted storage s step k)
 accepted-grown storage s step k e = if-grown k (came_of step).taken _ k (accepted_at-grown storage (hold_after s.hold step).phase s k e) (same-grown k)
 
 -- Accept is taken at an offer alone
-abbrev pub IsUnbegun : HoldPhase → Story → Type 0
+abbrev pub IsUnbegun : HoldPhase → ProgramTrace → Type 0
 IsUnbegun phase k = (t p : ℕ) → phase ≡ hold.Offer t p → k.sent ≡ 0
 
-accept-grown : (storage : Contents) (s : SubchannelState) (h : HoldState) (phase : HoldPhase) (t : ℕ) (may : Bool) (k : Story) → IsUnbegun phase k →
-    IsGrown k (accepted storage s (hold_table.accepted h phase t may) k)
+accept-grown : (storage : Contents) (s : SubchannelState) (h : HoldState) (phase : HoldPhase) (t : ℕ) (may : Bool) (k : ProgramTrace) → IsUnbegun phase k →
+    IsGrown k (trace_accepted storage s (hold_table.offer_accepted h phase t may) k)
 accept-grown storage s h hold.Free t may k e = same-grown k
-accept-grown storage s h (hold.Offer u p) t may k e = accepted-grown storage s (hold_table.accepted h (hold.Offer u p) t may) k (e u p refl)
+accept-grown storage s h (hold.Offer u p) t may k e = accepted-grown storage s (hold_table.offer_accepted h (hold.Offer u p) t may) k (e u p refl)
 accept-grown storage s h (hold.On u p c) t may k e = same-grown k
 accept-grown storage s h (hold.Away u) t may k e = same-grown k
 accept-grown storage s h (hold.Letting u p) t may k e = same-grown k
 accept-grown storage s h (hold.Reset r) t may k e = same-grown k
 
-moves-grown : (storage : Contents) (t : Transfer) (s : ℕ) (load : Load) (k : Story) → IsGrown k (moves storage t s load k)
+moves-grown : (storage : Contents) (t : Transfer) (s : ℕ) (load : Load) (k : ProgramTrace) → IsGrown k (moves storage t s load k)
 moves-grown storage t s load k =
     if-grown k (is_outward t.code) _ _ (now-grown k (gives storage t s (load_length load) k.now) (gives-on storage t s (load_length load) k.now))
-    (now-grown k (takes_in storage t s (bytes_of load) k.now) (takes_in-on storage t s (bytes_of load) k.now))
+    (now-grown k (takes_in storage t s (bytes_of_load load) k.now) (takes_in-on storage t s (bytes_of_load load) k.now))
 
-answers-grown : (storage : Contents) (b : Option Begun) (n s : ℕ) (load : Load) (k : Story) → IsGrown k (answers storage b n s load k)
+answers-grown : (storage : Contents) (b : Option ActiveProgram) (n s : ℕ) (load : Load) (k : ProgramTrace) → IsGrown k (answers storage b n s load k)
 answers-grown storage None n s load k = same-grown k
 answers-grown storage (Some b) n s load k = if-grown k (is_answered b.transfer n s) _ k (moves-grown storage b.transfer s load k) (same-grown k)
 
-chains-grown : (storage : Contents) (s : SubchannelState) (b : Begun) (status : DeviceStatus) (more : Bool) (k : Story) → IsGrown k (chains storage s b status more k)
+chains-grown : (storage : Contents) (s : SubchannelState) (b : ActiveProgram) (status : DeviceStatus) (more : Bool) (k : ProgramTrace) → IsGrown k (chains storage s b status more k)
 chains-grown storage s b status more k =
     if-grown k (chains_command s.scsw b status more && has_device_end status) _ k
     (goes_on-grown (next_command storage b.transfer (has_status_modifier status)).came (next_acts storage b.transfer (has_status_modifier status)) k) (same-grown k)
 
-ends-grown : (storage : Contents) (s : SubchannelState) (b : Option Begun) (n : ℕ) (status : DeviceStatus) (more : Bool) (k : Story) → IsGrown k (ends storage s b n status more k)
+ends-grown : (storage : Contents) (s : SubchannelState) (b : Option ActiveProgram) (n : ℕ) (status : DeviceStatus) (more : Bool) (k : ProgramTrace) → IsGrown k (trace_ends storage s b n status more k)
 ends-grown storage s None n status more k = same-grown k
 ends-grown storage s (Some b) n status more k = if-grown k (n == b.transfer.command) _ k (chains-grown storage s b status more k) (same-grown k)
 
-pub meets-grown : (storage : Contents) (s : SubchannelState) (p : ℕ) (x : Up) (k : Story) → IsUnbegun s.hold.phase k → IsGrown k (meets storage s p x k)
+pub meets-grown : (storage : Contents) (s : SubchannelState) (p : ℕ) (x : Up) (k : ProgramTrace) → IsUnbegun s.hold.phase k → IsGrown k (trace_meets storage s p x k)
 meets-grown storage s p (up.Accept t) k e = accept-grown storage s s.hold s.hold.phase t (goes_ahead s) k e
 meets-grown storage s p (up.Data t c n seq load) k e = if-grown k (is_connected s.hold.phase p t c) _ k (answers-grown storage s.begun n seq load k) (same-grown k)
 meets-grown storage s p (up.End t n status more) k e = if-grown k (is_on s.hold.phase t) _ k (ends-grown storage s s.begun n status more k) (same-grown k)

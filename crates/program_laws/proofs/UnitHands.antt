@@ -18,8 +18,8 @@ use Rattle.chan_model.specs.declared.unit_state.Place.TheVariants.{On, Ask, Away
 use Rattle.chan_model.specs.declared.unit_state.SideState.{SideState}
 use Rattle.chan_model.specs.declared.unit_state.UnitState.{UnitState}
 use Rattle.chan_model.specs.Sides.{same_side}
-use Rattle.chan_model.specs.UnitTable.{UnitStep, came_of, changes, sends, with_given, with_answer, new_command, side_of, with_side, owns, is_owner, is_owner_on, is_place_on, freed, raised, selected, given_next, answered_load, answered_last, granted_at, granted, refused_at, refused, without_side, reset_side, resets, forgetting, unit_works, unit_takes, unit_after, telling}
-use Rattle.program_laws.specs.Stories.{silent}
+use Rattle.chan_model.specs.UnitTable.{UnitStep, came_of, changes, sends, with_given, at_hand_answered, new_command, side_of, with_side, owns, is_owner, is_owner_on, is_place_on, freed, raised, selected, given_next, answered_load, answered_last, granted_at, granted, grant_refused_at, grant_refused, without_side, reset_side, resets, forgetting, unit_works, unit_takes, unit_after, telling}
+use Rattle.program_laws.specs.Traces.{silent}
 use Rattle.program_laws.proofs.UnitPlaces.{IsOfPlace, granted-leaves, refused-leaves, forgetting-leaves}
 use Rattle.program_laws.proofs.UnitSides.{side-own, one-owner, other-owner}
 use Rattle.program_laws.proofs.UnitOrders.{one-number}
@@ -198,7 +198,7 @@ select-held may side number P u p t z h =
 
 -- Took
 abbrev pub StaysAnswered : (Option AtHand → Type 0) → Type 0
-StaysAnswered P = (x : AtHand) (l : Load) (room : ℕ) → P (Some x) → P (Some (with_answer x l room))
+StaysAnswered P = (x : AtHand) (l : Load) (room : ℕ) → P (Some x) → P (Some (at_hand_answered x l room))
 
 load-held : (side : Side) (number : ℕ) (P : Option AtHand → Type 0) (u : UnitState) (x : AtHand) (l : Option Load) (room : ℕ) → StaysAnswered P → u.at_hand ≡ Some x →
     IsHeld side number P u → IsHeldStep side number P u (answered_load u x l room)
@@ -307,14 +307,14 @@ granted-quiet : (u : UnitState) (o : Own) (k : Side) (p t c : ℕ) → IsQuietSt
 granted-quiet u own.Idle k p t c = tt
 granted-quiet u (own.Owned j v place) k p t c = if-quiet (same_side j k && (t == v)) (granted_at u j v place p c) None (granted_at-quiet u j v place p c) tt
 
-refused_at-quiet : (u : UnitState) (k : Side) (t : ℕ) (place : Place) (c : ℕ) → IsQuietStep (refused_at u k t place c)
+refused_at-quiet : (u : UnitState) (k : Side) (t : ℕ) (place : Place) (c : ℕ) → IsQuietStep (grant_refused_at u k t place c)
 refused_at-quiet u k t (Ask q d) c = if-quiet (c == d) (changes (record u { own = own.Owned k t (Away d) })) None tt tt
 refused_at-quiet u k t (On q d) c = tt
 refused_at-quiet u k t (Away d) c = tt
 
-refused-quiet : (u : UnitState) (o : Own) (k : Side) (t c : ℕ) → IsQuietStep (refused u o k t c)
+refused-quiet : (u : UnitState) (o : Own) (k : Side) (t c : ℕ) → IsQuietStep (grant_refused u o k t c)
 refused-quiet u own.Idle k t c = tt
-refused-quiet u (own.Owned j v place) k t c = if-quiet (same_side j k && (t == v)) (refused_at u j v place c) None (refused_at-quiet u j v place c) tt
+refused-quiet u (own.Owned j v place) k t c = if-quiet (same_side j k && (t == v)) (grant_refused_at u j v place c) None (refused_at-quiet u j v place c) tt
 
 forgetting-quiet : (u : UnitState) (x : Option Attention) (k : Side) (a : ℕ) → IsQuietStep (forgetting u x k a)
 forgetting-quiet u None k a = tt

@@ -9,7 +9,7 @@ use Rattle.chan_model.specs.declared.unit_state.Place.{Place}
 use Rattle.chan_model.specs.declared.unit_state.Place.TheVariants.{On, Ask, Away}
 use Rattle.chan_model.specs.declared.unit_state.UnitState.{UnitState}
 use Rattle.chan_model.specs.Sides.{same_side}
-use Rattle.chan_model.specs.UnitTable.{UnitStep, granted_at, granted, refused_at, refused, forgetting, unit_after}
+use Rattle.chan_model.specs.UnitTable.{UnitStep, granted_at, granted, grant_refused_at, grant_refused, forgetting, unit_after}
 
 -- a relation of units that holds where nothing, the place alone, or the attention alone is another
 pub record IsOfPlace (R : UnitState → UnitState → Type 0) : Type 0 where
@@ -36,12 +36,12 @@ module _ (R : UnitState → UnitState → Type 0) (l : IsOfPlace R) where
   granted-leaves u (own.Owned j v place) k p t c o =
       where-leaves u (same_side j k && (t == v)) _ None (granted_at-leaves u j v place p c o) (l.same u)
 
-  refused_at-leaves : (u : UnitState) (k : Side) (n : ℕ) (place : Place) (c : ℕ) → u.own ≡ own.Owned k n place → Leaves u (refused_at u k n place c)
+  refused_at-leaves : (u : UnitState) (k : Side) (n : ℕ) (place : Place) (c : ℕ) → u.own ≡ own.Owned k n place → Leaves u (grant_refused_at u k n place c)
   refused_at-leaves u k n (Ask q d) c o = where-leaves u (c == d) _ None (l.placed k n (Ask q d) (Away d) u o) (l.same u)
   refused_at-leaves u k n (On q d) c o = l.same u
   refused_at-leaves u k n (Away d) c o = l.same u
 
-  pub refused-leaves : (u : UnitState) (o : Own) (k : Side) (t c : ℕ) → u.own ≡ o → Leaves u (refused u o k t c)
+  pub refused-leaves : (u : UnitState) (o : Own) (k : Side) (t c : ℕ) → u.own ≡ o → Leaves u (grant_refused u o k t c)
   refused-leaves u own.Idle k t c o = l.same u
   refused-leaves u (own.Owned j v place) k t c o =
       where-leaves u (same_side j k && (t == v)) _ None (refused_at-leaves u j v place c o) (l.same u)

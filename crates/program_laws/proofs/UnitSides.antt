@@ -23,7 +23,7 @@ use Rattle.chan_model.specs.declared.unit_state.UnitState.{UnitState}
 use Rattle.chan_model.specs.Sides.{same_side}
 use Rattle.chan_model.specs.UnitTable.{UnitStep, changes, with_given, side_of, with_side, owns, is_owner, is_owner_on, freed, raised, selected, given_next, answered_load, answered_last, without_side, reset_side, resets, unit_works, unit_takes, unit_after, telling}
 use Rattle.program_laws.proofs.UnitPlaces.{IsOfPlace, granted-leaves, refused-leaves, forgetting-leaves}
-use Rattle.chan_model.specs.UnitReports.{is_outward, is_to_supply, most_of, may_end, shown_end, end_sent, begun, absorbed, supplied, sent_again, answer_taken, report_on, report_of, unit_reports}
+use Rattle.chan_model.specs.UnitReports.{is_outward, is_to_supply, most_of, may_end, shown_end, end_sent, command_begun, report_absorbed, report_supplied, sent_again, answer_taken, report_on, report_of, unit_reports}
 
 -- what is kept of a side is as it was, and a program of it that holds the device held it before, with the same last command
 pub record IsStill (side : Side) (u v : UnitState) : Type 0 where
@@ -218,14 +218,14 @@ other-still side u k p (down.Reset r b) may e =
 other-still side u k p (down.Got a) may e = mild-still side u k p (down.Got a) may tt
 
 -- a report is of the command at hand alone
-begun-still : (side : Side) (u : UnitState) (p t c : ℕ) (x : AtHand) → IsStillStep side u (begun u p t c x)
+begun-still : (side : Side) (u : UnitState) (p t c : ℕ) (x : AtHand) → IsStillStep side u (command_begun u p t c x)
 begun-still side u p t c x = if-still side u (is_outward x.code) _ _ (with-hand side u _) (with-hand side u _)
 
-absorbed-still : (side : Side) (u : UnitState) (p t c : ℕ) (x : AtHand) (bytes : Option (List ℕ)) (count : ℕ) → IsStillStep side u (absorbed u p t c x bytes count)
+absorbed-still : (side : Side) (u : UnitState) (p t c : ℕ) (x : AtHand) (bytes : Option (List ℕ)) (count : ℕ) → IsStillStep side u (report_absorbed u p t c x bytes count)
 absorbed-still side u p t c x None count = still side u
 absorbed-still side u p t c x (Some bytes) count = if-still side u (nat_le count (length bytes)) _ None (with-hand side u _) (still side u)
 
-supplied-still : (side : Side) (u : UnitState) (p t c : ℕ) (x : AtHand) (bytes : List ℕ) → IsStillStep side u (supplied u p t c x bytes)
+supplied-still : (side : Side) (u : UnitState) (p t c : ℕ) (x : AtHand) (bytes : List ℕ) → IsStillStep side u (report_supplied u p t c x bytes)
 supplied-still side u p t c x bytes = if-still side u (is_to_supply x && nat_le (length bytes) (most_of x)) _ None (with-hand side u _) (still side u)
 
 again-still : (side : Side) (u : UnitState) (p t c : ℕ) (x : AtHand) (load : Option Load) → IsStillStep side u (sent_again u p t c x load)

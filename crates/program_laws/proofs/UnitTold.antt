@@ -20,7 +20,7 @@ use Rattle.chan_model.specs.declared.unit_state.Progress.TheVariants as progress
 use Rattle.chan_model.specs.declared.unit_state.UnitState.{UnitState}
 use Rattle.chan_model.specs.Sides.{same_side}
 use Rattle.chan_model.specs.UnitTable.{UnitStep}
-use Rattle.chan_model.specs.UnitReports.{is_outward, is_over, is_settled, is_to_supply, most_of, may_end, shown_end, end_sent, absorbed, with_absorbed, with_supplied, sent_again, answer_taken, after_end, report_on, report_of, unit_reports}
+use Rattle.chan_model.specs.UnitReports.{is_outward, is_over, is_settled, is_to_supply, most_of, may_end, shown_end, end_sent, report_absorbed, with_absorbed, with_supplied, sent_again, answer_taken, progress_after_end, report_on, report_of, unit_reports}
 
 -- with another command at hand, and a signal sent
 abbrev pub with_hand : UnitState → AtHand → UnitState
@@ -39,7 +39,7 @@ pub data IsTold (u : UnitState) (p t c : ℕ) (x : AtHand) : DeviceAnswer → Un
   Tells_again : (l : Load) → x.unanswered ≡ Some l → x.progress ≡ progress.Working → IsTold u p t c x answer.Again (telling_data u p t c (record x { again = false }) l)
   Ends : (given shown : DeviceStatus) (more : Bool) →
       IsTold u p t c x (answer.Ended given more)
-      (record { state = with_hand u (record x { progress = after_end shown }); sent = Some (record { path = p; signal = up.End t u.last_command shown more }) })
+      (record { state = with_hand u (record x { progress = progress_after_end shown }); sent = Some (record { path = p; signal = up.End t u.last_command shown more }) })
 
 abbrev AreTold : UnitState → ℕ → ℕ → ℕ → AtHand → DeviceAnswer → Option UnitStep → Type 0
 AreTold u p t c x a step = (y : UnitStep) → step ≡ Some y → IsTold u p t c x a y
@@ -62,7 +62,7 @@ begun-told u p t c x true o e = one-told u p t c x answer.Begins _ (Begins_out e
 begun-told u p t c x false o e = one-told u p t c x answer.Begins _ (Begins_in o e)
 
 absorbed-told : (u : UnitState) (p t c : ℕ) (x : AtHand) (given : Option (List ℕ)) (count : ℕ) → x.given ≡ given → x.progress ≡ progress.Working →
-    AreTold u p t c x (answer.Absorbed count) (absorbed u p t c x given count)
+    AreTold u p t c x (answer.Absorbed count) (report_absorbed u p t c x given count)
 absorbed-told u p t c x None count g e = none-told u p t c x (answer.Absorbed count)
 absorbed-told u p t c x (Some bytes) count g e = by (nat_le count (length bytes)) refl
   where

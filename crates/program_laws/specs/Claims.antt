@@ -8,29 +8,29 @@ use Rattle.scsw_irb.specs.declared.scsw.Scsw.{Scsw}
 use Rattle.scsw_irb.specs.declared.status.DeviceStatus.{DeviceStatus}
 use Rattle.subchannel_model.specs.declared.status.Shown.{Shown}
 use Rattle.channel_program.specs.declared.check.Check.{Check}
-use Rattle.channel_program.specs.Acts.{Act, Chunk}
+use Rattle.channel_program.specs.Acts.{Act, PlacedBytes}
 use Rattle.channel_program.specs.Programs.{IsProgram, commands, code}
 use Rattle.idaw.specs.Lists.{kind_of, block}
-use Rattle.idaw.specs.Places.{places}
+use Rattle.idaw.specs.Places.{places_of_bytes}
 use Rattle.data_move.specs.Accesses.{bytes_at}
 use Rattle.data_move.specs.Moving.{residual}
 use Rattle.subchannel_model.specs.Causes.{fetch_fault_shown}
 use Rattle.subchannel_model.specs.Ends.{channel_end_shown, last_end_shown}
-use Rattle.subchannel_model.specs.declared.state.Begun.{Begun}
+use Rattle.subchannel_model.specs.declared.state.ActiveProgram.{ActiveProgram}
 use Rattle.subchannel_model.specs.declared.state.Subchannel.{Subchannel}
 use Rattle.machine_model.specs.State.{State, opening_of}
 use Rattle.machine_model.specs.Setups.{IsSetUp}
 use Rattle.machine_model.specs.Steps.{Run}
-use Rattle.program_laws.specs.Reaches.{reaches, counts}
-use Rattle.program_laws.specs.Doings.{Arrival, Part}
-use Rattle.program_laws.specs.Stories.{Story, story}
+use Rattle.program_laws.specs.DataAreas.{data_areas, counts}
+use Rattle.program_laws.specs.CommandActs.{Arrival, CommandTrace}
+use Rattle.program_laws.specs.Traces.{ProgramTrace, trace}
 
 abbrev pub IsBeginning : {A : Type 0} → List A → List A → Type 0
 IsBeginning {A} xs ys = (rest : List A) × (xs ++ rest ≡ ys)
 
 -- the places of the command at work, in the order of its bytes
 abbrev pub places_of : Orb → List Act → List (Option ℕ)
-places_of orb acts = places (block (kind_of orb)) (reaches orb acts)
+places_of orb acts = places_of_bytes (block (kind_of orb)) (data_areas orb acts)
 
 -- the codes of the commands of a program after the first so many, the first first
 abbrev pub codes : ℕ → Orb → List Act → List ℕ
@@ -38,11 +38,11 @@ codes earlier orb acts = drop earlier (reverse (map code (commands orb acts)))
 
 -- the commands that the device took under this number are consecutive commands of the program, each once, from the first on,
 -- or from the first after those that were sent before it was suspended
-abbrev pub TakesInOrder : Story → Type 0
+abbrev pub TakesInOrder : ProgramTrace → Type 0
 TakesInOrder k = IsBeginning (reverse k.taken) (codes k.earlier k.orb k.now.acts)
 
 -- a chunk has the bytes at its places, as storage stood when it was copied
-abbrev pub IsCopied : Chunk → Type 0
+abbrev pub IsCopied : PlacedBytes → Type 0
 IsCopied c = c.bytes ≡ bytes_at c.storage c.places
 
 -- each byte that was stored stands at its place, and no other byte was changed
@@ -57,24 +57,24 @@ places_arrived [] = []
 places_arrived (a ∷ before) = places_arrived before ++ a.chunk.places
 
 -- the first bytes of a chunk
-abbrev pub first_of : Chunk → ℕ → Chunk
-first_of c n = record { storage = c.storage; places = take n c.places; bytes = take n c.bytes }
+abbrev pub first_bytes : PlacedBytes → ℕ → PlacedBytes
+first_bytes c n = record { storage = c.storage; places = take n c.places; bytes = take n c.bytes }
 
-abbrev pub IsFirstOf : List Chunk → Chunk → Type 0
-IsFirstOf copied c = (whole : Chunk) × (n : ℕ) × Contains copied whole × (c ≡ first_of whole n)
+abbrev pub IsFirstOf : List PlacedBytes → PlacedBytes → Type 0
+IsFirstOf copied c = (whole : PlacedBytes) × (n : ℕ) × Contains copied whole × (c ≡ first_bytes whole n)
 
 -- what the device absorbed for a command are the first bytes of chunks that were copied for it, and these lie side by side
 -- from the first place of the command on
-abbrev pub AbsorbsInOrder : Orb → Part → List ℕ → Type 0
+abbrev pub AbsorbsInOrder : Orb → CommandTrace → List ℕ → Type 0
 AbsorbsInOrder orb part absorbed =
-    (chunks : List Chunk) × All (IsFirstOf part.copied) chunks × (flat_map (λ c. c.bytes) chunks ≡ absorbed)
+    (chunks : List PlacedBytes) × All (IsFirstOf part.copied) chunks × (flat_map (λ c. c.bytes) chunks ≡ absorbed)
     × IsBeginning (flat_map (λ c. c.places) chunks) (places_of orb part.acts)
 
 -- the command that the device took last: the last that was sent, or the one before
-abbrev pub part_of : Story → Part
+abbrev pub part_of : ProgramTrace → CommandTrace
 part_of k = if length k.taken == k.sent then k.now else k.before
 
-pub record IsTold (k : Story) : Type 0 where
+pub record TraceCorrect (k : ProgramTrace) : Type 0 where
   -- each block is where the blocks before it say
   pub program : IsProgram k.orb k.now.acts
   pub takes : TakesInOrder k
@@ -86,22 +86,22 @@ pub record IsTold (k : Story) : Type 0 where
   pub arrives : IsBeginning (places_arrived k.now.arrived) (places_of k.orb k.now.acts)
 
 -- the count of what would be shown: the sum of the counts of the command's blocks, less the bytes that were moved
-abbrev pub IsRest : Shown → Story → Type 0
-IsRest shown k = counts (reaches k.orb k.now.acts) ≡ length k.now.moved + shown.count
+abbrev pub IsRest : Shown → ProgramTrace → Type 0
+IsRest shown k = counts (data_areas k.orb k.now.acts) ≡ length k.now.moved + shown.count
 
 -- an End of the command at work would be shown with that count, by the definitions of what is shown: channel end alone, the
 -- last of its program, or one after which the next block shows a check. Nothing is said of the status word itself
-abbrev pub IsCounted : Scsw → Option Begun → Story → Type 0
-IsCounted scsw None k = Unit {0}
-IsCounted scsw (Some b) k =
+abbrev pub IsCountShown : Scsw → Option ActiveProgram → ProgramTrace → Type 0
+IsCountShown scsw None k = Unit {0}
+IsCountShown scsw (Some b) k =
     (status : DeviceStatus) (more : Bool) (tried : ℕ) (check : Check) →
     IsRest (channel_end_shown scsw b status more) k × IsRest (last_end_shown scsw b status more) k
     × IsRest (fetch_fault_shown tried check (residual b.transfer.moving)) k
 
 -- after a run this holds of each subchannel
 abbrev pub AllTold : (opening : State) (h : List Entry) (s : State) → Run opening h s → Type 0
-AllTold opening h s run = (place : ℕ) (sub : Subchannel) (k : Story) → slice_get s.subs place ≡ Some sub → story place opening h s run ≡ Some k →
-    IsTold k × IsCounted sub.state.scsw sub.state.begun k
+AllTold opening h s run = (place : ℕ) (sub : Subchannel) (k : ProgramTrace) → slice_get s.subs place ≡ Some sub → trace place opening h s run ≡ Some k →
+    TraceCorrect k × IsCountShown sub.state.scsw sub.state.begun k
 
 -- the machine is lawfully set up, and from the opening of each set-up that it has these entries lead to the state, and so
 -- they tell

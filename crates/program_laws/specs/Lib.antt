@@ -1,4 +1,4 @@
-pub mod Reaches
-pub mod Doings
-pub mod Stories
+pub mod DataAreas
+pub mod CommandActs
+pub mod Traces
 pub mod Claims

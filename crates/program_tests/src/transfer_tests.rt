@@ -8,7 +8,7 @@ use storage_keys::Storage;
 use transfer::chunks::{absorbed, brought, is_answered, next_given};
 use transfer::commands::{begun_with_room, first_command, next_command, with_room};
 use transfer::law::command_numbers;
-use transfer::{Beginning, Came, Transfer};
+use transfer::{Beginning, CommandStart, Transfer};
 
 /// Storage of 64K with a program at 1000 and bytes at 2000.
 fn storage_of(alloc: Global, program: &[u8]) -> Option<Storage> {
@@ -26,7 +26,7 @@ fn first(storage: &Storage) -> Option<Beginning> {
 
 fn began(storage: &Storage) -> Option<Transfer> {
     match first(storage)?.came {
-        Came::Begins(transfer) => Some(transfer),
+        CommandStart::Begins(transfer) => Some(transfer),
         _ => None,
     }
 }
@@ -67,7 +67,7 @@ fn followed_by(storage: &Storage, transfer: &Transfer, modifier: bool) -> Option
         return None;
     }
     match next_command(storage, transfer, modifier).came {
-        Came::Begins(next) => Some((next.command, next.code)),
+        CommandStart::Begins(next) => Some((next.command, next.code)),
         _ => None,
     }
 }
@@ -168,7 +168,7 @@ fn what_a_program_may_not_begin_with(rt: HostRuntime) {
             return assert!(rt; false, "the block is allowed");
         };
         assert_eq!(rt; found.walk.tried(), 0x1008);
-        assert!(rt; matches!(found.came, Came::Stops(Check::Program)));
+        assert!(rt; matches!(found.came, CommandStart::Stops(Check::Program)));
     }
 }
 
@@ -194,6 +194,6 @@ fn a_program_that_may_be_suspended_is(rt: HostRuntime) {
         return assert!(rt; false, "the block is allowed");
     };
     let found = first_command(&storage, Walk::start(orb));
-    assert!(rt; matches!(found.came, Came::Suspends));
+    assert!(rt; matches!(found.came, CommandStart::Suspends));
     assert_eq!(rt; found.walk.next(), Some(0x1000));
 }

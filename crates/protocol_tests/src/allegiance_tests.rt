@@ -1,6 +1,6 @@
 //! The paths that a subchannel keeps to.
 
-use allegiance::allegiances::{Cause, active, dedicated, may_reconnect, working};
+use allegiance::allegiances::{AllegianceCause, active, dedicated, may_reconnect, working};
 use allegiance::path_use::PathUse;
 use chan_model::hold_state::{HoldPhase, HoldState};
 use chan_model::names::Path;
@@ -29,8 +29,8 @@ fn away() -> HoldPhase {
     HoldPhase::Away { number: 7 }
 }
 
-fn ended(path: Path, unit_check: bool) -> Cause {
-    Cause::End {
+fn ended(path: Path, unit_check: bool) -> AllegianceCause {
+    AllegianceCause::End {
         path,
         unit_check,
         later: true,
@@ -38,7 +38,7 @@ fn ended(path: Path, unit_check: bool) -> Cause {
 }
 
 /// The mask of the dedicated allegiance, where that to path 3 stood before.
-fn after(cause: Cause) -> u8 {
+fn after(cause: AllegianceCause) -> u8 {
     mask_of_path(dedicated(Path::new(3), cause))
 }
 
@@ -80,10 +80,10 @@ fn unit_check_binds_a_subchannel_until_a_later_program_is_served(rt: HostRuntime
     let path = Path::new(4).unwrap();
     assert_eq!(rt; after(ended(path, true)), 0x08);
     assert_eq!(rt; after(ended(path, false)), 0);
-    assert_eq!(rt; after(Cause::Data { later: false }), 0x10);
-    assert_eq!(rt; after(Cause::Data { later: true }), 0);
-    assert_eq!(rt; after(Cause::Clear), 0);
-    assert_eq!(rt; after(Cause::SystemReset), 0);
+    assert_eq!(rt; after(AllegianceCause::Data { later: false }), 0x10);
+    assert_eq!(rt; after(AllegianceCause::Data { later: true }), 0);
+    assert_eq!(rt; after(AllegianceCause::Clear), 0);
+    assert_eq!(rt; after(AllegianceCause::SystemReset), 0);
 }
 
 #[test]

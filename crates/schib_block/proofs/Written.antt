@@ -1,8 +1,8 @@
 -- A block that is written: its tables with the reserved bits as zeros, which cover their words.
 use Rattle.std.proofs.Common.{◌≡◌, ℕ, List, [], ◌∷◌, ◌++◌, ◌∙◌, map, take, drop, replicate, refl, sym, ap, lit<, arith, subst}
-use Rattle.zbits.specs.declared.layout.Entry.{Entry}
+use Rattle.zbits.specs.declared.layout.BitField.{BitField}
 use Rattle.zbits.specs.Words.{bytes_of_words, words_from, words_of}
-use Rattle.zbits.specs.Layout.{AllFit, AllShow, AllTablesFit, Shows, at, flag_at, image_of, word_of, zeros}
+use Rattle.zbits.specs.Layout.{AllFit, AllShow, AllTablesFit, ShowsFields, at, flag_at, image_of, word_of, zeros}
 use Rattle.zbits.proofs.LayoutLemmas.{bit_number-lt, shows_word_of}
 use Rattle.zbits.proofs.OneImage.{same_table, words_of-image_of}
 use Rattle.scsw_irb.specs.ScswTable.{scsw_tables, zero_word}
@@ -12,7 +12,7 @@ use Rattle.schib_block.specs.declared.schib.Schib.{Schib}
 use Rattle.schib_block.specs.Ranges.{IsPmcwInRange, IsSchibInRange}
 use Rattle.schib_block.specs.SchibTable.{word_0, word_1, word_2, word_3, word_4, word_5, word_6, pmcw_tables, schib_tables, scsw_words}
 
-abbrev covered_1 : Pmcw → List Entry
+abbrev covered_1 : Pmcw → List BitField
 covered_1 p =
     zeros 0 1
     ∷ at 2 4 p.subclass
@@ -26,13 +26,13 @@ covered_1 p =
     ∷ at 16 31 p.device_number
     ∷ []
 
-abbrev covered_6 : Pmcw → List Entry
+abbrev covered_6 : Pmcw → List BitField
 covered_6 p = zeros 0 30 ∷ flag_at 31 p.concurrent_sense ∷ []
 
-abbrev covered_pmcw : Pmcw → List (List Entry)
+abbrev covered_pmcw : Pmcw → List (List BitField)
 covered_pmcw p = word_0 p ∷ covered_1 p ∷ word_2 p ∷ word_3 p ∷ word_4 p ∷ word_5 p ∷ covered_6 p ∷ []
 
-abbrev covered : Schib → List (List Entry)
+abbrev covered : Schib → List (List BitField)
 covered s = covered_pmcw s.pmcw ++ scsw_tables s.scsw ++ replicate 3 zero_word
 
 same_1 : (p : Pmcw) → word_of (covered_1 p) ≡ word_of (word_1 p)
@@ -65,7 +65,7 @@ pmcw-fit p range = (
   ),
 )
 
-AllTablesFit-append : (s t : List (List Entry)) → AllTablesFit s → AllTablesFit t → AllTablesFit (s ++ t)
+AllTablesFit-append : (s t : List (List BitField)) → AllTablesFit s → AllTablesFit t → AllTablesFit (s ++ t)
 AllTablesFit-append [] t a b = b
 AllTablesFit-append (x ∷ s) t a b = (a.0, AllTablesFit-append s t a.1 b)
 
@@ -97,17 +97,17 @@ pmcw_words s range = sym (front_words (image_of (schib_tables s))) ∙ ap (λ (w
 pub status_words : (s : Schib) → IsSchibInRange s → scsw_words (image_of (schib_tables s)) ≡ map word_of (scsw_tables s.scsw)
 status_words s range = sym (middle_words (image_of (schib_tables s))) ∙ ap (λ (words : List ℕ). take 3 (drop 7 words)) (all_words s range)
 
-shows_1 : (p : Pmcw) → AllFit (covered_1 p) → Shows (word_of (covered_1 p)) (word_1 p)
+shows_1 : (p : Pmcw) → AllFit (covered_1 p) → ShowsFields (word_of (covered_1 p)) (word_1 p)
 shows_1 p fit =
     let shown = shows_word_of (covered_1 p) refl fit in
     (shown.1.0, shown.1.1.1)
 
-shows_6 : (p : Pmcw) → AllFit (covered_6 p) → Shows (word_of (covered_6 p)) (word_6 p)
+shows_6 : (p : Pmcw) → AllFit (covered_6 p) → ShowsFields (word_of (covered_6 p)) (word_6 p)
 shows_6 p fit = (shows_word_of (covered_6 p) refl fit).1
 
 -- equal tables, one after the other
-cons : (x y : List Entry) (xs ys : List (List Entry)) → x ≡ y → xs ≡ ys → x ∷ xs ≡ y ∷ ys
-cons x y xs ys h t = ap (λ (z : List Entry). z ∷ xs) h ∙ ap (λ (zs : List (List Entry)). y ∷ zs) t
+cons : (x y : List BitField) (xs ys : List (List BitField)) → x ≡ y → xs ≡ ys → x ∷ xs ≡ y ∷ ys
+cons x y xs ys h t = ap (λ (z : List BitField). z ∷ xs) h ∙ ap (λ (zs : List (List BitField)). y ∷ zs) t
 
 -- a word whose fields the words of a word show is that word
 pub same_pmcw : (p q : Pmcw) → IsPmcwInRange p → AllShow (map word_of (covered_pmcw p)) (pmcw_tables q) → pmcw_tables p ≡ pmcw_tables q

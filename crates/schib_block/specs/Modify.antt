@@ -3,8 +3,8 @@ use Rattle.std.specs.Prelude.{◌≡◌}
 use Rattle.schib_block.specs.declared.pmcw.Pmcw.{Pmcw}
 
 -- the given word asks for no limit mode and no measurement (own)
-abbrev pub IsAllowed : Pmcw → Type 0
-IsAllowed given = (given.limit_mode ≡ 0) × (given.measurement_mode ≡ 0)
+abbrev pub IsAllowedPmcw : Pmcw → Type 0
+IsAllowedPmcw given = (given.limit_mode ≡ 0) × (given.measurement_mode ≡ 0)
 
 -- the word with the parameter, ISC, E, D, LPM and POM of the given one (own)
 abbrev pub modified : Pmcw → Pmcw → Pmcw

@@ -21,8 +21,8 @@ pub measurement_mode-lt : (word : ℕ) → field_of word 11 12 < 4
 measurement_mode-lt word = mod_below (word / weight 12) 4 (lit< tt)
 
 -- the four bytes of a word
-abbrev pub bytes_of : ℕ → List ℕ
-bytes_of word = field_of word 0 7 ∷ field_of word 8 15 ∷ field_of word 16 23 ∷ field_of word 24 31 ∷ []
+abbrev pub bytes_of_word : ℕ → List ℕ
+bytes_of_word word = field_of word 0 7 ∷ field_of word 8 15 ∷ field_of word 16 23 ∷ field_of word 24 31 ∷ []
 
 abbrev pub pmcw_of_words : List ℕ → Pmcw
 pmcw_of_words words =
@@ -43,7 +43,7 @@ pmcw_of_words words =
       measurement_block = field_of (slice_index words 3) 0 15;
       operational = field_of (slice_index words 3) 16 23;
       available = field_of (slice_index words 3) 24 31;
-      chpids = bytes_of (slice_index words 4) ++ bytes_of (slice_index words 5);
+      chpids = bytes_of_word (slice_index words 4) ++ bytes_of_word (slice_index words 5);
       concurrent_sense = flag_of (slice_index words 6) 31;
       subclass_fits = subclass-lt (slice_index words 1);
       limit_fits = limit_mode-lt (slice_index words 1);
@@ -51,5 +51,5 @@ pmcw_of_words words =
     }
 
 -- the word that stands at the front of an image
-abbrev pub pmcw_of : List ℕ → Pmcw
-pmcw_of image = pmcw_of_words (words_of 7 image)
+abbrev pub pmcw_of_image : List ℕ → Pmcw
+pmcw_of_image image = pmcw_of_words (words_of 7 image)

@@ -54,15 +54,15 @@ pub struct Pmcw {
 }
 
 impl Pmcw {
-    ghost use Rattle.schib_block.specs.Modify.{IsAllowed, modified};
-    ghost use Rattle.schib_block.specs.Reading.{flag_of, pmcw_of, pmcw_of_words};
+    ghost use Rattle.schib_block.specs.Modify.{IsAllowedPmcw, modified};
+    ghost use Rattle.schib_block.specs.Reading.{flag_of, pmcw_of_image, pmcw_of_words};
     ghost use Rattle.schib_block.specs.SchibTable.{ShowsPmcw, four_bytes, pmcw_tables, word_1, word_3};
 
     /// The word that a subchannel-information block has, whatever its other bits: this is all that
     /// MODIFY SUBCHANNEL looks at, so no block is refused here.
     pub fn of_schib(image: &[u8; SCHIB_BYTES]) -> Pmcw
         ensures shown { ShowsPmcw image.now result }
-        ensures value { result ≡ pmcw_of image.now }
+        ensures value { result ≡ pmcw_of_image image.now }
     {
         let [parameter, controls, masks, block, front, back, last, ..] = be_words::<13>(image);
         Pmcw::of_words(parameter, controls, masks, block, front, back, last)
@@ -70,7 +70,7 @@ impl Pmcw {
 
     /// Whether MODIFY SUBCHANNEL takes the word: LM and MM are zero (own).
     pub fn is_allowed(&self) -> bool
-        ensures { IsTrue result ↔ IsAllowed self.now }
+        ensures { IsTrue result ↔ IsAllowedPmcw self.now }
     {
         self.limit_mode == 0 && self.measurement_mode == 0
     }
@@ -80,7 +80,7 @@ impl Pmcw {
     ///
     /// It is refused where the given LM or MM is not zero (own).
     pub fn modify(&mut self, given: &Pmcw) -> Result<(), Operand>
-        ensures allowed { IsOk result ↔ IsAllowed given.now }
+        ensures allowed { IsOk result ↔ IsAllowedPmcw given.now }
         ensures taken { OnOk result (self.new ≡ modified self.old given.now) }
         ensures refused { OnErr result (self.new ≡ self.old) }
     {

@@ -12,7 +12,7 @@ use Rattle.script_rows.specs.Settings.{configured}
 use Rattle.script.specs.declared.Line.{Line}
 use Rattle.script.specs.declared.draft.Draft.{Draft}
 use Rattle.script.specs.Saying.{said, has_words}
-use Rattle.script.specs.Scripts.{kept, setting_of, action_of, is_action, set_up, actions_from, AreClean, fault_at, fault, IsScript}
+use Rattle.script.specs.Scripts.{setup_kept, setting_of, action_of, is_action, set_up, actions_from, AreClean, fault_at, fault, IsScript}
 use Rattle.script.specs.Reading.{BadIn, BadAt}
 use Rattle.script.specs.declared.ScriptBad.{ScriptBad}
 use Rattle.script.specs.declared.ScriptBad.TheVariants.{NoMemory, Bad}
@@ -30,7 +30,7 @@ flat-more {A} {B} f xs x = flat_map-append f xs (x ∷ []) ∙ ap (λ (t : List 
 
 set_up-append : (s : Setup) (xs ys : List Setting) → set_up s (xs ++ ys) ≡ set_up (set_up s xs) ys
 set_up-append s [] ys = refl
-set_up-append s (x ∷ xs) ys = set_up-append (kept s (configured s x)) xs ys
+set_up-append s (x ∷ xs) ys = set_up-append (setup_kept s (configured s x)) xs ys
 
 actions-more : (n : ℕ) (xs : List (List ℕ)) (x : List ℕ) → actions_from n (xs ++ x ∷ []) ≡ actions_from n xs ++ action_of (n + length xs) (said x)
 actions-more n [] x =

@@ -15,5 +15,5 @@ pieces separator (b ∷ bs) = if b == separator then [] ∷ pieces separator bs 
 abbrev pub lines_of : List ℕ → List (List ℕ)
 lines_of = pieces 10
 
-abbrev pub words_of : List ℕ → List (List ℕ)
-words_of = pieces 32
+abbrev pub words_between_blanks : List ℕ → List (List ℕ)
+words_between_blanks = pieces 32

@@ -5,7 +5,7 @@ use Rattle.script_rows.specs.declared.settings.Setting.{Setting}
 use Rattle.script_rows.specs.declared.Action.{Action}
 use Rattle.script.specs.declared.said.Said.{Said}
 use Rattle.script.specs.declared.said.Said.TheVariants.{Nothing, Sets, Does}
-use Rattle.script.specs.Pieces.{words_of}
+use Rattle.script.specs.Pieces.{words_between_blanks}
 use Rattle.script_rows.specs.Settings.{setting_row}
 use Rattle.script_rows.specs.Actions.{action_row}
 
@@ -33,7 +33,7 @@ has_words (b ∷ bs) = not (b == 35)
 -- bytes, or not of UTF-8, too
 abbrev pub said : List ℕ → Result Said ℕ
 said line = if nat_lt 1024 (length line) || not (is_utf8 line) then Err 3
-    else (if has_words line then words_say (words_of line) else Ok Nothing)
+    else (if has_words line then words_say (words_between_blanks line) else Ok Nothing)
 
 -- the first word is `storage`
 abbrev pub first_is_storage : List (List ℕ) → Bool

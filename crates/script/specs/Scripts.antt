@@ -6,7 +6,7 @@ use Rattle.script_rows.specs.declared.settings.Setting.{Setting}
 use Rattle.script.specs.declared.said.Said.{Said}
 use Rattle.script.specs.declared.said.Said.TheVariants.{Nothing, Sets, Does}
 use Rattle.script.specs.declared.Line.{Line}
-use Rattle.script.specs.Pieces.{words_of}
+use Rattle.script.specs.Pieces.{words_between_blanks}
 use Rattle.script_rows.specs.Settings.{configured}
 use Rattle.script.specs.Saying.{has_words, said, first_is_storage}
 
@@ -31,13 +31,13 @@ is_action (Ok (Does action)) = true
 is_action (Err rule) = false
 
 -- the set-up as these settings make it one by one
-abbrev pub kept : Setup → Result Setup ℕ → Setup
-kept old (Ok new) = new
-kept old (Err rule) = old
+abbrev pub setup_kept : Setup → Result Setup ℕ → Setup
+setup_kept old (Ok new) = new
+setup_kept old (Err rule) = old
 
 abbrev pub set_up : Setup → List Setting → Setup
 set_up s [] = s
-set_up s (x ∷ xs) = set_up (kept s (configured s x)) xs
+set_up s (x ∷ xs) = set_up (setup_kept s (configured s x)) xs
 
 -- the actions of the lines, the first of which has the number n
 abbrev pub actions_from : ℕ → List (List ℕ) → List Line
@@ -70,7 +70,7 @@ broken_by c (Ok (Does action)) = None
 
 -- the first rule, in the order 6, 1 to 5, that a line breaks after these lines; 6: the first line with words is no `storage` line
 abbrev pub fault : Context → List ℕ → Option ℕ
-fault c line = if has_words line && (not c.begun && not (first_is_storage (words_of line))) then Some 6 else broken_by c (said line)
+fault c line = if has_words line && (not c.begun && not (first_is_storage (words_between_blanks line))) then Some 6 else broken_by c (said line)
 
 -- the same of the line with n lines before it
 abbrev pub fault_at : List (List ℕ) → ℕ → Option ℕ
@@ -81,12 +81,12 @@ abbrev pub AreClean : List (List ℕ) → ℕ → Type 0
 AreClean lines n = (k : ℕ) → k < n → fault_at lines k ≡ None
 
 -- a script as it is read
-pub record Contents : Type 0 where
+pub record ScriptContents : Type 0 where
   pub setup : Setup
   pub lines : List Line
 
 -- the script that lines are
-pub record IsScript (text : List (List ℕ)) (s : Contents) : Type 0 where
+pub record IsScript (text : List (List ℕ)) (s : ScriptContents) : Type 0 where
   -- no line breaks a rule
   pub clean : AreClean text (length text)
   -- some line has words, so `storage` comes first

@@ -1,7 +1,7 @@
 //! Reading a script line by line.
 
 ghost use Rattle.std.specs.Prelude.{◌≡◌, ◌<◌, ◌++◌, ◌∷◌, [], true, OnOk, IfErr, IfOk, None, Ok, Err, length, map, vec_len, vec_capacity};
-ghost use Rattle.script.specs.Pieces.{words_of};
+ghost use Rattle.script.specs.Pieces.{words_between_blanks};
 ghost use Rattle.script.specs.Saying.{first_is_storage};
 ghost use Rattle.script.specs.Scripts as spec;
 ghost use Rattle.script.specs.Drafts.{context, Hears, IsNext, IsDraftOf};
@@ -27,7 +27,7 @@ pub struct Draft {
 
 /// Whether the line's first word is `storage`.
 fn begins<S: Supply>(alloc: Global, supply: &mut S, line: &[u8]) -> Result<bool, LineFault>
-    ensures ok { IfOk result (λ b. b ≡ first_is_storage (words_of line.now)) }
+    ensures ok { IfOk result (λ b. b ≡ first_is_storage (words_between_blanks line.now)) }
     ensures err { IfErr result (λ f. f ≡ LineFault.NoMemory) }
     ensures given { OnOk result (S.refused supply.new ≡ S.refused supply.old) }
     ensures memory { result ≡ Err LineFault.NoMemory → S.refused supply.new ≡ true }

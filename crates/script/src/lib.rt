@@ -45,9 +45,9 @@ pub struct Script {
 }
 
 impl Model for Script {
-    ghost use Rattle.script.specs.Scripts.{Contents};
+    ghost use Rattle.script.specs.Scripts.{ScriptContents};
 
-    ghost Value = { Contents };
+    ghost Value = { ScriptContents };
 
     ghost view = { λ s. record { setup = s.config; lines = s.lines.items } };
 }

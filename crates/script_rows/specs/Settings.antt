@@ -15,8 +15,8 @@ kind_named word = if bytes_eq word (codes "block") then Some Block
     else None))
 
 -- `storage BLOCKS`
-abbrev pub storage_row : List (List ℕ) → Result Setting ℕ
-storage_row = with_one (λ n. and_then (number n) (λ n. Some (Storage n)))
+abbrev pub storage_setting_row : List (List ℕ) → Result Setting ℕ
+storage_setting_row = with_one (λ n. and_then (number n) (λ n. Some (Storage n)))
 
 -- `sets COUNT`
 abbrev pub sets_row : List (List ℕ) → Result Setting ℕ
@@ -40,7 +40,7 @@ sub_row (s ∷ d ∷ u ∷ cs) =
 
 -- the table: the first word, and the row that goes by it
 abbrev pub setting_row : List ℕ → List (List ℕ) → Option (Result Setting ℕ)
-setting_row w ws = if bytes_eq w (codes "storage") then Some (storage_row ws)
+setting_row w ws = if bytes_eq w (codes "storage") then Some (storage_setting_row ws)
     else (if bytes_eq w (codes "sets") then Some (sets_row ws)
     else (if bytes_eq w (codes "path") then Some (path_row ws)
     else (if bytes_eq w (codes "unit") then Some (unit_row ws)

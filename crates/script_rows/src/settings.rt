@@ -50,7 +50,7 @@ fn kind_named(word: &[u8]) -> Option<UnitKind>
 }
 
 fn storage_row(words: &[&[u8]]) -> Result<Setting, u8>
-    ensures { result ≡ spec.storage_row (map (λ w. w.now) words.now) }
+    ensures { result ≡ spec.storage_setting_row (map (λ w. w.now) words.now) }
 {
     let blocks = one(words).ok_or(2)?;
     let blocks = number(blocks).ok_or(3)?;

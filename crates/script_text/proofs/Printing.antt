@@ -6,7 +6,7 @@ use Rattle.std.proofs.lemmas.Grind.{flat_map-append}
 use Rattle.std.specs.Prelude.{Option}
 use Rattle.std.specs.Io.KnownBytes.{Appends}
 use Rattle.std.proofs.KnownBytes.{Appends-nil}
-use Rattle.streams.specs.Sinks.{Seen, Takes, FailsIn, Puts}
+use Rattle.streams.specs.Sinks.{Seen, TakesText, FailsIn, Puts}
 use Rattle.streams.proofs.Sinking.{takes_then, fails_then}
 
 pub same_text : (o n : Seen) (a b : List ℕ) (whole : Bool) → a ≡ b → Puts o a n whole → Puts o b n whole
@@ -22,7 +22,7 @@ front : (f : ℕ → List ℕ) (xs : List ℕ) (i : ℕ) → i < length xs → f
 front f xs i lt = ap (flat_map f) (take_more xs i 0 lt) ∙ flat-more f (take i xs) (get_or xs i 0)
 
 pub failed_within : (o m n : Seen) (f : ℕ → List ℕ) (xs : List ℕ) (i : ℕ) → i < length xs
-    → Takes o (flat_map f (take i xs)) m → Puts m (f (get_or xs i 0)) n false → Puts o (flat_map f xs) n false
+    → TakesText o (flat_map f (take i xs)) m → Puts m (f (get_or xs i 0)) n false → Puts o (flat_map f xs) n false
 failed_within o m n f xs i lt t p =
     let whole : flat_map f xs ≡ (flat_map f (take i xs) ++ f (get_or xs i 0)) ++ flat_map f (drop (i + 1) xs) =
     ap (flat_map f) (sym (take-append-drop (i + 1) xs)) ∙ flat_map-append f (take (i + 1) xs) (drop (i + 1) xs)

@@ -17,8 +17,8 @@ use Rattle.chan_events.specs.declared.reply.Reply.{Reply}
 use Rattle.chan_events.specs.declared.reply.Reply.TheVariants as reply
 use Rattle.chan_model.specs.declared.fault.Fault.{Fault}
 use Rattle.chan_model.specs.declared.fault.Fault.TheVariants as fault
-use Rattle.script_text.specs.declared.Told.{Told}
-use Rattle.script_text.specs.declared.Told.TheVariants as told
+use Rattle.script_text.specs.declared.ActionResult.{ActionResult}
+use Rattle.script_text.specs.declared.ActionResult.TheVariants as told
 
 -- 0 to 9 and A to F
 abbrev pub hex_digit : ℕ → ℕ
@@ -106,16 +106,16 @@ refusal_text fault.Operand = codes "refused 11"
 abbrev pub serials_text : Serials → List ℕ
 serials_text serials = codes "made " ++ decimal serials.made ++ codes " cleared " ++ decimal serials.cleared
 
-abbrev pub told_text : Told → List ℕ
+abbrev pub told_text : ActionResult → List ℕ
 told_text (told.Reply it) = reply_text it
 told_text (told.Serials it) = serials_text it
 
-abbrev pub outcome_text : Result Told Fault → List ℕ
+abbrev pub outcome_text : Result ActionResult Fault → List ℕ
 outcome_text (Ok it) = told_text it
 outcome_text (Err it) = refusal_text it
 
 -- the line of one action: its line's number, and what it came to
-abbrev pub event_line : ℕ → Result Told Fault → List ℕ
+abbrev pub event_line : ℕ → Result ActionResult Fault → List ℕ
 event_line n outcome = decimal n ++ 32 ∷ outcome_text outcome ++ 10 ∷ []
 
 -- the line of a bad script

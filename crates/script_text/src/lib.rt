@@ -22,7 +22,7 @@ use streams::Sink;
 
 /// What an action that is not refused comes to.
 #[derive(Drop)]
-pub enum Told {
+pub enum ActionResult {
     /// The reply of an event.
     Reply(Reply),
     /// How many statuses a subchannel made, and how many of these are cleared.
@@ -256,16 +256,16 @@ fn put_serials<S: Sink>(sink: &mut S, serials: Serials) -> bool
     put_numbers(sink, b"made ", serials.made, b" cleared ", serials.cleared)
 }
 
-fn put_told<S: Sink>(sink: &mut S, told: &Told) -> bool
+fn put_told<S: Sink>(sink: &mut S, told: &ActionResult) -> bool
     ensures { Puts (S.seen sink.old) (spec.told_text told.now) (S.seen sink.new) result }
 {
     match told {
-        Told::Reply(reply) => put_reply(sink, reply),
-        Told::Serials(serials) => put_serials(sink, *serials),
+        ActionResult::Reply(reply) => put_reply(sink, reply),
+        ActionResult::Serials(serials) => put_serials(sink, *serials),
     }
 }
 
-fn put_outcome<S: Sink>(sink: &mut S, outcome: &Result<Told, Fault>) -> bool
+fn put_outcome<S: Sink>(sink: &mut S, outcome: &Result<ActionResult, Fault>) -> bool
     ensures { Puts (S.seen sink.old) (spec.outcome_text outcome.now) (S.seen sink.new) result }
 {
     match outcome {
@@ -275,7 +275,7 @@ fn put_outcome<S: Sink>(sink: &mut S, outcome: &Result<Told, Fault>) -> bool
 }
 
 /// What an action came to, after a space.
-fn put_spaced<S: Sink>(sink: &mut S, outcome: &Result<Told, Fault>) -> bool
+fn put_spaced<S: Sink>(sink: &mut S, outcome: &Result<ActionResult, Fault>) -> bool
     ensures { Puts (S.seen sink.old) (32 ∷ spec.outcome_text outcome.now) (S.seen sink.new) result }
 {
     sink.put(b" ") && put_outcome(sink, outcome)
@@ -283,21 +283,25 @@ fn put_spaced<S: Sink>(sink: &mut S, outcome: &Result<Told, Fault>) -> bool
 
 /// The number of a line before that.
 #[tactic(auto, using(streams::proofs::Sinking::takes_then, streams::proofs::Sinking::fails_then))]
-fn put_numbered<S: Sink>(sink: &mut S, line: u64, outcome: &Result<Told, Fault>) -> bool
+fn put_numbered<S: Sink>(sink: &mut S, line: u64, outcome: &Result<ActionResult, Fault>) -> bool
     ensures { Puts (S.seen sink.old) (decimal line ++ 32 ∷ spec.outcome_text outcome.now) (S.seen sink.new) result }
 {
     put_decimal(sink, line) && put_spaced(sink, outcome)
 }
 
 /// The line of one action, piece by piece.
-fn put_pieces<S: Sink>(sink: &mut S, line: u64, outcome: &Result<Told, Fault>) -> bool
+fn put_pieces<S: Sink>(sink: &mut S, line: u64, outcome: &Result<ActionResult, Fault>) -> bool
     ensures { Puts (S.seen sink.old) (spec.event_line line outcome.now) (S.seen sink.new) result }
 {
     put_numbered(sink, line, outcome) && sink.put(b"\n")
 }
 
 /// The line of one action: the decimal number of its line, what it came to, and a line feed.
-pub fn put_event_line<S: Sink>(sink: &mut S, line: u64, outcome: &Result<Told, Fault>) -> bool
+pub fn put_event_line<S: Sink>(
+    sink: &mut S,
+    line: u64,
+    outcome: &Result<ActionResult, Fault>,
+) -> bool
     ensures { Puts (S.seen sink.old) (spec.event_line line outcome.now) (S.seen sink.new) result }
 {
     put_event_line_at_once(sink, &mut Held::new(), line, outcome)
@@ -309,7 +313,7 @@ pub fn put_event_line_at_once<S: Sink>(
     sink: &mut S,
     held: &mut Held,
     line: u64,
-    outcome: &Result<Told, Fault>,
+    outcome: &Result<ActionResult, Fault>,
 ) -> bool
     ensures { Puts (S.seen sink.old) (spec.event_line line outcome.now) (S.seen sink.new) result }
 {

@@ -1,6 +1,6 @@
 -- The numbers of each table fit its bits.
 use Rattle.std.proofs.Common.{◌<◌, ◌≡◌, ◌++◌, List, [], ◌∷◌, ap, true, map, lit<}
-use Rattle.zbits.specs.declared.layout.Entry.{Entry}
+use Rattle.zbits.specs.declared.layout.BitField.{BitField}
 use Rattle.zbits.specs.Words.{bytes_of_words}
 use Rattle.zbits.specs.Layout.{AllFit, AllTablesFit, all_cover, at, layout_of, word_of}
 use Rattle.zbits.proofs.LayoutLemmas.{bit_number-lt}
@@ -14,14 +14,14 @@ use Rattle.scsw_irb.specs.declared.scsw.DeferredCode.TheVariants.{Zero, One, Two
 use Rattle.scsw_irb.specs.declared.irb.Irb.{Irb}
 use Rattle.scsw_irb.specs.declared.code.IntCode.{IntCode}
 use Rattle.scsw_irb.specs.declared.crw.Crw.{Crw}
-use Rattle.scsw_irb.specs.declared.crw.Report.{Report}
-use Rattle.scsw_irb.specs.declared.crw.Report.TheVariants.{Lost, Back, ResetDone}
+use Rattle.scsw_irb.specs.declared.crw.PathReport.{PathReport}
+use Rattle.scsw_irb.specs.declared.crw.PathReport.TheVariants.{Lost, Back, ResetDone}
 use Rattle.scsw_irb.specs.ScswTable.{code_number, function_table, activity_table, status_table, control_table, word_0, scsw_tables, irb_tables}
 use Rattle.scsw_irb.specs.CodeTable.{code_tables}
 use Rattle.scsw_irb.specs.CrwTable.{error_code, crw_table, is_solicited}
 use Rattle.scsw_irb.specs.Ranges.{IsScswInRange, IsIrbInRange, IsCodeInRange, IsCrwInRange}
 
-AllFit-append : (xs ys : List Entry) → AllFit xs → AllFit ys → AllFit (xs ++ ys)
+AllFit-append : (xs ys : List BitField) → AllFit xs → AllFit ys → AllFit (xs ++ ys)
 AllFit-append [] ys a b = b
 AllFit-append (x ∷ xs) ys a b = (a.0, AllFit-append xs ys a.1 b)
 
@@ -31,7 +31,7 @@ code_number-lt One = lit< tt
 code_number-lt Two = lit< tt
 code_number-lt Three = lit< tt
 
-error_code-lt : (report : Report) → error_code report < 64
+error_code-lt : (report : PathReport) → error_code report < 64
 error_code-lt Lost = lit< tt
 error_code-lt Back = lit< tt
 error_code-lt ResetDone = lit< tt
@@ -83,6 +83,6 @@ crw-fit s range = (
 )
 
 -- tables of one layout that make the same words have the same numbers
-pub one_words : (s t : List (List Entry)) → layout_of s ≡ layout_of t → all_cover s ≡ true → all_cover t ≡ true
+pub one_words : (s t : List (List BitField)) → layout_of s ≡ layout_of t → all_cover s ≡ true → all_cover t ≡ true
     → AllTablesFit s → AllTablesFit t → map word_of s ≡ map word_of t → s ≡ t
 one_words s t p hs ht a b h = one_image s t p hs ht a b (ap bytes_of_words h)

@@ -1,23 +1,23 @@
 -- Where each part of an I/O-interruption code stands in its three words (SA22-7832, chapter 16).
 use Rattle.std.specs.Prelude.{ℕ, ◌≡◌, true, List, [], ◌∷◌, slice_index}
-use Rattle.zbits.specs.declared.layout.Entry.{Entry}
+use Rattle.zbits.specs.declared.layout.BitField.{BitField}
 use Rattle.zbits.specs.Bits.{field_of}
 use Rattle.zbits.specs.Layout.{at, flag_at, zeros}
 use Rattle.scsw_irb.specs.declared.code.IntCode.{IntCode}
 
 -- the subsystem-identification word
-abbrev pub identification : IntCode → List Entry
+abbrev pub identification : IntCode → List BitField
 identification code = zeros 0 12 ∷ at 13 14 code.set ∷ flag_at 15 true ∷ at 16 31 code.subchannel ∷ []
 
-abbrev pub parameter : IntCode → List Entry
+abbrev pub parameter : IntCode → List BitField
 parameter code = at 0 31 code.parameter ∷ []
 
 -- the interruption-identification word
-abbrev pub interruption : IntCode → List Entry
+abbrev pub interruption : IntCode → List BitField
 interruption code = zeros 0 1 ∷ at 2 4 code.subclass ∷ zeros 5 31 ∷ []
 
 -- the table of the code's three words
-abbrev pub code_tables : IntCode → List (List Entry)
+abbrev pub code_tables : IntCode → List (List BitField)
 code_tables code = identification code ∷ parameter code ∷ interruption code ∷ []
 
 -- the bits that are the same in each code are as they must be

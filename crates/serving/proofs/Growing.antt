@@ -8,24 +8,24 @@ use Rattle.script_rows.specs.declared.Action.{Action}
 use Rattle.script_text.specs.Text.{event_line}
 use Rattle.script.specs.declared.Line.{Line}
 use Rattle.serving.specs.declared.performing.Written.{Written}
-use Rattle.serving.specs.Acting.{Installed, Outcome, Acts, Runs}
-use Rattle.streams.specs.Sinks.{Seen, Takes, Puts}
+use Rattle.serving.specs.Acting.{Installed, ActionOutcome, PerformsAction, Runs}
+use Rattle.streams.specs.Sinks.{Seen, TakesText, Puts}
 use Rattle.serving.specs.Performing.{output_of, IsDone, HasPerformed, HasStopped}
 
-pub runs-more : (old : Installed) (es : List Action) (os : List Outcome) (middle : Installed) (e : Action) (o : Outcome) (new : Installed)
-    → Runs old es os middle → Acts middle e o new → Runs old (es ++ e ∷ []) (os ++ o ∷ []) new
-runs-more old [] [] middle e o new h s = (new, subst (λ (m : Installed). Acts m e o new) h s, refl)
+pub runs-more : (old : Installed) (es : List Action) (os : List ActionOutcome) (middle : Installed) (e : Action) (o : ActionOutcome) (new : Installed)
+    → Runs old es os middle → PerformsAction middle e o new → Runs old (es ++ e ∷ []) (os ++ o ∷ []) new
+runs-more old [] [] middle e o new h s = (new, subst (λ (m : Installed). PerformsAction m e o new) h s, refl)
 runs-more old [] (p ∷ os) middle e o new h s = absurd h
 runs-more old (f ∷ es) [] middle e o new h s = absurd h
 runs-more old (f ∷ es) (p ∷ os) middle e o new h s = (h.0, h.1, runs-more h.0 es os middle e o new h.2 s)
 
-pub runs-length : (old : Installed) (ls : List Line) (os : List Outcome) (new : Installed) → Runs old (map (λ l. l.action) ls) os new → length ls ≡ length os
+pub runs-length : (old : Installed) (ls : List Line) (os : List ActionOutcome) (new : Installed) → Runs old (map (λ l. l.action) ls) os new → length ls ≡ length os
 runs-length old [] [] new h = refl
 runs-length old [] (p ∷ os) new h = absurd h
 runs-length old (l ∷ ls) [] new h = absurd h
 runs-length old (l ∷ ls) (p ∷ os) new h = ap suc (runs-length h.0 ls os new h.2)
 
-pub output-more : (ls : List Line) (os : List Outcome) (l : Line) (o : Outcome) → length ls ≡ length os
+pub output-more : (ls : List Line) (os : List ActionOutcome) (l : Line) (o : ActionOutcome) → length ls ≡ length os
     → output_of (ls ++ l ∷ []) (os ++ o ∷ []) ≡ output_of ls os ++ event_line l.number o
 output-more [] [] l o e = append-nil (event_line l.number o)
 output-more [] (p ∷ os) l o e = absurd (omega arith)
@@ -42,32 +42,32 @@ pub or-false : (a : Bool) → (a || false) ≡ a
 or-false true = refl
 or-false false = refl
 
-pub any-more : (os : List Outcome) (o : Outcome) → list_any is_err (os ++ o ∷ []) ≡ (list_any is_err os || is_err o)
+pub any-more : (os : List ActionOutcome) (o : ActionOutcome) → list_any is_err (os ++ o ∷ []) ≡ (list_any is_err os || is_err o)
 any-more [] o = or-false (is_err o)
 any-more (p ∷ os) o = ap (λ (b : Bool). is_err p || b) (any-more os o) ∙ or-assoc (is_err p) (list_any is_err os) (is_err o)
 
-pub refused-more : (os : List Outcome) (o : Outcome) (a b : Bool) → a ≡ list_any is_err os → b ≡ is_err o → (a || b) ≡ list_any is_err (os ++ o ∷ [])
+pub refused-more : (os : List ActionOutcome) (o : ActionOutcome) (a b : Bool) → a ≡ list_any is_err os → b ≡ is_err o → (a || b) ≡ list_any is_err (os ++ o ∷ [])
 refused-more os o a b e f = ap (λ (x : Bool). x || b) e ∙ ap (λ (x : Bool). list_any is_err os || x) f ∙ sym (any-more os o)
 
 pub actions-more : (ls : List Line) (l : Line) → map (λ (k : Line). k.action) (ls ++ l ∷ []) ≡ map (λ (k : Line). k.action) ls ++ l.action ∷ []
 actions-more [] l = refl
 actions-more (m ∷ ls) l = ap (λ (t : List Action). m.action ∷ t) (actions-more ls l)
 
-takes-more : (held then now : Seen) (xs ys : List ℕ) → Takes held xs then → Takes then ys now → Takes held (xs ++ ys) now
+takes-more : (held then now : Seen) (xs ys : List ℕ) → TakesText held xs then → TakesText then ys now → TakesText held (xs ++ ys) now
 takes-more held then now xs ys a b = record {
   bytes = Appends-trans held.bytes then.bytes now.bytes xs ys a.bytes b.bytes;
   failed = b.failed ∙ a.failed;
 }
 
-performed_more : (old middle new : Installed) (ls : List Line) (l : Line) (held then now : Seen) (a : Bool) (r : Written) (o : Outcome)
-    → HasPerformed old ls held then a middle → Acts middle l.action o new → r.refused ≡ is_err o → Takes then (event_line l.number o) now
+performed_more : (old middle new : Installed) (ls : List Line) (l : Line) (held then now : Seen) (a : Bool) (r : Written) (o : ActionOutcome)
+    → HasPerformed old ls held then a middle → PerformsAction middle l.action o new → r.refused ≡ is_err o → TakesText then (event_line l.number o) now
     → HasPerformed old (ls ++ l ∷ []) held now (a || r.refused) new
 performed_more old middle new ls l held then now a r o h acts refused took = record {
   outcomes = h.outcomes ++ o ∷ [];
   runs = subst (λ (es : List Action). Runs old es (h.outcomes ++ o ∷ []) new) (sym (actions-more ls l))
       (runs-more old (map (λ k. k.action) ls) h.outcomes middle l.action o new h.runs acts);
   refused = refused-more h.outcomes o a r.refused h.refused refused;
-  written = subst (λ (text : List ℕ). Takes held text now) (sym (output-more ls h.outcomes l o (runs-length old ls h.outcomes middle h.runs)))
+  written = subst (λ (text : List ℕ). TakesText held text now) (sym (output-more ls h.outcomes l o (runs-length old ls h.outcomes middle h.runs)))
       (takes-more held then now (output_of ls h.outcomes) (event_line l.number o) h.written took);
 }
 

@@ -23,14 +23,14 @@ use Rattle.machine_model.specs.declared.state.UnitTurn.TheVariants.{Takes, Works
 use Rattle.scsw_irb.specs.declared.serials.Serials.{Serials}
 use Rattle.script_rows.specs.declared.Action.{Action}
 use Rattle.script_rows.specs.declared.Action.TheVariants as action
-use Rattle.script_text.specs.declared.Told.{Told}
-use Rattle.script_text.specs.declared.Told.TheVariants as told
+use Rattle.script_text.specs.declared.ActionResult.{ActionResult}
+use Rattle.script_text.specs.declared.ActionResult.TheVariants as told
 
 -- what an action comes to, and what an event does
-abbrev pub Outcome : Type 0
-Outcome = Result Told Fault
+abbrev pub ActionOutcome : Type 0
+ActionOutcome = Result ActionResult Fault
 
-abbrev pub told_of : Result Reply Fault → Outcome
+abbrev pub told_of : Result Reply Fault → ActionOutcome
 told_of (Ok r) = Ok (told.Reply r)
 told_of (Err f) = Err f
 
@@ -40,8 +40,8 @@ pub record Installed : Type 0 where
   pub devices : List AnyDevice
   pub kept : List (Option Report)
 
-abbrev pub opening : Setup → Installed
-opening setup = record {
+abbrev pub opening_installed : Setup → Installed
+opening_installed setup = record {
   past = record { state = opening_of setup; history = []; room = 0 };
   devices = map device_of setup.units;
   kept = replicate (length setup.units) None;
@@ -57,20 +57,20 @@ Enters old e (Err fault.NoMemory) new = LacksRoom old new
 Enters old e (Err f) new = IsRefused old.state e f × GoesByRule TakesNext old.state e (Err f) new.state × IsAsBefore old new
 
 -- A turn of a device: the report that is to be handed in, or why there is none; and the devices, of which one may be called.
-pub record Turn : Type 0 where
+pub record DeviceTurn : Type 0 where
   pub report : Result Report Fault
   pub devices : List AnyDevice
 
-abbrev pub refused : List AnyDevice → Fault → Turn
-refused devices fault = record { report = Err fault; devices = devices }
+abbrev pub turn_refused : List AnyDevice → Fault → DeviceTurn
+turn_refused devices fault = record { report = Err fault; devices = devices }
 
-abbrev pub hands : List AnyDevice → Report → Turn
+abbrev pub hands : List AnyDevice → Report → DeviceTurn
 hands devices report = record { report = Ok report; devices = devices }
 
 -- what the device of a unit answers to a call, and the devices after it
-abbrev pub answered : Option AnyDevice → Call → Option DeviceAnswer
-answered None call = None
-answered (Some device) call = Some (answer_of device call)
+abbrev pub answer_by : Option AnyDevice → Call → Option DeviceAnswer
+answer_by None call = None
+answer_by (Some device) call = Some (answer_of device call)
 
 abbrev pub called : List AnyDevice → ℕ → Option AnyDevice → Call → List AnyDevice
 called devices place None call = devices
@@ -82,29 +82,29 @@ report_with side number command sequence None = Err fault.NoSuchUnit
 report_with side number command sequence (Some answer) =
     Ok (record { side = side; number = number; command = command; sequence = sequence; answer = answer })
 
-abbrev pub report_of : Option AnyDevice → Work → Result Report Fault
-report_of device (work.Report own) = Ok own
-report_of device (work.Call side number command sequence call) = report_with side number command sequence (answered device call)
+abbrev pub report_of_work : Option AnyDevice → Work → Result Report Fault
+report_of_work device (work.Report own) = Ok own
+report_of_work device (work.Call side number command sequence call) = report_with side number command sequence (answer_by device call)
 
 abbrev pub devices_after : List AnyDevice → ℕ → Work → List AnyDevice
 devices_after devices place (work.Report own) = devices
 devices_after devices place (work.Call side number command sequence call) = called devices place (slice_get devices place) call
 
-abbrev pub worked : List AnyDevice → ℕ → Work → Turn
-worked devices place w = record { report = report_of (slice_get devices place) w; devices = devices_after devices place w }
+abbrev pub worked : List AnyDevice → ℕ → Work → DeviceTurn
+worked devices place w = record { report = report_of_work (slice_get devices place) w; devices = devices_after devices place w }
 
 -- the report that is kept for a unit, else the one of its work
-abbrev pub turn_by : List AnyDevice → ℕ → Option (Option Report) → Option UnitTurn → Turn
-turn_by devices place None turn = refused devices fault.NoSuchUnit
-turn_by devices place (Some kept) None = refused devices fault.NoSuchUnit
+abbrev pub turn_by : List AnyDevice → ℕ → Option (Option Report) → Option UnitTurn → DeviceTurn
+turn_by devices place None turn = turn_refused devices fault.NoSuchUnit
+turn_by devices place (Some kept) None = turn_refused devices fault.NoSuchUnit
 turn_by devices place (Some (Some report)) (Some turn) = hands devices report
-turn_by devices place (Some None) (Some (Takes id path)) = refused devices fault.NotNow
-turn_by devices place (Some None) (Some (Away path)) = refused devices fault.NotNow
-turn_by devices place (Some None) (Some Rests) = refused devices fault.NotNow
+turn_by devices place (Some None) (Some (Takes id path)) = turn_refused devices fault.NotNow
+turn_by devices place (Some None) (Some (Away path)) = turn_refused devices fault.NotNow
+turn_by devices place (Some None) (Some Rests) = turn_refused devices fault.NotNow
 turn_by devices place (Some None) (Some (Works w)) = worked devices place w
 
-abbrev pub turn_of : Installed → ℕ → Turn
-turn_of old place = turn_by old.devices place (slice_get old.kept place) (unit_turn_of old.past.state place)
+abbrev pub device_turn_of : Installed → ℕ → DeviceTurn
+device_turn_of old place = turn_by old.devices place (slice_get old.kept place) (unit_turn_of old.past.state place)
 
 -- a report is kept where it was refused for want of memory or of room on a wire, and only there
 abbrev pub kept_of_fault : Report → Fault → Option Report
@@ -128,22 +128,22 @@ Follows old place (Ok report) r new = HandsIn old place report r new
 Follows old place (Err f) r new = (r ≡ Err f) × (new ≡ old)
 
 abbrev pub TakesTurn : Installed → ℕ → Result Reply Fault → Installed → Type 0
-TakesTurn old place r new = Follows (record old { devices = (turn_of old place).devices }) place (turn_of old place).report r new
+TakesTurn old place r new = Follows (record old { devices = (device_turn_of old place).devices }) place (device_turn_of old place).report r new
 
 -- a look at the serials of a subchannel: refused where it is not configured
-abbrev pub glanced : Option Serials → Outcome
+abbrev pub glanced : Option Serials → ActionOutcome
 glanced None = Err fault.NoSuchSubchannel
 glanced (Some serials) = Ok (told.Serials serials)
 
-abbrev pub Acts : Installed → Action → Outcome → Installed → Type 0
-Acts old (action.Event e) r new =
+abbrev pub PerformsAction : Installed → Action → ActionOutcome → Installed → Type 0
+PerformsAction old (action.Event e) r new =
     (came : Result Reply Fault) × (r ≡ told_of came) × Enters old.past e came new.past × (new.devices ≡ old.devices) × (new.kept ≡ old.kept)
-Acts old (action.Dev place) r new = (came : Result Reply Fault) × (r ≡ told_of came) × TakesTurn old place came new
-Acts old (action.Glance word) r new = (r ≡ glanced (serials_in (sub_of old.past.state word))) × (new ≡ old)
+PerformsAction old (action.Dev place) r new = (came : Result Reply Fault) × (r ≡ told_of came) × TakesTurn old place came new
+PerformsAction old (action.Glance word) r new = (r ≡ glanced (serials_in (sub_of old.past.state word))) × (new ≡ old)
 
 -- the actions in order come to these outcomes
-abbrev pub Runs : Installed → List Action → List Outcome → Installed → Type 0
+abbrev pub Runs : Installed → List Action → List ActionOutcome → Installed → Type 0
 Runs old [] [] new = new ≡ old
 Runs old [] (r ∷ outcomes) new = ⊥
 Runs old (a ∷ actions) [] new = ⊥
-Runs old (a ∷ actions) (r ∷ outcomes) new = (middle : Installed) × Acts old a r middle × Runs middle actions outcomes new
+Runs old (a ∷ actions) (r ∷ outcomes) new = (middle : Installed) × PerformsAction old a r middle × Runs middle actions outcomes new

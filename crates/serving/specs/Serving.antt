@@ -1,12 +1,12 @@
 -- What the program does with a text, how it ends, and with which exit status.
 use Rattle.std.specs.Prelude.{◌≡◌, ℕ, Bool, true, false, List, codes, Option, IfSome}
-use Rattle.streams.specs.Sinks.{Seen, Puts, Takes, FailsIn}
+use Rattle.streams.specs.Sinks.{Seen, Puts, TakesText, FailsIn}
 use Rattle.script.specs.Pieces.{lines_of}
-use Rattle.script.specs.Scripts.{Contents, IsScript, IsBad}
+use Rattle.script.specs.Scripts.{ScriptContents, IsScript, IsBad}
 use Rattle.script_text.specs.Text.{bad_text}
 use Rattle.serving.specs.declared.Ending.{Ending}
 use Rattle.serving.specs.declared.Ending.TheVariants.{NotRead, Bad, NoMemory, Done, Stopped}
-use Rattle.serving.specs.Acting.{Installed, opening}
+use Rattle.serving.specs.Acting.{Installed, opening_installed}
 use Rattle.serving.specs.Performing.{HasPerformed, HasStopped}
 
 -- 2: the text was not read, or is no script; 1: an event was refused, or memory or the writer failed; 0: all was done
@@ -34,26 +34,26 @@ TellsNoMemoryBy held now (NoMemory whole) = TellsNoMemory held now whole
 TellsNoMemoryBy held now other = ⊥
 
 -- a script is run: all its lines are performed and written, or those up to one within whose print the sink failed
-abbrev pub IsRun : Contents → Seen → Seen → Ending → Type 0
+abbrev pub IsRun : ScriptContents → Seen → Seen → Ending → Type 0
 IsRun s held now NotRead = ⊥
 IsRun s held now (Bad whole) = ⊥
 IsRun s held now (NoMemory whole) = TellsNoMemory held now whole
-IsRun s held now (Done refused) = (last : Installed) × HasPerformed (opening s.setup) s.lines held now refused last
-IsRun s held now (Stopped refused) = (last : Installed) × HasStopped (opening s.setup) s.lines held now refused last
+IsRun s held now (Done refused) = (last : Installed) × HasPerformed (opening_installed s.setup) s.lines held now refused last
+IsRun s held now (Stopped refused) = (last : Installed) × HasStopped (opening_installed s.setup) s.lines held now refused last
 
 -- a script is good: the text that says so is written
 abbrev pub ok_text : List ℕ
 ok_text = codes "script ok\n"
 
 abbrev pub IsApproved : Seen → Seen → Ending → Type 0
-IsApproved held now (Done refused) = (refused ≡ false) × Takes held ok_text now
+IsApproved held now (Done refused) = (refused ≡ false) × TakesText held ok_text now
 IsApproved held now (Stopped refused) = (refused ≡ false) × FailsIn held ok_text now
 IsApproved held now other = ⊥
 
 -- a text is bad: its one line is written
-abbrev pub IsTold : ℕ → ℕ → Seen → Seen → Ending → Type 0
-IsTold line rule held now (Bad whole) = Puts held (bad_text line rule) now whole
-IsTold line rule held now other = ⊥
+abbrev pub IsBadLineOutput : ℕ → ℕ → Seen → Seen → Ending → Type 0
+IsBadLineOutput line rule held now (Bad whole) = Puts held (bad_text line rule) now whole
+IsBadLineOutput line rule held now other = ⊥
 
 abbrev pub TellsBad : List ℕ → Seen → Seen → Bool → Type 0
 TellsBad text held now whole = (line : ℕ) × (rule : ℕ) × IsBad (lines_of text) line rule × Puts held (bad_text line rule) now whole
@@ -63,13 +63,13 @@ abbrev pub Serves : Option (List ℕ) → Seen → Seen → Ending → Type 0
 Serves input held now NotRead = now ≡ held
 Serves input held now (NoMemory whole) = TellsNoMemory held now whole
 Serves input held now (Bad whole) = IfSome input (λ text. TellsBad text held now whole)
-Serves input held now (Done refused) = IfSome input (λ text. (s : Contents) × IsScript (lines_of text) s × IsRun s held now (Done refused))
-Serves input held now (Stopped refused) = IfSome input (λ text. (s : Contents) × IsScript (lines_of text) s × IsRun s held now (Stopped refused))
+Serves input held now (Done refused) = IfSome input (λ text. (s : ScriptContents) × IsScript (lines_of text) s × IsRun s held now (Done refused))
+Serves input held now (Stopped refused) = IfSome input (λ text. (s : ScriptContents) × IsScript (lines_of text) s × IsRun s held now (Stopped refused))
 
 -- the command `check`
 abbrev pub Checks : Option (List ℕ) → Seen → Seen → Ending → Type 0
 Checks input held now NotRead = now ≡ held
 Checks input held now (NoMemory whole) = TellsNoMemory held now whole
 Checks input held now (Bad whole) = IfSome input (λ text. TellsBad text held now whole)
-Checks input held now (Done refused) = IfSome input (λ text. (s : Contents) × IsScript (lines_of text) s × IsApproved held now (Done refused))
-Checks input held now (Stopped refused) = IfSome input (λ text. (s : Contents) × IsScript (lines_of text) s × IsApproved held now (Stopped refused))
+Checks input held now (Done refused) = IfSome input (λ text. (s : ScriptContents) × IsScript (lines_of text) s × IsApproved held now (Done refused))
+Checks input held now (Stopped refused) = IfSome input (λ text. (s : ScriptContents) × IsScript (lines_of text) s × IsApproved held now (Stopped refused))

@@ -2,7 +2,7 @@
 
 ghost use Rattle.std.specs.Prelude.{◌≡◌, IfOk, None, OnErr, OnOk, map, replicate, slice_get, true};
 ghost use Rattle.serving.specs.Acting as spec;
-ghost use Rattle.serving.specs.Acting.{Acts, TakesTurn, HandsIn, kept_after, opening, glanced};
+ghost use Rattle.serving.specs.Acting.{PerformsAction, TakesTurn, HandsIn, kept_after, opening_installed, glanced};
 ghost use Rattle.machine_model.specs.State.{sub_of, serials_in};
 ghost use Rattle.device_models.specs.AnyDevices.{device_of};
 
@@ -17,7 +17,7 @@ use device_models::any_device::AnyDevice;
 use machine_model::state::UnitTurn;
 use path_select::Rotating;
 use script_rows::Action;
-use script_text::Told;
+use script_text::ActionResult;
 use std::alloc::{AllocError, Global};
 use std::marker::Model;
 use subsystem::subsystem::Subsystem;
@@ -47,7 +47,7 @@ impl Installation {
         supply: &mut S,
         config: Config,
     ) -> Result<Installation, AllocError>
-        ensures made { IfOk result (λ i. i ≡ opening config) }
+        ensures made { IfOk result (λ i. i ≡ opening_installed config) }
         ensures given { OnOk result (S.refused supply.new ≡ S.refused supply.old) }
         ensures memory { OnErr result (S.refused supply.new ≡ true) }
     {
@@ -67,8 +67,8 @@ impl Installation {
     /// next work. It is refused NoSuchUnit where the unit is not configured, and NotNow where no report is kept and a
     /// signal waits for the unit, its program may ask for a path, or it has nothing to do. A look at serials is refused
     /// NoSuchSubchannel where the subchannel is not configured.
-    pub fn act(&mut self, action: &Action) -> Result<Told, Fault>
-        ensures { Acts self.old action.now result self.new }
+    pub fn act(&mut self, action: &Action) -> Result<ActionResult, Fault>
+        ensures { PerformsAction self.old action.now result self.new }
     {
         match action {
             Action::Event(event) => told_of(self.subsystem.step(event)),
@@ -78,11 +78,11 @@ impl Installation {
     }
 
     /// The serials of the subchannel that a word names.
-    fn glance(&self, subchannel: u32) -> Result<Told, Fault>
+    fn glance(&self, subchannel: u32) -> Result<ActionResult, Fault>
         ensures { result ≡ glanced (serials_in (sub_of self.now.past.state subchannel)) }
     {
         match self.subsystem.serials(subchannel) {
-            Some(serials) => Ok(Told::Serials(serials)),
+            Some(serials) => Ok(ActionResult::Serials(serials)),
             None => Err(Fault::NoSuchSubchannel),
         }
     }
@@ -96,8 +96,8 @@ impl Installation {
 
     /// The report that is kept for a unit, else the one of its next work.
     fn next_report(&mut self, unit: u32) -> Result<Report, Fault>
-        ensures report { result ≡ (spec.turn_of self.old «unit»).report }
-        ensures calls { self.new ≡ record self.old { devices = (spec.turn_of self.old «unit»).devices } }
+        ensures report { result ≡ (spec.device_turn_of self.old «unit»).report }
+        ensures calls { self.new ≡ record self.old { devices = (spec.device_turn_of self.old «unit»).devices } }
     {
         let Some(kept) = self.kept.get(unit as usize) else {
             return Err(Fault::NoSuchUnit);
@@ -131,11 +131,11 @@ impl Installation {
 }
 
 /// What an event comes to, as an action.
-fn told_of(came: Result<Reply, Fault>) -> Result<Told, Fault>
+fn told_of(came: Result<Reply, Fault>) -> Result<ActionResult, Fault>
     ensures { result ≡ spec.told_of came }
 {
     match came {
-        Ok(reply) => Ok(Told::Reply(reply)),
+        Ok(reply) => Ok(ActionResult::Reply(reply)),
         Err(fault) => Err(fault),
     }
 }
@@ -186,7 +186,7 @@ fn opening_devices<S: Supply>(
 
 /// The report of a work of a unit. Where there is a call of its device, it is made.
 fn worked(devices: &mut Vec<AnyDevice>, unit: u32, work: Work) -> Result<Report, Fault>
-    ensures report { result ≡ spec.report_of (slice_get devices.old.items «unit») work }
+    ensures report { result ≡ spec.report_of_work (slice_get devices.old.items «unit») work }
     ensures calls { devices.new.items ≡ spec.devices_after devices.old.items «unit» work }
 {
     match work {
@@ -212,7 +212,7 @@ fn worked(devices: &mut Vec<AnyDevice>, unit: u32, work: Work) -> Result<Report,
 
 /// Calls the device of a unit.
 fn called(devices: &mut Vec<AnyDevice>, unit: u32, call: &Call) -> Option<DeviceAnswer>
-    ensures answer { result ≡ spec.answered (slice_get devices.old.items «unit») call.now }
+    ensures answer { result ≡ spec.answer_by (slice_get devices.old.items «unit») call.now }
     ensures calls { devices.new.items ≡
         spec.called devices.old.items «unit» (slice_get devices.old.items «unit») call.now }
 {

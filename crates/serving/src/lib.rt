@@ -3,14 +3,14 @@
 
 ghost use Rattle.std.specs.Prelude.{◌≡◌, true};
 ghost use Rattle.serving.specs.declared.Ending.TheVariants as ending;
-ghost use Rattle.serving.specs.Serving.{Serves, Checks, IsForMemory, IsRun, IsApproved, IsTold};
+ghost use Rattle.serving.specs.Serving.{Serves, Checks, IsForMemory, IsRun, IsApproved, IsBadLineOutput};
 ghost use Rattle.serving.specs.Serving.{TellsNoMemoryBy, status_of};
 
 pub mod installation;
 pub mod performing;
 
 use crate::installation::Installation;
-use crate::performing::{Performed, perform};
+use crate::performing::{PerformedLines, perform};
 use script::{Script, ScriptBad};
 use script_text::put_bad_line;
 use std::alloc::Global;
@@ -123,7 +123,7 @@ fn run_script<M: Supply, S: Sink>(
     let Ok(mut installation) = Installation::new(alloc, supply, config) else {
         return no_memory(sink);
     };
-    let Performed { whole, refused } = perform(&mut installation, lines.as_slice(), sink);
+    let PerformedLines { whole, refused } = perform(&mut installation, lines.as_slice(), sink);
     if whole {
         Ending::Done { refused }
     } else {
@@ -144,7 +144,7 @@ fn approve<S: Sink>(sink: &mut S) -> Ending
 
 /// Writes the line of a bad script.
 fn tell_bad<S: Sink>(line: u64, rule: u8, sink: &mut S) -> Ending
-    ensures { IsTold line rule (S.seen sink.old) (S.seen sink.new) result }
+    ensures { IsBadLineOutput line rule (S.seen sink.old) (S.seen sink.new) result }
 {
     let whole = put_bad_line(sink, line, rule);
     Ending::Bad { whole }

@@ -1,6 +1,6 @@
 //! Performing the actions of a script, line by line.
 
-ghost use Rattle.serving.specs.Performing.{IsDone, Performs};
+ghost use Rattle.serving.specs.Performing.{IsDone, PerformsLines};
 
 use crate::installation::Installation;
 use script::Line;
@@ -19,7 +19,7 @@ pub struct Written {
 
 /// What came of the lines that were performed.
 #[derive(Clone, Copy, Debug)]
-pub struct Performed {
+pub struct PerformedLines {
     /// All of them were performed and written; otherwise the sink failed within the print of the last that was
     /// performed.
     pub whole: bool,
@@ -43,8 +43,12 @@ fn perform_one<S: Sink>(
 }
 
 /// Performs the lines in order, up to the first whose print is not written whole.
-pub fn perform<S: Sink>(installation: &mut Installation, lines: &[Line], sink: &mut S) -> Performed
-    ensures { Performs installation.old lines.now (S.seen sink.old) (S.seen sink.new) result installation.new }
+pub fn perform<S: Sink>(
+    installation: &mut Installation,
+    lines: &[Line],
+    sink: &mut S,
+) -> PerformedLines
+    ensures { PerformsLines installation.old lines.now (S.seen sink.old) (S.seen sink.new) result installation.new }
 {
     let mut held = Held::new();
     let mut refused = false;
@@ -52,13 +56,13 @@ pub fn perform<S: Sink>(installation: &mut Installation, lines: &[Line], sink: &
         let written = perform_one(installation, line, &mut held, sink);
         refused = refused | written.refused;
         if !written.whole {
-            return Performed {
+            return PerformedLines {
                 whole: false,
                 refused,
             };
         }
     }
-    Performed {
+    PerformedLines {
         whole: true,
         refused,
     }

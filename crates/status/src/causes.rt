@@ -11,8 +11,8 @@ use crate::testing::end_programs;
 use channel_program::check::Check;
 use scsw_irb::scsw::{ActivityControl, DeferredCode, Scsw, StatusControl};
 use scsw_irb::status::{DeviceStatus, SubchannelStatus};
-use subchannel_model::cause::Cause;
-use subchannel_model::state::{Begun, Program, SubchannelState};
+use subchannel_model::cause::StatusCause;
+use subchannel_model::state::{ActiveProgram, Program, SubchannelState};
 use subchannel_model::status::Shown;
 
 /// Status is pending, and nothing else is shown.
@@ -137,8 +137,8 @@ fn intermediate() -> StatusControl
     }
 }
 
-fn interruption_shown(state: &SubchannelState, tried: u32, count: u16) -> Shown
-    ensures { result ≡ spec.interruption_shown state.now tried count }
+fn pci_shown(state: &SubchannelState, tried: u32, count: u16) -> Shown
+    ensures { result ≡ spec.pci_shown state.now tried count }
 {
     Shown {
         conditions: intermediate(),
@@ -162,27 +162,27 @@ fn suspension_shown(tried: u32, count: u16) -> Shown
 }
 
 /// What a cause shows.
-pub fn shown_of(state: &SubchannelState, cause: &Cause) -> Shown
+pub fn shown_of(state: &SubchannelState, cause: &StatusCause) -> Shown
     ensures { result ≡ (spec.row_of state.now cause.now).shown }
 {
     match cause {
-        Cause::End {
+        StatusCause::End {
             begun,
             status,
             more,
         } => end_shown(state, begun, *status, *more),
-        Cause::FetchFault {
+        StatusCause::FetchFault {
             tried,
             check,
             count,
         } => fetch_fault_shown(*tried, *check, *count),
-        Cause::Attention => attention_shown(state),
-        Cause::NoPath => no_path_shown(state),
-        Cause::InterfaceControlCheck => interface_shown(state),
-        Cause::Interruption { tried, count } => interruption_shown(state, *tried, *count),
-        Cause::Suspension { tried, count } => suspension_shown(*tried, *count),
-        Cause::ClearDone => plain_shown(0, 0),
-        Cause::HaltDone => program_shown(state),
+        StatusCause::Attention => attention_shown(state),
+        StatusCause::NoPath => no_path_shown(state),
+        StatusCause::InterfaceControlCheck => interface_shown(state),
+        StatusCause::Pci { tried, count } => pci_shown(state, *tried, *count),
+        StatusCause::Suspension { tried, count } => suspension_shown(*tried, *count),
+        StatusCause::ClearDone => plain_shown(0, 0),
+        StatusCause::HaltDone => program_shown(state),
     }
 }
 
@@ -209,8 +209,8 @@ fn end_waiting(state: &mut SubchannelState)
     }
 }
 
-fn leave_end(state: &mut SubchannelState, begun: &Begun, last: bool)
-    ensures { state.new ≡ spec.after_end state.old begun.now last }
+fn leave_end(state: &mut SubchannelState, begun: &ActiveProgram, last: bool)
+    ensures { state.new ≡ spec.programs_after_end state.old begun.now last }
 {
     if last {
         end_programs(state);
@@ -222,20 +222,20 @@ fn leave_end(state: &mut SubchannelState, begun: &Begun, last: bool)
 }
 
 /// The programs that are over with a cause end.
-fn leave_programs(state: &mut SubchannelState, cause: &Cause)
+fn leave_programs(state: &mut SubchannelState, cause: &StatusCause)
     ensures state { state.new ≡ (spec.row_of state.old cause.now).left }
     ensures counts { state.new.serials ≡ state.old.serials }
     ensures enabled { state.new.pmcw.enabled ≡ state.old.pmcw.enabled }
     ensures word { state.new.scsw ≡ state.old.scsw }
 {
     match cause {
-        Cause::End { begun, status, .. } => leave_end(state, begun, is_last_end(*status)),
-        Cause::FetchFault { .. } => end_begun(state),
-        Cause::Attention => state.waiting = None,
-        Cause::NoPath => end_waiting(state),
-        Cause::InterfaceControlCheck => end_programs(state),
-        Cause::Interruption { .. } | Cause::Suspension { .. } | Cause::ClearDone => {}
-        Cause::HaltDone => end_programs(state),
+        StatusCause::End { begun, status, .. } => leave_end(state, begun, is_last_end(*status)),
+        StatusCause::FetchFault { .. } => end_begun(state),
+        StatusCause::Attention => state.waiting = None,
+        StatusCause::NoPath => end_waiting(state),
+        StatusCause::InterfaceControlCheck => end_programs(state),
+        StatusCause::Pci { .. } | StatusCause::Suspension { .. } | StatusCause::ClearDone => {}
+        StatusCause::HaltDone => end_programs(state),
     }
 }
 
@@ -256,18 +256,18 @@ fn without_intermediate(scsw: Scsw) -> Scsw
 }
 
 /// The status word that the status of a cause joins; that of a subchannel that is not enabled stays as it is.
-fn scsw_joined(state: &SubchannelState, cause: &Cause) -> Scsw
+fn scsw_joined(state: &SubchannelState, cause: &StatusCause) -> Scsw
     ensures { result ≡ spec.scsw_joined state.now.pmcw.enabled state.now.scsw (spec.row_of state.now cause.now).joins }
 {
     match cause {
-        Cause::ClearDone if state.pmcw.enabled => clear_scsw(),
-        Cause::HaltDone if state.pmcw.enabled => without_intermediate(state.scsw),
+        StatusCause::ClearDone if state.pmcw.enabled => clear_scsw(),
+        StatusCause::HaltDone if state.pmcw.enabled => without_intermediate(state.scsw),
         _ => state.scsw,
     }
 }
 
 /// A cause of status.
-pub(crate) fn join(state: &mut SubchannelState, cause: &Cause)
+pub(crate) fn join(state: &mut SubchannelState, cause: &StatusCause)
     requires { state.old.serials.made < 2 ^ 63 }
     ensures state { state.new ≡ spec.with_cause state.old cause.now }
     ensures made { state.new.serials ≡ joined_spec.serials_made state.old.pmcw.enabled state.old.serials }

@@ -7,7 +7,7 @@ ghost use Rattle.subchannel_model.specs.Ends as spec;
 use crate::shown::{check_status, conditions, shows_primary};
 use scsw_irb::scsw::{ActivityControl, DeferredCode, Scsw};
 use scsw_irb::status::{DeviceStatus, SubchannelStatus};
-use subchannel_model::state::{Begun, Program, SubchannelState};
+use subchannel_model::state::{ActiveProgram, Program, SubchannelState};
 use subchannel_model::status::Shown;
 
 /// Whether an End is the last of its program: it has device end or unit check, or no channel end.
@@ -40,21 +40,21 @@ fn is_channel_end_alone(status: DeviceStatus) -> bool
 }
 
 /// Whether an incorrect length of a command that ended at once is shown.
-fn shows_immediate(begun: &Begun, status: DeviceStatus) -> bool
+fn shows_immediate(begun: &ActiveProgram, status: DeviceStatus) -> bool
     ensures { result ≡ spec.shows_immediate begun.now status }
 {
     !is_channel_end_alone(status)
         || (begun.program.orb.format_one && !begun.program.orb.suppress_length)
 }
 
-fn suppresses_length(begun: &Begun) -> bool
+fn suppresses_length(begun: &ActiveProgram) -> bool
     ensures { result ≡ spec.suppresses_length begun.now }
 {
     let ccw = begun.transfer.moving.ccw();
     ccw.suppress_length && !ccw.chain_data
 }
 
-fn shows_length(scsw: Scsw, begun: &Begun, status: DeviceStatus, more: bool) -> bool
+fn shows_length(scsw: Scsw, begun: &ActiveProgram, status: DeviceStatus, more: bool) -> bool
     ensures { result ≡ spec.shows_length scsw begun.now status more }
 {
     !begun.transfer.ended
@@ -65,7 +65,12 @@ fn shows_length(scsw: Scsw, begun: &Begun, status: DeviceStatus, more: bool) -> 
         && shows_immediate(begun, status)
 }
 
-fn end_status(scsw: Scsw, begun: &Begun, status: DeviceStatus, more: bool) -> SubchannelStatus
+fn end_status(
+    scsw: Scsw,
+    begun: &ActiveProgram,
+    status: DeviceStatus,
+    more: bool,
+) -> SubchannelStatus
     ensures { result ≡ spec.end_bits scsw begun.now status more }
 {
     length_status(shows_length(scsw, begun, status, more)).joined(check_status(
@@ -73,7 +78,7 @@ fn end_status(scsw: Scsw, begun: &Begun, status: DeviceStatus, more: bool) -> Su
     ))
 }
 
-fn breaks_chain(scsw: Scsw, begun: &Begun, status: DeviceStatus, more: bool) -> bool
+fn breaks_chain(scsw: Scsw, begun: &ActiveProgram, status: DeviceStatus, more: bool) -> bool
     ensures { result ≡ spec.breaks_chain scsw begun.now status more }
 {
     status.has_check()
@@ -84,7 +89,7 @@ fn breaks_chain(scsw: Scsw, begun: &Begun, status: DeviceStatus, more: bool) -> 
 }
 
 /// Whether the next command is chained to after an End.
-pub fn chains_command(scsw: Scsw, begun: &Begun, status: DeviceStatus, more: bool) -> bool
+pub fn chains_command(scsw: Scsw, begun: &ActiveProgram, status: DeviceStatus, more: bool) -> bool
     ensures { result ≡ spec.chains_command scsw begun.now status more }
 {
     let ccw = begun.transfer.moving.ccw();
@@ -94,14 +99,14 @@ pub fn chains_command(scsw: Scsw, begun: &Begun, status: DeviceStatus, more: boo
         && !breaks_chain(scsw, begun, status, more)
 }
 
-fn is_alert(begun: &Begun, status: DeviceStatus) -> bool
+fn is_alert(begun: &ActiveProgram, status: DeviceStatus) -> bool
     ensures { result ≡ spec.is_alert begun.now status }
 {
     status.has_check() || begun.transfer.fault.is_some()
 }
 
 /// Channel end alone: the device works on.
-fn channel_end_shown(scsw: Scsw, begun: &Begun, status: DeviceStatus, more: bool) -> Shown
+fn channel_end_shown(scsw: Scsw, begun: &ActiveProgram, status: DeviceStatus, more: bool) -> Shown
     ensures { result ≡ spec.channel_end_shown scsw begun.now status more }
 {
     Shown {
@@ -123,7 +128,7 @@ fn channel_end_shown(scsw: Scsw, begun: &Begun, status: DeviceStatus, more: bool
 }
 
 /// The last End of a program.
-fn last_end_shown(scsw: Scsw, begun: &Begun, status: DeviceStatus, more: bool) -> Shown
+fn last_end_shown(scsw: Scsw, begun: &ActiveProgram, status: DeviceStatus, more: bool) -> Shown
     ensures { result ≡ spec.last_end_shown scsw begun.now status more }
 {
     Shown {
@@ -142,7 +147,7 @@ fn last_end_shown(scsw: Scsw, begun: &Begun, status: DeviceStatus, more: bool) -
 }
 
 /// The last End of an earlier program while a start waits.
-fn earlier_end_shown(scsw: Scsw, begun: &Begun, status: DeviceStatus, more: bool) -> Shown
+fn earlier_end_shown(scsw: Scsw, begun: &ActiveProgram, status: DeviceStatus, more: bool) -> Shown
     ensures { result ≡ spec.earlier_end_shown scsw begun.now status more }
 {
     Shown {
@@ -159,7 +164,7 @@ fn earlier_end_shown(scsw: Scsw, begun: &Begun, status: DeviceStatus, more: bool
 /// The last End of a program, or of an earlier one while a start waits.
 fn last_shown(
     scsw: Scsw,
-    begun: &Begun,
+    begun: &ActiveProgram,
     waiting: Option<Program>,
     status: DeviceStatus,
     more: bool,
@@ -175,7 +180,7 @@ fn last_shown(
 /// An End of a program where a start may wait.
 pub(crate) fn end_shown(
     state: &SubchannelState,
-    begun: &Begun,
+    begun: &ActiveProgram,
     status: DeviceStatus,
     more: bool,
 ) -> Shown
@@ -189,7 +194,7 @@ pub(crate) fn end_shown(
 }
 
 /// A program that showed its primary status with channel end alone: nothing is chained to its command.
-pub(crate) fn show_primary(begun: &mut Begun)
+pub(crate) fn show_primary(begun: &mut ActiveProgram)
     ensures { begun.new ≡ spec.has_shown begun.old }
 {
     begun.primary_shown = true;

@@ -16,12 +16,12 @@ pub mod testing;
 
 use chan_model::answer::ConditionCode;
 use functions::codes::tsch_code;
-use subchannel_model::cause::Cause;
+use subchannel_model::cause::StatusCause;
 use subchannel_model::state::SubchannelState;
 
 /// Makes the status of a cause pending. A subchannel that is not enabled gets none (own), but its activity and its programs
 /// change. The request for an interruption is the caller's.
-pub fn make_pending(state: &mut SubchannelState, cause: &Cause)
+pub fn make_pending(state: &mut SubchannelState, cause: &StatusCause)
     requires { state.old.serials.made < 2 ^ 63 }
     ensures state { state.new ≡ cause_spec.with_cause state.old cause.now }
     ensures made { state.new.serials ≡ status_spec.serials_made state.old.pmcw.enabled state.old.serials }

@@ -28,13 +28,14 @@ use Rattle.channel_config.specs.SubchannelWords.{subchannel_named}
 use Rattle.data_move.specs.Accesses as access
 use Rattle.transfer.specs.declared.Transfer.{Transfer}
 use Rattle.transfer.specs.Chunks.{Brought, brought_by, brought_in, brings_none, brought, fitting, is_answered}
-use Rattle.subchannel_model.specs.declared.state.Begun.{Begun}
+use Rattle.subchannel_model.specs.declared.signals.DataSignal.{DataSignal}
+use Rattle.subchannel_model.specs.declared.state.ActiveProgram.{ActiveProgram}
 use Rattle.subchannel_model.specs.declared.state.Subchannel.{Subchannel}
 use Rattle.subchannel_model.specs.declared.state.SubchannelState.{SubchannelState}
 use Rattle.subchannel_model.specs.declared.status.Condition.{Condition}
 use Rattle.subchannel_model.specs.Places.{Found, found_at, place_in, reached_in}
 use Rattle.subchannel_model.specs.Sending.{finds_full}
-use Rattle.subchannel_model.specs.Taking.{Met, meets, ignoring, move_data, takes_up, bytes_of}
+use Rattle.subchannel_model.specs.Taking.{Met, meets, ignoring, move_data, takes_up, bytes_of_load}
 use Rattle.subchannel_model.specs.Choosing.{chosen}
 use Rattle.subchannel_model.specs.Resume.{rsch_code, resumed}
 use Rattle.subchannel_model.specs.Halt.{hsch_code, halted}
@@ -46,7 +47,7 @@ use Rattle.wires.specs.Queues.{queue}
 use Rattle.machine_model.specs.State.{State, found_of}
 use Rattle.machine_model.specs.Turns.{Outcome, SubTurn, UpTurn, DownTurn, at_sub, at_storage, at_unit, does}
 use Rattle.machine_model.specs.StorageSteps.{storage_turn, show_turn_of}
-use Rattle.machine_model.specs.InstructionSteps.{function_at, Starts, test_sub, tests, stores, Modifies_by, Modifies, Enables_with, Enables, with_enabling, Executes_at, Executes_on, word_of}
+use Rattle.machine_model.specs.InstructionSteps.{function_at, PerformsStart, test_sub, tests, stores, Modifies_by, Modifies, Enables_with, Enables, with_enabling, Executes_at, Executes_on, subchannel_word}
 use Rattle.machine_model.specs.ChooseSteps.{choose_sub, Chooses}
 use Rattle.machine_model.specs.UpSteps.{up_front, up_sub, up_at}
 use Rattle.machine_model.specs.DownSteps.{down_sub, down_unit, down_at}
@@ -93,9 +94,9 @@ brought_by-of n storage t count (Err check) k a = k
 brought_in-of : (n : ℕ) (storage : Contents) (t : Transfer) (bytes : List ℕ) → IsOf n storage → IsOf n (brought_in storage t bytes).storage
 brought_in-of n storage t bytes k =
     either (λ (x : Brought). IsOf n x.storage) (is_some t.fault) (brings_none storage t) _ k
-    (brought_by-of n storage t (length bytes) (access.stored storage t.walk.orb.key t.moving bytes) k
+    (brought_by-of n storage t (length bytes) (access.stored_or_skipped storage t.walk.orb.key t.moving bytes) k
     (either (AreOf n) t.moving.skipped (Ok storage) _ k
-    (checked-of n (keys.stored storage t.walk.orb.key t.moving.piece bytes)
+    (checked-of n (keys.stored_bytes storage t.walk.orb.key t.moving.piece bytes)
     (stored-of n storage t.moving.piece bytes (store_check storage t.walk.orb.key t.moving.piece (length bytes)) k))))
 
 brought-of : (n : ℕ) (storage : Contents) (t : Transfer) (s : ℕ) (bytes : List ℕ) → IsOf n storage → IsOf n (brought storage t s bytes).storage
@@ -107,12 +108,13 @@ brought-of n storage t s bytes k =
 abbrev MeetsOf : ℕ → Met → Type 0
 MeetsOf n m = IsOf n m.storage
 
-data-of : (n : ℕ) (storage : Contents) (s : SubchannelState) (begun : Option Begun) (p t c m seq : ℕ) (load : Load) → IsOf n storage →
-    MeetsOf n (move_data storage s begun p t c m seq load)
-data-of n storage s None p t c m seq load k = k
-data-of n storage s (Some b) p t c m seq load k =
-    either (MeetsOf n) (is_answered b.transfer m seq) _ (meets storage (ignoring s))
-    (either (MeetsOf n) (is_outward b.transfer.code) (meets storage _) _ k (brought-of n storage b.transfer seq (bytes_of load) k)) k
+data-of : (n : ℕ) (storage : Contents) (s : SubchannelState) (begun : Option ActiveProgram) (signal : DataSignal)
+    (load : Load) → IsOf n storage → MeetsOf n (move_data storage s begun signal load)
+data-of n storage s None signal load k = k
+data-of n storage s (Some b) signal load k =
+    either (MeetsOf n) (is_answered b.transfer signal.command signal.sequence) _ (meets storage (ignoring s))
+    (either (MeetsOf n) (is_outward b.transfer.code) (meets storage _) _ k
+    (brought-of n storage b.transfer signal.sequence (bytes_of_load load) k)) k
 
 met-of : (n : ℕ) (returns : Bool) (storage : Contents) (s : SubchannelState) (p : ℕ) (signal : Up) → IsOf n storage → MeetsOf n (takes_up returns storage s p signal)
 met-of n returns storage s p (up.Accept t) k = k
@@ -120,7 +122,7 @@ met-of n returns storage s p (up.Busy t) k = k
 met-of n returns storage s p (up.Leave t c) k = k
 met-of n returns storage s p (up.Back t c) k = k
 met-of n returns storage s p (up.Data t c m seq load) k =
-    either (MeetsOf n) (is_connected s.hold.phase p t c) _ (meets storage (ignoring s)) (data-of n storage s s.begun p t c m seq load k) k
+    either (MeetsOf n) (is_connected s.hold.phase p t c) _ (meets storage (ignoring s)) (data-of n storage s s.begun _ load k) k
 met-of n returns storage s p (up.End t m status more) k = k
 met-of n returns storage s p (up.Released t) k = k
 met-of n returns storage s p (up.Cleared r) k = k
@@ -182,7 +184,7 @@ module _ (s : State) where
   function-kept None code effect = refl
   function-kept (Some f) code effect = refl
 
-  starts-kept : (q : Option Found) (image : Result (List ℕ) StorageFault) (o : Outcome) → Starts s q image o → Kept o
+  starts-kept : (q : Option Found) (image : Result (List ℕ) StorageFault) (o : Outcome) → PerformsStart s q image o → Kept o
   starts-kept q (Err f) o w = subst Kept (sym w) tt
   starts-kept q (Ok image) o w =
       elim w [
@@ -276,7 +278,7 @@ steps-kept s (event.Put address bytes) o w = subst (Kept s) (sym w) (put-kept s 
 steps-kept s (event.SetKey address key) o w = subst (Kept s) (sym w) (key-kept s address key)
 steps-kept s (event.SetPrefix cpu address) o w = subst (Kept s) (sym w) (prefix-kept s cpu address)
 steps-kept s (event.Show address count) o w = subst (Kept s) (sym w) (show-kept s (keys.shown s.storage address count))
-steps-kept s (event.Execute cpu i) o w = executes-kept s cpu i (subchannel_named s.sets (word_of i)) o w
+steps-kept s (event.Execute cpu i) o w = executes-kept s cpu i (subchannel_named s.sets (subchannel_word i)) o w
 steps-kept s (event.Choose word) o w = chooses-kept s (found_of s word) o w
 steps-kept s (event.Up word path) o w = subst (Kept s) (sym w) (up-kept s (found_of s word) path)
 steps-kept s (event.Down word path) o w = subst (Kept s) (sym w) (down-kept s (found_of s word) path)

@@ -8,10 +8,10 @@ use Rattle.subchannel_model.specs.declared.state.Candidate.{Candidate}
 use Rattle.subchannel_model.specs.declared.state.Chosen.{Chosen}
 use Rattle.subchannel_model.specs.declared.state.Chosen.TheVariants as chosen_is
 use Rattle.subchannel_model.specs.declared.state.Program.{Program}
-use Rattle.subchannel_model.specs.declared.state.Standing.{Standing}
+use Rattle.subchannel_model.specs.declared.state.ProgramPosition.{ProgramPosition}
 use Rattle.subchannel_model.specs.declared.state.Subchannel.{Subchannel}
 use Rattle.subchannel_model.specs.declared.state.SubchannelState.{SubchannelState}
-use Rattle.subchannel_model.specs.Choosing.{IsHeldBy, unsent_at, unsent_reset, first_of, starting, resuming, candidate, path_use, reset_chosen, clear_chosen, halt_at, halt_chosen, over_unless, offer_at, offer_chosen, chosen}
+use Rattle.subchannel_model.specs.Choosing.{IsHeldBy, unsent_at, unsent_reset, first_some, starting, resuming, candidate, path_use, reset_chosen, clear_chosen, halt_at, halt_chosen, over_unless, offer_at, offer_chosen, chosen}
 use Rattle.step_laws.specs.Walks.{IsFound, Suits}
 
 -- what holds of the thing that is there
@@ -19,7 +19,7 @@ abbrev IfThere : {A : Type 0} → (A → Type 0) → Option A → Type 0
 IfThere P None = Unit {0}
 IfThere P (Some x) = P x
 
-first-there : {A : Type 0} → (P : A → Type 0) (a : Option A) (later : List (Option A)) → IfThere P a → IfThere P (first_of later) → IfThere P (first_of (a ∷ later))
+first-there : {A : Type 0} → (P : A → Type 0) (a : Option A) (later : List (Option A)) → IfThere P a → IfThere P (first_some later) → IfThere P (first_some (a ∷ later))
 first-there P None later here after = after
 first-there P (Some x) later here after = here
 
@@ -31,12 +31,12 @@ or-there P (Some x) other idle here = here
 abbrev IsFoundAs : SubchannelState → Candidate → Type 0
 IsFoundAs s c = IsFound s.waiting s.suspended c.resumes c.program
 
-starting-found : (waiting : Option Program) (suspended : Option Standing) (start : Bool) → IfThere (λ (c : Candidate). IsFound waiting suspended c.resumes c.program) (starting start waiting)
+starting-found : (waiting : Option Program) (suspended : Option ProgramPosition) (start : Bool) → IfThere (λ (c : Candidate). IsFound waiting suspended c.resumes c.program) (starting start waiting)
 starting-found waiting suspended false = tt
 starting-found None suspended true = tt
 starting-found (Some program) suspended true = refl
 
-resuming-found : (waiting : Option Program) (suspended : Option Standing) (resume : Bool) → IfThere (λ (c : Candidate). IsFound waiting suspended c.resumes c.program) (resuming resume suspended)
+resuming-found : (waiting : Option Program) (suspended : Option ProgramPosition) (resume : Bool) → IfThere (λ (c : Candidate). IsFound waiting suspended c.resumes c.program) (resuming resume suspended)
 resuming-found waiting suspended false = tt
 resuming-found waiting None true = tt
 resuming-found waiting (Some st) true = (st, refl)

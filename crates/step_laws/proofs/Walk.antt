@@ -27,13 +27,13 @@ use Rattle.subchannel_model.specs.Halt.{hsch_code}
 use Rattle.subchannel_model.specs.Clear.{csch_code}
 use Rattle.subchannel_model.specs.Cancel.{xsch_code}
 use Rattle.subchannel_model.specs.declared.state.Subchannel.{Subchannel}
-use Rattle.machine_model.specs.State.{State, place_of, found_of, with_sub, with_unit}
+use Rattle.machine_model.specs.State.{State, place_of, found_of, with_sub, state_with_unit}
 use Rattle.subchannel_model.specs.Places.{Found, found_with, found_at, place_in, place_of_id, reaches, reached_in}
 use Rattle.subchannel_model.specs.Choosing.{chosen}
 use Rattle.subchannel_model.specs.Store.{pmcw_of}
 use Rattle.subchannel_model.specs.Enable.{enabling}
 use Rattle.machine_model.specs.Turns.{Outcome, SubTurn, UpTurn, DownTurn, at_sub, at_storage, at_unit, does}
-use Rattle.machine_model.specs.InstructionSteps.{code_at, function_sub, function_at, not_provided, start_at, Starts, Starts_with, test_sub, tests, store_at, stores, modify_at, Modifies_by, Modifies, Enables_with, Enables, Executes_at, Executes_on, word_of}
+use Rattle.machine_model.specs.InstructionSteps.{code_at, function_sub, function_at, not_provided, start_at, PerformsStart, Starts_with, test_sub, tests, store_at, stores, modify_at, Modifies_by, Modifies, Enables_with, Enables, Executes_at, Executes_on, subchannel_word}
 use Rattle.machine_model.specs.ChooseSteps.{choose_sub, Chooses}
 use Rattle.machine_model.specs.UpSteps.{up_sub, up_at}
 use Rattle.machine_model.specs.DownSteps.{down_sub, down_unit, down_at}
@@ -71,7 +71,7 @@ module _ (s : State) where
   at_storage-walks v place (Err e) f = tt
 
   at_unit-walks : (v : Event) (place at : ℕ) (r : Result DownTurn Fault) →
-      ((t : DownTurn) → r ≡ Ok t → Walked s v t.reply (with_unit (with_sub s place t.sub) at t.«unit»)) → OkAll v (at_unit s place at r)
+      ((t : DownTurn) → r ≡ Ok t → Walked s v t.reply (state_with_unit (with_sub s place t.sub) at t.«unit»)) → OkAll v (at_unit s place at r)
   at_unit-walks v place at (Ok t) f = f t refl
   at_unit-walks v place at (Err e) f = tt
 
@@ -153,7 +153,7 @@ module _ (s : State) where
       ]
 
   starts-walk : (cpu word address : ℕ) (id : SubchannelId) (q : Option Found) (r : Result (List ℕ) StorageFault) (o : Outcome) →
-      subchannel_named s.sets word ≡ Some id → found_at s.subs (place_in id s.subs) ≡ q → Starts s q r o → OkAll (event.Execute cpu (instruction.Ssch word address)) o
+      subchannel_named s.sets word ≡ Some id → found_at s.subs (place_in id s.subs) ≡ q → PerformsStart s q r o → OkAll (event.Execute cpu (instruction.Ssch word address)) o
   starts-walk cpu word address id q (Err x) o n e w = subst (OkAll (event.Execute cpu (instruction.Ssch word address))) (sym w) tt
   starts-walk cpu word address id q (Ok image) o n e w = started-walks cpu word address id q image o n e w
 
@@ -165,7 +165,7 @@ module _ (s : State) where
       (λ x there. walked.Performed _ _ x.place x.sub f (code_at code x.sub) _ (n _)
       (record { there = (found-there s.subs p x (e ∙ there)).1; sets = refl; subs = refl; units = refl }))
 
-  executes-walk : (cpu : ℕ) (i : Instruction) (id : SubchannelId) (q : Option Found) (o : Outcome) → subchannel_named s.sets (word_of i) ≡ Some id →
+  executes-walk : (cpu : ℕ) (i : Instruction) (id : SubchannelId) (q : Option Found) (o : Outcome) → subchannel_named s.sets (subchannel_word i) ≡ Some id →
       found_at s.subs (place_in id s.subs) ≡ q → Executes_at s cpu i q o → OkAll (event.Execute cpu i) o
   executes-walk cpu (instruction.Ssch word address) id q o n e w = starts-walk cpu word address id q (operand_at s.storage cpu address 12 4) o n e w
   executes-walk cpu (instruction.Tsch word address) id q o n e w =
@@ -186,7 +186,7 @@ module _ (s : State) where
   executes-walk cpu (instruction.Xsch word) id q o n e w =
       subst (OkAll (event.Execute cpu (instruction.Xsch word))) (sym w) (performs-walk (event.Execute cpu (instruction.Xsch word)) (place_in id s.subs) q xsch_code Cancels (λ r. tt) e)
 
-  executes_on-walk : (cpu : ℕ) (i : Instruction) (x : Option SubchannelId) (o : Outcome) → subchannel_named s.sets (word_of i) ≡ x → Executes_on s cpu i x o →
+  executes_on-walk : (cpu : ℕ) (i : Instruction) (x : Option SubchannelId) (o : Outcome) → subchannel_named s.sets (subchannel_word i) ≡ x → Executes_on s cpu i x o →
       OkAll (event.Execute cpu i) o
   executes_on-walk cpu i None o n w = subst (OkAll (event.Execute cpu i)) (sym w) tt
   executes_on-walk cpu i (Some id) o n w = executes-walk cpu i id (found_at s.subs (place_in id s.subs)) o n refl w

@@ -15,7 +15,7 @@ use Rattle.path_select.specs.Choice.{IsChoice}
 use Rattle.subchannel_model.specs.declared.state.Chosen as choosing
 use Rattle.subchannel_model.specs.declared.state.Chosen.TheVariants.{Offers}
 use Rattle.subchannel_model.specs.declared.state.Program.{Program}
-use Rattle.subchannel_model.specs.declared.state.Standing.{Standing}
+use Rattle.subchannel_model.specs.declared.state.ProgramPosition.{ProgramPosition}
 use Rattle.subchannel_model.specs.declared.state.Subchannel.{Subchannel}
 use Rattle.subchannel_model.specs.declared.state.SubchannelState.{SubchannelState}
 use Rattle.machine_model.specs.State.{State, place_of}
@@ -77,18 +77,18 @@ pub record OneUnit (s new : State) (place : ℕ) (sub after : Subchannel) (at : 
   pub units : new.units ≡ slice_set s.units at v
 
 -- a program is there that waits, or one that is suspended
-abbrev pub IsFound : Option Program → Option Standing → Bool → Program → Type 0
+abbrev pub IsFound : Option Program → Option ProgramPosition → Bool → Program → Type 0
 IsFound waiting suspended false program = waiting ≡ Some program
-IsFound waiting suspended true program = (st : Standing) × (suspended ≡ Some st)
+IsFound waiting suspended true program = (st : ProgramPosition) × (suspended ≡ Some st)
 
-abbrev pub IsOfProgram : choosing.Chosen → SubchannelState → Type 0
-IsOfProgram (Offers c path) s = IsFound s.waiting s.suspended c.resumes c.program
-IsOfProgram c s = Unit {0}
+abbrev pub IsForProgram : choosing.Chosen → SubchannelState → Type 0
+IsForProgram (Offers c path) s = IsFound s.waiting s.suspended c.resumes c.program
+IsForProgram c s = Unit {0}
 
 -- what is chosen suits the subchannel: it fits the hold, and what is offered is a program that is there
 pub record Suits (c : choosing.Chosen) (s : SubchannelState) : Type 0 where
   pub fits : IsFitFor c s.hold
-  pub found : IsOfProgram c s
+  pub found : IsForProgram c s
 
 pub data Walked (s : State) : Event → Reply → State → Type 0 where
   Stays : (e : Event) (r : Reply) (new : State) → IsQuiet e r → new.sets ≡ s.sets → new.subs ≡ s.subs → new.units ≡ s.units → Walked s e r new

@@ -5,7 +5,7 @@ use Rattle.std.specs.List.{range_with_len}
 use Rattle.std.proofs.lemmas.Bool.Decides.{nat_tests}
 use Rattle.std.proofs.lemmas.Grind.{common_steps}
 use Rattle.std.proofs.lemmas.List.{take-append-drop, get_or-set_other, get_or-set_same, length-set}
-use Rattle.storage_keys.specs.Storage.{Contents, IsStorage, absolute_under, absolute, places, is_inside, access_check, where_permitted, permits_fetch, fetched, with_values, operand_stored, put_at}
+use Rattle.storage_keys.specs.Storage.{Contents, IsStorage, absolute_under, absolute, absolute_places, is_inside, access_check, where_permitted, permits_fetch, fetched, with_values, operand_stored, put_at}
 use Rattle.storage_keys.proofs.OperandLemmas.{map-slice_index-range}
 
 -- what is_inside tells of some bytes
@@ -69,12 +69,12 @@ values_placed f inj (v ∷ vs) bytes a (suc i) inside below =
 
 pub operand_others : (s : Contents) (cpu address : ℕ) (values : List ℕ) (place : ℕ) → ((i : ℕ) → i < length values → place ≢ absolute s cpu (address + i))
     → slice_index (operand_stored s cpu address values).bytes place ≡ slice_index s.bytes place
-unfolding places
+unfolding absolute_places
 operand_others s cpu address values place apart = values_others (absolute s cpu) values s.bytes address place apart
 
 pub operand_placed : (s : Contents) (cpu address : ℕ) (values : List ℕ) → IsStorage s → address + length values ≤ length s.bytes → (i : ℕ) → i < length values
     → slice_index (operand_stored s cpu address values).bytes (absolute s cpu (address + i)) ≡ slice_index values i
-unfolding places
+unfolding absolute_places
 operand_placed s cpu address values h inside i below =
     values_placed (absolute s cpu) (λ a b. absolute_under-inj (slice_index s.prefixes cpu) a b (h.prefixes cpu).0) values s.bytes address i
     (λ k lt. absolute_under-lt (slice_index s.prefixes cpu) (length s.bytes) (address + k) (omega (arith, h.least)) (h.prefixes cpu).1 (omega arith)) below

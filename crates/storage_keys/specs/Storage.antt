@@ -31,8 +31,8 @@ abbrev pub zero_key : Key
 zero_key = record { access = 0; fetch_protected = false; referenced = false; changed = false; access_fits = lit< tt }
 
 -- storage of so many blocks at first (own)
-abbrev pub cleared : ℕ → Contents
-cleared blocks = record { bytes = replicate (4096 * blocks) 0; keys = replicate blocks zero_key; prefixes = replicate 16 0 }
+abbrev pub cleared_storage : ℕ → Contents
+cleared_storage blocks = record { bytes = replicate (4096 * blocks) 0; keys = replicate blocks zero_key; prefixes = replicate 16 0 }
 
 -- Key-controlled protection
 
@@ -109,8 +109,8 @@ put_at storage address bytes =
     record storage { bytes = take address storage.bytes ++ (bytes ++ drop (address + length bytes) storage.bytes) }
 
 -- storage after a store
-abbrev pub stored : Contents → ℕ → ℕ → List ℕ → Result Contents StorageFault
-stored storage key address bytes =
+abbrev pub stored_bytes : Contents → ℕ → ℕ → List ℕ → Result Contents StorageFault
+stored_bytes storage key address bytes =
     where_permitted (store_check storage key address (length bytes)) (put_at storage address bytes)
 
 -- Prefixing
@@ -128,12 +128,12 @@ absolute storage cpu real = absolute_under (slice_index storage.prefixes cpu) re
 -- Operands of instructions (chapter 14): real addresses, turned to absolute byte by byte, with key 0
 
 -- the absolute addresses of so many bytes from a real address on
-unfoldable pub places : Contents → ℕ → ℕ → ℕ → List ℕ
-places storage cpu address count = map (absolute storage cpu) (range_with_len address count)
+unfoldable pub absolute_places : Contents → ℕ → ℕ → ℕ → List ℕ
+absolute_places storage cpu address count = map (absolute storage cpu) (range_with_len address count)
 
 -- whether each byte of an operand is in storage
 abbrev pub is_operand_inside : Contents → ℕ → ℕ → ℕ → Bool
-is_operand_inside storage cpu address count = list_all (λ place. nat_lt place (length storage.bytes)) (places storage cpu address count)
+is_operand_inside storage cpu address count = list_all (λ place. nat_lt place (length storage.bytes)) (absolute_places storage cpu address count)
 
 -- an operand is on its boundary and in storage, or why not: the boundary comes first
 abbrev pub operand_check : Contents → ℕ → ℕ → ℕ → ℕ → Result (Unit {0}) StorageFault
@@ -144,18 +144,18 @@ operand_check storage cpu address count boundary =
 -- the bytes of an operand
 abbrev pub operand_at : Contents → ℕ → ℕ → ℕ → ℕ → Result (List ℕ) StorageFault
 operand_at storage cpu address count boundary =
-    where_permitted (operand_check storage cpu address count boundary) (map (slice_index storage.bytes) (places storage cpu address count))
+    where_permitted (operand_check storage cpu address count boundary) (map (slice_index storage.bytes) (absolute_places storage cpu address count))
 
 -- bytes with each of these values at its place, in order
 abbrev pub with_values : List ℕ → List ℕ → List ℕ → List ℕ
 with_values bytes [] values = bytes
-with_values bytes (place ∷ places) [] = bytes
-with_values bytes (place ∷ places) (value ∷ values) = with_values (slice_set bytes place value) places values
+with_values bytes (place ∷ absolute_places) [] = bytes
+with_values bytes (place ∷ absolute_places) (value ∷ values) = with_values (slice_set bytes place value) absolute_places values
 
 -- storage with an operand stored
 abbrev pub operand_stored : Contents → ℕ → ℕ → List ℕ → Contents
 operand_stored storage cpu address values =
-    record storage { bytes = with_values storage.bytes (places storage cpu address (length values)) values }
+    record storage { bytes = with_values storage.bytes (absolute_places storage cpu address (length values)) values }
 
 -- The operator's acts (own): no key is asked
 

@@ -2,7 +2,7 @@
 
 ghost use Rattle.std.specs.Prelude.{◌≡◌, ◌≢◌, ℕ, ◌+◌, ◌<◌, ◌≤◌, List, IsTrue, Ok, length, map, slice_index};
 ghost use Rattle.std.specs.List.{range_with_len};
-ghost use Rattle.storage_keys.specs.Storage.{Contents, IsStorage, cleared, is_inside, fetched, put_at, absolute, operand_stored, key_set, prefix_set};
+ghost use Rattle.storage_keys.specs.Storage.{Contents, IsStorage, cleared_storage, is_inside, fetched, put_at, absolute, operand_stored, key_set, prefix_set};
 ghost use Rattle.storage_keys.specs.declared.key.Key.{Key};
 
 /// The bytes that a fetch answers are those at its addresses, in order.
@@ -28,7 +28,7 @@ pub fn operand_bytes()
 
 /// Storage stays what it is, whatever is done to it.
 pub fn soundness()
-    ensures cleared { (blocks : ℕ) → 16 ≤ blocks → blocks ≤ 4096 → IsStorage (cleared blocks) }
+    ensures cleared { (blocks : ℕ) → 16 ≤ blocks → blocks ≤ 4096 → IsStorage (cleared_storage blocks) }
     ensures put { (storage : Contents) (address : ℕ) (bytes : List ℕ) → IsStorage storage → IsTrue (is_inside storage address (length bytes)) → IsStorage (put_at storage address bytes) }
     ensures operand { (storage : Contents) (cpu address : ℕ) (bytes : List ℕ) → IsStorage storage → IsStorage (operand_stored storage cpu address bytes) }
     ensures key { (storage new : Contents) (address : ℕ) (key : Key) → IsStorage storage → key_set storage address key ≡ Ok new → IsStorage new }

@@ -54,7 +54,7 @@ impl Storage {
     pub fn new(alloc: Global, blocks: u32) -> Result<Storage, AllocError>
         requires least { 16 ≤ blocks }
         requires greatest { blocks ≤ 4096 }
-        ensures { IfOk result (λ storage. storage ≡ spec.cleared blocks) }
+        ensures { IfOk result (λ storage. storage ≡ spec.cleared_storage blocks) }
     {
         Storage::new_with(alloc, &mut Given { refused: false }, blocks)
     }
@@ -68,7 +68,7 @@ impl Storage {
     ) -> Result<Storage, AllocError>
         requires least { 16 ≤ blocks }
         requires greatest { blocks ≤ 4096 }
-        ensures cleared { IfOk result (λ storage. storage ≡ spec.cleared blocks) }
+        ensures cleared { IfOk result (λ storage. storage ≡ spec.cleared_storage blocks) }
         ensures given { OnOk result (S.refused supply.new ≡ S.refused supply.old) }
         ensures memory { OnErr result (S.refused supply.new ≡ true) }
     {
@@ -118,8 +118,8 @@ impl Storage {
     /// otherwise Protection where the key of a block that a byte lies in does not permit the
     /// store. No bytes are always permitted.
     pub fn store(&mut self, key: u8, address: u32, bytes: &[u8]) -> Result<(), StorageFault>
-        ensures stored { OnOk result (spec.stored self.old key address bytes.now ≡ Ok self.new) }
-        ensures refused { IfErr result (λ fault. spec.stored self.old key address bytes.now ≡ Err fault) }
+        ensures stored { OnOk result (spec.stored_bytes self.old key address bytes.now ≡ Ok self.new) }
+        ensures refused { IfErr result (λ fault. spec.stored_bytes self.old key address bytes.now ≡ Err fault) }
         ensures kept { OnErr result (self.new ≡ self.old) }
     {
         self.check_store(key, address, bytes.len())?;
@@ -269,7 +269,7 @@ impl Storage {
     fn read_operand(&self, cpu: u8, address: u32, bytes: &mut [u8])
         requires cpu { cpu < 16 }
         requires inside { 0 < length bytes.old → address + length bytes.old ≤ length self.now.bytes }
-        ensures { bytes.new ≡ map (slice_index self.now.bytes) (spec.places self.now cpu address (length bytes.old)) }
+        ensures { bytes.new ≡ map (slice_index self.now.bytes) (spec.absolute_places self.now cpu address (length bytes.old)) }
     {
         let mut done = 0;
         let mut real = address;
@@ -285,7 +285,7 @@ impl Storage {
         requires cpu { cpu < 16 }
         requires one_area { real % 8192 + count ≤ 8192 }
         requires inside { real + count ≤ length self.now.bytes }
-        ensures piece { result.now ≡ map (slice_index self.now.bytes) (spec.places self.now cpu real count) }
+        ensures piece { result.now ≡ map (slice_index self.now.bytes) (spec.absolute_places self.now cpu real count) }
         ensures sound { spec.IsStorage self.now }
     {
         self.part(self.piece_address(cpu, real, count), count)

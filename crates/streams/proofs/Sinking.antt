@@ -3,14 +3,14 @@ use Rattle.std.proofs.Common.{◌≡◌, ℕ, ◌+◌, ◌<◌, zero, suc, Bool,
 use Rattle.std.proofs.Math.Seq.{take-append-add}
 use Rattle.std.proofs.KnownBytes.{Appends-trans}
 use Rattle.std.specs.Io.KnownBytes.{Appends}
-use Rattle.streams.specs.Sinks.{Seen, Takes, FailsIn, Puts}
+use Rattle.streams.specs.Sinks.{Seen, TakesText, FailsIn, Puts}
 
 front : (k : ℕ) (a b : List ℕ) → k < length a → take k (a ++ b) ≡ take k a
 front k [] b lt = absurd (omega (arith, lt))
 front zero (x ∷ a) b lt = refl
 front (suc k) (x ∷ a) b lt = ap (λ (t : List ℕ). x ∷ t) (front k a b (omega (arith, lt)))
 
-pub takes_then : (o m n : Seen) (a b : List ℕ) (r : Bool) → Takes o a m → Puts m b n r → Puts o (a ++ b) n r
+pub takes_then : (o m n : Seen) (a b : List ℕ) (r : Bool) → TakesText o a m → Puts m b n r → Puts o (a ++ b) n r
 takes_then o m n a b true t p = record {
   bytes = Appends-trans o.bytes m.bytes n.bytes a b t.bytes p.bytes;
   failed = p.failed ∙ t.failed;

@@ -8,7 +8,7 @@ pub record Seen : Type 0 where
   pub failed : Bool
 
 -- the whole of a text went in
-pub record Takes (old : Seen) (text : List ℕ) (new : Seen) : Type 0 where
+pub record TakesText (old : Seen) (text : List ℕ) (new : Seen) : Type 0 where
   pub bytes : Appends old.bytes new.bytes text
   pub failed : new.failed ≡ old.failed
 
@@ -20,5 +20,5 @@ pub record FailsIn (old : Seen) (text : List ℕ) (new : Seen) : Type 0 where
   pub failed : new.failed ≡ true
 
 abbrev pub Puts : Seen → List ℕ → Seen → Bool → Type 0
-Puts old text new true = Takes old text new
+Puts old text new true = TakesText old text new
 Puts old text new false = FailsIn old text new

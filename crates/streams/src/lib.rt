@@ -7,7 +7,6 @@ ghost use Rattle.streams.specs.declared.NoText.TheVariants as no_text;
 ghost use Rattle.std.specs.Prelude.{Err, true, ◌≡◌, ◌≤◌, ◌++◌, false, take, length, IfOk, OnOk, IfSome, IfNone};
 ghost use Rattle.std.specs.Io.KnownBytes.{Appends, IsAtEnd, Keeps};
 
-
 use std::alloc::Global;
 use std::io::{ErrorKind, Read, Write};
 use supply::{Given, Supply, extend};

@@ -13,24 +13,24 @@ use Rattle.chan_model.specs.declared.signal.Up.TheVariants as up
 use Rattle.chan_model.specs.HoldTable.{HoldStep, hold_takes, hold_after, came_of, is_connected, is_on, letting_go}
 use Rattle.chan_model.specs.UnitReports.{is_last_end, is_outward, has_device_end}
 use Rattle.channel_program.specs.declared.check.Check.{Check}
-use Rattle.channel_program.specs.Walks.{Place}
+use Rattle.channel_program.specs.Walks.{WalkPlace}
 use Rattle.data_move.specs.Moving.{residual}
-use Rattle.transfer.specs.declared.Came.{Came}
-use Rattle.transfer.specs.declared.Came.TheVariants as came
+use Rattle.transfer.specs.declared.CommandStart.{CommandStart}
+use Rattle.transfer.specs.declared.CommandStart.TheVariants as came
 use Rattle.transfer.specs.declared.Beginning.{Beginning}
 use Rattle.transfer.specs.Commands.{first_command, next_command}
 use Rattle.transfer.specs.Chunks.{is_answered}
 use Rattle.subchannel_model.specs.declared.signals.DataSignal.{DataSignal}
 use Rattle.subchannel_model.specs.declared.signals.EndSignal.{EndSignal}
-use Rattle.subchannel_model.specs.declared.state.Begun.{Begun}
+use Rattle.subchannel_model.specs.declared.state.ActiveProgram.{ActiveProgram}
 use Rattle.subchannel_model.specs.declared.state.Program.{Program}
-use Rattle.subchannel_model.specs.declared.state.Standing.{Standing}
+use Rattle.subchannel_model.specs.declared.state.ProgramPosition.{ProgramPosition}
 use Rattle.subchannel_model.specs.declared.state.SubchannelState.{SubchannelState}
 use Rattle.subchannel_model.specs.declared.state.UpStep.{UpStep}
-use Rattle.subchannel_model.specs.declared.cause.Cause.TheVariants as cause
+use Rattle.subchannel_model.specs.declared.cause.StatusCause.TheVariants as cause
 use Rattle.subchannel_model.specs.Causes.{with_cause, without_begun}
 use Rattle.subchannel_model.specs.Ends.{has_status_modifier, chains_command}
-use Rattle.subchannel_model.specs.Taking.{end_taken, Met, meets, ignoring, let_go, suspending, standing, goes_ahead, with_path, beginning, begin_standing, accepted_by, accept_by, move_bytes, move_data, chaining, goes_on, with_end, end_shown_at, stops_at, command_ended, end_of, reset_taken, notice, takes_up}
+use Rattle.subchannel_model.specs.Taking.{end_taken, Met, meets, ignoring, let_go, suspending, standing, goes_ahead, path_used, beginning, begin_standing, accepted_by, accept_by, move_bytes, move_data, chaining, goes_on, with_end, end_shown_at, stops_at, command_ended, end_of, reset_taken, notice, takes_up}
 use Rattle.subchannel.specs.Answering.{path_of, only_if, held_path, accepted_path, moved_path, chained_path, going_path, ended_path, end_of_path, answer_path}
 
 abbrev answers : UpStep → Option ℕ
@@ -64,21 +64,21 @@ hold-if : (b : Bool) (x y : SubchannelState) (h : HoldState) → x.hold ≡ h �
 hold-if true x y h e f = e
 hold-if false x y h e f = f
 
-suspending-hold : (s : SubchannelState) (program : Program) (walk : Place) (count : ℕ) → (suspending s program walk count).hold ≡ s.hold
+suspending-hold : (s : SubchannelState) (program : Program) (walk : WalkPlace) (count : ℕ) → (suspending s program walk count).hold ≡ s.hold
 suspending-hold s program walk count = hold-if program.orb.suppress_suspended _ _ s.hold refl refl
 
-begun-hold : (b : Option Begun) (s : SubchannelState) → (without_begun b s).hold ≡ s.hold
+begun-hold : (b : Option ActiveProgram) (s : SubchannelState) → (without_begun b s).hold ≡ s.hold
 begun-hold None s = refl
 begun-hold (Some b) s = refl
 
 fault-hold : (s : SubchannelState) (tried : ℕ) (check : Check) (count : ℕ) → (with_cause s (cause.FetchFault tried check count)).hold ≡ s.hold
 fault-hold s tried check count = begun-hold s.begun s
 
-end-hold : (s : SubchannelState) (b : Begun) (signal : EndSignal) → (end_shown_at s b signal).hold ≡ s.hold
+end-hold : (s : SubchannelState) (b : ActiveProgram) (signal : EndSignal) → (end_shown_at s b signal).hold ≡ s.hold
 end-hold s b signal = hold-if (is_last_end signal.status) _ _ s.hold refl refl
 
 -- Accept
-begun-answers : (storage : Contents) (s : SubchannelState) (p t c : ℕ) (st : Standing) (walk : Place) (x : Came) → s.hold.phase ≡ hold.On t p c →
+begun-answers : (storage : Contents) (s : SubchannelState) (p t c : ℕ) (st : ProgramPosition) (walk : WalkPlace) (x : CommandStart) → s.hold.phase ≡ hold.On t p c →
     answers (beginning storage s p t st walk x) ≡ Some p
 begun-answers storage s p t c st walk (came.Begins transfer) e = refl
 begun-answers storage s p t c st walk came.Suspends e =
@@ -86,7 +86,7 @@ begun-answers storage s p t c st walk came.Suspends e =
 begun-answers storage s p t c st walk (came.Stops check) e =
     let-go (with_cause s (cause.FetchFault walk.tried check st.count)) s.hold (fault-hold s walk.tried check st.count) ∙ ap held_path e
 
-standing-answers : (storage : Contents) (s : SubchannelState) (p t c : ℕ) (st : Option Standing) → s.hold.phase ≡ hold.On t p c →
+standing-answers : (storage : Contents) (s : SubchannelState) (p t c : ℕ) (st : Option ProgramPosition) → s.hold.phase ≡ hold.On t p c →
     answers (begin_standing storage s p t st) ≡ only_if (is_some st) p
 standing-answers storage s p t c None e = refl
 standing-answers storage s p t c (Some st) e =
@@ -96,7 +96,7 @@ accepted-answers : (storage : Contents) (s : SubchannelState) (phase : HoldPhase
     answers (accepted_by storage s phase taken) ≡ accepted_path s phase taken
 accepted-answers storage s hold.Free taken e = refl
 accepted-answers storage s (hold.Offer t p) taken e = refl
-accepted-answers storage s (hold.On t p c) taken e = standing-answers storage (record s { pmcw = with_path s.pmcw p }) p t c (standing s) e
+accepted-answers storage s (hold.On t p c) taken e = standing-answers storage (record s { pmcw = path_used s.pmcw p }) p t c (standing s) e
 accepted-answers storage s (hold.Away t) taken e = refl
 accepted-answers storage s (hold.Letting t p) taken e = refl
 accepted-answers storage s (hold.Reset r) taken e = refl
@@ -107,7 +107,7 @@ accept-answers storage s h taken =
     answers-if taken.taken _ _ (accepted_path s h.phase taken) None (accepted-answers storage (record s { hold = h }) h.phase taken refl) refl
 
 -- Data
-move-answers : (storage : Contents) (s : SubchannelState) (b : Option Begun) (signal : DataSignal) (load : Load) →
+move-answers : (storage : Contents) (s : SubchannelState) (b : Option ActiveProgram) (signal : DataSignal) (load : Load) →
     answers (move_data storage s b signal load).step ≡ moved_path b signal
 move-answers storage s None signal load = refl
 move-answers storage s (Some b) signal load =
@@ -115,31 +115,31 @@ move-answers storage s (Some b) signal load =
     (both (is_outward b.transfer.code) _ _ (Some signal.path) refl refl) refl
 
 -- End
-chain-answers : (storage : Contents) (s : SubchannelState) (b : Begun) (signal : EndSignal) (walk : Place) (x : Came) →
+chain-answers : (storage : Contents) (s : SubchannelState) (b : ActiveProgram) (signal : EndSignal) (walk : WalkPlace) (x : CommandStart) →
     answers (chaining storage s b signal walk x) ≡ chained_path x signal.path (held_path s.hold.phase)
 chain-answers storage s b signal walk (came.Begins transfer) = refl
 chain-answers storage s b signal walk came.Suspends = let-go (suspending (end_taken s signal) b.program walk (residual b.transfer.moving)) s.hold (suspending-hold (end_taken s signal) b.program walk (residual b.transfer.moving))
 chain-answers storage s b signal walk (came.Stops check) =
     let-go (with_cause (end_taken s signal) (cause.FetchFault walk.tried check (residual b.transfer.moving))) s.hold (fault-hold (end_taken s signal) walk.tried check (residual b.transfer.moving))
 
-going-answers : (storage : Contents) (s : SubchannelState) (b : Begun) (signal : EndSignal) →
+going-answers : (storage : Contents) (s : SubchannelState) (b : ActiveProgram) (signal : EndSignal) →
     answers (goes_on storage s b signal) ≡ going_path storage s b signal
 going-answers storage s b signal =
     let next : Beginning = next_command storage b.transfer (has_status_modifier signal.status) in
     answers-if (has_device_end signal.status) _ _ (chained_path next.came signal.path (held_path s.hold.phase)) None
     (chain-answers storage s b signal next.walk next.came) refl
 
-stop-answers : (s : SubchannelState) (b : Begun) (signal : EndSignal) →
+stop-answers : (s : SubchannelState) (b : ActiveProgram) (signal : EndSignal) →
     answers (stops_at s b signal) ≡ (if is_last_end signal.status then held_path s.hold.phase else None)
 stop-answers s b signal =
     answers-if (is_last_end signal.status) _ _ (held_path s.hold.phase) None (let-go (end_shown_at s b signal) s.hold (end-hold s b signal)) refl
 
-ended-answers : (storage : Contents) (s : SubchannelState) (b : Begun) (signal : EndSignal) →
+ended-answers : (storage : Contents) (s : SubchannelState) (b : ActiveProgram) (signal : EndSignal) →
     answers (command_ended storage s b signal) ≡ ended_path storage s b signal
 ended-answers storage s b signal =
     answers-if (chains_command s.scsw b signal.status signal.more) _ _ _ _ (going-answers storage s (with_end b) signal) (stop-answers s b signal)
 
-end-of-answers : (storage : Contents) (s : SubchannelState) (b : Option Begun) (signal : EndSignal) →
+end-of-answers : (storage : Contents) (s : SubchannelState) (b : Option ActiveProgram) (signal : EndSignal) →
     answers (end_of storage s b signal) ≡ end_of_path storage s b signal
 end-of-answers storage s None signal = refl
 end-of-answers storage s (Some b) signal = answers-if _ _ _ _ None (ended-answers storage s b signal) refl
@@ -175,7 +175,7 @@ takes_answers returns storage s p (up.Notice b) = notice-answers s b
 takes_answers returns storage s p (up.Attn a status) = refl
 
 -- where the program is held on the path, its answer goes there
-pub chained_same : (x : Came) (p : ℕ) → Some p ≡ chained_path x p (Some p)
+pub chained_same : (x : CommandStart) (p : ℕ) → Some p ≡ chained_path x p (Some p)
 chained_same (came.Begins transfer) p = refl
 chained_same came.Suspends p = refl
 chained_same (came.Stops check) p = refl

@@ -6,9 +6,9 @@ use Rattle.chan_model.specs.HoldTable.{HoldStep, hold_after, came_of}
 use Rattle.subchannel_model.specs.declared.state.SubchannelState.{SubchannelState}
 use Rattle.subchannel_model.specs.declared.state.UpStep.{UpStep}
 use Rattle.subchannel_model.specs.Taking.{back, by_hold, is_granted, returned}
-use Rattle.subchannel.specs.Stepping.{stepped}
+use Rattle.subchannel.specs.Stepping.{subchannel_stepped}
 
-ungranted : (s : SubchannelState) (came : Taken Down) (p : ℕ) (b : Bool) → b ≡ false → stepped s came ≡ stepped (returned s p b) came
+ungranted : (s : SubchannelState) (came : Taken Down) (p : ℕ) (b : Bool) → b ≡ false → subchannel_stepped s came ≡ subchannel_stepped (returned s p b) came
 ungranted s came p false e = refl
 ungranted s came p true e = absurd (cc e)
 

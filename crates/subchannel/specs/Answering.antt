@@ -10,13 +10,13 @@ use Rattle.chan_model.specs.declared.signal.Up.{Up}
 use Rattle.chan_model.specs.declared.signal.Up.TheVariants as up
 use Rattle.chan_model.specs.HoldTable.{HoldStep, hold_takes, hold_after, came_of, is_connected, is_on}
 use Rattle.chan_model.specs.UnitReports.{is_last_end, has_device_end}
-use Rattle.transfer.specs.declared.Came.{Came}
-use Rattle.transfer.specs.declared.Came.TheVariants as came
+use Rattle.transfer.specs.declared.CommandStart.{CommandStart}
+use Rattle.transfer.specs.declared.CommandStart.TheVariants as came
 use Rattle.transfer.specs.Commands.{next_command}
 use Rattle.transfer.specs.Chunks.{is_answered}
 use Rattle.subchannel_model.specs.declared.signals.DataSignal.{DataSignal}
 use Rattle.subchannel_model.specs.declared.signals.EndSignal.{EndSignal}
-use Rattle.subchannel_model.specs.declared.state.Begun.{Begun}
+use Rattle.subchannel_model.specs.declared.state.ActiveProgram.{ActiveProgram}
 use Rattle.subchannel_model.specs.declared.state.SubchannelState.{SubchannelState}
 use Rattle.subchannel_model.specs.Ends.{has_status_modifier, chains_command}
 use Rattle.subchannel_model.specs.Taking.{standing, goes_ahead, with_end, may_attend}
@@ -39,7 +39,7 @@ accepted_path s phase taken = path_of taken.sent
 abbrev pub accept_path : SubchannelState → Option HoldStep → Option ℕ
 accept_path s step = if (came_of step).taken then accepted_path s (hold_after s.hold step).phase (came_of step) else None
 
-abbrev pub moved_path : Option Begun → DataSignal → Option ℕ
+abbrev pub moved_path : Option ActiveProgram → DataSignal → Option ℕ
 moved_path None signal = None
 moved_path (Some b) signal = only_if (is_answered b.transfer signal.command signal.sequence) signal.path
 
@@ -47,23 +47,23 @@ abbrev pub data_path : SubchannelState → DataSignal → Option ℕ
 data_path s signal =
     if is_connected s.hold.phase signal.path signal.number signal.connection then moved_path s.begun signal else None
 
-abbrev pub chained_path : Came → ℕ → Option ℕ → Option ℕ
+abbrev pub chained_path : CommandStart → ℕ → Option ℕ → Option ℕ
 chained_path (came.Begins transfer) p held = Some p
 chained_path came.Suspends p held = held
 chained_path (came.Stops check) p held = held
 
-abbrev pub going_path : Contents → SubchannelState → Begun → EndSignal → Option ℕ
+abbrev pub going_path : Contents → SubchannelState → ActiveProgram → EndSignal → Option ℕ
 going_path storage s b signal =
     if has_device_end signal.status
     then chained_path (next_command storage b.transfer (has_status_modifier signal.status)).came signal.path (held_path s.hold.phase)
     else None
 
-abbrev pub ended_path : Contents → SubchannelState → Begun → EndSignal → Option ℕ
+abbrev pub ended_path : Contents → SubchannelState → ActiveProgram → EndSignal → Option ℕ
 ended_path storage s b signal =
     if chains_command s.scsw b signal.status signal.more then going_path storage s (with_end b) signal
     else (if is_last_end signal.status then held_path s.hold.phase else None)
 
-abbrev pub end_of_path : Contents → SubchannelState → Option Begun → EndSignal → Option ℕ
+abbrev pub end_of_path : Contents → SubchannelState → Option ActiveProgram → EndSignal → Option ℕ
 end_of_path storage s None signal = None
 end_of_path storage s (Some b) signal =
     if signal.command == b.transfer.command then ended_path storage s b signal else None

@@ -6,8 +6,8 @@ use Rattle.chan_model.specs.declared.signal.Taken.{Taken}
 use Rattle.subchannel_model.specs.declared.state.SubchannelState.{SubchannelState}
 use Rattle.subchannel_model.specs.declared.state.UpStep.{UpStep}
 
-abbrev pub stepped : SubchannelState → Taken Down → UpStep
-stepped s came = record { state = s; came = came }
+abbrev pub subchannel_stepped : SubchannelState → Taken Down → UpStep
+subchannel_stepped s came = record { state = s; came = came }
 
 abbrev pub not_taken : Taken Down
 not_taken = record { taken = false; sent = None }

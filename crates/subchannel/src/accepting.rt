@@ -3,7 +3,7 @@
 ghost use Rattle.std.specs.Prelude.{◌≡◌, ◌<◌, ◌^◌};
 ghost use Rattle.chan_model.specs.HoldTable.{hold_takes};
 ghost use Rattle.subchannel_model.specs.Taking as spec;
-ghost use Rattle.subchannel.specs.Stepping.{stepped};
+ghost use Rattle.subchannel.specs.Stepping.{subchannel_stepped};
 ghost use Rattle.transfer.specs.Commands as transfer_spec;
 
 use crate::answers::{ignored, let_go, quiet, sent};
@@ -16,23 +16,25 @@ use hold::Hold;
 use scsw_irb::scsw::Scsw;
 use status::make_pending;
 use storage_keys::Storage;
-use subchannel_model::cause::Cause;
-use subchannel_model::state::{Begun, Pmcw, Program, Standing, SubchannelState};
+use subchannel_model::cause::StatusCause;
+use subchannel_model::state::{
+    ActiveProgram, PmcwState, Program, ProgramPosition, SubchannelState,
+};
 use transfer::commands::{begun_with_room, first_command};
-use transfer::{Came, Roomy, Transfer};
+use transfer::{CommandStart, Transfer, WithRoom};
 
 /// A program that waits, at its beginning.
-fn from_start(program: Program) -> Standing
+fn from_start(program: Program) -> ProgramPosition
     ensures { result ≡ spec.from_start program }
 {
-    Standing {
+    ProgramPosition {
         program,
         walk: Walk::start(program.orb),
         count: 0,
     }
 }
 
-fn suspended_as(suspended: Option<Standing>, start: u64) -> Option<Standing>
+fn suspended_as(suspended: Option<ProgramPosition>, start: u64) -> Option<ProgramPosition>
     ensures { result ≡ spec.suspended_as suspended start }
 {
     match suspended {
@@ -43,9 +45,9 @@ fn suspended_as(suspended: Option<Standing>, start: u64) -> Option<Standing>
 
 fn standing_as(
     waiting: Option<Program>,
-    suspended: Option<Standing>,
+    suspended: Option<ProgramPosition>,
     start: u64,
-) -> Option<Standing>
+) -> Option<ProgramPosition>
     ensures { result ≡ spec.standing_as waiting suspended start }
 {
     match waiting {
@@ -55,7 +57,7 @@ fn standing_as(
 }
 
 /// The program that was offered, where it is not over.
-pub(crate) fn standing(state: &SubchannelState) -> Option<Standing>
+pub(crate) fn standing(state: &SubchannelState) -> Option<ProgramPosition>
     ensures { result ≡ spec.standing state.now }
 {
     standing_as(state.waiting, state.suspended, state.offered)
@@ -68,8 +70,8 @@ pub(crate) fn goes_ahead(state: &SubchannelState) -> bool
     standing(state).is_some() && !state.scsw.activity.halt_pending
 }
 
-fn use_path(pmcw: &mut Pmcw, path: Path)
-    ensures { pmcw.new ≡ spec.with_path pmcw.old path }
+fn use_path(pmcw: &mut PmcwState, path: Path)
+    ensures { pmcw.new ≡ spec.path_used pmcw.old path }
 {
     pmcw.last_used = Some(path);
     pmcw.operational[path.index()] = true;
@@ -91,7 +93,7 @@ fn take_over(state: &mut SubchannelState, program: Program, transfer: Transfer)
     work(&mut state.scsw);
     state.waiting = None;
     state.suspended = None;
-    state.begun = Some(Begun {
+    state.begun = Some(ActiveProgram {
         program,
         primary_shown: false,
         transfer,
@@ -103,12 +105,12 @@ fn send_first(
     path: Path,
     number: u64,
     program: Program,
-    command: Roomy,
+    command: WithRoom,
 ) -> Taken<Down>
     requires { state.old.serials.made < 2 ^ 63 }
-    ensures { stepped state.new result ≡ spec.sends_first state.old path number program command }
+    ensures { subchannel_stepped state.new result ≡ spec.sends_first state.old path number program command }
 {
-    let Roomy { transfer, room } = command;
+    let WithRoom { transfer, room } = command;
     let signal = Down::Command {
         number,
         command: transfer.command,
@@ -125,26 +127,26 @@ fn begin_with(
     state: &mut SubchannelState,
     path: Path,
     number: u64,
-    standing: &Standing,
+    standing: &ProgramPosition,
 ) -> Taken<Down>
     requires { state.old.serials.made < 2 ^ 63 }
-    ensures { stepped state.new result ≡ spec.begin_with storage.now state.old path number standing.now (transfer_spec.first_command storage.now standing.now.walk) }
+    ensures { subchannel_stepped state.new result ≡ spec.begin_with storage.now state.old path number standing.now (transfer_spec.first_command storage.now standing.now.walk) }
 {
     let first = first_command(storage, standing.walk);
     let program = standing.program;
     let count = standing.count;
     match first.came {
-        Came::Begins(transfer) => {
+        CommandStart::Begins(transfer) => {
             let command = begun_with_room(storage, &transfer);
             send_first(state, path, number, program, command)
         }
-        Came::Suspends => {
+        CommandStart::Suspends => {
             suspend(state, program, first.walk, count);
             let_go(state)
         }
-        Came::Stops(check) => {
+        CommandStart::Stops(check) => {
             let tried = first.walk.tried();
-            let cause = Cause::FetchFault {
+            let cause = StatusCause::FetchFault {
                 tried,
                 check,
                 count,
@@ -162,7 +164,7 @@ fn begin_standing(
     number: u64,
 ) -> Taken<Down>
     requires { state.old.serials.made < 2 ^ 63 }
-    ensures { stepped state.new result ≡ spec.begin_standing storage.now state.old path number (spec.standing state.old) }
+    ensures { subchannel_stepped state.new result ≡ spec.begin_standing storage.now state.old path number (spec.standing state.old) }
 {
     match standing(state) {
         None => quiet(),
@@ -176,13 +178,13 @@ fn do_halt(state: &mut SubchannelState)
     ensures { state.new ≡ spec.halt_done state.old }
 {
     if state.scsw.activity.halt_pending {
-        make_pending(state, &Cause::HaltDone);
+        make_pending(state, &StatusCause::HaltDone);
     }
 }
 
 fn accepted_by(storage: &Storage, state: &mut SubchannelState, came: Taken<Down>) -> Taken<Down>
     requires { state.old.serials.made < 2 ^ 63 }
-    ensures { stepped state.new result ≡ spec.accepted_by storage.now state.old state.old.hold.phase came }
+    ensures { subchannel_stepped state.new result ≡ spec.accepted_by storage.now state.old state.old.hold.phase came }
 {
     let phase = state.hold.phase;
     match phase {
@@ -207,7 +209,7 @@ pub(crate) fn accept(
     signal: &Up,
 ) -> Taken<Down>
     requires { state.old.serials.made < 2 ^ 63 }
-    ensures { stepped state.new result ≡ spec.accept storage.now state.old (hold_takes state.old.hold path signal.now (spec.goes_ahead state.old)) }
+    ensures { subchannel_stepped state.new result ≡ spec.accept storage.now state.old (hold_takes state.old.hold path signal.now (spec.goes_ahead state.old)) }
 {
     let mut hold = Hold::of(state.hold);
     let came = hold.take(path, signal, goes_ahead(state));

@@ -16,8 +16,8 @@ use hold::Hold;
 use status::ends::{chains_command, is_last_end};
 use storage_keys::Storage;
 use subchannel_model::signals::{DataSignal, EndSignal};
-use subchannel_model::state::{Begun, SubchannelState};
-use transfer::Came;
+use subchannel_model::state::{ActiveProgram, SubchannelState};
+use transfer::CommandStart;
 use transfer::chunks::is_answered;
 use transfer::commands::next_command;
 
@@ -88,7 +88,7 @@ fn data_path(state: &SubchannelState, signal: DataSignal) -> Option<Path>
 
 fn beginning_path(
     storage: &Storage,
-    begun: &Begun,
+    begun: &ActiveProgram,
     path: Path,
     held: Option<Path>,
     modifier: bool,
@@ -98,8 +98,8 @@ fn beginning_path(
 {
     let next = next_command(storage, &begun.transfer, modifier);
     match next.came {
-        Came::Begins(_) => Some(path),
-        Came::Suspends | Came::Stops(_) => held,
+        CommandStart::Begins(_) => Some(path),
+        CommandStart::Suspends | CommandStart::Stops(_) => held,
     }
 }
 
@@ -107,7 +107,7 @@ fn beginning_path(
 #[tactic(auto, using(crate::proofs::Answered::chained_same))]
 fn chained_path(
     storage: &Storage,
-    begun: &Begun,
+    begun: &ActiveProgram,
     path: Path,
     held: Option<Path>,
     modifier: bool,
@@ -124,7 +124,7 @@ fn chained_path(
 fn going_path(
     storage: &Storage,
     state: &SubchannelState,
-    begun: &Begun,
+    begun: &ActiveProgram,
     signal: EndSignal,
 ) -> Option<Path>
     requires { begun.now.transfer.command < 2 ^ 63 }
@@ -146,7 +146,7 @@ fn going_path(
 fn ended_path(
     storage: &Storage,
     state: &SubchannelState,
-    begun: &Begun,
+    begun: &ActiveProgram,
     signal: EndSignal,
 ) -> Option<Path>
     requires { begun.now.transfer.command < 2 ^ 63 }

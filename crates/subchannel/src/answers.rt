@@ -3,7 +3,7 @@
 ghost use Rattle.std.specs.Prelude.{◌≡◌, None, Some};
 ghost use Rattle.chan_model.specs.HoldTable.{hold_takes};
 ghost use Rattle.subchannel_model.specs.Taking as spec;
-ghost use Rattle.subchannel.specs.Stepping.{not_taken, stepped, taken_with};
+ghost use Rattle.subchannel.specs.Stepping.{not_taken, subchannel_stepped, taken_with};
 
 use chan_model::names::Path;
 use chan_model::signal::{Down, OnPath, Taken, Up};
@@ -38,7 +38,7 @@ pub(crate) fn sent(path: Path, signal: Down) -> Taken<Down>
 }
 
 pub(crate) fn let_go(state: &mut SubchannelState) -> Taken<Down>
-    ensures { stepped state.new result ≡ spec.let_go state.old }
+    ensures { subchannel_stepped state.new result ≡ spec.let_go state.old }
 {
     let mut hold = Hold::of(state.hold);
     let sent = hold.let_go();
@@ -53,7 +53,7 @@ pub(crate) fn by_hold(
     signal: &Up,
     may: bool,
 ) -> Taken<Down>
-    ensures { stepped state.new result ≡ spec.by_hold state.old (hold_takes state.old.hold path signal.now may) }
+    ensures { subchannel_stepped state.new result ≡ spec.by_hold state.old (hold_takes state.old.hold path signal.now may) }
 {
     let mut hold = Hold::of(state.hold);
     let came = hold.take(path, signal, may);

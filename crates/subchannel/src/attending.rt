@@ -3,7 +3,7 @@
 ghost use Rattle.std.specs.Prelude.{◌≡◌, ◌<◌, ◌^◌};
 ghost use Rattle.chan_model.specs.HoldTable.{hold_takes};
 ghost use Rattle.subchannel_model.specs.Taking as spec;
-ghost use Rattle.subchannel.specs.Stepping.{stepped};
+ghost use Rattle.subchannel.specs.Stepping.{subchannel_stepped};
 
 use crate::answers::by_hold;
 use chan_model::names::Path;
@@ -11,7 +11,7 @@ use chan_model::signal::{Down, Taken, Up};
 use scsw_irb::scsw::ActivityControl;
 use scsw_irb::status::DeviceStatus;
 use status::make_pending;
-use subchannel_model::cause::Cause;
+use subchannel_model::cause::StatusCause;
 use subchannel_model::state::SubchannelState;
 
 /// Whether nothing goes on but a start that waits.
@@ -41,12 +41,12 @@ pub(crate) fn attend(
     status: DeviceStatus,
 ) -> Taken<Down>
     requires { state.old.serials.made < 2 ^ 63 }
-    ensures { stepped state.new result ≡ spec.attend state.old status (hold_takes state.old.hold path signal.now (spec.may_attend state.old)) }
+    ensures { subchannel_stepped state.new result ≡ spec.attend state.old status (hold_takes state.old.hold path signal.now (spec.may_attend state.old)) }
 {
     let may = may_attend(state);
     let came = by_hold(state, path, signal, may);
     if came.taken && status != DeviceStatus::CONTROL_UNIT_END {
-        make_pending(state, &Cause::Attention);
+        make_pending(state, &StatusCause::Attention);
     }
     came
 }

@@ -12,7 +12,9 @@ use chan_model::paths::PathSet;
 use finding::engines::Counted;
 use hold::Hold;
 use scsw_irb::scsw::Scsw;
-use subchannel_model::state::{Candidate, Chosen, Program, Standing, Subchannel, SubchannelState};
+use subchannel_model::state::{
+    Candidate, Chosen, Program, ProgramPosition, Subchannel, SubchannelState,
+};
 
 /// The number of a Reset that was not sent yet.
 fn unsent_reset(hold: &HoldState) -> Option<u64>
@@ -64,7 +66,7 @@ fn starting(start: bool, waiting: Option<Program>) -> Option<Candidate>
     }
 }
 
-fn resuming(resume: bool, suspended: Option<Standing>) -> Option<Candidate>
+fn resuming(resume: bool, suspended: Option<ProgramPosition>) -> Option<Candidate>
     ensures { result ≡ spec.resuming resume suspended }
 {
     match suspended {
@@ -102,7 +104,11 @@ fn clear_chosen(hold: &HoldState, pending: bool) -> Option<Chosen>
     ensures fits { IfSome result (λ c. spec.IsFitFor c hold.now) }
 {
     unsent_reset(hold)?;
-    if pending { Some(Chosen::Clears) } else { None }
+    if pending {
+        Some(Chosen::PerformsClear)
+    } else {
+        None
+    }
 }
 
 /// A halt that is pending.
@@ -120,7 +126,9 @@ fn halt_chosen(pending: bool, hold: &HoldState, choice: &Option<Path>) -> Option
             number,
             path: (*choice)?,
         }),
-        HoldPhase::Free | HoldPhase::Letting { .. } | HoldPhase::Reset { .. } => Some(Chosen::Ends),
+        HoldPhase::Free | HoldPhase::Letting { .. } | HoldPhase::Reset { .. } => Some(
+            Chosen::PerformsHalt,
+        ),
     }
 }
 
@@ -137,7 +145,7 @@ fn offer_chosen(
     let candidate = candidate?;
     match (hold.phase, *choice) {
         (HoldPhase::Free, Some(path)) => Some(Chosen::Offers { candidate, path }),
-        (HoldPhase::Free | HoldPhase::Reset { .. }, _) if !reachable => Some(Chosen::Over),
+        (HoldPhase::Free | HoldPhase::Reset { .. }, _) if !reachable => Some(Chosen::FindsNoPath),
         _ => None,
     }
 }

@@ -3,7 +3,7 @@
 ghost use Rattle.std.specs.Prelude.{◌≡◌, ◌<◌, ◌^◌};
 ghost use Rattle.subchannel_model.specs.Ends as end_spec;
 ghost use Rattle.subchannel_model.specs.Taking as spec;
-ghost use Rattle.subchannel.specs.Stepping.{stepped};
+ghost use Rattle.subchannel.specs.Stepping.{subchannel_stepped};
 ghost use Rattle.transfer.specs.Commands as transfer_spec;
 
 use crate::answers::{ignored, let_go, quiet, sent};
@@ -17,18 +17,18 @@ use hold::Hold;
 use status::ends::{chains_command, is_last_end};
 use status::make_pending;
 use storage_keys::Storage;
-use subchannel_model::cause::Cause;
+use subchannel_model::cause::StatusCause;
 use subchannel_model::signals::EndSignal;
-use subchannel_model::state::{Begun, SubchannelState};
+use subchannel_model::state::{ActiveProgram, SubchannelState};
 use transfer::commands::{begun_with_room, next_command};
-use transfer::{Came, Roomy};
+use transfer::{CommandStart, WithRoom};
 
 /// What an End leaves of the dedicated allegiance. Where one stands, the End is of a later program than the one whose unit
 /// check brought it.
 fn dedicated_by_end(before: Option<Path>, signal: EndSignal) -> Option<Path>
     ensures { result ≡ spec.dedicated_by_end before signal }
 {
-    let cause = allegiances::Cause::End {
+    let cause = allegiances::AllegianceCause::End {
         path: signal.path,
         unit_check: signal.status.has_check(),
         later: true,
@@ -42,7 +42,7 @@ fn take_end(state: &mut SubchannelState, signal: EndSignal)
     state.dedicated = dedicated_by_end(state.dedicated, signal);
 }
 
-pub(crate) fn with_end(begun: &Begun) -> Begun
+pub(crate) fn with_end(begun: &ActiveProgram) -> ActiveProgram
     ensures { result ≡ spec.with_end begun.now }
 {
     let mut next = *begun;
@@ -52,14 +52,14 @@ pub(crate) fn with_end(begun: &Begun) -> Begun
 
 fn send_next(
     state: &mut SubchannelState,
-    begun: &Begun,
+    begun: &ActiveProgram,
     signal: EndSignal,
-    command: Roomy,
+    command: WithRoom,
 ) -> Taken<Down>
     requires { state.old.serials.made < 2 ^ 63 }
-    ensures { stepped state.new result ≡ spec.sends_next state.old begun.now signal command }
+    ensures { subchannel_stepped state.new result ≡ spec.sends_next state.old begun.now signal command }
 {
-    let Roomy { transfer, room } = command;
+    let WithRoom { transfer, room } = command;
     let next = Down::Command {
         number: signal.number,
         command: transfer.command,
@@ -73,28 +73,28 @@ fn send_next(
 fn chain(
     storage: &Storage,
     state: &mut SubchannelState,
-    begun: &Begun,
+    begun: &ActiveProgram,
     signal: EndSignal,
 ) -> Taken<Down>
     requires made { state.old.serials.made < 2 ^ 63 }
     requires command { begun.now.transfer.command < 2 ^ 63 }
-    ensures { stepped state.new result ≡ spec.chain_with storage.now state.old begun.now signal (transfer_spec.next_command storage.now begun.now.transfer (end_spec.has_status_modifier signal.status)) }
+    ensures { subchannel_stepped state.new result ≡ spec.chain_with storage.now state.old begun.now signal (transfer_spec.next_command storage.now begun.now.transfer (end_spec.has_status_modifier signal.status)) }
 {
     let next = next_command(storage, &begun.transfer, signal.status.has_modifier());
     let count = begun.transfer.moving.residual();
     match next.came {
-        Came::Begins(transfer) => {
+        CommandStart::Begins(transfer) => {
             let command = begun_with_room(storage, &transfer);
             send_next(state, begun, signal, command)
         }
-        Came::Suspends => {
+        CommandStart::Suspends => {
             take_end(state, signal);
             suspend(state, begun.program, next.walk, count);
             let_go(state)
         }
-        Came::Stops(check) => {
+        CommandStart::Stops(check) => {
             let tried = next.walk.tried();
-            let cause = Cause::FetchFault {
+            let cause = StatusCause::FetchFault {
                 tried,
                 check,
                 count,
@@ -109,12 +109,12 @@ fn chain(
 fn go_on(
     storage: &Storage,
     state: &mut SubchannelState,
-    begun: &Begun,
+    begun: &ActiveProgram,
     signal: EndSignal,
 ) -> Taken<Down>
     requires made { state.old.serials.made < 2 ^ 63 }
     requires command { begun.now.transfer.command < 2 ^ 63 }
-    ensures { stepped state.new result ≡ spec.goes_on storage.now state.old begun.now signal }
+    ensures { subchannel_stepped state.new result ≡ spec.goes_on storage.now state.old begun.now signal }
 {
     if signal.status.has_device_end() {
         return chain(storage, state, begun, signal);
@@ -124,11 +124,11 @@ fn go_on(
     quiet()
 }
 
-fn show_end(state: &mut SubchannelState, begun: &Begun, signal: EndSignal)
+fn show_end(state: &mut SubchannelState, begun: &ActiveProgram, signal: EndSignal)
     requires { state.old.serials.made < 2 ^ 63 }
     ensures { state.new ≡ spec.end_shown_at state.old begun.now signal }
 {
-    let cause = Cause::End {
+    let cause = StatusCause::End {
         begun: *begun,
         status: signal.status,
         more: signal.more,
@@ -138,9 +138,9 @@ fn show_end(state: &mut SubchannelState, begun: &Begun, signal: EndSignal)
     state.dedicated = dedicated_by_end(before, signal);
 }
 
-fn stop_at(state: &mut SubchannelState, begun: &Begun, signal: EndSignal) -> Taken<Down>
+fn stop_at(state: &mut SubchannelState, begun: &ActiveProgram, signal: EndSignal) -> Taken<Down>
     requires { state.old.serials.made < 2 ^ 63 }
-    ensures { stepped state.new result ≡ spec.stops_at state.old begun.now signal }
+    ensures { subchannel_stepped state.new result ≡ spec.stops_at state.old begun.now signal }
 {
     let last = is_last_end(signal.status);
     show_end(state, begun, signal);
@@ -150,12 +150,12 @@ fn stop_at(state: &mut SubchannelState, begun: &Begun, signal: EndSignal) -> Tak
 fn command_ended(
     storage: &Storage,
     state: &mut SubchannelState,
-    begun: &Begun,
+    begun: &ActiveProgram,
     signal: EndSignal,
 ) -> Taken<Down>
     requires made { state.old.serials.made < 2 ^ 63 }
     requires command { begun.now.transfer.command < 2 ^ 63 }
-    ensures { stepped state.new result ≡ spec.command_ended storage.now state.old begun.now signal }
+    ensures { subchannel_stepped state.new result ≡ spec.command_ended storage.now state.old begun.now signal }
 {
     if chains_command(state.scsw, begun, signal.status, signal.more) {
         go_on(storage, state, &with_end(begun), signal)
@@ -172,7 +172,7 @@ pub(crate) fn end_command(
 ) -> Taken<Down>
     requires made { state.old.serials.made < 2 ^ 63 }
     requires below { spec.IsBelow state.old.begun }
-    ensures { stepped state.new result ≡ spec.end_command storage.now state.old signal }
+    ensures { subchannel_stepped state.new result ≡ spec.end_command storage.now state.old signal }
 {
     if !Hold::of(state.hold).is_on(signal.number) {
         return ignored();

@@ -2,25 +2,25 @@
 
 ghost use Rattle.std.specs.Prelude.{◌≡◌, ◌<◌, ◌^◌};
 ghost use Rattle.data_move.specs.Moving.{residual};
-ghost use Rattle.subchannel_model.specs.declared.cause.Cause.TheVariants as cause;
+ghost use Rattle.subchannel_model.specs.declared.cause.StatusCause.TheVariants as cause;
 ghost use Rattle.subchannel_model.specs.Taking as spec;
 
 use ccw_walk::Walk;
 use scsw_irb::scsw::{ActivityControl, Scsw};
 use status::make_pending;
-use subchannel_model::cause::Cause;
-use subchannel_model::state::{Begun, Program, Standing, SubchannelState};
+use subchannel_model::cause::StatusCause;
+use subchannel_model::state::{ActiveProgram, Program, ProgramPosition, SubchannelState};
 
-fn drop_interruption(begun: &mut Begun)
-    ensures { begun.new ≡ spec.without_interruption begun.old }
+fn drop_interruption(begun: &mut ActiveProgram)
+    ensures { begun.new ≡ spec.without_pci begun.old }
 {
-    begun.transfer.interrupts = false;
+    begun.transfer.pci_pending = false;
 }
 
-fn interruption_of(begun: &Begun) -> Cause
-    ensures { result ≡ cause.Interruption begun.now.transfer.walk.tried (residual begun.now.transfer.moving) }
+fn interruption_of(begun: &ActiveProgram) -> StatusCause
+    ensures { result ≡ cause.Pci begun.now.transfer.walk.tried (residual begun.now.transfer.moving) }
 {
-    Cause::Interruption {
+    StatusCause::Pci {
         tried: begun.transfer.walk.tried(),
         count: begun.transfer.moving.residual(),
     }
@@ -34,7 +34,7 @@ pub(crate) fn interrupt(state: &mut SubchannelState)
     let Some(begun) = &mut state.begun else {
         return;
     };
-    if !begun.transfer.interrupts {
+    if !begun.transfer.pci_pending {
         return;
     }
     let cause = interruption_of(begun);
@@ -56,7 +56,7 @@ fn stand_still(state: &mut SubchannelState, program: Program, walk: Walk, count:
 {
     state.waiting = None;
     state.begun = None;
-    state.suspended = Some(Standing {
+    state.suspended = Some(ProgramPosition {
         program,
         walk,
         count,
@@ -74,5 +74,5 @@ pub(crate) fn suspend(state: &mut SubchannelState, program: Program, walk: Walk,
         return;
     }
     let tried = walk.tried();
-    make_pending(state, &Cause::Suspension { tried, count });
+    make_pending(state, &StatusCause::Suspension { tried, count });
 }

@@ -6,7 +6,7 @@ ghost use Rattle.subchannel_model.specs.Losing as spec;
 use chan_model::hold_state::HoldPhase;
 use hold::Hold;
 use status::make_pending;
-use subchannel_model::cause::Cause;
+use subchannel_model::cause::StatusCause;
 use subchannel_model::state::SubchannelState;
 
 fn is_offered_or_held(phase: HoldPhase) -> bool
@@ -46,6 +46,6 @@ pub fn reset_for(state: &mut SubchannelState)
     let shows = is_offered_or_held(state.hold.phase) && has_program(state);
     draw_reset(state);
     if shows {
-        make_pending(state, &Cause::InterfaceControlCheck);
+        make_pending(state, &StatusCause::InterfaceControlCheck);
     }
 }

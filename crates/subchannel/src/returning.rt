@@ -3,12 +3,12 @@
 ghost use Rattle.std.specs.Prelude.{◌≡◌, Some};
 ghost use Rattle.chan_model.specs.HoldTable.{hold_takes};
 ghost use Rattle.subchannel_model.specs.Taking as spec;
-ghost use Rattle.subchannel.specs.Stepping.{stepped};
+ghost use Rattle.subchannel.specs.Stepping.{subchannel_stepped};
 
 use crate::answers::by_hold;
 use chan_model::names::Path;
 use chan_model::signal::{Down, OnPath, Taken, Up};
-use subchannel_model::state::{Pmcw, SubchannelState};
+use subchannel_model::state::{PmcwState, SubchannelState};
 
 /// Back: the path of a Grant is the one that was used last, and the one that was chosen last.
 pub(crate) fn come_back(
@@ -17,7 +17,7 @@ pub(crate) fn come_back(
     signal: &Up,
     returns: bool,
 ) -> Taken<Down>
-    ensures { stepped state.new result ≡ spec.back state.old path (hold_takes state.old.hold path signal.now returns) }
+    ensures { subchannel_stepped state.new result ≡ spec.back state.old path (hold_takes state.old.hold path signal.now returns) }
 {
     let came = by_hold(state, path, signal, returns);
     if is_granted(&came.sent) {
@@ -43,7 +43,7 @@ fn is_granted(answer: &Option<OnPath<Down>>) -> bool
 }
 
 /// The path was used last (SA22-7832, chapter 15: last-path-used mask).
-fn mark_last_used(pmcw: &mut Pmcw, path: Path)
+fn mark_last_used(pmcw: &mut PmcwState, path: Path)
     ensures { pmcw.new ≡ record pmcw.old { last_used = Some path } }
 {
     pmcw.last_used = Some(path);

@@ -2,7 +2,7 @@
 
 ghost use Rattle.std.specs.Prelude.{◌≡◌, ◌<◌, ◌^◌, false};
 ghost use Rattle.chan_model.specs.HoldTable.{hold_takes};
-ghost use Rattle.subchannel.specs.Stepping.{stepped};
+ghost use Rattle.subchannel.specs.Stepping.{subchannel_stepped};
 ghost use Rattle.subchannel_model.specs.Taking as spec;
 
 use crate::accepting::accept;
@@ -17,7 +17,7 @@ use chan_model::signal::{Down, Taken, Up};
 use hold::Hold;
 use status::make_pending;
 use storage_keys::Storage;
-use subchannel_model::cause::Cause;
+use subchannel_model::cause::StatusCause;
 use subchannel_model::signals::{DataSignal, EndSignal};
 use subchannel_model::state::SubchannelState;
 
@@ -27,14 +27,14 @@ fn do_clear(state: &mut SubchannelState)
     ensures { state.new ≡ spec.clear_done state.old }
 {
     if state.scsw.activity.clear_pending {
-        make_pending(state, &Cause::ClearDone);
+        make_pending(state, &StatusCause::ClearDone);
     }
 }
 
 /// Cleared: the device was reset.
 fn reset_taken(state: &mut SubchannelState, path: Path, signal: &Up) -> Taken<Down>
     requires { state.old.serials.made < 2 ^ 63 }
-    ensures { stepped state.new result ≡ spec.reset_taken state.old (hold_takes state.old.hold path signal.now false) }
+    ensures { subchannel_stepped state.new result ≡ spec.reset_taken state.old (hold_takes state.old.hold path signal.now false) }
 {
     let mut hold = Hold::of(state.hold);
     let came = hold.take(path, signal, false);
@@ -50,7 +50,7 @@ fn reset_taken(state: &mut SubchannelState, path: Path, signal: &Up) -> Taken<Do
 fn notice(state: &mut SubchannelState, restarts: u64) -> Taken<Down>
     requires made { state.old.serials.made < 2 ^ 63 }
     requires drawn { state.old.drawn < 2 ^ 63 }
-    ensures { stepped state.new result ≡ spec.notice state.old restarts }
+    ensures { subchannel_stepped state.new result ≡ spec.notice state.old restarts }
 {
     if restarts <= state.hold.known {
         return ignored();
@@ -72,7 +72,7 @@ pub fn take_up(
     requires made { state.old.serials.made < 2 ^ 63 }
     requires drawn { state.old.drawn < 2 ^ 63 }
     requires below { spec.IsBelow state.old.begun }
-    ensures met { spec.meets storage.new (stepped state.new result) ≡ spec.takes_up returns storage.old state.old path signal.now }
+    ensures met { spec.meets storage.new (subchannel_stepped state.new result) ≡ spec.takes_up returns storage.old state.old path signal.now }
 {
     match signal {
         Up::Accept { .. } => accept(storage, state, path, signal),

@@ -19,11 +19,11 @@ use Rattle.subchannel_model.specs.Status.{
 use Rattle.chan_model.specs.UnitReports.{is_last_end}
 use Rattle.channel_program.specs.declared.check.Check.{Check}
 use Rattle.data_move.specs.Moving.{residual}
-use Rattle.subchannel_model.specs.declared.cause.Cause.{Cause}
-use Rattle.subchannel_model.specs.declared.cause.Cause.TheVariants as cause
+use Rattle.subchannel_model.specs.declared.cause.StatusCause.{StatusCause}
+use Rattle.subchannel_model.specs.declared.cause.StatusCause.TheVariants as cause
 use Rattle.subchannel_model.specs.declared.state.Program.{Program}
-use Rattle.subchannel_model.specs.declared.state.Begun.{Begun}
-use Rattle.subchannel_model.specs.declared.state.Standing.{Standing}
+use Rattle.subchannel_model.specs.declared.state.ActiveProgram.{ActiveProgram}
+use Rattle.subchannel_model.specs.declared.state.ProgramPosition.{ProgramPosition}
 use Rattle.subchannel_model.specs.declared.state.SubchannelState.{SubchannelState}
 use Rattle.subchannel_model.specs.Ends.{end_shown, has_shown}
 use Rattle.subchannel_model.specs.Programs.{without_programs}
@@ -42,31 +42,31 @@ plain_shown address count = record {
 
 -- the command address of the program of which a status speaks: where a start waits, or no program is there, it stands as it
 -- was left; otherwise it is that of the program that holds the device, or of the suspended one
-abbrev pub address_at : ℕ → Option Standing → ℕ
+abbrev pub address_at : ℕ → Option ProgramPosition → ℕ
 address_at stands None = stands
 address_at stands (Some st) = st.walk.tried
 
-abbrev pub address_of : ℕ → Option Begun → Option Standing → ℕ
-address_of stands None suspended = address_at stands suspended
-address_of stands (Some b) suspended = b.transfer.walk.tried
+abbrev pub program_address : ℕ → Option ActiveProgram → Option ProgramPosition → ℕ
+program_address stands None suspended = address_at stands suspended
+program_address stands (Some b) suspended = b.transfer.walk.tried
 
-abbrev pub address_by : ℕ → Option Program → Option Begun → Option Standing → ℕ
-address_by stands None begun suspended = address_of stands begun suspended
+abbrev pub address_by : ℕ → Option Program → Option ActiveProgram → Option ProgramPosition → ℕ
+address_by stands None begun suspended = program_address stands begun suspended
 address_by stands (Some program) begun suspended = stands
 
 abbrev pub address_shown : SubchannelState → ℕ
 address_shown s = address_by s.scsw.command_address s.waiting s.begun s.suspended
 
 -- the count of the program of which a status speaks, by the same cases
-abbrev pub count_at : ℕ → Option Standing → ℕ
+abbrev pub count_at : ℕ → Option ProgramPosition → ℕ
 count_at stands None = stands
 count_at stands (Some st) = st.count
 
-abbrev pub count_of : ℕ → Option Begun → Option Standing → ℕ
+abbrev pub count_of : ℕ → Option ActiveProgram → Option ProgramPosition → ℕ
 count_of stands None suspended = count_at stands suspended
 count_of stands (Some b) suspended = residual b.transfer.moving
 
-abbrev pub count_by : ℕ → Option Program → Option Begun → Option Standing → ℕ
+abbrev pub count_by : ℕ → Option Program → Option ActiveProgram → Option ProgramPosition → ℕ
 count_by stands None begun suspended = count_of stands begun suspended
 count_by stands (Some program) begun suspended = stands
 
@@ -78,7 +78,7 @@ abbrev pub program_shown : SubchannelState → Shown
 program_shown s = plain_shown (address_shown s) (count_shown s)
 
 -- whether the program of which a status speaks showed its primary status; one that waits or is suspended did not
-abbrev pub was_shown : Option Program → Option Begun → Bool
+abbrev pub was_shown : Option Program → Option ActiveProgram → Bool
 was_shown None None = false
 was_shown None (Some b) = b.primary_shown
 was_shown (Some program) begun = false
@@ -117,8 +117,8 @@ abbrev pub intermediate : StatusControl
 intermediate = record no_status { intermediate = true }
 
 -- an interruption by the program: the activity is as before
-abbrev pub interruption_shown : SubchannelState → ℕ → ℕ → Shown
-interruption_shown s tried count = record (plain_shown tried count) {
+abbrev pub pci_shown : SubchannelState → ℕ → ℕ → Shown
+pci_shown s tried count = record (plain_shown tried count) {
   conditions = intermediate;
   activity = s.scsw.activity;
   subchannel = record { 0 = 0x80 };
@@ -132,11 +132,11 @@ suspension_shown tried count = record (plain_shown tried count) {
 }
 
 -- after the last End of a program all programs are over; after channel end alone the program works on
-abbrev pub after_end : SubchannelState → Begun → Bool → SubchannelState
-after_end s b last = if last then without_programs s else record s { begun = Some (has_shown b) }
+abbrev pub programs_after_end : SubchannelState → ActiveProgram → Bool → SubchannelState
+programs_after_end s b last = if last then without_programs s else record s { begun = Some (has_shown b) }
 
 -- the program that was begun is over, or where none was begun the one that was to be
-abbrev pub without_begun : Option Begun → SubchannelState → SubchannelState
+abbrev pub without_begun : Option ActiveProgram → SubchannelState → SubchannelState
 without_begun None s = record s { waiting = None; suspended = None }
 without_begun (Some b) s = record s { begun = None }
 
@@ -161,10 +161,10 @@ pub record CauseRow : Type 0 where
   pub joins : Scsw
 
 -- the table
-abbrev pub row_of : SubchannelState → Cause → CauseRow
+abbrev pub row_of : SubchannelState → StatusCause → CauseRow
 row_of s (cause.End b status more) = record {
   shown = end_shown s b status more;
-  left = after_end s b (is_last_end status);
+  left = programs_after_end s b (is_last_end status);
   joins = s.scsw;
 }
 row_of s (cause.FetchFault tried check count) = record {
@@ -187,8 +187,8 @@ row_of s cause.InterfaceControlCheck = record {
   left = without_programs s;
   joins = s.scsw;
 }
-row_of s (cause.Interruption tried count) = record {
-  shown = interruption_shown s tried count;
+row_of s (cause.Pci tried count) = record {
+  shown = pci_shown s tried count;
   left = s;
   joins = s.scsw;
 }
@@ -221,5 +221,5 @@ abbrev pub with_row : SubchannelState → CauseRow → SubchannelState
 with_row s row = with_status (record row.left { scsw = scsw_joined s.pmcw.enabled s.scsw row.joins }) row.shown
 
 -- the subchannel after the cause
-abbrev pub with_cause : SubchannelState → Cause → SubchannelState
+abbrev pub with_cause : SubchannelState → StatusCause → SubchannelState
 with_cause s c = with_row s (row_of s c)

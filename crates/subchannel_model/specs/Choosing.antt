@@ -12,9 +12,9 @@ use Rattle.allegiance.specs.declared.path_use.PathUse.{PathUse}
 use Rattle.allegiance.specs.PathUse.{is_member, each_path, is_any, reachable_paths, usable_paths}
 use Rattle.subchannel_model.specs.declared.state.Candidate.{Candidate}
 use Rattle.subchannel_model.specs.declared.state.Chosen.{Chosen}
-use Rattle.subchannel_model.specs.declared.state.Chosen.TheVariants.{Idle, Resets, Clears, Halts, Ends, Over, Offers}
+use Rattle.subchannel_model.specs.declared.state.Chosen.TheVariants.{Idle, Resets, PerformsClear, Halts, PerformsHalt, FindsNoPath, Offers}
 use Rattle.subchannel_model.specs.declared.state.Program.{Program}
-use Rattle.subchannel_model.specs.declared.state.Standing.{Standing}
+use Rattle.subchannel_model.specs.declared.state.ProgramPosition.{ProgramPosition}
 use Rattle.subchannel_model.specs.declared.state.SubchannelState.{SubchannelState}
 use Rattle.subchannel_model.specs.declared.state.Subchannel.{Subchannel}
 use Rattle.subchannel_model.specs.Store.{installed_paths}
@@ -85,10 +85,10 @@ abbrev pub paths_to_choose : List Subchannel → Subchannel → List Bool
 paths_to_choose subs sub = paths_by (unsent_reset sub.state.hold) subs sub
 
 -- the first that there is
-abbrev pub first_of : {A : Type 0} → List (Option A) → Option A
-first_of [] = None
-first_of (None ∷ later) = first_of later
-first_of (Some x ∷ later) = Some x
+abbrev pub first_some : {A : Type 0} → List (Option A) → Option A
+first_some [] = None
+first_some (None ∷ later) = first_some later
+first_some (Some x ∷ later) = Some x
 
 -- the program that is to be offered: with start pending the one that waits, or else with resume pending the suspended one
 abbrev pub starting : Bool → Option Program → Option Candidate
@@ -96,14 +96,14 @@ starting false waiting = None
 starting true None = None
 starting true (Some program) = Some (record { program = program; resumes = false })
 
-abbrev pub resuming : Bool → Option Standing → Option Candidate
+abbrev pub resuming : Bool → Option ProgramPosition → Option Candidate
 resuming false suspended = None
 resuming true None = None
 resuming true (Some st) = Some (record { program = st.program; resumes = true })
 
 abbrev pub candidate : SubchannelState → Option Candidate
 candidate s =
-    first_of (starting s.scsw.activity.start_pending s.waiting ∷ resuming s.scsw.activity.resume_pending s.suspended ∷ [])
+    first_some (starting s.scsw.activity.start_pending s.waiting ∷ resuming s.scsw.activity.resume_pending s.suspended ∷ [])
 
 -- 1. a Reset is due, and there is a path for it: it is sent
 abbrev pub reset_chosen : Option ℕ → Option ℕ → Option Chosen
@@ -114,7 +114,7 @@ reset_chosen (Some r) (Some path) = Some (Resets r path)
 -- 2. a Reset is due without a path for it, and a clear is pending: it is performed at once, and the hold stays as it is
 abbrev pub clear_chosen : Option ℕ → Bool → Option Chosen
 clear_chosen None pending = None
-clear_chosen (Some r) pending = if pending then Some Clears else None
+clear_chosen (Some r) pending = if pending then Some PerformsClear else None
 
 -- 3. a halt is pending: the program that is connected is told by the path of its connection, one that is away by the chosen
 -- path; an offer is waited for; otherwise no device is held, and the halt is performed
@@ -123,12 +123,12 @@ halt_away t None = None
 halt_away t (Some path) = Some (Halts t path)
 
 abbrev pub halt_at : HoldPhase → Option ℕ → Option Chosen
-halt_at hold.Free choice = Some Ends
+halt_at hold.Free choice = Some PerformsHalt
 halt_at (hold.Offer t p) choice = None
 halt_at (hold.On t p c) choice = Some (Halts t p)
 halt_at (hold.Away t) choice = halt_away t choice
-halt_at (hold.Letting t p) choice = Some Ends
-halt_at (hold.Reset r) choice = Some Ends
+halt_at (hold.Letting t p) choice = Some PerformsHalt
+halt_at (hold.Reset r) choice = Some PerformsHalt
 
 abbrev pub halt_chosen : Bool → HoldPhase → Option ℕ → Option Chosen
 halt_chosen pending phase choice = if pending then halt_at phase choice else None
@@ -136,7 +136,7 @@ halt_chosen pending phase choice = if pending then halt_at phase choice else Non
 -- 4. a program is to be offered: it is, on the chosen path, where the hold is free; where the hold is free or to be reset and
 -- no path is within reach, the program is over
 abbrev pub over_unless : Bool → Option Chosen
-over_unless reachable = if reachable then None else Some Over
+over_unless reachable = if reachable then None else Some FindsNoPath
 
 abbrev pub offer_free : Candidate → Bool → Option ℕ → Option Chosen
 offer_free c reachable None = over_unless reachable
@@ -157,7 +157,7 @@ offered_by sub choice =
 
 -- the first that applies, otherwise nothing
 abbrev pub chosen_of : List (Option Chosen) → Chosen
-chosen_of acts = unwrap_or (first_of acts) Idle
+chosen_of acts = unwrap_or (first_some acts) Idle
 
 abbrev pub chosen : Subchannel → Option ℕ → Chosen
 chosen sub choice = chosen_of (
@@ -176,10 +176,10 @@ IsHeldBy phase n = ⊥
 abbrev pub IsFitFor : Chosen → HoldState → Type 0
 IsFitFor Idle h = Unit {0}
 IsFitFor (Resets r path) h = h.phase ≡ hold.Reset r
-IsFitFor Clears h = Unit {0}
+IsFitFor PerformsClear h = Unit {0}
 IsFitFor (Halts t path) h = IsHeldBy h.phase t
-IsFitFor Ends h = Unit {0}
-IsFitFor Over h = Unit {0}
+IsFitFor PerformsHalt h = Unit {0}
+IsFitFor FindsNoPath h = Unit {0}
 IsFitFor (Offers c path) h = h.phase ≡ hold.Free
 
 -- the Reset is sent

@@ -1,14 +1,14 @@
 -- CLEAR SUBCHANNEL (SA22-7832, chapter 14; the effect is this project's own choice). The reply is the code.
 use Rattle.std.specs.Prelude.{◌+◌, true, false, None}
 use Rattle.allegiance.specs.Allegiances.{dedicated_after}
-use Rattle.allegiance.specs.declared.allegiances.Cause.TheVariants as allegiance
+use Rattle.allegiance.specs.declared.allegiances.AllegianceCause.TheVariants as allegiance
 use Rattle.scsw_irb.specs.declared.scsw.Scsw.{Scsw}
 use Rattle.scsw_irb.specs.Empty.{no_functions, no_activity, zero_scsw}
 use Rattle.chan_model.specs.declared.answer.ConditionCode.{ConditionCode}
 use Rattle.chan_model.specs.ConditionCodes.{in_order}
 use Rattle.chan_model.specs.HoldTable.{resetting}
 use Rattle.subchannel_model.specs.declared.status.Condition.{Condition}
-use Rattle.subchannel_model.specs.declared.state.Pmcw.{Pmcw}
+use Rattle.subchannel_model.specs.declared.state.PmcwState.{PmcwState}
 use Rattle.subchannel_model.specs.declared.state.SubchannelState.{SubchannelState}
 use Rattle.subchannel_model.specs.Conditions.{is_operational}
 use Rattle.subchannel_model.specs.Opening.{all_paths, no_paths}
@@ -26,7 +26,7 @@ cleared_scsw = record zero_scsw {
   activity = record no_activity { clear_pending = true };
 }
 
-abbrev pub cleared_pmcw : Pmcw → Pmcw
+abbrev pub cleared_pmcw : PmcwState → PmcwState
 cleared_pmcw pmcw = record pmcw { not_operational = no_paths; last_used = None; operational = all_paths }
 
 abbrev pub cleared : SubchannelState → SubchannelState

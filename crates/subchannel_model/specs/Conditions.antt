@@ -6,7 +6,7 @@ use Rattle.scsw_irb.specs.Empty.{no_functions, no_activity, no_status}
 use Rattle.chan_model.specs.declared.answer.ConditionCode.{ConditionCode}
 use Rattle.chan_model.specs.declared.answer.ConditionCode.TheVariants.{Zero, One, Two, Three}
 use Rattle.subchannel_model.specs.declared.status.Condition.{Condition}
-use Rattle.subchannel_model.specs.declared.state.Pmcw.{Pmcw}
+use Rattle.subchannel_model.specs.declared.state.PmcwState.{PmcwState}
 use Rattle.subchannel_model.specs.declared.state.SubchannelState.{SubchannelState}
 use Rattle.subchannel_model.specs.Opening.{no_paths}
 
@@ -47,5 +47,5 @@ left_by Two before effect = before
 left_by Three before effect = before
 
 -- no path was found not operational
-abbrev pub found_operational : Pmcw → Pmcw
+abbrev pub found_operational : PmcwState → PmcwState
 found_operational pmcw = record pmcw { not_operational = no_paths }

@@ -11,7 +11,7 @@ use Rattle.subchannel_model.specs.Status.{check_bits, conditions, shows_primary}
 use Rattle.scsw_irb.specs.Status.{has}
 use Rattle.chan_model.specs.UnitReports.{has_channel_end, has_device_end, has_unit_check, is_last_end}
 use Rattle.data_move.specs.Moving.{residual, is_incorrect}
-use Rattle.subchannel_model.specs.declared.state.Begun.{Begun}
+use Rattle.subchannel_model.specs.declared.state.ActiveProgram.{ActiveProgram}
 use Rattle.subchannel_model.specs.declared.state.Program.{Program}
 use Rattle.subchannel_model.specs.declared.state.SubchannelState.{SubchannelState}
 
@@ -31,13 +31,13 @@ is_unit_check_alone status = has_unit_check status && (not (has_channel_end stat
 abbrev pub is_channel_end_alone : DeviceStatus → Bool
 is_channel_end_alone status = has_channel_end status && not (has_device_end status)
 
-abbrev pub suppresses_length : Begun → Bool
+abbrev pub suppresses_length : ActiveProgram → Bool
 suppresses_length b = b.transfer.moving.ccw.suppress_length && not b.transfer.moving.ccw.chain_data
 
-abbrev pub shows_immediate : Begun → DeviceStatus → Bool
+abbrev pub shows_immediate : ActiveProgram → DeviceStatus → Bool
 shows_immediate b status = not (is_channel_end_alone status) || (b.program.orb.format_one && not b.program.orb.suppress_length)
 
-abbrev pub shows_length : Scsw → Begun → DeviceStatus → Bool → Bool
+abbrev pub shows_length : Scsw → ActiveProgram → DeviceStatus → Bool → Bool
 shows_length scsw b status more =
     not b.transfer.ended
     && (is_incorrect b.transfer.moving more
@@ -50,28 +50,28 @@ abbrev pub length_bits : Bool → ℕ
 length_bits true = 0x40
 length_bits false = 0
 
-abbrev pub end_bits : Scsw → Begun → DeviceStatus → Bool → SubchannelStatus
+abbrev pub end_bits : Scsw → ActiveProgram → DeviceStatus → Bool → SubchannelStatus
 end_bits scsw b status more = record { 0 = bit_or (length_bits (shows_length scsw b status more)) (check_bits b.transfer.fault) }
 
 -- what breaks a chain of commands: nothing is chained then, nor at a later End of the command
-abbrev pub breaks_chain : Scsw → Begun → DeviceStatus → Bool → Bool
+abbrev pub breaks_chain : Scsw → ActiveProgram → DeviceStatus → Bool → Bool
 breaks_chain scsw b status more =
     has_unit_check status
     || (has_unit_exception status
     || (shows_length scsw b status more || (is_some b.transfer.fault || scsw.functions.halt)))
 
 -- the next command is chained to where CC alone is one, and nothing breaks the chain
-abbrev pub chains_command : Scsw → Begun → DeviceStatus → Bool → Bool
+abbrev pub chains_command : Scsw → ActiveProgram → DeviceStatus → Bool → Bool
 chains_command scsw b status more =
     b.transfer.moving.ccw.chain_command
     && (not b.transfer.moving.ccw.chain_data
     && (not b.transfer.unchained && not (breaks_chain scsw b status more)))
 
-abbrev pub is_alert : Begun → DeviceStatus → Bool
+abbrev pub is_alert : ActiveProgram → DeviceStatus → Bool
 is_alert b status = has_unit_check status || is_some b.transfer.fault
 
 -- channel end alone: primary status, and the device works on
-abbrev pub channel_end_shown : Scsw → Begun → DeviceStatus → Bool → Shown
+abbrev pub channel_end_shown : Scsw → ActiveProgram → DeviceStatus → Bool → Shown
 channel_end_shown scsw b status more = record {
   conditions = conditions (is_alert b status) (shows_primary scsw.functions b.primary_shown) false;
   activity = record no_activity { device_active = true };
@@ -83,7 +83,7 @@ channel_end_shown scsw b status more = record {
 }
 
 -- the last End of a program
-abbrev pub last_end_shown : Scsw → Begun → DeviceStatus → Bool → Shown
+abbrev pub last_end_shown : Scsw → ActiveProgram → DeviceStatus → Bool → Shown
 last_end_shown scsw b status more = record {
   conditions = conditions (is_alert b status) (shows_primary scsw.functions b.primary_shown) true;
   activity = no_activity;
@@ -95,7 +95,7 @@ last_end_shown scsw b status more = record {
 }
 
 -- the last End of an earlier program while a start waits: deferred condition code 1, and the start is over (own)
-abbrev pub earlier_end_shown : Scsw → Begun → DeviceStatus → Bool → Shown
+abbrev pub earlier_end_shown : Scsw → ActiveProgram → DeviceStatus → Bool → Shown
 earlier_end_shown scsw b status more = record {
   conditions = conditions true false false;
   activity = no_activity;
@@ -106,15 +106,15 @@ earlier_end_shown scsw b status more = record {
   count = scsw.count;
 }
 
-abbrev pub last_shown : Scsw → Begun → Option Program → DeviceStatus → Bool → Shown
+abbrev pub last_shown : Scsw → ActiveProgram → Option Program → DeviceStatus → Bool → Shown
 last_shown scsw b None status more = last_end_shown scsw b status more
 last_shown scsw b (Some waiting) status more = earlier_end_shown scsw b status more
 
 -- an End of a program where a start may wait: channel end alone, or the last End of the program
-abbrev pub end_shown : SubchannelState → Begun → DeviceStatus → Bool → Shown
+abbrev pub end_shown : SubchannelState → ActiveProgram → DeviceStatus → Bool → Shown
 end_shown s b status more =
     if is_last_end status then last_shown s.scsw b s.waiting status more else channel_end_shown s.scsw b status more
 
 -- a program whose command showed channel end alone has shown its primary status, and chains nothing to that command
-abbrev pub has_shown : Begun → Begun
+abbrev pub has_shown : ActiveProgram → ActiveProgram
 has_shown b = record b { primary_shown = true; transfer = record b.transfer { ended = true; unchained = true } }

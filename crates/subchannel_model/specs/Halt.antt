@@ -23,15 +23,15 @@ halted_scsw scsw = record scsw {
   activity = record scsw.activity { halt_pending = true };
 }
 
-abbrev pub halting : SubchannelState → SubchannelState
-halting s = record s { pmcw = found_operational s.pmcw; scsw = halted_scsw s.scsw }
+abbrev pub halt_begun : SubchannelState → SubchannelState
+halt_begun s = record s { pmcw = found_operational s.pmcw; scsw = halted_scsw s.scsw }
 
 -- intermediate status alone is dropped where the subchannel is active: it counts as cleared
 abbrev pub drops_status : Scsw → Bool
 drops_status scsw = scsw.status.pending && (intermediate_alone scsw.status && scsw.activity.subchannel_active)
 
-abbrev pub dropped : SubchannelState → SubchannelState
-dropped s = record s { scsw = without_status s.scsw; serials = serials_cleared s.serials }
+abbrev pub status_dropped : SubchannelState → SubchannelState
+status_dropped s = record s { scsw = without_status s.scsw; serials = serials_cleared s.serials }
 
 abbrev pub halted : SubchannelState → SubchannelState
-halted s = if drops_status s.scsw then dropped (halting s) else halting s
+halted s = if drops_status s.scsw then status_dropped (halt_begun s) else halt_begun s

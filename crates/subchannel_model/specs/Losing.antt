@@ -5,15 +5,15 @@ use Rattle.chan_model.specs.declared.hold_state.HoldPhase.TheVariants as hold
 use Rattle.chan_model.specs.HoldTable.{resetting}
 use Rattle.chan_model.specs.ResetCauses.{rests_on}
 use Rattle.wires.specs.Queues.{lost}
-use Rattle.subchannel_model.specs.declared.cause.Cause.TheVariants as cause
-use Rattle.subchannel_model.specs.declared.state.Begun.{Begun}
+use Rattle.subchannel_model.specs.declared.cause.StatusCause.TheVariants as cause
+use Rattle.subchannel_model.specs.declared.state.ActiveProgram.{ActiveProgram}
 use Rattle.subchannel_model.specs.declared.state.Program.{Program}
-use Rattle.subchannel_model.specs.declared.state.Standing.{Standing}
+use Rattle.subchannel_model.specs.declared.state.ProgramPosition.{ProgramPosition}
 use Rattle.subchannel_model.specs.declared.state.Subchannel.{Subchannel}
 use Rattle.subchannel_model.specs.declared.state.SubchannelState.{SubchannelState}
 use Rattle.subchannel_model.specs.Causes.{with_cause}
 
-abbrev pub has_any : Option Program → Option Begun → Option Standing → Bool
+abbrev pub has_any : Option Program → Option ActiveProgram → Option ProgramPosition → Bool
 has_any waiting begun suspended = is_some waiting || (is_some begun || is_some suspended)
 
 abbrev pub is_offered_or_held : HoldPhase → Bool

@@ -6,7 +6,7 @@ use Rattle.chan_model.specs.declared.answer.ConditionCode.{ConditionCode}
 use Rattle.chan_model.specs.ConditionCodes.{in_order}
 use Rattle.chan_model.specs.PathSets.{paths_of_mask}
 use Rattle.subchannel_model.specs.declared.status.Condition.{Condition}
-use Rattle.subchannel_model.specs.declared.state.Pmcw.{Pmcw}
+use Rattle.subchannel_model.specs.declared.state.PmcwState.{PmcwState}
 use Rattle.subchannel_model.specs.declared.state.SubchannelState.{SubchannelState}
 use Rattle.subchannel_model.specs.declared.state.Subchannel.{Subchannel}
 use Rattle.subchannel_model.specs.Conditions.{any_function}
@@ -17,8 +17,8 @@ abbrev pub msch_code : Condition → ConditionCode
 msch_code c = in_order c.provided c.status.pending (any_function c.functions)
 
 -- effect: what may be changed is as in the given word, and the other fields of the block stay
-abbrev pub with_word : Pmcw → block.Pmcw → Pmcw
-with_word pmcw word = record pmcw {
+abbrev pub pmcw_with_word : PmcwState → block.Pmcw → PmcwState
+pmcw_with_word pmcw word = record pmcw {
   parameter = word.parameter;
   subclass = word.subclass;
   subclass_fits = word.subclass_fits;
@@ -30,8 +30,8 @@ with_word pmcw word = record pmcw {
 
 -- MODIFY: the word of the subchannel is modified by the given one
 abbrev pub modified_state : Subchannel → block.Pmcw → SubchannelState
-modified_state sub given = record sub.state { pmcw = with_word sub.state.pmcw (modified (pmcw_of sub) given) }
+modified_state sub given = record sub.state { pmcw = pmcw_with_word sub.state.pmcw (modified (pmcw_of sub) given) }
 
 -- the same of a state alone
 abbrev pub placed : SubchannelState → block.Pmcw → SubchannelState
-placed s given = record s { pmcw = with_word s.pmcw given }
+placed s given = record s { pmcw = pmcw_with_word s.pmcw given }

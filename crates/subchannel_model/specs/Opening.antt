@@ -5,7 +5,7 @@ use Rattle.scsw_irb.specs.Empty.{zero_scsw}
 use Rattle.chan_model.specs.HoldTable.{free_hold}
 use Rattle.channel_config.specs.declared.parts.SubchannelSetup.{SubchannelSetup}
 use Rattle.wires.specs.Queues.{no_queues}
-use Rattle.subchannel_model.specs.declared.state.Pmcw.{Pmcw}
+use Rattle.subchannel_model.specs.declared.state.PmcwState.{PmcwState}
 use Rattle.subchannel_model.specs.declared.state.SubchannelState.{SubchannelState}
 use Rattle.subchannel_model.specs.declared.state.Subchannel.{Subchannel}
 
@@ -15,7 +15,7 @@ all_paths = replicate 8 true
 abbrev pub no_paths : List Bool
 no_paths = replicate 8 false
 
-abbrev pub opening_pmcw : Pmcw
+abbrev pub opening_pmcw : PmcwState
 opening_pmcw = record { parameter = 0; subclass = 0; enabled = false; multipath = false; logical = all_paths; not_operational = no_paths; last_used = None; operational = all_paths; subclass_fits = lit< tt }
 
 abbrev pub opening_subchannel : SubchannelState

@@ -9,7 +9,7 @@ use Rattle.chan_model.specs.declared.answer.ConditionCode.{ConditionCode}
 use Rattle.chan_model.specs.ConditionCodes.{in_order}
 use Rattle.chan_model.specs.PathSets.{paths_of_mask}
 use Rattle.subchannel_model.specs.declared.status.Condition.{Condition}
-use Rattle.subchannel_model.specs.declared.state.Pmcw.{Pmcw}
+use Rattle.subchannel_model.specs.declared.state.PmcwState.{PmcwState}
 use Rattle.subchannel_model.specs.declared.state.SubchannelState.{SubchannelState}
 use Rattle.subchannel_model.specs.Conditions.{is_operational, any_function}
 use Rattle.subchannel_model.specs.Opening.{no_paths}
@@ -41,7 +41,7 @@ started_scsw scsw orb = record scsw {
   count = 0;
 }
 
-abbrev pub started_pmcw : Pmcw → Orb → Pmcw
+abbrev pub started_pmcw : PmcwState → Orb → PmcwState
 started_pmcw pmcw orb = record pmcw { parameter = orb.parameter; logical = paths_of_mask orb.paths; not_operational = no_paths }
 
 -- the program waits; none is suspended beside it, as the start function is in progress as long as one is

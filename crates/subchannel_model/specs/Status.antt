@@ -44,15 +44,15 @@ with_joined scsw conditions device subchannel shown = record scsw {
   count = shown.count;
 }
 
-abbrev pub with_status : Scsw → Shown → Scsw
-with_status scsw shown =
+abbrev pub scsw_with_status : Scsw → Shown → Scsw
+scsw_with_status scsw shown =
     if scsw.status.pending
     then with_joined scsw scsw.status scsw.device_status scsw.subchannel_status shown
     else with_joined scsw no_status no_device_status no_subchannel_status shown
 
 -- a subchannel that is not enabled gets no status, but its activity changes as if it did (own)
 abbrev pub scsw_made : Bool → Scsw → Shown → Scsw
-scsw_made enabled scsw shown = if enabled then with_status scsw shown else record scsw { activity = shown.activity }
+scsw_made enabled scsw shown = if enabled then scsw_with_status scsw shown else record scsw { activity = shown.activity }
 
 -- each status made pending is counted
 abbrev pub serials_made : Bool → Serials → Serials

@@ -1,7 +1,7 @@
 -- What a subchannel does with a signal that came up by a path (own).
 use Rattle.std.specs.Prelude.{ℕ, nat_lt, ◌+◌, ◌<◌, ◌^◌, Bool, true, false, not, ◌==◌, ◌&&◌, ◌||◌, if◌then◌else◌, Option, None, Some, is_some, List, [], slice_set}
 use Rattle.allegiance.specs.Allegiances.{dedicated_after}
-use Rattle.allegiance.specs.declared.allegiances.Cause.TheVariants as allegiance
+use Rattle.allegiance.specs.declared.allegiances.AllegianceCause.TheVariants as allegiance
 use Rattle.scsw_irb.specs.declared.scsw.ActivityControl.{ActivityControl}
 use Rattle.scsw_irb.specs.declared.scsw.Scsw.{Scsw}
 use Rattle.scsw_irb.specs.declared.status.DeviceStatus.{DeviceStatus}
@@ -21,25 +21,25 @@ use Rattle.chan_model.specs.Loads.{load_length}
 use Rattle.chan_model.specs.declared.signal.Load.TheVariants as load
 use Rattle.scsw_irb.specs.Empty.{no_activity}
 use Rattle.chan_model.specs.UnitReports.{is_last_end, is_outward, has_device_end, has_unit_check}
-use Rattle.channel_program.specs.Walks.{Place, place}
+use Rattle.channel_program.specs.Walks.{WalkPlace, walk_place}
 use Rattle.data_move.specs.Moving.{residual}
 use Rattle.transfer.specs.declared.Transfer.{Transfer}
 use Rattle.transfer.specs.declared.Beginning.{Beginning}
-use Rattle.transfer.specs.declared.Came.{Came}
-use Rattle.transfer.specs.declared.Came.TheVariants as came
-use Rattle.transfer.specs.declared.Roomy.{Roomy}
-use Rattle.transfer.specs.declared.Given.{Given}
+use Rattle.transfer.specs.declared.CommandStart.{CommandStart}
+use Rattle.transfer.specs.declared.CommandStart.TheVariants as came
+use Rattle.transfer.specs.declared.WithRoom.{WithRoom}
+use Rattle.transfer.specs.declared.NextChunk.{NextChunk}
 use Rattle.transfer.specs.Commands.{first_command, next_command, begun_with_room, with_room}
-use Rattle.transfer.specs.Chunks.{Brought, absorbed, next_given, brought, is_answered}
+use Rattle.transfer.specs.Chunks.{Brought, taken_by_device, next_given, brought, is_answered}
 use Rattle.subchannel_model.specs.declared.signals.DataSignal.{DataSignal}
 use Rattle.subchannel_model.specs.declared.signals.EndSignal.{EndSignal}
-use Rattle.subchannel_model.specs.declared.state.Pmcw.{Pmcw}
+use Rattle.subchannel_model.specs.declared.state.PmcwState.{PmcwState}
 use Rattle.subchannel_model.specs.declared.state.Program.{Program}
-use Rattle.subchannel_model.specs.declared.state.Begun.{Begun}
+use Rattle.subchannel_model.specs.declared.state.ActiveProgram.{ActiveProgram}
 use Rattle.subchannel_model.specs.declared.state.SubchannelState.{SubchannelState}
 use Rattle.subchannel_model.specs.declared.state.UpStep.{UpStep}
-use Rattle.subchannel_model.specs.declared.cause.Cause.TheVariants as cause
-use Rattle.subchannel_model.specs.declared.state.Standing.{Standing}
+use Rattle.subchannel_model.specs.declared.cause.StatusCause.TheVariants as cause
+use Rattle.subchannel_model.specs.declared.state.ProgramPosition.{ProgramPosition}
 use Rattle.subchannel_model.specs.Causes.{with_cause}
 use Rattle.subchannel_model.specs.Losing.{reset_for}
 use Rattle.subchannel_model.specs.Ends.{has_status_modifier, chains_command}
@@ -73,41 +73,41 @@ by_hold s step = record { state = record s { hold = hold_after s.hold step }; ca
 
 -- a block that took control may ask for an interruption by the program: the intermediate status is made as the block takes
 -- control
-abbrev pub without_interruption : Begun → Begun
-without_interruption b = record b { transfer = record b.transfer { interrupts = false } }
+abbrev pub without_pci : ActiveProgram → ActiveProgram
+without_pci b = record b { transfer = record b.transfer { pci_pending = false } }
 
-abbrev pub interrupted_by : SubchannelState → Begun → SubchannelState
-interrupted_by s b =
-    if b.transfer.interrupts
-    then with_cause (record s { begun = Some (without_interruption b) }) (cause.Interruption b.transfer.walk.tried (residual b.transfer.moving))
+abbrev pub with_pci_of : SubchannelState → ActiveProgram → SubchannelState
+with_pci_of s b =
+    if b.transfer.pci_pending
+    then with_cause (record s { begun = Some (without_pci b) }) (cause.Pci b.transfer.walk.tried (residual b.transfer.moving))
     else s
 
-abbrev pub interrupted : SubchannelState → Option Begun → SubchannelState
+abbrev pub interrupted : SubchannelState → Option ActiveProgram → SubchannelState
 interrupted s None = s
-interrupted s (Some b) = interrupted_by s b
+interrupted s (Some b) = with_pci_of s b
 
 -- Accept: the path is the last used and is operational; the program that was offered takes the device, from its beginning
 -- where it waited, and otherwise from where it was suspended
-abbrev pub from_start : Program → Standing
-from_start program = record { program = program; walk = place program.orb []; count = 0 }
+abbrev pub from_start : Program → ProgramPosition
+from_start program = record { program = program; walk = walk_place program.orb []; count = 0 }
 
-abbrev pub suspended_as : Option Standing → ℕ → Option Standing
+abbrev pub suspended_as : Option ProgramPosition → ℕ → Option ProgramPosition
 suspended_as None start = None
 suspended_as (Some st) start = if st.program.start == start then Some st else None
 
-abbrev pub standing_as : Option Program → Option Standing → ℕ → Option Standing
+abbrev pub standing_as : Option Program → Option ProgramPosition → ℕ → Option ProgramPosition
 standing_as None suspended start = suspended_as suspended start
 standing_as (Some program) suspended start = if program.start == start then Some (from_start program) else suspended_as suspended start
 
-abbrev pub standing : SubchannelState → Option Standing
+abbrev pub standing : SubchannelState → Option ProgramPosition
 standing s = standing_as s.waiting s.suspended s.offered
 
 -- the program takes the device where it is not over, and no halt is pending
 abbrev pub goes_ahead : SubchannelState → Bool
 goes_ahead s = is_some (standing s) && not s.scsw.activity.halt_pending
 
-abbrev pub with_path : Pmcw → ℕ → Pmcw
-with_path pmcw p = record pmcw { last_used = Some p; operational = slice_set pmcw.operational p true }
+abbrev pub path_used : PmcwState → ℕ → PmcwState
+path_used pmcw p = record pmcw { last_used = Some p; operational = slice_set pmcw.operational p true }
 
 abbrev pub working : ActivityControl → ActivityControl
 working a = record a { start_pending = false; resume_pending = false; suspended = false; subchannel_active = true; device_active = true }
@@ -128,30 +128,30 @@ taking_over s program transfer = record s {
 abbrev pub suspended_alone : Scsw → Scsw
 suspended_alone scsw = record scsw { activity = record no_activity { suspended = true } }
 
-abbrev pub standing_still : SubchannelState → Program → Place → ℕ → SubchannelState
+abbrev pub standing_still : SubchannelState → Program → WalkPlace → ℕ → SubchannelState
 standing_still s program walk count = record s { waiting = None; begun = None; suspended = Some (record { program = program; walk = walk; count = count }) }
 
-abbrev pub suspending : SubchannelState → Program → Place → ℕ → SubchannelState
+abbrev pub suspending : SubchannelState → Program → WalkPlace → ℕ → SubchannelState
 suspending s program walk count =
     if program.orb.suppress_suspended then record (standing_still s program walk count) { scsw = suspended_alone s.scsw }
     else with_cause (standing_still s program walk count) (cause.Suspension walk.tried count)
 
 -- the first command of the program is sent, with the room for what it brings; where it cannot be, the program is suspended or
 -- over, and lets the device go
-abbrev pub sends_first : SubchannelState → ℕ → ℕ → Program → Roomy → UpStep
+abbrev pub sends_first : SubchannelState → ℕ → ℕ → Program → WithRoom → UpStep
 sends_first s p t program x =
     let next = taking_over s program x.transfer in
     sending (interrupted next next.begun) p (down.Command t x.transfer.command x.transfer.code x.room)
 
-abbrev pub beginning : Contents → SubchannelState → ℕ → ℕ → Standing → Place → Came → UpStep
+abbrev pub beginning : Contents → SubchannelState → ℕ → ℕ → ProgramPosition → WalkPlace → CommandStart → UpStep
 beginning storage s p t st walk (came.Begins transfer) = sends_first s p t st.program (begun_with_room storage transfer)
 beginning storage s p t st walk came.Suspends = let_go (suspending s st.program walk st.count)
 beginning storage s p t st walk (came.Stops check) = let_go (with_cause s (cause.FetchFault walk.tried check st.count))
 
-abbrev pub begin_with : Contents → SubchannelState → ℕ → ℕ → Standing → Beginning → UpStep
+abbrev pub begin_with : Contents → SubchannelState → ℕ → ℕ → ProgramPosition → Beginning → UpStep
 begin_with storage s p t st first = beginning storage s p t st first.walk first.came
 
-abbrev pub begin_standing : Contents → SubchannelState → ℕ → ℕ → Option Standing → UpStep
+abbrev pub begin_standing : Contents → SubchannelState → ℕ → ℕ → Option ProgramPosition → UpStep
 begin_standing storage s p t None = quietly s
 begin_standing storage s p t (Some st) = begin_with storage s p t st (first_command storage st.walk)
 
@@ -160,8 +160,8 @@ abbrev pub halt_done : SubchannelState → SubchannelState
 halt_done s = if s.scsw.activity.halt_pending then with_cause s cause.HaltDone else s
 
 abbrev pub accepted_by : Contents → SubchannelState → HoldPhase → Taken Down → UpStep
-accepted_by storage s (hold.On t p c) taken = begin_standing storage (record s { pmcw = with_path s.pmcw p }) p t (standing s)
-accepted_by storage s (hold.Letting t p) taken = record { state = halt_done (record s { pmcw = with_path s.pmcw p }); came = taken }
+accepted_by storage s (hold.On t p c) taken = begin_standing storage (record s { pmcw = path_used s.pmcw p }) p t (standing s)
+accepted_by storage s (hold.Letting t p) taken = record { state = halt_done (record s { pmcw = path_used s.pmcw p }); came = taken }
 accepted_by storage s phase taken = record { state = s; came = taken }
 
 abbrev pub accept_by : Contents → SubchannelState → HoldState → Taken Down → UpStep
@@ -171,7 +171,7 @@ abbrev pub accept : Contents → SubchannelState → Option HoldStep → UpStep
 accept storage s step = accept_by storage s (hold_after s.hold step) (came_of step)
 
 -- the sequence and command numbers of a program that holds the device can be raised
-abbrev pub IsBelow : Option Begun → Type 0
+abbrev pub IsBelow : Option ActiveProgram → Type 0
 IsBelow None = Unit {0}
 IsBelow (Some b) = (b.transfer.sequence + 1 < 2 ^ 63) × (b.transfer.command + 1 < 2 ^ 63)
 
@@ -185,40 +185,40 @@ abbrev pub dedicated_by_end : Option ℕ → EndSignal → Option ℕ
 dedicated_by_end dedicated signal = dedicated_after dedicated (allegiance.End signal.path (has_unit_check signal.status) true)
 
 -- Data: bytes were moved, and the transfer of the program is a chunk further
-abbrev pub with_transfer : SubchannelState → Begun → Transfer → SubchannelState
+abbrev pub with_transfer : SubchannelState → ActiveProgram → Transfer → SubchannelState
 with_transfer s b transfer =
     record s { begun = Some (record b { transfer = transfer }); dedicated = dedicated_by_data s.dedicated }
 
-abbrev pub moving_on : SubchannelState → Begun → Transfer → SubchannelState
+abbrev pub moving_on : SubchannelState → ActiveProgram → Transfer → SubchannelState
 moving_on s b transfer = let next = with_transfer s b transfer in interrupted next next.begun
 
 -- a Data of a command that takes bytes to the device is answered with the next bytes
-abbrev pub giving : SubchannelState → Begun → DataSignal → Given → UpStep
+abbrev pub giving : SubchannelState → ActiveProgram → DataSignal → NextChunk → UpStep
 giving s b signal given =
     sending (moving_on s b given.transfer) signal.path
     (down.Give signal.number signal.connection signal.command (signal.sequence + 1) given.bytes)
 
-abbrev pub give_next : Contents → SubchannelState → Begun → DataSignal → ℕ → UpStep
-give_next storage s b signal count = giving s b signal (next_given storage (absorbed storage b.transfer signal.sequence count))
+abbrev pub give_next : Contents → SubchannelState → ActiveProgram → DataSignal → ℕ → UpStep
+give_next storage s b signal count = giving s b signal (next_given storage (taken_by_device storage b.transfer signal.sequence count))
 
 -- the bytes of a Data of a command that brings bytes in are stored, and the device is told how many more may come
-abbrev pub answering : SubchannelState → Begun → DataSignal → Roomy → UpStep
+abbrev pub answering : SubchannelState → ActiveProgram → DataSignal → WithRoom → UpStep
 answering s b signal x =
     sending (moving_on s b x.transfer) signal.path (down.Took signal.number signal.command signal.sequence x.room)
 
-abbrev pub take_in : SubchannelState → Begun → DataSignal → Brought → Met
+abbrev pub take_in : SubchannelState → ActiveProgram → DataSignal → Brought → Met
 take_in s b signal x = meets x.storage (answering s b signal (with_room x.storage x.transfer))
 
-abbrev pub bytes_of : Load → List ℕ
-bytes_of (load.Absorbed count) = []
-bytes_of (load.Bytes bytes) = bytes
+abbrev pub bytes_of_load : Load → List ℕ
+bytes_of_load (load.Absorbed count) = []
+bytes_of_load (load.Bytes bytes) = bytes
 
-abbrev pub move_bytes : Contents → SubchannelState → Begun → DataSignal → Load → Met
+abbrev pub move_bytes : Contents → SubchannelState → ActiveProgram → DataSignal → Load → Met
 move_bytes storage s b signal load =
     if is_outward b.transfer.code then meets storage (give_next storage s b signal (load_length load))
-    else take_in s b signal (brought storage b.transfer signal.sequence (bytes_of load))
+    else take_in s b signal (brought storage b.transfer signal.sequence (bytes_of_load load))
 
-abbrev pub move_data : Contents → SubchannelState → Option Begun → DataSignal → Load → Met
+abbrev pub move_data : Contents → SubchannelState → Option ActiveProgram → DataSignal → Load → Met
 move_data storage s None signal load = meets storage (ignoring s)
 move_data storage s (Some b) signal load =
     if is_answered b.transfer signal.command signal.sequence then move_bytes storage s b signal load else meets storage (ignoring s)
@@ -229,47 +229,47 @@ take_data storage s signal load =
     else meets storage (ignoring s)
 
 -- End: a command ended
-abbrev pub with_end : Begun → Begun
+abbrev pub with_end : ActiveProgram → ActiveProgram
 with_end b = record b { transfer = record b.transfer { ended = true } }
 
 abbrev pub end_taken : SubchannelState → EndSignal → SubchannelState
 end_taken s signal = record s { dedicated = dedicated_by_end s.dedicated signal }
 
 -- after an End the program goes on: the next command is sent as device end comes
-abbrev pub sends_next : SubchannelState → Begun → EndSignal → Roomy → UpStep
+abbrev pub sends_next : SubchannelState → ActiveProgram → EndSignal → WithRoom → UpStep
 sends_next s b signal x =
     sending (moving_on s b x.transfer) signal.path (down.Command signal.number x.transfer.command x.transfer.code x.room)
 
-abbrev pub chaining : Contents → SubchannelState → Begun → EndSignal → Place → Came → UpStep
+abbrev pub chaining : Contents → SubchannelState → ActiveProgram → EndSignal → WalkPlace → CommandStart → UpStep
 chaining storage s b signal walk (came.Begins transfer) = sends_next s b signal (begun_with_room storage transfer)
 chaining storage s b signal walk came.Suspends =
     let_go (suspending (end_taken s signal) b.program walk (residual b.transfer.moving))
 chaining storage s b signal walk (came.Stops check) =
     let_go (with_cause (end_taken s signal) (cause.FetchFault walk.tried check (residual b.transfer.moving)))
 
-abbrev pub chain_with : Contents → SubchannelState → Begun → EndSignal → Beginning → UpStep
+abbrev pub chain_with : Contents → SubchannelState → ActiveProgram → EndSignal → Beginning → UpStep
 chain_with storage s b signal next = chaining storage s b signal next.walk next.came
 
-abbrev pub goes_on : Contents → SubchannelState → Begun → EndSignal → UpStep
+abbrev pub goes_on : Contents → SubchannelState → ActiveProgram → EndSignal → UpStep
 goes_on storage s b signal =
     if has_device_end signal.status
     then chain_with storage s b signal (next_command storage b.transfer (has_status_modifier signal.status))
     else quietly (record (end_taken s signal) { begun = Some b })
 
 -- an End after which nothing is chained makes status; the last End of a program lets the device go too
-abbrev pub end_shown_at : SubchannelState → Begun → EndSignal → SubchannelState
+abbrev pub end_shown_at : SubchannelState → ActiveProgram → EndSignal → SubchannelState
 end_shown_at s b signal =
     record (with_cause s (cause.End b signal.status signal.more)) { dedicated = dedicated_by_end s.dedicated signal }
 
-abbrev pub stops_at : SubchannelState → Begun → EndSignal → UpStep
+abbrev pub stops_at : SubchannelState → ActiveProgram → EndSignal → UpStep
 stops_at s b signal =
     if is_last_end signal.status then let_go (end_shown_at s b signal) else quietly (end_shown_at s b signal)
 
-abbrev pub command_ended : Contents → SubchannelState → Begun → EndSignal → UpStep
+abbrev pub command_ended : Contents → SubchannelState → ActiveProgram → EndSignal → UpStep
 command_ended storage s b signal =
     if chains_command s.scsw b signal.status signal.more then goes_on storage s (with_end b) signal else stops_at s b signal
 
-abbrev pub end_of : Contents → SubchannelState → Option Begun → EndSignal → UpStep
+abbrev pub end_of : Contents → SubchannelState → Option ActiveProgram → EndSignal → UpStep
 end_of storage s None signal = ignoring s
 end_of storage s (Some b) signal =
     if signal.command == b.transfer.command then command_ended storage s b signal else ignoring s

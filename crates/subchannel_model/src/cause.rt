@@ -1,16 +1,16 @@
 //! What makes status pending at a subchannel (SA22-7832, chapter 16).
 
-use crate::state::Begun;
+use crate::state::ActiveProgram;
 use channel_program::check::Check;
 use scsw_irb::status::DeviceStatus;
 
 /// A cause of status. `tried` is the address 8 past the last block whose fetch was tried, `count` how many bytes of the
 /// last command were not moved.
 #[derive(Clone, Copy)]
-pub enum Cause {
+pub enum StatusCause {
     /// A command of the program that was begun ended, and nothing is chained. `more` says that the device had more bytes.
     End {
-        begun: Begun,
+        begun: ActiveProgram,
         status: DeviceStatus,
         more: bool,
     },
@@ -27,7 +27,7 @@ pub enum Cause {
     /// The path of a program, or its device, was lost.
     InterfaceControlCheck,
     /// A command takes control whose block has the flag for an interruption by the program.
-    Interruption {
+    Pci {
         tried: u32,
         count: u16,
     },

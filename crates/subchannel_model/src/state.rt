@@ -16,7 +16,7 @@ use wires::Wires;
 
 /// What changes of a path-management-control word (SA22-7832, chapter 15).
 #[derive(Clone, Copy)]
-pub struct Pmcw {
+pub struct PmcwState {
     /// The interruption parameter.
     pub parameter: u32,
     /// ISC: the interruption subclass, 0 to 7.
@@ -48,7 +48,7 @@ pub struct Program {
 
 /// A program that holds the device.
 #[derive(Clone, Copy)]
-pub struct Begun {
+pub struct ActiveProgram {
     pub program: Program,
     /// Its primary status was shown.
     pub primary_shown: bool,
@@ -57,7 +57,7 @@ pub struct Begun {
 
 /// A program that is to be begun, or to go on, from where it stands.
 #[derive(Clone, Copy)]
-pub struct Standing {
+pub struct ProgramPosition {
     pub program: Program,
     pub walk: Walk,
     /// How many bytes of its last command were not moved; 0 before the first.
@@ -67,7 +67,7 @@ pub struct Standing {
 /// What changes of a subchannel, but for its wires.
 #[derive(Clone, Copy)]
 pub struct SubchannelState {
-    pub pmcw: Pmcw,
+    pub pmcw: PmcwState,
     pub scsw: Scsw,
     pub serials: Serials,
     /// The last number that was drawn.
@@ -77,9 +77,9 @@ pub struct SubchannelState {
     /// The program that waits to be begun.
     pub waiting: Option<Program>,
     /// The program that holds the device.
-    pub begun: Option<Begun>,
+    pub begun: Option<ActiveProgram>,
     /// The program that is suspended.
-    pub suspended: Option<Standing>,
+    pub suspended: Option<ProgramPosition>,
     pub hold: HoldState,
     /// The start that the number of the hold was offered for.
     pub offered: u64,
@@ -113,13 +113,13 @@ pub enum Chosen {
     /// The Reset that is due is sent under this number on a path.
     Resets { number: u64, path: Path },
     /// The clear function is performed: there is no path for its Reset.
-    Clears,
+    PerformsClear,
     /// A Halt is sent to the program of this number on a path.
     Halts { number: u64, path: Path },
     /// The halt function is performed: no device is held.
-    Ends,
+    PerformsHalt,
     /// The program that is to be offered is over: it found no path.
-    Over,
+    FindsNoPath,
     /// A program is offered on a path.
     Offers { candidate: Candidate, path: Path },
 }

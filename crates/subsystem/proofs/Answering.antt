@@ -11,7 +11,7 @@ use Rattle.chan_events.specs.declared.reply.Reply.{Reply}
 use Rattle.machine_model.specs.Ruled.{GoesByRule}
 use Rattle.machine_model.specs.State.{State, Past, IsAsBefore}
 use Rattle.machine_model.specs.Steps.{Step, IsRefused, Performs}
-use Rattle.machine_model.specs.Answering.{Answered, HasAnswered, accepted}
+use Rattle.machine_model.specs.Answering.{Answered, HasAnswered, accepted_entries}
 
 answered-more : (picks : Rule) (old middle new : State) (events : List Event) (answers : List (Result Reply Fault)) (e : Event) (a : Result Reply Fault) →
     Answered picks old events answers middle → Performs middle e a new → GoesByRule picks middle e a new →
@@ -24,7 +24,7 @@ answered-more picks old middle new (f ∷ events) (b ∷ answers) e a done p q =
     (done.0, done.1, done.2, answered-more picks done.0 middle new events answers e a done.3 p q)
 
 accepted-more : (picks : Rule) (old middle : State) (events : List Event) (answers : List (Result Reply Fault)) (e : Event) (a : Result Reply Fault) →
-    Answered picks old events answers middle → accepted (events ++ e ∷ []) (answers ++ a ∷ []) ≡ accepted events answers ++ accepted (e ∷ []) (a ∷ [])
+    Answered picks old events answers middle → accepted_entries (events ++ e ∷ []) (answers ++ a ∷ []) ≡ accepted_entries events answers ++ accepted_entries (e ∷ []) (a ∷ [])
 accepted-more picks old middle [] [] e a done = refl
 accepted-more picks old middle [] (b ∷ answers) e a done = absurd done
 accepted-more picks old middle (f ∷ events) [] e a done = absurd done
@@ -43,7 +43,7 @@ performs-one old new e (Err f) step same refusal other =
     ]
 
 history-one : (old new : Past) (e : Event) (a : Result Reply Fault) → IfOk a (λ r. new.history ≡ old.history ++ record { event = e; reply = r } ∷ []) →
-    OnErr a (IsAsBefore old new) → new.history ≡ old.history ++ accepted (e ∷ []) (a ∷ [])
+    OnErr a (IsAsBefore old new) → new.history ≡ old.history ++ accepted_entries (e ∷ []) (a ∷ [])
 history-one old new e (Ok r) more same = more
 history-one old new e (Err f) more same = same.history ∙ sym (append-nil old.history)
 
@@ -64,9 +64,9 @@ has-more picks first old new events i e d answers more a within there done step 
       answered = answered;
       history =
           history-one old new e a grew same
-          ∙ (ap (λ (h : List Entry). h ++ accepted (e ∷ []) (a ∷ [])) done.history
-          ∙ (append_assoc first.history (accepted (take i events) answers) (accepted (e ∷ []) (a ∷ []))
+          ∙ (ap (λ (h : List Entry). h ++ accepted_entries (e ∷ []) (a ∷ [])) done.history
+          ∙ (append_assoc first.history (accepted_entries (take i events) answers) (accepted_entries (e ∷ []) (a ∷ []))
           ∙ ap (λ (h : List Entry). first.history ++ h)
           (sym (accepted-more picks first.state old.state (take i events) answers e a done.answered)
-          ∙ (ap (λ (es : List Event). accepted es (answers ++ a ∷ [])) longer ∙ ap (λ (xs : List (Result Reply Fault)). accepted (take (i + 1) events) xs) (sym pushed)))));
+          ∙ (ap (λ (es : List Event). accepted_entries es (answers ++ a ∷ [])) longer ∙ ap (λ (xs : List (Result Reply Fault)). accepted_entries (take (i + 1) events) xs) (sym pushed)))));
     }

@@ -25,7 +25,7 @@ use Rattle.schib_block.specs.declared.pmcw.Pmcw as block
 use Rattle.chan_model.specs.UnitReports.{unit_reports}
 use Rattle.wires.specs.Queues.{queue, sent, taken}
 use Rattle.subchannel_model.specs.declared.state.Chosen.{Chosen}
-use Rattle.subchannel_model.specs.declared.state.Chosen.TheVariants.{Idle, Resets, Clears, Halts, Ends, Over, Offers}
+use Rattle.subchannel_model.specs.declared.state.Chosen.TheVariants.{Idle, Resets, PerformsClear, Halts, PerformsHalt, FindsNoPath, Offers}
 use Rattle.subchannel_model.specs.declared.state.Subchannel.{Subchannel}
 use Rattle.subchannel_model.specs.declared.state.SubchannelState.{SubchannelState}
 use Rattle.machine_model.specs.State.{State, found_of}
@@ -83,7 +83,7 @@ started_at : (s : State) (found : Option Found) (orb : Orb) → Sound (instructi
 started_at s None orb = tt
 started_at s (Some f) orb = tt
 
-starts : (s : State) (found : Option Found) (image : Result (List ℕ) StorageFault) (r : Outcome) → instruction_steps.Starts s found image r → Sound r
+starts : (s : State) (found : Option Found) (image : Result (List ℕ) StorageFault) (r : Outcome) → instruction_steps.PerformsStart s found image r → Sound r
 starts s found (Err f) r e = is r (Err (Storage f)) tt e
 starts s found (Ok image) r e = elim e [
   | inl x ↦ is r (Err Operand) tt x.1
@@ -155,10 +155,10 @@ sends sub state path signal r = either (sending_spec.is_full sub.wires.down path
 chooses_sub : (sub : Subchannel) (what : Chosen) → Sound (choose_spec.choose_sub sub what)
 chooses_sub sub Idle = tt
 chooses_sub sub (Resets r path) = sends sub (reset_sent sub.state path) path (down.Reset r sub.state.hold.known) (reply.ResetSent r path)
-chooses_sub sub Clears = tt
+chooses_sub sub PerformsClear = tt
 chooses_sub sub (Halts t path) = sends sub (halt_sent sub.state) path (down.Halt t) (reply.HaltSent t path)
-chooses_sub sub Ends = tt
-chooses_sub sub Over = tt
+chooses_sub sub PerformsHalt = tt
+chooses_sub sub FindsNoPath = tt
 chooses_sub sub (Offers c path) =
     sends sub (offered sub.state c.program path) path (down.Select (sub.state.drawn + 1)) (reply.Offered (sub.state.drawn + 1) path c.resumes)
 
@@ -240,7 +240,7 @@ steps s (event.Put address bytes) r e = is r (storage_spec.put_turn s address by
 steps s (event.SetKey address key) r e = is r (storage_spec.key_turn s address key) (stored s (key_set s.storage address key)) e
 steps s (event.SetPrefix cpu address) r e = is r (storage_spec.prefix_turn s cpu address) (stored s (prefix_set s.storage cpu address)) e
 steps s (event.Show address count) r e = is r (storage_spec.show_turn s address count) (told s (shown s.storage address count)) e
-steps s (event.Execute cpu i) r e = executes_on s cpu i (subchannel_named s.sets (instruction_steps.word_of i)) r e
+steps s (event.Execute cpu i) r e = executes_on s cpu i (subchannel_named s.sets (instruction_steps.subchannel_word i)) r e
 steps s (event.Choose word) r e = chooses s (found_of s word) r e
 steps s (event.Up word path) r e = is r (up_spec.up_at s (found_of s word) path) (up_at s (found_of s word) path) e
 steps s (event.Down word path) r e = is r (down_spec.down_at s (found_of s word) path) (down_at s (found_of s word) path) e

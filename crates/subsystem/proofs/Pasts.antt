@@ -3,7 +3,7 @@ use Rattle.std.proofs.Common.{◌≡◌, refl, ℕ, ◌∙◌, ap, sym, subst, L
 use Rattle.std.proofs.lemmas.List.{length-map, length-replicate}
 use Rattle.std.proofs.lemmas.List.Elements.{All-weaker}
 use Rattle.std.specs.Prelude.{unwrap_or, All}
-use Rattle.storage_keys.specs.Storage.{cleared}
+use Rattle.storage_keys.specs.Storage.{cleared_storage}
 use Rattle.channel_config.specs.declared.parts.SubchannelSetup.{SubchannelSetup}
 use Rattle.channel_config.specs.declared.parts.UnitKind.{UnitKind}
 use Rattle.channel_config.specs.Lawful.{IsLawful}
@@ -36,7 +36,7 @@ idle-units (x ∷ xs) [] e = absurd (omega (arith, e))
 idle-units (x ∷ xs) (y ∷ ys) e = ap (λ us. idle_of x ∷ us) (idle-units xs ys (omega (arith, e)))
 
 abbrev opening-with : ℕ → ℕ → List SubchannelSetup → List UnitState → State
-opening-with blocks sets subs units = record { storage = cleared blocks; sets = sets; subs = map opened subs; units = units }
+opening-with blocks sets subs units = record { storage = cleared_storage blocks; sets = sets; subs = map opened subs; units = units }
 
 opening-same : (blocks n sets m : ℕ) (subs these : List SubchannelSetup) (units those : List UnitState) → blocks ≡ n → sets ≡ m → subs ≡ these → units ≡ those →
     opening-with blocks sets subs units ≡ opening-with n m these those

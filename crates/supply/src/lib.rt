@@ -5,7 +5,6 @@
 ghost use Rattle.std.specs.Prelude.{◌≡◌, ◌<◌, ◌≤◌, ◌+◌, ◌-◌, ◌++◌, ◌∷◌, [], Bool, true, OnOk, OnErr, vec_len, vec_capacity, length};
 ghost use Rattle.supply.specs.Requests.{IsModest};
 
-
 use std::alloc::AllocError;
 
 /// How many items room is asked for at a time: the most that one request may ask for.

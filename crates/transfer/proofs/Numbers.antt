@@ -7,23 +7,23 @@ use Rattle.storage_keys.specs.Storage.{Contents}
 use Rattle.channel_program.specs.declared.check.Check.{Check}
 use Rattle.channel_program.specs.declared.Advance.{Advance}
 use Rattle.channel_program.specs.declared.Advance.TheVariants.{Takes, Suspends, Stops}
-use Rattle.channel_program.specs.Walks.{Place, after_acts, after_used_up, advance_acts, advance_of}
+use Rattle.channel_program.specs.Walks.{WalkPlace, after_acts, after_used_up, advance_acts, advance_of}
 use Rattle.data_move.specs.Moving as movement
 use Rattle.data_move.specs.Moving.{Moving}
 use Rattle.data_move.specs.Accesses as access
 use Rattle.transfer.specs.declared.Transfer.{Transfer}
-use Rattle.transfer.specs.Commands.{begins, goes_to, with_located, located, with_room, brings, begun_with_room, has_stopped}
-use Rattle.transfer.specs.Chunks.{Brought, brings_none, chains_data, chained_to, chained, with_moved, moved_on, with_answer, absorbed, given_bytes, given_of, given_from, next_given, brought_by, fitting, brought_in, brought}
-use Rattle.transfer.specs.Numbers.{IsSame, IsLater, IsNew, IfBegins}
+use Rattle.transfer.specs.Commands.{command_begins, goes_to, with_located, located_transfer, with_room, brings, begun_with_room, has_stopped}
+use Rattle.transfer.specs.Chunks.{Brought, brings_none, chains_data, chained_to, chained, with_moved, moved_on, with_answer, taken_by_device, given_bytes, next_chunk_of, given_from, next_given, brought_by, fitting, brought_in, brought}
+use Rattle.transfer.specs.Numbers.{IsSame, IsLaterTransfer, IsNew, IfBegins}
 
 -- how a command begins
-begins-new : (walk : Place) (n : ℕ) (a : Option Advance) → IfBegins (begins walk n a) (IsNew n)
+begins-new : (walk : WalkPlace) (n : ℕ) (a : Option Advance) → IfBegins (command_begins walk n a) (IsNew n)
 begins-new walk n None = tt
 begins-new walk n (Some (Takes ccw)) = record { command = refl; sequence = refl }
 begins-new walk n (Some Suspends) = tt
 begins-new walk n (Some (Stops check)) = tt
 
-pub goes_to-new : (storage : Contents) (n : ℕ) (old : Place) → IfBegins (goes_to storage n old).came (IsNew n)
+pub goes_to-new : (storage : Contents) (n : ℕ) (old : WalkPlace) → IfBegins (goes_to storage n old).came (IsNew n)
 goes_to-new storage n old = begins-new (after_acts old (advance_acts storage old)) n (advance_of old (advance_acts storage old))
 
 -- a room is told, or a chunk given
@@ -38,7 +38,7 @@ with_located-same : (t : Transfer) (r : Result Moving Check) → IsSame t (with_
 with_located-same t (Ok moving) = record { command = refl; sequence = refl }
 with_located-same t (Err check) = record { command = refl; sequence = refl }
 
-pub located-same : (storage : Contents) (t : Transfer) → IsSame t (located storage t)
+pub located-same : (storage : Contents) (t : Transfer) → IsSame t (located_transfer storage t)
 located-same storage t = if-same t (is_some t.fault) t _ (same t) (with_located-same t (access.located storage t.walk.orb.key t.moving))
 
 pub begun-same : (storage : Contents) (t : Transfer) → IsSame t (begun_with_room storage t).transfer
@@ -48,25 +48,25 @@ begun-same storage t = begun-by (brings (class_of t.code))
     begun-by true = located-same storage t
     begun-by false = same t
 
-given_of-same : (t : Transfer) (r : Result (List ℕ) Check) → IsSame t (given_of t r).transfer
+given_of-same : (t : Transfer) (r : Result (List ℕ) Check) → IsSame t (next_chunk_of t r).transfer
 given_of-same t (Ok bytes) = record { command = refl; sequence = refl }
 given_of-same t (Err check) = record { command = refl; sequence = refl }
 
 given_from-same : (storage : Contents) (t : Transfer) → IsSame t (given_from storage t).transfer
 given_from-same storage t = given-by (has_stopped t)
   where
-    given-by : (b : Bool) → IsSame t (if b then given_bytes t [] else given_of t (access.copied storage t.walk.orb.key t.moving)).transfer
+    given-by : (b : Bool) → IsSame t (if b then given_bytes t [] else next_chunk_of t (access.copied storage t.walk.orb.key t.moving)).transfer
     given-by true = record { command = refl; sequence = refl }
     given-by false = given_of-same t (access.copied storage t.walk.orb.key t.moving)
 
 pub given-same : (storage : Contents) (t : Transfer) → IsSame t (next_given storage t).transfer
 given-same storage t =
-    let l : IsSame t (located storage t) = located-same storage t in
-    let g : IsSame (located storage t) (next_given storage t).transfer = given_from-same storage (located storage t) in
+    let l : IsSame t (located_transfer storage t) = located-same storage t in
+    let g : IsSame (located_transfer storage t) (next_given storage t).transfer = given_from-same storage (located_transfer storage t) in
     record { command = g.command ∙ l.command; sequence = g.sequence ∙ l.sequence }
 
 -- bytes are moved
-chained_to-same : (t : Transfer) (walk : Place) (a : Option Advance) → IsSame t (chained_to t walk a)
+chained_to-same : (t : Transfer) (walk : WalkPlace) (a : Option Advance) → IsSame t (chained_to t walk a)
 chained_to-same t walk None = same t
 chained_to-same t walk (Some (Takes ccw)) = record { command = refl; sequence = refl }
 chained_to-same t walk (Some Suspends) = record { command = refl; sequence = refl }
@@ -82,11 +82,11 @@ moved_on-same storage t n =
     let c : IsSame (with_moved t n) (chained storage (with_moved t n)) = chained-same storage (with_moved t n) in
     if-same t (chains_data (with_moved t n) n) _ _ (record { command = c.command; sequence = c.sequence }) (record { command = refl; sequence = refl })
 
-later-if : (t x : Transfer) (s : ℕ) (b : Bool) → (s == t.sequence + 1) ≡ b → x.command ≡ t.command → x.sequence ≡ s → IsLater t (if b then x else t)
+later-if : (t x : Transfer) (s : ℕ) (b : Bool) → (s == t.sequence + 1) ≡ b → x.command ≡ t.command → x.sequence ≡ s → IsLaterTransfer t (if b then x else t)
 later-if t x s true e c q = record { command = c; sequence = omega (arith, eqb-true s (t.sequence + 1) e, q) }
 later-if t x s false e c q = record { command = refl; sequence = omega arith }
 
-pub absorbed-later : (storage : Contents) (t : Transfer) (s count : ℕ) → IsLater t (absorbed storage t s count)
+pub absorbed-later : (storage : Contents) (t : Transfer) (s count : ℕ) → IsLaterTransfer t (taken_by_device storage t s count)
 absorbed-later storage t s count =
     let m : IsSame (with_answer t s count) (moved_on storage (with_answer t s count) (min count (movement.room t.moving))) =
     moved_on-same storage (with_answer t s count) (min count (movement.room t.moving)) in
@@ -101,16 +101,16 @@ brought_in-same : (storage : Contents) (t : Transfer) (bytes : List ℕ) → IsS
 brought_in-same storage t bytes = brought-by (is_some t.fault)
   where
     brought-by : (b : Bool) →
-        IsSame t (if b then brings_none storage t else brought_by storage t (length bytes) (access.stored storage t.walk.orb.key t.moving bytes)).transfer
+        IsSame t (if b then brings_none storage t else brought_by storage t (length bytes) (access.stored_or_skipped storage t.walk.orb.key t.moving bytes)).transfer
     brought-by true = same t
-    brought-by false = brought_by-same storage t (length bytes) (access.stored storage t.walk.orb.key t.moving bytes)
+    brought-by false = brought_by-same storage t (length bytes) (access.stored_or_skipped storage t.walk.orb.key t.moving bytes)
 
 brought-if : (storage : Contents) (t : Transfer) (x : Brought) (s : ℕ) (b : Bool) → (s == t.sequence + 1) ≡ b → x.transfer.command ≡ t.command → x.transfer.sequence ≡ s →
-    IsLater t (if b then x else brings_none storage t).transfer
+    IsLaterTransfer t (if b then x else brings_none storage t).transfer
 brought-if storage t x s true e c q = record { command = c; sequence = omega (arith, eqb-true s (t.sequence + 1) e, q) }
 brought-if storage t x s false e c q = record { command = refl; sequence = omega arith }
 
-pub brought-later : (storage : Contents) (t : Transfer) (s : ℕ) (bytes : List ℕ) → IsLater t (brought storage t s bytes).transfer
+pub brought-later : (storage : Contents) (t : Transfer) (s : ℕ) (bytes : List ℕ) → IsLaterTransfer t (brought storage t s bytes).transfer
 brought-later storage t s bytes =
     let m : IsSame (record t { sequence = s }) (brought_in storage (record t { sequence = s }) (fitting t bytes)).transfer =
     brought_in-same storage (record t { sequence = s }) (fitting t bytes) in

@@ -6,25 +6,25 @@ use Rattle.channel_program.specs.declared.check.Check.{Check}
 use Rattle.channel_program.specs.declared.check.Check.TheVariants.{Program}
 use Rattle.channel_program.specs.declared.Advance.{Advance}
 use Rattle.channel_program.specs.declared.Advance.TheVariants.{Takes, Suspends, Stops}
-use Rattle.channel_program.specs.Walks.{Place, after_acts, after_used_up, advance_acts, advance_of}
+use Rattle.channel_program.specs.Walks.{WalkPlace, after_acts, after_used_up, advance_acts, advance_of}
 use Rattle.data_move.specs.Moving as movement
 use Rattle.data_move.specs.Accesses as access
 use Rattle.transfer.specs.declared.Transfer.{Transfer}
-use Rattle.transfer.specs.declared.Given.{Given}
-use Rattle.transfer.specs.Commands.{data_of, has_stopped, located}
+use Rattle.transfer.specs.declared.NextChunk.{NextChunk}
+use Rattle.transfer.specs.Commands.{data_of, has_stopped, located_transfer}
 
 -- Data chaining: as soon as the count is used up the next block takes control, with its own data; a check is a fault of
 -- the transfer, and so is a suspension
 abbrev pub chains_data : Transfer → ℕ → Bool
 chains_data t n = not (n == 0) && ((movement.residual t.moving == 0) && (t.moving.ccw.chain_data && is_none t.fault))
 
-abbrev pub chained_to : Transfer → Place → Option Advance → Transfer
-chained_to t walk (Some (Takes ccw)) = record t { walk = walk; moving = data_of walk t.code ccw; interrupts = ccw.program_controlled }
+abbrev pub chained_to : Transfer → WalkPlace → Option Advance → Transfer
+chained_to t walk (Some (Takes ccw)) = record t { walk = walk; moving = data_of walk t.code ccw; pci_pending = ccw.program_controlled }
 chained_to t walk (Some Suspends) = record t { walk = walk; fault = Some Program }
 chained_to t walk (Some (Stops check)) = record t { walk = walk; fault = Some check }
 chained_to t walk None = t
 
-abbrev pub chained_from : Contents → Transfer → Place → Transfer
+abbrev pub chained_from : Contents → Transfer → WalkPlace → Transfer
 chained_from storage t old =
     let acts = advance_acts storage old in
     chained_to t (after_acts old acts) (advance_of old acts)
@@ -44,26 +44,26 @@ moved_on storage t n = if chains_data (with_moved t n) n then chained storage (w
 abbrev pub with_answer : Transfer → ℕ → ℕ → Transfer
 with_answer t s count = record t { sequence = s; stopped = t.stopped || nat_lt count t.offered }
 
-abbrev pub absorbed : Contents → Transfer → ℕ → ℕ → Transfer
-absorbed storage t s count =
+abbrev pub taken_by_device : Contents → Transfer → ℕ → ℕ → Transfer
+taken_by_device storage t s count =
     if s == t.sequence + 1 then moved_on storage (with_answer t s count) (min count (movement.room t.moving)) else t
 
 -- the next chunk as it is given to the device; one that can't be fetched is a fault, and no bytes are given
-abbrev pub given_bytes : Transfer → List ℕ → Given
+abbrev pub given_bytes : Transfer → List ℕ → NextChunk
 given_bytes t bytes = record { transfer = record t { offered = length bytes }; bytes = bytes }
 
-abbrev pub given_fault : Transfer → Check → Given
+abbrev pub given_fault : Transfer → Check → NextChunk
 given_fault t check = record { transfer = record t { offered = 0; fault = Some check }; bytes = [] }
 
-abbrev pub given_of : Transfer → Result (List ℕ) Check → Given
-given_of t (Ok bytes) = given_bytes t bytes
-given_of t (Err check) = given_fault t check
+abbrev pub next_chunk_of : Transfer → Result (List ℕ) Check → NextChunk
+next_chunk_of t (Ok bytes) = given_bytes t bytes
+next_chunk_of t (Err check) = given_fault t check
 
-abbrev pub given_from : Contents → Transfer → Given
-given_from storage t = if has_stopped t then given_bytes t [] else given_of t (access.copied storage t.walk.orb.key t.moving)
+abbrev pub given_from : Contents → Transfer → NextChunk
+given_from storage t = if has_stopped t then given_bytes t [] else next_chunk_of t (access.copied storage t.walk.orb.key t.moving)
 
-abbrev pub next_given : Contents → Transfer → Given
-next_given storage t = given_from storage (located storage t)
+abbrev pub next_given : Contents → Transfer → NextChunk
+next_given storage t = given_from storage (located_transfer storage t)
 
 -- the bytes of chunk s that the device supplied are stored at the next places, at most as many as there is room for; a
 -- chunk that can't be stored is a fault, and after a fault none is stored
@@ -84,7 +84,7 @@ fitting t bytes = take (movement.room t.moving) bytes
 abbrev pub brought_in : Contents → Transfer → List ℕ → Brought
 brought_in storage t bytes =
     if is_some t.fault then brings_none storage t
-    else brought_by storage t (length bytes) (access.stored storage t.walk.orb.key t.moving bytes)
+    else brought_by storage t (length bytes) (access.stored_or_skipped storage t.walk.orb.key t.moving bytes)
 
 abbrev pub brought : Contents → Transfer → ℕ → List ℕ → Brought
 brought storage t s bytes =

@@ -10,32 +10,32 @@ use Rattle.channel_program.specs.declared.check.Check.{Check}
 use Rattle.channel_program.specs.declared.check.Check.TheVariants.{Program}
 use Rattle.channel_program.specs.declared.Advance.{Advance}
 use Rattle.channel_program.specs.declared.Advance.TheVariants.{Takes, Suspends, Stops}
-use Rattle.channel_program.specs.Walks.{Place, after_acts, after_end, advance_acts, advance_of}
+use Rattle.channel_program.specs.Walks.{WalkPlace, after_acts, walk_after_end, advance_acts, advance_of}
 use Rattle.idaw.specs.Lists.{kind_of}
 use Rattle.data_move.specs.Moving as movement
 use Rattle.data_move.specs.Moving.{Moving}
 use Rattle.data_move.specs.Accesses as access
 use Rattle.transfer.specs.declared.Transfer.{Transfer}
-use Rattle.transfer.specs.declared.Came.{Came}
-use Rattle.transfer.specs.declared.Came.TheVariants as came
+use Rattle.transfer.specs.declared.CommandStart.{CommandStart}
+use Rattle.transfer.specs.declared.CommandStart.TheVariants as came
 use Rattle.transfer.specs.declared.Beginning.{Beginning}
-use Rattle.transfer.specs.declared.Roomy.{Roomy}
+use Rattle.transfer.specs.declared.WithRoom.{WithRoom}
 
 -- SKIP has an effect where bytes come in
 abbrev pub is_skipped : ℕ → Ccw → Bool
 is_skipped code ccw = ccw.skip && not (is_outward code)
 
 -- the data of a block that took control in a command of this code
-abbrev pub data_of : Place → ℕ → Ccw → Moving
-data_of walk code ccw = movement.begun (kind_of walk.orb) ccw (is_skipped code ccw)
+abbrev pub data_of : WalkPlace → ℕ → Ccw → Moving
+data_of walk code ccw = movement.moving_begun (kind_of walk.orb) ccw (is_skipped code ccw)
 
-abbrev pub command_of : Place → ℕ → Ccw → Transfer
-command_of walk n ccw = record {
+abbrev pub transfer_of : WalkPlace → ℕ → Ccw → Transfer
+transfer_of walk n ccw = record {
   command = n;
   code = ccw.command;
   walk = walk;
   moving = data_of walk ccw.command ccw;
-  interrupts = ccw.program_controlled;
+  pci_pending = ccw.program_controlled;
   sequence = 0;
   offered = 0;
   stopped = false;
@@ -45,46 +45,46 @@ command_of walk n ccw = record {
 }
 
 -- a program whose next block takes control begins a command; it is suspended, or ends with a check
-abbrev pub begins : Place → ℕ → Option Advance → Came
-begins walk n (Some (Takes ccw)) = came.Begins (command_of walk n ccw)
-begins walk n (Some Suspends) = came.Suspends
-begins walk n (Some (Stops check)) = came.Stops check
-begins walk n None = came.Stops Program
+abbrev pub command_begins : WalkPlace → ℕ → Option Advance → CommandStart
+command_begins walk n (Some (Takes ccw)) = came.Begins (transfer_of walk n ccw)
+command_begins walk n (Some Suspends) = came.Suspends
+command_begins walk n (Some (Stops check)) = came.Stops check
+command_begins walk n None = came.Stops Program
 
-abbrev pub beginning_of : Place → ℕ → Option Advance → Beginning
-beginning_of walk n advance = record { walk = walk; came = begins walk n advance }
+abbrev pub beginning_of : WalkPlace → ℕ → Option Advance → Beginning
+beginning_of walk n advance = record { walk = walk; came = command_begins walk n advance }
 
 -- the command that a program goes on to from a place
-abbrev pub goes_to : Contents → ℕ → Place → Beginning
+abbrev pub goes_to : Contents → ℕ → WalkPlace → Beginning
 goes_to storage n old =
     let acts = advance_acts storage old in
     beginning_of (after_acts old acts) n (advance_of old acts)
 
 -- the first command of a program from where it stands: at its beginning, or where it was suspended; and the next after one
 -- that ended, with status modifier or without
-abbrev pub first_command : Contents → Place → Beginning
+abbrev pub first_command : Contents → WalkPlace → Beginning
 first_command storage walk = goes_to storage 1 walk
 
 abbrev pub next_command : Contents → Transfer → Bool → Beginning
-next_command storage t modifier = goes_to storage (t.command + 1) (after_end t.walk (record { goes_on = true; modifier = modifier }))
+next_command storage t modifier = goes_to storage (t.command + 1) (walk_after_end t.walk (record { goes_on = true; modifier = modifier }))
 
 -- the next word of an indirect list is fetched where it is needed; where it can't be, that is a fault
 abbrev pub with_located : Transfer → Result Moving Check → Transfer
 with_located t (Ok moving) = record t { moving = moving }
 with_located t (Err check) = record t { fault = Some check }
 
-abbrev pub located : Contents → Transfer → Transfer
-located storage t = if is_some t.fault then t else with_located t (access.located storage t.walk.orb.key t.moving)
+abbrev pub located_transfer : Contents → Transfer → Transfer
+located_transfer storage t = if is_some t.fault then t else with_located t (access.located storage t.walk.orb.key t.moving)
 
 -- the bytes of the next chunk: none where the transfer is stopped or has a fault
 abbrev pub has_stopped : Transfer → Bool
 has_stopped t = t.stopped || is_some t.fault
 
-abbrev pub room_of : Transfer → ℕ
-room_of t = if has_stopped t then 0 else movement.room t.moving
+abbrev pub room_of_transfer : Transfer → ℕ
+room_of_transfer t = if has_stopped t then 0 else movement.room t.moving
 
-abbrev pub with_room : Contents → Transfer → Roomy
-with_room storage t = record { transfer = located storage t; room = room_of (located storage t) }
+abbrev pub with_room : Contents → Transfer → WithRoom
+with_room storage t = record { transfer = located_transfer storage t; room = room_of_transfer (located_transfer storage t) }
 
 -- a command that brings bytes in is told at once how many may come
 abbrev pub brings : Class → Bool
@@ -96,5 +96,5 @@ brings class.ReadBackward = false
 brings class.Transfer = false
 brings class.Invalid = false
 
-abbrev pub begun_with_room : Contents → Transfer → Roomy
+abbrev pub begun_with_room : Contents → Transfer → WithRoom
 begun_with_room storage t = if brings (class_of t.code) then with_room storage t else record { transfer = t; room = 0 }

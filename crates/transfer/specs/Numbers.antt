@@ -1,8 +1,8 @@
 -- The numbers of a command and of its chunks (own).
 use Rattle.std.specs.Prelude.{◌≡◌, ◌≤◌, ℕ, ◌+◌}
 use Rattle.transfer.specs.declared.Transfer.{Transfer}
-use Rattle.transfer.specs.declared.Came.{Came}
-use Rattle.transfer.specs.declared.Came.TheVariants.{Begins, Suspends, Stops}
+use Rattle.transfer.specs.declared.CommandStart.{CommandStart}
+use Rattle.transfer.specs.declared.CommandStart.TheVariants.{Begins, Suspends, Stops}
 
 -- both numbers stay
 pub record IsSame (old new : Transfer) : Type 0 where
@@ -10,7 +10,7 @@ pub record IsSame (old new : Transfer) : Type 0 where
   pub sequence : new.sequence ≡ old.sequence
 
 -- a chunk may be counted
-pub record IsLater (old new : Transfer) : Type 0 where
+pub record IsLaterTransfer (old new : Transfer) : Type 0 where
   pub command : new.command ≡ old.command
   pub sequence : new.sequence ≤ old.sequence + 1
 
@@ -20,7 +20,7 @@ pub record IsNew (number : ℕ) (new : Transfer) : Type 0 where
   pub sequence : new.sequence ≡ 0
 
 -- of what a command begins with, where one begins
-abbrev pub IfBegins : Came → (Transfer → Type 0) → Type 0
+abbrev pub IfBegins : CommandStart → (Transfer → Type 0) → Type 0
 IfBegins (Begins t) P = P t
 IfBegins Suspends P = Unit {0}
 IfBegins (Stops check) P = Unit {0}

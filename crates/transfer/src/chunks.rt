@@ -4,7 +4,7 @@ ghost use Rattle.std.specs.Prelude.{◌≡◌, ◌<◌, ◌≤◌, ◌^◌, ◌+
 ghost use Rattle.transfer.specs.Chunks as spec;
 
 use crate::commands::{data_of, has_stopped, is_outward, located};
-use crate::{Given, Transfer};
+use crate::{NextChunk, Transfer};
 use ccw_walk::Walk;
 use chan_model::chunk::Chunk;
 use channel_program::Advance;
@@ -28,7 +28,7 @@ fn chained_to(transfer: &Transfer, walk: Walk, advance: Option<Advance>) -> Tran
         Some(Advance::Takes(ccw)) => {
             next.walk = walk;
             next.moving = data_of(&walk, transfer.code, ccw);
-            next.interrupts = ccw.program_controlled;
+            next.pci_pending = ccw.program_controlled;
         }
         Some(Advance::Suspends) => {
             next.walk = walk;
@@ -78,7 +78,7 @@ fn is_next(transfer: &Transfer, sequence: u64) -> bool
 /// The transfer after the device absorbed so many bytes of a chunk.
 pub fn absorbed(storage: &Storage, transfer: &Transfer, sequence: u64, count: usize) -> Transfer
     requires { transfer.now.sequence < 2 ^ 63 }
-    ensures { result ≡ spec.absorbed storage.now transfer.now sequence count }
+    ensures { result ≡ spec.taken_by_device storage.now transfer.now sequence count }
 {
     if !is_next(transfer, sequence) {
         return *transfer;
@@ -90,10 +90,10 @@ pub fn absorbed(storage: &Storage, transfer: &Transfer, sequence: u64, count: us
     moved_on(storage, &next, moved as u16)
 }
 
-fn given_bytes(transfer: &Transfer, bytes: Chunk) -> Given
+fn given_bytes(transfer: &Transfer, bytes: Chunk) -> NextChunk
     ensures { result ≡ spec.given_bytes transfer.now bytes }
 {
-    Given {
+    NextChunk {
         transfer: Transfer {
             offered: bytes.len() as u16,
             ..*transfer
@@ -102,10 +102,10 @@ fn given_bytes(transfer: &Transfer, bytes: Chunk) -> Given
     }
 }
 
-fn given_fault(transfer: &Transfer, check: Check) -> Given
+fn given_fault(transfer: &Transfer, check: Check) -> NextChunk
     ensures { result ≡ spec.given_fault transfer.now check }
 {
-    Given {
+    NextChunk {
         transfer: Transfer {
             offered: 0,
             fault: Some(check),
@@ -115,7 +115,7 @@ fn given_fault(transfer: &Transfer, check: Check) -> Given
     }
 }
 
-fn given_from(storage: &Storage, transfer: &Transfer) -> Given
+fn given_from(storage: &Storage, transfer: &Transfer) -> NextChunk
     ensures { result ≡ spec.given_from storage.now transfer.now }
 {
     if has_stopped(transfer) {
@@ -128,7 +128,7 @@ fn given_from(storage: &Storage, transfer: &Transfer) -> Given
 }
 
 /// The next chunk as it is given to the device.
-pub fn next_given(storage: &Storage, transfer: &Transfer) -> Given
+pub fn next_given(storage: &Storage, transfer: &Transfer) -> NextChunk
     ensures { result ≡ spec.next_given storage.now transfer.now }
 {
     given_from(storage, &located(storage, transfer))

@@ -4,7 +4,7 @@ ghost use Rattle.std.specs.Prelude.{◌≡◌, ◌<◌, ◌≤◌, ◌^◌};
 ghost use Rattle.chan_model.specs.UnitReports.{is_outward as is_outward_code};
 ghost use Rattle.transfer.specs.Commands as spec;
 
-use crate::{Beginning, Came, Roomy, Transfer};
+use crate::{Beginning, CommandStart, Transfer, WithRoom};
 use ccw_codec::command::class;
 use ccw_codec::{Ccw, Class};
 use ccw_walk::Walk;
@@ -34,14 +34,14 @@ pub(crate) fn data_of(walk: &Walk, code: u8, ccw: Ccw) -> Move
 }
 
 fn command_of(walk: Walk, command: u64, ccw: Ccw) -> Transfer
-    ensures { result ≡ spec.command_of walk command ccw }
+    ensures { result ≡ spec.transfer_of walk command ccw }
 {
     Transfer {
         command,
         code: ccw.command,
         walk,
         moving: data_of(&walk, ccw.command, ccw),
-        interrupts: ccw.program_controlled,
+        pci_pending: ccw.program_controlled,
         sequence: 0,
         offered: 0,
         stopped: false,
@@ -51,14 +51,14 @@ fn command_of(walk: Walk, command: u64, ccw: Ccw) -> Transfer
     }
 }
 
-fn begins(walk: Walk, command: u64, advance: Option<Advance>) -> Came
-    ensures { result ≡ spec.begins walk command advance }
+fn begins(walk: Walk, command: u64, advance: Option<Advance>) -> CommandStart
+    ensures { result ≡ spec.command_begins walk command advance }
 {
     match advance {
-        Some(Advance::Takes(ccw)) => Came::Begins(command_of(walk, command, ccw)),
-        Some(Advance::Suspends) => Came::Suspends,
-        Some(Advance::Stops(check)) => Came::Stops(check),
-        None => Came::Stops(Check::Program),
+        Some(Advance::Takes(ccw)) => CommandStart::Begins(command_of(walk, command, ccw)),
+        Some(Advance::Suspends) => CommandStart::Suspends,
+        Some(Advance::Stops(check)) => CommandStart::Stops(check),
+        None => CommandStart::Stops(Check::Program),
     }
 }
 
@@ -95,7 +95,7 @@ pub fn next_command(storage: &Storage, transfer: &Transfer, modifier: bool) -> B
 
 /// The next word of an indirect list is fetched where it is needed.
 pub(crate) fn located(storage: &Storage, transfer: &Transfer) -> Transfer
-    ensures { result ≡ spec.located storage.now transfer.now }
+    ensures { result ≡ spec.located_transfer storage.now transfer.now }
 {
     if transfer.fault.is_some() {
         return *transfer;
@@ -114,7 +114,7 @@ pub(crate) fn has_stopped(transfer: &Transfer) -> bool
 }
 
 fn room_of(transfer: &Transfer) -> u16
-    ensures { result ≡ spec.room_of transfer.now }
+    ensures { result ≡ spec.room_of_transfer transfer.now }
 {
     if has_stopped(transfer) {
         0
@@ -124,11 +124,11 @@ fn room_of(transfer: &Transfer) -> u16
 }
 
 /// A transfer with the room for its next chunk.
-pub fn with_room(storage: &Storage, transfer: &Transfer) -> Roomy
+pub fn with_room(storage: &Storage, transfer: &Transfer) -> WithRoom
     ensures { result ≡ spec.with_room storage.now transfer.now }
 {
     let transfer = located(storage, transfer);
-    Roomy {
+    WithRoom {
         transfer,
         room: room_of(&transfer),
     }
@@ -141,13 +141,13 @@ fn brings(class: Class) -> bool
 }
 
 /// A command that is begun, with the room that its device is told of.
-pub fn begun_with_room(storage: &Storage, transfer: &Transfer) -> Roomy
+pub fn begun_with_room(storage: &Storage, transfer: &Transfer) -> WithRoom
     ensures { result ≡ spec.begun_with_room storage.now transfer.now }
 {
     if brings(class(transfer.code)) {
         with_room(storage, transfer)
     } else {
-        Roomy {
+        WithRoom {
             transfer: *transfer,
             room: 0,
         }

@@ -22,7 +22,7 @@ pub struct Transfer {
     /// The data of the block that took control last.
     pub moving: Move,
     /// That block asks for an interruption by the program, which is not made yet.
-    pub interrupts: bool,
+    pub pci_pending: bool,
     /// The number of the last chunk.
     pub sequence: u64,
     /// How many bytes were given last.
@@ -39,7 +39,7 @@ pub struct Transfer {
 
 /// What a program comes to as its next block is fetched.
 #[derive(Clone, Copy)]
-pub enum Came {
+pub enum CommandStart {
     /// A command begins.
     Begins(Transfer),
     /// The program is suspended.
@@ -53,19 +53,19 @@ pub enum Came {
 pub struct Beginning {
     /// Where the program stands then.
     pub walk: Walk,
-    pub came: Came,
+    pub came: CommandStart,
 }
 
 /// A command with the room that its device is told of: how many bytes of a read may come, at most 256.
 #[derive(Clone, Copy)]
-pub struct Roomy {
+pub struct WithRoom {
     pub transfer: Transfer,
     pub room: u16,
 }
 
 /// The next bytes of a transfer, as they are given to the device.
 #[derive(Drop)]
-pub struct Given {
+pub struct NextChunk {
     pub transfer: Transfer,
     pub bytes: Chunk,
 }

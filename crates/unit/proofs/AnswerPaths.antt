@@ -13,7 +13,7 @@ use Rattle.chan_model.specs.declared.unit_state.AtHand.{AtHand}
 use Rattle.chan_model.specs.declared.unit_state.Attention.{Attention}
 use Rattle.chan_model.specs.declared.unit_state.UnitState.{UnitState}
 use Rattle.chan_model.specs.Sides.{same_side}
-use Rattle.chan_model.specs.UnitTable.{UnitStep, unit_takes, unit_works, came_of, side_of, raised, selected, granted, granted_at, refused, refused_at, given_next, answered_load, answered_last, forgetting, is_owner, is_owner_on, freed, sends, telling, resets, reset_side}
+use Rattle.chan_model.specs.UnitTable.{UnitStep, unit_takes, unit_works, came_of, side_of, raised, selected, granted, granted_at, grant_refused, grant_refused_at, given_next, answered_load, answered_last, forgetting, is_owner, is_owner_on, freed, sends, telling, resets, reset_side}
 
 -- what is sent goes by the path that the signal came by
 abbrev pub OnPathOf : ℕ → Option UnitStep → Type 0
@@ -37,14 +37,14 @@ granted-path : (u : UnitState) (own : Own) (side : Side) (p t c : ℕ) → OnPat
 granted-path u Idle side p t c = tt
 granted-path u (Owned k v place) side p t c = either p (same_side k side && (t == v)) (granted_at u k v place p c) None (granted_at-path u k v place p c) tt
 
-refused_at-path : (u : UnitState) (side : Side) (t : ℕ) (place : Place) (p c : ℕ) → OnPathOf p (refused_at u side t place c)
+refused_at-path : (u : UnitState) (side : Side) (t : ℕ) (place : Place) (p c : ℕ) → OnPathOf p (grant_refused_at u side t place c)
 refused_at-path u side t (Ask r d) p c = either p (c == d) _ _ tt tt
 refused_at-path u side t (On r d) p c = tt
 refused_at-path u side t (Away d) p c = tt
 
-refused-path : (u : UnitState) (own : Own) (side : Side) (p t c : ℕ) → OnPathOf p (refused u own side t c)
+refused-path : (u : UnitState) (own : Own) (side : Side) (p t c : ℕ) → OnPathOf p (grant_refused u own side t c)
 refused-path u Idle side p t c = tt
-refused-path u (Owned k v place) side p t c = either p (same_side k side && (t == v)) (refused_at u k v place c) None (refused_at-path u k v place p c) tt
+refused-path u (Owned k v place) side p t c = either p (same_side k side && (t == v)) (grant_refused_at u k v place c) None (refused_at-path u k v place p c) tt
 
 given_next-path : (u : UnitState) (x : Option AtHand) (p s : ℕ) (bytes : List ℕ) → OnPathOf p (given_next u x s bytes)
 given_next-path u None p s bytes = tt

@@ -10,7 +10,7 @@ use Rattle.chan_model.specs.declared.unit_state.Own.TheVariants.{Idle, Owned}
 use Rattle.chan_model.specs.declared.unit_state.UnitState.{UnitState}
 use Rattle.chan_model.specs.Sides.{same_side}
 use Rattle.chan_model.specs.UnitTable.{UnitStep, came_of, side_of, is_owner, raised, resets, selected, granted, granted_at, unit_takes}
-use Rattle.unit.specs.UnitWords.{is_answered}
+use Rattle.unit.specs.UnitWords.{is_unit_answered}
 
 -- the step sends a signal
 abbrev pub sends_one : Option UnitStep → Bool
@@ -40,7 +40,7 @@ sends_one-granted u (Owned k v place) side p q t c =
     sends_one-if (same_side k side && (t == v)) _ _ _ _ (sends_one-granted_at u k v place p q c) refl
 
 pub sends_one-unit_takes : (u : UnitState) (side : Side) (p : ℕ) (d : Down) (may : Bool)
-    → sends_one (unit_takes u side p d may) ≡ is_answered u side d
+    → sends_one (unit_takes u side p d may) ≡ is_unit_answered u side d
 sends_one-unit_takes u side p (Select t) may =
     sends_one-if (side_of u side).fresh _ _ _ _ refl
     (sends_one-if (nat_lt (side_of u side).floor t) _ _ _ _

@@ -15,7 +15,7 @@ use Rattle.chan_model.specs.declared.unit_state.AtHand.{AtHand}
 use Rattle.chan_model.specs.declared.unit_state.Attention.{Attention}
 use Rattle.chan_model.specs.declared.unit_state.UnitState.{UnitState}
 use Rattle.chan_model.specs.Sides.{same_side}
-use Rattle.chan_model.specs.UnitTable.{UnitStep, unit_after, side_of, with_side, is_owner, is_owner_on, is_place_on, owns, freed, raised, held, selected, commanded, given_next, given, answered_load, answered_last, answered, granted_at, granted, refused_at, refused, halting, releasing, without_side, reset_side, resets, forgetting, telling, unit_works, unit_takes}
+use Rattle.chan_model.specs.UnitTable.{UnitStep, unit_after, side_of, with_side, is_owner, is_owner_on, is_place_on, owns, freed, raised, held, selected, commanded, given_next, given, answered_load, answered_last, unit_answered, granted_at, granted, grant_refused_at, grant_refused, unit_halting, releasing, without_side, reset_side, resets, forgetting, telling, unit_works, unit_takes}
 use Rattle.unit.specs.UnitWords.{other_of, IsSameProgram, LeavesOther}
 
 -- the step leaves the other side as it was, and its program
@@ -133,13 +133,13 @@ leaves-answered_last side u None s room e = leaves-same side u
 leaves-answered_last side u (Some x) s room e =
     leaves-if side u (s == x.sequence) _ _ (λ h. leaves-answered_load side u x x.unanswered room e) (leaves-same side u)
 
-pub leaves-answered : (side : Side) (u : UnitState) (t n s room : ℕ) → Leaves side u (answered u side t n s room)
+pub leaves-answered : (side : Side) (u : UnitState) (t n s room : ℕ) → Leaves side u (unit_answered u side t n s room)
 leaves-answered side u t n s room =
     leaves-if side u (is_owner u.own side t && (n == u.last_command)) _ _
     (λ h. leaves-answered_last side u u.at_hand s room (is_owner-owns u.own side t (and_parts (is_owner u.own side t) (n == u.last_command) h).0))
     (leaves-same side u)
 
-pub leaves-halting : (side : Side) (u : UnitState) (t : ℕ) → Leaves side u (halting u side t)
+pub leaves-halting : (side : Side) (u : UnitState) (t : ℕ) → Leaves side u (unit_halting u side t)
 leaves-halting side u t =
     leaves-if side u (is_owner u.own side t && not u.halted) _ _
     (λ h. leaves-changed side u _ (is_owner-owns u.own side t (and_parts (is_owner u.own side t) (not u.halted) h).0) refl refl refl)
@@ -168,13 +168,13 @@ leaves-granted side u (Owned k v place) p t c e =
     (λ h. leaves-granted_at side k u v place p c e (and_parts (same_side k side) (t == v) h).0) (leaves-same side u)
 
 pub leaves-refused_at : (side k : Side) (u : UnitState) (v : ℕ) (place : Place) (c : ℕ) → u.own ≡ Owned k v place → same_side k side ≡ true
-    → Leaves side u (refused_at u k v place c)
+    → Leaves side u (grant_refused_at u k v place c)
 leaves-refused_at side k u v (Ask q d) c e same =
     leaves-if side u (c == d) _ _ (λ h. leaves-place side k u v (Ask q d) (Away d) e same) (leaves-same side u)
 leaves-refused_at side k u v (On q d) c e same = leaves-same side u
 leaves-refused_at side k u v (Away d) c e same = leaves-same side u
 
-pub leaves-refused : (side : Side) (u : UnitState) (own : Own) (t c : ℕ) → u.own ≡ own → Leaves side u (refused u own side t c)
+pub leaves-refused : (side : Side) (u : UnitState) (own : Own) (t c : ℕ) → u.own ≡ own → Leaves side u (grant_refused u own side t c)
 leaves-refused side u Idle t c e = leaves-same side u
 leaves-refused side u (Owned k v place) t c e =
     leaves-if side u (same_side k side && (t == v)) _ _

@@ -12,8 +12,8 @@ use Rattle.chan_model.specs.declared.unit_state.UnitState.{UnitState}
 use Rattle.chan_model.specs.UnitTable.{unit_takes, came_of, side_of, owns}
 
 -- the signal is answered; neither its path nor what the control unit may do decides that
-abbrev pub is_answered : UnitState → Side → Down → Bool
-is_answered u side signal = is_some (came_of (unit_takes u side 0 signal false)).sent
+abbrev pub is_unit_answered : UnitState → Side → Down → Bool
+is_unit_answered u side signal = is_some (came_of (unit_takes u side 0 signal false)).sent
 
 -- the number of the last connection of the program that holds the device
 abbrev pub connection_of : Place → ℕ

@@ -94,7 +94,7 @@ fn give(command: &mut AtHand, sequence: u64, bytes: &Chunk)
 
 /// The bytes, where there are any.
 fn kept(bytes: &Chunk) -> Option<Chunk>
-    ensures { result ≡ table.kept bytes.now }
+    ensures { result ≡ table.kept_bytes bytes.now }
 {
     match bytes.as_slice() {
         [] => None,
@@ -111,8 +111,8 @@ pub fn answered(
     sequence: u64,
     room: u16,
 ) -> Taken<Up>
-    ensures state { unit.new ≡ table.unit_after unit.old (table.answered unit.old side number command sequence room) }
-    ensures came { result ≡ table.came_of (table.answered unit.old side number command sequence room) }
+    ensures state { unit.new ≡ table.unit_after unit.old (table.unit_answered unit.old side number command sequence room) }
+    ensures came { result ≡ table.came_of (table.unit_answered unit.old side number command sequence room) }
 {
     if is_owner(unit, side, number) && command == unit.last_command {
         answered_last(unit, sequence, room)
@@ -137,7 +137,7 @@ fn answered_last(unit: &mut UnitState, sequence: u64, room: u16) -> Taken<Up>
 
 /// The Data that was not answered is answered: no room, or fewer bytes than were asked for, stop the transfer.
 fn settle(command: &mut AtHand, room: u16)
-    ensures { IfSome command.old.unanswered (λ load. command.new ≡ table.with_answer command.old load room) }
+    ensures { IfSome command.old.unanswered (λ load. command.new ≡ table.at_hand_answered command.old load room) }
 {
     let asked = usize::from(command.asked);
     let short = command

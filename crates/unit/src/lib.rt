@@ -79,7 +79,7 @@ impl Unit {
 
         // An answer goes by the path of the signal; the other side is left as it was.
         ensures path { IfSome result.sent (λ sent. sent.path ≡ path) }
-        ensures answered { is_some result.sent ≡ words.is_answered self.old side signal.now }
+        ensures answered { is_some result.sent ≡ words.is_unit_answered self.old side signal.now }
         ensures other { words.LeavesOther side self.old self.new }
     {
         signals::takes(&mut self.state, side, path, signal, may)

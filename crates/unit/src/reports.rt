@@ -341,7 +341,7 @@ impl Program {
 
 /// How far the device is after an End with this status.
 fn after_end(status: DeviceStatus) -> Progress
-    ensures { result ≡ reports.after_end status }
+    ensures { result ≡ reports.progress_after_end status }
 {
     if is_last_end(status) {
         Progress::Ended

@@ -210,8 +210,8 @@ fn granted_late(number: u64, path: Path, connection: u64, last: u64) -> Taken<Up
 
 /// Refuse: of the connection asked for.
 fn refused(unit: &mut UnitState, side: Side, number: u64, connection: u64) -> Taken<Up>
-    ensures state { unit.new ≡ table.unit_after unit.old (table.refused unit.old unit.old.own side number connection) }
-    ensures came { result ≡ table.came_of (table.refused unit.old unit.old.own side number connection) }
+    ensures state { unit.new ≡ table.unit_after unit.old (table.grant_refused unit.old unit.old.own side number connection) }
+    ensures came { result ≡ table.came_of (table.grant_refused unit.old unit.old.own side number connection) }
 {
     match unit.own {
         Own::Owned {
@@ -235,8 +235,8 @@ fn refused(unit: &mut UnitState, side: Side, number: u64, connection: u64) -> Ta
 
 /// Halt: once for a program.
 fn halting(unit: &mut UnitState, side: Side, number: u64) -> Taken<Up>
-    ensures state { unit.new ≡ table.unit_after unit.old (table.halting unit.old side number) }
-    ensures came { result ≡ table.came_of (table.halting unit.old side number) }
+    ensures state { unit.new ≡ table.unit_after unit.old (table.unit_halting unit.old side number) }
+    ensures came { result ≡ table.came_of (table.unit_halting unit.old side number) }
 {
     if is_owner(unit, side, number) && !unit.halted {
         unit.halted = true;
@@ -315,7 +315,7 @@ fn forgetting(unit: &mut UnitState, side: Side, attention: u64) -> Taken<Up>
 
 /// Whether a signal is answered.
 pub fn answers(unit: &UnitState, side: Side, signal: &Down) -> bool
-    ensures { result ≡ words.is_answered unit.now side signal.now }
+    ensures { result ≡ words.is_unit_answered unit.now side signal.now }
 {
     if let Down::Reset { number, restarts } = signal {
         resets(unit, side, *number, *restarts) || side_of(unit, side).fresh

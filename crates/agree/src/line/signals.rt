@@ -57,7 +57,7 @@ pub fn post(
     up: &[bool; 8],
     signal: OnPath<Down>,
 ) -> Result<(), Fault>
-    ensures sent { OnOk result (downs.new.items ≡ spec.with_sent up.now downs.old.items (Some signal)) }
+    ensures sent { OnOk result (downs.new.items ≡ spec.queue_with_sent up.now downs.old.items (Some signal)) }
     ensures same { OnErr result (downs.new.items ≡ downs.old.items) }
     ensures len { OnOk result (vec_len downs.new ≤ vec_len downs.old + 1) }
     ensures same_len { OnErr result (vec_len downs.new ≡ vec_len downs.old) }
@@ -99,7 +99,7 @@ pub fn tell(
 )
     requires room { vec_len ups.old < vec_capacity ups.old }
     requires room_accepted { vec_len accepted.old < vec_capacity accepted.old }
-    ensures ups { ups.new.items ≡ spec.with_sent up.now ups.old.items sent }
+    ensures ups { ups.new.items ≡ spec.queue_with_sent up.now ups.old.items sent }
     ensures ups_len { vec_len ups.new ≤ vec_len ups.old + 1 }
     ensures ups_capacity { vec_capacity ups.old ≤ vec_capacity ups.new }
     ensures accepted { accepted.new.items ≡ with_accepted accepted.old.items sent }

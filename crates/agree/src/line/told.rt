@@ -6,14 +6,14 @@ ghost use Rattle.agree.specs.Rooms as room_spec;
 ghost use Rattle.agreement_laws.specs.Moving as moving;
 ghost use Rattle.unit.specs.UnitWords as words;
 
-use super::Line;
+use super::SideLine;
 use super::signals::{make_room, tell};
 use chan_model::fault::Fault;
 use chan_model::names::{Path, Side};
 use chan_model::report::Report;
 use unit::Unit;
 
-impl Line {
+impl SideLine {
     /// The unit takes the signal at a place.
     pub fn meet(
         &mut self,
@@ -23,7 +23,7 @@ impl Line {
         keep: bool,
         may: bool,
     ) -> Result<(), Fault>
-        ensures gives { spec.Gives (spec.both unit.old self.old.line) (spec.meets (spec.both unit.old self.old.line) side place keep may) (room_spec.IsFullUp self.new.room) result (spec.both unit.new self.new.line) }
+        ensures gives { spec.GivesTurn (spec.unit_line unit.old self.old.line) (spec.unit_meets (spec.unit_line unit.old self.old.line) side place keep may) (room_spec.IsFullUp self.new.room) result (spec.unit_line unit.new self.new.line) }
         ensures room { room_spec.LineTakes result self.old.room self.new.room }
     {
         if place >= self.downs.len() {
@@ -41,7 +41,7 @@ impl Line {
 
     /// The unit leaves the path of its program.
     pub fn leave(&mut self, unit: &mut Unit) -> Result<(), Fault>
-        ensures gives { spec.Gives (spec.both unit.old self.old.line) (spec.acts_for (spec.both unit.old self.old.line) moving.Leaves) (room_spec.IsFullUp self.new.room) result (spec.both unit.new self.new.line) }
+        ensures gives { spec.GivesTurn (spec.unit_line unit.old self.old.line) (spec.acts_for (spec.unit_line unit.old self.old.line) moving.Leaves) (room_spec.IsFullUp self.new.room) result (spec.unit_line unit.new self.new.line) }
         ensures room { room_spec.LineTakes result self.old.room self.new.room }
     {
         make_room(&mut self.ups, &mut self.accepted)?;
@@ -56,7 +56,7 @@ impl Line {
     /// The unit asks for a path.
     pub fn ask(&mut self, unit: &mut Unit, path: Path) -> Result<(), Fault>
         requires { words.last_connection unit.old.own < 2 ^ 63 }
-        ensures gives { spec.Gives (spec.both unit.old self.old.line) (spec.acts_for (spec.both unit.old self.old.line) (moving.Asks path)) (room_spec.IsFullUp self.new.room) result (spec.both unit.new self.new.line) }
+        ensures gives { spec.GivesTurn (spec.unit_line unit.old self.old.line) (spec.acts_for (spec.unit_line unit.old self.old.line) (moving.Asks path)) (room_spec.IsFullUp self.new.room) result (spec.unit_line unit.new self.new.line) }
         ensures room { room_spec.LineTakes result self.old.room self.new.room }
     {
         make_room(&mut self.ups, &mut self.accepted)?;
@@ -71,7 +71,7 @@ impl Line {
     /// The unit asks this side for attention.
     pub fn attention(&mut self, unit: &mut Unit, side: Side, path: Path) -> Result<(), Fault>
         requires { unit.old.attentions < 2 ^ 63 }
-        ensures gives { spec.Gives (spec.both unit.old self.old.line) (spec.acts_for (spec.both unit.old self.old.line) (moving.Attends side path)) (room_spec.IsFullUp self.new.room) result (spec.both unit.new self.new.line) }
+        ensures gives { spec.GivesTurn (spec.unit_line unit.old self.old.line) (spec.acts_for (spec.unit_line unit.old self.old.line) (moving.Attends side path)) (room_spec.IsFullUp self.new.room) result (spec.unit_line unit.new self.new.line) }
         ensures room { room_spec.LineTakes result self.old.room self.new.room }
     {
         make_room(&mut self.ups, &mut self.accepted)?;
@@ -85,7 +85,7 @@ impl Line {
 
     /// The unit tells this side how often it was restarted.
     pub fn notice(&mut self, unit: &Unit, side: Side, path: Path) -> Result<(), Fault>
-        ensures gives { spec.Gives (spec.both unit.now self.old.line) (spec.acts_for (spec.both unit.now self.old.line) (moving.Notices side path)) (room_spec.IsFullUp self.new.room) result (spec.both unit.now self.new.line) }
+        ensures gives { spec.GivesTurn (spec.unit_line unit.now self.old.line) (spec.acts_for (spec.unit_line unit.now self.old.line) (moving.Notices side path)) (room_spec.IsFullUp self.new.room) result (spec.unit_line unit.now self.new.line) }
         ensures room { room_spec.LineTakes result self.old.room self.new.room }
     {
         make_room(&mut self.ups, &mut self.accepted)?;
@@ -100,7 +100,7 @@ impl Line {
     /// The unit takes its device's answer.
     pub fn report(&mut self, unit: &mut Unit, report: &Report) -> Result<(), Fault>
         requires { words.last_sequence unit.old.at_hand < 2 ^ 63 }
-        ensures gives { spec.Gives (spec.both unit.old self.old.line) (spec.acts_for (spec.both unit.old self.old.line) (moving.Reports report.now)) (room_spec.IsFullUp self.new.room) result (spec.both unit.new self.new.line) }
+        ensures gives { spec.GivesTurn (spec.unit_line unit.old self.old.line) (spec.acts_for (spec.unit_line unit.old self.old.line) (moving.Reports report.now)) (room_spec.IsFullUp self.new.room) result (spec.unit_line unit.new self.new.line) }
         ensures room { room_spec.LineTakes result self.old.room self.new.room }
     {
         make_room(&mut self.ups, &mut self.accepted)?;

@@ -2,7 +2,7 @@ use Rattle.std.proofs.Common.{◌≡◌, sym, ℕ, Bool, true, false, nat_lt, ar
 use Rattle.std.specs.Prelude.{if◌then◌else◌}
 use Rattle.std.proofs.lemmas.Bool.{le-ltb}
 use Rattle.subchannel_model.specs.declared.state.SubchannelState.{SubchannelState}
-use Rattle.subchannel_model.specs.Halt.{drops_status, dropped, halting}
+use Rattle.subchannel_model.specs.Halt.{drops_status, status_dropped, halt_begun}
 use Rattle.functions.specs.Counted.{IsCounted}
 use Rattle.functions.proofs.law.counts.Goals as goal
 
@@ -14,7 +14,7 @@ pick true x y k l = k
 pick false x y k l = l
 
 pub returns-clause-halt : goal.returns-clause-halt
-returns-clause-halt c = λ s k. pick (drops_status s.scsw) (dropped (halting s)) (halting s) (omega arith, not-below s.serials.made) k
+returns-clause-halt c = λ s k. pick (drops_status s.scsw) (status_dropped (halt_begun s)) (halt_begun s) (omega arith, not-below s.serials.made) k
 
 pub returns-clause-clear : goal.returns-clause-clear
 returns-clause-clear c = λ s k. (omega arith, not-below s.serials.made)

@@ -7,9 +7,9 @@ use Rattle.subchannel_model.specs.declared.status.Shown.{Shown}
 use Rattle.subchannel_model.specs.Status.{scsw_made, serials_made, is_uncleared, intermediate_alone, without_status}
 use Rattle.subchannel_model.specs.Test.{ended_scsw, suspended_scsw, ends_suspended, tested}
 use Rattle.chan_model.specs.UnitReports.{is_last_end}
-use Rattle.subchannel_model.specs.declared.cause.Cause.{Cause}
-use Rattle.subchannel_model.specs.declared.cause.Cause.TheVariants as cause
-use Rattle.subchannel_model.specs.declared.state.Begun.{Begun}
+use Rattle.subchannel_model.specs.declared.cause.StatusCause.{StatusCause}
+use Rattle.subchannel_model.specs.declared.cause.StatusCause.TheVariants as cause
+use Rattle.subchannel_model.specs.declared.state.ActiveProgram.{ActiveProgram}
 use Rattle.subchannel_model.specs.declared.state.Program.{Program}
 use Rattle.subchannel_model.specs.declared.state.SubchannelState.{SubchannelState}
 use Rattle.subchannel_model.specs.Causes.{CauseRow, row_of, scsw_joined, without_begun, without_waiting}
@@ -26,7 +26,7 @@ pick-same : (b : Bool) (s x y : SubchannelState) → Same s x → Same s y → S
 pick-same true s x y k l = k
 pick-same false s x y k l = l
 
-begun-same : (b : Option Begun) (s : SubchannelState) → Same s (without_begun b s)
+begun-same : (b : Option ActiveProgram) (s : SubchannelState) → Same s (without_begun b s)
 begun-same None s = (refl, refl)
 begun-same (Some b) s = (refl, refl)
 
@@ -34,14 +34,14 @@ waiting-same : (w : Option Program) (s : SubchannelState) → Same s (without_wa
 waiting-same None s = (refl, refl)
 waiting-same (Some w) s = (refl, refl)
 
-same : (s : SubchannelState) (c : Cause) → Same s (row_of s c).left
+same : (s : SubchannelState) (c : StatusCause) → Same s (row_of s c).left
 same s (cause.End b status more) =
     pick-same (is_last_end status) s (without_programs s) (record s { begun = Some (has_shown b) }) (refl, refl) (refl, refl)
 same s (cause.FetchFault tried check count) = begun-same s.begun s
 same s cause.Attention = (refl, refl)
 same s cause.NoPath = waiting-same s.waiting s
 same s cause.InterfaceControlCheck = (refl, refl)
-same s (cause.Interruption tried count) = (refl, refl)
+same s (cause.Pci tried count) = (refl, refl)
 same s (cause.Suspension tried count) = (refl, refl)
 same s cause.ClearDone = (refl, refl)
 same s cause.HaltDone = (refl, refl)

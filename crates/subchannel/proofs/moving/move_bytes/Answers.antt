@@ -1,6 +1,6 @@
 use Rattle.std.proofs.Common.{◌≡◌, refl, sym, ◌∙◌, ap, ℕ, Bool, true, false}
 use Rattle.std.specs.Prelude.{if◌then◌else◌}
-use Rattle.subchannel_model.specs.Taking.{Met, meets, give_next, take_in, bytes_of}
+use Rattle.subchannel_model.specs.Taking.{Met, meets, give_next, take_in, bytes_of_load}
 use Rattle.transfer.specs.Chunks.{brought}
 use Rattle.subchannel.proofs.moving.move_bytes.Goals as goal
 
@@ -15,5 +15,5 @@ returns-then-is_outward c =
     let b = c.args.begun.now in
     let signal = c.args.signal in
     let outward : ℕ → Met = λ count. meets storage (give_next storage s b signal count) in
-    let inward : Met = take_in s b signal (brought storage b.transfer signal.sequence (bytes_of c.args.load.now)) in
+    let inward : Met = take_in s b signal (brought storage b.transfer signal.sequence (bytes_of_load c.args.load.now)) in
     ap (λ step. meets storage step) c.give_next.ensures ∙ ap outward c.len.ensures ∙ pick _ _ inward (sym c.if-is_outward.ensures)

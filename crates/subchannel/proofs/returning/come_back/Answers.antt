@@ -1,6 +1,6 @@
 use Rattle.std.proofs.Common.{sym, ◌∙◌}
 use Rattle.chan_model.specs.HoldTable.{hold_takes}
-use Rattle.subchannel.specs.Stepping.{stepped}
+use Rattle.subchannel.specs.Stepping.{subchannel_stepped}
 use Rattle.subchannel.proofs.Returned.{back_refused}
 use Rattle.subchannel.proofs.returning.come_back.Goals as goal
 
@@ -8,4 +8,4 @@ use Rattle.subchannel.proofs.returning.come_back.Goals as goal
 pub returns-else-is_granted : goal.returns-else-is_granted
 returns-else-is_granted c =
     back_refused c.args.state.now c.args.path (hold_takes c.args.state.now.hold c.args.path c.args.signal.now c.args.returns)
-    (stepped c.by_hold-came.new.state c.by_hold-came.result) c.by_hold-came.ensures (sym c.is_granted.ensures ∙ c.if-is_granted.false)
+    (subchannel_stepped c.by_hold-came.new.state c.by_hold-came.result) c.by_hold-came.ensures (sym c.is_granted.ensures ∙ c.if-is_granted.false)

@@ -8,7 +8,7 @@ use Rattle.machine_model.specs.State.{State, place_of, with_sub}
 use Rattle.subchannel_model.specs.Choosing.{chosen, paths_to_choose}
 use Rattle.machine_model.specs.Steps.{Performs}
 use Rattle.machine_steps.specs.Acting.{ActsAt}
-use Rattle.machine_steps.specs.declared.acting.Act.TheVariants as act
+use Rattle.machine_steps.specs.declared.acting.SubchannelAct.TheVariants as act
 use Rattle.machine_steps.specs.Giving.{GivesSub}
 use Rattle.machine_model.specs.ChooseSteps.{choose_sub}
 use Rattle.machine_steps.specs.contracts.machine.Machine.{the_view}

@@ -1,7 +1,7 @@
 use Rattle.std.proofs.Common.{◌≡◌, ◌<◌, ap, sym, ◌∙◌, subst, Some, length, arith}
 use Rattle.chan_events.specs.declared.event.Event.TheVariants as event
 use Rattle.subchannel_model.specs.declared.state.Subchannel.{Subchannel}
-use Rattle.machine_model.specs.State.{State, place_of, with_sub, with_unit}
+use Rattle.machine_model.specs.State.{State, place_of, with_sub, state_with_unit}
 use Rattle.machine_model.specs.Steps.{Performs}
 use Rattle.finding.specs.Tables.{engaged}
 use Rattle.finding.proofs.Changing.{counts-kept}
@@ -22,7 +22,7 @@ returns c =
     let k = c.index.result.now.setup.«unit» in
     let inside : k < length old.units = omega (arith, c.if-number-len.false, c.len.ensures) in
     subst (λ (s : State). Performs s (event.Down c.args.word c.args.path) c.down_sub.result
-    (with_unit (with_sub old c.in-Some.place c.down_sub.new.sub) k c.down_sub.new.«unit»)) c.self.view_is
+    (state_with_unit (with_sub old c.in-Some.place c.down_sub.new.sub) k c.down_sub.new.«unit»)) c.self.view_is
     (down-performs-at old c.args.word c.args.path c.in-Some.place k sub c.down_sub.new.sub sub
     c.index_mut-unit.result.now c.down_sub.new.«unit» c.index_mut-unit.result.now c.down_sub.result
     (ap (λ (x : Subchannel). x.setup.«unit») (sym same)) at within c.index_mut-sub.ensures.value inside c.index_mut-unit.ensures.value c.down_sub.ensures.gives)

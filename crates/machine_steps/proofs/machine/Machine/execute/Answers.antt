@@ -5,9 +5,9 @@ use Rattle.subchannel_model.specs.declared.state.Subchannel.{Subchannel}
 use Rattle.machine_model.specs.State.{State}
 use Rattle.subchannel_model.specs.Places.{place_in}
 use Rattle.machine_model.specs.Steps.{Performs}
-use Rattle.machine_model.specs.InstructionSteps.{word_of}
+use Rattle.machine_model.specs.InstructionSteps.{subchannel_word}
 use Rattle.machine_steps.specs.Acting.{ActsAt}
-use Rattle.machine_steps.specs.declared.acting.Act.TheVariants as act
+use Rattle.machine_steps.specs.declared.acting.SubchannelAct.TheVariants as act
 use Rattle.machine_steps.specs.contracts.machine.Machine.{the_view}
 use Rattle.machine_steps.proofs.Lifting.{executes, executes-absent}
 use Rattle.machine_steps.proofs.machine.Machine.execute.Goals as goal
@@ -15,7 +15,7 @@ use Rattle.machine_steps.proofs.machine.Machine.execute.Goals as goal
 pub returns-in_default-place_in : goal.returns-in_default-place_in
 returns-in_default-place_in c =
     let old = the_view c.self.inside in
-    let named : subchannel_named old.sets (word_of c.args.instruction) ≡ Some c.in-Some.id =
+    let named : subchannel_named old.sets (subchannel_word c.args.instruction) ≡ Some c.in-Some.id =
     ap (subchannel_named old.sets) (sym c.word_of.ensures) ∙ (sym c.subchannel_named.ensures.value ∙ c.in-Some.is) in
     let placed : place_in c.in-Some.id old.subs ≡ None =
     ap (place_in c.in-Some.id) (sym c.as_slice.ensures.value) ∙ (sym c.place_in.ensures.place ∙ c.in_default-place_in.is) in
@@ -28,7 +28,7 @@ returns c =
     let new = c.at_place.new.self in
     let place = c.in-Some-place_in.place in
     let subs : c.as_slice.result.now ≡ old.subs = c.as_slice.ensures.value in
-    let named : subchannel_named old.sets (word_of c.args.instruction) ≡ Some c.in-Some.id =
+    let named : subchannel_named old.sets (subchannel_word c.args.instruction) ≡ Some c.in-Some.id =
     ap (subchannel_named old.sets) (sym c.word_of.ensures) ∙ (sym c.subchannel_named.ensures.value ∙ c.in-Some.is) in
     let placed : place_in c.in-Some.id old.subs ≡ Some place =
     ap (place_in c.in-Some.id) (sym subs) ∙ (sym c.place_in.ensures.place ∙ c.in-Some-place_in.is) in

@@ -1,7 +1,7 @@
 use Rattle.std.proofs.Common.{◌≡◌, ◌<◌, ap, sym, ◌∙◌, subst, Some, length, List, arith}
 use Rattle.chan_events.specs.declared.event.Event.TheVariants as event
 use Rattle.subchannel_model.specs.declared.state.Subchannel.{Subchannel}
-use Rattle.machine_model.specs.State.{State, with_sub, with_unit}
+use Rattle.machine_model.specs.State.{State, with_sub, state_with_unit}
 use Rattle.subchannel_model.specs.Places.{reached_in}
 use Rattle.machine_model.specs.Steps.{Performs}
 use Rattle.finding.specs.Tables.{engaged}
@@ -19,7 +19,7 @@ returns c =
     let within : c.in-Some.place < length old.subs = subst (λ (xs : List Subchannel). c.in-Some.place < length xs) subs c.in-Some.ensures.bound in
     let inside : c.args.number < length old.units = omega (arith, c.if-number-len.false, c.len.ensures) in
     subst (λ (s : State). Performs s (event.Report c.args.number c.args.report.now) c.report_sub.result
-    (with_unit (with_sub old c.in-Some.place c.report_sub.new.sub) c.args.number c.report_sub.new.«unit»)) c.self.view_is
+    (state_with_unit (with_sub old c.in-Some.place c.report_sub.new.sub) c.args.number c.report_sub.new.«unit»)) c.self.view_is
     (report-performs old c.args.number c.in-Some.place c.args.report.now c.index_mut-sub.result.now c.report_sub.new.sub c.index_mut-sub.result.now
     c.index_mut-unit.result.now c.report_sub.new.«unit» c.index_mut-unit.result.now c.report_sub.result
     at within c.index_mut-sub.ensures.value inside c.index_mut-unit.ensures.value c.report_sub.ensures.gives)

@@ -7,7 +7,7 @@ use Rattle.channel_program.specs.declared.Reading.TheVariants.{Takes}
 use Rattle.channel_program.specs.Acts.{Act, Block, Word}
 use Rattle.channel_program.specs.Blocks.{reads}
 use Rattle.channel_program.specs.Programs.{Command, role_of, commands, code}
-use Rattle.idaw.specs.Places.{Reach, with_word}
+use Rattle.idaw.specs.Places.{Reach, reach_with_word}
 use Rattle.transfer.specs.Commands.{is_skipped}
 
 -- a block that took control in a command of this code, of whose list no word was fetched
@@ -29,15 +29,15 @@ reaches_after chained cs rs reading = rs
 
 abbrev pub word_after : List Reach → ℕ → List Reach
 word_after [] word = []
-word_after (r ∷ rs) word = with_word r word ∷ rs
+word_after (r ∷ rs) word = reach_with_word r word ∷ rs
 
 -- the blocks of the command at work that took control, with the words fetched for them, the latest first
-abbrev pub reaches : Orb → List Act → List Reach
-reaches orb [] = []
-reaches orb (Block address bytes ∷ before) =
-    reaches_after (role_of orb before).chained (commands orb before) (reaches orb before) (reads orb (role_of orb before) bytes)
-reaches orb (Word word ∷ before) = word_after (reaches orb before) word
-reaches orb (act ∷ before) = reaches orb before
+abbrev pub data_areas : Orb → List Act → List Reach
+data_areas orb [] = []
+data_areas orb (Block address bytes ∷ before) =
+    reaches_after (role_of orb before).chained (commands orb before) (data_areas orb before) (reads orb (role_of orb before) bytes)
+data_areas orb (Word word ∷ before) = word_after (data_areas orb before) word
+data_areas orb (act ∷ before) = data_areas orb before
 
 -- the sum of their counts
 abbrev pub counts : List Reach → ℕ

@@ -5,16 +5,16 @@ use Rattle.ccw_codec.specs.Command.{class_of}
 use Rattle.storage_keys.specs.Storage.{Contents}
 use Rattle.channel_program.specs.declared.check.Check.{Check}
 use Rattle.channel_program.specs.declared.Ended.{Ended}
-use Rattle.channel_program.specs.Acts.{Act, Chunk, Used_up, End, Word}
-use Rattle.channel_program.specs.Walks.{Place, after_used_up, after_end, advance_acts}
+use Rattle.channel_program.specs.Acts.{Act, PlacedBytes, Used_up, End, Word}
+use Rattle.channel_program.specs.Walks.{WalkPlace, after_used_up, walk_after_end, advance_acts}
 use Rattle.idaw.specs.Places.{each_below}
 use Rattle.data_move.specs.Moving.{Moving, needs_word, next_place, room}
 use Rattle.data_move.specs.Accesses as access
 use Rattle.transfer.specs.declared.Transfer.{Transfer}
-use Rattle.transfer.specs.declared.Came.{Came}
-use Rattle.transfer.specs.declared.Came.TheVariants.{Begins, Suspends, Stops}
-use Rattle.transfer.specs.Commands.{goes_to, located, has_stopped, brings}
-use Rattle.transfer.specs.Chunks.{Brought, with_moved, chains_data, with_answer, absorbed, fitting, brought}
+use Rattle.transfer.specs.declared.CommandStart.{CommandStart}
+use Rattle.transfer.specs.declared.CommandStart.TheVariants.{Begins, Suspends, Stops}
+use Rattle.transfer.specs.Commands.{goes_to, located_transfer, has_stopped, brings}
+use Rattle.transfer.specs.Chunks.{Brought, with_moved, chains_data, with_answer, taken_by_device, fitting, brought}
 
 -- a word of an indirect list is fetched where it is needed
 abbrev pub act_of_word : Result ℕ Check → List Act
@@ -28,21 +28,21 @@ abbrev pub located_acts : Contents → Transfer → List Act
 located_acts storage t = if is_some t.fault then [] else word_acts storage t.walk.orb.key t.moving
 
 -- a command begins from a place: its blocks, and the word of a read that is told at once how many bytes may come
-abbrev pub room_acts : Contents → Came → List Act
+abbrev pub room_acts : Contents → CommandStart → List Act
 room_acts storage (Begins t) = if brings (class_of t.code) then located_acts storage t else []
 room_acts storage Suspends = []
 room_acts storage (Stops check) = []
 
-abbrev pub goes_acts : Contents → ℕ → Place → List Act
+abbrev pub goes_acts : Contents → ℕ → WalkPlace → List Act
 goes_acts storage n old = room_acts storage (goes_to storage n old).came ++ advance_acts storage old
 
-abbrev pub first_acts : Contents → Place → List Act
+abbrev pub first_acts : Contents → WalkPlace → List Act
 first_acts storage walk = goes_acts storage 1 walk
 
 abbrev pub next_acts : Contents → Transfer → Bool → List Act
 next_acts storage t modifier =
     let ended : Ended = record { goes_on = true; modifier = modifier } in
-    goes_acts storage (t.command + 1) (after_end t.walk ended) ++ End ended ∷ []
+    goes_acts storage (t.command + 1) (walk_after_end t.walk ended) ++ End ended ∷ []
 
 -- data is chained
 abbrev pub chained_acts : Contents → Transfer → List Act
@@ -51,72 +51,72 @@ chained_acts storage t = advance_acts storage (after_used_up t.walk) ++ Used_up 
 -- bytes that were stored, and storage as it stood before
 pub record Arrival : Type 0 where
   pub former : List ℕ
-  pub chunk : Chunk
+  pub chunk : PlacedBytes
 
 -- what was done for the program as far as one of its commands, and for this command: the chunks that were copied for the
 -- device and the bytes of a read that were stored, each list with the latest first; and the places of the bytes that
 -- were moved, in order
-pub record Part : Type 0 where
+pub record CommandTrace : Type 0 where
   pub acts : List Act
-  pub copied : List Chunk
+  pub copied : List PlacedBytes
   pub arrived : List Arrival
   pub moved : List (Option ℕ)
 
-abbrev pub no_part : Part
-no_part = record { acts = []; copied = []; arrived = []; moved = [] }
+abbrev pub no_trace : CommandTrace
+no_trace = record { acts = []; copied = []; arrived = []; moved = [] }
 
-abbrev pub with_acts : Part → List Act → Part
+abbrev pub with_acts : CommandTrace → List Act → CommandTrace
 with_acts k acts = record k { acts = acts ++ k.acts }
 
 -- so many of the next bytes are moved
-abbrev pub with_places : Part → Moving → ℕ → Part
+abbrev pub with_places : CommandTrace → Moving → ℕ → CommandTrace
 with_places k m n = record k { moved = k.moved ++ each_below (next_place m) n }
 
-abbrev pub moved_on : Contents → Transfer → ℕ → Part → Part
-moved_on storage t n k =
+abbrev pub trace_moved_on : Contents → Transfer → ℕ → CommandTrace → CommandTrace
+trace_moved_on storage t n k =
     if chains_data (with_moved t n) n then with_acts (with_places k t.moving n) (chained_acts storage (with_moved t n))
     else with_places k t.moving n
 
 -- the next bytes, as storage has them
-abbrev pub chunk_of : Contents → Moving → List ℕ → Chunk
+abbrev pub chunk_of : Contents → Moving → List ℕ → PlacedBytes
 chunk_of storage m bytes = record { storage = storage.bytes; places = each_below (next_place m) (length bytes); bytes = bytes }
 
 -- the answer of a device that absorbed bytes of chunk s
-abbrev pub answered : Contents → Transfer → ℕ → ℕ → Part → Part
-answered storage t s count k =
-    if s == t.sequence + 1 then moved_on storage (with_answer t s count) (min count (room t.moving)) k else k
+abbrev pub trace_answered : Contents → Transfer → ℕ → ℕ → CommandTrace → CommandTrace
+trace_answered storage t s count k =
+    if s == t.sequence + 1 then trace_moved_on storage (with_answer t s count) (min count (room t.moving)) k else k
 
 -- the next chunk is copied for the device
-abbrev pub with_copy : Contents → Transfer → Result (List ℕ) Check → Part → Part
+abbrev pub with_copy : Contents → Transfer → Result (List ℕ) Check → CommandTrace → CommandTrace
 with_copy storage t (Ok bytes) k = record k { copied = chunk_of storage t.moving bytes ∷ k.copied }
 with_copy storage t (Err check) k = k
 
-abbrev pub copying : Contents → Transfer → Part → Part
+abbrev pub copying : Contents → Transfer → CommandTrace → CommandTrace
 copying storage t k = if has_stopped t then k else with_copy storage t (access.copied storage t.walk.orb.key t.moving) k
 
-abbrev pub giving : Contents → Transfer → Part → Part
-giving storage t k = copying storage (located storage t) (with_acts k (located_acts storage t))
+abbrev pub trace_giving : Contents → Transfer → CommandTrace → CommandTrace
+trace_giving storage t k = copying storage (located_transfer storage t) (with_acts k (located_acts storage t))
 
 -- a Data of a command that takes bytes to the device
-abbrev pub gives : Contents → Transfer → ℕ → ℕ → Part → Part
-gives storage t s count k = giving storage (absorbed storage t s count) (answered storage t s count k)
+abbrev pub gives : Contents → Transfer → ℕ → ℕ → CommandTrace → CommandTrace
+gives storage t s count k = trace_giving storage (taken_by_device storage t s count) (trace_answered storage t s count k)
 
 -- the bytes of chunk s of a read are stored
-abbrev pub with_arrival : Contents → Transfer → List ℕ → Result Contents Check → Part → Part
+abbrev pub with_arrival : Contents → Transfer → List ℕ → Result Contents Check → CommandTrace → CommandTrace
 with_arrival storage t bytes (Ok after) k =
-    moved_on after t (length bytes) (record k { arrived = record { former = storage.bytes; chunk = chunk_of after t.moving bytes } ∷ k.arrived })
+    trace_moved_on after t (length bytes) (record k { arrived = record { former = storage.bytes; chunk = chunk_of after t.moving bytes } ∷ k.arrived })
 with_arrival storage t bytes (Err check) k = k
 
-abbrev pub storing : Contents → Transfer → List ℕ → Part → Part
+abbrev pub storing : Contents → Transfer → List ℕ → CommandTrace → CommandTrace
 storing storage t bytes k =
-    if is_some t.fault then k else with_arrival storage t bytes (access.stored storage t.walk.orb.key t.moving bytes) k
+    if is_some t.fault then k else with_arrival storage t bytes (access.stored_or_skipped storage t.walk.orb.key t.moving bytes) k
 
-abbrev pub arriving : Contents → Transfer → ℕ → List ℕ → Part → Part
+abbrev pub arriving : Contents → Transfer → ℕ → List ℕ → CommandTrace → CommandTrace
 arriving storage t s bytes k = if s == t.sequence + 1 then storing storage (record t { sequence = s }) (fitting t bytes) k else k
 
 -- a Data of a command that brings bytes in
-abbrev pub located_after : Brought → Part → Part
+abbrev pub located_after : Brought → CommandTrace → CommandTrace
 located_after x k = with_acts k (located_acts x.storage x.transfer)
 
-abbrev pub takes_in : Contents → Transfer → ℕ → List ℕ → Part → Part
+abbrev pub takes_in : Contents → Transfer → ℕ → List ℕ → CommandTrace → CommandTrace
 takes_in storage t s bytes k = located_after (brought storage t s bytes) (arriving storage t s bytes k)
