@@ -265,6 +265,23 @@ pub record AreNumbered : Type 0 where
   pub absorbed : (storage : Contents) (t : Transfer) (s count : ℕ) → IsLaterTransfer t (taken_by_device storage t s count)
   pub brought : (storage : Contents) (t : Transfer) (s : ℕ) (bytes : List ℕ) → IsLaterTransfer t (brought storage t s bytes).transfer
 
+pub numbered-of : ((storage : Contents) (walk : WalkPlace) → IfBegins (first_command storage walk).came (IsNew 1)) →
+    ((storage : Contents) (t : Transfer) (modifier : Bool) → IfBegins (next_command storage t modifier).came (IsNew (t.command + 1))) →
+    ((storage : Contents) (t : Transfer) → IsSame t (begun_with_room storage t).transfer) →
+    ((storage : Contents) (t : Transfer) → IsSame t (with_room storage t).transfer) →
+    ((storage : Contents) (t : Transfer) → IsSame t (next_given storage t).transfer) →
+    ((storage : Contents) (t : Transfer) (s count : ℕ) → IsLaterTransfer t (taken_by_device storage t s count)) →
+    ((storage : Contents) (t : Transfer) (s : ℕ) (bytes : List ℕ) → IsLaterTransfer t (brought storage t s bytes).transfer) → AreNumbered
+numbered-of first next begun room given absorbed brought = record {
+  first = first;
+  next = next;
+  begun = begun;
+  room = room;
+  given = given;
+  absorbed = absorbed;
+  brought = brought;
+}
+
 module _ (numbered : AreNumbered) where
   beginning-sound : (floor : Serials) (n : ℕ) (storage : Contents) (s : SubchannelState) (p t : ℕ) (st : ProgramPosition) (walk : WalkPlace) (r : CommandStart) →
       IfBegins r (IsNew 1) → Ready floor n s → Sound floor (n + 1) (beginning storage s p t st walk r).state
