@@ -167,28 +167,23 @@ same-sides Second Second e = refl
 late-steps : (side : Side) (u : UnitState) (v p c : ℕ) (late : Bool) (P : Ends → Type 0) → IsStep side u (if late then sends u p (up.Leave v c) else None) P
 late-steps side u v p c late P = step-if side u late _ P (unseen side u u _ P refl refl refl refl tt)
 
+-- where the program that holds the device is, is changed at its side alone
+place-moves : (side : Side) (u : UnitState) (v : ℕ) (old new : Place) (f : ℕ) (y : SideState) (P : Ends → Type 0) →
+    ((n : ℕ) (h : HoldState) → P (ends_seen n h.phase h.seen h.known u.restarts f (Owns v old)) →
+    UnitMoves (ends_seen n h.phase h.seen h.known u.restarts f (Owns v old)) (ends_seen n h.phase h.seen h.known u.restarts f (Owns v new)) None) →
+    IsMove side (at side u (own.Owned side v old) (working f) y) (at side u (own.Owned side v new) (working f) y) None P
+place-moves First u v old new f y P moves = record { here = moves; there = λ n h. refl; free_here = λ m w. cc; free_there = λ m. m }
+place-moves Second u v old new f y P moves = record { here = moves; there = λ n h. refl; free_here = λ m w. cc; free_there = λ m. m }
+
 -- Grant, of the program that holds the device
 granted-ask : (side : Side) (u : UnitState) (v q d f : ℕ) (y : SideState) (p c : ℕ) (same : Bool) → (c == d) ≡ same →
     IsStep side (at side u (own.Owned side v (Ask q d)) (working f) y)
     (if same then changes (at side u (own.Owned side v (On q d)) (working f) y)
     else (if nat_lt c d then sends (at side u (own.Owned side v (Ask q d)) (working f) y) p (up.Leave v c) else None))
     (IsGiven p (down.Grant v c))
-granted-ask First u v q d f y p c true e =
-    let same : c ≡ d = eqb-true c d e in
-    record {
-      here = λ n h g. Is_granted n h.phase h.seen h.known u.restarts f v q d (subst (λ (x : ℕ). IsGrantGood h.phase h.seen (Owns v (Ask q d)) v x) same g.1);
-      there = λ n h. refl;
-      free_here = λ m w. cc;
-      free_there = λ m. m;
-    }
-granted-ask Second u v q d f y p c true e =
-    let same : c ≡ d = eqb-true c d e in
-    record {
-      here = λ n h g. Is_granted n h.phase h.seen h.known u.restarts f v q d (subst (λ (x : ℕ). IsGrantGood h.phase h.seen (Owns v (Ask q d)) v x) same g.1);
-      there = λ n h. refl;
-      free_here = λ m w. cc;
-      free_there = λ m. m;
-    }
+granted-ask side u v q d f y p c true e =
+    place-moves side u v (Ask q d) (On q d) f y (IsGiven p (down.Grant v c)) (λ n h g.
+    Is_granted n h.phase h.seen h.known u.restarts f v q d (subst (λ (x : ℕ). IsGrantGood h.phase h.seen (Owns v (Ask q d)) v x) (eqb-true c d e) g.1))
 granted-ask side u v q d f y p c false e = late-steps side (at side u (own.Owned side v (Ask q d)) (working f) y) v p c (nat_lt c d) (IsGiven p (down.Grant v c))
 
 granted_at-steps : (side : Side) (u : UnitState) (v : ℕ) (place : Place) (f : ℕ) (y : SideState) (p c : ℕ) →
@@ -223,10 +218,8 @@ granted-steps side u (own.Owned k v place) f y p t c =
 -- Refuse, of the connection asked for
 refused_ask-steps : (side : Side) (u : UnitState) (v q d f : ℕ) (y : SideState) (same : Bool) (P : Ends → Type 0) →
     IsStep side (at side u (own.Owned side v (Ask q d)) (working f) y) (if same then changes (at side u (own.Owned side v (Away d)) (working f) y) else None) P
-refused_ask-steps First u v q d f y true P =
-    record { here = λ n h g. Is_refused n h.phase h.seen h.known u.restarts f v q d; there = λ n h. refl; free_here = λ m w. cc; free_there = λ m. m }
-refused_ask-steps Second u v q d f y true P =
-    record { here = λ n h g. Is_refused n h.phase h.seen h.known u.restarts f v q d; there = λ n h. refl; free_here = λ m w. cc; free_there = λ m. m }
+refused_ask-steps side u v q d f y true P =
+    place-moves side u v (Ask q d) (Away d) f y P (λ n h g. Is_refused n h.phase h.seen h.known u.restarts f v q d)
 refused_ask-steps side u v q d f y false P = nothing side (at side u (own.Owned side v (Ask q d)) (working f) y) P
 
 refused_at-steps : (side : Side) (u : UnitState) (v : ℕ) (place : Place) (f : ℕ) (y : SideState) (c : ℕ) (P : Ends → Type 0) →
