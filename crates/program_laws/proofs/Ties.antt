@@ -144,18 +144,24 @@ module _ (earlier : ℕ) where
     pub spot : IsMovedTo orb (data_areas orb acts) t ps
     pub number : length (commands orb acts) ≡ earlier + t.command
 
-  pub changed : (orb : Orb) (acts : List Act) (ps : List (Option ℕ)) (t u : Transfer) → u.walk ≡ t.walk → u.moving ≡ t.moving → u.code ≡ t.code → u.command ≡ t.command →
-      (is_some u.fault ≡ false → is_some t.fault ≡ false) → (is_some t.fault ≡ true → is_some u.fault ≡ true) → Tied orb acts ps t → Tied orb acts ps u
-  changed orb acts ps t u w m c n f g k = record {
+  -- a transfer of the same command, as far as it has come
+  same-command : (orb : Orb) (acts : List Act) (ps qs : List (Option ℕ)) (t u : Transfer) → u.walk ≡ t.walk → u.moving.ccw ≡ t.moving.ccw → u.moving.kind ≡ t.moving.kind →
+      u.code ≡ t.code → u.command ≡ t.command → (is_some u.fault ≡ false → is_some t.fault ≡ false) → IsMovedTo orb (data_areas orb acts) u qs → Tied orb acts ps t → Tied orb acts qs u
+  same-command orb acts ps qs t u w ccw kind c n f spot k = record {
     walk = w ∙ k.walk;
     program = k.program;
     stands = λ e. k.stands (f e);
-    chained = λ e. k.chained (f e) ∙ ap (λ (x : Moving). x.ccw.chain_data) (sym m);
+    chained = λ e. k.chained (f e) ∙ ap (λ (x : Ccw). x.chain_data) (sym ccw);
     coded = subst (λ (x : ℕ). HasCode (commands orb acts) x) (sym c) k.coded;
-    kind = ap (λ (x : Moving). x.kind) m ∙ k.kind;
-    spot = spot-changed orb (data_areas orb acts) t u ps m g k.spot;
+    kind = kind ∙ k.kind;
+    spot = spot;
     number = k.number ∙ ap (λ (x : ℕ). earlier + x) (sym n);
   }
+
+  pub changed : (orb : Orb) (acts : List Act) (ps : List (Option ℕ)) (t u : Transfer) → u.walk ≡ t.walk → u.moving ≡ t.moving → u.code ≡ t.code → u.command ≡ t.command →
+      (is_some u.fault ≡ false → is_some t.fault ≡ false) → (is_some t.fault ≡ true → is_some u.fault ≡ true) → Tied orb acts ps t → Tied orb acts ps u
+  changed orb acts ps t u w m c n f g k =
+      same-command orb acts ps ps t u w (ap (λ (x : Moving). x.ccw) m) (ap (λ (x : Moving). x.kind) m) c n f (spot-changed orb (data_areas orb acts) t u ps m g k.spot) k
 
   faulted : (orb : Orb) (acts : List Act) (ps : List (Option ℕ)) (t : Transfer) (check : Check) → Tied orb acts ps t → Tied orb acts ps (record t { fault = Some check })
   faulted orb acts ps t check k = changed orb acts ps t (record t { fault = Some check }) refl refl refl refl (λ e. absurd (cc e)) (λ e. refl) k
@@ -372,13 +378,6 @@ module _ (earlier : ℕ) where
 
     pub with_moved-tied : (orb : Orb) (acts : List Act) (ps : List (Option ℕ)) (t : Transfer) (n : ℕ) → n ≤ t.moving.left → Tied orb acts ps t →
         Tied orb acts (ps ++ each_below (next_place t.moving) n) (with_moved t n)
-    with_moved-tied orb acts ps t n l k = record {
-      walk = k.walk;
-      program = k.program;
-      stands = k.stands;
-      chained = k.chained;
-      coded = k.coded;
-      kind = k.kind;
-      spot = moved-spot orb (data_areas orb acts) t ps n k.kind l k.spot;
-      number = k.number;
-    }
+    with_moved-tied orb acts ps t n l k =
+        same-command orb acts ps (ps ++ each_below (next_place t.moving) n) t (with_moved t n) refl refl refl refl refl (λ e. e)
+        (moved-spot orb (data_areas orb acts) t ps n k.kind l k.spot) k
