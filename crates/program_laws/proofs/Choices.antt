@@ -29,7 +29,7 @@ use Rattle.orb_block.specs.declared.Orb.{Orb}
 use Rattle.channel_program.specs.Programs.{code}
 use Rattle.chan_model.specs.HoldTable as hold_table
 use Rattle.scsw_irb.specs.declared.status.DeviceStatus.{DeviceStatus}
-use Rattle.chan_model.specs.HoldTable.{hold_after, sending_reset, is_connected, is_on}
+use Rattle.chan_model.specs.HoldTable.{is_connected, is_on}
 use Rattle.wires.specs.Queues.{queue}
 use Rattle.subchannel_model.specs.declared.state.ActiveProgram.{ActiveProgram}
 use Rattle.subchannel_model.specs.declared.state.Chosen.{Chosen}
@@ -63,7 +63,7 @@ use Rattle.subchannel_model.specs.Losing.{has_any, is_offered_or_held, reset_wit
 use Rattle.step_laws.specs.Walks.{IsFound, Suits}
 use Rattle.machine_laws.proofs.TaleEvents.{reset-phase}
 use Rattle.program_laws.specs.Traces as stories
-use Rattle.program_laws.specs.Traces.{ProgramTrace, offered_for, resumed_for, chosen_at, met_with, met_at, trace_meets, takes, taken_at, absorbs, reported, reported_at, trace, trace_after}
+use Rattle.program_laws.specs.Traces.{ProgramTrace, offered_for, resumed_for, chosen_at, met_with, met_at, takes, taken_at, absorbs, reported, reported_at, trace, trace_after}
 use Rattle.program_laws.specs.Claims.{IsCopied}
 use Rattle.program_laws.proofs.Turns.{PlaceStep, Stays, Starts_with_orb, Is_tested, Is_resumed, Is_halted, Is_cleared, Is_cancelled, Is_modified, Is_chosen, Meets, Sinks, Is_reported, Other_sinks, Other_reported, if-ok, step-happens}
 use Rattle.program_laws.proofs.Accesses.{AreAccesses}
