@@ -16,33 +16,8 @@ use Rattle.machine_model.specs.Ruled.{GoesByRule}
 use Rattle.machine_steps.proofs.Lifting.{choose-performs, choose-ruled, one_there}
 use Rattle.machine_steps.proofs.machine.Machine.choose.Goals as goal
 
-pub returns-clause-performs : goal.returns-clause-performs
-returns-clause-performs g c =
-    let old = the_view c.self.inside in
-    let new = c.at_place.new.self in
-    let place = c.in-Some.place in
-    let path = c.choose-path.result in
-    let at : place_of old c.args.word ≡ Some place =
-    ap (λ (s : State). place_of s c.args.word) c.self.view_is ∙ (sym c.place_of.ensures.place ∙ c.in-Some.is) in
-    let within : place < length old.subs = subst (λ (s : State). place < length s.subs) (sym c.self.view_is) c.in-Some.ensures.bound in
-    let acts : ActsAt old place (act.Choose c.chosen-chosen.result) c.at_place.result new =
-    subst (λ (s : State). ActsAt s place (act.Choose c.chosen-chosen.result) c.at_place.result new) (sym c.self.view_is) c.at_place.ensures in
-    let sub = acts.sub in
-    let same : c.index-sub.result.now ≡ sub =
-    one_there old.subs place c.index-sub.result.now sub c.index-sub.result.now sub within c.index-sub.ensures acts.stands in
-    let set : c.paths_to_choose-paths.result ≡ paths_to_choose old.subs sub =
-    subst (λ (x : Subchannel). c.paths_to_choose-paths.result ≡ paths_to_choose old.subs x) same
-    (subst (λ (subs : List Subchannel). c.paths_to_choose-paths.result ≡ paths_to_choose subs c.index-sub.result.now) (c.of-counted.ensures ∙ c.as_slice.ensures.value) c.paths_to_choose-paths.ensures) in
-    let fits : IsChoice (paths_to_choose old.subs sub) path = subst (λ (s : List Bool). IsChoice s path) set c.choose-path.ensures.law in
-    let given : GivesSub sub (choose_sub sub (chosen sub path)) c.at_place.result acts.left =
-    subst (λ (w : Chosen). GivesSub sub (choose_sub sub w) c.at_place.result acts.left) (c.chosen-chosen.ensures.chosen ∙ ap (λ (x : Subchannel). chosen x path) same) acts.acts.0 in
-    let leaves : new ≡ with_sub old place acts.left = acts.leaves ∙ ap (λ (x : Contents). with_sub (record old { storage = x }) place acts.left) acts.acts.1 in
-    subst (λ (s : State). Performs s (event.Choose c.args.word) c.at_place.result new) c.self.view_is
-    (subst (λ (s : State). Performs old (event.Choose c.args.word) c.at_place.result s) (sym leaves)
-    (choose-performs old c.args.word place sub acts.left sub path c.at_place.result at within acts.stands fits given))
-
-pub returns-clause-ruled : goal.returns-clause-ruled
-returns-clause-ruled g c =
+pub returns : goal.returns
+returns g c =
     let picks = g.P.PathChoice.picks in
     let old = the_view c.self.inside in
     let new = c.at_place.new.self in
@@ -67,6 +42,13 @@ returns-clause-ruled g c =
     let picked : picks (paths_to_choose old.subs sub) sub.state.last_path path =
     subst (λ (o : Option ℕ). picks (paths_to_choose old.subs sub) o path) last
     (subst (λ (s : List Bool). picks s c.index-sub.result.now.state.last_path path) set c.choose-path.ensures.rule) in
-    subst (λ (s : State). GoesByRule picks s (event.Choose c.args.word) c.at_place.result new) c.self.view_is
-    (subst (λ (s : State). GoesByRule picks old (event.Choose c.args.word) c.at_place.result s) (sym leaves)
-    (choose-ruled picks old c.args.word place sub acts.left sub path c.at_place.result at within acts.stands fits picked given))
+    record {
+      performs =
+          subst (λ (s : State). Performs s (event.Choose c.args.word) c.at_place.result new) c.self.view_is
+          (subst (λ (s : State). Performs old (event.Choose c.args.word) c.at_place.result s) (sym leaves)
+          (choose-performs old c.args.word place sub acts.left sub path c.at_place.result at within acts.stands fits given));
+      ruled =
+          subst (λ (s : State). GoesByRule picks s (event.Choose c.args.word) c.at_place.result new) c.self.view_is
+          (subst (λ (s : State). GoesByRule picks old (event.Choose c.args.word) c.at_place.result s) (sym leaves)
+          (choose-ruled picks old c.args.word place sub acts.left sub path c.at_place.result at within acts.stands fits picked given));
+    }
