@@ -2,7 +2,7 @@
 -- a floor, which may be any.
 use Rattle.std.proofs.Common.{◌≡◌, refl, sym, ◌∙◌, ℕ, ◌+◌, ◌≤◌, ◌==◌, Bool, true, false, not, ◌&&◌, nat_lt, Option, None, Some, List, arith}
 use Rattle.std.specs.Prelude.{if◌then◌else◌}
-use Rattle.std.proofs.lemmas.Bool.{lt-ltb, le-ltb}
+use Rattle.std.proofs.lemmas.Bool.{lt-ltb}
 use Rattle.orb_block.specs.declared.Orb.{Orb}
 use Rattle.scsw_irb.specs.declared.scsw.Scsw.{Scsw}
 use Rattle.scsw_irb.specs.declared.serials.Serials.{Serials}
@@ -19,8 +19,8 @@ use Rattle.chan_model.specs.declared.signal.Up.TheVariants as up
 use Rattle.subchannel_model.specs.declared.status.Shown.{Shown}
 use Rattle.chan_model.specs.HoldTable.{HoldStep, hold_takes, hold_after, came_of, is_connected, is_on}
 use Rattle.chan_model.specs.Loads.{load_length}
-use Rattle.subchannel_model.specs.Status.{scsw_made, serials_made, serials_cleared, is_uncleared, intermediate_alone, without_status}
-use Rattle.subchannel_model.specs.Test.{ended_scsw, suspended_scsw, tested, tested_wholly, ends_suspended}
+use Rattle.subchannel_model.specs.Status.{scsw_made, serials_made, serials_cleared, is_uncleared, without_status}
+use Rattle.subchannel_model.specs.Test.{tested, tested_wholly, ends_suspended}
 use Rattle.chan_model.specs.UnitReports.{is_last_end, is_outward, has_device_end}
 use Rattle.data_move.specs.Moving.{residual}
 use Rattle.transfer.specs.declared.Transfer.{Transfer}
@@ -49,6 +49,7 @@ use Rattle.subchannel_model.specs.Programs.{without_programs}
 use Rattle.subchannel_model.specs.Ends.{has_status_modifier, chains_command, has_shown}
 use Rattle.subchannel_model.specs.Losing.{has_any, is_offered_or_held, reset_drawn, reset_with, reset_for}
 use Rattle.subchannel_model.specs.Taking.{with_known, Met, meets, ignoring, quietly, without_pci, with_pci_of, standing, goes_ahead, taking_over, suspended_alone, standing_still, suspending, beginning, begin_standing, halt_done, accepted_by, accept_by, with_transfer, moving_on, give_next, take_in, bytes_of_load, move_bytes, move_data, take_data, with_end, end_taken, chaining, chain_with, goes_on, end_shown_at, stops_at, command_ended, end_of, end_command, reset_taken, may_attend, takes_up, path_used, let_go}
+use Rattle.subchannel_model.proofs.Cleared.{none-uncleared, tested-pending}
 use Rattle.step_laws.specs.Walks.{Function, Resumes, Halts, Clears, Cancels, effect_of}
 
 abbrev pub Sound : Serials → ℕ → SubchannelState → Type 0
@@ -160,30 +161,13 @@ started-sound floor n s orb k = (omega (arith, k.0), omega (arith, k.1), omega (
 pub modified-sound : (floor : Serials) (n : ℕ) (s : SubchannelState) (pmcw : PmcwState) → Sound floor n s → Sound floor (n + 1) (record s { pmcw = pmcw })
 modified-sound floor n s pmcw k = later floor n s k
 
-cleared-scsw : (b c d : Bool) (x y z w : Scsw) → x.status.pending ≡ false → y.status.pending ≡ false → z.status.pending ≡ false → w.status.pending ≡ false →
-    (if b then (if not c then x else (if d then y else z)) else w).status.pending ≡ false
-cleared-scsw true true true x y z w e f g h = f
-cleared-scsw true true false x y z w e f g h = g
-cleared-scsw true false d x y z w e f g h = e
-cleared-scsw false c d x y z w e f g h = h
-
-tested-not : (b : Bool) (x y : Scsw) → x.status.pending ≡ b → y.status.pending ≡ false → (if not b then x else y).status.pending ≡ false
-tested-not true x y e f = f
-tested-not false x y e f = e
-
-not-below : (m : ℕ) → false ≡ nat_lt m m
-not-below m = sym (le-ltb m m (omega arith))
-
 tested-sound : (floor : Serials) (n : ℕ) (s : SubchannelState) → Sound floor n s → Sound floor (n + 1) (tested s)
 tested-sound floor n s k = (
   omega (arith, k.0),
   omega (arith, k.1),
   omega (arith, k.2),
   moved-later n s.begun k.3,
-  tested-not s.scsw.status.pending s.scsw _ refl
-      (cleared-scsw (intermediate_alone s.scsw.status) s.scsw.activity.suspended s.scsw.functions.halt
-      (without_status s.scsw) (ended_scsw s.scsw) (suspended_scsw s.scsw) (ended_scsw s.scsw) refl refl refl refl)
-      ∙ not-below s.serials.made,
+  tested-pending s,
   omega arith,
   omega (arith, k.5, k.6),
   k.7,
@@ -204,7 +188,7 @@ wholly-sound floor n s k =
 -- all status counts as cleared
 none-sound : (floor : Serials) (n : ℕ) (s : SubchannelState) (b : Option ActiveProgram) (m : ℕ) (scsw : Scsw) → scsw.status.pending ≡ false → m ≤ n + 1 → IsMovedWithin (n + 1) b →
     Ready floor n s → Sound floor (n + 1) (record s { drawn = m; begun = b; scsw = scsw; serials = serials_cleared s.serials })
-none-sound floor n s b m scsw p d w k = (d, k.1, omega (arith, k.2), w, p ∙ not-below s.serials.made, omega arith, omega (arith, k.5, k.6), k.7)
+none-sound floor n s b m scsw p d w k = (d, k.1, omega (arith, k.2), w, p ∙ none-uncleared s.serials, omega arith, omega (arith, k.5, k.6), k.7)
 
 pub effect-sound : (floor : Serials) (n : ℕ) (s : SubchannelState) (f : Function) → Sound floor n s → Sound floor (n + 1) (effect_of f s)
 effect-sound floor n s Resumes k = later floor n s k

@@ -1,11 +1,11 @@
-use Rattle.std.proofs.Common.{◌≡◌, refl, sym, subst, ◌∙◌, ℕ, ◌+◌, ◌≤◌, Bool, true, false, not, nat_lt, Option, None, Some, arith}
+use Rattle.std.proofs.Common.{◌≡◌, refl, sym, subst, ◌∙◌, ◌+◌, ◌≤◌, Bool, true, false, Option, None, Some, arith}
 use Rattle.std.specs.Prelude.{if◌then◌else◌}
-use Rattle.std.proofs.lemmas.Bool.{lt-ltb, le-ltb}
+use Rattle.std.proofs.lemmas.Bool.{lt-ltb}
 use Rattle.scsw_irb.specs.declared.scsw.Scsw.{Scsw}
 use Rattle.scsw_irb.specs.declared.serials.Serials.{Serials}
 use Rattle.subchannel_model.specs.declared.status.Shown.{Shown}
-use Rattle.subchannel_model.specs.Status.{scsw_made, serials_made, is_uncleared, intermediate_alone, without_status}
-use Rattle.subchannel_model.specs.Test.{ended_scsw, suspended_scsw, ends_suspended, tested}
+use Rattle.subchannel_model.specs.Status.{scsw_made, serials_made, is_uncleared}
+use Rattle.subchannel_model.specs.Test.{ends_suspended, tested}
 use Rattle.chan_model.specs.UnitReports.{is_last_end}
 use Rattle.subchannel_model.specs.declared.cause.StatusCause.{StatusCause}
 use Rattle.subchannel_model.specs.declared.cause.StatusCause.TheVariants as cause
@@ -15,6 +15,7 @@ use Rattle.subchannel_model.specs.declared.state.SubchannelState.{SubchannelStat
 use Rattle.subchannel_model.specs.Causes.{CauseRow, row_of, scsw_joined, without_begun, without_waiting}
 use Rattle.subchannel_model.specs.Programs.{without_programs}
 use Rattle.subchannel_model.specs.Ends.{has_shown}
+use Rattle.subchannel_model.proofs.Cleared.{tested-pending}
 use Rattle.functions.specs.Counted.{IsCounted}
 use Rattle.status.proofs.law.counts.Goals as goal
 
@@ -76,28 +77,8 @@ returns-clause-made c = λ s x k.
     made-after s row.joins row.shown row.left.pmcw.enabled row.left.serials kept.0 kept.1 k
 
 -- TEST clears all status
-not-below : (m : ℕ) → false ≡ nat_lt m m
-not-below m = sym (le-ltb m m (omega arith))
-
-cleared-scsw : (b c d : Bool) (x y z w : Scsw) → x.status.pending ≡ false → y.status.pending ≡ false → z.status.pending ≡ false → w.status.pending ≡ false →
-    (if b then (if not c then x else (if d then y else z)) else w).status.pending ≡ false
-cleared-scsw true true true x y z w e f g h = f
-cleared-scsw true true false x y z w e f g h = g
-cleared-scsw true false d x y z w e f g h = e
-cleared-scsw false c d x y z w e f g h = h
-
-tested-not : (b : Bool) (x y : Scsw) → x.status.pending ≡ b → y.status.pending ≡ false → (if not b then x else y).status.pending ≡ false
-tested-not true x y e f = f
-tested-not false x y e f = e
-
 tested-counted : (s : SubchannelState) → IsCounted (tested s)
-tested-counted s = (
-  omega arith,
-  tested-not s.scsw.status.pending s.scsw _ refl
-      (cleared-scsw (intermediate_alone s.scsw.status) s.scsw.activity.suspended s.scsw.functions.halt
-      (without_status s.scsw) (ended_scsw s.scsw) (suspended_scsw s.scsw) (ended_scsw s.scsw) refl refl refl refl)
-      ∙ not-below s.serials.made,
-)
+tested-counted s = (omega arith, tested-pending s)
 
 pick : (b : Bool) (x y : SubchannelState) → IsCounted x → IsCounted y → IsCounted (if b then x else y)
 pick true x y k l = k
