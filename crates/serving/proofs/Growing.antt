@@ -1,8 +1,8 @@
 -- One more line performed and written.
-use Rattle.std.proofs.Common.{◌≡◌, ℕ, ◌+◌, Bool, true, false, not, ◌||◌, List, [], ◌∷◌, ◌++◌, length, take, map, refl, subst, sym, ap, ◌∙◌, append-nil, append_assoc, suc, arith, ◌<◌, ◌≤◌, get_or}
-use Rattle.std.specs.Prelude.{zero, Some, slice_get, is_err}
+use Rattle.std.proofs.Common.{◌≡◌, ℕ, ◌+◌, Bool, true, false, not, ◌||◌, List, [], ◌∷◌, ◌++◌, length, take, map, refl, subst, sym, ap, ◌∙◌, append-nil, append_assoc, suc, arith, ◌<◌, get_or}
+use Rattle.std.specs.Prelude.{is_err}
 use Rattle.std.specs.List.{list_any}
-use Rattle.std.proofs.lemmas.List.{take_all, take_more}
+use Rattle.std.proofs.lemmas.List.{take_more}
 use Rattle.std.proofs.KnownBytes.{Appends-trans}
 use Rattle.script_rows.specs.declared.Action.{Action}
 use Rattle.script_text.specs.Text.{event_line}
@@ -10,7 +10,7 @@ use Rattle.script.specs.declared.Line.{Line}
 use Rattle.serving.specs.declared.performing.Written.{Written}
 use Rattle.serving.specs.Acting.{Installed, ActionOutcome, PerformsAction, Runs}
 use Rattle.streams.specs.Sinks.{Seen, TakesText, Puts}
-use Rattle.serving.specs.Performing.{output_of, IsDone, HasPerformed, HasStopped}
+use Rattle.serving.specs.Performing.{output_of, IsDone, HasPerformed}
 
 pub runs-more : (old : Installed) (es : List Action) (os : List ActionOutcome) (middle : Installed) (e : Action) (o : ActionOutcome) (new : Installed)
     → Runs old es os middle → PerformsAction middle e o new → Runs old (es ++ e ∷ []) (os ++ o ∷ []) new
