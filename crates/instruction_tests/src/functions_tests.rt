@@ -15,15 +15,22 @@ use orb_block::Orb;
 use schib_block::pmcw;
 use scsw_irb::scsw::Scsw;
 use scsw_irb::serials::Serials;
-use subchannel_model::state::{Program, ProgramPosition, SubchannelState};
+use subchannel_model::state::{PmcwState, Program, ProgramPosition, SubchannelState};
 use subchannel_model::status::Condition;
 
 /// An enabled subchannel whose status word has these three words, and whose number 4 was drawn last.
 fn subchannel(words: [u32; 3]) -> SubchannelState {
     let mut state = idle_state();
-    state.pmcw.not_operational = [true; 8];
-    state.pmcw.last_used = Path::new(3);
-    state.pmcw.operational = [false; 8];
+    state.pmcw = PmcwState {
+        parameter: 0,
+        subclass: 0,
+        enabled: true,
+        multipath: false,
+        logical: [true; 8],
+        not_operational: [true; 8],
+        last_used: Path::new(3),
+        operational: [false; 8],
+    };
     state.scsw = Scsw::of_words(&words).unwrap_or(Scsw::zero());
     state.serials = Serials {
         made: 9,
