@@ -27,7 +27,7 @@ pub enum Class {
     Control,
     Sense,
     ReadBackward,
-    /// A transfer in channel: the program goes on elsewhere.
+    /// A transfer in channel (TIC): the program goes on elsewhere.
     Transfer,
     /// No class has this code.
     Invalid,
@@ -66,7 +66,7 @@ pub struct Ccw {
     pub suppress_length: bool,
     /// SKIP, 10: what is read is not stored.
     pub skip: bool,
-    /// PCI, 08: an interruption as this block takes control.
+    /// PCI, 08: a program-controlled interruption as this block takes control.
     pub program_controlled: bool,
     /// IDA, 04: the address is that of a list of indirect words.
     pub indirect: bool,

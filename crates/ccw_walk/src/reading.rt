@@ -9,7 +9,7 @@ use ccw_codec::{Ccw, Format};
 use channel_program::{Reading, Role};
 use orb_block::Orb;
 
-/// Whether a block is a transfer in channel, takes control, suspends or shows a program check.
+/// Whether a block is a transfer in channel (TIC), takes control, suspends or shows a program check.
 pub(crate) fn reading(orb: Orb, role: Role, bytes: &[u8; 8]) -> Reading
     ensures reading { result ≡ spec.reads orb role bytes.now }
     ensures target { IsTargetInRange result }

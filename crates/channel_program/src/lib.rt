@@ -21,7 +21,7 @@ pub struct Role {
 /// What a block comes to where it stands.
 #[derive(Clone, Copy, Debug, PartialEq, Eq)]
 pub enum Reading {
-    /// A transfer in channel: the next block is at this address.
+    /// A transfer in channel (TIC): the next block is at this address.
     Transfers(u32),
     /// It takes control.
     Takes(Ccw),

@@ -48,7 +48,7 @@ const SUSPENDED: [(&[u8], &[u8]); 1] = [
     ),
 ];
 
-/// A block that asks for an interruption by the program.
+/// A block that asks for a program-controlled interruption (PCI).
 const INTERRUPTED: [(&[u8], &[u8]); 1] = [
     // Intermediate status comes as its command is sent.
     (

@@ -1,5 +1,5 @@
-//! Indirect-data-address words: which lists of them there are, and the piece of storage that each
-//! word names (SA22-7832, chapter 15).
+//! Indirect-data-address words (IDAWs): which lists of them there are, and the piece of storage that
+//! each word names (SA22-7832, chapter 15).
 #![tactic(auto)]
 
 ghost use Rattle.std.specs.Prelude.{◌≡◌, ℕ, ◌+◌, ◌-◌, ◌%◌, ◌<◌, ◌≤◌, ◌^◌, ◌↔◌, ◌++◌, ◌∷◌, [], List, None, Some, IfOk, IfErr, IsOk, min};

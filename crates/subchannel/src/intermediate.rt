@@ -1,4 +1,4 @@
-//! Intermediate status: an interruption by the program, and a suspension.
+//! Intermediate status: a program-controlled interruption (PCI), and a suspension.
 
 ghost use Rattle.std.specs.Prelude.{◌≡◌, ◌<◌, ◌^◌};
 ghost use Rattle.data_move.specs.Moving.{residual};

@@ -26,7 +26,7 @@ pub enum StatusCause {
     NoPath,
     /// The path of a program, or its device, was lost.
     InterfaceControlCheck,
-    /// A command takes control whose block has the flag for an interruption by the program.
+    /// A command takes control whose block has the flag for a program-controlled interruption (PCI).
     Pci {
         tried: u32,
         count: u16,

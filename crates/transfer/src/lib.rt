@@ -21,7 +21,7 @@ pub struct Transfer {
     pub walk: Walk,
     /// The data of the block that took control last.
     pub moving: Move,
-    /// That block asks for an interruption by the program, which is not made yet.
+    /// That block asks for a program-controlled interruption (PCI), which is not made yet.
     pub pci_pending: bool,
     /// The number of the last chunk.
     pub sequence: u64,
