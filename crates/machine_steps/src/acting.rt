@@ -24,6 +24,9 @@ pub enum SubchannelAct {
 }
 
 /// Does it. A refusal changes nothing.
+///
+/// It is a part of its one caller: a reply that is handed on once more costs a copy.
+#[inline(always)]
 pub fn perform_act(
     storage: &mut Storage,
     sub: &mut Subchannel,

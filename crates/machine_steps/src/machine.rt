@@ -148,6 +148,7 @@ impl Machine {
     }
 
     /// Does what an event does at the subchannel of a place, and counts anew the engine that it engages after it.
+    #[inline(always)]
     fn at_place(&mut self, place: usize, act: SubchannelAct) -> Result<Reply, Fault>
         requires place { place < length self.old.subs }
         requires roomy { All IsRoomy self.old.subs }
