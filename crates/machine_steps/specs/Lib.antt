@@ -1,2 +1,1 @@
 pub mod Giving
-pub mod Acting

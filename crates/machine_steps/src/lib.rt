@@ -5,7 +5,6 @@
 //! memory. Nothing is kept of what went before.
 #![tactic(auto)]
 
-mod acting;
 pub mod machine;
 pub mod opening;
 mod turns;

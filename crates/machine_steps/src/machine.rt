@@ -5,7 +5,6 @@ ghost use Rattle.subchannel_model.specs.declared.state.Subchannel.{Subchannel};
 ghost use Rattle.machine_model.specs.State as state_spec;
 ghost use Rattle.machine_model.specs.Ruled.{GoesByRule};
 ghost use Rattle.machine_model.specs.InstructionSteps as instruction_steps;
-ghost use Rattle.machine_steps.specs.Acting.{ActsAt, IsFit, StandsAt};
 ghost use Rattle.machine_steps.specs.Giving as giving_spec;
 ghost use Rattle.machine_model.specs.StorageSteps as storage_spec;
 ghost use Rattle.machine_model.specs.Steps as spec;
@@ -13,8 +12,7 @@ ghost use Rattle.machine_model.specs.Bounds.{IsRoomy, IsUnitRoomy};
 ghost use Rattle.chan_events.specs.declared.event.Event.TheVariants as event_spec;
 ghost use Rattle.finding.specs.Tables.{Fits};
 
-use crate::acting::{SubchannelAct, perform_act};
-use crate::turns::{down_sub, report_sub};
+use crate::turns::{choose_sub, down_sub, report_sub, up_sub};
 use crate::unit_turns::turn_of_unit;
 use chan_events::event::{Event, Instruction};
 use chan_events::reply::Reply;
@@ -25,7 +23,7 @@ use chan_model::report::Report;
 use channel_config::names::subchannel_named;
 use finding::engines::{Counted, Engines, engaged};
 use finding::tables::Places;
-use io_step::execute_absent;
+use io_step::{execute, execute_absent};
 use machine_model::state::UnitTurn;
 use path_select::PathChoice;
 use scsw_irb::serials::Serials;
@@ -147,22 +145,6 @@ impl Machine {
         })
     }
 
-    /// Does what an event does at the subchannel of a place, and counts anew the engine that it engages after it.
-    #[inline(always)]
-    fn at_place(&mut self, place: usize, act: SubchannelAct) -> Result<Reply, Fault>
-        requires place { place < length self.old.subs }
-        requires roomy { All IsRoomy self.old.subs }
-        requires fits { (sub : Subchannel) → StandsAt self.old.subs place sub → IsFit act sub }
-        ensures { ActsAt self.old place act result self.new }
-    {
-        let sub = &mut self.subs[place];
-        let before = engaged(sub);
-        let answer = perform_act(&mut self.storage, sub, act);
-        let after = engaged(sub);
-        self.engines.change(before, after);
-        answer
-    }
-
     fn execute(
         &mut self,
         places: &Places,
@@ -179,7 +161,12 @@ impl Machine {
         let Some(place) = places.place_in(id, self.subs.as_slice()) else {
             return execute_absent(&mut self.storage, cpu, instruction);
         };
-        self.at_place(place, SubchannelAct::Execute { cpu, instruction })
+        let sub = &mut self.subs[place];
+        let before = engaged(sub);
+        let answer = execute(&mut self.storage, sub, cpu, instruction);
+        let after = engaged(sub);
+        self.engines.change(before, after);
+        answer
     }
 
     fn choose<P: PathChoice>(
@@ -197,11 +184,15 @@ impl Machine {
             return Err(Fault::NoSuchSubchannel);
         };
         let counted = Counted::of(self.subs.as_slice(), &self.engines);
-        let sub = &self.subs[place];
-        let paths = paths_to_choose(&counted, sub);
+        let paths = paths_to_choose(&counted, &self.subs[place]);
+        let sub = &mut self.subs[place];
         let path = choice.choose(&paths, sub.state.last_path);
-        let chosen = chosen(sub, path);
-        self.at_place(place, SubchannelAct::Choose { chosen })
+        let what = chosen(sub, path);
+        let before = engaged(sub);
+        let answer = choose_sub(sub, what);
+        let after = engaged(sub);
+        self.engines.change(before, after);
+        answer
     }
 
     fn up(&mut self, places: &Places, word: u32, path: u32) -> Result<Reply, Fault>
@@ -212,7 +203,12 @@ impl Machine {
         let Some(place) = self.place_of(places, word) else {
             return Err(Fault::NoSuchSubchannel);
         };
-        self.at_place(place, SubchannelAct::TakeUp { path })
+        let sub = &mut self.subs[place];
+        let before = engaged(sub);
+        let answer = up_sub(&mut self.storage, sub, path);
+        let after = engaged(sub);
+        self.engines.change(before, after);
+        answer
     }
 
     fn down(&mut self, places: &Places, word: u32, path: u32) -> Result<Reply, Fault>

@@ -181,7 +181,7 @@ fn a_block_that_asks_for_an_interruption_takes_control(rt: HostRuntime) {
     let Some(transfer) = began(&storage) else {
         return assert!(rt; false, "the program is right");
     };
-    assert!(rt; transfer.interrupts);
+    assert!(rt; transfer.pci_pending);
 }
 
 #[test]
