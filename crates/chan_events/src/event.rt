@@ -56,6 +56,20 @@ pub enum Instruction {
     },
 }
 
+/// An I/O instruction that names no subchannel (SA22-7832, chapter 14). Addresses are real.
+#[derive(Clone, Copy, Debug)]
+pub enum OtherInstruction {
+    /// TEST PENDING INTERRUPTION. `mask` is the byte of control register 6: hexadecimal 80 is subclass 0. With address
+    /// 0 the code is stored at 184.
+    Tpi { mask: u8, address: u32 },
+    /// RESET CHANNEL PATH. `path` is general register 1.
+    Rchp { path: u32 },
+    /// STORE CHANNEL REPORT WORD.
+    Stcrw { address: u32 },
+    /// STORE CHANNEL PATH STATUS.
+    Stcps { address: u32 },
+}
+
 /// An event. `subchannel` is a subsystem-identification word, `path` the index of a path of that subchannel.
 #[derive(Drop)]
 pub enum Event {

@@ -1,13 +1,19 @@
 //! Replies: what an accepted event answers.
 
 ghost use Rattle.std.specs.Prelude.{◌≡◌};
+ghost use Rattle.chan_events.specs.ReportWords as spec;
 
 use crate::event::Event;
-use chan_model::answer::Answer;
+use chan_model::answer::{Answer, ConditionCode};
 use chan_model::chunk::Chunk;
 use chan_model::names::Path;
 use chan_model::signal::{Down, OnPath, Up};
+use scsw_irb::code::IntCode;
+use scsw_irb::crw::Crw;
 use scsw_irb::scsw::Scsw;
+
+/// How many bytes STORE CHANNEL PATH STATUS stores: one bit for each channel-path identifier.
+pub const PATH_STATUS_BYTES: usize = 32;
 
 /// What an accepted event answers.
 #[derive(Drop)]
@@ -23,6 +29,18 @@ pub enum Reply {
     Status {
         answer: Answer,
         scsw: Scsw,
+    },
+    /// TEST PENDING INTERRUPTION: the code of the request that it took out, code 1; None, code 0, where no request waits
+    /// whose subclass is enabled.
+    Interruption(Option<IntCode>),
+    /// The condition code of RESET CHANNEL PATH.
+    PathReset(ConditionCode),
+    /// STORE CHANNEL REPORT WORD: the report that it took out, code 0; None, code 1, where none waits.
+    ChannelReport(Option<Crw>),
+    /// What STORE CHANNEL PATH STATUS stored: bit n, from the left, is one where the channel path n is engaged. It sets
+    /// no condition code.
+    Paths {
+        engaged: [u8; PATH_STATUS_BYTES],
     },
     /// A program was offered under this number on this path; `resumed` says that it was suspended before.
     Offered {
@@ -80,6 +98,10 @@ impl Reply {
                 answer: *answer,
                 scsw: *scsw,
             },
+            Reply::Interruption(code) => Reply::Interruption(*code),
+            Reply::PathReset(code) => Reply::PathReset(*code),
+            Reply::ChannelReport(report) => Reply::ChannelReport(*report),
+            Reply::Paths { engaged } => Reply::Paths { engaged: *engaged },
             Reply::Offered {
                 number,
                 path,
@@ -138,5 +160,15 @@ fn copy_up(sent: &Option<OnPath<Up>>) -> Option<OnPath<Up>>
     match sent {
         Some(signal) => Some(signal.copy()),
         None => None,
+    }
+}
+
+/// The word that STORE CHANNEL REPORT WORD stores: zero where there is no report.
+pub fn report_word(report: Option<Crw>) -> u32
+    ensures { result ≡ spec.report_word report }
+{
+    match report {
+        None => 0,
+        Some(crw) => crw.word(),
     }
 }

@@ -4,7 +4,8 @@ ghost use Rattle.std.specs.Bool.{OnTrue};
 ghost use Rattle.machine_model.specs.Bounds.{IsRoomy};
 
 use crate::setups::idle_state;
-use chan_events::event::Instruction;
+use chan_events::event::{Instruction, OtherInstruction};
+use chan_events::reply::Reply;
 use chan_model::answer::ConditionCode;
 use chan_model::fault::Fault;
 use chan_model::names::{Cpu, Side};
@@ -12,7 +13,7 @@ use channel_config::names::SubchannelId;
 use channel_config::parts::{ChpidList, SubchannelSetup};
 use channel_reports::Reports;
 use interruptions::Pending;
-use io_step::{ChannelPaths, Done, IoInstruction, OtherInstruction, perform};
+use io_step::{ChannelPaths, perform, perform_other, reply_code};
 use scsw_irb::code::IntCode;
 use std::alloc::Global;
 use storage_keys::{Storage, StorageFault};
@@ -77,28 +78,22 @@ fn is_roomy(sub: &Subchannel) -> bool
         && sub.state.begun.is_none()
 }
 
-/// The condition code and None, or the refusal; a 9 stands where there is no code.
-fn performed(bench: &mut Lent, instruction: IoInstruction) -> Result<u8, Fault> {
+/// The condition code, or the refusal; a 9 stands where there is no code.
+fn on_subchannel(bench: &mut Lent, instruction: Instruction) -> Result<u8, Fault> {
     let Some(cpu) = Cpu::new(0) else {
         return Err(Fault::NoMemory);
     };
     if !is_roomy(&bench.sub) {
         return Err(Fault::NoMemory);
     }
-    let done = perform(
+    let reply = perform(
         &mut bench.storage,
         Some(&mut bench.sub),
         &mut bench.pending,
-        &mut bench.reports,
-        &bench.paths,
         cpu,
         instruction,
     )?;
-    Ok(code_of(&done))
-}
-
-fn other(bench: &mut Lent, instruction: OtherInstruction) -> Result<u8, Fault> {
-    performed(bench, IoInstruction::Other(instruction))
+    Ok(code_of(&reply))
 }
 
 /// The same where the subchannel is not provided.
@@ -106,30 +101,40 @@ fn performed_absent(bench: &mut Lent, instruction: Instruction) -> Result<u8, Fa
     let Some(cpu) = Cpu::new(0) else {
         return Err(Fault::NoMemory);
     };
-    let done = perform(
+    let reply = perform(
         &mut bench.storage,
         None,
+        &mut bench.pending,
+        cpu,
+        instruction,
+    )?;
+    Ok(code_of(&reply))
+}
+
+/// The same for an instruction that names no subchannel.
+fn other(bench: &mut Lent, instruction: OtherInstruction) -> Result<u8, Fault> {
+    let Some(cpu) = Cpu::new(0) else {
+        return Err(Fault::NoMemory);
+    };
+    let reply = perform_other(
+        &mut bench.storage,
         &mut bench.pending,
         &mut bench.reports,
         &bench.paths,
         cpu,
-        IoInstruction::Subchannel(instruction),
+        instruction,
     )?;
-    Ok(code_of(&done))
+    Ok(code_of(&reply))
 }
 
-fn code_of(done: &Done) -> u8 {
-    match done.code() {
+fn code_of(reply: &Reply) -> u8 {
+    match reply_code(reply) {
         Some(ConditionCode::Zero) => 0,
         Some(ConditionCode::One) => 1,
         Some(ConditionCode::Two) => 2,
         Some(ConditionCode::Three) => 3,
         None => 9,
     }
-}
-
-fn on_subchannel(bench: &mut Lent, instruction: Instruction) -> Result<u8, Fault> {
-    performed(bench, IoInstruction::Subchannel(instruction))
 }
 
 fn is_code(answer: Result<u8, Fault>, code: u8) -> bool {

@@ -7,7 +7,7 @@ use Rattle.zbits.specs.Words.{bytes_of_words}
 use Rattle.scsw_irb.specs.declared.code.IntCode.{IntCode}
 use Rattle.scsw_irb.specs.declared.crw.Crw.{Crw}
 use Rattle.scsw_irb.specs.CodeTable.{code_tables}
-use Rattle.scsw_irb.specs.CrwTable.{crw_table}
+use Rattle.chan_events.specs.ReportWords.{report_word}
 use Rattle.storage_keys.specs.declared.StorageFault.{StorageFault}
 use Rattle.storage_keys.specs.Storage.{Contents, operand_check, operand_stored}
 use Rattle.chan_model.specs.declared.fault.Fault.{Fault}
@@ -56,11 +56,7 @@ abbrev pub tpi_turn : Contents → requests.WaitingRequests → ℕ → ℕ → 
 tpi_turn storage waiting cpu mask address =
     where_stored (code_check storage cpu address) (tpi_done storage waiting cpu address (requests.answer waiting mask))
 
--- STORE CHANNEL REPORT WORD: the word of the oldest report, or zero with code 1
-abbrev pub report_word : Option Crw → ℕ
-report_word None = 0
-report_word (Some crw) = word_of (crw_table crw)
-
+-- STORE CHANNEL REPORT WORD
 pub record StcrwTurn : Type 0 where
   pub report : Option Crw
   pub storage : Contents
@@ -104,6 +100,13 @@ engaged_byte engaged place = mask_of_paths (eight_from engaged (8 * place))
 unfoldable pub engaged_bytes : List Bool → ℕ → List ℕ
 engaged_bytes engaged count = map (engaged_byte engaged) (range_with_len 0 count)
 
-abbrev pub stcps_turn : Contents → List Bool → ℕ → ℕ → Result Contents Fault
+pub record StcpsTurn : Type 0 where
+  pub engaged : List ℕ
+  pub storage : Contents
+
+abbrev pub stcps_done : Contents → ℕ → ℕ → List ℕ → StcpsTurn
+stcps_done storage cpu address engaged = record { engaged = engaged; storage = operand_stored storage cpu address engaged }
+
+abbrev pub stcps_turn : Contents → List Bool → ℕ → ℕ → Result StcpsTurn Fault
 stcps_turn storage engaged cpu address =
-    where_stored (operand_check storage cpu address 32 32) (operand_stored storage cpu address (engaged_bytes engaged 32))
+    where_stored (operand_check storage cpu address 32 32) (stcps_done storage cpu address (engaged_bytes engaged 32))

@@ -5,6 +5,8 @@ use Rattle.std.specs.Prelude.{◌≡◌, ◌⊎◌, ℕ, Bool, true, false, if�
 use Rattle.storage_keys.specs.Storage.{Contents}
 use Rattle.chan_events.specs.declared.event.Instruction.{Instruction}
 use Rattle.chan_events.specs.declared.event.Instruction.TheVariants as instruction
+use Rattle.chan_events.specs.declared.event.OtherInstruction.{OtherInstruction}
+use Rattle.chan_events.specs.declared.event.OtherInstruction.TheVariants as other
 use Rattle.chan_model.specs.declared.fault.Fault.{Fault}
 use Rattle.chan_model.specs.declared.answer.ConditionCode.{ConditionCode}
 use Rattle.chan_model.specs.declared.answer.ConditionCode.TheVariants.{Zero, One, Two, Three}
@@ -14,25 +16,18 @@ use Rattle.chan_model.specs.ConditionCodes.{code_of, tpi_code, stcrw_code}
 use Rattle.subchannel_model.specs.declared.state.Subchannel.{Subchannel}
 use Rattle.interruptions.specs.Requests as requests
 use Rattle.channel_reports.specs.Queue as reports
-use Rattle.io_step.specs.declared.instruction.IoInstruction.{IoInstruction}
-use Rattle.io_step.specs.declared.instruction.IoInstruction.TheVariants as io
-use Rattle.io_step.specs.declared.instruction.OtherInstruction.{OtherInstruction}
-use Rattle.io_step.specs.declared.instruction.OtherInstruction.TheVariants as other
-use Rattle.io_step.specs.declared.instruction.Done.{Done}
-use Rattle.io_step.specs.declared.instruction.Done.TheVariants as done
 use Rattle.io_step.specs.declared.instruction.ChannelPaths.{ChannelPaths}
 use Rattle.io_step.specs.Executing.{Executed, Executed_absent}
-use Rattle.io_step.specs.Others.{TpiTurn, StcrwTurn, RchpTurn, tpi_turn, stcrw_turn, rchp_turn, stcps_turn}
+use Rattle.io_step.specs.Others.{TpiTurn, StcrwTurn, RchpTurn, StcpsTurn, tpi_turn, stcrw_turn, rchp_turn, stcps_turn}
 
--- what an instruction is lent; of subchannels the one that it names, where it is provided
+-- what an instruction on a subchannel is lent; the subchannel where it is provided
 pub record Lent : Type 0 where
   pub storage : Contents
   pub sub : Option Subchannel
   pub requests : requests.WaitingRequests
-  pub reports : reports.WaitingReports
 
-abbrev pub lent : Contents → Option Subchannel → requests.WaitingRequests → reports.WaitingReports → Lent
-lent storage sub waiting queue = record { storage = storage; sub = sub; requests = waiting; reports = queue }
+abbrev pub lent : Contents → Option Subchannel → requests.WaitingRequests → Lent
+lent storage sub waiting = record { storage = storage; sub = sub; requests = waiting }
 
 -- the subchannel as it is lent, and as it is left
 abbrev pub sub_lent : Option (MutBor Subchannel) → Option Subchannel
@@ -44,10 +39,13 @@ sub_left (inl left) = None
 sub_left (inr (inl left)) = Some left.0.now
 sub_left (inr (inr none)) = None
 
--- the condition code of a reply to an instruction
+-- the condition code that an instruction with this reply set; STORE CHANNEL PATH STATUS sets none
 abbrev pub reply_code : Reply → Option ConditionCode
 reply_code (reply.Code answer) = Some (code_of answer)
 reply_code (reply.Status answer scsw) = Some (code_of answer)
+reply_code (reply.Interruption found) = Some (tpi_code found)
+reply_code (reply.PathReset code) = Some code
+reply_code (reply.ChannelReport report) = Some (stcrw_code report)
 reply_code other = None
 
 -- TEST with code 0 and 1, and CLEAR with code 0, drop the request of their subchannel (chapter 16)
@@ -90,59 +88,51 @@ Leaves before None cpu i r after (Some new) = ⊥
 Leaves before (Some old) cpu i r after None = ⊥
 Leaves before (Some old) cpu i r after (Some new) = Executed before old cpu i r after new
 
-abbrev pub Replies : Lent → ℕ → Instruction → Done → Lent → Type 0
-Replies old cpu i (done.Machine r) new =
-    Leaves old.storage old.sub cpu i (Ok r) new.storage new.sub
-    × (new.requests ≡ requests_after old.requests old.sub i r) × (new.reports ≡ old.reports)
-Replies old cpu i (done.Interruption found) new = ⊥
-Replies old cpu i (done.PathReset code) new = ⊥
-Replies old cpu i (done.Report report) new = ⊥
-Replies old cpu i done.Paths new = ⊥
+-- a refusal changes nothing
+abbrev pub Performed : Lent → ℕ → Instruction → Result Reply Fault → Lent → Type 0
+Performed old cpu i (Ok r) new =
+    Leaves old.storage old.sub cpu i (Ok r) new.storage new.sub × (new.requests ≡ requests_after old.requests old.sub i r)
+Performed old cpu i (Err f) new = Leaves old.storage old.sub cpu i (Err f) new.storage new.sub × (new ≡ old)
 
--- what the others answer and leave
-pub record LentTurn : Type 0 where
-  pub answer : Done
-  pub left : Lent
+-- what an instruction that names no subchannel is lent, and what it answers and leaves
+pub record LentWhole : Type 0 where
+  pub storage : Contents
+  pub requests : requests.WaitingRequests
+  pub reports : reports.WaitingReports
 
-abbrev pub tpi_lent : Lent → Result TpiTurn Fault → Result LentTurn Fault
-tpi_lent old (Ok t) = Ok (record { answer = done.Interruption t.found; left = record old { storage = t.storage; requests = t.requests } })
+abbrev pub lent_whole : Contents → requests.WaitingRequests → reports.WaitingReports → LentWhole
+lent_whole storage waiting queue = record { storage = storage; requests = waiting; reports = queue }
+
+pub record OtherTurn : Type 0 where
+  pub answer : Reply
+  pub left : LentWhole
+
+abbrev pub tpi_lent : LentWhole → Result TpiTurn Fault → Result OtherTurn Fault
+tpi_lent old (Ok t) = Ok (record { answer = reply.Interruption t.found; left = record old { storage = t.storage; requests = t.requests } })
 tpi_lent old (Err f) = Err f
 
-abbrev pub stcrw_lent : Lent → Result StcrwTurn Fault → Result LentTurn Fault
-stcrw_lent old (Ok t) = Ok (record { answer = done.Report t.report; left = record old { storage = t.storage; reports = t.reports } })
+abbrev pub stcrw_lent : LentWhole → Result StcrwTurn Fault → Result OtherTurn Fault
+stcrw_lent old (Ok t) = Ok (record { answer = reply.ChannelReport t.report; left = record old { storage = t.storage; reports = t.reports } })
 stcrw_lent old (Err f) = Err f
 
-abbrev pub rchp_lent : Lent → Result RchpTurn Fault → Result LentTurn Fault
-rchp_lent old (Ok t) = Ok (record { answer = done.PathReset t.code; left = record old { reports = t.reports } })
+abbrev pub rchp_lent : LentWhole → Result RchpTurn Fault → Result OtherTurn Fault
+rchp_lent old (Ok t) = Ok (record { answer = reply.PathReset t.code; left = record old { reports = t.reports } })
 rchp_lent old (Err f) = Err f
 
-abbrev pub stcps_lent : Lent → Result Contents Fault → Result LentTurn Fault
-stcps_lent old (Ok storage) = Ok (record { answer = done.Paths; left = record old { storage = storage } })
+abbrev pub stcps_lent : LentWhole → Result StcpsTurn Fault → Result OtherTurn Fault
+stcps_lent old (Ok t) = Ok (record { answer = reply.Paths t.engaged; left = record old { storage = t.storage } })
 stcps_lent old (Err f) = Err f
 
+abbrev pub other_turn : LentWhole → ChannelPaths → ℕ → OtherInstruction → Result OtherTurn Fault
+other_turn old paths cpu (other.Tpi mask address) = tpi_lent old (tpi_turn old.storage old.requests cpu mask address)
+other_turn old paths cpu (other.Rchp path) = rchp_lent old (rchp_turn old.reports paths.up path)
+other_turn old paths cpu (other.Stcrw address) = stcrw_lent old (stcrw_turn old.storage old.reports cpu address)
+other_turn old paths cpu (other.Stcps address) = stcps_lent old (stcps_turn old.storage paths.engaged cpu address)
+
 -- a refusal changes nothing
-abbrev pub Comes : Lent → Result LentTurn Fault → Result Done Fault → Lent → Type 0
-Comes old outcome (Ok d) new = outcome ≡ Ok (record { answer = d; left = new })
+abbrev pub Comes : LentWhole → Result OtherTurn Fault → Result Reply Fault → LentWhole → Type 0
+Comes old outcome (Ok r) new = outcome ≡ Ok (record { answer = r; left = new })
 Comes old outcome (Err f) new = (outcome ≡ Err f) × (new ≡ old)
 
-abbrev pub On_subchannel : Lent → ℕ → Instruction → Result Done Fault → Lent → Type 0
-On_subchannel old cpu i (Ok d) new = Replies old cpu i d new
-On_subchannel old cpu i (Err f) new = Leaves old.storage old.sub cpu i (Err f) new.storage new.sub × (new ≡ old)
-
-abbrev pub Performed_other : Lent → ChannelPaths → ℕ → OtherInstruction → Result Done Fault → Lent → Type 0
-Performed_other old paths cpu (other.Tpi mask address) r new = Comes old (tpi_lent old (tpi_turn old.storage old.requests cpu mask address)) r new
-Performed_other old paths cpu (other.Rchp path) r new = Comes old (rchp_lent old (rchp_turn old.reports paths.up path)) r new
-Performed_other old paths cpu (other.Stcrw address) r new = Comes old (stcrw_lent old (stcrw_turn old.storage old.reports cpu address)) r new
-Performed_other old paths cpu (other.Stcps address) r new = Comes old (stcps_lent old (stcps_turn old.storage paths.engaged cpu address)) r new
-
-abbrev pub Performed : Lent → ChannelPaths → ℕ → IoInstruction → Result Done Fault → Lent → Type 0
-Performed old paths cpu (io.Subchannel i) r new = On_subchannel old cpu i r new
-Performed old paths cpu (io.Other i) r new = Performed_other old paths cpu i r new
-
--- the condition code that an instruction sets; STORE CHANNEL PATH STATUS sets none
-abbrev pub done_code : Done → Option ConditionCode
-done_code (done.Machine r) = reply_code r
-done_code (done.Interruption found) = Some (tpi_code found)
-done_code (done.PathReset code) = Some code
-done_code (done.Report report) = Some (stcrw_code report)
-done_code done.Paths = None
+abbrev pub Performed_other : LentWhole → ChannelPaths → ℕ → OtherInstruction → Result Reply Fault → LentWhole → Type 0
+Performed_other old paths cpu i r new = Comes old (other_turn old paths cpu i) r new

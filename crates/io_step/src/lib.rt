@@ -20,7 +20,7 @@ mod provided;
 mod turns;
 
 pub use absent::execute_absent;
-pub use instruction::{ChannelPaths, Done, IoInstruction, OtherInstruction};
+pub use instruction::{ChannelPaths, reply_code};
 pub use others::{PathTable, rchp, stcps, stcrw, tpi};
-pub use performing::{perform, perform_absent, perform_provided};
+pub use performing::{perform, perform_other, perform_provided};
 pub use provided::execute;

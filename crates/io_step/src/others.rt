@@ -5,6 +5,7 @@ ghost use Rattle.io_step.specs.Operands.{from_storage};
 ghost use Rattle.io_step.specs.Others as spec;
 
 use crate::operands::{WORD, check_operand};
+use chan_events::reply::{PATH_STATUS_BYTES, report_word};
 use chan_model::answer::ConditionCode;
 use chan_model::fault::Fault;
 use chan_model::names::Cpu;
@@ -26,9 +27,6 @@ const LONG_CODE_BYTES: usize = 12;
 /// How many bytes of the code are stored at an operand: the subsystem-identification word and the interruption
 /// parameter.
 const SHORT_CODE_BYTES: usize = 8;
-
-/// How many bytes STORE CHANNEL PATH STATUS stores: one bit for each channel-path identifier.
-const PATH_STATUS_BYTES: usize = 32;
 
 /// The boundary on which the operand of STORE CHANNEL PATH STATUS must be.
 const PATH_STATUS_BOUNDARY: u32 = 32;
@@ -86,15 +84,6 @@ pub fn tpi(
         store_code(storage, cpu, address, code);
     }
     Ok(found)
-}
-
-fn report_word(report: Option<Crw>) -> u32
-    ensures { result ≡ spec.report_word report }
-{
-    match report {
-        None => 0,
-        Some(crw) => crw.word(),
-    }
 }
 
 /// STORE CHANNEL REPORT WORD at an address on a word boundary: the oldest report is taken out. None, code 1, where none
@@ -162,13 +151,15 @@ fn engaged_bytes(engaged: &PathTable) -> [u8; PATH_STATUS_BYTES]
 }
 
 /// STORE CHANNEL PATH STATUS at an address on a boundary of 32 bytes. `engaged` has the channel paths whose bit is one.
+/// The bytes that were stored.
 pub fn stcps(
     storage: &mut Storage,
     engaged: &PathTable,
     cpu: Cpu,
     address: u32,
-) -> Result<(), Fault>
-    ensures done { OnOk result (spec.stcps_turn storage.old engaged.now cpu address ≡ Ok storage.new) }
+) -> Result<[u8; PATH_STATUS_BYTES], Fault>
+    ensures done { IfOk result (λ stored. spec.stcps_turn storage.old engaged.now cpu address ≡
+        Ok (record { engaged = stored; storage = storage.new })) }
     ensures refused { IfErr result (λ f. spec.stcps_turn storage.old engaged.now cpu address ≡ Err f) }
     ensures kept { OnErr result (storage.new ≡ storage.old) }
 {
@@ -181,5 +172,5 @@ pub fn stcps(
     )?;
     let image = engaged_bytes(engaged);
     storage.store_operand(cpu.number(), address, &image);
-    Ok(())
+    Ok(image)
 }

@@ -1,13 +1,15 @@
 //! The text of each reply and refusal.
 
 use bitflags::Flags;
-use chan_events::reply::Reply;
-use chan_model::answer::Answer;
+use chan_events::reply::{PATH_STATUS_BYTES, Reply};
+use chan_model::answer::{Answer, ConditionCode};
 use chan_model::chunk::Chunk;
 use chan_model::fault::Fault;
 use chan_model::names::Path;
 use chan_model::signal::{Down, Load, Up};
 use script_text::{put_refusal, put_reply};
+use scsw_irb::code::IntCode;
+use scsw_irb::crw::{Crw, PathReport};
 use scsw_irb::scsw::{ActivityControl, DeferredCode, FunctionControl, Scsw, StatusControl};
 use scsw_irb::serials::Serials;
 use scsw_irb::status::{DeviceStatus, SubchannelStatus};
@@ -206,7 +208,58 @@ fn replies_are_shown(rt: HostRuntime) {
     for (reply, text) in &rows {
         let mut sink = Watched::new(Vec::new(rt.alloc()));
         assert!(rt; put_reply(&mut sink, reply));
-        assert_eq!(rt; sink.writer.as_slice(), *text);
+        assert!(rt; sink.writer.as_slice() == *text);
+    }
+}
+
+/// The code of subchannel `number`, whose interruption parameter is zero.
+fn code(number: u16, subclass: u8) -> Option<IntCode> {
+    IntCode::of_words(&[
+        0x10000 + u32::from(number),
+        0,
+        u32::from(subclass % 8) << 27,
+    ])
+}
+
+fn lost(overflow: bool) -> Option<Crw> {
+    Some(Crw {
+        report: PathReport::Lost,
+        overflow,
+        path: 0x10,
+    })
+}
+
+/// The channel paths 10 and 11, or none.
+fn paths(bits: u8) -> Reply {
+    let mut engaged = [0; PATH_STATUS_BYTES];
+    engaged[2] = bits;
+    Reply::Paths { engaged }
+}
+
+#[test]
+fn replies_of_instructions_without_a_subchannel_are_shown(rt: HostRuntime) {
+    let rows: [(Reply, &[u8]); 10] = [
+        (Reply::Interruption(None), b"cc 0"),
+        (
+            Reply::Interruption(code(0, 0)),
+            b"cc 1 00010000 00000000 00000000",
+        ),
+        (
+            Reply::Interruption(code(1, 7)),
+            b"cc 1 00010001 00000000 38000000",
+        ),
+        (Reply::PathReset(ConditionCode::Two), b"cc 2"),
+        (Reply::ChannelReport(lost(false)), b"cc 0 04060010"),
+        (Reply::ChannelReport(lost(true)), b"cc 0 24060010"),
+        (Reply::ChannelReport(None), b"cc 1 00000000"),
+        (paths(0xC0), b"paths 10 11"),
+        (paths(0x40), b"paths 11"),
+        (paths(0), b"paths -"),
+    ];
+    for (reply, text) in &rows {
+        let mut sink = Watched::new(Vec::new(rt.alloc()));
+        assert!(rt; put_reply(&mut sink, reply));
+        assert!(rt; sink.writer.as_slice() == *text);
     }
 }
 
@@ -237,7 +290,7 @@ fn replies_with_a_path_are_shown(rt: HostRuntime) {
     for (reply, text) in &rows {
         let mut sink = Watched::new(Vec::new(rt.alloc()));
         assert!(rt; put_reply(&mut sink, reply));
-        assert_eq!(rt; sink.writer.as_slice(), *text);
+        assert!(rt; sink.writer.as_slice() == *text);
     }
 }
 
@@ -270,6 +323,6 @@ fn refusals_are_shown(rt: HostRuntime) {
     for (refusal, text) in rows {
         let mut sink = Watched::new(Vec::new(rt.alloc()));
         assert!(rt; put_refusal(&mut sink, &refusal));
-        assert_eq!(rt; sink.writer.as_slice(), text);
+        assert!(rt; sink.writer.as_slice() == text);
     }
 }

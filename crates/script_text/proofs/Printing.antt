@@ -1,5 +1,5 @@
 -- Texts of a list's items, put one after the other.
-use Rattle.std.proofs.Common.{◌≡◌, ℕ, ◌+◌, ◌<◌, Bool, true, false, List, [], ◌∷◌, ◌++◌, take, drop, length, get_or, sym, ap, ◌∙◌, subst, append-nil}
+use Rattle.std.proofs.Common.{◌≡◌, refl, ℕ, zero, suc, ◌+◌, ◌-◌, ◌<◌, ◌≤◌, arith, add-one, Bool, true, false, List, [], ◌∷◌, ◌++◌, take, drop, length, get_or, sym, ap, ◌∙◌, subst, append-nil}
 use Rattle.std.specs.List.{flat_map}
 use Rattle.std.proofs.lemmas.List.{take_more, take-append-drop}
 use Rattle.std.proofs.lemmas.Grind.{flat_map-append}
@@ -8,6 +8,7 @@ use Rattle.std.specs.Io.KnownBytes.{Appends}
 use Rattle.std.proofs.KnownBytes.{Appends-nil}
 use Rattle.streams.specs.Sinks.{Seen, TakesText, FailsIn, Puts}
 use Rattle.streams.proofs.Sinking.{takes_then, fails_then}
+use Rattle.script_text.specs.Text.{path_text, engaged_text}
 
 pub same_text : (o n : Seen) (a b : List ℕ) (whole : Bool) → a ≡ b → Puts o a n whole → Puts o b n whole
 same_text o n a b whole e p = subst (λ (text : List ℕ). Puts o text n whole) e p
@@ -37,3 +38,34 @@ took_none o n text lt same failed = record {
   bytes = subst (λ (b : Option (List ℕ)). Appends o.bytes b []) same (Appends-nil o.bytes);
   failed = failed;
 }
+
+-- the text of the channel paths below a number, as it grows
+pub took_nothing : (o : Seen) (engaged : List ℕ) → TakesText o (engaged_text engaged 0) o
+unfolding engaged_text
+took_nothing o engaged = record { bytes = Appends-nil o.bytes; failed = refl }
+
+engaged-next : (engaged : List ℕ) (count : ℕ) → engaged_text engaged (suc count) ≡ engaged_text engaged count ++ path_text engaged count
+unfolding engaged_text
+engaged-next engaged count = refl
+
+engaged-more : (engaged : List ℕ) (count : ℕ) → engaged_text engaged (count + 1) ≡ engaged_text engaged count ++ path_text engaged count
+engaged-more engaged count = ap (engaged_text engaged) (add-one count) ∙ engaged-next engaged count
+
+pub engaged_goes_on : (o m n : Seen) (engaged : List ℕ) (count path : ℕ) (whole : Bool) → path ≡ count
+    → TakesText o (engaged_text engaged count) m → Puts m (path_text engaged path) n whole → Puts o (engaged_text engaged (count + 1)) n whole
+engaged_goes_on o m n engaged count path whole is t p =
+    subst (λ (text : List ℕ). Puts o text n whole) (sym (engaged-more engaged count ∙ ap (λ (k : ℕ). engaged_text engaged count ++ path_text engaged k) (sym is)))
+    (takes_then o m n _ _ whole t p)
+
+failed_later : (o n : Seen) (engaged : List ℕ) (count all more : ℕ) → all ≡ count + more
+    → FailsIn o (engaged_text engaged count) n → FailsIn o (engaged_text engaged all) n
+failed_later o n engaged count all zero is f = subst (λ (c : ℕ). FailsIn o (engaged_text engaged c) n) (omega (arith, is)) f
+failed_later o n engaged count all (suc more) is f =
+    failed_later o n engaged (count + 1) all more (omega (arith, is))
+    (subst (λ (text : List ℕ). FailsIn o text n) (sym (engaged-more engaged count)) (fails_then o n _ (path_text engaged count) f))
+
+-- a sink that fails at one of the channel paths fails in the text of all
+pub engaged_failed : (o m n : Seen) (engaged : List ℕ) (count path : ℕ) → count < 256 → path ≡ count
+    → TakesText o (engaged_text engaged count) m → Puts m (path_text engaged path) n false → FailsIn o (engaged_text engaged 256) n
+engaged_failed o m n engaged count path lt is t p =
+    failed_later o n engaged (count + 1) 256 (255 - count) (omega (arith, lt)) (engaged_goes_on o m n engaged count path false is t p)

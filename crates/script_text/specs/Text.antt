@@ -1,18 +1,25 @@
 -- The texts that are printed, byte for byte (own).
-use Rattle.std.specs.Prelude.{ℕ, ◌+◌, ◌/◌, ◌%◌, nat_lt, Bool, List, [], ◌∷◌, ◌++◌, codes, decimal, map, Result, Ok, Err, if◌then◌else◌}
-use Rattle.std.specs.List.{flat_map}
+use Rattle.std.specs.Prelude.{ℕ, zero, suc, ◌+◌, ◌/◌, ◌%◌, ◌==◌, nat_lt, Bool, List, [], ◌∷◌, ◌++◌, codes, decimal, map, slice_index_or, Option, None, Some, Result, Ok, Err, if◌then◌else◌}
+use Rattle.std.specs.List.{flat_map, list_all}
+use Rattle.zbits.specs.Bits.{bit_of}
 use Rattle.zbits.specs.Layout.{word_of}
 use Rattle.storage_keys.specs.declared.StorageFault.{StorageFault}
 use Rattle.storage_keys.specs.declared.StorageFault.TheVariants.{Addressing, Protection, Specification}
 use Rattle.scsw_irb.specs.declared.scsw.Scsw.{Scsw}
 use Rattle.scsw_irb.specs.ScswTable.{scsw_tables}
+use Rattle.scsw_irb.specs.declared.code.IntCode.{IntCode}
+use Rattle.scsw_irb.specs.CodeTable.{code_tables}
+use Rattle.scsw_irb.specs.declared.crw.Crw.{Crw}
 use Rattle.scsw_irb.specs.declared.serials.Serials.{Serials}
 use Rattle.chan_model.specs.declared.signal.Down.{Down}
 use Rattle.chan_model.specs.declared.signal.Down.TheVariants as down
 use Rattle.chan_model.specs.declared.signal.Up.{Up}
 use Rattle.chan_model.specs.declared.signal.Up.TheVariants as up
 use Rattle.chan_model.specs.declared.answer.Answer.{Answer}
-use Rattle.chan_model.specs.declared.answer.Answer.TheVariants.{Zero, One, Two, Three}
+use Rattle.chan_model.specs.declared.answer.ConditionCode.{ConditionCode}
+use Rattle.chan_model.specs.declared.answer.ConditionCode.TheVariants.{Zero, One, Two, Three}
+use Rattle.chan_model.specs.ConditionCodes.{code_of, stcrw_code}
+use Rattle.chan_events.specs.ReportWords.{report_word}
 use Rattle.chan_events.specs.declared.reply.Reply.{Reply}
 use Rattle.chan_events.specs.declared.reply.Reply.TheVariants as reply
 use Rattle.chan_model.specs.declared.fault.Fault.{Fault}
@@ -37,11 +44,48 @@ word_text n = 32 ∷ hex_digit (n / 0x10000000 % 16) ∷ hex_digit (n / 0x100000
 abbrev pub scsw_text : Scsw → List ℕ
 scsw_text scsw = flat_map word_text (map word_of (scsw_tables scsw))
 
+abbrev pub code_text : ConditionCode → List ℕ
+code_text Zero = codes "cc 0"
+code_text One = codes "cc 1"
+code_text Two = codes "cc 2"
+code_text Three = codes "cc 3"
+
 abbrev pub answer_text : Answer → List ℕ
-answer_text (Zero serials) = codes "cc 0"
-answer_text (One serials) = codes "cc 1"
-answer_text Two = codes "cc 2"
-answer_text Three = codes "cc 3"
+answer_text answer = code_text (code_of answer)
+
+-- TEST PENDING INTERRUPTION: the three words of the code of the request that it took out
+abbrev pub request_text : IntCode → List ℕ
+request_text code = code_text One ++ flat_map word_text (map word_of (code_tables code))
+
+abbrev pub interruption_text : Option IntCode → List ℕ
+interruption_text None = code_text Zero
+interruption_text (Some code) = request_text code
+
+-- STORE CHANNEL REPORT WORD: the word that it stored
+abbrev pub report_text : Option Crw → List ℕ
+report_text report = code_text (stcrw_code report) ++ word_text (report_word report)
+
+-- bit n, from the left, of the bytes that STORE CHANNEL PATH STATUS stored
+abbrev pub is_engaged : List ℕ → ℕ → Bool
+is_engaged engaged path = bit_of (slice_index_or engaged (path / 8) 0) (24 + path % 8) == 1
+
+-- a space and the two digits of the identifier of each engaged channel path below a number, in rising order
+abbrev pub path_text : List ℕ → ℕ → List ℕ
+path_text engaged path = if is_engaged engaged path then 32 ∷ byte_text path else []
+
+unfoldable pub engaged_text : List ℕ → ℕ → List ℕ
+engaged_text engaged zero = []
+engaged_text engaged (suc path) = engaged_text engaged path ++ path_text engaged path
+
+abbrev pub named_paths_text : List ℕ → List ℕ
+named_paths_text engaged = codes "paths" ++ engaged_text engaged 256
+
+-- a minus sign where no channel path is engaged
+abbrev pub is_none_engaged : List ℕ → Bool
+is_none_engaged engaged = list_all (λ byte. byte == 0) engaged
+
+abbrev pub paths_text : List ℕ → List ℕ
+paths_text engaged = if is_none_engaged engaged then codes "paths -" else named_paths_text engaged
 
 abbrev pub down_name : Down → List ℕ
 down_name (down.Select t) = codes "select"
@@ -76,6 +120,10 @@ reply_text reply.Done = codes "done"
 reply_text (reply.Shown bytes) = flat_map byte_text bytes
 reply_text (reply.Code answer) = answer_text answer
 reply_text (reply.Status answer scsw) = answer_text answer ++ scsw_text scsw
+reply_text (reply.Interruption found) = interruption_text found
+reply_text (reply.PathReset code) = code_text code
+reply_text (reply.ChannelReport report) = report_text report
+reply_text (reply.Paths engaged) = paths_text engaged
 reply_text (reply.Offered number path resumed) = codes "offer " ++ decimal path
 reply_text (reply.ResetSent number path) = codes "reset " ++ decimal path
 reply_text (reply.HaltSent number path) = codes "halt " ++ decimal path

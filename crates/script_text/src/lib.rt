@@ -2,23 +2,29 @@
 //! whether the whole of its text went in, and a sink that fails has a beginning of it.
 #![tactic(auto)]
 
-ghost use Rattle.std.specs.Prelude.{◌≡◌, ◌<◌, ◌++◌, ◌∷◌, decimal};
+ghost use Rattle.std.specs.Prelude.{◌≡◌, ◌<◌, ◌++◌, ◌∷◌, decimal, map};
 ghost use Rattle.std.specs.List.{flat_map};
+ghost use Rattle.zbits.specs.Layout.{word_of};
+ghost use Rattle.scsw_irb.specs.CodeTable.{code_tables};
+ghost use Rattle.chan_model.specs.ConditionCodes as codes_spec;
 ghost use Rattle.script_text.specs.Text as spec;
 ghost use Rattle.streams.specs.Sinks.{Puts};
 
 pub mod held;
 
 use crate::held::Held;
-use chan_events::reply::Reply;
-use chan_model::answer::Answer;
+use chan_events::reply::{PATH_STATUS_BYTES, Reply, report_word};
+use chan_model::answer::{Answer, ConditionCode};
 use chan_model::fault::Fault;
 use chan_model::signal::{Down, Up};
 use itoa::Buffer;
+use scsw_irb::code::IntCode;
+use scsw_irb::crw::Crw;
 use scsw_irb::scsw::Scsw;
 use scsw_irb::serials::Serials;
 use storage_keys::StorageFault;
 use streams::Sink;
+use zbits::flag;
 
 /// What an action that is not refused comes to.
 #[derive(Drop)]
@@ -28,6 +34,9 @@ pub enum ActionResult {
     /// How many statuses a subchannel made, and how many of these are cleared.
     Serials(Serials),
 }
+
+/// How many identifiers of channel paths there are.
+const PATH_IDENTIFIERS: u16 = 256;
 
 fn hex_digit(digit: u8) -> u8
     requires { digit < 16 }
@@ -109,15 +118,124 @@ fn put_scsw<S: Sink>(sink: &mut S, scsw: &Scsw) -> bool
     put_words(sink, &scsw.words())
 }
 
+fn put_code<S: Sink>(sink: &mut S, code: ConditionCode) -> bool
+    ensures { Puts (S.seen sink.old) (spec.code_text code) (S.seen sink.new) result }
+{
+    sink.put(match code {
+        ConditionCode::Zero => b"cc 0",
+        ConditionCode::One => b"cc 1",
+        ConditionCode::Two => b"cc 2",
+        ConditionCode::Three => b"cc 3",
+    })
+}
+
 fn put_answer<S: Sink>(sink: &mut S, answer: Answer) -> bool
     ensures { Puts (S.seen sink.old) (spec.answer_text answer) (S.seen sink.new) result }
 {
-    sink.put(match answer {
-        Answer::Zero(_) => b"cc 0",
-        Answer::One(_) => b"cc 1",
-        Answer::Two => b"cc 2",
-        Answer::Three => b"cc 3",
-    })
+    put_code(sink, answer.code())
+}
+
+fn put_int_code<S: Sink>(sink: &mut S, code: &IntCode) -> bool
+    ensures { Puts (S.seen sink.old) (flat_map spec.word_text (map word_of (code_tables code.now))) (S.seen sink.new) result }
+{
+    put_words(sink, &code.words())
+}
+
+/// The condition code 1, and the code of the request that was taken out.
+fn put_request<S: Sink>(sink: &mut S, code: &IntCode) -> bool
+    ensures { Puts (S.seen sink.old) (spec.request_text code.now) (S.seen sink.new) result }
+{
+    put_code(sink, ConditionCode::One) && put_int_code(sink, code)
+}
+
+/// What TEST PENDING INTERRUPTION answered.
+fn put_interruption<S: Sink>(sink: &mut S, found: &Option<IntCode>) -> bool
+    ensures { Puts (S.seen sink.old) (spec.interruption_text found.now) (S.seen sink.new) result }
+{
+    match found {
+        None => put_code(sink, ConditionCode::Zero),
+        Some(code) => put_request(sink, code),
+    }
+}
+
+fn stcrw_code(report: Option<Crw>) -> ConditionCode
+    ensures { result ≡ codes_spec.stcrw_code report }
+{
+    match report {
+        None => ConditionCode::One,
+        Some(_) => ConditionCode::Zero,
+    }
+}
+
+/// What STORE CHANNEL REPORT WORD answered: its condition code, and the word that it stored.
+#[tactic(auto, using(streams::proofs::Sinking::takes_then, streams::proofs::Sinking::fails_then))]
+fn put_report<S: Sink>(sink: &mut S, report: Option<Crw>) -> bool
+    ensures { Puts (S.seen sink.old) (spec.report_text report) (S.seen sink.new) result }
+{
+    put_code(sink, stcrw_code(report)) && put_word(sink, report_word(report))
+}
+
+fn is_engaged(engaged: &[u8; PATH_STATUS_BYTES], path: u8) -> bool
+    ensures { result ≡ spec.is_engaged engaged.now path }
+{
+    flag(
+        u32::from(engaged[usize::from(path / 8)]),
+        24 + u32::from(path % 8),
+    )
+}
+
+/// A space and the two hexadecimal digits of a byte.
+fn put_spaced_byte<S: Sink>(sink: &mut S, byte: u8) -> bool
+    ensures { Puts (S.seen sink.old) (32 ∷ spec.byte_text byte) (S.seen sink.new) result }
+{
+    let digits = [b' ', hex_digit(byte / 0x10 % 16), hex_digit(byte % 16)];
+    sink.put(&digits)
+}
+
+/// A channel path, where it is engaged.
+fn put_path<S: Sink>(sink: &mut S, engaged: &[u8; PATH_STATUS_BYTES], path: u8) -> bool
+    ensures { Puts (S.seen sink.old) (spec.path_text engaged.now path) (S.seen sink.new) result }
+{
+    if is_engaged(engaged, path) {
+        put_spaced_byte(sink, path)
+    } else {
+        true
+    }
+}
+
+fn put_engaged<S: Sink>(sink: &mut S, engaged: &[u8; PATH_STATUS_BYTES]) -> bool
+    ensures { Puts (S.seen sink.old) (spec.engaged_text engaged.now 256) (S.seen sink.new) result }
+{
+    for path in 0..PATH_IDENTIFIERS {
+        if !put_path(sink, engaged, path as u8) {
+            return false;
+        }
+    }
+    true
+}
+
+/// The engaged channel paths, of which there are some.
+fn put_named_paths<S: Sink>(sink: &mut S, engaged: &[u8; PATH_STATUS_BYTES]) -> bool
+    ensures { Puts (S.seen sink.old) (spec.named_paths_text engaged.now) (S.seen sink.new) result }
+{
+    sink.put(b"paths") && put_engaged(sink, engaged)
+}
+
+fn is_none_engaged(engaged: &[u8; PATH_STATUS_BYTES]) -> bool
+    ensures { result ≡ spec.is_none_engaged engaged.now }
+{
+    engaged.iter().all(|byte| *byte == 0)
+}
+
+/// What STORE CHANNEL PATH STATUS answered: the engaged channel paths.
+fn put_paths<S: Sink>(sink: &mut S, engaged: &[u8; PATH_STATUS_BYTES]) -> bool
+    ensures { Puts (S.seen sink.old) (spec.paths_text engaged.now) (S.seen sink.new) result }
+{
+    if is_none_engaged(engaged) {
+        sink.put(b"paths -")
+    } else {
+        put_named_paths(sink, engaged)
+    }
 }
 
 fn put_down_name<S: Sink>(sink: &mut S, signal: &Down) -> bool
@@ -194,6 +312,10 @@ pub fn put_reply<S: Sink>(sink: &mut S, reply: &Reply) -> bool
         Reply::Shown { bytes } => put_bytes(sink, bytes.as_slice()),
         Reply::Code(answer) => put_answer(sink, *answer),
         Reply::Status { answer, scsw } => put_status(sink, *answer, scsw),
+        Reply::Interruption(found) => put_interruption(sink, found),
+        Reply::PathReset(code) => put_code(sink, *code),
+        Reply::ChannelReport(report) => put_report(sink, *report),
+        Reply::Paths { engaged } => put_paths(sink, engaged),
         Reply::Offered { path, .. } => put_named(sink, b"offer ", path.index() as u64),
         Reply::ResetSent { path, .. } => put_named(sink, b"reset ", path.index() as u64),
         Reply::HaltSent { path, .. } => put_named(sink, b"halt ", path.index() as u64),
