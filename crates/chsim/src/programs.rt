@@ -179,8 +179,8 @@ const DEVICES: [(&[u8], &[u8]); 3] = [
 fn commands_follow_one_another(rt: HostRuntime) {
     for (text, printed, ends) in COMMANDS {
         let (out, status) = served(&rt, "run", text);
-        assert_eq!(rt; out.as_slice(), printed);
-        assert_eq!(rt; status, ends);
+        assert!(rt; out.as_slice() == printed);
+        assert!(rt; status == ends);
     }
 }
 
@@ -188,8 +188,8 @@ fn commands_follow_one_another(rt: HostRuntime) {
 fn indirect_words_name_the_bytes(rt: HostRuntime) {
     for (text, printed, ends) in LISTS {
         let (out, status) = served(&rt, "run", text);
-        assert_eq!(rt; out.as_slice(), printed);
-        assert_eq!(rt; status, ends);
+        assert!(rt; out.as_slice() == printed);
+        assert!(rt; status == ends);
     }
 }
 
@@ -197,8 +197,8 @@ fn indirect_words_name_the_bytes(rt: HostRuntime) {
 fn bytes_are_moved_where_they_belong(rt: HostRuntime) {
     for (text, printed, ends) in BYTES {
         let (out, status) = served(&rt, "run", text);
-        assert_eq!(rt; out.as_slice(), printed);
-        assert_eq!(rt; status, ends);
+        assert!(rt; out.as_slice() == printed);
+        assert!(rt; status == ends);
     }
 }
 
@@ -206,8 +206,8 @@ fn bytes_are_moved_where_they_belong(rt: HostRuntime) {
 fn a_command_may_end_at_once(rt: HostRuntime) {
     for (text, printed, ends) in IMMEDIATE {
         let (out, status) = served(&rt, "run", text);
-        assert_eq!(rt; out.as_slice(), printed);
-        assert_eq!(rt; status, ends);
+        assert!(rt; out.as_slice() == printed);
+        assert!(rt; status == ends);
     }
 }
 
@@ -215,7 +215,7 @@ fn a_command_may_end_at_once(rt: HostRuntime) {
 fn each_kind_of_unit_answers(rt: HostRuntime) {
     for (text, printed) in DEVICES {
         let (out, status) = served(&rt, "run", text);
-        assert_eq!(rt; out.as_slice(), printed);
-        assert_eq!(rt; status, 0);
+        assert!(rt; out.as_slice() == printed);
+        assert!(rt; status == 0);
     }
 }

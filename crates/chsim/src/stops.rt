@@ -67,8 +67,8 @@ fn served_after(rt: &HostRuntime, lines: &[u8]) -> (Vec<u8>, u8) {
 fn a_clear_sends_a_reset(rt: HostRuntime) {
     for (lines, printed) in CLEARED {
         let (out, status) = served_after(&rt, lines);
-        assert_eq!(rt; out.as_slice(), joined(&rt, ENABLING, printed).as_slice());
-        assert_eq!(rt; status, 0);
+        assert!(rt; out.as_slice() == joined(&rt, ENABLING, printed).as_slice());
+        assert!(rt; status == 0);
     }
 }
 
@@ -76,8 +76,8 @@ fn a_clear_sends_a_reset(rt: HostRuntime) {
 fn a_halt_ends_what_is_there(rt: HostRuntime) {
     for (lines, printed) in HALTED {
         let (out, status) = served_after(&rt, lines);
-        assert_eq!(rt; out.as_slice(), joined(&rt, ENABLING, printed).as_slice());
-        assert_eq!(rt; status, 0);
+        assert!(rt; out.as_slice() == joined(&rt, ENABLING, printed).as_slice());
+        assert!(rt; status == 0);
     }
 }
 
@@ -85,8 +85,8 @@ fn a_halt_ends_what_is_there(rt: HostRuntime) {
 fn a_cancelled_offer_is_let_go(rt: HostRuntime) {
     for (lines, printed) in CANCELLED {
         let (out, status) = served_after(&rt, lines);
-        assert_eq!(rt; out.as_slice(), joined(&rt, ENABLING, printed).as_slice());
-        assert_eq!(rt; status, 0);
+        assert!(rt; out.as_slice() == joined(&rt, ENABLING, printed).as_slice());
+        assert!(rt; status == 0);
     }
 }
 
@@ -94,8 +94,8 @@ fn a_cancelled_offer_is_let_go(rt: HostRuntime) {
 fn a_suspended_program_is_resumed(rt: HostRuntime) {
     for (lines, printed) in SUSPENDED {
         let (out, status) = served_after(&rt, lines);
-        assert_eq!(rt; out.as_slice(), joined(&rt, ENABLING, printed).as_slice());
-        assert_eq!(rt; status, 0);
+        assert!(rt; out.as_slice() == joined(&rt, ENABLING, printed).as_slice());
+        assert!(rt; status == 0);
     }
 }
 
@@ -103,8 +103,8 @@ fn a_suspended_program_is_resumed(rt: HostRuntime) {
 fn a_block_interrupts_as_it_takes_control(rt: HostRuntime) {
     for (lines, printed) in INTERRUPTED {
         let (out, status) = served_after(&rt, lines);
-        assert_eq!(rt; out.as_slice(), joined(&rt, ENABLING, printed).as_slice());
-        assert_eq!(rt; status, 0);
+        assert!(rt; out.as_slice() == joined(&rt, ENABLING, printed).as_slice());
+        assert!(rt; status == 0);
     }
 }
 
@@ -133,7 +133,7 @@ fn a_program_without_end_is_cleared(rt: HostRuntime) {
     let printed: &[u8] =
         b"66014 took end\n66015 took command\n66016 cc 0\n66017 reset 0\n66018 took reset\n66019 took cleared\n66020 cc 0 00001001 00000000 00000000\n";
     assert!(rt; out.as_slice().ends_with(printed));
-    assert_eq!(rt; status, 0);
+    assert!(rt; status == 0);
 }
 
 #[test]
@@ -144,5 +144,5 @@ fn an_end_that_waits_is_ignored_after_a_clear(rt: HostRuntime) {
     let printed: &[u8] =
         b"30 took command\n31 done\n32 cc 0\n33 reset 0\n34 took reset\n35 ignored end\n36 took cleared\n37 cc 0 00001001 00000000 00000000\n";
     assert!(rt; out.as_slice().ends_with(printed));
-    assert_eq!(rt; status, 0);
+    assert!(rt; status == 0);
 }

@@ -90,13 +90,13 @@ pub fn served(rt: &HostRuntime, word: &str, text: &[u8]) -> (Vec<u8>, u8) {
 #[test]
 fn a_write_runs_from_start_to_test(rt: HostRuntime) {
     let (out, status) = served(&rt, "run", WRITE);
-    assert_eq!(rt; out.as_slice(), WRITTEN);
-    assert_eq!(rt; status, 0);
+    assert!(rt; out.as_slice() == WRITTEN);
+    assert!(rt; status == 0);
     let text = joined(&rt, WRITE, b"tsch 0 600\n");
     let printed = joined(&rt, WRITTEN, b"23 cc 1 00800000 00001008 0C000000\n");
     let (out, status) = served(&rt, "run", text.as_slice());
-    assert_eq!(rt; out.as_slice(), printed.as_slice());
-    assert_eq!(rt; status, 0);
+    assert!(rt; out.as_slice() == printed.as_slice());
+    assert!(rt; status == 0);
 }
 
 #[test]
@@ -104,8 +104,8 @@ fn a_status_is_cleared_once(rt: HostRuntime) {
     let text = joined(&rt, WRITE, TESTED_AGAIN);
     let printed = joined(&rt, WRITTEN, NOTHING_CLEARED);
     let (out, status) = served(&rt, "run", text.as_slice());
-    assert_eq!(rt; out.as_slice(), printed.as_slice());
-    assert_eq!(rt; status, 1);
+    assert!(rt; out.as_slice() == printed.as_slice());
+    assert!(rt; status == 1);
 }
 
 #[test]
@@ -114,8 +114,8 @@ fn instructions_answer_their_codes(rt: HostRuntime) {
         let text = joined(&rt, ENABLED, lines);
         let wanted = joined(&rt, ENABLING, printed);
         let (out, status) = served(&rt, "run", text.as_slice());
-        assert_eq!(rt; out.as_slice(), wanted.as_slice());
-        assert_eq!(rt; status, ends);
+        assert!(rt; out.as_slice() == wanted.as_slice());
+        assert!(rt; status == ends);
     }
 }
 
@@ -124,7 +124,7 @@ fn storage_refuses_what_it_must(rt: HostRuntime) {
     for (lines, printed) in REFUSED {
         let text = joined(&rt, SET_UP, lines);
         let (out, _) = served(&rt, "run", text.as_slice());
-        assert_eq!(rt; out.as_slice(), printed);
+        assert!(rt; out.as_slice() == printed);
     }
 }
 
@@ -138,8 +138,8 @@ fn a_bad_line_is_told_alone(rt: HostRuntime) {
     for (text, printed) in rows {
         for word in ["run", "check"] {
             let (out, status) = served(&rt, word, text);
-            assert_eq!(rt; out.as_slice(), printed);
-            assert_eq!(rt; status, 2);
+            assert!(rt; out.as_slice() == printed);
+            assert!(rt; status == 2);
         }
     }
 }
@@ -147,16 +147,16 @@ fn a_bad_line_is_told_alone(rt: HostRuntime) {
 #[test]
 fn a_good_script_is_approved(rt: HostRuntime) {
     let (out, status) = served(&rt, "check", WRITE);
-    assert_eq!(rt; out.as_slice(), b"script ok\n".as_slice());
-    assert_eq!(rt; status, 0);
+    assert!(rt; out.as_slice() == b"script ok\n".as_slice());
+    assert!(rt; status == 0);
 }
 
 #[test]
 fn a_device_without_work_is_refused(rt: HostRuntime) {
     let text = joined(&rt, SET_UP, b"dev 0\ndev 1\n");
     let (out, status) = served(&rt, "run", text.as_slice());
-    assert_eq!(rt; out.as_slice(), b"5 refused 7\n6 refused 6\n".as_slice());
-    assert_eq!(rt; status, 1);
+    assert!(rt; out.as_slice() == b"5 refused 7\n6 refused 6\n".as_slice());
+    assert!(rt; status == 1);
 }
 
 #[test]
@@ -172,11 +172,11 @@ fn a_text_that_is_not_read_is_not_served(rt: HostRuntime) {
         let status = serve(rt.alloc(), &["chsim", "run"], &mut reader, &mut sink);
         let out = sink.writer;
         if fails_at == 0 || fails_at > reader.reader.calls {
-            assert_eq!(rt; out.as_slice(), WRITTEN);
-            assert_eq!(rt; status, 0);
+            assert!(rt; out.as_slice() == WRITTEN);
+            assert!(rt; status == 0);
         } else {
-            assert_eq!(rt; out.len(), 0);
-            assert_eq!(rt; status, 2);
+            assert!(rt; out.len() == 0);
+            assert!(rt; status == 2);
         }
     }
 }
@@ -195,11 +195,11 @@ fn nothing_is_performed_after_a_write_fails(rt: HostRuntime) {
         let out = sink.writer;
         assert!(rt; WRITTEN.starts_with(out.text.as_slice()));
         if fails_at == 0 || fails_at > out.calls {
-            assert_eq!(rt; out.text.as_slice(), WRITTEN);
-            assert_eq!(rt; status, 0);
+            assert!(rt; out.text.as_slice() == WRITTEN);
+            assert!(rt; status == 0);
         } else {
-            assert_eq!(rt; out.calls, fails_at);
-            assert_eq!(rt; status, 1);
+            assert!(rt; out.calls == fails_at);
+            assert!(rt; status == 1);
         }
     }
 }
@@ -222,13 +222,13 @@ fn each_request_before_the_first_event_is_refused_in_turn(rt: HostRuntime) {
     for left in 0..1_000u64 {
         let (out, ending, refused) = served_with(&rt, left);
         if refused {
-            assert_eq!(rt; ending, Ending::NoMemory { whole: true });
-            assert_eq!(rt; out.as_slice(), b"refused 1\n".as_slice());
-            assert_eq!(rt; refusals, left);
+            assert!(rt; ending == Ending::NoMemory { whole: true });
+            assert!(rt; out.as_slice() == b"refused 1\n".as_slice());
+            assert!(rt; refusals == left);
             refusals = left + 1;
         } else {
-            assert_eq!(rt; ending, Ending::Done { refused: false });
-            assert_eq!(rt; out.as_slice(), WRITTEN);
+            assert!(rt; ending == Ending::Done { refused: false });
+            assert!(rt; out.as_slice() == WRITTEN);
         }
     }
     // The text, its 22 lines, and the nine requests of the machine and its device at least.
@@ -248,7 +248,7 @@ fn other_words_show_a_text(rt: HostRuntime) {
         let status = serve(rt.alloc(), words, &mut reader, &mut sink);
         let out = sink.writer;
         assert!(rt; out.as_slice().starts_with(begins.as_bytes()), "{begins}");
-        assert_eq!(rt; status, 2);
-        assert_eq!(rt; reader.reader.len(), WRITE.len());
+        assert!(rt; status == 2);
+        assert!(rt; reader.reader.len() == WRITE.len());
     }
 }

@@ -28,21 +28,18 @@ fn one_unit_of_a_group_is_served(rt: HostRuntime) {
         assert!(rt; false);
         return;
     };
-    assert_eq!(rt; served(&mut sharing), [true; 6]);
+    assert!(rt; served(&mut sharing) == [true; 6]);
     sharing.begin(2);
-    assert_eq!(rt; served(&mut sharing), [false, true, true, true, true, true]);
+    assert!(rt; served(&mut sharing) == [false, true, true, true, true, true]);
     sharing.begin(3);
     sharing.begin(4);
-    assert_eq!(rt;
-        served(&mut sharing),
-        [false, false, true, true, true, true]
-    );
+    assert!(rt; served(&mut sharing) == [false, false, true, true, true, true]);
     assert!(rt; sharing.over(3));
     assert!(rt; !sharing.over(3));
     assert!(rt; !sharing.over(4));
     assert!(rt; !sharing.over(5));
     assert!(rt; sharing.over(2));
-    assert_eq!(rt; served(&mut sharing), [true; 6]);
+    assert!(rt; served(&mut sharing) == [true; 6]);
 }
 
 #[test]
@@ -53,11 +50,11 @@ fn each_request_for_room_is_refused_in_turn(rt: HostRuntime) {
             refused: false,
         };
         let made = Sharing::new_with(rt.alloc(), &mut supply, &GROUPS);
-        assert_eq!(rt; made.is_err(), left < 5);
-        assert_eq!(rt; supply.refused, left < 5);
+        assert!(rt; made.is_err() == (left < 5));
+        assert!(rt; supply.refused == (left < 5));
         let mut supply = Given { refused: false };
         match Sharing::new_with(rt.alloc(), &mut supply, &GROUPS) {
-            Ok(mut sharing) => assert_eq!(rt; served(&mut sharing), [true; 6]),
+            Ok(mut sharing) => assert!(rt; served(&mut sharing) == [true; 6]),
             Err(_) => assert!(rt; false, "the allocator has room"),
         }
         assert!(rt; !supply.refused);

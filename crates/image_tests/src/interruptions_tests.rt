@@ -37,17 +37,17 @@ fn the_oldest_request_of_the_lowest_enabled_subclass_is_answered(
     rt: HostRuntime,
 ) -> Result<(), AllocError> {
     let mut pending = Pending::new(rt.alloc(), 5)?;
-    assert_eq!(rt; answered(&mut pending, 0xFF), None);
+    assert!(rt; answered(&mut pending, 0xFF) == None);
     for (number, subclass) in [(4, 7), (2, 3), (0, 3), (1, 3), (3, 0)] {
         post(&mut pending, number, subclass);
     }
-    assert_eq!(rt; answered(&mut pending, 0x7F), Some(2));
-    assert_eq!(rt; answered(&mut pending, 0x6E), None);
-    assert_eq!(rt; answered(&mut pending, 0xFF), Some(3));
-    assert_eq!(rt; answered(&mut pending, 0xFF), Some(0));
-    assert_eq!(rt; answered(&mut pending, 0x01), Some(4));
-    assert_eq!(rt; answered(&mut pending, 0x10), Some(1));
-    assert_eq!(rt; answered(&mut pending, 0xFF), None);
+    assert!(rt; answered(&mut pending, 0x7F) == Some(2));
+    assert!(rt; answered(&mut pending, 0x6E) == None);
+    assert!(rt; answered(&mut pending, 0xFF) == Some(3));
+    assert!(rt; answered(&mut pending, 0xFF) == Some(0));
+    assert!(rt; answered(&mut pending, 0x01) == Some(4));
+    assert!(rt; answered(&mut pending, 0x10) == Some(1));
+    assert!(rt; answered(&mut pending, 0xFF) == None);
     Ok(())
 }
 
@@ -57,16 +57,16 @@ fn a_subchannel_has_one_request(rt: HostRuntime) -> Result<(), AllocError> {
     post(&mut pending, 1, 7);
     post(&mut pending, 0, 7);
     post(&mut pending, 1, 0);
-    assert_eq!(rt; answered(&mut pending, 0x80), None);
+    assert!(rt; answered(&mut pending, 0x80) == None);
     pending.drop_request(1, 1);
     pending.drop_request(0, 0);
     let words = pending.tpi(0x01).map(|code| code.words());
-    assert_eq!(rt; words, Some([0x0001_0001, 0x101, 0x3800_0000]));
+    assert!(rt; words == Some([0x0001_0001, 0x101, 0x3800_0000]));
     post(&mut pending, 0, 2);
     post(&mut pending, 1, 2);
     pending.drop_all();
-    assert_eq!(rt; answered(&mut pending, 0xFF), None);
-    assert_eq!(rt; pending.numbers(), 2);
+    assert!(rt; answered(&mut pending, 0xFF) == None);
+    assert!(rt; pending.numbers() == 2);
     Ok(())
 }
 
@@ -78,13 +78,13 @@ fn the_one_request_for_room_is_refused(rt: HostRuntime) -> Result<(), AllocError
             refused: false,
         };
         let made = Pending::new_with(rt.alloc(), &mut supply, 2);
-        assert_eq!(rt; made.is_err(), left == 0);
-        assert_eq!(rt; supply.refused, left == 0);
+        assert!(rt; made.is_err() == (left == 0));
+        assert!(rt; supply.refused == (left == 0));
         let mut supply = Given { refused: false };
         let mut pending = Pending::new_with(rt.alloc(), &mut supply, 2)?;
         assert!(rt; !supply.refused);
         post(&mut pending, 1, 7);
-        assert_eq!(rt; answered(&mut pending, 0x01), Some(1));
+        assert!(rt; answered(&mut pending, 0x01) == Some(1));
     }
     Ok(())
 }
@@ -96,7 +96,7 @@ fn room_for_no_subchannel_is_not_asked_for(rt: HostRuntime) -> Result<(), AllocE
         refused: false,
     };
     let pending = Pending::new_with(rt.alloc(), &mut supply, 0)?;
-    assert_eq!(rt; pending.numbers(), 0);
+    assert!(rt; pending.numbers() == 0);
     assert!(rt; !supply.refused);
     Ok(())
 }

@@ -40,10 +40,10 @@ fn a_block_is_read_and_written(rt: HostRuntime) {
     match Schib::read(&IMAGE) {
         None => assert!(rt; false, "the image is allowed"),
         Some(schib) => {
-            assert_eq!(rt; schib.pmcw, word());
+            assert!(rt; schib.pmcw == word());
             let words: [u32; 3] = [0x0080_4400, 0x0000_1000, 0];
-            assert_eq!(rt; Some(schib.scsw), Scsw::of_words(&words));
-            assert_eq!(rt; schib.write(), IMAGE);
+            assert!(rt; Some(schib.scsw) == Scsw::of_words(&words));
+            assert!(rt; schib.write() == IMAGE);
         }
     }
 }
@@ -54,11 +54,11 @@ fn reserved_bits_are_ignored(rt: HostRuntime) {
     image[4] = 0xC7;
     image[27] = 0xFE;
     image[51] = 1;
-    assert_eq!(rt; Pmcw::of_schib(&image), word());
+    assert!(rt; Pmcw::of_schib(&image) == word());
     assert!(rt; Schib::read(&image) == Schib::read(&IMAGE));
     image[28] = 4;
-    assert_eq!(rt; Pmcw::of_schib(&image), word());
-    assert_eq!(rt; Schib::read(&image), None);
+    assert!(rt; Pmcw::of_schib(&image) == word());
+    assert!(rt; Schib::read(&image) == None);
 }
 
 #[test]
@@ -67,15 +67,15 @@ fn a_word_is_modified(rt: HostRuntime) {
     let mut image = IMAGE;
     image[5] = 0xA1;
     let refused = pmcw.modify(&Pmcw::of_schib(&image));
-    assert_eq!(rt; refused, Err(Operand));
-    assert_eq!(rt; pmcw, word());
+    assert!(rt; refused == Err(Operand));
+    assert!(rt; pmcw == word());
     image[4] = 0x38;
     image[5] = 0x81;
     image[6] = 0xFF;
     image[15] = 0;
     let taken = pmcw.modify(&Pmcw::of_schib(&image));
-    assert_eq!(rt; taken, Ok(()));
+    assert!(rt; taken == Ok(()));
     let mut wanted = word();
     wanted.subclass = 7;
-    assert_eq!(rt; pmcw, wanted);
+    assert!(rt; pmcw == wanted);
 }

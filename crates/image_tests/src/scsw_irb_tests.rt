@@ -49,11 +49,11 @@ fn an_ended_program_is_shown(rt: HostRuntime) {
     ];
     for (place, byte) in front.iter().enumerate() {
         if place < 64 {
-            assert_eq!(rt; image[place], *byte, "byte {place}");
+            assert!(rt; image[place] == *byte, "byte {place}");
         }
     }
     for byte in &image[16..] {
-        assert_eq!(rt; *byte, 0);
+        assert!(rt; *byte == 0);
     }
 }
 
@@ -69,11 +69,11 @@ fn reports_of_a_path(rt: HostRuntime) {
             overflow: false,
             path: 0xC1,
         };
-        assert_eq!(rt; crw.word(), word);
-        assert_eq!(rt; Crw::of_word(word), Some(crw));
+        assert!(rt; crw.word() == word);
+        assert!(rt; Crw::of_word(word) == Some(crw));
     }
     for word in [0, 0x0402_00C1, 0x0406_01C1, 0x0906_00C1] {
-        assert_eq!(rt; Crw::of_word(word), None);
+        assert!(rt; Crw::of_word(word) == None);
     }
 }
 
@@ -83,12 +83,12 @@ fn a_block_is_read_back(rt: HostRuntime) {
         scsw: ended(),
         last_path_used: 0x40,
     };
-    assert_eq!(rt; Irb::read(&irb.write()), Some(irb));
+    assert!(rt; Irb::read(&irb.write()) == Some(irb));
     let mut image = irb.write();
     image[63] = 1;
-    assert_eq!(rt; Irb::read(&image), None);
-    assert_eq!(rt; Scsw::of_words(&[0x0400_0000, 0, 0]), None);
-    assert_eq!(rt; Scsw::of_words(&[0, 0, 0]), Some(Scsw::zero()));
+    assert!(rt; Irb::read(&image) == None);
+    assert!(rt; Scsw::of_words(&[0x0400_0000, 0, 0]) == None);
+    assert!(rt; Scsw::of_words(&[0, 0, 0]) == Some(Scsw::zero()));
 }
 
 #[test]
@@ -100,37 +100,34 @@ fn an_interruption_code_names_its_subchannel(rt: HostRuntime) {
         subclass: 7,
     };
     let words = [0x0003_0002, 0x1234_5678, 0x3800_0000];
-    assert_eq!(rt; code.words(), words);
-    assert_eq!(rt; IntCode::of_words(&words), Some(code));
-    assert_eq!(rt; IntCode::of_words(&[0x0002_0002, 0, 0]), None);
+    assert!(rt; code.words() == words);
+    assert!(rt; IntCode::of_words(&words) == Some(code));
+    assert!(rt; IntCode::of_words(&[0x0002_0002, 0, 0]) == None);
 }
 
 #[test]
 fn statuses_are_sets(rt: HostRuntime) {
     let check = DeviceStatus::end().joined(DeviceStatus::UNIT_CHECK);
-    assert_eq!(rt; check.bits(), 0x0E);
-    assert_eq!(rt; check, DeviceStatus::of_bits(0x0E));
+    assert!(rt; check.bits() == 0x0E);
+    assert!(rt; check == DeviceStatus::of_bits(0x0E));
     assert!(rt; check.has_check() && check.has_channel_end() && check.has_device_end());
     assert!(rt;
         !check.has_unit_exception() && !check.has_modifier() && !check.is_channel_end_alone()
     );
     assert!(rt; check.contains(DeviceStatus::end()) && check.contains(DeviceStatus::empty()));
     let faults = SubchannelStatus::INCORRECT_LENGTH.joined(SubchannelStatus::of_bits(0x20));
-    assert_eq!(rt; faults.bits(), 0x60);
+    assert!(rt; faults.bits() == 0x60);
     assert!(rt; faults.contains(SubchannelStatus::PROGRAM_CHECK));
     assert!(rt; !faults.contains(SubchannelStatus::PROTECTION_CHECK));
-    assert_eq!(rt; SubchannelStatus::empty().bits(), 0);
+    assert!(rt; SubchannelStatus::empty().bits() == 0);
 }
 
 #[test]
 fn groups_are_read_of_word_0(rt: HostRuntime) {
-    assert_eq!(rt; FunctionControl::of_word(0x0000_6007), ended().functions);
-    assert_eq!(rt;
-        ActivityControl::of_word(0x0000_6007),
-        ActivityControl::none()
-    );
-    assert_eq!(rt; StatusControl::of_word(0x0000_6007), ended().status);
-    assert_eq!(rt; FunctionControl::of_word(0), FunctionControl::none());
-    assert_eq!(rt; StatusControl::of_word(0), StatusControl::none());
-    assert_eq!(rt; DeferredCode::of_number(3).number(), 3);
+    assert!(rt; FunctionControl::of_word(0x0000_6007) == ended().functions);
+    assert!(rt; ActivityControl::of_word(0x0000_6007) == ActivityControl::none());
+    assert!(rt; StatusControl::of_word(0x0000_6007) == ended().status);
+    assert!(rt; FunctionControl::of_word(0) == FunctionControl::none());
+    assert!(rt; StatusControl::of_word(0) == StatusControl::none());
+    assert!(rt; DeferredCode::of_number(3).number() == 3);
 }

@@ -37,8 +37,8 @@ fn each_request_for_room_is_refused_in_turn(rt: HostRuntime) {
             left,
             refused: false,
         };
-        assert_eq!(rt; is_made(rt.alloc(), &mut supply), left >= 2, "{left}");
-        assert_eq!(rt; supply.refused, left < 2, "{left}");
+        assert!(rt; is_made(rt.alloc(), &mut supply) == (left >= 2), "{left}");
+        assert!(rt; supply.refused == (left < 2), "{left}");
         let mut supply = Given { refused: false };
         assert!(rt; is_made(rt.alloc(), &mut supply), "{left}");
         assert!(rt; !supply.refused, "{left}");
@@ -48,10 +48,10 @@ fn each_request_for_room_is_refused_in_turn(rt: HostRuntime) {
 #[test]
 fn a_key_is_read_from_its_byte(rt: HostRuntime) {
     let key = Key::of_byte(0x3D);
-    assert_eq!(rt; key.access, 3);
+    assert!(rt; key.access == 3);
     assert!(rt; key.fetch_protected && key.referenced && !key.changed);
-    assert_eq!(rt; key.byte(), 0x3C);
-    assert_eq!(rt; Key::of_byte(0xF2).byte(), 0xF2);
+    assert!(rt; key.byte() == 0x3C);
+    assert!(rt; Key::of_byte(0xF2).byte() == 0xF2);
 }
 
 #[test]
@@ -64,8 +64,8 @@ fn a_key_permits_what_matches(rt: HostRuntime) {
     ];
     for (byte, access, store, fetch) in cases {
         let key = Key::of_byte(byte);
-        assert_eq!(rt; key.permits_store(access), store, "{byte}");
-        assert_eq!(rt; key.permits_fetch(access), fetch, "{byte}");
+        assert!(rt; key.permits_store(access) == store, "{byte}");
+        assert!(rt; key.permits_fetch(access) == fetch, "{byte}");
     }
 }
 
@@ -74,14 +74,14 @@ fn bytes_are_stored_and_fetched(rt: HostRuntime) {
     let Ok(mut storage) = Storage::new(rt.alloc(), 16) else {
         return assert!(rt; false, "no memory");
     };
-    assert_eq!(rt; storage.size(), 0x1_0000);
+    assert!(rt; storage.size() == 0x1_0000);
     assert!(rt; holds(&storage, 0, 0xFFFC, &[0; 4]));
-    assert_eq!(rt; storage.store(0, 0x1FFF, &[1, 2]), Ok(()));
-    assert_eq!(rt; storage.put(0x2001, &[3]), Ok(()));
+    assert!(rt; storage.store(0, 0x1FFF, &[1, 2]) == Ok(()));
+    assert!(rt; storage.put(0x2001, &[3]) == Ok(()));
     assert!(rt; holds(&storage, 0, 0x1FFE, &[0, 1, 2, 3, 0]));
-    assert_eq!(rt; storage.fetch(0, 0xFFFF, 2).err(), Some(ADDRESSING));
+    assert!(rt; storage.fetch(0, 0xFFFF, 2).err() == Some(ADDRESSING));
     assert!(rt; holds(&storage, 0, 0xFFFF_FFFF, &[]));
-    assert_eq!(rt; storage.put(0x1_0000, &[9]), Err(ADDRESSING));
+    assert!(rt; storage.put(0x1_0000, &[9]) == Err(ADDRESSING));
 }
 
 #[test]
@@ -89,18 +89,18 @@ fn a_block_is_guarded_by_its_key(rt: HostRuntime) {
     let Ok(mut storage) = Storage::new(rt.alloc(), 16) else {
         return assert!(rt; false, "no memory");
     };
-    assert_eq!(rt; storage.set_key(0x2FFF, Key::of_byte(0x18)), Ok(()));
-    assert_eq!(rt; storage.key_at(0x2000), Ok(Key::of_byte(0x18)));
-    assert_eq!(rt; storage.key_at(0x3000), Ok(Key::ZERO));
-    assert_eq!(rt; storage.store(2, 0x1FFF, &[7, 7]), Err(PROTECTION));
-    assert_eq!(rt; storage.check_store(1, 0x2000, 0x1000), Ok(()));
-    assert_eq!(rt; storage.fetch(2, 0x2FFF, 2).err(), Some(PROTECTION));
-    assert_eq!(rt; storage.store(1, 0x2FFF, &[7]), Ok(()));
+    assert!(rt; storage.set_key(0x2FFF, Key::of_byte(0x18)) == Ok(()));
+    assert!(rt; storage.key_at(0x2000) == Ok(Key::of_byte(0x18)));
+    assert!(rt; storage.key_at(0x3000) == Ok(Key::ZERO));
+    assert!(rt; storage.store(2, 0x1FFF, &[7, 7]) == Err(PROTECTION));
+    assert!(rt; storage.check_store(1, 0x2000, 0x1000) == Ok(()));
+    assert!(rt; storage.fetch(2, 0x2FFF, 2).err() == Some(PROTECTION));
+    assert!(rt; storage.store(1, 0x2FFF, &[7]) == Ok(()));
     assert!(rt; holds(&storage, 1, 0x1FFF, &[0; 2]));
-    assert_eq!(rt; storage.show(0x2FFE, 2), Ok([0, 7].as_slice()));
-    assert_eq!(rt; storage.show(0xFFFF, 2).err(), Some(ADDRESSING));
-    assert_eq!(rt; storage.set_key(0x1_0000, Key::ZERO), Err(ADDRESSING));
-    assert_eq!(rt; storage.key_at(0x1_0000), Err(ADDRESSING));
+    assert!(rt; storage.show(0x2FFE, 2) == Ok([0, 7].as_slice()));
+    assert!(rt; storage.show(0xFFFF, 2).err() == Some(ADDRESSING));
+    assert!(rt; storage.set_key(0x1_0000, Key::ZERO) == Err(ADDRESSING));
+    assert!(rt; storage.key_at(0x1_0000) == Err(ADDRESSING));
 }
 
 #[test]
@@ -108,9 +108,9 @@ fn real_addresses_are_prefixed(rt: HostRuntime) {
     let Ok(mut storage) = Storage::new(rt.alloc(), 16) else {
         return assert!(rt; false, "no memory");
     };
-    assert_eq!(rt; storage.set_prefix(1, 0x1000), Err(SPECIFICATION));
-    assert_eq!(rt; storage.set_prefix(1, 0x1_0000), Err(ADDRESSING));
-    assert_eq!(rt; storage.set_prefix(1, 0x4000), Ok(()));
+    assert!(rt; storage.set_prefix(1, 0x1000) == Err(SPECIFICATION));
+    assert!(rt; storage.set_prefix(1, 0x1_0000) == Err(ADDRESSING));
+    assert!(rt; storage.set_prefix(1, 0x4000) == Ok(()));
     for (real, absolute) in [
         (0, 0x4000),
         (0x1FFF, 0x5FFF),
@@ -118,8 +118,8 @@ fn real_addresses_are_prefixed(rt: HostRuntime) {
         (0x5FFF, 0x1FFF),
         (0x6000, 0x6000),
     ] {
-        assert_eq!(rt; storage.absolute(1, real), absolute, "{real}");
-        assert_eq!(rt; storage.absolute(0, real), real, "{real}");
+        assert!(rt; storage.absolute(1, real) == absolute, "{real}");
+        assert!(rt; storage.absolute(0, real) == real, "{real}");
     }
 }
 
@@ -128,17 +128,14 @@ fn an_operand_is_taken_byte_by_byte(rt: HostRuntime) {
     let Ok(mut storage) = Storage::new(rt.alloc(), 16) else {
         return assert!(rt; false, "no memory");
     };
-    assert_eq!(rt; storage.set_prefix(1, 0x4000), Ok(()));
+    assert!(rt; storage.set_prefix(1, 0x4000) == Ok(()));
     if storage.check_operand(1, 0x1FFE, 4, 2).is_ok() {
         storage.store_operand(1, 0x1FFE, &[1, 2, 3, 4]);
     }
     assert!(rt; holds(&storage, 0, 0x5FFE, &[1, 2, 0]));
     assert!(rt; holds(&storage, 0, 0x1FFE, &[0, 0, 3, 4]));
-    assert_eq!(rt; storage.operand::<4>(1, 0x1FFE, 2), Ok([1, 2, 3, 4]));
-    assert_eq!(rt; storage.operand::<4>(1, 0x1FFE, 4), Err(SPECIFICATION));
-    assert_eq!(rt; storage.operand::<4>(1, 0xFFFE, 2), Err(ADDRESSING));
-    assert_eq!(rt;
-        storage.check_operand(1, 0xFFFF_FFFC, 8, 4),
-        Err(ADDRESSING)
-    );
+    assert!(rt; storage.operand::<4>(1, 0x1FFE, 2) == Ok([1, 2, 3, 4]));
+    assert!(rt; storage.operand::<4>(1, 0x1FFE, 4) == Err(SPECIFICATION));
+    assert!(rt; storage.operand::<4>(1, 0xFFFE, 2) == Err(ADDRESSING));
+    assert!(rt; storage.check_operand(1, 0xFFFF_FFFC, 8, 4) == Err(ADDRESSING));
 }

@@ -66,7 +66,7 @@ impl Write for Short {
 #[test]
 fn all_is_read(rt: HostRuntime) {
     let mut memory = TEXT;
-    assert_eq!(rt; read_all(rt.alloc(), &mut memory).is_ok(), true);
+    assert!(rt; read_all(rt.alloc(), &mut memory).is_ok() == true);
     for (fails_at, whole) in [(0, true), (2, false), (4, false), (6, true)] {
         let mut reader = Slow {
             rest: TEXT,
@@ -85,7 +85,7 @@ fn all_is_read(rt: HostRuntime) {
 #[test]
 fn all_is_written(rt: HostRuntime) {
     let mut memory = Vec::new(rt.alloc());
-    assert_eq!(rt; put_all(&mut memory, TEXT), 19);
+    assert!(rt; put_all(&mut memory, TEXT) == 19);
     for (most, fails_at, taken) in [(10, 0, 19), (10, 3, 10), (10, 2, 0), (0, 0, 0)] {
         let mut writer = Short {
             text: Vec::new(rt.alloc()),
@@ -94,8 +94,8 @@ fn all_is_written(rt: HostRuntime) {
             interrupted_at: 1,
             fails_at,
         };
-        assert_eq!(rt; put_all(&mut writer, TEXT), taken);
-        assert_eq!(rt; writer.text.as_slice(), &TEXT[..taken]);
+        assert!(rt; put_all(&mut writer, TEXT) == taken);
+        assert!(rt; writer.text.as_slice() == &TEXT[..taken]);
     }
 }
 
@@ -117,7 +117,7 @@ fn each_growth_is_refused_in_turn(rt: HostRuntime) {
             Ok(text) => assert!(rt; left >= 2 && text.as_slice() == TEXT),
             Err(why) => assert!(rt; left < 2 && why == NoText::OutOfMemory),
         }
-        assert_eq!(rt; supply.refused, left < 2);
+        assert!(rt; supply.refused == (left < 2));
         let mut supply = Given { refused: false };
         let mut memory = TEXT;
         assert!(rt; read_all_with(rt.alloc(), &mut supply, &mut memory).is_ok());
@@ -138,7 +138,7 @@ fn a_source_shows_that_it_failed(rt: HostRuntime) {
             Ok(text) => assert!(rt; !broken && text.as_slice() == TEXT),
             Err(why) => assert!(rt; broken && why == NoText::ReadFailed),
         }
-        assert_eq!(rt; source.broken, broken);
+        assert!(rt; source.broken == broken);
     }
 }
 
@@ -152,11 +152,11 @@ fn a_sink_shows_that_it_failed(rt: HostRuntime) {
             interrupted_at: 1,
             fails_at,
         });
-        assert_eq!(rt; sink.put(TEXT), taken == 19);
-        assert_eq!(rt; sink.failed, taken < 19);
-        assert_eq!(rt; sink.writer.text.as_slice(), &TEXT[..taken]);
+        assert!(rt; sink.put(TEXT) == (taken == 19));
+        assert!(rt; sink.failed == (taken < 19));
+        assert!(rt; sink.writer.text.as_slice() == &TEXT[..taken]);
     }
     let mut sink = Watched::new(Vec::new(rt.alloc()));
     assert!(rt; put_both(&mut sink, b"storage ", b"10\n"));
-    assert_eq!(rt; sink.writer.as_slice(), b"storage 10\n".as_slice());
+    assert!(rt; sink.writer.as_slice() == b"storage 10\n".as_slice());
 }

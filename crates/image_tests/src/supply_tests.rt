@@ -19,11 +19,11 @@ fn each_request_is_refused_in_turn(rt: HostRuntime) {
             left,
             refused: false,
         };
-        assert_eq!(rt; fill(rt.alloc(), &mut supply).is_err(), left < 3);
-        assert_eq!(rt; supply.refused, left < 3);
+        assert!(rt; fill(rt.alloc(), &mut supply).is_err() == (left < 3));
+        assert!(rt; supply.refused == (left < 3));
         let mut supply = Given { refused: false };
         match fill(rt.alloc(), &mut supply) {
-            Ok(list) => assert_eq!(rt; list.as_slice(), [1, 2, 3, 4].as_slice()),
+            Ok(list) => assert!(rt; list.as_slice() == [1, 2, 3, 4].as_slice()),
             Err(_) => assert!(rt; false, "the allocator has room"),
         }
         assert!(rt; !supply.refused);
@@ -40,7 +40,7 @@ fn what_was_there_stays_where_a_request_is_refused(rt: HostRuntime) {
     assert!(rt; push(&mut supply, &mut list, 1).is_ok());
     assert!(rt; push(&mut supply, &mut list, 2).is_err());
     assert!(rt; extend(&mut supply, &mut list, &[3]).is_err());
-    assert_eq!(rt; list.as_slice(), [1].as_slice());
+    assert!(rt; list.as_slice() == [1].as_slice());
 }
 
 /// One item more than two requests are for at the most: so many take three.
@@ -56,13 +56,13 @@ fn each_portion_of_room_is_refused_in_turn(rt: HostRuntime) {
             refused: false,
         };
         let made = make_room(&mut supply, &mut list, THREE_PORTIONS);
-        assert_eq!(rt; made.is_err(), left < 3);
-        assert_eq!(rt; supply.refused, left < 3);
+        assert!(rt; made.is_err() == (left < 3));
+        assert!(rt; supply.refused == (left < 3));
         let mut supply = Given { refused: false };
         assert!(rt; make_room(&mut supply, &mut list, THREE_PORTIONS).is_ok());
         assert!(rt; !supply.refused);
         assert!(rt; list.capacity() > THREE_PORTIONS);
-        assert_eq!(rt; list.as_slice(), [7u8].as_slice());
+        assert!(rt; list.as_slice() == [7u8].as_slice());
     }
 }
 

@@ -69,7 +69,7 @@ fn the_first_subchannel_of_a_name_is_found(rt: HostRuntime) -> Result<(), AllocE
         (2, 5, None),
     ] {
         let found = places.place_in(SubchannelId { set, number }, &subs);
-        assert_eq!(rt; found, place, "at {set} {number}");
+        assert!(rt; found == place, "at {set} {number}");
     }
     Ok(())
 }
@@ -79,8 +79,8 @@ fn a_name_beyond_the_tables_is_found(rt: HostRuntime) -> Result<(), AllocError> 
     let subs = four(rt.alloc())?;
     let places = Places::of(rt.alloc(), &mut Given { refused: false }, 1, 0, &subs)?;
     let id = SubchannelId { set: 1, number: 0 };
-    assert_eq!(rt; places.place_in(id, &subs), Some(1));
-    assert_eq!(rt; places.reached_in(2, Side::First, &subs), Some(0));
+    assert!(rt; places.place_in(id, &subs) == Some(1));
+    assert!(rt; places.reached_in(2, Side::First, &subs) == Some(0));
     Ok(())
 }
 
@@ -94,14 +94,12 @@ fn the_subchannel_of_a_side_is_found(rt: HostRuntime) -> Result<(), AllocError> 
         (2, Some(0), None),
         (9, None, Some(3)),
     ] {
-        assert_eq!(rt;
-            places.reached_in(unit, Side::First, &subs),
-            first,
+        assert!(rt;
+            places.reached_in(unit, Side::First, &subs) == first,
             "at {unit}"
         );
-        assert_eq!(rt;
-            places.reached_in(unit, Side::Second, &subs),
-            second,
+        assert!(rt;
+            places.reached_in(unit, Side::Second, &subs) == second,
             "at {unit}"
         );
     }
@@ -112,19 +110,13 @@ fn the_subchannel_of_a_side_is_found(rt: HostRuntime) -> Result<(), AllocError> 
 fn an_engine_is_engaged_while_some_subchannel_engages_it(
     rt: HostRuntime,
 ) -> Result<(), AllocError> {
-    assert_eq!(rt;
-        engaged(&subchannel(0, 5, 2, Side::First, offered())),
-        Some(0x20)
-    );
-    assert_eq!(rt;
-        engaged(&subchannel(1, 0, 0, Side::First, HoldPhase::Free)),
-        None
-    );
+    assert!(rt; engaged(&subchannel(0, 5, 2, Side::First, offered())) == Some(0x20));
+    assert!(rt; engaged(&subchannel(1, 0, 0, Side::First, HoldPhase::Free)) == None);
     let mut subs = four(rt.alloc())?;
     for want in [true, true, true, true, false] {
         let engines = Engines::of(&subs);
         let counted = Counted::of(&subs, &engines);
-        assert_eq!(rt; counted.is_engaged(0x20), want);
+        assert!(rt; counted.is_engaged(0x20) == want);
         assert!(rt; !counted.is_engaged(0x10));
         subs.pop();
     }
@@ -150,8 +142,8 @@ fn each_request_for_room_is_refused_in_turn(rt: HostRuntime) -> Result<(), Alloc
                 refused: false,
             };
             let made = are_made(rt.alloc(), &mut supply, units, &subs);
-            assert_eq!(rt; made, left >= requests, "{units} {left}");
-            assert_eq!(rt; supply.refused, left < requests, "{units} {left}");
+            assert!(rt; made == (left >= requests), "{units} {left}");
+            assert!(rt; supply.refused == (left < requests), "{units} {left}");
             let mut supply = Given { refused: false };
             assert!(rt; are_made(rt.alloc(), &mut supply, units, &subs));
             assert!(rt; !supply.refused, "{units} {left}");

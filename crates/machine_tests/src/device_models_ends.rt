@@ -102,7 +102,7 @@ fn channel_end_that_was_sent_is_left_out_of_the_later_status(rt: HostRuntime) {
         room: 0,
     };
     assert!(rt; unit.take(Side::First, path, &rewind, true).taken);
-    assert_eq!(rt; end_shown(&mut unit, &mut device), Some(0x08));
-    assert_eq!(rt; end_shown(&mut unit, &mut device), Some(0x04));
-    assert_eq!(rt; end_shown(&mut unit, &mut device), None);
+    assert!(rt; end_shown(&mut unit, &mut device) == Some(0x08));
+    assert!(rt; end_shown(&mut unit, &mut device) == Some(0x04));
+    assert!(rt; end_shown(&mut unit, &mut device) == None);
 }

@@ -127,8 +127,8 @@ fn driving_lines_are_read(rt: HostRuntime) -> Result<(), AllocError> {
             [first, others @ ..] => match action_row(first, others) {
                 Some(Ok(action)) => {
                     let (kind, said) = shown(&action);
-                    assert_eq!(rt; kind, name);
-                    assert_eq!(rt; said, numbers);
+                    assert!(rt; kind == name);
+                    assert!(rt; said == numbers);
                 }
                 _ => assert!(rt; false),
             },
@@ -193,7 +193,7 @@ fn wrong_driving_lines_break_a_rule(rt: HostRuntime) -> Result<(), AllocError> {
         match words.as_slice() {
             [] => assert!(rt; false),
             [first, others @ ..] => match action_row(first, others) {
-                Some(Err(broken)) => assert_eq!(rt; broken, rule),
+                Some(Err(broken)) => assert!(rt; broken == rule),
                 _ => assert!(rt; false),
             },
         }
@@ -229,10 +229,10 @@ fn configuring_lines_are_read(rt: HostRuntime) -> Result<(), AllocError> {
             },
         }
     }
-    assert_eq!(rt; config.blocks(), Some(0x10));
-    assert_eq!(rt; config.set_count(), 2);
-    assert_eq!(rt; config.paths(), [0x10, 0xFF].as_slice());
-    assert_eq!(rt; config.subchannels().len(), 2);
+    assert!(rt; config.blocks() == Some(0x10));
+    assert!(rt; config.set_count() == 2);
+    assert!(rt; config.paths() == [0x10, 0xFF].as_slice());
+    assert!(rt; config.subchannels().len() == 2);
     Ok(())
 }
 
@@ -247,7 +247,7 @@ fn wrong_configuring_lines_break_a_rule(rt: HostRuntime) -> Result<(), AllocErro
         match words.as_slice() {
             [] => assert!(rt; false),
             [first, others @ ..] => match setting_row(rt.alloc(), &mut supply, first, others) {
-                Some(Err(broken)) => assert_eq!(rt; broken, LineFault::Rule(rule)),
+                Some(Err(broken)) => assert!(rt; broken == LineFault::Rule(rule)),
                 _ => assert!(rt; false),
             },
         }

@@ -20,7 +20,7 @@ fn a_right_script_is_read(rt: HostRuntime) {
     let script = match Script::read(rt.alloc(), RIGHT) {
         Ok(script) => script,
         Err(bad) => {
-            assert_eq!(rt; bad, ScriptBad::NoMemory);
+            assert!(rt; bad == ScriptBad::NoMemory);
             return;
         }
     };
@@ -37,17 +37,17 @@ fn a_right_script_is_read(rt: HostRuntime) {
         (20, b"dev", 0x3FF),
         (21, b"glance", 0x1_0003),
     ];
-    assert_eq!(rt; script.config().set_count(), 2);
-    assert_eq!(rt; script.lines().len(), wanted.len());
+    assert!(rt; script.config().set_count() == 2);
+    assert!(rt; script.lines().len() == wanted.len());
     for (line, (number, name, value)) in script.lines().iter().zip(wanted) {
         let (kind, said) = shown(&line.action);
-        assert_eq!(rt; line.number, number);
-        assert_eq!(rt; kind, name);
-        assert_eq!(rt; said, value);
+        assert!(rt; line.number == number);
+        assert!(rt; kind == name);
+        assert!(rt; said == value);
     }
     let (config, lines) = script.into_parts();
-    assert_eq!(rt; config.blocks(), Some(0x10));
-    assert_eq!(rt; config.paths(), [0x10, 0xFF].as_slice());
-    assert_eq!(rt; config.subchannels().len(), 2);
-    assert_eq!(rt; lines.len(), 11);
+    assert!(rt; config.blocks() == Some(0x10));
+    assert!(rt; config.paths() == [0x10, 0xFF].as_slice());
+    assert!(rt; config.subchannels().len() == 2);
+    assert!(rt; lines.len() == 11);
 }

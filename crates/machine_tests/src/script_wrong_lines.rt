@@ -39,7 +39,7 @@ fn wrong_lines_are_named(rt: HostRuntime) {
     for (text, line, rule) in WRONG {
         match Script::read(rt.alloc(), text) {
             Ok(_) => assert!(rt; false, "line {line} rule {rule}"),
-            Err(bad) => assert_eq!(rt; bad, ScriptBad::Bad { line, rule }),
+            Err(bad) => assert!(rt; bad == ScriptBad::Bad { line, rule }),
         }
     }
 }
@@ -56,11 +56,11 @@ fn a_line_is_at_most_1024_bytes(rt: HostRuntime) -> Result<(), AllocError> {
         match Script::read(rt.alloc(), text.as_slice()) {
             Ok(script) => {
                 assert!(rt; is_right);
-                assert_eq!(rt; script.lines().len(), 1);
+                assert!(rt; script.lines().len() == 1);
             }
             Err(bad) => {
                 assert!(rt; !is_right);
-                assert_eq!(rt; bad, ScriptBad::Bad { line: 2, rule: 3 });
+                assert!(rt; bad == ScriptBad::Bad { line: 2, rule: 3 });
             }
         }
     }
@@ -89,12 +89,12 @@ fn each_growth_is_refused_in_turn(rt: HostRuntime) {
             Ok(_) => assert!(rt; left == growths && !supply.refused),
             Err(bad) => {
                 assert!(rt; left < growths && supply.refused);
-                assert_eq!(rt; bad, ScriptBad::NoMemory);
+                assert!(rt; bad == ScriptBad::NoMemory);
             }
         }
         let mut supply = Given { refused: false };
         match Script::read_with(rt.alloc(), &mut supply, GROWING) {
-            Ok(script) => assert_eq!(rt; script.lines().len(), 2),
+            Ok(script) => assert!(rt; script.lines().len() == 2),
             Err(_) => assert!(rt; false, "the allocator has room"),
         }
     }
@@ -111,8 +111,8 @@ fn a_script_of_many_lines_is_read(rt: HostRuntime) -> Result<(), AllocError> {
     match Script::read(rt.alloc(), text.as_slice()) {
         Ok(script) => {
             let lines = script.lines();
-            assert_eq!(rt; lines.len(), 1);
-            assert_eq!(rt; lines[0].number, 70_002);
+            assert!(rt; lines.len() == 1);
+            assert!(rt; lines[0].number == 70_002);
         }
         Err(_) => assert!(rt; false, "the text is right"),
     }

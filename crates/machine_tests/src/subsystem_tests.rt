@@ -127,11 +127,11 @@ fn a_write_is_started_and_its_status_cleared(rt: HostRuntime) {
         assert!(rt; false, "there is memory");
         return;
     };
-    assert_eq!(rt; answers.len(), 17);
+    assert!(rt; answers.len() == 17);
     for answer in answers.iter() {
         assert!(rt; answer.is_ok());
     }
-    assert_eq!(rt; subsystem.history().len(), 17);
+    assert!(rt; subsystem.history().len() == 17);
     assert!(rt; subsystem.history().get(16).is_some() && subsystem.history().get(17).is_none());
     match subsystem.serials(WORD) {
         Some(serials) => assert!(rt; serials.made == 1 && serials.cleared == 0),
@@ -150,7 +150,7 @@ fn a_write_is_started_and_its_status_cleared(rt: HostRuntime) {
                 scsw,
             },
         ) => {
-            assert_eq!(rt; scsw.words(), [0x0080_4007, 0x0000_1008, 0x0C00_0000]);
+            assert!(rt; scsw.words() == [0x0080_4007, 0x0000_1008, 0x0C00_0000]);
             assert!(rt; serials.made == 1 && serials.cleared == 1);
         }
         _ => assert!(rt; false, "the status is pending"),
@@ -161,7 +161,7 @@ fn a_write_is_started_and_its_status_cleared(rt: HostRuntime) {
                 answer: Answer::One(_),
                 scsw,
             },
-        ) => assert_eq!(rt; scsw.words(), [0x0080_0000, 0x0000_1008, 0x0C00_0000]),
+        ) => assert!(rt; scsw.words() == [0x0080_0000, 0x0000_1008, 0x0C00_0000]),
         _ => assert!(rt; false, "no status is pending"),
     }
 }
@@ -199,7 +199,7 @@ fn a_unit_asks_for_its_turns(rt: HostRuntime) {
                     ..
                 },
             ),
-        ) => assert_eq!(rt; code, 1),
+        ) => assert!(rt; code == 1),
         _ => assert!(rt; false, "the command is to begin"),
     }
     assert!(rt; matches!(subsystem.step(&up()), Err(Fault::NotSent)));
@@ -209,7 +209,7 @@ fn a_unit_asks_for_its_turns(rt: HostRuntime) {
             Err(Fault::NotNow)
         )
     );
-    assert_eq!(rt; subsystem.history().len(), 9);
+    assert!(rt; subsystem.history().len() == 9);
 }
 
 /// A subsystem after the first of the events of a write.
@@ -259,7 +259,7 @@ fn a_halt_goes_to_the_device(rt: HostRuntime) {
             Some(Reply::HaltSent { number: 1, .. })
         )
     );
-    assert_eq!(rt; path_to_take(&subsystem), Some(0));
+    assert!(rt; path_to_take(&subsystem) == Some(0));
     assert!(rt; matches!(chosen(&mut subsystem), Some(Reply::Idle)));
 }
 
@@ -284,7 +284,7 @@ fn a_clear_sends_a_reset(rt: HostRuntime) {
         address: 0x600,
     };
     match executed(&mut subsystem, test) {
-        Some(Reply::Status { scsw, .. }) => assert_eq!(rt; scsw.words(), [0x1001, 0, 0]),
+        Some(Reply::Status { scsw, .. }) => assert!(rt; scsw.words() == [0x1001, 0, 0]),
         _ => assert!(rt; false, "the status is pending"),
     }
 }
@@ -333,7 +333,7 @@ fn a_suspended_program_is_offered_again(rt: HostRuntime) {
     assert!(rt; subsystem.step(&up()).is_ok());
     match executed(&mut subsystem, test) {
         Some(Reply::Status { scsw, .. }) => {
-            assert_eq!(rt; scsw.words(), [0x0880_4029, 0x1008, 0]);
+            assert!(rt; scsw.words() == [0x0880_4029, 0x1008, 0]);
         }
         _ => assert!(rt; false, "the status is pending"),
     }
@@ -441,7 +441,7 @@ fn each_request_of_an_opening_is_refused_in_turn(rt: HostRuntime) {
                     return;
                 };
                 assert!(rt; subsystem.serials(WORD).is_some());
-                assert_eq!(rt; subsystem.history().len(), 0);
+                assert!(rt; subsystem.history().len() == 0);
             }
         }
     }
@@ -467,13 +467,13 @@ fn a_run_whose_answers_are_refused_changes_nothing(rt: HostRuntime) {
             Err(fault) => {
                 assert!(rt; left == 0 && supply.refused);
                 assert!(rt; matches!(fault, Fault::NoMemory));
-                assert_eq!(rt; subsystem.history().len(), 6);
-                assert_eq!(rt; path_to_take(&subsystem), Some(0));
+                assert!(rt; subsystem.history().len() == 6);
+                assert!(rt; path_to_take(&subsystem) == Some(0));
             }
             Ok(answers) => {
                 assert!(rt; left == 1 && !supply.refused);
-                assert_eq!(rt; answers.iter().filter(|answer| answer.is_ok()).count(), 11);
-                assert_eq!(rt; subsystem.history().len(), 17);
+                assert!(rt; answers.iter().filter(|answer| answer.is_ok()).count() == 11);
+                assert!(rt; subsystem.history().len() == 17);
             }
         }
     }

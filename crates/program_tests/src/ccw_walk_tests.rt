@@ -50,22 +50,22 @@ fn one_command(rt: HostRuntime) {
     else {
         return assert!(rt; false, "no memory");
     };
-    assert_eq!(rt; walk.next(), Some(0x1000));
-    assert_eq!(rt; walk.tried(), 0x1000);
+    assert!(rt; walk.next() == Some(0x1000));
+    assert!(rt; walk.tried() == 0x1000);
     assert!(rt; walk.latest().is_none());
-    assert_eq!(rt; taken(walk.advance(&storage)), Some((1, 4, 0x2000)));
-    assert_eq!(rt; walk.next(), None);
-    assert_eq!(rt; walk.tried(), 0x1008);
+    assert!(rt; taken(walk.advance(&storage)) == Some((1, 4, 0x2000)));
+    assert!(rt; walk.next() == None);
+    assert!(rt; walk.tried() == 0x1008);
     match walk.latest() {
         None => assert!(rt; false, "a block took control"),
         Some(latest) => {
-            assert_eq!(rt; latest.address, 0x1000);
+            assert!(rt; latest.address == 0x1000);
             assert!(rt; latest.ccw.suppress_length);
         }
     }
-    assert_eq!(rt; walk.advance(&storage), None);
+    assert!(rt; walk.advance(&storage) == None);
     walk.device_end(GOES_ON);
-    assert_eq!(rt; walk.next(), None);
+    assert!(rt; walk.next() == None);
 }
 
 #[test]
@@ -84,9 +84,8 @@ fn blocks_that_show_a_check(rt: HostRuntime) {
         let Some(storage) = storage_of(rt.alloc(), &block) else {
             return assert!(rt; false, "no memory");
         };
-        assert_eq!(rt;
-            first_advance(&image, &storage),
-            Some((STOPS, 0x1008)),
+        assert!(rt;
+            first_advance(&image, &storage) == Some((STOPS, 0x1008)),
             "{block:?}"
         );
     }
@@ -99,15 +98,15 @@ fn data_chaining(rt: HostRuntime) {
     else {
         return assert!(rt; false, "no memory");
     };
-    assert_eq!(rt; taken(walk.advance(&storage)), Some((1, 2, 0x2000)));
+    assert!(rt; taken(walk.advance(&storage)) == Some((1, 2, 0x2000)));
     walk.used_up();
-    assert_eq!(rt; walk.next(), Some(0x1008));
-    assert_eq!(rt; taken(walk.advance(&storage)), Some((0, 2, 0x2100)));
-    assert_eq!(rt; walk.tried(), 0x1010);
+    assert!(rt; walk.next() == Some(0x1008));
+    assert!(rt; taken(walk.advance(&storage)) == Some((0, 2, 0x2100)));
+    assert!(rt; walk.tried() == 0x1010);
     walk.used_up();
-    assert_eq!(rt; walk.next(), None);
+    assert!(rt; walk.next() == None);
     walk.device_end(GOES_ON);
-    assert_eq!(rt; walk.next(), None);
+    assert!(rt; walk.next() == None);
 }
 
 #[test]
@@ -123,17 +122,17 @@ fn command_chaining(rt: HostRuntime) {
         else {
             return assert!(rt; false, "no memory");
         };
-        assert_eq!(rt; taken(walk.advance(&storage)), Some((0x31, 2, 0x2000)));
+        assert!(rt; taken(walk.advance(&storage)) == Some((0x31, 2, 0x2000)));
         walk.device_end(Ended {
             goes_on: true,
             modifier,
         });
-        assert_eq!(rt; walk.next(), Some(next));
+        assert!(rt; walk.next() == Some(next));
         match walk.advance(&storage) {
-            Some(Advance::Takes(ccw)) => assert_eq!(rt; ccw.command, command),
+            Some(Advance::Takes(ccw)) => assert!(rt; ccw.command == command),
             _ => assert!(rt; false, "a block takes control"),
         }
-        assert_eq!(rt; walk.tried(), tried);
+        assert!(rt; walk.tried() == tried);
     }
 }
 
@@ -144,12 +143,12 @@ fn an_end_that_stops_the_program(rt: HostRuntime) {
     else {
         return assert!(rt; false, "no memory");
     };
-    assert_eq!(rt; taken(walk.advance(&storage)), Some((0x31, 2, 0x2000)));
+    assert!(rt; taken(walk.advance(&storage)) == Some((0x31, 2, 0x2000)));
     walk.device_end(Ended {
         goes_on: false,
         modifier: true,
     });
-    assert_eq!(rt; walk.next(), None);
+    assert!(rt; walk.next() == None);
 }
 
 #[test]
@@ -162,12 +161,12 @@ fn suspension(rt: HostRuntime) {
         return assert!(rt; false, "no memory");
     };
     for _ in 0..2 {
-        assert_eq!(rt; walk.advance(&storage), Some(Advance::Suspends));
-        assert_eq!(rt; walk.next(), Some(0x1000));
-        assert_eq!(rt; walk.tried(), 0x1008);
+        assert!(rt; walk.advance(&storage) == Some(Advance::Suspends));
+        assert!(rt; walk.next() == Some(0x1000));
+        assert!(rt; walk.tried() == 0x1008);
     }
-    assert_eq!(rt; storage.put(0x1001, &[0x20]), Ok(()));
-    assert_eq!(rt; taken(walk.advance(&storage)), Some((1, 4, 0x2000)));
+    assert!(rt; storage.put(0x1001, &[0x20]) == Ok(()));
+    assert!(rt; taken(walk.advance(&storage)) == Some((1, 4, 0x2000)));
 }
 
 #[test]
@@ -178,19 +177,19 @@ fn addresses_of_a_program(rt: HostRuntime) {
     };
     let mut off = FORMAT_1;
     off[11] = 4;
-    assert_eq!(rt; first_advance(&off, &storage), Some((STOPS, 0x100C)));
+    assert!(rt; first_advance(&off, &storage) == Some((STOPS, 0x100C)));
     let mut outside = FORMAT_1;
     outside[9] = 1;
-    assert_eq!(rt; first_advance(&outside, &storage), Some((STOPS, 0x1_1008)));
+    assert!(rt; first_advance(&outside, &storage) == Some((STOPS, 0x1_1008)));
     let mut long = FORMAT_1;
     long[5] = 0;
     long[8] = 1;
-    assert_eq!(rt; first_advance(&long, &storage), Some((STOPS, 0x100_1008)));
+    assert!(rt; first_advance(&long, &storage) == Some((STOPS, 0x100_1008)));
     let mut keyed = FORMAT_1;
     keyed[4] = 0x20;
-    assert_eq!(rt; storage.set_key(0x1000, Key::of_byte(0x18)), Ok(()));
+    assert!(rt; storage.set_key(0x1000, Key::of_byte(0x18)) == Ok(()));
     let protected = Some(Advance::Stops(Check::Protection));
-    assert_eq!(rt; first_advance(&keyed, &storage), Some((protected, 0x1008)));
+    assert!(rt; first_advance(&keyed, &storage) == Some((protected, 0x1008)));
 }
 
 #[test]
@@ -207,10 +206,10 @@ fn blocks_that_are_handed_in(rt: HostRuntime) {
         _ => assert!(rt; false, "the first block is next"),
     }
     walk.device_end(GOES_ON);
-    assert_eq!(rt; walk.next(), Some(0x1008));
+    assert!(rt; walk.next() == Some(0x1008));
     if let Some(address) = other.next() {
         other.unfetched(address, Check::Protection);
     }
-    assert_eq!(rt; other.next(), None);
-    assert_eq!(rt; other.tried(), 0x1008);
+    assert!(rt; other.next() == None);
+    assert!(rt; other.tried() == 0x1008);
 }

@@ -10,6 +10,6 @@ fn the_check_of_a_refused_access(rt: HostRuntime) {
         (StorageFault::Protection, Check::Protection),
         (StorageFault::Specification, Check::Program),
     ] {
-        assert_eq!(rt; Check::of(fault), check);
+        assert!(rt; Check::of(fault) == check);
     }
 }

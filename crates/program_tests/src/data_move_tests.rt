@@ -90,8 +90,8 @@ fn a_short_list_is_followed(rt: HostRuntime) {
         let mut at = Move::begin(kind, ccw, false);
         let (found, fault) = taken(&storage, 0, &mut at);
         assert!(rt; found.as_slice() == bytes);
-        assert_eq!(rt; fault, check);
-        assert_eq!(rt; at.residual(), residual);
+        assert!(rt; fault == check);
+        assert!(rt; at.residual() == residual);
     }
     pieces();
 }
@@ -114,9 +114,9 @@ fn a_long_list_is_followed(rt: HostRuntime) {
         assert!(rt; storage.put(0x3008, &second).is_ok());
         let mut at = Move::begin(kind, ccw, false);
         let (found, fault) = taken(&storage, 0, &mut at);
-        assert_eq!(rt; fault, check);
-        assert_eq!(rt; at.residual(), residual);
-        assert_eq!(rt; at.is_incorrect(false), residual != 0);
+        assert!(rt; fault == check);
+        assert!(rt; at.residual() == residual);
+        assert!(rt; at.is_incorrect(false) == (residual != 0));
         assert!(rt; residual != 0 || found.as_slice() == &[0xA1, 0xA2, 0xA3, 0xA4][..]);
     }
 }
@@ -131,16 +131,16 @@ fn a_word_is_fetched_once(rt: HostRuntime) {
     };
     let mut at = Move::begin(kind, ccw, false);
     assert!(rt; at.needs_word() && at.place().is_none());
-    assert_eq!(rt; at.locate(&storage, 0), Ok(()));
+    assert!(rt; at.locate(&storage, 0) == Ok(()));
     assert!(rt; storage.put(0x3000, &[0, 0, 0x20, 0]).is_ok());
-    assert_eq!(rt; at.locate(&storage, 0), Ok(()));
-    assert_eq!(rt; at.words(), 1);
-    assert_eq!(rt; at.place(), Some(0x2FFE));
-    assert_eq!(rt; at.room(), 2);
-    assert_eq!(rt; at.ccw().count, 4);
+    assert!(rt; at.locate(&storage, 0) == Ok(()));
+    assert!(rt; at.words() == 1);
+    assert!(rt; at.place() == Some(0x2FFE));
+    assert!(rt; at.room() == 2);
+    assert!(rt; at.ccw().count == 4);
     at.moved(2);
-    assert_eq!(rt; next_fault(&mut at, 0x4010), Some(WordFault::OffBlock));
-    assert_eq!(rt; next_fault(&mut at, 0x4000), None);
+    assert!(rt; next_fault(&mut at, 0x4010) == Some(WordFault::OffBlock));
+    assert!(rt; next_fault(&mut at, 0x4000) == None);
 }
 
 #[test]
@@ -153,13 +153,13 @@ fn the_key_guards_the_list_and_the_data(rt: HostRuntime) {
     };
     let mut at = Move::begin(kind, ccw, false);
     assert!(rt; storage.set_key(0x3000, Key::of_byte(0x18)).is_ok());
-    assert_eq!(rt; at.locate(&storage, 2), Err(PROTECTION));
-    assert_eq!(rt; at.words(), 0);
-    assert_eq!(rt; at.locate(&storage, 1), Ok(()));
+    assert!(rt; at.locate(&storage, 2) == Err(PROTECTION));
+    assert!(rt; at.words() == 0);
+    assert!(rt; at.locate(&storage, 1) == Ok(()));
     assert!(rt; storage.set_key(0x2000, Key::of_byte(0x10)).is_ok());
     assert!(rt; at.copied(&storage, 2).is_ok());
-    assert_eq!(rt; store_two(&at, &mut storage, 2), Err(PROTECTION));
-    assert_eq!(rt; store_two(&at, &mut storage, 1), Ok(()));
+    assert!(rt; store_two(&at, &mut storage, 2) == Err(PROTECTION));
+    assert!(rt; store_two(&at, &mut storage, 1) == Ok(()));
     match storage.fetch(0, 0x2FFE, 2) {
         Ok(bytes) => assert!(rt; bytes == &[1, 2][..]),
         Err(_) => assert!(rt; false, "the bytes are in storage"),
@@ -178,12 +178,12 @@ fn skipped_bytes_move_nothing(rt: HostRuntime) {
         return assert!(rt; false, "no memory");
     };
     let mut at = Move::begin(kind, ccw, true);
-    assert_eq!(rt; at.locate(&storage, 0), Ok(()));
-    assert_eq!(rt; at.words(), 0);
-    assert_eq!(rt; at.room(), 256);
-    assert_eq!(rt; at.place(), None);
-    assert_eq!(rt; store_two(&at, &mut storage, 0), Ok(()));
+    assert!(rt; at.locate(&storage, 0) == Ok(()));
+    assert!(rt; at.words() == 0);
+    assert!(rt; at.room() == 256);
+    assert!(rt; at.place() == None);
+    assert!(rt; store_two(&at, &mut storage, 0) == Ok(()));
     at.moved(at.room());
-    assert_eq!(rt; at.room(), 4);
+    assert!(rt; at.room() == 4);
     assert!(rt; at.copied(&storage, 0).is_ok_and(|chunk| chunk.len() == 0));
 }

@@ -81,8 +81,8 @@ fn a_write_is_given_and_absorbed(rt: HostRuntime) {
     let Some(transfer) = began(&storage) else {
         return assert!(rt; false, "the program is right");
     };
-    assert_eq!(rt; (transfer.command, transfer.code), (1, 1));
-    assert_eq!(rt; begun_with_room(&storage, &transfer).room, 0);
+    assert!(rt; (transfer.command, transfer.code) == (1, 1));
+    assert!(rt; begun_with_room(&storage, &transfer).room == 0);
     assert!(rt; is_met(&transfer, 1, 0) && is_met(&transfer, 1, 1));
     assert!(rt; !is_met(&transfer, 1, 2) && !is_met(&transfer, 2, 0));
     let given = next_given(&storage, &transfer);
@@ -90,8 +90,8 @@ fn a_write_is_given_and_absorbed(rt: HostRuntime) {
     let Some(moved) = after_absorbed(&storage, &given.transfer, 1, 4) else {
         return assert!(rt; false, "the numbers are small");
     };
-    assert_eq!(rt; (moved.sequence, moved.moving.residual()), (1, 0));
-    assert_eq!(rt; next_given(&storage, &moved).bytes.len(), 0);
+    assert!(rt; (moved.sequence, moved.moving.residual()) == (1, 0));
+    assert!(rt; next_given(&storage, &moved).bytes.len() == 0);
     command_numbers();
 }
 
@@ -109,7 +109,7 @@ fn data_is_chained_as_the_count_is_used_up(rt: HostRuntime) {
     let Some(moved) = after_absorbed(&storage, &given.transfer, 1, 2) else {
         return assert!(rt; false, "the numbers are small");
     };
-    assert_eq!(rt; (moved.moving.residual(), moved.walk.tried()), (2, 0x1010));
+    assert!(rt; (moved.moving.residual(), moved.walk.tried()) == (2, 0x1010));
     assert!(rt; next_given(&storage, &moved).bytes.as_slice() == [0xC3, 0xC4].as_slice());
 }
 
@@ -123,21 +123,18 @@ fn a_read_is_stored_where_it_belongs(rt: HostRuntime) {
         return assert!(rt; false, "the program is right");
     };
     let told = begun_with_room(&storage, &transfer);
-    assert_eq!(rt; told.room, 4);
+    assert!(rt; told.room == 4);
     assert!(rt; !is_met(&told.transfer, 1, 0) && is_met(&told.transfer, 1, 1));
     let bytes = [0xA1, 0xA2, 0xA3];
     let Some(stored) = after_brought(&mut storage, &told.transfer, 1, &bytes) else {
         return assert!(rt; false, "the numbers are small");
     };
-    assert_eq!(rt; with_room(&storage, &stored).room, 1);
-    assert_eq!(rt;
-        storage.fetch(0, 0x3000, 4).ok(),
-        Some(&[0xA1, 0xA2, 0xA3, 0][..])
-    );
+    assert!(rt; with_room(&storage, &stored).room == 1);
+    assert!(rt; storage.fetch(0, 0x3000, 4).ok() == Some(&[0xA1, 0xA2, 0xA3, 0][..]));
     let Some(again) = after_brought(&mut storage, &stored, 1, &[0xB1]) else {
         return assert!(rt; false, "the numbers are small");
     };
-    assert_eq!(rt; again.moving.residual(), 1);
+    assert!(rt; again.moving.residual() == 1);
 }
 
 #[test]
@@ -151,8 +148,8 @@ fn the_next_command_follows(rt: HostRuntime) {
     let Some(transfer) = began(&storage) else {
         return assert!(rt; false, "the program is right");
     };
-    assert_eq!(rt; followed_by(&storage, &transfer, false), Some((2, 0x31)));
-    assert_eq!(rt; followed_by(&storage, &transfer, true), Some((2, 2)));
+    assert!(rt; followed_by(&storage, &transfer, false) == Some((2, 0x31)));
+    assert!(rt; followed_by(&storage, &transfer, true) == Some((2, 2)));
 }
 
 #[test]
@@ -167,7 +164,7 @@ fn what_a_program_may_not_begin_with(rt: HostRuntime) {
         let Some(found) = first(&storage) else {
             return assert!(rt; false, "the block is allowed");
         };
-        assert_eq!(rt; found.walk.tried(), 0x1008);
+        assert!(rt; found.walk.tried() == 0x1008);
         assert!(rt; matches!(found.came, CommandStart::Stops(Check::Program)));
     }
 }
@@ -195,5 +192,5 @@ fn a_program_that_may_be_suspended_is(rt: HostRuntime) {
     };
     let found = first_command(&storage, Walk::start(orb));
     assert!(rt; matches!(found.came, CommandStart::Suspends));
-    assert_eq!(rt; found.walk.next(), Some(0x1000));
+    assert!(rt; found.walk.next() == Some(0x1000));
 }

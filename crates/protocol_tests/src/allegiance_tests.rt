@@ -45,17 +45,19 @@ fn after(cause: AllegianceCause) -> u8 {
 #[test]
 fn a_program_works_by_its_first_path_or_by_its_last(rt: HostRuntime) {
     let path = Path::new(4).unwrap();
-    assert_eq!(rt; mask_of_path(active(&held(on(path), true))), 0x08);
+    assert!(rt; mask_of_path(active(&held(on(path), true))) == 0x08);
     assert!(rt; active(&held(away(), false)).is_none());
     for (single_path, first, last) in [(true, 0x40, 0x40), (false, 0x08, 0x20)] {
         let connected = working(&held(on(path), single_path), Path::new(2));
-        assert_eq!(rt;
-            mask_of_path(connected),
-            first,
+        assert!(rt;
+            mask_of_path(connected) == first,
             "single-path mode {single_path}"
         );
         let left = working(&held(away(), single_path), Path::new(2));
-        assert_eq!(rt; mask_of_path(left), last, "single-path mode {single_path}");
+        assert!(rt;
+            mask_of_path(left) == last,
+            "single-path mode {single_path}"
+        );
     }
     assert!(rt; working(&held(HoldPhase::Free, true), Path::new(4)).is_none());
 }
@@ -71,19 +73,22 @@ fn a_program_comes_back_by_its_first_path_or_by_any(rt: HostRuntime) {
     ] {
         let path = Path::new(index).unwrap();
         let hold = held(away(), single_path);
-        assert_eq!(rt; may_reconnect(&hold, &available, path), may, "path {index}");
+        assert!(rt;
+            may_reconnect(&hold, &available, path) == may,
+            "path {index}"
+        );
     }
 }
 
 #[test]
 fn unit_check_binds_a_subchannel_until_a_later_program_is_served(rt: HostRuntime) {
     let path = Path::new(4).unwrap();
-    assert_eq!(rt; after(ended(path, true)), 0x08);
-    assert_eq!(rt; after(ended(path, false)), 0);
-    assert_eq!(rt; after(AllegianceCause::Data { later: false }), 0x10);
-    assert_eq!(rt; after(AllegianceCause::Data { later: true }), 0);
-    assert_eq!(rt; after(AllegianceCause::Clear), 0);
-    assert_eq!(rt; after(AllegianceCause::SystemReset), 0);
+    assert!(rt; after(ended(path, true)) == 0x08);
+    assert!(rt; after(ended(path, false)) == 0);
+    assert!(rt; after(AllegianceCause::Data { later: false }) == 0x10);
+    assert!(rt; after(AllegianceCause::Data { later: true }) == 0);
+    assert!(rt; after(AllegianceCause::Clear) == 0);
+    assert!(rt; after(AllegianceCause::SystemReset) == 0);
 }
 
 #[test]
@@ -97,16 +102,16 @@ fn the_usable_paths_are_counted_down(rt: HostRuntime) {
         dedicated: None,
     };
     let engaged = paths_of_mask(0x21);
-    assert_eq!(rt; mask_of_paths(paths.allowed()), 0xF0);
-    assert_eq!(rt; mask_of_paths(paths.reachable()), 0x70);
-    assert_eq!(rt; mask_of_paths(paths.usable(&engaged)), 0x50);
-    assert_eq!(rt; mask_of_paths(paths.lost()), 0x80);
+    assert!(rt; mask_of_paths(paths.allowed()) == 0xF0);
+    assert!(rt; mask_of_paths(paths.reachable()) == 0x70);
+    assert!(rt; mask_of_paths(paths.usable(&engaged)) == 0x50);
+    assert!(rt; mask_of_paths(paths.lost()) == 0x80);
     assert!(rt; paths.mark_lost());
-    assert_eq!(rt; mask_of_paths(paths.operational), 0x7F);
-    assert_eq!(rt; mask_of_paths(paths.not_operational), 0x82);
+    assert!(rt; mask_of_paths(paths.operational) == 0x7F);
+    assert!(rt; mask_of_paths(paths.not_operational) == 0x82);
     assert!(rt; !paths.mark_lost());
     paths.dedicated = Path::new(3);
-    assert_eq!(rt; mask_of_paths(paths.usable(&engaged)), 0x10);
+    assert!(rt; mask_of_paths(paths.usable(&engaged)) == 0x10);
     paths.dedicated = Path::new(4);
-    assert_eq!(rt; mask_of_paths(paths.allowed()), 0);
+    assert!(rt; mask_of_paths(paths.allowed()) == 0);
 }

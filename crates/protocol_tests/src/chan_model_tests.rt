@@ -15,20 +15,17 @@ fn names_keep_their_range(rt: HostRuntime) {
     assert!(rt; Path::new(8).is_none() && Cpu::new(16).is_none());
     match (Path::new(7), Path::new(0), Cpu::new(15)) {
         (Some(last), Some(first), Some(cpu)) => {
-            assert_eq!(rt; last.index(), 7);
+            assert!(rt; last.index() == 7);
             assert!(rt; last.same(last) && !last.same(first));
-            assert_eq!(rt; cpu.number(), 15);
-            assert_eq!(rt; mask_of_path(Some(last)), 1);
-            assert_eq!(rt; mask_of_path(Some(first)), 0x80);
+            assert!(rt; cpu.number() == 15);
+            assert!(rt; mask_of_path(Some(last)) == 1);
+            assert!(rt; mask_of_path(Some(first)) == 0x80);
         }
         _ => assert!(rt; false, "the names are in range"),
     }
-    assert_eq!(rt; mask_of_path(None), 0);
-    assert_eq!(rt; mask_of_paths(paths_of_mask(0xA1)), 0xA1);
-    assert_eq!(rt;
-        paths_of_mask(0xA1),
-        [true, false, true, false, false, false, false, true]
-    );
+    assert!(rt; mask_of_path(None) == 0);
+    assert!(rt; mask_of_paths(paths_of_mask(0xA1)) == 0xA1);
+    assert!(rt; paths_of_mask(0xA1) == [true, false, true, false, false, false, false, true]);
     assert!(rt; Side::First.same(Side::First) && !Side::First.same(Side::Second));
 }
 
@@ -36,10 +33,10 @@ fn names_keep_their_range(rt: HostRuntime) {
 fn chunks_and_signals_are_copied(rt: HostRuntime) {
     let mut bytes = Chunk::of(&[0xC1, 0xC2]);
     bytes.push(0xC3);
-    assert_eq!(rt; bytes.len(), 3);
-    assert_eq!(rt; bytes.copy().as_slice(), [0xC1, 0xC2, 0xC3].as_slice());
-    assert_eq!(rt; Load::Bytes(bytes.copy()).copy().len(), 3);
-    assert_eq!(rt; Load::Absorbed(9).len(), 9);
+    assert!(rt; bytes.len() == 3);
+    assert!(rt; bytes.copy().as_slice() == [0xC1, 0xC2, 0xC3].as_slice());
+    assert!(rt; Load::Bytes(bytes.copy()).copy().len() == 3);
+    assert!(rt; Load::Absorbed(9).len() == 9);
     assert!(rt; matches!(Down::Halt { number: 3 }.copy(), Down::Halt { number: 3 }));
     assert!(rt; matches!(Up::Busy { number: 3 }.copy(), Up::Busy { number: 3 }));
 }
@@ -55,18 +52,18 @@ fn reports_are_copied(rt: HostRuntime) {
     }
     .copy();
     assert!(rt; report.side.same(Side::Second));
-    assert_eq!(rt; (report.number, report.command, report.sequence), (1, 2, 3));
+    assert!(rt; (report.number, report.command, report.sequence) == (1, 2, 3));
     let DeviceAnswer::Supplied(bytes) = report.answer.copy() else {
         return assert!(rt; false, "bytes were supplied");
     };
-    assert_eq!(rt; bytes.as_slice(), [0xD1, 0xD2].as_slice());
+    assert!(rt; bytes.as_slice() == [0xD1, 0xD2].as_slice());
 }
 
 #[test]
 fn lengths_keep_their_range(rt: HostRuntime) {
     assert!(rt; ChunkLength::new(257).is_none());
     match ChunkLength::new(256) {
-        Some(length) => assert_eq!(rt; length.get(), 256),
+        Some(length) => assert!(rt; length.get() == 256),
         None => assert!(rt; false, "the length is in range"),
     }
 }
@@ -86,10 +83,7 @@ fn codes_bring_their_serials(rt: HostRuntime) {
             })
         )
     );
-    assert_eq!(rt;
-        Answer::of(ConditionCode::Two, serials).code(),
-        ConditionCode::Two
-    );
+    assert!(rt; Answer::of(ConditionCode::Two, serials).code() == ConditionCode::Two);
 }
 
 #[test]
@@ -105,7 +99,7 @@ fn refusals_say_what_they_are(rt: HostRuntime) {
         ),
     ] {
         match format!(in alloc; "{fault}") {
-            Ok(said) => assert_eq!(rt; said.as_str(), text),
+            Ok(said) => assert!(rt; said.as_str() == text),
             Err(_) => assert!(rt; false, "there is memory"),
         }
     }

@@ -25,60 +25,54 @@ fn words_name_subchannels(rt: HostRuntime) {
         (4, 0x8001_0000, None),
         (4, 0x0000_0000, None),
     ] {
-        assert_eq!(rt; subchannel_named(sets, word), named, "{word:x}");
+        assert!(rt; subchannel_named(sets, word) == named, "{word:x}");
     }
 }
 
 #[test]
 fn storage_and_sets_are_given_once(rt: HostRuntime) {
     let mut config = Config::new(rt.alloc());
-    assert_eq!(rt; config.blocks(), None);
-    assert_eq!(rt; config.storage(0xF), Err(ConfigFault::Rule(1)));
-    assert_eq!(rt; config.storage(0x1001), Err(ConfigFault::Rule(1)));
-    assert_eq!(rt; config.storage(0x1000), Ok(()));
-    assert_eq!(rt; config.storage(0x10), Err(ConfigFault::Rule(1)));
-    assert_eq!(rt; config.blocks(), Some(0x1000));
-    assert_eq!(rt; config.set_count(), 1);
-    assert_eq!(rt; config.sets(0), Err(ConfigFault::Rule(8)));
-    assert_eq!(rt; config.sets(5), Err(ConfigFault::Rule(8)));
-    assert_eq!(rt; config.sets(4), Ok(()));
-    assert_eq!(rt; config.sets(4), Err(ConfigFault::Rule(8)));
-    assert_eq!(rt; config.set_count(), 4);
+    assert!(rt; config.blocks() == None);
+    assert!(rt; config.storage(0xF) == Err(ConfigFault::Rule(1)));
+    assert!(rt; config.storage(0x1001) == Err(ConfigFault::Rule(1)));
+    assert!(rt; config.storage(0x1000) == Ok(()));
+    assert!(rt; config.storage(0x10) == Err(ConfigFault::Rule(1)));
+    assert!(rt; config.blocks() == Some(0x1000));
+    assert!(rt; config.set_count() == 1);
+    assert!(rt; config.sets(0) == Err(ConfigFault::Rule(8)));
+    assert!(rt; config.sets(5) == Err(ConfigFault::Rule(8)));
+    assert!(rt; config.sets(4) == Ok(()));
+    assert!(rt; config.sets(4) == Err(ConfigFault::Rule(8)));
+    assert!(rt; config.set_count() == 4);
 }
 
 #[test]
 fn paths_and_units_are_named_once(rt: HostRuntime) {
     let mut config = Config::new(rt.alloc());
-    assert_eq!(rt; config.path(0x100), Err(ConfigFault::Rule(2)));
-    assert_eq!(rt; config.path(0xFF), Ok(()));
-    assert_eq!(rt; config.path(0x10), Ok(()));
-    assert_eq!(rt; config.path(0xFF), Err(ConfigFault::Rule(2)));
-    assert_eq!(rt; config.paths(), [0xFF, 0x10].as_slice());
-    assert_eq!(rt; config.unit(1, UnitKind::Block), Err(ConfigFault::Rule(3)));
+    assert!(rt; config.path(0x100) == Err(ConfigFault::Rule(2)));
+    assert!(rt; config.path(0xFF) == Ok(()));
+    assert!(rt; config.path(0x10) == Ok(()));
+    assert!(rt; config.path(0xFF) == Err(ConfigFault::Rule(2)));
+    assert!(rt; config.paths() == [0xFF, 0x10].as_slice());
+    assert!(rt; config.unit(1, UnitKind::Block) == Err(ConfigFault::Rule(3)));
     for number in 0..0x400 {
-        assert_eq!(rt; config.unit(number, UnitKind::Block), Ok(()));
+        assert!(rt; config.unit(number, UnitKind::Block) == Ok(()));
     }
-    assert_eq!(rt;
-        config.unit(0x400, UnitKind::Block),
-        Err(ConfigFault::Rule(3))
-    );
-    assert_eq!(rt; config.units().len(), 0x400);
+    assert!(rt; config.unit(0x400, UnitKind::Block) == Err(ConfigFault::Rule(3)));
+    assert!(rt; config.units().len() == 0x400);
 }
 
 #[test]
 fn subchannels_use_what_there_is(rt: HostRuntime) {
     let mut config = Config::new(rt.alloc());
     for chpid in 0x10..0x19 {
-        assert_eq!(rt; config.path(chpid), Ok(()));
+        assert!(rt; config.path(chpid) == Ok(()));
     }
-    assert_eq!(rt; config.unit(0, UnitKind::Block), Ok(()));
-    assert_eq!(rt; config.unit(1, UnitKind::Block), Ok(()));
-    assert_eq!(rt; config.sets(2), Ok(()));
+    assert!(rt; config.unit(0, UnitKind::Block) == Ok(()));
+    assert!(rt; config.unit(1, UnitKind::Block) == Ok(()));
+    assert!(rt; config.sets(2) == Ok(()));
     let all = [0x10, 0x11, 0x12, 0x13, 0x14, 0x15, 0x16, 0x17, 0x18];
-    assert_eq!(rt;
-        config.subchannel(0x0001_0000, 0xFFFF, 0, &all[..8]),
-        Ok(())
-    );
+    assert!(rt; config.subchannel(0x0001_0000, 0xFFFF, 0, &all[..8]) == Ok(()));
     for (word, device, unit, paths, rule) in [
         (0x0000_0001, 0x100, 1, &all[..1], 7),
         (0x0005_0000, 0x100, 1, &all[..1], 7),
@@ -91,29 +85,20 @@ fn subchannels_use_what_there_is(rt: HostRuntime) {
         (0x0001_0001, 0x100, 1, &[0x19], 5),
         (0x0001_0001, 0x100, 1, &[0x10, 0x11, 0x10], 5),
     ] {
-        assert_eq!(rt;
-            config.subchannel(word, device, unit, paths),
-            Err(ConfigFault::Rule(rule))
-        );
+        assert!(rt; config.subchannel(word, device, unit, paths) == Err(ConfigFault::Rule(rule)));
     }
-    assert_eq!(rt;
-        config.subchannel(0x0003_0000, 0x100, 0, &[0x18, 0x10]),
-        Ok(())
-    );
-    assert_eq!(rt;
-        config.subchannel(0x0001_0001, 0x100, 0, &[0x10]),
-        Err(ConfigFault::Rule(4))
-    );
-    assert_eq!(rt; config.sets(2), Err(ConfigFault::Rule(8)));
+    assert!(rt; config.subchannel(0x0003_0000, 0x100, 0, &[0x18, 0x10]) == Ok(()));
+    assert!(rt; config.subchannel(0x0001_0001, 0x100, 0, &[0x10]) == Err(ConfigFault::Rule(4)));
+    assert!(rt; config.sets(2) == Err(ConfigFault::Rule(8)));
     match config.subchannels() {
         [_, second] => {
-            assert_eq!(rt; second.id, SubchannelId { set: 1, number: 0 });
-            assert_eq!(rt; second.device, 0x100);
-            assert_eq!(rt; second.unit, 0);
-            assert_eq!(rt; second.side, Side::Second);
-            assert_eq!(rt; second.paths.as_slice(), [0x18, 0x10].as_slice());
+            assert!(rt; second.id == SubchannelId { set: 1, number: 0 });
+            assert!(rt; second.device == 0x100);
+            assert!(rt; second.unit == 0);
+            assert!(rt; second.side == Side::Second);
+            assert!(rt; second.paths.as_slice() == [0x18, 0x10].as_slice());
         }
-        others => assert_eq!(rt; others.len(), 2),
+        others => assert!(rt; others.len() == 2),
     }
 }
 
@@ -137,12 +122,12 @@ fn each_growth_is_refused_in_turn(rt: HostRuntime) {
         } else {
             Ok(())
         };
-        assert_eq!(rt; fill(&mut config, &mut supply), wanted);
-        assert_eq!(rt; supply.refused, left < 3);
-        assert_eq!(rt; config.paths().len(), usize::from(left > 0));
-        assert_eq!(rt; config.units().len(), usize::from(left > 1));
-        assert_eq!(rt; config.subchannels().len(), usize::from(left > 2));
+        assert!(rt; fill(&mut config, &mut supply) == wanted);
+        assert!(rt; supply.refused == (left < 3));
+        assert!(rt; config.paths().len() == (usize::from(left > 0)));
+        assert!(rt; config.units().len() == (usize::from(left > 1)));
+        assert!(rt; config.subchannels().len() == (usize::from(left > 2)));
         let mut again = Config::new(rt.alloc());
-        assert_eq!(rt; fill(&mut again, &mut Given { refused: false }), Ok(()));
+        assert!(rt; fill(&mut again, &mut Given { refused: false }) == Ok(()));
     }
 }
