@@ -6,12 +6,6 @@ ghost use Rattle.command_words.specs.Plain.{plain};
 ghost use Rattle.chsim.specs.Program.{IsServed, ShowsRefusal};
 
 #[cfg(test)]
-mod memory;
-#[cfg(test)]
-mod programs;
-#[cfg(test)]
-mod stops;
-#[cfg(test)]
 mod tests;
 
 use command_words::{Refused, Wanted, command_of};

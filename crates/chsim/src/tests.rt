@@ -1,7 +1,11 @@
 //! Whole scripts over memory, and readers and writers that fail.
 
-use crate::memory::{Short, Slow};
+mod memory;
+mod programs;
+mod stops;
+
 use crate::serve;
+use crate::tests::memory::{Short, Slow};
 use serving::{Ending, serve_script_with};
 use streams::{Heard, Watched};
 use supply::Refusing;

@@ -1,6 +1,6 @@
 //! The table of condition codes, each code of each instruction once, and status words that are known from elsewhere.
 
-use crate::setups::{idle_state, is_same_words};
+use crate::tests::setups::{idle_state, is_same_words};
 use ccw_walk::Walk;
 use chan_model::answer::ConditionCode;
 use chan_model::hold_state::HoldPhase;

@@ -3,7 +3,7 @@
 ghost use Rattle.std.specs.Bool.{OnTrue};
 ghost use Rattle.machine_model.specs.Bounds.{IsRoomy};
 
-use crate::setups::idle_state;
+use crate::tests::setups::idle_state;
 use chan_events::event::{Instruction, OtherInstruction};
 use chan_events::reply::Reply;
 use chan_model::answer::ConditionCode;

@@ -1,6 +1,6 @@
 //! Places and engines of a few subchannels, looked up.
 
-use crate::setups::idle_state;
+use crate::tests::setups::idle_state;
 use chan_model::hold_state::HoldPhase;
 use chan_model::names::{Path, Side};
 use channel_config::names::SubchannelId;

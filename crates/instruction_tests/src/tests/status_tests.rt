@@ -1,6 +1,6 @@
 //! Status words that are known from elsewhere, cause by cause.
 
-use crate::setups::{idle_state, is_same_words};
+use crate::tests::setups::{idle_state, is_same_words};
 use ccw_walk::Walk;
 use chan_model::answer::ConditionCode;
 use channel_program::check::Check;

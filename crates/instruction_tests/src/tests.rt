@@ -1,0 +1,7 @@
+//! A module for each crate that is tested.
+
+mod finding_tests;
+mod functions_tests;
+mod io_step_tests;
+mod setups;
+mod status_tests;

@@ -1,0 +1,10 @@
+//! A module for each crate that is tested.
+
+mod device_models_ends;
+mod device_models_tests;
+mod script_rows_tests;
+mod script_tests;
+mod script_text_shown_lines;
+mod script_text_tests;
+mod script_wrong_lines;
+mod subsystem_tests;
