@@ -32,23 +32,6 @@ use subchannel_model::state::{Candidate, Chosen, Subchannel};
 use unit::Unit;
 use wires::Wires;
 
-/// The Reset that is due is sent on a path.
-fn reset_sub(sub: &mut Subchannel, number: u64, path: Path) -> Result<Reply, Fault>
-    ensures { giving_spec.GivesSub sub.old (choose_spec.choose_sub sub.old (chosen_spec.Resets number path))
-        result sub.new }
-{
-    if sub.wires.down_is_full(path) {
-        return Err(Fault::WireFull);
-    }
-    let signal = Down::Reset {
-        number,
-        restarts: sub.state.hold.known,
-    };
-    send_reset(&mut sub.state, path);
-    sub.wires.send_down(path, signal);
-    Ok(Reply::ResetSent { number, path })
-}
-
 /// A Halt is sent on a path.
 fn halt_on(sub: &mut Subchannel, number: u64, path: Path) -> Result<Reply, Fault>
     ensures { giving_spec.GivesSub sub.old (choose_spec.choose_sub sub.old (chosen_spec.Halts number path))
@@ -72,11 +55,10 @@ fn offer_sub(sub: &mut Subchannel, candidate: Candidate, path: Path) -> Result<R
     if sub.wires.down_is_full(path) {
         return Err(Fault::WireFull);
     }
-    let number = sub.state.drawn + 1;
-    offer(&mut sub.state, &candidate.program, path);
-    sub.wires.send_down(path, Down::Select { number });
+    let sent = offer(&mut sub.state, &candidate.program, path);
+    sub.wires.send_down(sent.path, sent.signal);
     Ok(Reply::Offered {
-        number,
+        number: sub.state.drawn,
         path,
         resumed: candidate.resumes,
     })
@@ -99,7 +81,14 @@ pub fn choose_sub(sub: &mut Subchannel, chosen: Chosen) -> Result<Reply, Fault>
 {
     match chosen {
         Chosen::Idle => Ok(Reply::Idle),
-        Chosen::Resets { number, path } => reset_sub(sub, number, path),
+        Chosen::Resets { number, path } => {
+            if sub.wires.down_is_full(path) {
+                return Err(Fault::WireFull);
+            }
+            let sent = send_reset(&mut sub.state, path);
+            send_any_down(&mut sub.wires, &sent);
+            Ok(Reply::ResetSent { number, path })
+        }
         Chosen::PerformsClear => pend_sub(sub, &StatusCause::ClearDone),
         Chosen::Halts { number, path } => halt_on(sub, number, path),
         Chosen::PerformsHalt => pend_sub(sub, &StatusCause::HaltDone),

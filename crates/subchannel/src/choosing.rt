@@ -1,6 +1,7 @@
 //! What the subsystem does of itself for a subchannel (own).
 
-ghost use Rattle.std.specs.Prelude.{◌≡◌, ◌<◌, ◌^◌, IfSome};
+ghost use Rattle.std.specs.Prelude.{◌≡◌, ◌<◌, ◌+◌, ◌^◌, IfSome, Some};
+ghost use Rattle.chan_model.specs.HoldTable.{came_of, offering, sending_reset};
 ghost use Rattle.subchannel_model.specs.Choosing as spec;
 ghost use Rattle.chan_model.specs.declared.hold_state.HoldPhase.TheVariants as phase;
 
@@ -9,6 +10,7 @@ use allegiance::path_use::is_any;
 use chan_model::hold_state::{HoldPhase, HoldState};
 use chan_model::names::Path;
 use chan_model::paths::PathSet;
+use chan_model::signal::{Down, OnPath};
 use finding::engines::Counted;
 use hold::Hold;
 use scsw_irb::scsw::Scsw;
@@ -173,14 +175,16 @@ pub fn chosen(sub: &Subchannel, choice: Option<Path>) -> Chosen
     }
 }
 
-/// The Reset that is due is sent on a path.
-pub fn send_reset(state: &mut SubchannelState, path: Path)
-    ensures { state.new ≡ spec.reset_sent state.old path }
+/// The Reset that is due is sent on a path: the signal. None where there is none to send.
+pub fn send_reset(state: &mut SubchannelState, path: Path) -> Option<OnPath<Down>>
+    ensures state { state.new ≡ spec.reset_sent state.old path }
+    ensures sent { result ≡ (came_of (sending_reset state.old.hold state.old.hold.phase path)).sent }
 {
     let mut hold = Hold::of(state.hold);
-    let _ = hold.send_reset(path);
+    let sent = hold.send_reset(path);
     state.hold = hold.state();
     state.last_path = Some(path);
+    sent
 }
 
 fn tell_halt(scsw: &mut Scsw)
@@ -196,16 +200,18 @@ pub fn send_halt(state: &mut SubchannelState)
     tell_halt(&mut state.scsw);
 }
 
-/// A program is offered on a path under a fresh number.
-pub fn offer(state: &mut SubchannelState, program: &Program, path: Path)
+/// A program is offered on a path under a fresh number: the signal.
+pub fn offer(state: &mut SubchannelState, program: &Program, path: Path) -> OnPath<Down>
     requires drawn { state.old.drawn < 2 ^ 63 }
     requires free { state.old.hold.phase ≡ phase.Free }
-    ensures { state.new ≡ spec.offered state.old program.now path }
+    ensures state { state.new ≡ spec.offered state.old program.now path }
+    ensures sent { Some result ≡ (offering state.old.hold (state.old.drawn + 1) path program.now.single_path).sent }
 {
     state.drawn += 1;
     let mut hold = Hold::of(state.hold);
-    let _ = hold.offer(state.drawn, path, program.single_path);
+    let sent = hold.offer(state.drawn, path, program.single_path);
     state.hold = hold.state();
     state.offered = program.start;
     state.last_path = Some(path);
+    sent
 }
