@@ -10,7 +10,7 @@ use Rattle.chan_model.specs.declared.signal.Load.{Load}
 use Rattle.chan_model.specs.declared.signal.Taken.{Taken}
 use Rattle.chan_model.specs.declared.signal.Up.{Up}
 use Rattle.chan_model.specs.declared.signal.Up.TheVariants as up
-use Rattle.chan_model.specs.HoldTable.{HoldStep, hold_takes, hold_after, came_of, is_connected, is_on, letting_go}
+use Rattle.chan_model.specs.HoldTable.{HoldStep, hold_takes, hold_after, came_of, letting_go}
 use Rattle.chan_model.specs.UnitReports.{is_last_end, is_outward, has_device_end}
 use Rattle.channel_program.specs.declared.check.Check.{Check}
 use Rattle.channel_program.specs.Walks.{WalkPlace}
@@ -19,7 +19,6 @@ use Rattle.transfer.specs.declared.CommandStart.{CommandStart}
 use Rattle.transfer.specs.declared.CommandStart.TheVariants as came
 use Rattle.transfer.specs.declared.Beginning.{Beginning}
 use Rattle.transfer.specs.Commands.{first_command, next_command}
-use Rattle.transfer.specs.Chunks.{is_answered}
 use Rattle.subchannel_model.specs.declared.signals.DataSignal.{DataSignal}
 use Rattle.subchannel_model.specs.declared.signals.EndSignal.{EndSignal}
 use Rattle.subchannel_model.specs.declared.state.ActiveProgram.{ActiveProgram}
@@ -30,8 +29,12 @@ use Rattle.subchannel_model.specs.declared.state.UpStep.{UpStep}
 use Rattle.subchannel_model.specs.declared.cause.StatusCause.TheVariants as cause
 use Rattle.subchannel_model.specs.Causes.{with_cause, without_begun}
 use Rattle.subchannel_model.specs.Ends.{has_status_modifier, chains_command}
-use Rattle.subchannel_model.specs.Taking.{end_taken, Met, meets, ignoring, let_go, suspending, standing, goes_ahead, path_used, beginning, begin_standing, accepted_by, accept_by, move_bytes, move_data, chaining, goes_on, with_end, end_shown_at, stops_at, command_ended, end_of, reset_taken, notice, takes_up}
-use Rattle.subchannel.specs.Answering.{path_of, only_if, held_path, accepted_path, moved_path, chained_path, going_path, ended_path, end_of_path, answer_path}
+use Rattle.subchannel_model.specs.Taking.{end_taken, Met, let_go, suspending, standing, goes_ahead, path_used, beginning, begin_standing, accepted_by, accept_by, take_data, chaining, goes_on, with_end, end_shown_at, stops_at, command_ended, end_command, reset_taken, notice, takes_up}
+use Rattle.subchannel.specs.declared.moving.Moved.{Moved}
+use Rattle.subchannel.specs.declared.ending.Ended.{Ended}
+use Rattle.subchannel.specs.Answering.{path_of, only_if, held_path, accepted_path, data_path, chained_path, going_path, ended_path, end_path, answer_path}
+use Rattle.subchannel.specs.Working.{moved_at, data_met, ended_at, end_met}
+use Rattle.subchannel.proofs.Working.{data_takes, end_takes}
 
 abbrev answers : UpStep → Option ℕ
 answers step = path_of step.came.sent
@@ -39,10 +42,6 @@ answers step = path_of step.came.sent
 answers-if : (b : Bool) (x y : UpStep) (u v : Option ℕ) → answers x ≡ u → answers y ≡ v → answers (if b then x else y) ≡ (if b then u else v)
 answers-if true x y u v e f = e
 answers-if false x y u v e f = f
-
-met-if : (b : Bool) (x y : Met) (u v : Option ℕ) → answers x.step ≡ u → answers y.step ≡ v → answers (if b then x else y).step ≡ (if b then u else v)
-met-if true x y u v e f = e
-met-if false x y u v e f = f
 
 both : (b : Bool) (x y : Met) (u : Option ℕ) → answers x.step ≡ u → answers y.step ≡ u → answers (if b then x else y).step ≡ u
 both true x y u e f = e
@@ -107,12 +106,15 @@ accept-answers storage s h taken =
     answers-if taken.taken _ _ (accepted_path s h.phase taken) None (accepted-answers storage (record s { hold = h }) h.phase taken refl) refl
 
 -- Data
-move-answers : (storage : Contents) (s : SubchannelState) (b : Option ActiveProgram) (signal : DataSignal) (load : Load) →
-    answers (move_data storage s b signal load).step ≡ moved_path b signal
-move-answers storage s None signal load = refl
-move-answers storage s (Some b) signal load =
-    met-if (is_answered b.transfer signal.command signal.sequence) (move_bytes storage s b signal load) (meets storage (ignoring s)) (Some signal.path) None
-    (both (is_outward b.transfer.code) _ _ (Some signal.path) refl refl) refl
+move-answers : (storage : Contents) (s : SubchannelState) (load : Load) (moved : Option Moved) →
+    answers (data_met storage s load moved).step ≡ data_path moved
+move-answers storage s load None = refl
+move-answers storage s load (Some m) = both (is_outward m.begun.transfer.code) _ _ (Some m.signal.path) refl refl
+
+data-answers : (storage : Contents) (s : SubchannelState) (signal : DataSignal) (load : Load) →
+    answers (take_data storage s signal load).step ≡ data_path (moved_at s signal)
+data-answers storage s signal load =
+    ap (λ (met : Met). answers met.step) (data_takes storage s signal load) ∙ move-answers storage s load (moved_at s signal)
 
 -- End
 chain-answers : (storage : Contents) (s : SubchannelState) (b : ActiveProgram) (signal : EndSignal) (walk : WalkPlace) (x : CommandStart) →
@@ -139,10 +141,14 @@ ended-answers : (storage : Contents) (s : SubchannelState) (b : ActiveProgram) (
 ended-answers storage s b signal =
     answers-if (chains_command s.scsw b signal.status signal.more) _ _ _ _ (going-answers storage s (with_end b) signal) (stop-answers s b signal)
 
-end-of-answers : (storage : Contents) (s : SubchannelState) (b : Option ActiveProgram) (signal : EndSignal) →
-    answers (end_of storage s b signal) ≡ end_of_path storage s b signal
-end-of-answers storage s None signal = refl
-end-of-answers storage s (Some b) signal = answers-if _ _ _ _ None (ended-answers storage s b signal) refl
+met-answers : (storage : Contents) (s : SubchannelState) (ended : Option Ended) →
+    answers (end_met storage s ended) ≡ end_path storage s ended
+met-answers storage s None = refl
+met-answers storage s (Some e) = ended-answers storage s e.begun e.signal
+
+end-answers : (storage : Contents) (s : SubchannelState) (signal : EndSignal) →
+    answers (end_command storage s signal) ≡ end_path storage s (ended_at s signal)
+end-answers storage s signal = ap answers (end_takes storage s signal) ∙ met-answers storage s (ended_at s signal)
 
 -- Cleared
 reset-answers : (s : SubchannelState) (step : Option HoldStep) → answers (reset_taken s step) ≡ path_of (came_of step).sent
@@ -164,11 +170,9 @@ takes_answers returns storage s p (up.Busy t) = refl
 takes_answers returns storage s p (up.Leave t c) = refl
 takes_answers returns storage s p (up.Back t c) = refl
 takes_answers returns storage s p (up.Data t c n seq load) =
-    met-if (is_connected s.hold.phase p t c) _ _ (moved_path s.begun (record { path = p; number = t; connection = c; command = n; sequence = seq })) None
-    (move-answers storage s s.begun (record { path = p; number = t; connection = c; command = n; sequence = seq }) load) refl
+    data-answers storage s (record { path = p; number = t; connection = c; command = n; sequence = seq }) load
 takes_answers returns storage s p (up.End t n status more) =
-    answers-if (is_on s.hold.phase t) _ _ (end_of_path storage s s.begun (record { path = p; number = t; command = n; status = status; more = more })) None
-    (end-of-answers storage s s.begun (record { path = p; number = t; command = n; status = status; more = more })) refl
+    end-answers storage s (record { path = p; number = t; command = n; status = status; more = more })
 takes_answers returns storage s p (up.Released t) = refl
 takes_answers returns storage s p (up.Cleared r) = reset-answers s (hold_takes s.hold p (up.Cleared r) false)
 takes_answers returns storage s p (up.Notice b) = notice-answers s b

@@ -1,2 +1,3 @@
 pub mod Answered
 mod Returned
+pub mod Working

@@ -1,5 +1,5 @@
 -- The path by which a subchannel answers a signal, if it does.
-use Rattle.std.specs.Prelude.{ℕ, Bool, false, ◌==◌, if◌then◌else◌, Option, None, Some, is_some}
+use Rattle.std.specs.Prelude.{ℕ, Bool, false, if◌then◌else◌, Option, None, Some, is_some}
 use Rattle.storage_keys.specs.Storage.{Contents}
 use Rattle.chan_model.specs.declared.hold_state.HoldPhase.{HoldPhase}
 use Rattle.chan_model.specs.declared.hold_state.HoldPhase.TheVariants as hold
@@ -8,18 +8,19 @@ use Rattle.chan_model.specs.declared.signal.OnPath.{OnPath}
 use Rattle.chan_model.specs.declared.signal.Taken.{Taken}
 use Rattle.chan_model.specs.declared.signal.Up.{Up}
 use Rattle.chan_model.specs.declared.signal.Up.TheVariants as up
-use Rattle.chan_model.specs.HoldTable.{HoldStep, hold_takes, hold_after, came_of, is_connected, is_on}
+use Rattle.chan_model.specs.HoldTable.{HoldStep, hold_takes, hold_after, came_of}
 use Rattle.chan_model.specs.UnitReports.{is_last_end, has_device_end}
 use Rattle.transfer.specs.declared.CommandStart.{CommandStart}
 use Rattle.transfer.specs.declared.CommandStart.TheVariants as came
 use Rattle.transfer.specs.Commands.{next_command}
-use Rattle.transfer.specs.Chunks.{is_answered}
-use Rattle.subchannel_model.specs.declared.signals.DataSignal.{DataSignal}
 use Rattle.subchannel_model.specs.declared.signals.EndSignal.{EndSignal}
 use Rattle.subchannel_model.specs.declared.state.ActiveProgram.{ActiveProgram}
 use Rattle.subchannel_model.specs.declared.state.SubchannelState.{SubchannelState}
 use Rattle.subchannel_model.specs.Ends.{has_status_modifier, chains_command}
 use Rattle.subchannel_model.specs.Taking.{standing, goes_ahead, with_end, may_attend}
+use Rattle.subchannel.specs.declared.moving.Moved.{Moved}
+use Rattle.subchannel.specs.declared.ending.Ended.{Ended}
+use Rattle.subchannel.specs.Working.{moved_by, ended_by}
 
 abbrev pub path_of : Option (OnPath Down) → Option ℕ
 path_of None = None
@@ -39,13 +40,9 @@ accepted_path s phase taken = path_of taken.sent
 abbrev pub accept_path : SubchannelState → Option HoldStep → Option ℕ
 accept_path s step = if (came_of step).taken then accepted_path s (hold_after s.hold step).phase (came_of step) else None
 
-abbrev pub moved_path : Option ActiveProgram → DataSignal → Option ℕ
-moved_path None signal = None
-moved_path (Some b) signal = only_if (is_answered b.transfer signal.command signal.sequence) signal.path
-
-abbrev pub data_path : SubchannelState → DataSignal → Option ℕ
-data_path s signal =
-    if is_connected s.hold.phase signal.path signal.number signal.connection then moved_path s.begun signal else None
+abbrev pub data_path : Option Moved → Option ℕ
+data_path None = None
+data_path (Some m) = Some m.signal.path
 
 abbrev pub chained_path : CommandStart → ℕ → Option ℕ → Option ℕ
 chained_path (came.Begins transfer) p held = Some p
@@ -63,20 +60,14 @@ ended_path storage s b signal =
     if chains_command s.scsw b signal.status signal.more then going_path storage s (with_end b) signal
     else (if is_last_end signal.status then held_path s.hold.phase else None)
 
-abbrev pub end_of_path : Contents → SubchannelState → Option ActiveProgram → EndSignal → Option ℕ
-end_of_path storage s None signal = None
-end_of_path storage s (Some b) signal =
-    if signal.command == b.transfer.command then ended_path storage s b signal else None
-
-abbrev pub end_path : Contents → SubchannelState → EndSignal → Option ℕ
-end_path storage s signal = if is_on s.hold.phase signal.number then end_of_path storage s s.begun signal else None
+abbrev pub end_path : Contents → SubchannelState → Option Ended → Option ℕ
+end_path storage s None = None
+end_path storage s (Some e) = ended_path storage s e.begun e.signal
 
 abbrev pub answer_path : Bool → Contents → SubchannelState → ℕ → Up → Option ℕ
 answer_path returns storage s p (up.Accept t) = accept_path s (hold_takes s.hold p (up.Accept t) (goes_ahead s))
-answer_path returns storage s p (up.Data t c n seq load) =
-    data_path s (record { path = p; number = t; connection = c; command = n; sequence = seq })
-answer_path returns storage s p (up.End t n status more) =
-    end_path storage s (record { path = p; number = t; command = n; status = status; more = more })
+answer_path returns storage s p (up.Data t c n seq load) = data_path (moved_by s p (up.Data t c n seq load))
+answer_path returns storage s p (up.End t n status more) = end_path storage s (ended_by s p (up.End t n status more))
 answer_path returns storage s p (up.Back t c) = path_of (came_of (hold_takes s.hold p (up.Back t c) returns)).sent
 answer_path returns storage s p (up.Notice b) = None
 answer_path returns storage s p (up.Attn a status) = path_of (came_of (hold_takes s.hold p (up.Attn a status) (may_attend s))).sent

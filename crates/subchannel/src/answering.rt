@@ -3,22 +3,23 @@
 ghost use Rattle.std.specs.Prelude.{◌≡◌, ◌<◌, ◌^◌, false};
 ghost use Rattle.chan_model.specs.HoldTable.{hold_takes, came_of};
 ghost use Rattle.subchannel_model.specs.Taking as taking_spec;
+ghost use Rattle.subchannel_model.specs.Ends as end_spec;
 ghost use Rattle.subchannel.specs.Answering as spec;
+ghost use Rattle.subchannel.specs.Working as working_spec;
 ghost use Rattle.transfer.specs.Commands as transfer_spec;
 
 use crate::accepting::{goes_ahead, standing};
 use crate::attending::may_attend;
-use crate::ending::with_end;
+use crate::ending::{Ended, ended_by, with_end};
+use crate::moving::moved_by;
 use chan_model::hold_state::{HoldPhase, HoldState};
 use chan_model::names::Path;
 use chan_model::signal::{Down, OnPath, Up};
 use hold::Hold;
 use status::ends::{chains_command, is_last_end};
 use storage_keys::Storage;
-use subchannel_model::signals::{DataSignal, EndSignal};
-use subchannel_model::state::{ActiveProgram, SubchannelState};
+use subchannel_model::state::SubchannelState;
 use transfer::CommandStart;
-use transfer::chunks::is_answered;
 use transfer::commands::next_command;
 
 fn path_of(sent: &Option<OnPath<Down>>) -> Option<Path>
@@ -69,91 +70,55 @@ fn accept_path(state: &SubchannelState, path: Path, signal: &Up) -> Option<Path>
     }
 }
 
-fn data_path(state: &SubchannelState, signal: DataSignal) -> Option<Path>
+fn data_path(state: &SubchannelState, path: Path, signal: &Up) -> Option<Path>
     requires { taking_spec.IsBelow state.now.begun }
-    ensures { result ≡ spec.data_path state.now signal }
+    ensures { result ≡ spec.data_path (working_spec.moved_by state.now path signal.now) }
 {
-    if !Hold::of(state.hold).is_connected(signal.path, signal.number, signal.connection) {
-        return None;
-    }
-    let Some(begun) = &state.begun else {
-        return None;
-    };
-    if is_answered(&begun.transfer, signal.command, signal.sequence) {
-        Some(signal.path)
-    } else {
-        None
-    }
+    let moved = moved_by(state, path, signal)?;
+    Some(moved.signal.path)
 }
 
-fn beginning_path(
-    storage: &Storage,
-    begun: &ActiveProgram,
-    path: Path,
-    held: Option<Path>,
-    modifier: bool,
-) -> Option<Path>
-    requires { begun.now.transfer.command < 2 ^ 63 }
-    ensures { result ≡ spec.chained_path (transfer_spec.next_command storage.now begun.now.transfer modifier).came path held }
+/// Where the program is held on the path of its End, nothing is to be fetched.
+#[tactic(auto, using(crate::proofs::Answered::chained_same))]
+fn chained_path(storage: &Storage, ended: &Ended, held: Option<Path>) -> Option<Path>
+    requires { ended.now.begun.transfer.command < 2 ^ 63 }
+    ensures { result ≡ spec.chained_path (transfer_spec.next_command storage.now ended.now.begun.transfer (end_spec.has_status_modifier ended.now.signal.status)).came ended.now.signal.path held }
 {
-    let next = next_command(storage, &begun.transfer, modifier);
+    let path = ended.signal.path;
+    if let Some(at) = held
+        && path.same(at)
+    {
+        return held;
+    }
+    let next = next_command(
+        storage,
+        &ended.begun.transfer,
+        ended.signal.status.has_modifier(),
+    );
     match next.came {
         CommandStart::Begins(_) => Some(path),
         CommandStart::Suspends | CommandStart::Stops(_) => held,
     }
 }
 
-/// Where the program is held on the path of its End, nothing is to be fetched.
-#[tactic(auto, using(crate::proofs::Answered::chained_same))]
-fn chained_path(
-    storage: &Storage,
-    begun: &ActiveProgram,
-    path: Path,
-    held: Option<Path>,
-    modifier: bool,
-) -> Option<Path>
-    requires { begun.now.transfer.command < 2 ^ 63 }
-    ensures { result ≡ spec.chained_path (transfer_spec.next_command storage.now begun.now.transfer modifier).came path held }
+fn going_path(storage: &Storage, state: &SubchannelState, ended: &Ended) -> Option<Path>
+    requires { ended.now.begun.transfer.command < 2 ^ 63 }
+    ensures { result ≡ spec.going_path storage.now state.now ended.now.begun ended.now.signal }
 {
-    match held {
-        Some(at) if path.same(at) => Some(at),
-        _ => beginning_path(storage, begun, path, held, modifier),
-    }
-}
-
-fn going_path(
-    storage: &Storage,
-    state: &SubchannelState,
-    begun: &ActiveProgram,
-    signal: EndSignal,
-) -> Option<Path>
-    requires { begun.now.transfer.command < 2 ^ 63 }
-    ensures { result ≡ spec.going_path storage.now state.now begun.now signal }
-{
-    if signal.status.has_device_end() {
-        chained_path(
-            storage,
-            begun,
-            signal.path,
-            held_path(&state.hold),
-            signal.status.has_modifier(),
-        )
+    if ended.signal.status.has_device_end() {
+        chained_path(storage, ended, held_path(&state.hold))
     } else {
         None
     }
 }
 
-fn ended_path(
-    storage: &Storage,
-    state: &SubchannelState,
-    begun: &ActiveProgram,
-    signal: EndSignal,
-) -> Option<Path>
-    requires { begun.now.transfer.command < 2 ^ 63 }
-    ensures { result ≡ spec.ended_path storage.now state.now begun.now signal }
+fn ended_path(storage: &Storage, state: &SubchannelState, ended: &Ended) -> Option<Path>
+    requires { ended.now.begun.transfer.command < 2 ^ 63 }
+    ensures { result ≡ spec.ended_path storage.now state.now ended.now.begun ended.now.signal }
 {
-    if chains_command(state.scsw, begun, signal.status, signal.more) {
-        going_path(storage, state, &with_end(begun), signal)
+    let signal = ended.signal;
+    if chains_command(state.scsw, &ended.begun, signal.status, signal.more) {
+        going_path(storage, state, &with_end(ended))
     } else if is_last_end(signal.status) {
         held_path(&state.hold)
     } else {
@@ -161,69 +126,13 @@ fn ended_path(
     }
 }
 
-fn end_path(storage: &Storage, state: &SubchannelState, signal: EndSignal) -> Option<Path>
+fn end_path(storage: &Storage, state: &SubchannelState, path: Path, signal: &Up) -> Option<Path>
     requires { taking_spec.IsBelow state.now.begun }
-    ensures { result ≡ spec.end_path storage.now state.now signal }
+    ensures { result ≡ spec.end_path storage.now state.now (working_spec.ended_by state.now path signal.now) }
 {
-    if !Hold::of(state.hold).is_on(signal.number) {
-        return None;
-    }
-    let Some(begun) = &state.begun else {
-        return None;
-    };
-    if signal.command != begun.transfer.command {
-        return None;
-    }
-    ended_path(storage, state, begun, signal)
-}
-
-fn path_by_signal(
-    storage: &Storage,
-    state: &SubchannelState,
-    path: Path,
-    signal: &Up,
-    returns: bool,
-) -> Option<Path>
-    requires { taking_spec.IsBelow state.now.begun }
-    ensures { result ≡ spec.answer_path returns storage.now state.now path signal.now }
-{
-    match signal {
-        Up::Accept { .. } => accept_path(state, path, signal),
-        Up::Data {
-            number,
-            connection,
-            command,
-            sequence,
-            ..
-        } => {
-            let data = DataSignal {
-                path,
-                number: *number,
-                connection: *connection,
-                command: *command,
-                sequence: *sequence,
-            };
-            data_path(state, data)
-        }
-        Up::End {
-            number,
-            command,
-            status,
-            more,
-        } => {
-            let end = EndSignal {
-                path,
-                number: *number,
-                command: *command,
-                status: *status,
-                more: *more,
-            };
-            end_path(storage, state, end)
-        }
-        Up::Back { .. } => hold_path(state, path, signal, returns),
-        Up::Notice { .. } => None,
-        Up::Attn { .. } => hold_path(state, path, signal, may_attend(state)),
-        _ => hold_path(state, path, signal, false),
+    match ended_by(state, path, signal) {
+        None => None,
+        Some(ended) => ended_path(storage, state, &ended),
     }
 }
 
@@ -240,5 +149,13 @@ pub fn answer_path(
     requires { taking_spec.IsBelow state.now.begun }
     ensures { spec.path_of (taking_spec.takes_up returns storage.now state.now path signal.now).step.came.sent ≡ result }
 {
-    path_by_signal(storage, state, path, signal, returns)
+    match signal {
+        Up::Accept { .. } => accept_path(state, path, signal),
+        Up::Data { .. } => data_path(state, path, signal),
+        Up::End { .. } => end_path(storage, state, path, signal),
+        Up::Back { .. } => hold_path(state, path, signal, returns),
+        Up::Notice { .. } => None,
+        Up::Attn { .. } => hold_path(state, path, signal, may_attend(state)),
+        _ => hold_path(state, path, signal, false),
+    }
 }

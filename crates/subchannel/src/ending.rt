@@ -1,9 +1,10 @@
 //! What a subchannel does as a command ends.
 
-ghost use Rattle.std.specs.Prelude.{◌≡◌, ◌<◌, ◌^◌};
+ghost use Rattle.std.specs.Prelude.{◌≡◌, ◌<◌, ◌^◌, IfSome};
 ghost use Rattle.subchannel_model.specs.Ends as end_spec;
 ghost use Rattle.subchannel_model.specs.Taking as spec;
 ghost use Rattle.subchannel.specs.Stepping.{subchannel_stepped};
+ghost use Rattle.subchannel.specs.Working as working_spec;
 ghost use Rattle.transfer.specs.Commands as transfer_spec;
 
 use crate::answers::{ignored, let_go, quiet, sent};
@@ -12,7 +13,7 @@ use crate::moving::move_on;
 use allegiance::allegiances;
 use allegiance::allegiances::dedicated;
 use chan_model::names::Path;
-use chan_model::signal::{Down, Taken};
+use chan_model::signal::{Down, Taken, Up};
 use hold::Hold;
 use status::ends::{chains_command, is_last_end};
 use status::make_pending;
@@ -22,6 +23,45 @@ use subchannel_model::signals::EndSignal;
 use subchannel_model::state::{ActiveProgram, SubchannelState};
 use transfer::commands::{begun_with_room, next_command};
 use transfer::{CommandStart, WithRoom};
+
+/// An End that the program at work takes, and the program.
+#[derive(Clone, Copy)]
+pub(crate) struct Ended {
+    pub(crate) begun: ActiveProgram,
+    pub(crate) signal: EndSignal,
+}
+
+/// The End that a signal is. None where it is none, or not of the command at hand of the program that is connected.
+pub(crate) fn ended_by(state: &SubchannelState, path: Path, signal: &Up) -> Option<Ended>
+    requires { spec.IsBelow state.now.begun }
+    ensures ended { result ≡ working_spec.ended_by state.now path signal.now }
+    ensures command { IfSome result (λ e. e.begun.transfer.command < 2 ^ 63) }
+{
+    let Up::End {
+        number,
+        command,
+        status,
+        more,
+    } = signal
+    else {
+        return None;
+    };
+    if !Hold::of(state.hold).is_on(*number) {
+        return None;
+    }
+    let begun = state.begun?;
+    if *command != begun.transfer.command {
+        return None;
+    }
+    let signal = EndSignal {
+        path,
+        number: *number,
+        command: *command,
+        status: *status,
+        more: *more,
+    };
+    Some(Ended { begun, signal })
+}
 
 /// What an End leaves of the dedicated allegiance. Where one stands, the End is of a later program than the one whose unit
 /// check brought it.
@@ -42,53 +82,44 @@ fn take_end(state: &mut SubchannelState, signal: EndSignal)
     state.dedicated = dedicated_by_end(state.dedicated, signal);
 }
 
-pub(crate) fn with_end(begun: &ActiveProgram) -> ActiveProgram
-    ensures { result ≡ spec.with_end begun.now }
+pub(crate) fn with_end(ended: &Ended) -> Ended
+    ensures { result ≡ record ended.now { begun = spec.with_end ended.now.begun } }
 {
-    let mut next = *begun;
-    next.transfer.ended = true;
+    let mut next = *ended;
+    next.begun.transfer.ended = true;
     next
 }
 
-fn send_next(
-    state: &mut SubchannelState,
-    begun: &ActiveProgram,
-    signal: EndSignal,
-    command: WithRoom,
-) -> Taken<Down>
+fn send_next(state: &mut SubchannelState, ended: &Ended, command: WithRoom) -> Taken<Down>
     requires { state.old.serials.made < 2 ^ 63 }
-    ensures { subchannel_stepped state.new result ≡ spec.sends_next state.old begun.now signal command }
+    ensures { subchannel_stepped state.new result ≡ spec.sends_next state.old ended.now.begun ended.now.signal command }
 {
     let WithRoom { transfer, room } = command;
     let next = Down::Command {
-        number: signal.number,
+        number: ended.signal.number,
         command: transfer.command,
         code: transfer.code,
         room,
     };
-    move_on(state, begun, transfer);
-    sent(signal.path, next)
+    move_on(state, &ended.begun, transfer);
+    sent(ended.signal.path, next)
 }
 
-fn chain(
-    storage: &Storage,
-    state: &mut SubchannelState,
-    begun: &ActiveProgram,
-    signal: EndSignal,
-) -> Taken<Down>
+fn chain(storage: &Storage, state: &mut SubchannelState, ended: &Ended) -> Taken<Down>
     requires made { state.old.serials.made < 2 ^ 63 }
-    requires command { begun.now.transfer.command < 2 ^ 63 }
-    ensures { subchannel_stepped state.new result ≡ spec.chain_with storage.now state.old begun.now signal (transfer_spec.next_command storage.now begun.now.transfer (end_spec.has_status_modifier signal.status)) }
+    requires command { ended.now.begun.transfer.command < 2 ^ 63 }
+    ensures { subchannel_stepped state.new result ≡ spec.chain_with storage.now state.old ended.now.begun ended.now.signal (transfer_spec.next_command storage.now ended.now.begun.transfer (end_spec.has_status_modifier ended.now.signal.status)) }
 {
-    let next = next_command(storage, &begun.transfer, signal.status.has_modifier());
+    let begun = &ended.begun;
+    let next = next_command(storage, &begun.transfer, ended.signal.status.has_modifier());
     let count = begun.transfer.moving.residual();
     match next.came {
         CommandStart::Begins(transfer) => {
             let command = begun_with_room(storage, &transfer);
-            send_next(state, begun, signal, command)
+            send_next(state, ended, command)
         }
         CommandStart::Suspends => {
-            take_end(state, signal);
+            take_end(state, ended.signal);
             suspend(state, begun.program, next.walk, count);
             let_go(state)
         }
@@ -99,68 +130,59 @@ fn chain(
                 check,
                 count,
             };
-            take_end(state, signal);
+            take_end(state, ended.signal);
             make_pending(state, &cause);
             let_go(state)
         }
     }
 }
 
-fn go_on(
-    storage: &Storage,
-    state: &mut SubchannelState,
-    begun: &ActiveProgram,
-    signal: EndSignal,
-) -> Taken<Down>
+fn go_on(storage: &Storage, state: &mut SubchannelState, ended: &Ended) -> Taken<Down>
     requires made { state.old.serials.made < 2 ^ 63 }
-    requires command { begun.now.transfer.command < 2 ^ 63 }
-    ensures { subchannel_stepped state.new result ≡ spec.goes_on storage.now state.old begun.now signal }
+    requires command { ended.now.begun.transfer.command < 2 ^ 63 }
+    ensures { subchannel_stepped state.new result ≡ spec.goes_on storage.now state.old ended.now.begun ended.now.signal }
 {
-    if signal.status.has_device_end() {
-        return chain(storage, state, begun, signal);
+    if ended.signal.status.has_device_end() {
+        return chain(storage, state, ended);
     }
-    take_end(state, signal);
-    state.begun = Some(*begun);
+    take_end(state, ended.signal);
+    state.begun = Some(ended.begun);
     quiet()
 }
 
-fn show_end(state: &mut SubchannelState, begun: &ActiveProgram, signal: EndSignal)
+fn show_end(state: &mut SubchannelState, ended: &Ended)
     requires { state.old.serials.made < 2 ^ 63 }
-    ensures { state.new ≡ spec.end_shown_at state.old begun.now signal }
+    ensures { state.new ≡ spec.end_shown_at state.old ended.now.begun ended.now.signal }
 {
     let cause = StatusCause::End {
-        begun: *begun,
-        status: signal.status,
-        more: signal.more,
+        begun: ended.begun,
+        status: ended.signal.status,
+        more: ended.signal.more,
     };
     let before = state.dedicated;
     make_pending(state, &cause);
-    state.dedicated = dedicated_by_end(before, signal);
+    state.dedicated = dedicated_by_end(before, ended.signal);
 }
 
-fn stop_at(state: &mut SubchannelState, begun: &ActiveProgram, signal: EndSignal) -> Taken<Down>
+fn stop_at(state: &mut SubchannelState, ended: &Ended) -> Taken<Down>
     requires { state.old.serials.made < 2 ^ 63 }
-    ensures { subchannel_stepped state.new result ≡ spec.stops_at state.old begun.now signal }
+    ensures { subchannel_stepped state.new result ≡ spec.stops_at state.old ended.now.begun ended.now.signal }
 {
-    let last = is_last_end(signal.status);
-    show_end(state, begun, signal);
+    let last = is_last_end(ended.signal.status);
+    show_end(state, ended);
     if last { let_go(state) } else { quiet() }
 }
 
-fn command_ended(
-    storage: &Storage,
-    state: &mut SubchannelState,
-    begun: &ActiveProgram,
-    signal: EndSignal,
-) -> Taken<Down>
+fn command_ended(storage: &Storage, state: &mut SubchannelState, ended: &Ended) -> Taken<Down>
     requires made { state.old.serials.made < 2 ^ 63 }
-    requires command { begun.now.transfer.command < 2 ^ 63 }
-    ensures { subchannel_stepped state.new result ≡ spec.command_ended storage.now state.old begun.now signal }
+    requires command { ended.now.begun.transfer.command < 2 ^ 63 }
+    ensures { subchannel_stepped state.new result ≡ spec.command_ended storage.now state.old ended.now.begun ended.now.signal }
 {
-    if chains_command(state.scsw, begun, signal.status, signal.more) {
-        go_on(storage, state, &with_end(begun), signal)
+    let signal = ended.signal;
+    if chains_command(state.scsw, &ended.begun, signal.status, signal.more) {
+        go_on(storage, state, &with_end(ended))
     } else {
-        stop_at(state, begun, signal)
+        stop_at(state, ended)
     }
 }
 
@@ -168,20 +190,15 @@ fn command_ended(
 pub(crate) fn end_command(
     storage: &Storage,
     state: &mut SubchannelState,
-    signal: EndSignal,
+    path: Path,
+    signal: &Up,
 ) -> Taken<Down>
     requires made { state.old.serials.made < 2 ^ 63 }
     requires below { spec.IsBelow state.old.begun }
-    ensures { subchannel_stepped state.new result ≡ spec.end_command storage.now state.old signal }
+    ensures { subchannel_stepped state.new result ≡ working_spec.end_met storage.now state.old (working_spec.ended_by state.old path signal.now) }
 {
-    if !Hold::of(state.hold).is_on(signal.number) {
-        return ignored();
+    match ended_by(state, path, signal) {
+        None => ignored(),
+        Some(ended) => command_ended(storage, state, &ended),
     }
-    let Some(begun) = state.begun else {
-        return ignored();
-    };
-    if signal.command != begun.transfer.command {
-        return ignored();
-    }
-    command_ended(storage, state, &begun, signal)
 }

@@ -1,7 +1,8 @@
 //! What a subchannel does with the Data of a command.
 
-ghost use Rattle.std.specs.Prelude.{◌≡◌, ◌<◌, ◌≤◌, ◌^◌, length};
+ghost use Rattle.std.specs.Prelude.{◌≡◌, ◌<◌, ◌≤◌, ◌^◌, IfSome, length};
 ghost use Rattle.subchannel_model.specs.Taking as spec;
+ghost use Rattle.subchannel.specs.Working as working_spec;
 ghost use Rattle.subchannel.specs.Stepping.{subchannel_stepped};
 ghost use Rattle.transfer.specs.Chunks as chunk_spec;
 
@@ -9,7 +10,7 @@ use crate::answers::{ignored, sent};
 use crate::intermediate::interrupt;
 use allegiance::allegiances::{AllegianceCause, dedicated};
 use chan_model::names::Path;
-use chan_model::signal::{Down, Load, Taken};
+use chan_model::signal::{Down, Load, Taken, Up};
 use hold::Hold;
 use storage_keys::Storage;
 use subchannel_model::signals::DataSignal;
@@ -17,6 +18,47 @@ use subchannel_model::state::{ActiveProgram, SubchannelState};
 use transfer::chunks::{absorbed, brought, is_answered, next_given};
 use transfer::commands::{is_outward, with_room};
 use transfer::{NextChunk, Transfer, WithRoom};
+
+/// A Data that the program at work takes, and the program.
+#[derive(Clone, Copy)]
+pub(crate) struct Moved {
+    pub(crate) begun: ActiveProgram,
+    pub(crate) signal: DataSignal,
+}
+
+/// The Data that a signal is. None where it is none, or not of the connection at hand, or is not to be answered.
+pub(crate) fn moved_by(state: &SubchannelState, path: Path, signal: &Up) -> Option<Moved>
+    requires { spec.IsBelow state.now.begun }
+    ensures moved { result ≡ working_spec.moved_by state.now path signal.now }
+    ensures sequence { IfSome result (λ m. m.signal.sequence < 2 ^ 63) }
+    ensures below { IfSome result (λ m. m.begun.transfer.sequence < 2 ^ 63) }
+{
+    let Up::Data {
+        number,
+        connection,
+        command,
+        sequence,
+        ..
+    } = signal
+    else {
+        return None;
+    };
+    if !Hold::of(state.hold).is_connected(path, *number, *connection) {
+        return None;
+    }
+    let begun = state.begun?;
+    if !is_answered(&begun.transfer, *command, *sequence) {
+        return None;
+    }
+    let signal = DataSignal {
+        path,
+        number: *number,
+        connection: *connection,
+        command: *command,
+        sequence: *sequence,
+    };
+    Some(Moved { begun, signal })
+}
 
 /// What a Data leaves of the dedicated allegiance. Where one stands, the Data is of a later program than the one whose unit
 /// check brought it.
@@ -42,18 +84,14 @@ pub(crate) fn move_on(state: &mut SubchannelState, begun: &ActiveProgram, transf
     interrupt(state);
 }
 
-fn give(
-    state: &mut SubchannelState,
-    begun: &ActiveProgram,
-    signal: DataSignal,
-    given: NextChunk,
-) -> Taken<Down>
+fn give(state: &mut SubchannelState, moved: &Moved, given: NextChunk) -> Taken<Down>
     requires made { state.old.serials.made < 2 ^ 63 }
-    requires sequence { signal.sequence < 2 ^ 63 }
-    ensures { subchannel_stepped state.new result ≡ spec.giving state.old begun.now signal given }
+    requires sequence { moved.now.signal.sequence < 2 ^ 63 }
+    ensures { subchannel_stepped state.new result ≡ spec.giving state.old moved.now.begun moved.now.signal given }
 {
+    let signal = moved.signal;
     let NextChunk { transfer, bytes } = given;
-    move_on(state, begun, transfer);
+    move_on(state, &moved.begun, transfer);
     sent(
         signal.path,
         Down::Give {
@@ -66,33 +104,13 @@ fn give(
     )
 }
 
-fn give_next(
-    storage: &Storage,
-    state: &mut SubchannelState,
-    begun: &ActiveProgram,
-    signal: DataSignal,
-    count: usize,
-) -> Taken<Down>
-    requires made { state.old.serials.made < 2 ^ 63 }
-    requires sequence { signal.sequence < 2 ^ 63 }
-    requires below { begun.now.transfer.sequence < 2 ^ 63 }
-    ensures { subchannel_stepped state.new result ≡ spec.give_next storage.now state.old begun.now signal count }
-{
-    let moved = absorbed(storage, &begun.transfer, signal.sequence, count);
-    give(state, begun, signal, next_given(storage, &moved))
-}
-
-fn answer(
-    state: &mut SubchannelState,
-    begun: &ActiveProgram,
-    signal: DataSignal,
-    next: WithRoom,
-) -> Taken<Down>
+fn answer(state: &mut SubchannelState, moved: &Moved, next: WithRoom) -> Taken<Down>
     requires { state.old.serials.made < 2 ^ 63 }
-    ensures { subchannel_stepped state.new result ≡ spec.answering state.old begun.now signal next }
+    ensures { subchannel_stepped state.new result ≡ spec.answering state.old moved.now.begun moved.now.signal next }
 {
+    let signal = moved.signal;
     let WithRoom { transfer, room } = next;
-    move_on(state, begun, transfer);
+    move_on(state, &moved.begun, transfer);
     sent(
         signal.path,
         Down::Took {
@@ -114,38 +132,25 @@ fn bytes_of(load: &Load) -> &[u8]
     }
 }
 
-fn take_in(
-    storage: &mut Storage,
-    state: &mut SubchannelState,
-    begun: &ActiveProgram,
-    signal: DataSignal,
-    load: &Load,
-) -> Taken<Down>
-    requires made { state.old.serials.made < 2 ^ 63 }
-    requires below { begun.now.transfer.sequence < 2 ^ 63 }
-    ensures { spec.meets storage.new (subchannel_stepped state.new result) ≡ spec.take_in state.old begun.now signal (chunk_spec.brought storage.old begun.now.transfer signal.sequence (spec.bytes_of_load load.now)) }
-{
-    let taken = brought(storage, &begun.transfer, signal.sequence, bytes_of(load));
-    let next = with_room(storage, &taken);
-    answer(state, begun, signal, next)
-}
-
 fn move_bytes(
     storage: &mut Storage,
     state: &mut SubchannelState,
-    begun: &ActiveProgram,
-    signal: DataSignal,
+    moved: &Moved,
     load: &Load,
 ) -> Taken<Down>
     requires made { state.old.serials.made < 2 ^ 63 }
-    requires sequence { signal.sequence < 2 ^ 63 }
-    requires below { begun.now.transfer.sequence < 2 ^ 63 }
-    ensures { spec.meets storage.new (subchannel_stepped state.new result) ≡ spec.move_bytes storage.old state.old begun.now signal load.now }
+    requires sequence { moved.now.signal.sequence < 2 ^ 63 }
+    requires below { moved.now.begun.transfer.sequence < 2 ^ 63 }
+    ensures { spec.meets storage.new (subchannel_stepped state.new result) ≡ spec.move_bytes storage.old state.old moved.now.begun moved.now.signal load.now }
 {
-    if is_outward(begun.transfer.code) {
-        give_next(storage, state, begun, signal, load.len())
+    let transfer = &moved.begun.transfer;
+    let sequence = moved.signal.sequence;
+    if is_outward(transfer.code) {
+        let left = absorbed(storage, transfer, sequence, load.len());
+        give(state, moved, next_given(storage, &left))
     } else {
-        take_in(storage, state, begun, signal, load)
+        let taken = brought(storage, transfer, sequence, bytes_of(load));
+        answer(state, moved, with_room(storage, &taken))
     }
 }
 
@@ -153,21 +158,16 @@ fn move_bytes(
 pub(crate) fn take_data(
     storage: &mut Storage,
     state: &mut SubchannelState,
-    signal: DataSignal,
+    path: Path,
+    signal: &Up,
     load: &Load,
 ) -> Taken<Down>
     requires made { state.old.serials.made < 2 ^ 63 }
     requires below { spec.IsBelow state.old.begun }
-    ensures { spec.meets storage.new (subchannel_stepped state.new result) ≡ spec.take_data storage.old state.old signal load.now }
+    ensures { spec.meets storage.new (subchannel_stepped state.new result) ≡ working_spec.data_met storage.old state.old load.now (working_spec.moved_by state.old path signal.now) }
 {
-    if !Hold::of(state.hold).is_connected(signal.path, signal.number, signal.connection) {
-        return ignored();
+    match moved_by(state, path, signal) {
+        None => ignored(),
+        Some(moved) => move_bytes(storage, state, &moved, load),
     }
-    let Some(begun) = state.begun else {
-        return ignored();
-    };
-    if !is_answered(&begun.transfer, signal.command, signal.sequence) {
-        return ignored();
-    }
-    move_bytes(storage, state, &begun, signal, load)
 }

@@ -18,7 +18,6 @@ use hold::Hold;
 use status::make_pending;
 use storage_keys::Storage;
 use subchannel_model::cause::StatusCause;
-use subchannel_model::signals::{DataSignal, EndSignal};
 use subchannel_model::state::SubchannelState;
 
 /// A clear that is pending is performed.
@@ -62,6 +61,7 @@ fn notice(state: &mut SubchannelState, restarts: u64) -> Taken<Down>
 
 /// A subchannel takes a signal, and answers what came of the signal. The bytes of a read are stored. `returns`: a program
 /// that is away may come back by the path.
+#[tactic(auto, using(crate::proofs::Working::end_takes))]
 pub fn take_up(
     storage: &mut Storage,
     state: &mut SubchannelState,
@@ -76,37 +76,8 @@ pub fn take_up(
 {
     match signal {
         Up::Accept { .. } => accept(storage, state, path, signal),
-        Up::Data {
-            number,
-            connection,
-            command,
-            sequence,
-            load,
-        } => {
-            let data = DataSignal {
-                path,
-                number: *number,
-                connection: *connection,
-                command: *command,
-                sequence: *sequence,
-            };
-            take_data(storage, state, data, load)
-        }
-        Up::End {
-            number,
-            command,
-            status,
-            more,
-        } => {
-            let end = EndSignal {
-                path,
-                number: *number,
-                command: *command,
-                status: *status,
-                more: *more,
-            };
-            end_command(storage, state, end)
-        }
+        Up::Data { load, .. } => take_data(storage, state, path, signal, load),
+        Up::End { .. } => end_command(storage, state, path, signal),
         Up::Cleared { .. } => reset_taken(state, path, signal),
         Up::Back { .. } => come_back(state, path, signal, returns),
         Up::Notice { restarts } => notice(state, *restarts),

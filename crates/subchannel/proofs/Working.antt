@@ -1,0 +1,52 @@
+-- A Data or an End is taken where it is of the program at work, and otherwise ignored.
+use Rattle.std.proofs.Common.{◌≡◌, refl, sym, ◌∙◌, ap, subst, ℕ, Bool, true, false, Option, None, Some}
+use Rattle.std.specs.Prelude.{◌==◌, if◌then◌else◌}
+use Rattle.storage_keys.specs.Storage.{Contents}
+use Rattle.chan_model.specs.declared.signal.Load.{Load}
+use Rattle.chan_model.specs.declared.signal.Up.{Up}
+use Rattle.chan_model.specs.declared.signal.Up.TheVariants as up
+use Rattle.chan_model.specs.HoldTable.{is_connected, is_on}
+use Rattle.transfer.specs.Chunks.{is_answered}
+use Rattle.subchannel_model.specs.declared.signals.DataSignal.{DataSignal}
+use Rattle.subchannel_model.specs.declared.signals.EndSignal.{EndSignal}
+use Rattle.subchannel_model.specs.declared.state.ActiveProgram.{ActiveProgram}
+use Rattle.subchannel_model.specs.declared.state.SubchannelState.{SubchannelState}
+use Rattle.subchannel_model.specs.declared.state.UpStep.{UpStep}
+use Rattle.subchannel_model.specs.Taking.{Met, meets, ignoring, move_data, take_data, end_of, end_command, takes_up}
+use Rattle.subchannel.specs.Working.{moved_of, moved_at, moved_by, data_met, ended_of, ended_at, end_met}
+
+either : {A : Type 0} {B : Type 0} (f : A → B) (b : Bool) (x y : A) → (if b then f x else f y) ≡ f (if b then x else y)
+either f true x y = refl
+either f false x y = refl
+
+data-of : (storage : Contents) (s : SubchannelState) (b : Option ActiveProgram) (signal : DataSignal) (load : Load) →
+    move_data storage s b signal load ≡ data_met storage s load (moved_of b signal)
+data-of storage s None signal load = refl
+data-of storage s (Some b) signal load =
+    either (data_met storage s load) (is_answered b.transfer signal.command signal.sequence) (Some (record { begun = b; signal = signal })) None
+
+pub data_takes : (storage : Contents) (s : SubchannelState) (signal : DataSignal) (load : Load) →
+    take_data storage s signal load ≡ data_met storage s load (moved_at s signal)
+data_takes storage s signal load =
+    let connected : Bool = is_connected s.hold.phase signal.path signal.number signal.connection in
+    ap (λ (met : Met). if connected then met else meets storage (ignoring s)) (data-of storage s s.begun signal load)
+    ∙ either (data_met storage s load) connected (moved_of s.begun signal) None
+
+pub told_takes : (returns : Bool) (storage : Contents) (s : SubchannelState) (p : ℕ) (told : Up) (t c n seq : ℕ) (load : Load) →
+    told ≡ up.Data t c n seq load → data_met storage s load (moved_by s p told) ≡ takes_up returns storage s p told
+told_takes returns storage s p told t c n seq load e =
+    subst (λ (x : Up). data_met storage s load (moved_by s p x) ≡ takes_up returns storage s p x) (sym e)
+    (sym (data_takes storage s (record { path = p; number = t; connection = c; command = n; sequence = seq }) load))
+
+end-of : (storage : Contents) (s : SubchannelState) (b : Option ActiveProgram) (signal : EndSignal) →
+    end_of storage s b signal ≡ end_met storage s (ended_of b signal)
+end-of storage s None signal = refl
+end-of storage s (Some b) signal =
+    either (end_met storage s) (signal.command == b.transfer.command) (Some (record { begun = b; signal = signal })) None
+
+pub end_takes : (storage : Contents) (s : SubchannelState) (signal : EndSignal) →
+    end_command storage s signal ≡ end_met storage s (ended_at s signal)
+end_takes storage s signal =
+    let on : Bool = is_on s.hold.phase signal.number in
+    ap (λ (step : UpStep). if on then step else ignoring s) (end-of storage s s.begun signal)
+    ∙ either (end_met storage s) on (ended_of s.begun signal) None
