@@ -1,6 +1,6 @@
 //! What the unit asks of its device, and what it does with the answers.
 
-ghost use Rattle.std.specs.Prelude.{◌≡◌, ◌<◌, ◌==◌, ◌&&◌, ◌^◌, ℕ, None, Some, IfSome, is_some, true};
+ghost use Rattle.std.specs.Prelude.{◌≡◌, ◌<◌, ◌==◌, ◌&&◌, ◌^◌, ℕ, None, Some, IfSome, MatchOption, is_some, true};
 ghost use Rattle.chan_model.specs.UnitReports as reports;
 ghost use Rattle.chan_model.specs.Sides.{same_side};
 ghost use Rattle.chan_model.specs.UnitTable as table;
@@ -152,21 +152,31 @@ fn is_of(unit: &UnitState, side: Side, number: u64, report: &Report) -> bool
     side.same(report.side) && report.number == number && report.command == unit.last_command
 }
 
-/// What a report does. It is not taken where it is stale or against the law of devices, and then nothing changes.
-pub fn reports(unit: &mut UnitState, report: &Report) -> Taken<Up>
-    requires { words.last_sequence unit.old.at_hand < 2 ^ 63 }
-    ensures state { unit.new ≡ table.unit_after unit.old (reports.unit_reports unit.old report.now) }
-    ensures came { result ≡ table.came_of (reports.unit_reports unit.old report.now) }
+/// Where the program of a report stands. None where the report is stale or against the law of devices.
+fn reporting(unit: &UnitState, report: &Report) -> Option<Place>
+    ensures place { MatchOption result (reports.unit_reports unit.now report.now ≡ None)
+        (λ place. reports.unit_reports unit.now report.now ≡ reports.report_on unit.now report.now.number place unit.now.at_hand report.now) }
+    ensures allowed { IfSome result (λ place. is_some (reports.report_on unit.now 0 (On 0 0) unit.now.at_hand report.now) ≡ true) }
 {
     match unit.own {
         Own::Owned {
             side,
             number,
             place,
-        } if is_of(unit, side, number, report) && is_allowed(unit, report) => {
-            report_on(unit, number, place, report)
-        }
-        _ => ignored(),
+        } if is_of(unit, side, number, report) && is_allowed(unit, report) => Some(place),
+        _ => None,
+    }
+}
+
+/// What a report does. It is not taken where it is stale or against the law of devices, and then nothing changes.
+pub fn reports(unit: &mut UnitState, report: &Report) -> Taken<Up>
+    requires { words.last_sequence unit.old.at_hand < 2 ^ 63 }
+    ensures state { unit.new ≡ table.unit_after unit.old (reports.unit_reports unit.old report.now) }
+    ensures came { result ≡ table.came_of (reports.unit_reports unit.old report.now) }
+{
+    match reporting(unit, report) {
+        Some(place) => report_on(unit, place, report),
+        None => ignored(),
     }
 }
 
@@ -174,15 +184,9 @@ pub fn reports(unit: &mut UnitState, report: &Report) -> Taken<Up>
 pub fn report_path(unit: &UnitState, report: &Report) -> ReportPath
     ensures { result ≡ reports.report_path (reports.unit_reports unit.now report.now) }
 {
-    match unit.own {
-        Own::Owned {
-            side,
-            number,
-            place,
-        } if is_of(unit, side, number, report) && is_allowed(unit, report) => {
-            path_from(unit, place, report)
-        }
-        _ => ReportPath::Refused,
+    match reporting(unit, report) {
+        Some(place) => path_from(unit, place, report),
+        None => ReportPath::Refused,
     }
 }
 
@@ -203,18 +207,18 @@ fn path_from(unit: &UnitState, place: Place, report: &Report) -> ReportPath
 }
 
 /// What a report does that is allowed: Data or End is sent on the path of the program, or a read is begun.
-fn report_on(unit: &mut UnitState, number: u64, place: Place, report: &Report) -> Taken<Up>
+fn report_on(unit: &mut UnitState, place: Place, report: &Report) -> Taken<Up>
     requires below { words.last_sequence unit.old.at_hand < 2 ^ 63 }
     requires allowed { is_some (reports.report_on unit.old 0 (On 0 0) unit.old.at_hand report.now) ≡ true }
-    ensures state { unit.new ≡ table.unit_after unit.old (reports.report_on unit.old number place unit.old.at_hand report.now) }
-    ensures came { result ≡ table.came_of (reports.report_on unit.old number place unit.old.at_hand report.now) }
+    ensures state { unit.new ≡ table.unit_after unit.old (reports.report_on unit.old report.now.number place unit.old.at_hand report.now) }
+    ensures came { result ≡ table.came_of (reports.report_on unit.old report.now.number place unit.old.at_hand report.now) }
 {
     let Place::On { path, connection } = place else {
         return ignored();
     };
     let program = Program {
         path,
-        number,
+        number: report.number,
         connection,
         command: unit.last_command,
     };
