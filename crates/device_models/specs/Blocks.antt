@@ -1,8 +1,8 @@
 -- A store of blocks, and what each call of it answers and leaves (own).
-use Rattle.std.specs.Prelude.{◌<◌, ◌≤◌, ℕ, ◌+◌, ◌-◌, ◌*◌, ◌==◌, ◌&&◌, nat_lt, Bool, false, if◌then◌else◌, Option, None, Some, List, [], ◌∷◌, ◌++◌, length, take, drop, min, replicate, slice_index, slice_index_or, slice_set}
+use Rattle.std.specs.Prelude.{ℕ, ◌+◌, ◌-◌, ◌*◌, ◌==◌, ◌&&◌, nat_lt, Bool, false, if◌then◌else◌, Option, None, Some, List, [], ◌∷◌, ◌++◌, length, take, drop, min, replicate, slice_index, slice_index_or, slice_set}
 use Rattle.device_models.specs.declared.command.BlockCommand.{BlockCommand}
 use Rattle.device_models.specs.declared.command.BlockCommand.TheVariants.{Write, Read, NoOperation, Sense, Seek, Recalibrate, SearchEqual}
-use Rattle.device_models.specs.Commands.{block_command_of, block_size_of}
+use Rattle.device_models.specs.Commands.{block_command_of}
 use Rattle.device_models.specs.Shapes.{InitialStatus, EndingStatus, answer_of_begun, answer_of_ended, part, sense_left}
 use Rattle.chan_model.specs.declared.report.Call.{Call}
 use Rattle.chan_model.specs.declared.report.Call.TheVariants as call
@@ -18,11 +18,6 @@ pub record Blocks : Type 0 where
   pub at_hand : Option BlockCommand
   pub moved : ℕ
   pub number : List ℕ
-
--- what holds of every store
-pub record IsStore (store : Blocks) : Type 0 where
-  pub current : store.current < 32
-  pub moved : store.moved ≤ block_size_of store.at_hand
 
 -- at first all bytes are zero
 abbrev pub opening : Blocks

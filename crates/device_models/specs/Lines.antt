@@ -1,5 +1,5 @@
 -- A console, which keeps one line, and what each call of it answers and leaves (own).
-use Rattle.std.specs.Prelude.{ℕ, ◌≤◌, ◌+◌, ◌-◌, nat_lt, Bool, false, Option, None, Some, List, [], ◌∷◌, ◌++◌, length, take, min}
+use Rattle.std.specs.Prelude.{ℕ, ◌+◌, ◌-◌, nat_lt, Bool, false, Option, None, Some, List, [], ◌∷◌, ◌++◌, length, take, min}
 use Rattle.chan_model.specs.declared.report.Call.{Call}
 use Rattle.chan_model.specs.declared.report.Call.TheVariants as call
 use Rattle.chan_model.specs.declared.report.DeviceAnswer.{DeviceAnswer}
@@ -23,11 +23,6 @@ size_of (Some Read) line = length line
 size_of (Some NoOperation) line = 0
 size_of (Some Sense) line = 1
 size_of None line = 0
-
--- what holds of every console
-pub record IsConsole (console : Lines) : Type 0 where
-  pub line : length console.line ≤ 126
-  pub given : console.given ≤ size_of console.at_hand console.line
 
 -- at first the line is empty
 abbrev pub opening : Lines

@@ -40,7 +40,9 @@ pub struct BlockStore {
 }
 
 impl Model for BlockStore {
-    ghost use Rattle.device_models.specs.Blocks.{Blocks, IsStore};
+    ghost use Rattle.std.specs.Prelude.{◌<◌, ◌≤◌};
+    ghost use Rattle.device_models.specs.Blocks.{Blocks};
+    ghost use Rattle.device_models.specs.Commands.{block_size_of};
 
     ghost Value = { Blocks };
 
@@ -53,14 +55,7 @@ impl Model for BlockStore {
       number = d.number;
     } };
 
-    ghost invariant = { λ d. IsStore (record {
-      blocks = d.blocks;
-      current = d.current;
-      sense = d.sense;
-      at_hand = d.at_hand;
-      moved = d.moved;
-      number = d.number;
-    }) };
+    ghost invariant = { λ d. (d.current < 32) × (d.moved ≤ block_size_of d.at_hand) };
 }
 
 impl BlockStore {

@@ -31,18 +31,14 @@ pub struct Console {
 }
 
 impl Model for Console {
-    ghost use Rattle.device_models.specs.Lines.{Lines, IsConsole};
+    ghost use Rattle.std.specs.Prelude.{◌≤◌, length};
+    ghost use Rattle.device_models.specs.Lines.{Lines, size_of};
 
     ghost Value = { Lines };
 
     ghost view = { λ c. record { line = c.line.items; sense = c.sense; at_hand = c.at_hand; given = c.given } };
 
-    ghost invariant = { λ c. IsConsole (record {
-      line = c.line.items;
-      sense = c.sense;
-      at_hand = c.at_hand;
-      given = c.given;
-    }) };
+    ghost invariant = { λ c. (length c.line.items ≤ 126) × (c.given ≤ size_of c.at_hand c.line.items) };
 }
 
 impl Console {
