@@ -1,19 +1,26 @@
 -- What the calls of a unit say of it beside its tables (own).
-use Rattle.std.specs.Prelude.{◌≡◌, ℕ, Bool, false, Option, None, Some, is_some, IsTrue}
+use Rattle.std.specs.Prelude.{◌≡◌, ℕ, Bool, false, ◌==◌, ◌&&◌, Option, None, Some, is_some, IsTrue}
 use Rattle.chan_model.specs.declared.names.Side.{Side}
 use Rattle.chan_model.specs.declared.names.Side.TheVariants.{First, Second}
 use Rattle.chan_model.specs.declared.signal.Down.{Down}
+use Rattle.chan_model.specs.declared.signal.Down.TheVariants as down
 use Rattle.chan_model.specs.declared.unit_state.Place.{Place}
 use Rattle.chan_model.specs.declared.unit_state.Place.TheVariants.{On, Ask, Away}
 use Rattle.chan_model.specs.declared.unit_state.Own.{Own}
 use Rattle.chan_model.specs.declared.unit_state.Own.TheVariants.{Idle, Owned}
 use Rattle.chan_model.specs.declared.unit_state.AtHand.{AtHand}
 use Rattle.chan_model.specs.declared.unit_state.UnitState.{UnitState}
-use Rattle.chan_model.specs.UnitTable.{unit_takes, came_of, side_of, owns}
+use Rattle.chan_model.specs.UnitTable.{unit_takes, came_of, side_of, owns, is_owner, is_owner_on}
 
 -- the signal is answered; neither its path nor what the control unit may do decides that
 abbrev pub is_unit_answered : UnitState → Side → Down → Bool
 is_unit_answered u side signal = is_some (came_of (unit_takes u side 0 signal false)).sent
+
+-- a Took or a Give is of the last command of the program that holds the device, and a Give of the connection at hand
+abbrev pub is_of_command : UnitState → Side → Down → Bool
+is_of_command u side (down.Took t n s room) = is_owner u.own side t && (n == u.last_command)
+is_of_command u side (down.Give t c n s bytes) = is_owner_on u.own side t c && (n == u.last_command)
+is_of_command u side signal = false
 
 -- the number of the last connection of the program that holds the device
 abbrev pub connection_of : Place → ℕ

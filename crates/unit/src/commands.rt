@@ -2,11 +2,12 @@
 
 ghost use Rattle.std.specs.Prelude.{◌≡◌, IfSome};
 ghost use Rattle.chan_model.specs.UnitTable as table;
+ghost use Rattle.unit.specs.UnitWords as words;
 
 use crate::parts::{follows, ignored, is_owner, is_owner_on, quietly};
 use chan_model::chunk::Chunk;
 use chan_model::names::Side;
-use chan_model::signal::{Taken, Up};
+use chan_model::signal::{Down, Taken, Up};
 use chan_model::unit_state::{AtHand, Progress, UnitState};
 
 /// Command: the next of the program that holds the device.
@@ -47,28 +48,29 @@ fn new_command(code: u8, room: u16) -> AtHand
     }
 }
 
-/// Give: the next chunk of the command at hand.
-pub fn given(
-    unit: &mut UnitState,
-    side: Side,
-    number: u64,
-    connection: u64,
-    command: u64,
-    sequence: u64,
-    bytes: &Chunk,
-) -> Taken<Up>
-    ensures state { unit.new ≡ table.unit_after unit.old (table.given unit.old side number connection command sequence bytes.now) }
-    ensures came { result ≡ table.came_of (table.given unit.old side number connection command sequence bytes.now) }
+/// Whether a Took or a Give is of the last command of the program that holds the device, and a Give of the connection at
+/// hand.
+pub fn is_of_command(unit: &UnitState, side: Side, signal: &Down) -> bool
+    ensures { result ≡ words.is_of_command unit.now side signal.now }
 {
-    if is_owner_on(unit, side, number, connection) && command == unit.last_command {
-        given_next(unit, sequence, bytes)
-    } else {
-        ignored()
+    match signal {
+        Down::Took {
+            number,
+            command,
+            ..
+        } => { is_owner(unit, side, *number) && *command == unit.last_command }
+        Down::Give {
+            number,
+            connection,
+            command,
+            ..
+        } => is_owner_on(unit, side, *number, *connection) && *command == unit.last_command,
+        _ => false,
     }
 }
 
 /// Give of the command at hand: the chunk that follows the last.
-fn given_next(unit: &mut UnitState, sequence: u64, bytes: &Chunk) -> Taken<Up>
+pub fn given(unit: &mut UnitState, sequence: u64, bytes: &Chunk) -> Taken<Up>
     ensures state { unit.new ≡ table.unit_after unit.old (table.given_next unit.old unit.old.at_hand sequence bytes.now) }
     ensures came { result ≡ table.came_of (table.given_next unit.old unit.old.at_hand sequence bytes.now) }
 {
@@ -102,27 +104,8 @@ fn kept(bytes: &Chunk) -> Option<Chunk>
     }
 }
 
-/// Took: the last Data of the command is answered.
-pub fn answered(
-    unit: &mut UnitState,
-    side: Side,
-    number: u64,
-    command: u64,
-    sequence: u64,
-    room: u16,
-) -> Taken<Up>
-    ensures state { unit.new ≡ table.unit_after unit.old (table.unit_answered unit.old side number command sequence room) }
-    ensures came { result ≡ table.came_of (table.unit_answered unit.old side number command sequence room) }
-{
-    if is_owner(unit, side, number) && command == unit.last_command {
-        answered_last(unit, sequence, room)
-    } else {
-        ignored()
-    }
-}
-
-/// Took of the last chunk, where its Data is not answered.
-fn answered_last(unit: &mut UnitState, sequence: u64, room: u16) -> Taken<Up>
+/// Took of the last chunk of the command at hand, where its Data is not answered.
+pub fn answered(unit: &mut UnitState, sequence: u64, room: u16) -> Taken<Up>
     ensures state { unit.new ≡ table.unit_after unit.old (table.answered_last unit.old unit.old.at_hand sequence room) }
     ensures came { result ≡ table.came_of (table.answered_last unit.old unit.old.at_hand sequence room) }
 {

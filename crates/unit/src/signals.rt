@@ -6,7 +6,7 @@ ghost use Rattle.chan_model.specs.declared.signal.Down.TheVariants as down;
 ghost use Rattle.chan_model.specs.declared.signal.Up.TheVariants as up;
 ghost use Rattle.unit.specs.UnitWords as words;
 
-use crate::commands;
+use crate::commands::{answered, commanded, given, is_of_command};
 use crate::parts::{free, ignored, is_owner, keep_side, owns, quietly, sending, side_of};
 use chan_model::names::{Path, Side};
 use chan_model::signal::{Down, Taken, Up};
@@ -38,25 +38,20 @@ fn works(unit: &mut UnitState, side: Side, path: Path, signal: &Down, may: bool)
             command,
             code,
             room,
-        } => commands::commanded(unit, side, *number, *command, *code, *room),
+        } => commanded(unit, side, *number, *command, *code, *room),
         Down::Grant { number, connection } => granted(unit, side, path, *number, *connection),
         Down::Refuse { number, connection } => refused(unit, side, *number, *connection),
-        Down::Took {
-            number,
-            command,
-            sequence,
-            room,
-        } => commands::answered(unit, side, *number, *command, *sequence, *room),
+        Down::Took { sequence, room, .. } if is_of_command(unit, side, signal) => {
+            answered(unit, *sequence, *room)
+        }
         Down::Give {
-            number,
-            connection,
-            command,
             sequence,
             bytes,
-        } => commands::given(unit, side, *number, *connection, *command, *sequence, bytes),
+            ..
+        } if is_of_command(unit, side, signal) => given(unit, *sequence, bytes),
         Down::Halt { number } => halting(unit, side, *number),
         Down::Release { number } => releasing(unit, side, path, *number),
-        Down::Reset { .. } => ignored(),
+        Down::Took { .. } | Down::Give { .. } | Down::Reset { .. } => ignored(),
         Down::Got { attention } => forgetting(unit, side, *attention),
     }
 }
