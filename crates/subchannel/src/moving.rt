@@ -4,7 +4,6 @@ ghost use Rattle.std.specs.Prelude.{◌≡◌, ◌<◌, ◌≤◌, ◌^◌, IfSo
 ghost use Rattle.subchannel_model.specs.Taking as spec;
 ghost use Rattle.subchannel.specs.Working as working_spec;
 ghost use Rattle.subchannel.specs.Stepping.{subchannel_stepped};
-ghost use Rattle.transfer.specs.Chunks as chunk_spec;
 
 use crate::answers::{ignored, sent};
 use crate::intermediate::interrupt;
