@@ -1,7 +1,7 @@
 -- Want of memory: no turn is refused for it, so that it comes of the steps and the lists alone.
 use Rattle.std.proofs.Common.{◌≡◌, ◌≤◌, ℕ, inl, inr, Bool, true, false, Option, None, Some, length, refl, sym, ◌+◌, subst, arith}
-use Rattle.std.specs.Prelude.{Result, Ok, Err, if◌then◌else◌, nat_lt, remove, slice_get}
-use Rattle.std.proofs.lemmas.Bool.{ltb-false}
+use Rattle.std.specs.Prelude.{◌≢◌, Result, Ok, Err, IfErr, if◌then◌else◌, nat_lt, remove, slice_get}
+use Rattle.std.proofs.lemmas.Bool.{ltb-false, cond_both}
 use Rattle.chan_model.specs.declared.fault.Fault.{Fault}
 use Rattle.chan_model.specs.declared.fault.Fault.TheVariants.{NoMemory, NoSuchPath, NotSent, NotNow}
 use Rattle.chan_model.specs.declared.hold_state.HoldPhase.{HoldPhase}
@@ -21,18 +21,9 @@ use Rattle.agree.specs.Lines.{GivesTurn, LineTurn, UnitLine, acts_for, stepping,
 use Rattle.agree.specs.Turns.{WorldTurn, at_side, at_world_unit, at_owner, both_of, on_path, path_named, world_turn_of, counted, max_steps, world_turn}
 use Rattle.agree.specs.Rooms.{LineRoom, WorldRoom, LineLoses, Loses, TakesRoom, IsFullFor, IsWorldSpent}
 
--- it is not want of memory
-abbrev Other : Fault → Type 0
-Other NoMemory = ⊥
-Other f = Unit {0}
-
+-- it is not refused for want of memory
 abbrev Sound : {A : Type 0} → Result A Fault → Type 0
-Sound (Ok x) = Unit {0}
-Sound (Err f) = Other f
-
-either : {A : Type 0} (b : Bool) (x y : Result A Fault) → Sound x → Sound y → Sound (if b then x else y)
-either true x y p q = p
-either false x y p q = q
+Sound r = IfErr r (λ f. f ≢ NoMemory)
 
 sided : (w : WorldState) (side : Side) (turn : LineTurn) → Sound turn → Sound (at_side w side turn)
 sided w side (Ok l) h = tt
@@ -43,7 +34,7 @@ united w side (Ok b) h = tt
 united w side (Err f) h = h
 
 owned : (w : WorldState) (o : Own) (turn : Side → WorldTurn) → ((side : Side) → Sound (turn side)) → Sound (at_owner w o turn)
-owned w Idle turn h = tt
+owned w Idle turn h = λ f. cc f
 owned w (Owned side t place) turn h = h side
 
 named : (x : Result ℕ Fault) (turn : ℕ → WorldTurn) → Sound x → ((q : ℕ) → Sound (turn q)) → Sound (on_path x turn)
@@ -51,34 +42,34 @@ named (Ok p) turn s h = h p
 named (Err f) turn s h = s
 
 on_one : (p : ℕ) (turn : ℕ → WorldTurn) → ((q : ℕ) → Sound (turn q)) → Sound (on_path (path_named p) turn)
-on_one p turn h = named (path_named p) turn (either (nat_lt p 8) (Ok p) (Err NoSuchPath) tt tt) h
+on_one p turn h = named (path_named p) turn (cond_both (nat_lt p 8) (Ok p) (Err NoSuchPath) (λ r. Sound r) (λ e. tt) (λ e f. cc f)) h
 
 chosen_sound : (l : LineState) (phase : HoldPhase) (p : ℕ) (single : Bool) → Sound (line_chosen l phase p single)
 chosen_sound l hold.Free p single = tt
 chosen_sound l (hold.Reset r) p single = tt
-chosen_sound l (hold.Offer t q) p single = tt
-chosen_sound l (hold.On t q c) p single = tt
-chosen_sound l (hold.Away t) p single = tt
-chosen_sound l (hold.Letting t q) p single = tt
+chosen_sound l (hold.Offer t q) p single = λ f. cc f
+chosen_sound l (hold.On t q c) p single = λ f. cc f
+chosen_sound l (hold.Away t) p single = λ f. cc f
+chosen_sound l (hold.Letting t q) p single = λ f. cc f
 
 let_go_sound : (l : LineState) (phase : HoldPhase) → Sound (line_let_go l phase)
-let_go_sound l hold.Free = tt
-let_go_sound l (hold.Reset r) = tt
-let_go_sound l (hold.Offer t q) = tt
+let_go_sound l hold.Free = λ f. cc f
+let_go_sound l (hold.Reset r) = λ f. cc f
+let_go_sound l (hold.Offer t q) = λ f. cc f
 let_go_sound l (hold.On t q c) = tt
-let_go_sound l (hold.Away t) = tt
-let_go_sound l (hold.Letting t q) = tt
+let_go_sound l (hold.Away t) = λ f. cc f
+let_go_sound l (hold.Letting t q) = λ f. cc f
 
 heard_sound : (l : LineState) (x : Option (OnPath Up)) (place : ℕ) (keep may : Bool) → Sound (heard l x place keep may)
-heard_sound l None place keep may = tt
+heard_sound l None place keep may = λ f. cc f
 heard_sound l (Some x) place keep may = tt
 
 met_sound : (b : UnitLine) (side : Side) (x : Option (OnPath Down)) (place : ℕ) (keep may : Bool) → Sound (met b side x place keep may)
-met_sound b side None place keep may = tt
+met_sound b side None place keep may = λ f. cc f
 met_sound b side (Some x) place keep may = tt
 
 stepping_sound : (b : UnitLine) (step : Option UnitStep) → Sound (stepping b step)
-stepping_sound b None = tt
+stepping_sound b None = λ f. cc f
 stepping_sound b (Some step) = tt
 
 unit_sound : (w : WorldState) (side : Side) (act : UnitAct) → Sound (at_world_unit w side (acts_for (both_of w side) act))
@@ -102,23 +93,23 @@ never w (event.Up side place keep may) =
 never w (event.LoseDown side place) =
     let l : LineState = line_of w side in
     sided w side (loses_down l place)
-    (either (nat_lt place (length l.link.downs)) (Ok (with_downs l (remove l.link.downs place))) (Err NotSent) tt tt)
+    (cond_both (nat_lt place (length l.link.downs)) (Ok (with_downs l (remove l.link.downs place))) (Err NotSent) (λ r. Sound r) (λ e. tt) (λ e f. cc f))
 never w (event.LoseUp side place) =
     let l : LineState = line_of w side in
     sided w side (loses_up l place)
-    (either (nat_lt place (length l.link.ups)) (Ok (with_ups l (remove l.link.ups place))) (Err NotSent) tt tt)
+    (cond_both (nat_lt place (length l.link.ups)) (Ok (with_ups l (remove l.link.ups place))) (Err NotSent) (λ r. Sound r) (λ e. tt) (λ e f. cc f))
 never w (event.PathDown side p) =
     let l : LineState = line_of w side in
     on_one p (λ q. at_side w side (goes_down l q))
-    (λ q. sided w side (goes_down l q) (either (is_up l.up q) (Ok (cut (line_with_path l q false) q)) (Err NotNow) tt tt))
+    (λ q. sided w side (goes_down l q) (cond_both (is_up l.up q) (Ok (cut (line_with_path l q false) q)) (Err NotNow) (λ r. Sound r) (λ e. tt) (λ e f. cc f)))
 never w (event.PathUp side p) =
     let l : LineState = line_of w side in
     on_one p (λ q. at_side w side (comes_up l q))
-    (λ q. sided w side (comes_up l q) (either (is_up l.up q) (Err NotNow) (Ok (line_with_path l q true)) tt tt))
+    (λ q. sided w side (comes_up l q) (cond_both (is_up l.up q) (Err NotNow) (Ok (line_with_path l q true)) (λ r. Sound r) (λ e f. cc f) (λ e. tt)))
 never w (event.PathReset side p) =
     let l : LineState = line_of w side in
     on_one p (λ q. at_side w side (is_cut l q))
-    (λ q. sided w side (is_cut l q) (either (is_up l.up q) (Ok (cut l q)) (Err NotNow) tt tt))
+    (λ q. sided w side (is_cut l q) (cond_both (is_up l.up q) (Ok (cut l q)) (Err NotNow) (λ r. Sound r) (λ e. tt) (λ e f. cc f)))
 never w (event.LetGo side) =
     let l : LineState = line_of w side in
     sided w side (line_let_go l l.link.hold.phase) (let_go_sound l l.link.hold.phase)
@@ -140,7 +131,7 @@ counted_sound n (Ok w) h = tt
 counted_sound n (Err f) h = h
 
 bounded : (b : Bool) (turn : WorldTurn) → Sound turn → (if b then turn else Err NoMemory) ≡ Err NoMemory → b ≡ false
-bounded true turn sound is = absurd (subst Sound is sound)
+bounded true turn sound is = absurd (subst (λ r. Sound r) is sound refl)
 bounded false turn sound is = refl
 
 steps-spent : (w : WorldState) (e : WorldEvent) → world_turn w e ≡ Err NoMemory → max_steps ≤ w.steps

@@ -1,6 +1,7 @@
 -- The machine never refuses an event for want of memory: that comes of the history alone.
-use Rattle.std.proofs.Common.{◌≡◌, sym, subst, ℕ, ◌+◌, Bool, true, false, nat_lt, Option, None, Some, Result, Ok, Err, List, length, inl, inr}
-use Rattle.std.specs.Prelude.{if◌then◌else◌, slice_get}
+use Rattle.std.proofs.Common.{◌≡◌, refl, sym, subst, ℕ, ◌+◌, Bool, true, false, nat_lt, Option, None, Some, Result, Ok, Err, List, length, inl, inr}
+use Rattle.std.specs.Prelude.{◌≢◌, IfErr, slice_get}
+use Rattle.std.proofs.lemmas.Bool.{cond_both}
 use Rattle.storage_keys.specs.Storage.{Contents, put, key_set, prefix_set, shown, operand_at, operand_check}
 use Rattle.storage_keys.specs.declared.StorageFault.{StorageFault}
 use Rattle.channel_config.specs.declared.names.SubchannelId.{SubchannelId}
@@ -50,29 +51,20 @@ use Rattle.machine_model.specs.Turns.{Outcome, SubTurn, UpTurn, DownTurn}
 use Rattle.machine_model.specs.Steps.{IsRefused}
 use Rattle.subchannel_model.specs.Taking.{takes_up}
 
--- it is not want of memory
-abbrev Other : Fault → Type 0
-Other NoMemory = ⊥
-Other f = Unit {0}
-
+-- it is not refused for want of memory
 abbrev Sound : {A : Type 0} → Result A Fault → Type 0
-Sound (Ok x) = Unit {0}
-Sound (Err f) = Other f
+Sound r = IfErr r (λ f. f ≢ NoMemory)
 
 is : {A : Type 0} (r x : Result A Fault) → Sound x → r ≡ x → Sound r
-is r x sound e = subst Sound (sym e) sound
-
-either : {A : Type 0} (b : Bool) (x y : Result A Fault) → Sound x → Sound y → Sound (if b then x else y)
-either true x y p q = p
-either false x y p q = q
+is r x sound e = subst (λ y. Sound y) (sym e) sound
 
 stored : (s : State) (x : Result Contents StorageFault) → Sound (storage_spec.storage_turn s x)
 stored s (Ok storage) = tt
-stored s (Err f) = tt
+stored s (Err f) = λ g. cc g
 
 told : (s : State) (x : Result (List ℕ) StorageFault) → Sound (storage_spec.show_turn_of s x)
 told s (Ok bytes) = tt
-told s (Err f) = tt
+told s (Err f) = λ g. cc g
 
 -- instructions
 function_at : (s : State) (found : Option Found) (code : Condition → ConditionCode) (effect : Subchannel → SubchannelState) → Sound (instruction_steps.function_at s found code effect)
@@ -84,9 +76,9 @@ started_at s None orb = tt
 started_at s (Some f) orb = tt
 
 starts : (s : State) (found : Option Found) (image : Result (List ℕ) StorageFault) (r : Outcome) → instruction_steps.PerformsStart s found image r → Sound r
-starts s found (Err f) r e = is r (Err (Storage f)) tt e
+starts s found (Err f) r e = is r (Err (Storage f)) (λ g. cc g) e
 starts s found (Ok image) r e = elim e [
-  | inl x ↦ is r (Err Operand) tt x.1
+  | inl x ↦ is r (Err Operand) (λ g. cc g) x.1
   | inr x ↦ is r (instruction_steps.start_at s found x.0) (started_at s found x.0) x.2
 ]
 
@@ -95,7 +87,7 @@ tested_at s cpu address None = tt
 tested_at s cpu address (Some f) = tt
 
 tested : (s : State) (cpu address : ℕ) (found : Option Found) (x : Result (Unit {0}) StorageFault) → Sound (instruction_steps.tests s cpu address found x)
-tested s cpu address found (Err f) = tt
+tested s cpu address found (Err f) = λ g. cc g
 tested s cpu address found (Ok u) = tested_at s cpu address found
 
 stored_at : (s : State) (cpu address : ℕ) (found : Option Found) → Sound (instruction_steps.store_at s cpu address found)
@@ -103,7 +95,7 @@ stored_at s cpu address None = tt
 stored_at s cpu address (Some f) = tt
 
 stores : (s : State) (cpu address : ℕ) (found : Option Found) (x : Result (Unit {0}) StorageFault) → Sound (instruction_steps.stores s cpu address found x)
-stores s cpu address found (Err f) = tt
+stores s cpu address found (Err f) = λ g. cc g
 stores s cpu address found (Ok u) = stored_at s cpu address found
 
 modified_at : (s : State) (found : Option Found) (given : block.Pmcw) → Sound (instruction_steps.modify_at s found given)
@@ -112,12 +104,12 @@ modified_at s (Some f) given = tt
 
 modifies_by : (s : State) (found : Option Found) (image : List ℕ) (r : Outcome) → instruction_steps.Modifies_by s found image r → Sound r
 modifies_by s found image r e = elim e.2 [
-  | inl x ↦ is r (Err Operand) tt x.1
+  | inl x ↦ is r (Err Operand) (λ g. cc g) x.1
   | inr x ↦ is r (instruction_steps.modify_at s found e.0) (modified_at s found e.0) x.1
 ]
 
 modifies : (s : State) (found : Option Found) (image : Result (List ℕ) StorageFault) (r : Outcome) → instruction_steps.Modifies s found image r → Sound r
-modifies s found (Err f) r e = is r (Err (Storage f)) tt e
+modifies s found (Err f) r e = is r (Err (Storage f)) (λ g. cc g) e
 modifies s found (Ok image) r e = modifies_by s found image r e
 
 enables_with : (s : State) (cpu : ℕ) (found : Option Found) (subclass : ℕ) (multipath : Bool) (image : List ℕ) (r : Outcome) →
@@ -127,7 +119,7 @@ enables_with s cpu (Some f) subclass multipath image r e = is r (instruction_ste
 
 enables : (s : State) (cpu : ℕ) (found : Option Found) (subclass : ℕ) (multipath : Bool) (image : Result (List ℕ) StorageFault) (r : Outcome) →
     instruction_steps.Enables s cpu found subclass multipath image r → Sound r
-enables s cpu found subclass multipath (Err f) r e = is r (Err (Storage f)) tt e
+enables s cpu found subclass multipath (Err f) r e = is r (Err (Storage f)) (λ g. cc g) e
 enables s cpu found subclass multipath (Ok image) r e = enables_with s cpu found subclass multipath image r e
 
 executes_at : (s : State) (cpu : ℕ) (i : Instruction) (found : Option Found) (r : Outcome) → instruction_steps.Executes_at s cpu i found r → Sound r
@@ -144,13 +136,13 @@ executes_at s cpu (instruction.Csch word) found r e = is r _ (function_at s foun
 executes_at s cpu (instruction.Xsch word) found r e = is r _ (function_at s found xsch_code (λ sub. cancelled sub.state)) e
 
 executes_on : (s : State) (cpu : ℕ) (i : Instruction) (id : Option SubchannelId) (r : Outcome) → instruction_steps.Executes_on s cpu i id r → Sound r
-executes_on s cpu i None r e = is r (Err Operand) tt e
+executes_on s cpu i None r e = is r (Err Operand) (λ g. cc g) e
 executes_on s cpu i (Some id) r e = executes_at s cpu i (found_at s.subs (place_in id s.subs)) r e
 
 -- Choose
 sends : (sub : Subchannel) (state : SubchannelState) (path : ℕ) (signal : Down) (r : Reply) → Sound (choose_spec.send_sub sub state path signal r)
-sends sub state path signal r = either (sending_spec.is_full sub.wires.down path) (Err WireFull)
-    (Ok (turn_spec.leaves r (record sub { state = state; wires = record sub.wires { down = sent sub.wires.down path signal } }))) tt tt
+sends sub state path signal r = cond_both (sending_spec.is_full sub.wires.down path) (Err WireFull)
+    (Ok (turn_spec.leaves r (record sub { state = state; wires = record sub.wires { down = sent sub.wires.down path signal } }))) (λ r. Sound r) (λ e g. cc g) (λ e. tt)
 
 chooses_sub : (sub : Subchannel) (what : Chosen) → Sound (choose_spec.choose_sub sub what)
 chooses_sub sub Idle = tt
@@ -167,72 +159,72 @@ at_sub s place (Ok t) sound = tt
 at_sub s place (Err f) sound = sound
 
 chooses : (s : State) (found : Option Found) (r : Outcome) → choose_spec.Chooses s found r → Sound r
-chooses s None r e = is r (Err NoSuchSubchannel) tt e
+chooses s None r e = is r (Err NoSuchSubchannel) (λ g. cc g) e
 chooses s (Some f) r e =
     let x = choose_spec.choose_sub f.sub (chosen f.sub e.0) in
     is r (turn_spec.at_sub s f.place x) (at_sub s f.place x (chooses_sub f.sub (chosen f.sub e.0))) e.2
 
 -- Up
 up_front : (returns : Bool) (storage : Contents) (sub : Subchannel) (path : ℕ) (signal : Option Up) → Sound (up_spec.up_front returns storage sub path signal)
-up_front returns storage sub path None = tt
+up_front returns storage sub path None = λ g. cc g
 up_front returns storage sub path (Some signal) =
     let m = takes_up returns storage sub.state path signal in
-    either (sending_spec.finds_full sub.wires.down m.step.came.sent) (Err WireFull)
-    (Ok (record { reply = reply.Up signal m.step.came.taken m.step.came.sent; sub = up_spec.with_met sub path m.step; storage = m.storage })) tt tt
+    cond_both (sending_spec.finds_full sub.wires.down m.step.came.sent) (Err WireFull)
+    (Ok (record { reply = reply.Up signal m.step.came.taken m.step.came.sent; sub = up_spec.with_met sub path m.step; storage = m.storage })) (λ r. Sound r) (λ e g. cc g) (λ e. tt)
 
 up_sub : (returns : Bool) (storage : Contents) (sub : Subchannel) (path : ℕ) → Sound (up_spec.up_sub returns storage sub path)
 up_sub returns storage sub path =
     let x = up_spec.up_front returns storage sub path (slice_get (queue sub.wires.up path) 0) in
-    either (nat_lt path (length sub.setup.paths)) x (Err NoSuchPath) (up_front returns storage sub path (slice_get (queue sub.wires.up path) 0)) tt
+    cond_both (nat_lt path (length sub.setup.paths)) x (Err NoSuchPath) (λ r. Sound r) (λ e. up_front returns storage sub path (slice_get (queue sub.wires.up path) 0)) (λ e g. cc g)
 
 at_storage : (s : State) (place : ℕ) (x : Result UpTurn Fault) → Sound x → Sound (turn_spec.at_storage s place x)
 at_storage s place (Ok t) sound = tt
 at_storage s place (Err f) sound = sound
 
 up_at : (s : State) (found : Option Found) (path : ℕ) → Sound (up_spec.up_at s found path)
-up_at s None path = tt
+up_at s None path = λ g. cc g
 up_at s (Some f) path = at_storage s f.place (up_spec.up_sub false s.storage f.sub path) (up_sub false s.storage f.sub path)
 
 -- Down and Report
 down_front : (may : Bool) (sub : Subchannel) (path : ℕ) (u : UnitState) (signal : Option Down) → Sound (down_spec.down_front may sub path u signal)
-down_front may sub path u None = tt
+down_front may sub path u None = λ g. cc g
 down_front may sub path u (Some signal) =
     let step = unit_takes u sub.setup.side path signal may in
-    either (sending_spec.finds_full sub.wires.up (unit_table.came_of step).sent) (Err WireFull)
+    cond_both (sending_spec.finds_full sub.wires.up (unit_table.came_of step).sent) (Err WireFull)
     (Ok (record {
       reply = reply.Down signal (unit_table.came_of step).taken (unit_table.came_of step).sent;
       sub = record sub { wires = record { down = taken sub.wires.down path; up = sending_spec.with_any_sent sub.wires.up (unit_table.came_of step).sent } };
       «unit» = unit_after u step;
-    })) tt tt
+    })) (λ r. Sound r) (λ e g. cc g) (λ e. tt)
 
 down_sub : (may : Bool) (sub : Subchannel) (path : ℕ) (u : UnitState) → Sound (down_spec.down_sub may sub path u)
 down_sub may sub path u =
     let x = down_spec.down_front may sub path u (slice_get (queue sub.wires.down path) 0) in
-    either (nat_lt path (length sub.setup.paths)) x (Err NoSuchPath) (down_front may sub path u (slice_get (queue sub.wires.down path) 0)) tt
+    cond_both (nat_lt path (length sub.setup.paths)) x (Err NoSuchPath) (λ r. Sound r) (λ e. down_front may sub path u (slice_get (queue sub.wires.down path) 0)) (λ e g. cc g)
 
 at_unit : (s : State) (place k : ℕ) (x : Result DownTurn Fault) → Sound x → Sound (turn_spec.at_unit s place k x)
 at_unit s place k (Ok t) sound = tt
 at_unit s place k (Err f) sound = sound
 
 down_unit : (s : State) (f : Found) (path : ℕ) (u : Option UnitState) → Sound (down_spec.down_unit s f path u)
-down_unit s f path None = tt
+down_unit s f path None = λ g. cc g
 down_unit s f path (Some u) = at_unit s f.place f.sub.setup.«unit» (down_spec.down_sub true f.sub path u) (down_sub true f.sub path u)
 
 down_at : (s : State) (found : Option Found) (path : ℕ) → Sound (down_spec.down_at s found path)
-down_at s None path = tt
+down_at s None path = λ g. cc g
 down_at s (Some f) path = down_unit s f path (slice_get s.units f.sub.setup.«unit»)
 
 report_taken : (sub : Subchannel) (step : Option UnitStep) → Sound (report_spec.report_taken sub step)
-report_taken sub None = tt
-report_taken sub (Some step) = either (sending_spec.finds_full sub.wires.up step.sent) (Err WireFull)
-    (Ok (record { reply = reply.Done; sub = report_spec.with_any_up sub step.sent; «unit» = step.state })) tt tt
+report_taken sub None = λ g. cc g
+report_taken sub (Some step) = cond_both (sending_spec.finds_full sub.wires.up step.sent) (Err WireFull)
+    (Ok (record { reply = reply.Done; sub = report_spec.with_any_up sub step.sent; «unit» = step.state })) (λ r. Sound r) (λ e g. cc g) (λ e. tt)
 
 report_to : (s : State) (place : ℕ) (u : UnitState) (report : Report) (found : Option Found) → Sound (report_spec.report_to s place u report found)
-report_to s place u report None = tt
+report_to s place u report None = λ g. cc g
 report_to s place u report (Some f) = at_unit s f.place place (report_spec.report_sub f.sub u report) (report_taken f.sub (unit_reports u report))
 
 report_at : (s : State) (place : ℕ) (u : Option UnitState) (report : Report) → Sound (report_spec.report_at s place u report)
-report_at s place None report = tt
+report_at s place None report = λ g. cc g
 report_at s place (Some u) report = report_to s place u report (found_at s.subs (reached_in place report.side s.subs))
 
 steps : (s : State) (e : Event) (r : Outcome) → spec.Steps s e r → Sound r
@@ -247,4 +239,4 @@ steps s (event.Down word path) r e = is r (down_spec.down_at s (found_of s word)
 steps s (event.Report place report) r e = is r (report_spec.report_at s place (slice_get s.units place) report) (report_at s place (slice_get s.units place) report) e
 
 pub never : (s : State) (e : Event) → ¬ IsRefused s e NoMemory
-never s e refused = steps s e (Err NoMemory) refused
+never s e refused = steps s e (Err NoMemory) refused refl

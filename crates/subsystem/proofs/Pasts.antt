@@ -22,6 +22,7 @@ use Rattle.machine_laws.specs.Claims.{IsClearedOnce}
 use Rattle.machine_model.specs.Bounds.{IsAtWithin, IsUnitWithin, IsUnitRoomy}
 use Rattle.machine_model.specs.State.{State, opening_of, idle_of}
 use Rattle.machine_model.specs.Setups.{IsSetUp}
+use Rattle.subsystem.specs.Keeping.{StaysSetUp}
 use Rattle.machine_model.specs.Steps.{HasRun, Run, Opened, Stepped, Step, Performs}
 
 -- set-ups of one state have one opening
@@ -76,8 +77,7 @@ past-set_up setup s lawful opened = subst (λ (x : State). IsSetUp setup x) (sym
 abbrev KeepsSetUps : Type 0
 KeepsSetUps = (setup : Setup) (s : State) (e : Event) (r : Reply) (new : State) → Step s e r new → IsSetUp setup s → IsSetUp setup new
 
-pub performed-set_up : KeepsSetUps → (old : State) (e : Event) (a : Result Reply Fault) (new : State) → Performs old e a new →
-    (setup : Setup) → IsSetUp setup old → IsSetUp setup new
+pub performed-set_up : KeepsSetUps → (old : State) (e : Event) (a : Result Reply Fault) (new : State) → Performs old e a new → StaysSetUp old new
 performed-set_up keeps old e (Ok r) new step setup k = keeps setup old e r new step k
 performed-set_up keeps old e (Err f) new refused setup k = subst (λ (s : State). IsSetUp setup s) (sym refused.1) k
 

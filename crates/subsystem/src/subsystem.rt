@@ -9,10 +9,10 @@ ghost use Rattle.machine_model.specs.Setups.{IsSetUp};
 ghost use Rattle.machine_model.specs.Steps.{Step, IsRefused, HasRun};
 ghost use Rattle.machine_model.specs.Answering.{HasAnswered, HasBegun};
 ghost use Rattle.std.specs.Bool.{OnTrue, OnFalse};
-ghost use Rattle.channel_config.specs.Setup.{Setup};
 ghost use Rattle.finding.specs.Tables.{Fits};
 ghost use Rattle.machine_laws.specs.Agreeing.{AllAgree};
 ghost use Rattle.program_laws.specs.Claims.{HasTold};
+ghost use Rattle.subsystem.specs.Keeping.{StaysSetUp};
 ghost use Rattle.machine_laws.specs.Claims.{IsClearedOnce};
 ghost use Rattle.machine_laws.specs.Beginnings.{IsBegunOnce};
 
@@ -109,8 +109,7 @@ impl<P: PathChoice + Drop> Subsystem<P> {
         ensures step { IfOk result (λ reply. Step self.old.state event.now reply self.new.state) }
         ensures history { IfOk result (λ reply. self.new.history ≡
             self.old.history ++ record { event = event.now; reply = reply } ∷ []) }
-        // It stays as it was set up.
-        ensures set_up { (setup : Setup) → IsSetUp setup self.old.state → IsSetUp setup self.new.state }
+        ensures set_up { StaysSetUp self.old.state self.new.state }
         ensures ruled { result ≢ Err fault_spec.NoMemory →
             GoesByRule P.picks self.old.state event.now result self.new.state }
         ensures room { self.old.room ≤ self.new.room + 1 }
@@ -152,8 +151,8 @@ impl<P: PathChoice + Drop> Subsystem<P> {
         // Where it ended before the first event, a growth may have been refused.
         ensures begun { OnErr result (HasBegun P.picks true self.old events.now self.new) }
         ensures room { self.old.room ≤ self.new.room + length events.now }
-        // It stays as it was set up, and from that opening what was accepted leads to the state.
-        ensures set_up { (setup : Setup) → IsSetUp setup self.old.state → IsSetUp setup self.new.state }
+        ensures set_up { StaysSetUp self.old.state self.new.state }
+        // From the opening that it was set up by, what was accepted leads to the state.
         ensures replays { HasRun self.new.history self.new.state }
         // Of two TEST SUBCHANNEL of one subchannel that answered 0, the later carries a strictly greater count of
         // statuses made.
@@ -179,19 +178,14 @@ impl<P: PathChoice + Drop> Subsystem<P> {
         ensures answered { IfOk result (λ answers. HasAnswered P.picks self.old events.now answers.items self.new) }
         ensures ended { IfErr result (λ f. f ≡ fault_spec.NoMemory) }
         ensures begun { OnErr result (HasBegun P.picks (S.refused supply.new) self.old events.now self.new) }
-        ensures given { OnOk result (S.refused supply.new ≡ S.refused supply.old) }
         ensures room { self.old.room ≤ self.new.room + length events.now }
-        // It stays as it was set up, and from that opening what was accepted leads to the state.
-        ensures set_up { (setup : Setup) → IsSetUp setup self.old.state → IsSetUp setup self.new.state }
+        ensures set_up { StaysSetUp self.old.state self.new.state }
+        ensures given { OnOk result (S.refused supply.new ≡ S.refused supply.old) }
+        // What `run` says of the history and the state.
         ensures replays { HasRun self.new.history self.new.state }
-        // Of two TEST SUBCHANNEL of one subchannel that answered 0, the later carries a strictly greater count of
-        // statuses made.
         ensures cleared_once { IsClearedOnce self.new.state.sets self.new.history }
-        // Each start begins at most one program at its device.
         ensures begun_once { IsBegunOnce self.new.state.sets self.new.history }
-        // Each subchannel and its unit agree on the program that holds the device, or a reset is due; by one path.
         ensures agree { AllAgree self.new.state }
-        // What is told of the program that each subchannel offered last: its blocks, its commands and its bytes.
         ensures told { HasTold self.new.history self.new.state }
     {
         let mut answers = Vec::new(alloc);

@@ -1,15 +1,12 @@
-use Rattle.std.proofs.Common.{◌≡◌, ◌<◌, ap, sym, ◌∙◌, subst, None, Some, List, length}
+use Rattle.std.proofs.Common.{◌≡◌, ap, sym, ◌∙◌, subst, None, Some}
 use Rattle.channel_config.specs.SubchannelWords.{subchannel_named}
 use Rattle.chan_events.specs.declared.event.Event.TheVariants as event
-use Rattle.subchannel_model.specs.declared.state.Subchannel.{Subchannel}
 use Rattle.machine_model.specs.State.{State, with_sub}
 use Rattle.subchannel_model.specs.Places.{place_in}
 use Rattle.machine_model.specs.Steps.{Performs}
 use Rattle.machine_model.specs.InstructionSteps.{subchannel_word}
-use Rattle.finding.specs.Tables.{engaged}
-use Rattle.finding.proofs.Changing.{counts-some, counts-changed}
 use Rattle.machine_steps.specs.contracts.machine.Machine.{the_view}
-use Rattle.machine_steps.proofs.Lifting.{executes, executes-absent}
+use Rattle.machine_steps.proofs.Lifting.{at_seen, executes, executes-absent, counted-out, counted-in}
 use Rattle.machine_steps.proofs.machine.Machine.execute.Goals as goal
 
 pub returns-in_default-place_in : goal.returns-in_default-place_in
@@ -30,26 +27,21 @@ returns c =
     ap (subchannel_named old.sets) (sym c.word_of.ensures) ∙ (sym c.subchannel_named.ensures.value ∙ c.in-Some.is) in
     let placed : place_in c.in-Some.id old.subs ≡ Some c.in-Some-place_in.place =
     ap (place_in c.in-Some.id) (sym subs) ∙ (sym c.place_in.ensures.place ∙ c.in-Some-place_in.is) in
-    let within : c.in-Some-place_in.place < length old.subs = subst (λ (xs : List Subchannel). c.in-Some-place_in.place < length xs) subs c.in-Some-place_in.ensures.bound in
+    let stands = at_seen old.subs c.as_slice.result.now c.in-Some-place_in.place c.index_mut-sub.result.now (sym subs) c.in-Some-place_in.ensures.bound c.index_mut-sub.ensures.value in
     subst (λ (s : State). Performs s (event.Execute c.args.cpu c.args.instruction) c.execute-answer.result
     (with_sub (record old { storage = c.execute-answer.new.storage }) c.in-Some-place_in.place c.execute-answer.new.sub)) c.self.view_is
-    (executes old c.args.cpu c.in-Some-place_in.place c.args.instruction c.in-Some.id c.index_mut-sub.result.now c.execute-answer.new.sub c.index_mut-sub.result.now c.execute-answer.new.storage c.execute-answer.result
-    named placed within c.index_mut-sub.ensures.value c.execute-answer.ensures)
+    (executes old c.args.cpu c.in-Some-place_in.place c.args.instruction c.in-Some.id c.index_mut-sub.result.now c.execute-answer.new.sub c.execute-answer.new.storage c.execute-answer.result
+    named placed stands c.execute-answer.ensures)
 
 pub change-requires-clause-some : goal.change-requires-clause-some
 change-requires-clause-some c =
     let subs = c.self.inside.subs.items in
-    let d = c.index_mut-sub.result.now in
-    let place = c.in-Some-place_in.place in
-    let within : place < length subs = subst (λ (xs : List Subchannel). place < length xs) c.as_slice.ensures.value c.in-Some-place_in.ensures.bound in
-    counts-some c.self.inside.engines subs place d c.engaged-before.result within c.self.invariant
-    (c.engaged-before.ensures.value ∙ ap engaged c.index_mut-sub.ensures.value) c.engaged-before.ensures.small
+    let stands = at_seen subs c.as_slice.result.now c.in-Some-place_in.place c.index_mut-sub.result.now (sym c.as_slice.ensures.value) c.in-Some-place_in.ensures.bound c.index_mut-sub.ensures.value in
+    counted-out c.self.inside.engines subs c.in-Some-place_in.place c.index_mut-sub.result.now c.engaged-before.result stands c.self.invariant c.engaged-before.ensures.value c.engaged-before.ensures.small
 
 pub invariant_of-self-2 : goal.invariant_of-self-2
 invariant_of-self-2 c =
     let subs = c.self.inside.subs.items in
-    let d = c.index_mut-sub.result.now in
-    let place = c.in-Some-place_in.place in
-    let within : place < length subs = subst (λ (xs : List Subchannel). place < length xs) c.as_slice.ensures.value c.in-Some-place_in.ensures.bound in
-    counts-changed c.self.inside.engines c.change.new.self subs place c.execute-answer.new.sub d c.engaged-before.result c.engaged-after.result within c.self.invariant
-    (c.engaged-before.ensures.value ∙ ap engaged c.index_mut-sub.ensures.value) c.engaged-after.ensures.value c.change.ensures
+    let stands = at_seen subs c.as_slice.result.now c.in-Some-place_in.place c.index_mut-sub.result.now (sym c.as_slice.ensures.value) c.in-Some-place_in.ensures.bound c.index_mut-sub.ensures.value in
+    counted-in c.self.inside.engines c.change.new.self subs c.in-Some-place_in.place c.index_mut-sub.result.now c.execute-answer.new.sub c.engaged-before.result c.engaged-after.result stands c.self.invariant
+    c.engaged-before.ensures.value c.engaged-after.ensures.value c.change.ensures

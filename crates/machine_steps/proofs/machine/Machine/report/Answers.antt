@@ -1,13 +1,10 @@
-use Rattle.std.proofs.Common.{◌≡◌, ◌<◌, ap, sym, ◌∙◌, subst, Some, length, List, arith}
+use Rattle.std.proofs.Common.{◌≡◌, ◌<◌, ap, sym, ◌∙◌, subst, Some, length, arith}
 use Rattle.chan_events.specs.declared.event.Event.TheVariants as event
-use Rattle.subchannel_model.specs.declared.state.Subchannel.{Subchannel}
 use Rattle.machine_model.specs.State.{State, with_sub, state_with_unit}
 use Rattle.subchannel_model.specs.Places.{reached_in}
 use Rattle.machine_model.specs.Steps.{Performs}
-use Rattle.finding.specs.Tables.{engaged}
-use Rattle.finding.proofs.Changing.{counts-kept}
 use Rattle.machine_steps.specs.contracts.machine.Machine.{the_view}
-use Rattle.machine_steps.proofs.Lifting.{report-performs}
+use Rattle.machine_steps.proofs.Lifting.{at_seen, report-performs, counted-still}
 use Rattle.machine_steps.proofs.machine.Machine.report.Goals as goal
 
 pub returns : goal.returns
@@ -16,18 +13,15 @@ returns c =
     let subs : c.as_slice.result.now ≡ old.subs = c.as_slice.ensures.value in
     let at : reached_in c.args.number c.args.report.now.side old.subs ≡ Some c.in-Some.place =
     ap (reached_in c.args.number c.args.report.now.side) (sym subs) ∙ (sym c.reached_in.ensures.place ∙ c.in-Some.is) in
-    let within : c.in-Some.place < length old.subs = subst (λ (xs : List Subchannel). c.in-Some.place < length xs) subs c.in-Some.ensures.bound in
+    let stands = at_seen old.subs c.as_slice.result.now c.in-Some.place c.index_mut-sub.result.now (sym subs) c.in-Some.ensures.bound c.index_mut-sub.ensures.value in
     let inside : c.args.number < length old.units = omega (arith, c.if-number-len.false, c.len.ensures) in
     subst (λ (s : State). Performs s (event.Report c.args.number c.args.report.now) c.report_sub.result
     (state_with_unit (with_sub old c.in-Some.place c.report_sub.new.sub) c.args.number c.report_sub.new.«unit»)) c.self.view_is
-    (report-performs old c.args.number c.in-Some.place c.args.report.now c.index_mut-sub.result.now c.report_sub.new.sub c.index_mut-sub.result.now
-    c.index_mut-unit.result.now c.report_sub.new.«unit» c.index_mut-unit.result.now c.report_sub.result
-    at within c.index_mut-sub.ensures.value inside c.index_mut-unit.ensures.value c.report_sub.ensures.gives)
+    (report-performs old c.args.number c.in-Some.place c.args.report.now c.index_mut-sub.result.now c.report_sub.new.sub
+    c.index_mut-unit.result.now c.report_sub.new.«unit» c.report_sub.result at stands inside c.index_mut-unit.ensures.value c.report_sub.ensures.gives)
 
 pub invariant_of-self : goal.invariant_of-self
 invariant_of-self c =
     let subs = c.self.inside.subs.items in
-    let d = c.index_mut-sub.result.now in
-    let place = c.in-Some.place in
-    let within : place < length subs = subst (λ (xs : List Subchannel). place < length xs) c.as_slice.ensures.value c.in-Some.ensures.bound in
-    counts-kept c.self.inside.engines subs place c.report_sub.new.sub d within c.self.invariant (c.report_sub.ensures.engaged ∙ ap engaged c.index_mut-sub.ensures.value)
+    let stands = at_seen subs c.as_slice.result.now c.in-Some.place c.index_mut-sub.result.now (sym c.as_slice.ensures.value) c.in-Some.ensures.bound c.index_mut-sub.ensures.value in
+    counted-still c.self.inside.engines subs c.in-Some.place c.index_mut-sub.result.now c.report_sub.new.sub stands c.self.invariant c.report_sub.ensures.engaged

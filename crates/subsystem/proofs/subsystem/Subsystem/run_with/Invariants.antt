@@ -1,12 +1,11 @@
 use Rattle.std.proofs.Common.{◌≡◌, ◌+◌, ◌≤◌, length, take, vec_len, vec_capacity}
 use Rattle.machine_model.specs.Answering.{HasAnswered}
-use Rattle.channel_config.specs.Setup.{Setup}
-use Rattle.machine_model.specs.Setups.{IsSetUp}
 use Rattle.machine_model.specs.Steps.{HasRun}
 use Rattle.machine_laws.specs.Agreeing.{AllAgree}
 use Rattle.program_laws.specs.Claims.{HasTold}
 use Rattle.machine_laws.specs.Beginnings.{IsBegunOnce}
 use Rattle.machine_laws.specs.Claims.{IsClearedOnce}
+use Rattle.subsystem.specs.Keeping.{StaysSetUp}
 use Rattle.subsystem.proofs.subsystem.Subsystem.run_with.Given as goal
 
 abbrev pub invariant-loop-event : goal.invariant-loop-event
@@ -14,7 +13,7 @@ invariant-loop-event g l = record {
   answered : HasAnswered g.P.PathChoice.picks l.fn.self (take l.event-index l.events) l.answers.items l.self;
   held : l.fn.self.room ≤ l.self.room + l.event-index;
   room : vec_len l.answers + length l.events ≤ vec_capacity l.answers + l.event-index;
-  set_up : (setup : Setup) → IsSetUp setup l.fn.self.state → IsSetUp setup l.self.state;
+  set_up : StaysSetUp l.fn.self.state l.self.state;
   replays : HasRun l.self.history l.self.state;
   cleared_once : IsClearedOnce l.self.state.sets l.self.history;
   begun_once : IsBegunOnce l.self.state.sets l.self.history;
