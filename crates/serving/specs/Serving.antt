@@ -58,18 +58,26 @@ IsBadLineOutput line rule held now other = ⊥
 abbrev pub TellsBad : List ℕ → Seen → Seen → Bool → Type 0
 TellsBad text held now whole = (line : ℕ) × (rule : ℕ) × IsBad (lines_of text) line rule × Puts held (bad_text line rule) now whole
 
+-- there is no script: the text was not read, there was no memory for it, or it is bad
+abbrev pub HasNoScript : Option (List ℕ) → Seen → Seen → Ending → Type 0
+HasNoScript input held now NotRead = now ≡ held
+HasNoScript input held now (NoMemory whole) = TellsNoMemory held now whole
+HasNoScript input held now (Bad whole) = IfSome input (λ text. TellsBad text held now whole)
+HasNoScript input held now (Done refused) = ⊥
+HasNoScript input held now (Stopped refused) = ⊥
+
+-- there is none, or memory came to want after it was read; or this was done with the script
+abbrev pub DoesWith : (ScriptContents → Seen → Seen → Ending → Type 0) → Option (List ℕ) → Seen → Seen → Ending → Type 0
+DoesWith does input held now NotRead = HasNoScript input held now NotRead
+DoesWith does input held now (NoMemory whole) = HasNoScript input held now (NoMemory whole)
+DoesWith does input held now (Bad whole) = HasNoScript input held now (Bad whole)
+DoesWith does input held now (Done refused) = IfSome input (λ text. (s : ScriptContents) × IsScript (lines_of text) s × does s held now (Done refused))
+DoesWith does input held now (Stopped refused) = IfSome input (λ text. (s : ScriptContents) × IsScript (lines_of text) s × does s held now (Stopped refused))
+
 -- the command `run`
 abbrev pub Serves : Option (List ℕ) → Seen → Seen → Ending → Type 0
-Serves input held now NotRead = now ≡ held
-Serves input held now (NoMemory whole) = TellsNoMemory held now whole
-Serves input held now (Bad whole) = IfSome input (λ text. TellsBad text held now whole)
-Serves input held now (Done refused) = IfSome input (λ text. (s : ScriptContents) × IsScript (lines_of text) s × IsRun s held now (Done refused))
-Serves input held now (Stopped refused) = IfSome input (λ text. (s : ScriptContents) × IsScript (lines_of text) s × IsRun s held now (Stopped refused))
+Serves input held now ending = DoesWith IsRun input held now ending
 
 -- the command `check`
 abbrev pub Checks : Option (List ℕ) → Seen → Seen → Ending → Type 0
-Checks input held now NotRead = now ≡ held
-Checks input held now (NoMemory whole) = TellsNoMemory held now whole
-Checks input held now (Bad whole) = IfSome input (λ text. TellsBad text held now whole)
-Checks input held now (Done refused) = IfSome input (λ text. (s : ScriptContents) × IsScript (lines_of text) s × IsApproved held now (Done refused))
-Checks input held now (Stopped refused) = IfSome input (λ text. (s : ScriptContents) × IsScript (lines_of text) s × IsApproved held now (Stopped refused))
+Checks input held now ending = DoesWith (λ s. IsApproved) input held now ending

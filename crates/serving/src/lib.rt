@@ -1,9 +1,11 @@
 //! Serving a script: its actions are performed at a channel subsystem with devices, and what each prints is written.
 #![tactic(auto)]
 
-ghost use Rattle.std.specs.Prelude.{◌≡◌, true};
+ghost use Rattle.std.specs.Prelude.{◌≡◌, true, IfOk, OnOk, IfErr, IfSome};
+ghost use Rattle.script.specs.Pieces.{lines_of};
+ghost use Rattle.script.specs.Scripts.{IsScript};
 ghost use Rattle.serving.specs.declared.Ending.TheVariants as ending;
-ghost use Rattle.serving.specs.Serving.{Serves, Checks, IsForMemory, IsRun, IsApproved, IsBadLineOutput};
+ghost use Rattle.serving.specs.Serving.{Serves, Checks, HasNoScript, IsForMemory, IsRun, IsApproved, IsBadLineOutput};
 ghost use Rattle.serving.specs.Serving.{TellsNoMemoryBy, status_of};
 
 pub mod installation;
@@ -65,15 +67,9 @@ pub fn serve_script_with<M: Supply, R: Source, S: Sink>(
     ensures read { result ≡ ending.NotRead → R.broken reader.new ≡ true }
     ensures memory { IsForMemory result → M.refused supply.new ≡ true }
 {
-    let text = match reader.all_with(alloc, supply) {
-        Ok(text) => text,
-        Err(NoText::ReadFailed) => return Ending::NotRead,
-        Err(NoText::OutOfMemory) => return no_memory(sink),
-    };
-    match Script::read_with(alloc, supply, text.as_slice()) {
+    match read_script(alloc, supply, reader, sink) {
         Ok(script) => run_script(alloc, supply, script, sink),
-        Err(ScriptBad::NoMemory) => no_memory(sink),
-        Err(ScriptBad::Bad { line, rule }) => tell_bad(line, rule, sink),
+        Err(ending) => ending,
     }
 }
 
@@ -97,15 +93,34 @@ pub fn check_script_with<M: Supply, R: Source, S: Sink>(
     ensures read { result ≡ ending.NotRead → R.broken reader.new ≡ true }
     ensures memory { IsForMemory result → M.refused supply.new ≡ true }
 {
+    match read_script(alloc, supply, reader, sink) {
+        Ok(_) => approve(sink),
+        Err(ending) => ending,
+    }
+}
+
+/// Reads a script. Where there is none, what tells so is written, and the program ends.
+fn read_script<M: Supply, R: Source, S: Sink>(
+    alloc: Global,
+    supply: &mut M,
+    reader: &mut R,
+    sink: &mut S,
+) -> Result<Script, Ending>
+    ensures script { IfOk result (λ s. IfSome (R.left reader.old) (λ text. IsScript (lines_of text) s)) }
+    ensures unwritten { OnOk result (S.seen sink.new ≡ S.seen sink.old) }
+    ensures none { IfErr result (λ e. HasNoScript (R.left reader.old) (S.seen sink.old) (S.seen sink.new) e) }
+    ensures read { IfErr result (λ e. e ≡ ending.NotRead → R.broken reader.new ≡ true) }
+    ensures memory { IfErr result (λ e. IsForMemory e → M.refused supply.new ≡ true) }
+{
     let text = match reader.all_with(alloc, supply) {
         Ok(text) => text,
-        Err(NoText::ReadFailed) => return Ending::NotRead,
-        Err(NoText::OutOfMemory) => return no_memory(sink),
+        Err(NoText::ReadFailed) => return Err(Ending::NotRead),
+        Err(NoText::OutOfMemory) => return Err(no_memory(sink)),
     };
     match Script::read_with(alloc, supply, text.as_slice()) {
-        Ok(_) => approve(sink),
-        Err(ScriptBad::NoMemory) => no_memory(sink),
-        Err(ScriptBad::Bad { line, rule }) => tell_bad(line, rule, sink),
+        Ok(script) => Ok(script),
+        Err(ScriptBad::NoMemory) => Err(no_memory(sink)),
+        Err(ScriptBad::Bad { line, rule }) => Err(tell_bad(line, rule, sink)),
     }
 }
 
