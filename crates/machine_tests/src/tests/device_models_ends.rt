@@ -65,11 +65,11 @@ fn reported(unit: &mut Unit, report: &Report) -> Option<Up> {
 fn end_shown<D: Device>(unit: &mut Unit, device: &mut D) -> Option<u8> {
     let Some(
         Work::Call {
+            call,
             side,
             number,
             command,
             sequence,
-            call,
         },
     ) = unit.work()
     else {
