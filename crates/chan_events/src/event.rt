@@ -3,7 +3,7 @@
 ghost use Rattle.std.specs.Prelude.{◌≡◌};
 
 use chan_model::chunk::{Chunk, ChunkLength};
-use chan_model::names::Cpu;
+use chan_model::names::{Cpu, Side};
 use chan_model::report::Report;
 use storage_keys::key::Key;
 
@@ -70,27 +70,94 @@ pub enum OtherInstruction {
     Stcps { address: u32 },
 }
 
+/// An act of a unit of itself, told to the subchannel of a side. `path` is the index of a path of that subchannel.
+#[derive(Clone, Copy, Debug)]
+pub enum UnitAct {
+    /// The program that is connected leaves its path and works on.
+    Leave,
+    /// The program that is without a path asks for one.
+    Ask { path: u32 },
+    /// The unit, which no program holds, asks a side for attention.
+    Attention { path: u32, side: Side },
+    /// A side that was not reset since the last restart is told how often the unit was restarted.
+    Notice { path: u32, side: Side },
+}
+
 /// An event. `subchannel` is a subsystem-identification word, `path` the index of a path of that subchannel.
 #[derive(Drop)]
 pub enum Event {
     /// Bytes are put into storage at an absolute address.
-    Put { address: u32, bytes: Chunk },
+    Put {
+        address: u32,
+        bytes: Chunk,
+    },
     /// The key of the block in which an absolute address lies is set.
-    SetKey { address: u32, key: Key },
+    SetKey {
+        address: u32,
+        key: Key,
+    },
     /// The prefix of a CPU is set.
-    SetPrefix { cpu: Cpu, address: u32 },
+    SetPrefix {
+        cpu: Cpu,
+        address: u32,
+    },
     /// Bytes of storage are shown from an absolute address on.
-    Show { address: u32, length: ChunkLength },
+    Show {
+        address: u32,
+        length: ChunkLength,
+    },
     /// A CPU executes an instruction.
-    Execute { cpu: Cpu, instruction: Instruction },
+    Execute {
+        cpu: Cpu,
+        instruction: Instruction,
+    },
+    /// A CPU executes an instruction that names no subchannel.
+    ExecuteOther {
+        cpu: Cpu,
+        instruction: OtherInstruction,
+    },
     /// The subsystem does what it must for a subchannel.
-    Choose { subchannel: u32 },
+    Choose {
+        subchannel: u32,
+    },
     /// The subchannel takes the signal that waits longest on the wire up of a path.
-    Up { subchannel: u32, path: u32 },
+    Up {
+        subchannel: u32,
+        path: u32,
+    },
     /// The unit takes the signal that waits longest on the wire down of a path.
-    Down { subchannel: u32, path: u32 },
+    Down {
+        subchannel: u32,
+        path: u32,
+    },
     /// A device answered.
-    Report { unit: u32, report: Report },
+    Report {
+        unit: u32,
+        report: Report,
+    },
+    /// A unit acts of itself.
+    Act {
+        unit: u32,
+        act: UnitAct,
+    },
+    /// A unit is restarted.
+    Restart {
+        unit: u32,
+    },
+    /// A channel path goes down. `chpid` is its identifier, here and below.
+    PathDown {
+        chpid: u32,
+    },
+    /// A channel path that was down comes up.
+    PathUp {
+        chpid: u32,
+    },
+    /// A channel path whose reset was asked for is reset.
+    PathReset {
+        chpid: u32,
+    },
+    /// The channel subsystem is reset.
+    SystemReset,
 }
 
 impl Event {
@@ -119,6 +186,10 @@ impl Event {
                 cpu: *cpu,
                 instruction: *instruction,
             },
+            Event::ExecuteOther { cpu, instruction } => Event::ExecuteOther {
+                cpu: *cpu,
+                instruction: *instruction,
+            },
             Event::Choose { subchannel } => Event::Choose {
                 subchannel: *subchannel,
             },
@@ -134,6 +205,15 @@ impl Event {
                 unit: *unit,
                 report: report.copy(),
             },
+            Event::Act { unit, act } => Event::Act {
+                unit: *unit,
+                act: *act,
+            },
+            Event::Restart { unit } => Event::Restart { unit: *unit },
+            Event::PathDown { chpid } => Event::PathDown { chpid: *chpid },
+            Event::PathUp { chpid } => Event::PathUp { chpid: *chpid },
+            Event::PathReset { chpid } => Event::PathReset { chpid: *chpid },
+            Event::SystemReset => Event::SystemReset,
         }
     }
 }

@@ -1,17 +1,15 @@
 -- What the rules keep stays as a machine is configured further.
 use Rattle.std.proofs.Common.{◌≡◌, ℕ, ◌+◌, ◌<◌, ◌≤◌, ◌==◌, nat_lt, nat_le, Bool, true, false, ◌&&◌, ◌||◌, cond, List, [], ◌∷◌, ◌++◌, length, get_or, slice_index, refl, sym, ap, ◌∙◌, subst, arith, inl, inr, ◌⊎◌, suc, zero}
-use Rattle.std.specs.Prelude.{if◌then◌else◌, Some, None, All, count_by}
+use Rattle.std.specs.Prelude.{if◌then◌else◌, Option, Some, None, All, count_by}
 use Rattle.std.specs.List.{list_any, list_all}
 use Rattle.std.proofs.lemmas.Bool.{and_parts, and_from, le-leb}
 use Rattle.std.proofs.lemmas.Bool.Decides.{eqb_tells}
-use Rattle.std.proofs.lemmas.List.{length_push}
 use Rattle.std.proofs.lemmas.List.Elements.{All-append}
 use Rattle.std.proofs.lemmas.List.Folds.{list_any-append}
 use Rattle.std.proofs.lemmas.List.Sums.{sum_by_push, sum_by-cons}
 use Rattle.chan_model.specs.declared.names.Side.{Side}
 use Rattle.chan_model.specs.declared.names.Side.TheVariants.{First, Second}
 use Rattle.chan_model.specs.Sides.{same_side}
-use Rattle.channel_config.specs.declared.parts.UnitKind.{UnitKind}
 use Rattle.channel_config.specs.declared.parts.SubchannelSetup.{SubchannelSetup}
 use Rattle.channel_config.specs.Setup.{Setup, has_number, are_distinct, are_paths, set_count, count_in_set, uses_of, side_left}
 use Rattle.channel_config.specs.Numbers.{AreSmall}
@@ -37,8 +35,17 @@ are_paths-push ns n paths h =
 pub lawful-paths : (s : Setup) (items : List ℕ) → items ≡ s.paths → IsLawful s → IsLawful (record s { paths = items })
 lawful-paths s items e h = subst (λ (xs : List ℕ). IsLawful (record s { paths = xs })) (sym e) h
 
-pub lawful-units : (s : Setup) (items : List UnitKind) → items ≡ s.units → IsLawful s → IsLawful (record s { units = items })
-lawful-units s items e h = subst (λ (xs : List UnitKind). IsLawful (record s { units = xs })) (sym e) h
+-- as many units share, in whatever groups
+pub lawful-shared : (s : Setup) (items : List (Option ℕ)) → length items ≡ length s.shared → IsLawful s → IsLawful (record s { shared = items })
+lawful-shared s items e h = record {
+  blocks = h.blocks;
+  sets = h.sets;
+  units = h.units;
+  shared_units = e ∙ h.shared_units;
+  subchannels = h.subchannels;
+  per_set = h.per_set;
+  shared = h.shared;
+}
 
 pub lawful-subchannels : (s : Setup) (items : List SubchannelSetup) → items ≡ s.subchannels → IsLawful s → IsLawful (record s { subchannels = items })
 lawful-subchannels s items e h = subst (λ (xs : List SubchannelSetup). IsLawful (record s { subchannels = xs })) (sym e) h
@@ -52,6 +59,7 @@ lawful-storage s n low high h = record {
   blocks = λ m e. let same : n ≡ m = cc in (omega arith, omega arith);
   sets = h.sets;
   units = h.units;
+  shared_units = h.shared_units;
   subchannels = h.subchannels;
   per_set = h.per_set;
   shared = h.shared;
@@ -62,25 +70,12 @@ lawful-path-more s c items e h = lawful-paths (record s { paths = s.paths ++ c �
   blocks = h.blocks;
   sets = h.sets;
   units = h.units;
+  shared_units = h.shared_units;
   subchannels = λ k d lt. let placed = h.subchannels k d lt in
-      record { set = placed.set; unit = placed.unit; paths = are_paths-push s.paths c (get_or s.subchannels k d).paths placed.paths };
+      record { set = placed.set; number = placed.number; unit = placed.unit; paths = are_paths-push s.paths c (get_or s.subchannels k d).paths placed.paths };
   per_set = h.per_set;
   shared = h.shared;
 })
-
-pub lawful-unit-more : (s : Setup) (kind : UnitKind) (items : List UnitKind) → items ≡ s.units ++ kind ∷ [] → length s.units < 0x400 → IsLawful s → IsLawful (record s { units = items })
-lawful-unit-more s kind items e room h =
-    let longer : length items ≡ length s.units + 1 = ap length e ∙ length_push s.units kind in
-    record {
-      blocks = h.blocks;
-      sets = h.sets;
-      units = omega arith;
-      subchannels = λ k d lt. let placed = h.subchannels k d lt in
-          let unit = placed.unit in
-          record { set = placed.set; unit = omega arith; paths = placed.paths };
-      per_set = h.per_set;
-      shared = h.shared;
-    }
 
 abbrev bit : Bool → ℕ
 bit b = cond b 1 0
@@ -172,6 +167,7 @@ lawful-subchannel-more s t sub items same e fits there left h =
       blocks = h.blocks;
       sets = h.sets;
       units = h.units;
+      shared_units = h.shared_units;
       subchannels = subst (All P) (sym e) (All-append P s.subchannels (sub ∷ []) h.subchannels last);
       per_set = λ set. in_set-push s.subchannels items sub e room set (h.per_set set);
       shared = λ unit. shared-push s.subchannels items sub e sided unit (h.shared unit);

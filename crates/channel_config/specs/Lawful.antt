@@ -10,6 +10,7 @@ use Rattle.channel_config.specs.Setup.{Setup, set_count, count_in_set, are_paths
 -- a subchannel of so many sets, on one of so many units, with paths among these
 pub record IsPlaced (sets units : ℕ) (known : List ℕ) (sub : SubchannelSetup) : Type 0 where
   pub set : sub.id.set < sets
+  pub number : sub.id.number < 0x100
   pub unit : sub.unit < units
   pub paths : are_paths known sub.paths ≡ true
 
@@ -26,6 +27,7 @@ pub record IsLawful (s : Setup) : Type 0 where
   pub blocks : ForSome s.blocks (λ n. (0x10 ≤ n) × (n ≤ 0x1000))
   pub sets : (1 ≤ set_count s) × (set_count s ≤ 4)
   pub units : length s.units ≤ 0x400
+  pub shared_units : length s.shared ≡ length s.units
   pub subchannels : All (IsPlaced (set_count s) (length s.units) s.paths) s.subchannels
   pub per_set : (set : ℕ) → count_in_set s.subchannels set ≤ 0x100
   pub shared : (unit : ℕ) → IsShared s.subchannels unit

@@ -1,6 +1,6 @@
 -- How a machine is set up, as its configuration lines make it one by one (own). A line that breaks a rule is refused
 -- with the rule's number.
-use Rattle.std.specs.Prelude.{ℕ, ◌==◌, Bool, true, not, ◌&&◌, ◌||◌, nat_lt, nat_le, List, [], ◌∷◌, ◌++◌, length, Option, Some, None, is_some, unwrap_or, Result, Ok, Err, count_by, if◌then◌else◌}
+use Rattle.std.specs.Prelude.{ℕ, ◌+◌, ◌==◌, Bool, true, false, not, ◌&&◌, ◌||◌, nat_lt, nat_le, List, [], ◌∷◌, ◌++◌, length, slice_get, slice_set, slice_index_or, Option, Some, None, is_some, unwrap_or, Result, Ok, Err, count_by, if◌then◌else◌}
 use Rattle.std.specs.List.{list_any, list_all}
 use Rattle.chan_model.specs.declared.names.Side.{Side}
 use Rattle.chan_model.specs.declared.names.Side.TheVariants.{First, Second}
@@ -10,16 +10,18 @@ use Rattle.channel_config.specs.declared.parts.SubchannelSetup.{SubchannelSetup}
 use Rattle.channel_config.specs.SubchannelWords.{subchannel_named}
 
 -- what was said so far: how many blocks of 4,096 bytes storage has, how many sets of subchannels there are, the
--- identifiers of the channel paths, the units and the subchannels in their order
+-- identifiers of the channel paths, the units and the subchannels in their order; and of each unit the group of units that
+-- it shares a control unit with, where it shares one
 pub record Setup : Type 0 where
   pub blocks : Option ℕ
   pub sets : Option ℕ
   pub paths : List ℕ
   pub units : List UnitKind
+  pub shared : List (Option ℕ)
   pub subchannels : List SubchannelSetup
 
 abbrev pub no_setup : Setup
-no_setup = record { blocks = None; sets = None; paths = []; units = []; subchannels = [] }
+no_setup = record { blocks = None; sets = None; paths = []; units = []; shared = []; subchannels = [] }
 
 -- one set where nothing is said
 abbrev pub set_count : Setup → ℕ
@@ -42,7 +44,8 @@ with_path s chpid = if nat_lt 0xFF chpid || has_number s.paths chpid then Err 2 
 
 -- 3: the unit is not the next one, or is above 3FF
 abbrev pub with_unit : Setup → ℕ → UnitKind → Result Setup ℕ
-with_unit s number kind = if not (number == length s.units) || nat_lt 0x3FF number then Err 3 else Ok (record s { units = s.units ++ kind ∷ [] })
+with_unit s number kind = if not (number == length s.units) || nat_lt 0x3FF number then Err 3
+    else Ok (record s { units = s.units ++ kind ∷ []; shared = s.shared ++ None ∷ [] })
 
 -- how many of these subchannels are of a set, and how many use a unit
 abbrev pub count_in_set : List SubchannelSetup → ℕ → ℕ
@@ -67,6 +70,34 @@ side_left s unit = if nat_le (length s.units) unit || nat_le 2 (uses_of s.subcha
 abbrev pub are_distinct : List ℕ → Bool
 are_distinct [] = true
 are_distinct (n ∷ ns) = not (has_number ns n) && are_distinct ns
+
+-- 6: a unit is unknown, shares a control unit already, or stands twice in the line. The units become a group, which has the
+-- number of the first of them
+abbrev pub is_alone : Option (Option ℕ) → Bool
+is_alone None = false
+is_alone (Some None) = true
+is_alone (Some (Some group)) = false
+
+abbrev pub may_share : List (Option ℕ) → ℕ → Bool
+may_share shared unit = is_alone (slice_get shared unit)
+
+abbrev pub grouped : List (Option ℕ) → ℕ → List ℕ → List (Option ℕ)
+grouped shared group [] = shared
+grouped shared group (unit ∷ units) = grouped (slice_set shared unit (Some group)) group units
+
+abbrev pub with_share : Setup → List ℕ → Result Setup ℕ
+with_share s units =
+    if list_all (may_share s.shared) units && are_distinct units
+    then Ok (record s { shared = grouped s.shared (slice_index_or units 0 0) units })
+    else Err 6
+
+-- the groups of the units, by their numbers; a unit that shares with none is a group of its own number
+abbrev pub groups_from : ℕ → List (Option ℕ) → List ℕ
+groups_from first [] = []
+groups_from first (group ∷ groups) = unwrap_or group first ∷ groups_from (first + 1) groups
+
+abbrev pub groups_of : Setup → List ℕ
+groups_of s = groups_from 0 s.shared
 
 -- one to eight different paths, all of them known
 abbrev pub are_paths : List ℕ → List ℕ → Bool

@@ -1,6 +1,6 @@
 //! The configuration of a machine.
 
-ghost use Rattle.std.specs.Prelude.{◌≡◌, ◌≢◌, ◌==◌, ◌≤◌, ◌<◌, length, true, Some, None, Err, IfSome, OnOk, unwrap_or, if◌then◌else◌};
+ghost use Rattle.std.specs.Prelude.{◌≡◌, ◌≢◌, ◌==◌, ◌≤◌, ◌<◌, ◌++◌, ◌∷◌, [], length, slice_index_or, slice_set, vec_len, vec_capacity, true, Some, None, Err, IfSome, IfOk, OnOk, OnErr, unwrap_or, if◌then◌else◌};
 ghost use Rattle.std.specs.List.{list_all};
 ghost use Rattle.channel_config.specs.Setup as spec;
 ghost use Rattle.channel_config.specs.Refusing.{Configures};
@@ -12,7 +12,7 @@ use crate::parts::{ChpidList, SubchannelSetup, UnitKind};
 use chan_model::names::Side;
 use std::alloc::{AllocError, Global};
 use std::marker::Model;
-use supply::{Given, Supply, push};
+use supply::{Given, Supply, make_room, push};
 
 /// Why a line of a configuration is refused.
 #[derive(Clone, Copy, Debug, PartialEq, Eq)]
@@ -42,6 +42,7 @@ pub struct Config {
     sets: Option<u8>,
     paths: Vec<u8>,
     units: Vec<UnitKind>,
+    shared: Vec<Option<u16>>,
     subchannels: Vec<SubchannelSetup>,
 }
 
@@ -52,9 +53,9 @@ impl Model for Config {
 
     ghost use Rattle.channel_config.specs.Lawful.{IsLawful};
 
-    ghost view = { λ c. record { blocks = c.blocks; sets = c.sets; paths = c.paths.items; units = c.units.items; subchannels = c.subchannels.items } };
+    ghost view = { λ c. record { blocks = c.blocks; sets = c.sets; paths = c.paths.items; units = c.units.items; shared = c.shared.items; subchannels = c.subchannels.items } };
 
-    ghost invariant = { λ c. IsLawful (record { blocks = c.blocks; sets = c.sets; paths = c.paths.items; units = c.units.items; subchannels = c.subchannels.items }) };
+    ghost invariant = { λ c. IsLawful (record { blocks = c.blocks; sets = c.sets; paths = c.paths.items; units = c.units.items; shared = c.shared.items; subchannels = c.subchannels.items }) };
 }
 
 impl Config {
@@ -69,6 +70,7 @@ impl Config {
             sets: None,
             paths: Vec::new(alloc),
             units: Vec::new(alloc),
+            shared: Vec::new(alloc),
             subchannels: Vec::new(alloc),
         }
     }
@@ -138,7 +140,23 @@ impl Config {
         if number as usize != self.units.len() || number > 0x3FF {
             return Err(ConfigFault::Rule(3));
         }
+        make_room(supply, &mut self.shared, 1)?;
         push(supply, &mut self.units, kind)?;
+        add_alone(&mut self.shared);
+        Ok(())
+    }
+
+    /// These units share a control unit: one of them is served at a time (own). It takes no memory. Rule 6: a unit is
+    /// unknown, shares a control unit already, or is given twice.
+    pub fn share(&mut self, units: &[u32]) -> Result<(), ConfigFault>
+        ensures does { Configures self.old self.new result (spec.with_share self.old units.now) }
+        ensures never { result ≢ Err config_fault.NoMemory }
+    {
+        if !are_alone(&self.shared, units) || !are_distinct(units) {
+            return Err(ConfigFault::Rule(6));
+        }
+        let group = group_of(&self.shared, units);
+        join(&mut self.shared, group, units);
         Ok(())
     }
 
@@ -200,6 +218,7 @@ impl Config {
     fn next_subchannel(&self, word: u32) -> Option<SubchannelId>
         ensures value { result ≡ spec.next_subchannel self.now word }
         ensures set { IfSome result (λ id. id.set < spec.set_count self.now) }
+        ensures number { IfSome result (λ id. id.number < 0x100) }
         ensures room { IfSome result (λ id. spec.count_in_set self.now.subchannels id.set < 0x100) }
     {
         let id = subchannel_named(self.set_count(), word)?;
@@ -254,6 +273,21 @@ impl Config {
         ensures { result.now ≡ self.now.units }
     {
         self.units.as_slice()
+    }
+
+    /// The number of the group of each unit, by unit, in what room a supply has: of units that share a control unit the
+    /// number of the first of their line, of another its own. Where the supply refuses a growth, and only there, there is
+    /// no answer.
+    pub fn groups_with<S: Supply>(
+        &self,
+        alloc: Global,
+        supply: &mut S,
+    ) -> Result<Vec<u16>, AllocError>
+        ensures groups { IfOk result (λ groups. groups.items ≡ spec.groups_of self.now) }
+        ensures given { OnOk result (S.refused supply.new ≡ S.refused supply.old) }
+        ensures memory { OnErr result (S.refused supply.new ≡ true) }
+    {
+        groups_from(alloc, supply, self.shared.as_slice())
     }
 
     /// The subchannels, in the order of their lines.
@@ -336,4 +370,75 @@ fn uses_of(subchannels: &[SubchannelSetup], unit: u32) -> usize
         .iter()
         .filter(|sub| u32::from(sub.unit) == unit)
         .count()
+}
+
+/// Whether there is a unit of this number that shares a control unit with none.
+fn is_alone(shared: &[Option<u16>], unit: u32) -> bool
+    ensures { result ≡ spec.may_share shared.now «unit» }
+{
+    matches!(shared.get(unit as usize), Some(None))
+}
+
+/// Whether there are units of all these numbers, and none shares a control unit.
+fn are_alone(shared: &[Option<u16>], units: &[u32]) -> bool
+    ensures { result ≡ list_all (spec.may_share shared.now) units.now }
+{
+    units.iter().all(|unit| is_alone(shared, *unit))
+}
+
+/// The number of the group that these units become.
+fn group_of(shared: &[Option<u16>], units: &[u32]) -> u16
+    requires known { list_all (spec.may_share shared.now) units.now ≡ true }
+    requires bound { length shared.now ≤ 0x400 }
+    ensures { result ≡ slice_index_or units.now 0 0 }
+{
+    match units {
+        [] => 0,
+        [first, ..] => *first as u16,
+    }
+}
+
+/// These units become a group.
+fn join(shared: &mut Vec<Option<u16>>, group: u16, units: &[u32])
+    ensures { shared.new.items ≡ spec.grouped shared.old.items group units.now }
+{
+    for unit in units {
+        join_one(shared, group, *unit);
+    }
+}
+
+/// A unit is of this group.
+fn join_one(shared: &mut Vec<Option<u16>>, group: u16, unit: u32)
+    ensures { shared.new.items ≡ slice_set shared.old.items «unit» (Some group) }
+{
+    if let Some(known) = shared.get_mut(unit as usize) {
+        *known = Some(group);
+    }
+}
+
+/// One unit more that shares a control unit with none, for which there is room.
+fn add_alone(shared: &mut Vec<Option<u16>>)
+    requires { vec_len shared.old < vec_capacity shared.old }
+    ensures { shared.new.items ≡ shared.old.items ++ None ∷ [] }
+{
+    shared.push_reserved(None);
+}
+
+/// The groups of these units, by their numbers.
+fn groups_from<S: Supply>(
+    alloc: Global,
+    supply: &mut S,
+    shared: &[Option<u16>],
+) -> Result<Vec<u16>, AllocError>
+    requires { length shared.now ≤ 0x400 }
+    ensures groups { IfOk result (λ groups. groups.items ≡ spec.groups_from 0 shared.now) }
+    ensures given { OnOk result (S.refused supply.new ≡ S.refused supply.old) }
+    ensures memory { OnErr result (S.refused supply.new ≡ true) }
+{
+    let mut groups = Vec::new(alloc);
+    for group in shared {
+        let own = groups.len() as u16;
+        push(supply, &mut groups, group.unwrap_or(own))?;
+    }
+    Ok(groups)
 }

@@ -1,8 +1,13 @@
 //! Whole scripts over memory, and readers and writers that fail.
 
+mod losses;
 mod memory;
+mod paths;
 mod programs;
+mod requests;
+mod scenes;
 mod stops;
+mod units;
 
 use crate::serve;
 use crate::tests::memory::{Short, Slow};
@@ -11,10 +16,10 @@ use streams::{Heard, Watched};
 use supply::Refusing;
 
 /// One write of four bytes, from START SUBCHANNEL to TEST SUBCHANNEL.
-const WRITE: &[u8] =
+pub const WRITE: &[u8] =
     b"storage 10\npath 10\nunit 0 block\nsub 0 0100 0 10\nput 500 000000000080FF0000001000\nput 1000 0120000400002000\nput 2000 C1C2C3C4\nenable 0 0 0\nssch 0 500\nchoose 0\ndown 0 0\nup 0 0\ndown 0 0\ndev 0\nup 0 0\ndown 0 0\ndev 0\nup 0 0\ndown 0 0\ndev 0\nup 0 0\ntsch 0 600\n";
 
-const WRITTEN: &[u8] =
+pub const WRITTEN: &[u8] =
     b"5 done\n6 done\n7 done\n8 cc 0\n9 cc 0\n10 offer 0\n11 took select\n12 took accept\n13 took command\n14 done\n15 took data\n16 took give\n17 done\n18 took data\n19 took give\n20 done\n21 took end\n22 cc 0 00804007 00001008 0C000000\n";
 
 /// The set-up of a machine, up to its subchannel.

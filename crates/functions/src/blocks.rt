@@ -28,6 +28,31 @@ fn paths_below(count: usize) -> PathSet
     ]
 }
 
+/// The paths of a subchannel that are installed: those that are configured.
+pub fn installed_paths(sub: &Subchannel) -> PathSet
+    ensures { result ≡ store_spec.installed_paths sub.now }
+{
+    paths_below(sub.setup.paths.as_slice().len())
+}
+
+/// The installed paths of a subchannel that are not down.
+pub fn available_paths(sub: &Subchannel) -> PathSet
+    ensures { result ≡ store_spec.available_paths sub.now }
+{
+    let installed = installed_paths(sub);
+    let available = &sub.state.pmcw.available;
+    [
+        installed[0] && available[0],
+        installed[1] && available[1],
+        installed[2] && available[2],
+        installed[3] && available[3],
+        installed[4] && available[4],
+        installed[5] && available[5],
+        installed[6] && available[6],
+        installed[7] && available[7],
+    ]
+}
+
 fn chpid_at(paths: &[u8], index: usize) -> u8
     ensures { result ≡ slice_index paths.now index }
 {
@@ -58,8 +83,6 @@ pub fn pmcw_of(sub: &Subchannel) -> pmcw::Pmcw
     ensures { result ≡ store_spec.pmcw_of sub.now }
 {
     let state = sub.state.pmcw;
-    let paths = sub.setup.paths.as_slice();
-    let installed = mask_of_paths(paths_below(paths.len()));
     pmcw::Pmcw {
         parameter: state.parameter,
         subclass: state.subclass,
@@ -73,11 +96,11 @@ pub fn pmcw_of(sub: &Subchannel) -> pmcw::Pmcw
         logical: mask_of_paths(state.logical),
         not_operational: mask_of_paths(state.not_operational),
         last_used: mask_of_path(state.last_used),
-        installed,
+        installed: mask_of_paths(installed_paths(sub)),
         measurement_block: 0,
         operational: mask_of_paths(state.operational),
-        available: installed,
-        chpids: chpids_of(paths),
+        available: mask_of_paths(available_paths(sub)),
+        chpids: chpids_of(sub.setup.paths.as_slice()),
         concurrent_sense: false,
     }
 }

@@ -5,3 +5,4 @@ mod functions_tests;
 mod io_step_tests;
 mod setups;
 mod status_tests;
+mod subchannel_tests;

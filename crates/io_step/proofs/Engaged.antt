@@ -2,7 +2,7 @@
 use Rattle.std.proofs.Common.{◌≡◌, refl, sym, ◌∙◌, ap, ℕ, ◌+◌, ◌<◌, Bool, List, [], ◌∷◌, ◌++◌, length, take, slice_set, arith}
 use Rattle.std.proofs.lemmas.List.{take_more_set}
 use Rattle.std.proofs.lemmas.List.FromFn.{map-range_with_len_more}
-use Rattle.io_step.specs.Others.{engaged_byte, engaged_bytes}
+use Rattle.machine_model.specs.OtherSteps.{engaged_byte, engaged_bytes}
 
 pub engaged-none : (engaged : List Bool) → [] ≡ engaged_bytes engaged 0
 unfolding engaged_bytes

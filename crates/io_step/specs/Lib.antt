@@ -1,4 +1,3 @@
 pub mod Operands
 pub mod Executing
-pub mod Others
 pub mod Performing

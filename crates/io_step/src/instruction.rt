@@ -1,7 +1,7 @@
 //! What is known of the channel paths, and the condition code of what an instruction answered.
 
 ghost use Rattle.std.specs.Prelude.{◌≡◌};
-ghost use Rattle.io_step.specs.Performing as spec;
+ghost use Rattle.machine_model.specs.Requests as spec;
 
 use crate::others::PathTable;
 use chan_events::reply::Reply;

@@ -2,7 +2,7 @@
 
 ghost use Rattle.std.specs.Prelude.{◌≡◌, ◌≤◌, ◌<◌, ◌+◌, ◌*◌, Ok, Err, IfOk, IfErr, OnErr, OnOk, Some, length};
 ghost use Rattle.io_step.specs.Operands.{from_storage};
-ghost use Rattle.io_step.specs.Others as spec;
+ghost use Rattle.machine_model.specs.OtherSteps as spec;
 
 use crate::operands::{WORD, check_operand};
 use chan_events::reply::{PATH_STATUS_BYTES, report_word};

@@ -3,6 +3,8 @@
 ghost use Rattle.std.specs.Prelude.{◌≡◌, IfSome, Some};
 ghost use Rattle.machine_model.specs.Bounds.{IsRoomy};
 ghost use Rattle.io_step.specs.Performing as spec;
+ghost use Rattle.machine_model.specs.OtherSteps.{lent_whole};
+ghost use Rattle.machine_model.specs.Requests as requests_spec;
 
 use crate::absent::execute_absent;
 use crate::instruction::{ChannelPaths, reply_code};
@@ -20,7 +22,7 @@ use subchannel_model::state::Subchannel;
 
 /// Whether an instruction that set this code drops the request of its subchannel.
 fn drops(instruction: Instruction, code: Option<ConditionCode>) -> bool
-    ensures { result ≡ spec.drops instruction code }
+    ensures { result ≡ requests_spec.drops instruction code }
 {
     match instruction {
         Instruction::Tsch { .. } => {
@@ -46,8 +48,10 @@ pub fn perform_provided(
     instruction: Instruction,
 ) -> Result<Reply, Fault>
     requires { IsRoomy sub.old }
-    ensures { spec.Performed (spec.lent storage.old (Some sub.old) pending.old) cpu instruction
+    ensures done { spec.Performed (spec.lent storage.old (Some sub.old) pending.old) cpu instruction
         result (spec.lent storage.new (Some sub.new) pending.new) }
+    ensures setup { sub.new.setup ≡ sub.old.setup }
+    ensures numbers { pending.new.numbers ≡ pending.old.numbers }
 {
     let id = sub.setup.id;
     let reply = execute(storage, sub, cpu, instruction)?;
@@ -84,8 +88,8 @@ pub fn perform_other(
     cpu: Cpu,
     instruction: OtherInstruction,
 ) -> Result<Reply, Fault>
-    ensures { spec.Performed_other (spec.lent_whole storage.old pending.old reports.old) paths.now cpu instruction
-        result (spec.lent_whole storage.new pending.new reports.new) }
+    ensures { spec.Performed_other (lent_whole storage.old pending.old reports.old) paths.now cpu instruction
+        result (lent_whole storage.new pending.new reports.new) }
 {
     match instruction {
         OtherInstruction::Tpi { mask, address } => {

@@ -26,8 +26,9 @@ use subchannel_model::state::Subchannel;
 
 fn start(storage: &Storage, sub: &mut Subchannel, cpu: Cpu, address: u32) -> Result<Reply, Fault>
     requires { IsRoomy sub.old }
-    ensures { (word : ℕ) →
+    ensures done { (word : ℕ) →
         spec.Executed storage.now sub.old cpu (instruction_spec.Ssch word address) result storage.now sub.new }
+    ensures setup { sub.new.setup ≡ sub.old.setup }
 {
     let orb = orb_at(storage, cpu, address)?;
     Ok(start_sub(sub, orb))
@@ -47,8 +48,9 @@ fn store_irb(storage: &mut Storage, sub: &Subchannel, cpu: Cpu, address: u32)
 }
 
 fn test(storage: &mut Storage, sub: &mut Subchannel, cpu: Cpu, address: u32) -> Result<Reply, Fault>
-    ensures { (word : ℕ) →
+    ensures done { (word : ℕ) →
         spec.Executed storage.old sub.old cpu (instruction_spec.Tsch word address) result storage.new sub.new }
+    ensures setup { sub.new.setup ≡ sub.old.setup }
 {
     check_operand(storage, cpu, address, IRB_BYTES, WORD)?;
     store_irb(storage, sub, cpu, address);
@@ -69,8 +71,9 @@ fn store(storage: &mut Storage, sub: &Subchannel, cpu: Cpu, address: u32) -> Res
 }
 
 fn modify(storage: &Storage, sub: &mut Subchannel, cpu: Cpu, address: u32) -> Result<Reply, Fault>
-    ensures { (word : ℕ) →
+    ensures done { (word : ℕ) →
         spec.Executed storage.now sub.old cpu (instruction_spec.Msch word address) result storage.now sub.new }
+    ensures setup { sub.new.setup ≡ sub.old.setup }
 {
     let given = word_at(storage, cpu, address)?;
     Ok(modify_sub(sub, &given))
@@ -83,8 +86,9 @@ fn enable(
     subclass: u8,
     multipath: bool,
 ) -> Result<Reply, Fault>
-    ensures { (word : ℕ) → spec.Executed storage.old sub.old cpu (instruction_spec.Enable word subclass multipath)
+    ensures done { (word : ℕ) → spec.Executed storage.old sub.old cpu (instruction_spec.Enable word subclass multipath)
         result storage.new sub.new }
+    ensures setup { sub.new.setup ≡ sub.old.setup }
 {
     check_operand(storage, cpu, ENABLE_BLOCK, SCHIB_BYTES, WORD)?;
     let schib = enabling_schib(sub, subclass, multipath);
@@ -102,7 +106,8 @@ pub fn execute(
     instruction: Instruction,
 ) -> Result<Reply, Fault>
     requires { IsRoomy sub.old }
-    ensures { spec.Executed storage.old sub.old cpu instruction result storage.new sub.new }
+    ensures done { spec.Executed storage.old sub.old cpu instruction result storage.new sub.new }
+    ensures setup { sub.new.setup ≡ sub.old.setup }
 {
     match instruction {
         Instruction::Ssch { address, .. } => start(storage, sub, cpu, address),

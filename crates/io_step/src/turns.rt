@@ -27,8 +27,9 @@ use subchannel_model::state::{Subchannel, SubchannelState};
 /// START SUBCHANNEL with an allowed ORB.
 pub fn start_sub(sub: &mut Subchannel, orb: Orb) -> Reply
     requires { IsRoomy sub.old }
-    ensures { spec.function_sub sub.old (spec.code_at ssch_code sub.old) (started sub.old.state orb) ≡
+    ensures left { spec.function_sub sub.old (spec.code_at ssch_code sub.old) (started sub.old.state orb) ≡
         turn_spec.leaves result sub.new }
+    ensures setup { sub.new.setup ≡ sub.old.setup }
 {
     let code = ssch(&mut sub.state, orb);
     Reply::Code(Answer::of(code, sub.state.serials))
@@ -43,7 +44,8 @@ pub fn test_code_of(sub: &Subchannel) -> ConditionCode
 
 /// TEST SUBCHANNEL, but for the IRB.
 pub fn test_sub(sub: &mut Subchannel) -> Reply
-    ensures { spec.test_with sub.old (spec.code_at test_spec.tsch_code sub.old) ≡ turn_spec.leaves result sub.new }
+    ensures left { spec.test_with sub.old (spec.code_at test_spec.tsch_code sub.old) ≡ turn_spec.leaves result sub.new }
+    ensures setup { sub.new.setup ≡ sub.old.setup }
 {
     let scsw = sub.state.scsw;
     let code = tsch(&mut sub.state);
@@ -77,7 +79,8 @@ pub fn stores_irb(code: ConditionCode) -> bool
 /// MODIFY SUBCHANNEL with a word that it allows.
 pub fn modify_sub(sub: &mut Subchannel, given: &Pmcw) -> Reply
     requires { IsAllowedPmcw given.now }
-    ensures { spec.modify_sub sub.old given.now ≡ turn_spec.leaves result sub.new }
+    ensures left { spec.modify_sub sub.old given.now ≡ turn_spec.leaves result sub.new }
+    ensures setup { sub.new.setup ≡ sub.old.setup }
 {
     modified();
     let code = msch(&mut sub.state, given);
@@ -86,8 +89,9 @@ pub fn modify_sub(sub: &mut Subchannel, given: &Pmcw) -> Reply
 
 /// RESUME SUBCHANNEL.
 pub fn resume_sub(sub: &mut Subchannel) -> Reply
-    ensures { spec.function_sub sub.old (spec.code_at rsch_code sub.old) (resumed sub.old.state) ≡
+    ensures left { spec.function_sub sub.old (spec.code_at rsch_code sub.old) (resumed sub.old.state) ≡
         turn_spec.leaves result sub.new }
+    ensures setup { sub.new.setup ≡ sub.old.setup }
 {
     let code = rsch(&mut sub.state);
     Reply::Code(Answer::of(code, sub.state.serials))
@@ -95,8 +99,9 @@ pub fn resume_sub(sub: &mut Subchannel) -> Reply
 
 /// HALT SUBCHANNEL.
 pub fn halt_sub(sub: &mut Subchannel) -> Reply
-    ensures { spec.function_sub sub.old (spec.code_at hsch_code sub.old) (halted sub.old.state) ≡
+    ensures left { spec.function_sub sub.old (spec.code_at hsch_code sub.old) (halted sub.old.state) ≡
         turn_spec.leaves result sub.new }
+    ensures setup { sub.new.setup ≡ sub.old.setup }
 {
     let code = hsch(&mut sub.state);
     Reply::Code(Answer::of(code, sub.state.serials))
@@ -105,8 +110,9 @@ pub fn halt_sub(sub: &mut Subchannel) -> Reply
 /// CLEAR SUBCHANNEL.
 pub fn clear_sub(sub: &mut Subchannel) -> Reply
     requires { IsRoomy sub.old }
-    ensures { spec.function_sub sub.old (spec.code_at csch_code sub.old) (cleared sub.old.state) ≡
+    ensures left { spec.function_sub sub.old (spec.code_at csch_code sub.old) (cleared sub.old.state) ≡
         turn_spec.leaves result sub.new }
+    ensures setup { sub.new.setup ≡ sub.old.setup }
 {
     let code = csch(&mut sub.state);
     Reply::Code(Answer::of(code, sub.state.serials))
@@ -114,8 +120,9 @@ pub fn clear_sub(sub: &mut Subchannel) -> Reply
 
 /// CANCEL SUBCHANNEL.
 pub fn cancel_sub(sub: &mut Subchannel) -> Reply
-    ensures { spec.function_sub sub.old (spec.code_at xsch_code sub.old) (cancelled sub.old.state) ≡
+    ensures left { spec.function_sub sub.old (spec.code_at xsch_code sub.old) (cancelled sub.old.state) ≡
         turn_spec.leaves result sub.new }
+    ensures setup { sub.new.setup ≡ sub.old.setup }
 {
     let code = xsch(&mut sub.state);
     Reply::Code(Answer::of(code, sub.state.serials))

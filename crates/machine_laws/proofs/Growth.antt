@@ -1,5 +1,5 @@
 -- Links that only grow: every signal that was sent may still arrive.
-use Rattle.std.proofs.Common.{◌≡◌, refl, ◌∙◌, ap, subst, ℕ, zero, suc, Option, None, Some, List, [], ◌∷◌, ◌++◌, inl, inr, arith}
+use Rattle.std.proofs.Common.{◌≡◌, refl, ◌∙◌, ap, subst, ℕ, zero, suc, Option, None, Some, List, [], ◌∷◌, ◌++◌, inl, inr, arith, Bool, true, false}
 use Rattle.std.specs.Prelude.{◌⊎◌, slice_get, slice_set, drop, All, Contains, IfSome}
 use Rattle.std.proofs.lemmas.List.Elements.{All-weaker, All-push, All-drop, All-contains_itself, Contains-append_left, Contains-append_right}
 use Rattle.std.proofs.lemmas.Option.{slice_get_within, get_or_from_slice_get}
@@ -19,7 +19,8 @@ use Rattle.agreement_laws.specs.Invariant.{IsGood}
 use Rattle.step_laws.specs.Walks.{AreWalks}
 use Rattle.subchannel_model.specs.declared.state.Subchannel.{Subchannel}
 use Rattle.subchannel_model.specs.declared.state.SubchannelState.{SubchannelState}
-use Rattle.subchannel_model.specs.Sending.{with_any_sent}
+use Rattle.allegiance.specs.PathUse.{is_member}
+use Rattle.subchannel_model.specs.Sending.{carried_where, carried, carried_by, with_any_sent}
 
 -- a signal more, where one is sent
 abbrev pub with_one : {A : Type 0} → List A → Option A → List A
@@ -71,6 +72,15 @@ covers-sent l queues None h c = c
 covers-sent l queues (Some s) h c =
     queue-set (λ p x. Contains l (record { path = p; signal = x })) queues s.path (queue queues s.path ++ s.signal ∷ []) c
     (All-push (λ x. Contains l (record { path = s.path; signal = x })) (queue queues s.path) s.signal (c s.path) h)
+
+-- what holds of a signal that is sent holds of it where its path is up
+carried-where-if : {A : Type 0} (P : OnPath A → Type 0) (available : Bool) (s : OnPath A) → P s → IfSome (carried_where available s) P
+carried-where-if P true s h = h
+carried-where-if P false s h = tt
+
+pub carried-if : {A : Type 0} (P : OnPath A → Type 0) (available : List Bool) (one : Option (OnPath A)) → IfSome one P → IfSome (carried available one) P
+carried-if P available None h = tt
+carried-if P available (Some s) h = carried-where-if P (is_member available s.path) s h
 
 pub covers-first : {A : Type 0} (l : List (OnPath A)) (queues : List (List A)) (k : ℕ) (x : A) → Covers l queues → slice_get (queue queues k) 0 ≡ Some x →
     Contains l (record { path = k; signal = x })
@@ -246,6 +256,7 @@ reached-by sub l s one downs ups k r d f =
 
 pub reached : (sub : Subchannel) (l : Link) (s : SubchannelState) (one : Option (OnPath Down)) (ups : List (List Up)) → IsLink sub l →
     Reaches l (record { drawn = s.drawn; hold = s.hold; sent = one }) → ((m : List (OnPath Up)) → Covers m sub.wires.up → Covers m ups) →
-    IsReached l (record sub { state = s; wires = record { down = with_any_sent sub.wires.down one; up = ups } })
+    IsReached l (record sub { state = s; wires = record { down = with_any_sent sub.wires.down (carried_by sub one); up = ups } })
 reached sub l s one ups k r f =
-    reached-by sub l s one (with_any_sent sub.wires.down one) ups k r (covers-sent r.link.downs sub.wires.down one r.sent) f
+    reached-by sub l s one (with_any_sent sub.wires.down (carried_by sub one)) ups k r
+    (covers-sent r.link.downs sub.wires.down (carried_by sub one) (carried-if (λ x. Contains r.link.downs x) sub.state.pmcw.available one r.sent)) f

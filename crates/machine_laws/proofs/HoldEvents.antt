@@ -38,11 +38,12 @@ use Rattle.subchannel_model.specs.declared.state.UpStep.{UpStep}
 use Rattle.subchannel_model.specs.declared.cause.StatusCause.TheVariants as cause
 use Rattle.subchannel_model.specs.declared.state.ProgramPosition.{ProgramPosition}
 use Rattle.subchannel_model.specs.Causes.{with_cause}
-use Rattle.subchannel_model.specs.Choosing.{IsFitFor, reset_sent, halt_sent}
+use Rattle.subchannel_model.specs.Choosing.{IsFitFor, marked_sub, reset_sent, halt_sent}
+use Rattle.subchannel_model.specs.SystemReset.{reset_by_system}
 use Rattle.subchannel_model.specs.Ends.{has_status_modifier, chains_command}
 use Rattle.machine_model.specs.Turns.{SubTurn, UpTurn}
 use Rattle.machine_model.specs.ChooseSteps.{choose_sub}
-use Rattle.subchannel_model.specs.Sending.{is_full, finds_full}
+use Rattle.subchannel_model.specs.Sending.{carried_by, finds_full}
 use Rattle.machine_model.specs.UpSteps.{up_front, up_sub}
 use Rattle.subchannel_model.specs.Taking.{Met, with_known, meets, ignoring, quietly, sending, let_go, by_hold, moving_on, giving, give_next, answering, take_in, bytes_of_load, standing, goes_ahead, path_used, taking_over, interrupted, suspending, beginning, begin_standing, halt_done, accept, move_bytes, move_data, with_end, end_taken, chaining, chain_with, goes_on, end_shown_at, stops_at, command_ended, end_of, reset_taken, may_attend, with_attention, takes_up}
 use Rattle.subchannel_model.specs.Losing.{has_any, is_offered_or_held, reset_for}
@@ -256,7 +257,7 @@ module _ (keeps : Keeps) where
       IsUpTurn sub (up_front returns storage sub path front)
   up_front-turns returns storage sub path None e = tt
   up_front-turns returns storage sub path (Some x) e =
-      if-turns (λ t. IsOfHold sub t.sub) (finds_full sub.wires.down (takes_up returns storage sub.state path x).step.came.sent) _ _ tt
+      if-turns (λ t. IsOfHold sub t.sub) (finds_full sub.wires.down (carried_by sub (takes_up returns storage sub.state path x).step.came.sent)) _ _ tt
       (record {
         setup = refl;
         reaches = λ l k.
@@ -274,7 +275,7 @@ module _ (keeps : Keeps) where
   pub choose-turns : (sub : Subchannel) (c : Chosen) → IsFitFor c sub.state.hold → IsSubTurn sub (choose_sub sub c)
   choose-turns sub chosen.Idle fit = kept-turns sub sub.state refl refl
   choose-turns sub (chosen.Resets r path) fit =
-      if-turns (λ t. IsOfHold sub t.sub) (is_full sub.wires.down path) _ _ tt
+      if-turns (λ t. IsOfHold sub t.sub) (finds_full sub.wires.down (carried_by sub (Some (record { path = path; signal = down.Reset r sub.state.hold.known })))) _ _ tt
       (record {
         setup = refl;
         reaches = λ l k.
@@ -286,7 +287,7 @@ module _ (keeps : Keeps) where
       })
   choose-turns sub chosen.PerformsClear fit = same-turns sub (with_cause sub.state cause.ClearDone) (cause-same sub.state cause.ClearDone)
   choose-turns sub (chosen.Halts t path) fit =
-      if-turns (λ t. IsOfHold sub t.sub) (is_full sub.wires.down path) _ _ tt
+      if-turns (λ t. IsOfHold sub t.sub) (finds_full sub.wires.down (carried_by sub (Some (record { path = path; signal = down.Halt t })))) _ _ tt
       (record {
         setup = refl;
         reaches = λ l k.
@@ -297,7 +298,7 @@ module _ (keeps : Keeps) where
   choose-turns sub chosen.PerformsHalt fit = same-turns sub (with_cause sub.state cause.HaltDone) (cause-same sub.state cause.HaltDone)
   choose-turns sub chosen.FindsNoPath fit = same-turns sub (with_cause sub.state cause.NoPath) (cause-same sub.state cause.NoPath)
   choose-turns sub (chosen.Offers c path) fit =
-      if-turns (λ t. IsOfHold sub t.sub) (is_full sub.wires.down path) _ _ tt
+      if-turns (λ t. IsOfHold sub t.sub) (finds_full sub.wires.down (carried_by sub (Some (record { path = path; signal = down.Select (sub.state.drawn + 1) })))) _ _ tt
       (record {
         setup = refl;
         reaches = λ l k.
@@ -307,7 +308,7 @@ module _ (keeps : Keeps) where
             (λ m c. c);
       })
 
-  -- CLEAR
+  -- CLEAR, and a reset of the subsystem
   pub clear-turns : (sub : Subchannel) → IsOfHold sub (record sub { state = cleared sub.state })
   clear-turns sub =
       record {
@@ -316,3 +317,17 @@ module _ (keeps : Keeps) where
             reached sub l (cleared sub.state) None sub.wires.up k
             (acts keeps l sub.state.drawn sub.state.hold Is_reset _ tt (record { drawn = k.drawn; hold = k.hold }) refl) (λ m c. c);
       }
+
+  pub system-turns : (sub : Subchannel) → IsOfHold sub (reset_by_system sub)
+  system-turns sub =
+      record {
+        setup = refl;
+        reaches = λ l k.
+            reached sub l (reset_by_system sub).state None sub.wires.up k
+            (acts keeps l sub.state.drawn sub.state.hold Is_reset _ tt (record { drawn = k.drawn; hold = k.hold }) refl) (λ m c. c);
+      }
+
+-- the masks of paths and the status word are nothing to the links
+pub marked-turns : (sub new : Subchannel) (choice : Option ℕ) → IsOfHold (marked_sub sub choice) new → IsOfHold sub new
+marked-turns sub new choice h =
+    record { setup = h.setup; reaches = λ l k. h.reaches l (record { drawn = k.drawn; hold = k.hold; downs = k.downs; ups = k.ups }) }

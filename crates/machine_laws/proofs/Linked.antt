@@ -1,7 +1,7 @@
 -- Each unit has links that stand for its subchannels, and what is told of the starts of one subchannel holds with them: at
 -- the opening of a lawful set-up, and after an event where it did before.
-use Rattle.std.proofs.Common.{◌≡◌, ◌≢◌, refl, sym, ◌∙◌, ap, subst, ℕ, ◌==◌, zero, suc, Bool, true, false, Option, Some, List, [], inl, inr}
-use Rattle.std.specs.Prelude.{◌⊎◌, slice_get, slice_set, replicate, All, Contains}
+use Rattle.std.proofs.Common.{◌≡◌, ◌≢◌, refl, sym, ◌∙◌, ap, subst, ℕ, ◌<◌, ◌==◌, zero, suc, Bool, true, false, Option, Some, List, [], ◌∷◌, inl, inr}
+use Rattle.std.specs.Prelude.{◌⊎◌, ◌&&◌, if◌then◌else◌, slice_get, slice_set, replicate, All, AllPairs, Contains}
 use Rattle.std.proofs.lemmas.Bool.{eqb-true, eqb-false}
 use Rattle.std.proofs.lemmas.List.Elements.{All-nil}
 use Rattle.chan_model.specs.declared.names.Side.{Side}
@@ -9,6 +9,8 @@ use Rattle.chan_model.specs.declared.names.Side.TheVariants.{First, Second}
 use Rattle.chan_model.specs.declared.signal.OnPath.{OnPath}
 use Rattle.chan_model.specs.declared.unit_state.UnitState.{UnitState}
 use Rattle.chan_model.specs.Sides.{same_side}
+use Rattle.chan_model.specs.UnitTable.{restarted}
+use Rattle.channel_config.specs.declared.names.SubchannelId.{SubchannelId}
 use Rattle.channel_config.specs.declared.parts.SubchannelSetup.{SubchannelSetup}
 use Rattle.channel_config.specs.declared.parts.UnitKind.{UnitKind}
 use Rattle.channel_config.specs.Lawful.{IsLawful}
@@ -18,13 +20,17 @@ use Rattle.agreement_laws.specs.Links.{Links, link_of, opening_links}
 use Rattle.agreement_laws.specs.Invariant.{IsGood}
 use Rattle.subchannel_model.specs.declared.state.Subchannel.{Subchannel}
 use Rattle.machine_model.specs.State.{opening_of, idle_of}
+use Rattle.machine_model.specs.Sharing.{owing}
 use Rattle.subchannel_model.specs.Opening.{opened}
+use Rattle.subchannel_model.specs.Places.{is_named, one_later, place_in}
 use Rattle.machine_laws.specs.Beginnings.{StartCounts, no_starts}
 use Rattle.machine_laws.proofs.Growth.{Covers, IsLink, link-wider, AreLaws}
 use Rattle.machine_laws.proofs.HoldEvents.{IsOfHold}
 use Rattle.machine_laws.proofs.TaleEvents.{Tells}
 use Rattle.machine_laws.proofs.Tales.{IsTold, told-opened, told-wider}
-use Rattle.machine_laws.proofs.UnitEvents.{Follows, IsKept, hold-kept}
+use Rattle.machine_laws.proofs.UnitEvents.{Follows, IsKept, hold-kept, told_links, links-wider, told-accepted, restart-good, restart-passed, with_owed, owed-link, owed-good, owed-passed, owed-accepted}
+use Rattle.agreement_laws.specs.Links.{Link}
+use Rattle.agreement_laws.specs.Moving.{Restarts}
 use Rattle.step_laws.proofs.Places.{set-get, map-get, one-place}
 
 -- the links of the unit at a place, and what is told of one subchannel
@@ -172,6 +178,44 @@ pub unit-linked : (T : Type 0) (subs : List Subchannel) (units : List UnitState)
 unit-linked T subs units place at sub new u v which k mine next there found e f about l =
     all-linked T subs units (slice_set units at v) place sub new which k mine next there f.setup about (set-after T units sub new at u v k mine found e f) l
 
+-- what a unit owes changes none of it
+owed-linked : (owed : Bool) (subs : List Subchannel) (at : ℕ) (u : UnitState) (which : Option ℕ) (k : StartCounts) → IsLinked subs at u which k → IsLinked subs at (owing owed u) which k
+owed-linked owed subs at u which k l =
+    record {
+      links = with_owed owed l.links;
+      good = owed-good owed l.links l.good;
+      «unit» = ap (owing owed) l.«unit»;
+      stand = λ i x e h. subst (λ (m : Link). IsLink x m) (sym (owed-link owed l.links x.setup.side)) (l.stand i x e h);
+      told = λ i x e h q.
+          told-wider k x.state l.links (with_owed owed l.links) x.setup.side (owed-passed owed l.links x.setup.side) (owed-accepted owed l.links x.setup.side) (l.told i x e h q);
+    }
+
+-- a unit restarts
+restarted-linked : AreLaws → (subs : List Subchannel) (at : ℕ) (u : UnitState) (which : Option ℕ) (k : StartCounts) → IsLinked subs at u which k → IsLinked subs at (restarted u) which k
+restarted-linked laws subs at u which k l =
+    record {
+      links = told_links l.links Restarts;
+      good = (restart-good laws l.links l.good).0;
+      «unit» = ap restarted l.«unit»;
+      stand = λ i x e h. link-wider x (link_of l.links x.setup.side) (link_of (told_links l.links Restarts) x.setup.side) (links-wider l.links Restarts x.setup.side) (l.stand i x e h);
+      told = λ i x e h q.
+          told-wider k x.state l.links (told_links l.links Restarts) x.setup.side (λ t p. restart-passed laws l.links x.setup.side t l.good p)
+          (told-accepted l.links Restarts x.setup.side) (l.told i x e h q);
+    }
+
+pub restart-linked : AreLaws → (owed : Bool) (subs : List Subchannel) (units : List UnitState) (at : ℕ) (u : UnitState) (which : Option ℕ) (k : StartCounts) →
+    slice_get units at ≡ Some u → AreLinked subs units which k → AreLinked subs (slice_set units at (owing owed (restarted u))) which k
+restart-linked laws owed subs units at u which k found l =
+    record {
+      apart = l.apart;
+      linked = λ i v e.
+          elim (set-get units at (owing owed (restarted u)) i v e) [
+            | inl p ↦ subst (λ (j : ℕ). IsLinked subs j v which k) (sym p.0)
+                (subst (λ (w : UnitState). IsLinked subs at w which k) (sym p.1) (owed-linked owed subs at (restarted u) which k (restarted-linked laws subs at u which k (l.linked at u found))))
+            | inr p ↦ l.linked i v p.1
+          ];
+    }
+
 -- at the opening no signal waits
 no-signal : {A : Type 0} (n p : ℕ) → queue {A = A} (replicate n []) p ≡ []
 no-signal zero p = refl
@@ -208,3 +252,18 @@ opens-linked setup which lawful good =
                 subst (λ (y : Subchannel). IsTold no_starts y.state opening_links y.setup.side) b.2 (told-opened opening_links b.0.side);
           };
     }
+
+-- the places of subchannels stay
+pub place-set : (id : SubchannelId) (subs : List Subchannel) (place : ℕ) (sub new : Subchannel) → slice_get subs place ≡ Some sub → new.setup ≡ sub.setup →
+    place_in id (slice_set subs place new) ≡ place_in id subs
+place-set id [] place sub new e s = absurd (cc e)
+place-set id (x ∷ xs) zero sub new e s =
+    let same : x ≡ sub = cc e in
+    ap (λ (setup : SubchannelSetup). if (setup.id.set == id.set) && (setup.id.number == id.number) then Some 0 else one_later (place_in id xs))
+    (s ∙ ap (λ (y : Subchannel). y.setup) (sym same))
+place-set id (x ∷ xs) (suc place) sub new e s = ap (λ (p : Option ℕ). if is_named id x then Some 0 else one_later p) (place-set id xs place sub new e s)
+
+-- a state after entries that tell this of the subchannel of an id
+pub record IsStateTold (id : SubchannelId) (k : StartCounts) (subs : List Subchannel) (units : List UnitState) : Type 0 where
+  pub linked : AreLinked subs units (place_in id subs) k
+  pub rises : AllPairs (λ x y. x < y) k.begun

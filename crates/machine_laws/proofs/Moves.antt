@@ -1,6 +1,6 @@
 -- A relation that holds between the state of a subchannel and what each event leaves of it holds, subchannel by
 -- subchannel, between the states before and after a step.
-use Rattle.std.proofs.Common.{◌≡◌, refl, sym, ◌∙◌, ap, map, subst, ℕ, zero, suc, Bool, true, false, nat_lt, Option, None, Some, Result, List, [], ◌∷◌, length}
+use Rattle.std.proofs.Common.{◌≡◌, refl, sym, ◌∙◌, ap, map, subst, ℕ, ◌+◌, zero, suc, Bool, true, false, nat_lt, Option, None, Some, Result, List, [], ◌∷◌, length}
 use Rattle.std.specs.Prelude.{slice_get, slice_set, if◌then◌else◌, IfOk}
 use Rattle.std.specs.List.{AllZip}
 use Rattle.std.proofs.lemmas.List.{length-set}
@@ -11,16 +11,20 @@ use Rattle.channel_config.specs.declared.parts.SubchannelSetup.{SubchannelSetup}
 use Rattle.storage_keys.specs.Storage.{Contents}
 use Rattle.chan_model.specs.declared.fault.Fault.{Fault}
 use Rattle.chan_events.specs.declared.event.Event.{Event}
+use Rattle.chan_events.specs.declared.event.UnitAct.{UnitAct}
 use Rattle.chan_events.specs.declared.reply.Reply.{Reply}
 use Rattle.chan_model.specs.declared.answer.ConditionCode.{ConditionCode}
 use Rattle.chan_model.specs.declared.answer.ConditionCode.TheVariants as code
 use Rattle.chan_model.specs.declared.signal.Down.{Down}
+use Rattle.chan_model.specs.declared.signal.Down.TheVariants as down
 use Rattle.chan_model.specs.declared.signal.Up.{Up}
 use Rattle.chan_model.specs.declared.unit_state.UnitState.{UnitState}
 use Rattle.chan_model.specs.UnitTable as unit_table
 use Rattle.chan_model.specs.UnitTable.{UnitStep, unit_takes}
 use Rattle.chan_model.specs.UnitReports.{unit_reports}
+use Rattle.machine_model.specs.Setups.{group_of}
 use Rattle.wires.specs.Queues.{queue}
+use Rattle.allegiance.specs.declared.path_use.PathUse.{PathUse}
 use Rattle.subchannel_model.specs.declared.state.Chosen.{Chosen}
 use Rattle.subchannel_model.specs.declared.state.Chosen.TheVariants as chosen_is
 use Rattle.subchannel_model.specs.declared.state.PmcwState.{PmcwState}
@@ -31,7 +35,9 @@ use Rattle.machine_model.specs.State.{State}
 use Rattle.machine_model.specs.Setups.{IsSetUp}
 use Rattle.subchannel_model.specs.declared.cause.StatusCause.TheVariants as cause
 use Rattle.subchannel_model.specs.Causes.{with_cause}
-use Rattle.subchannel_model.specs.Choosing.{chosen, reset_sent, halt_sent, offered}
+use Rattle.subchannel_model.specs.Choosing.{path_use, chosen, looks_for_path, marked_state, marked_sub, reset_sent, halt_sent, offered}
+use Rattle.subchannel_model.specs.Losing.{path_lost, path_index, loses_at, loses, available_pmcw, shows_at}
+use Rattle.subchannel_model.specs.SystemReset.{state_reset}
 use Rattle.subchannel_model.specs.Test.{tested_wholly}
 use Rattle.subchannel_model.specs.Start.{started}
 use Rattle.subchannel_model.specs.Taking.{takes_up}
@@ -39,10 +45,14 @@ use Rattle.machine_model.specs.Turns.{SubTurn, UpTurn, DownTurn}
 use Rattle.subchannel_model.specs.Modify.{modified_state}
 use Rattle.machine_model.specs.InstructionSteps.{test_with, function_sub}
 use Rattle.machine_model.specs.ChooseSteps.{choose_sub}
-use Rattle.subchannel_model.specs.Sending.{is_full, finds_full}
+use Rattle.subchannel_model.specs.Sending.{carried_by, finds_full}
 use Rattle.machine_model.specs.UpSteps.{up_front, up_sub}
 use Rattle.machine_model.specs.DownSteps.{down_front, down_sub}
 use Rattle.machine_model.specs.ReportSteps.{report_taken}
+use Rattle.machine_model.specs.ActSteps.{has_path_of_act, acts, act_sub}
+use Rattle.machine_model.specs.declared.state.Sweep.{Sweep}
+use Rattle.machine_model.specs.declared.state.Sweep.TheVariants as sweep
+use Rattle.machine_model.specs.PathSteps.{swept}
 use Rattle.step_laws.specs.Walks as walked
 use Rattle.step_laws.specs.Walks.{Walked, Function, effect_of, OneSub, OneUnit}
 
@@ -60,6 +70,10 @@ pub record IsKept (R : SubchannelState → SubchannelState → Type 0) : Type 0 
   pub over : (s : SubchannelState) → R s (with_cause s cause.NoPath)
   pub offers : (s : SubchannelState) (program : Program) (path : ℕ) → R s (offered s program path)
   pub takes : (returns : Bool) (storage : Contents) (s : SubchannelState) (path : ℕ) (signal : Up) → R s (takes_up returns storage s path signal).step.state
+  pub marks : (s new : SubchannelState) (used : PathUse) (looks : Bool) → R (marked_state s used looks) new → R s new
+  pub loses : (s : SubchannelState) (path : ℕ) → R s (path_lost s path)
+  pub shows : (s new : SubchannelState) (path : ℕ) (up : Bool) → R s new → R s (record new { pmcw = available_pmcw new.pmcw path up })
+  pub system : (s : SubchannelState) → R s (state_reset s)
 
 -- no event changes how a subchannel is set up
 pub record Changed (R : SubchannelState → SubchannelState → Type 0) (old new : Subchannel) : Type 0 where
@@ -78,6 +92,10 @@ if-ok P false x y e f = f
 pub zip-same : {A : Type 0} (R : A → A → Type 0) → ((x : A) → R x x) → (xs : List A) → AllZip R xs xs
 zip-same R same [] = tt
 zip-same R same (x ∷ xs) = (same x, zip-same R same xs)
+
+pub zip-map : {A : Type 0} (R : A → A → Type 0) (f : A → A) → ((x : A) → R x (f x)) → (xs : List A) → AllZip R xs (map f xs)
+zip-map R f each [] = tt
+zip-map R f each (x ∷ xs) = (each x, zip-map R f each xs)
 
 pub zip-set : {A : Type 0} (R : A → A → Type 0) → ((x : A) → R x x) → (xs : List A) (place : ℕ) (x y : A) → slice_get xs place ≡ Some x → R x y →
     AllZip R xs (slice_set xs place y)
@@ -126,19 +144,38 @@ module _ (R : SubchannelState → SubchannelState → Type 0) (k : IsKept R) whe
   choose-kept : (sub : Subchannel) (c : Chosen) → OkSub sub (choose_sub sub c)
   choose-kept sub chosen_is.Idle = unchanged sub
   choose-kept sub (chosen_is.Resets r path) =
-      if-ok (λ t. Changed R sub t.sub) (is_full sub.wires.down path) _ _ tt (record { setup = refl; state = k.resets sub.state path })
+      if-ok (λ t. Changed R sub t.sub) (finds_full sub.wires.down (carried_by sub (Some (record { path = path; signal = down.Reset r sub.state.hold.known })))) _ _ tt (record { setup = refl; state = k.resets sub.state path })
   choose-kept sub chosen_is.PerformsClear = record { setup = refl; state = k.clears sub.state }
   choose-kept sub (chosen_is.Halts t path) =
-      if-ok (λ t. Changed R sub t.sub) (is_full sub.wires.down path) _ _ tt (record { setup = refl; state = k.halts sub.state })
+      if-ok (λ t. Changed R sub t.sub) (finds_full sub.wires.down (carried_by sub (Some (record { path = path; signal = down.Halt t })))) _ _ tt (record { setup = refl; state = k.halts sub.state })
   choose-kept sub chosen_is.PerformsHalt = record { setup = refl; state = k.ends sub.state }
   choose-kept sub chosen_is.FindsNoPath = record { setup = refl; state = k.over sub.state }
   choose-kept sub (chosen_is.Offers c path) =
-      if-ok (λ t. Changed R sub t.sub) (is_full sub.wires.down path) _ _ tt (record { setup = refl; state = k.offers sub.state c.program path })
+      if-ok (λ t. Changed R sub t.sub) (finds_full sub.wires.down (carried_by sub (Some (record { path = path; signal = down.Select (sub.state.drawn + 1) })))) _ _ tt (record { setup = refl; state = k.offers sub.state c.program path })
+
+  marked-kept : (sub new : Subchannel) (choice : Option ℕ) → Changed R (marked_sub sub choice) new → Changed R sub new
+  marked-kept sub new choice c =
+      record { setup = c.setup; state = k.marks sub.state new.state (path_use sub) (looks_for_path sub.state choice) c.state }
+
+  shows_at-kept : (sub new : Subchannel) (path : Option ℕ) (up : Bool) → Changed R sub new → Changed R sub (shows_at path up new)
+  shows_at-kept sub new None up c = c
+  shows_at-kept sub new (Some path) up c = record { setup = c.setup; state = k.shows sub.state new.state path up c.state }
+
+  loses_at-kept : (sub : Subchannel) (path : Option ℕ) → Changed R sub (loses_at path sub)
+  loses_at-kept sub None = unchanged sub
+  loses_at-kept sub (Some path) = record { setup = refl; state = k.loses sub.state path }
+
+  swept-kept : (what : Sweep) (sub : Subchannel) → Changed R sub (swept what sub)
+  swept-kept (sweep.GoesDown chpid) sub =
+      shows_at-kept sub (loses chpid sub) (path_index chpid (loses chpid sub).setup.paths) false (loses_at-kept sub (path_index chpid sub.setup.paths))
+  swept-kept (sweep.ComesUp chpid) sub = shows_at-kept sub sub (path_index chpid sub.setup.paths) true (unchanged sub)
+  swept-kept (sweep.PathReset chpid) sub = loses_at-kept sub (path_index chpid sub.setup.paths)
+  swept-kept sweep.SystemReset sub = record { setup = refl; state = k.system sub.state }
 
   up_front-kept : (returns : Bool) → (storage : Contents) (sub : Subchannel) (path : ℕ) (front : Option Up) → OkUp sub (up_front returns storage sub path front)
   up_front-kept returns storage sub path None = tt
   up_front-kept returns storage sub path (Some signal) =
-      if-ok (λ t. Changed R sub t.sub) (finds_full sub.wires.down (takes_up returns storage sub.state path signal).step.came.sent) _ _ tt
+      if-ok (λ t. Changed R sub t.sub) (finds_full sub.wires.down (carried_by sub (takes_up returns storage sub.state path signal).step.came.sent)) _ _ tt
       (record { setup = refl; state = k.takes returns storage sub.state path signal })
 
   up-kept : (returns : Bool) → (storage : Contents) (sub : Subchannel) (path : ℕ) → OkUp sub (up_sub returns storage sub path)
@@ -149,7 +186,7 @@ module _ (R : SubchannelState → SubchannelState → Type 0) (k : IsKept R) whe
   down_front-kept : (may : Bool) → (sub : Subchannel) (path : ℕ) (u : UnitState) (front : Option Down) → OkBoth sub (down_front may sub path u front)
   down_front-kept may sub path u None = tt
   down_front-kept may sub path u (Some signal) =
-      if-ok (λ t. Changed R sub t.sub) (finds_full sub.wires.up (unit_table.came_of (unit_takes u sub.setup.side path signal may)).sent) _ _ tt
+      if-ok (λ t. Changed R sub t.sub) (finds_full sub.wires.up (carried_by sub (unit_table.came_of (unit_takes u sub.setup.side path signal may)).sent)) _ _ tt
       (record { setup = refl; state = k.same sub.state })
 
   down-kept : (may : Bool) → (sub : Subchannel) (path : ℕ) (u : UnitState) → OkBoth sub (down_sub may sub path u)
@@ -160,7 +197,12 @@ module _ (R : SubchannelState → SubchannelState → Type 0) (k : IsKept R) whe
   report-kept : (sub : Subchannel) (step : Option UnitStep) → OkBoth sub (report_taken sub step)
   report-kept sub None = tt
   report-kept sub (Some step) =
-      if-ok (λ t. Changed R sub t.sub) (finds_full sub.wires.up step.sent) _ _ tt (record { setup = refl; state = k.same sub.state })
+      if-ok (λ t. Changed R sub t.sub) (finds_full sub.wires.up (carried_by sub step.sent)) _ _ tt (record { setup = refl; state = k.same sub.state })
+
+  act-kept : (sub : Subchannel) (u : UnitState) (what : UnitAct) → OkBoth sub (act_sub sub u what)
+  act-kept sub u what =
+      if-ok (λ t. Changed R sub t.sub) (has_path_of_act sub what) (report_taken sub (acts u sub.setup.side what)) _
+      (report-kept sub (acts u sub.setup.side what)) tt
 
   -- at all of them
   unmoved : (s : State) → AllZip (Changed R) s.subs s.subs
@@ -181,17 +223,27 @@ module _ (R : SubchannelState → SubchannelState → Type 0) (k : IsKept R) whe
   unit-moved s new place sub after at u v one c = one-moved s new place sub after one.sets one.there one.subs c
 
   pub step-moves : (s : State) (e : Event) (r : Reply) (new : State) → Walked s e r new → Moved R s new
-  step-moves s _ _ _ (walked.Stays e r new q sets subs units) =
+  step-moves s _ _ _ (walked.Stays e r new q sets subs units up) =
       record { sets = sets; subs = subst (λ (xs : List Subchannel). AllZip (Changed R) s.subs xs) (sym subs) (unmoved s) }
   step-moves s _ _ _ (walked.Started cpu word address place sub orb c new n one) = sub-moved s new place sub _ one (start-kept sub orb c)
-  step-moves s _ _ _ (walked.Tested e r place sub c new q one) = sub-moved s new place sub _ one (test-kept sub c)
+  step-moves s _ _ _ (walked.Tested e r place sub c new q one address by answers) = sub-moved s new place sub _ one (test-kept sub c)
   step-moves s _ _ _ (walked.Modified e r place sub given c new q one) = sub-moved s new place sub _ one (modify-kept sub given c)
-  step-moves s _ _ _ (walked.Performed e r place sub f c new q one) = sub-moved s new place sub _ one (function-kept sub f c)
-  step-moves s _ _ _ (walked.Chosen word place sub choice t new n x w h one) = sub-moved s new place sub t.sub one (subst (OkSub sub) h (choose-kept sub (chosen sub choice)))
-  step-moves s _ _ _ (walked.Met word path returns place sub t new n h one) = sub-moved s new place sub t.sub one (subst (OkUp sub) h (up-kept returns s.storage sub path))
-  step-moves s _ _ _ (walked.Sunk word path may place sub u t new n h one) = unit-moved s new place sub t.sub _ u t.«unit» one (subst (OkBoth sub) h (down-kept may sub path u))
+  step-moves s _ _ _ (walked.Performed e r place sub f c new q one by answers) = sub-moved s new place sub _ one (function-kept sub f c)
+  step-moves s _ _ _ (walked.Chosen word place sub choice t new n x w h one) = sub-moved s new place sub t.sub one
+      (marked-kept sub t.sub choice (subst (OkSub (marked_sub sub choice)) h (choose-kept (marked_sub sub choice) (chosen sub choice))))
+  step-moves s _ _ _ (walked.Met word path returns place sub t new n h one may) = sub-moved s new place sub t.sub one (subst (OkUp sub) h (up-kept returns s.storage sub path))
+  step-moves s _ _ _ (walked.Sunk word path may owed place sub u t new n h one) = unit-moved s new place sub t.sub _ u _ one (subst (OkBoth sub) h (down-kept may sub path u))
   step-moves s _ _ _ (walked.Reported at place sub u report t new n k h one) =
       unit-moved s new place sub t.sub at u t.«unit» one (subst (OkBoth sub) h (report-kept sub (unit_reports u report)))
+  step-moves s _ _ _ (walked.Acted at place sub u what t new side its h one) =
+      unit-moved s new place sub t.sub at u t.«unit» one (subst (OkBoth sub) h (act-kept sub u what))
+  step-moves s _ _ _ (walked.Restarted at owed u r new found sets subs units up) =
+      record { sets = sets; subs = subst (λ (xs : List Subchannel). AllZip (Changed R) s.subs xs) (sym subs) (unmoved s) }
+  step-moves s _ _ _ (walked.Swept e r what new q sets subs units by) =
+      record {
+        sets = sets;
+        subs = subst (λ (xs : List Subchannel). AllZip (Changed R) s.subs xs) (sym subs) (zip-map (Changed R) (swept what) (swept-kept what) s.subs);
+      }
 
 any-state : IsKept (λ s new. Unit {0})
 any-state = record {
@@ -207,6 +259,10 @@ any-state = record {
   over = λ s. tt;
   offers = λ s program path. tt;
   takes = λ returns storage s path signal. tt;
+  marks = λ s new used looks f. tt;
+  loses = λ s path. tt;
+  shows = λ s new path up f. tt;
+  system = λ s. tt;
 }
 
 -- no step changes how many sets there are
@@ -236,23 +292,29 @@ one_unit-units : (s new : State) (place : ℕ) (sub after : Subchannel) (at : �
 one_unit-units s new place sub after at u v one = ap (λ (us : List UnitState). length us) one.units ∙ length-set s.units at v
 
 units-stay : (s : State) (e : Event) (r : Reply) (new : State) → Walked s e r new → length new.units ≡ length s.units
-units-stay s _ _ _ (walked.Stays e r new q sets subs units) = ap (λ (us : List UnitState). length us) units
+units-stay s _ _ _ (walked.Stays e r new q sets subs units up) = ap (λ (us : List UnitState). length us) units
 units-stay s _ _ _ (walked.Started cpu word address place sub orb c new n one) = one_sub-units s new place sub _ one
-units-stay s _ _ _ (walked.Tested e r place sub c new q one) = one_sub-units s new place sub _ one
+units-stay s _ _ _ (walked.Tested e r place sub c new q one address by answers) = one_sub-units s new place sub _ one
 units-stay s _ _ _ (walked.Modified e r place sub given c new q one) = one_sub-units s new place sub _ one
-units-stay s _ _ _ (walked.Performed e r place sub f c new q one) = one_sub-units s new place sub _ one
+units-stay s _ _ _ (walked.Performed e r place sub f c new q one by answers) = one_sub-units s new place sub _ one
 units-stay s _ _ _ (walked.Chosen word place sub choice t new n x w h one) = one_sub-units s new place sub t.sub one
-units-stay s _ _ _ (walked.Met word path returns place sub t new n h one) = one_sub-units s new place sub t.sub one
-units-stay s _ _ _ (walked.Sunk word path may place sub u t new n h one) = one_unit-units s new place sub t.sub _ u t.«unit» one
+units-stay s _ _ _ (walked.Met word path returns place sub t new n h one may) = one_sub-units s new place sub t.sub one
+units-stay s _ _ _ (walked.Sunk word path may owed place sub u t new n h one) = one_unit-units s new place sub t.sub _ u _ one
 units-stay s _ _ _ (walked.Reported at place sub u report t new n k h one) = one_unit-units s new place sub t.sub at u t.«unit» one
+units-stay s _ _ _ (walked.Acted at place sub u what t new side its h one) = one_unit-units s new place sub t.sub at u t.«unit» one
+units-stay s _ _ _ (walked.Restarted at owed u r new found sets subs units up) = ap (λ (us : List UnitState). length us) units ∙ length-set s.units at _
+units-stay s _ _ _ (walked.Swept e r what new q sets subs units by) = ap (λ (us : List UnitState). length us) units
 
 -- so the machine stays as it was set up
 pub set_up-stays : (setup : Setup) (s : State) (e : Event) (r : Reply) (new : State) → Walked s e r new → length new.storage.keys ≡ length s.storage.keys →
-    IsSetUp setup s → IsSetUp setup new
-set_up-stays setup s e r new w blocks k = record {
+    new.chpids ≡ s.chpids → map group_of new.members ≡ map group_of s.members → new.requests.numbers ≡ s.requests.numbers → IsSetUp setup s → IsSetUp setup new
+set_up-stays setup s e r new w blocks chpids groups requests k = record {
   lawful = k.lawful;
   blocks = blocks ∙ k.blocks;
   sets = sets-stay s e r new w ∙ k.sets;
   subs = setups-stay s e r new w ∙ k.subs;
   units = units-stay s e r new w ∙ k.units;
+  chpids = chpids ∙ k.chpids;
+  groups = groups ∙ k.groups;
+  requests = requests ∙ k.requests;
 }

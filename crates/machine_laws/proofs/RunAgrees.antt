@@ -1,7 +1,7 @@
 -- After each run of a lawful set-up each unit has such links: each subchannel and its unit agree, and the starts of a
 -- subchannel that began a program rise.
-use Rattle.std.proofs.Common.{◌≡◌, refl, sym, ◌∙◌, ap, subst, ℕ, ◌<◌, ◌==◌, zero, suc, Bool, true, false, Option, None, Some, Result, List, [], ◌∷◌, ◌++◌, arith}
-use Rattle.std.specs.Prelude.{◌&&◌, if◌then◌else◌, slice_get, slice_set, AllPairs, IfOk, Contains}
+use Rattle.std.proofs.Common.{◌≡◌, refl, sym, ◌∙◌, ap, subst, ℕ, ◌<◌, ◌==◌, Bool, true, false, Option, None, Some, Result, List, [], ◌∷◌, ◌++◌, arith}
+use Rattle.std.specs.Prelude.{if◌then◌else◌, map, slice_get, slice_set, AllPairs, IfOk, Contains}
 use Rattle.std.proofs.lemmas.Bool.{eqb-true, eq-eqb, and_parts}
 use Rattle.chan_model.specs.declared.fault.Fault.{Fault}
 use Rattle.chan_model.specs.declared.hold_state.HoldPhase.{HoldPhase}
@@ -18,10 +18,9 @@ use Rattle.chan_events.specs.declared.reply.Reply.{Reply}
 use Rattle.chan_events.specs.declared.reply.Reply.TheVariants as reply
 use Rattle.chan_model.specs.declared.signal.Down.TheVariants as down
 use Rattle.chan_model.specs.declared.unit_state.UnitState.{UnitState}
-use Rattle.chan_model.specs.UnitTable.{side_of, resets}
+use Rattle.chan_model.specs.UnitTable.{side_of, resets, restarted}
 use Rattle.chan_model.specs.Sides.{same_side}
 use Rattle.channel_config.specs.declared.names.SubchannelId.{SubchannelId}
-use Rattle.channel_config.specs.declared.parts.SubchannelSetup.{SubchannelSetup}
 use Rattle.channel_config.specs.Lawful.{IsLawful}
 use Rattle.channel_config.specs.Setup.{Setup, set_count}
 use Rattle.channel_config.specs.SubchannelWords.{subchannel_named}
@@ -31,31 +30,35 @@ use Rattle.agreement_laws.specs.Links.{Links, link_of, opening_links}
 use Rattle.agreement_laws.specs.Invariant.{IsGood}
 use Rattle.agreement_laws.specs.Claims.{IsSound}
 use Rattle.subchannel_model.specs.declared.state.Subchannel.{Subchannel}
-use Rattle.subchannel_model.specs.Choosing.{chosen}
+use Rattle.subchannel_model.specs.Choosing.{chosen, marked_sub}
 use Rattle.subchannel_model.specs.Resume.{resumed}
 use Rattle.subchannel_model.specs.Halt.{halted}
 use Rattle.subchannel_model.specs.Cancel.{cancelled}
 use Rattle.subchannel_model.specs.Test.{tested_wholly}
 use Rattle.subchannel_model.specs.Start.{started}
 use Rattle.machine_model.specs.State.{State, opening_of}
-use Rattle.subchannel_model.specs.Places.{is_named, one_later, place_in, place_of_id}
+use Rattle.subchannel_model.specs.Places.{is_named, place_in, place_of_id}
 use Rattle.subchannel_model.specs.Modify.{modified_state}
 use Rattle.machine_model.specs.Turns.{SubTurn, UpTurn, DownTurn}
 use Rattle.machine_model.specs.InstructionSteps.{test_with, function_sub}
 use Rattle.machine_model.specs.Steps.{Run, Opened, Stepped}
+use Rattle.machine_model.specs.Sharing.{owing}
 use Rattle.machine_laws.specs.Agreeing.{IsAgreed, AllAgree, AreAbove, IsEnd}
 use Rattle.machine_laws.specs.Beginnings.{StartCounts, no_starts, with_start, with_offer, with_taken, starts_after, starts_by, starts, IsBegunOnce}
 use Rattle.machine_laws.specs.Claims.{is_same_id, is_id}
 use Rattle.step_laws.specs.Walks as walked
-use Rattle.step_laws.specs.Walks.{Walked, IsQuiet, is_start, OneSub, OneUnit, Function, Resumes, Halts, Clears, Cancels, effect_of}
+use Rattle.machine_model.specs.PathSteps.{swept}
+use Rattle.step_laws.specs.Walks.{Walked, Suits, IsQuiet, is_start, OneSub, OneUnit, Function, Resumes, Halts, Clears, Cancels, effect_of}
 use Rattle.machine_laws.proofs.Moves.{sets-stay}
 use Rattle.machine_laws.proofs.Growth.{IsLink, covers-first, AreLaws}
-use Rattle.machine_laws.proofs.HoldEvents.{IsOfHold, up-turns, kept-turns, same-turns, choose-turns, clear-turns}
+use Rattle.machine_laws.proofs.HoldEvents.{IsOfHold, up-turns, kept-turns, same-turns, choose-turns, marked-turns, clear-turns}
 use Rattle.machine_laws.proofs.RunSerials.{same-id}
 use Rattle.machine_laws.proofs.SameHold.{tested-same, halted-same}
-use Rattle.machine_laws.proofs.TaleEvents.{Tells, start-tells, test-tells, modify-tells, function-tells, choose-tells, up_sub-tells}
-use Rattle.machine_laws.proofs.UnitEvents.{Follows, IsKept, down-kept, report-kept}
-use Rattle.machine_laws.proofs.Linked.{IsLinked, IsAbout, AreLinked, hold-linked, unit-linked, opens-linked}
+use Rattle.machine_laws.proofs.TaleEvents.{Tells, start-tells, test-tells, modify-tells, function-tells, choose-tells, marked-tells, up_sub-tells}
+use Rattle.machine_laws.proofs.Swept.{swept-told}
+use Rattle.machine_laws.proofs.UnitEvents.{Follows, IsKept, down-kept, report-kept, act-kept, owing-kept}
+use Rattle.machine_laws.proofs.Linked.{IsLinked, IsAbout, AreLinked, IsStateTold, place-set, hold-linked, unit-linked, restart-linked, opens-linked}
+use Rattle.step_laws.proofs.Marks.{marked-suits}
 use Rattle.step_laws.proofs.Places.{first-passes, both-true}
 
 -- the instructions leave the hold
@@ -79,21 +82,6 @@ modify-hold sub given code.Zero = kept-turns sub (modified_state sub given) refl
 modify-hold sub given code.One = same-hold sub
 modify-hold sub given code.Two = same-hold sub
 modify-hold sub given code.Three = same-hold sub
-
--- the places of subchannels stay
-pub place-set : (id : SubchannelId) (subs : List Subchannel) (place : ℕ) (sub new : Subchannel) → slice_get subs place ≡ Some sub → new.setup ≡ sub.setup →
-    place_in id (slice_set subs place new) ≡ place_in id subs
-place-set id [] place sub new e s = absurd (cc e)
-place-set id (x ∷ xs) zero sub new e s =
-    let same : x ≡ sub = cc e in
-    ap (λ (setup : SubchannelSetup). if (setup.id.set == id.set) && (setup.id.number == id.number) then Some 0 else one_later (place_in id xs))
-    (s ∙ ap (λ (y : Subchannel). y.setup) (sym same))
-place-set id (x ∷ xs) (suc place) sub new e s = ap (λ (p : Option ℕ). if is_named id x then Some 0 else one_later p) (place-set id xs place sub new e s)
-
--- a state after entries that tell this of the subchannel of an id
-pub record IsStateTold (id : SubchannelId) (k : StartCounts) (subs : List Subchannel) (units : List UnitState) : Type 0 where
-  pub linked : AreLinked subs units (place_in id subs) k
-  pub rises : AllPairs (λ x y. x < y) k.begun
 
 -- an event that tells nothing, and one of the subchannel that a word names
 silent-about : (which : Option ℕ) (place : ℕ) (k next : StartCounts) → next ≡ k → IsAbout which place k k next
@@ -259,6 +247,13 @@ module _ (laws : AreLaws) where
   quiet-tells sets id (event.Up word path) r k q = absurd q
   quiet-tells sets id (event.Down word path) r k q = absurd q
   quiet-tells sets id (event.Report at report) r k q = absurd q
+  quiet-tells sets id (event.ExecuteOther cpu i) r k q = refl
+  quiet-tells sets id (event.Act at what) r k q = refl
+  quiet-tells sets id (event.Restart at) r k q = refl
+  quiet-tells sets id (event.PathDown chpid) r k q = refl
+  quiet-tells sets id (event.PathUp chpid) r k q = refl
+  quiet-tells sets id (event.PathReset chpid) r k q = refl
+  quiet-tells sets id event.SystemReset r k q = refl
 
   -- an event that tells nothing, at one subchannel
   quiet-at : (id : SubchannelId) (s new : State) (e : Event) (r : Reply) (place : ℕ) (sub after : Subchannel) (k : StartCounts) → IsQuiet e r → OneSub s new place sub after → IsOfHold sub after →
@@ -269,7 +264,7 @@ module _ (laws : AreLaws) where
 
   links-walk : (id : SubchannelId) (k : StartCounts) (s : State) (e : Event) (r : Reply) (new : State) → Walked s e r new → IsStateTold id k s.subs s.units →
       IsStateTold id (starts_after s.sets id e r k) new.subs new.units
-  links-walk id k s _ _ _ (walked.Stays e r new q sets subs units) l =
+  links-walk id k s _ _ _ (walked.Stays e r new q sets subs units up) l =
       subst (λ (xs : List UnitState). IsStateTold id (starts_after s.sets id e r k) new.subs xs) (sym units)
       (subst (λ (xs : List Subchannel). IsStateTold id (starts_after s.sets id e r k) xs s.units) (sym subs)
       (subst (λ (next : StartCounts). IsStateTold id next s.subs s.units) (sym (quiet-tells s.sets id e r k q)) l))
@@ -277,27 +272,30 @@ module _ (laws : AreLaws) where
       told-at id s new place sub _ k (with_start (function_sub sub c (started sub.state orb)).reply k) _ one (start-hold sub orb c) (start-tells sub orb c k)
       (named-about s.subs id (subchannel_named s.sets word) place sub k (with_start (function_sub sub c (started sub.state orb)).reply k) n one.there)
       (if-rises (is_id (subchannel_named s.sets word) id) k (with_start (function_sub sub c (started sub.state orb)).reply k) (start-begun sub orb c k)) l
-  links-walk id k s _ _ _ (walked.Tested e r place sub c new q one) l = quiet-at id s new e r place sub _ k q one (test-hold sub c) (test-tells sub c k) l
+  links-walk id k s _ _ _ (walked.Tested e r place sub c new q one address by answers) l = quiet-at id s new e r place sub _ k q one (test-hold sub c) (test-tells sub c k) l
   links-walk id k s _ _ _ (walked.Modified e r place sub given c new q one) l = quiet-at id s new e r place sub _ k q one (modify-hold sub given c) (modify-tells sub given c k) l
-  links-walk id k s _ _ _ (walked.Performed e r place sub f c new q one) l = quiet-at id s new e r place sub _ k q one (function-hold sub f c) (function-tells sub f c k) l
+  links-walk id k s _ _ _ (walked.Performed e r place sub f c new q one by answers) l = quiet-at id s new e r place sub _ k q one (function-hold sub f c) (function-tells sub f c k) l
   links-walk id k s _ _ _ (walked.Chosen word place sub choice t new n x w h one) l =
+      let marked : Subchannel = marked_sub sub choice in
+      let fit : Suits (chosen sub choice) marked.state = marked-suits (chosen sub choice) sub.state marked.state.pmcw marked.state.scsw w in
       told-at id s new place sub t.sub k (with_offer t.reply k) _ one
-      (subst (λ (r : Result SubTurn Fault). IfOk r (λ t. IsOfHold sub t.sub)) h (choose-turns laws.keeps sub (chosen sub choice) w.fits))
-      (subst (λ (r : Result SubTurn Fault). IfOk r (λ t. Tells sub t.sub.state k (with_offer t.reply k))) h (choose-tells sub (chosen sub choice) k w.fits w.found))
+      (marked-turns sub t.sub choice (subst (λ (r : Result SubTurn Fault). IfOk r (λ t. IsOfHold marked t.sub)) h (choose-turns laws.keeps marked (chosen sub choice) fit.fits)))
+      (marked-tells sub choice t.sub.state k (with_offer t.reply k) (subst (λ (r : Result SubTurn Fault). IfOk r (λ t. Tells marked t.sub.state k (with_offer t.reply k))) h (choose-tells marked (chosen sub choice) k fit.fits fit.found)))
       (named-about s.subs id (subchannel_named s.sets word) place sub k (with_offer t.reply k) n one.there)
       (if-rises (is_id (subchannel_named s.sets word) id) k (with_offer t.reply k) (offer-begun t.reply k)) l
-  links-walk id k s _ _ _ (walked.Met word path returns place sub t new n h one) l =
+  links-walk id k s _ _ _ (walked.Met word path returns place sub t new n h one may) l =
       told-at id s new place sub t.sub k k _ one
       (subst (λ (r : Result UpTurn Fault). IfOk r (λ t. IsOfHold sub t.sub)) h (up-turns laws.keeps returns s.storage sub path))
       (subst (λ (r : Result UpTurn Fault). IfOk r (λ t. Tells sub t.sub.state k k)) h (up_sub-tells returns s.storage sub path k))
       (silent-about _ place k _ refl) refl l
-  links-walk id k s _ _ _ (walked.Sunk word path may place sub u t new n h one) l =
-      let kept : IsKept (IsEnd sub u t.reply) sub t.sub u t.«unit» k (with_taken t.reply k) =
-      subst (λ (r : Result DownTurn Fault). IfOk r (λ t. IsKept (IsEnd sub u t.reply) sub t.sub u t.«unit» k (with_taken t.reply k))) h (down-kept laws may sub path u k) in
-      told-unit _ id s new place sub.setup.«unit» sub t.sub u t.«unit» k (with_taken t.reply k) _ one refl kept
+  links-walk id k s _ _ _ (walked.Sunk word path may owed place sub u t new n h one) l =
+      let kept : IsKept (IsEnd sub u t.reply) sub t.sub u (owing owed t.«unit») k (with_taken t.reply k) =
+      owing-kept _ owed sub t.sub u t.«unit» k (with_taken t.reply k)
+      (subst (λ (r : Result DownTurn Fault). IfOk r (λ t. IsKept (IsEnd sub u t.reply) sub t.sub u t.«unit» k (with_taken t.reply k))) h (down-kept laws may sub path u k)) in
+      told-unit _ id s new place sub.setup.«unit» sub t.sub u (owing owed t.«unit») k (with_taken t.reply k) _ one refl kept
       (named-about s.subs id (subchannel_named s.sets word) place sub k (with_taken t.reply k) n one.there)
       (down-rises (is_id (subchannel_named s.sets word) id) k (with_taken t.reply k)
-      (λ b. unit-rises _ id s place sub.setup.«unit» sub t.sub u t.«unit» k (with_taken t.reply k) one.there one.found refl kept (named-place s.subs id (subchannel_named s.sets word) place n b) l)
+      (λ b. unit-rises _ id s place sub.setup.«unit» sub t.sub u (owing owed t.«unit») k (with_taken t.reply k) one.there one.found refl kept (named-place s.subs id (subchannel_named s.sets word) place n b) l)
       l.rises)
       l
   links-walk id k s _ _ _ (walked.Reported at place sub u report t new n reached h one) l =
@@ -305,6 +303,19 @@ module _ (laws : AreLaws) where
       told-unit _ id s new place at sub t.sub u t.«unit» k k _ one (sym (eqb-true sub.setup.«unit» at both.0))
       (subst (λ (r : Result DownTurn Fault). IfOk r (λ t. IsKept (IsEnd sub u t.reply) sub t.sub u t.«unit» k k)) h (report-kept laws sub u report k both.1))
       (silent-about _ place k _ refl) l.rises l
+  links-walk id k s _ _ _ (walked.Acted at place sub u what t new side its h one) l =
+      told-unit _ id s new place at sub t.sub u t.«unit» k k _ one (sym its)
+      (subst (λ (r : Result DownTurn Fault). IfOk r (λ t. IsKept (IsEnd sub u t.reply) sub t.sub u t.«unit» k k)) h (act-kept laws sub u what k side))
+      (silent-about _ place k _ refl) l.rises l
+  links-walk id k s _ _ _ (walked.Restarted at owed u r new found sets subs units up) l =
+      subst (λ (xs : List UnitState). IsStateTold id k new.subs xs) (sym units)
+      (subst (λ (xs : List Subchannel). IsStateTold id k xs (slice_set s.units at (owing owed (restarted u)))) (sym subs)
+      (record { linked = restart-linked laws owed s.subs s.units at u (place_in id s.subs) k found l.linked; rises = l.rises }))
+  links-walk id k s _ _ _ (walked.Swept e r what new q sets subs units by) l =
+      subst (λ (xs : List UnitState). IsStateTold id (starts_after s.sets id e r k) new.subs xs) (sym units)
+      (subst (λ (xs : List Subchannel). IsStateTold id (starts_after s.sets id e r k) xs s.units) (sym subs)
+      (subst (λ (next : StartCounts). IsStateTold id next (map (swept what) s.subs) s.units) (sym (quiet-tells s.sets id e r k q))
+      (swept-told laws what id k s.subs s.units l)))
 
   pub run-told : (setup : Setup) (id : SubchannelId) (h : List Entry) (s : State) → IsLawful setup → IsGood opening_links → Run (opening_of setup) h s →
       (s.sets ≡ set_count setup) × IsStateTold id (starts (set_count setup) id h) s.subs s.units

@@ -22,14 +22,16 @@ use Rattle.chan_events.specs.declared.reply.Reply.{Reply}
 use Rattle.chan_model.specs.ConditionCodes.{in_order}
 use Rattle.subchannel_model.specs.Conditions.{is_operational, condition_of}
 use Rattle.subchannel_model.specs.declared.state.Subchannel.{Subchannel}
+use Rattle.interruptions.specs.Requests.{WaitingRequests}
 use Rattle.machine_model.specs.State.{State, opening_of}
 use Rattle.subchannel_model.specs.Places.{found_with, found_at, is_named, one_later, place_in, sub_at}
 use Rattle.subchannel_model.specs.declared.state.SubchannelState.{SubchannelState}
 use Rattle.subchannel_model.specs.Test.{tsch_code, ends_suspended, tested_wholly, tested}
 use Rattle.subchannel_model.specs.Programs.{without_programs}
-use Rattle.machine_model.specs.Turns.{Turn, does, with_state}
+use Rattle.machine_model.specs.Turns.{Turn, Outcome, does, with_state}
 use Rattle.machine_model.specs.InstructionSteps.{code_at, test_sub, test_at, tests, Executes_on, Executes}
-use Rattle.machine_model.specs.Steps.{Step, Run, Opened, Stepped}
+use Rattle.machine_model.specs.Steps.{Does, Step, Run, Opened, Stepped}
+use Rattle.machine_model.specs.Requests.{requests_settled, settled}
 use Rattle.step_laws.specs.Walks.{AreWalks}
 use Rattle.machine_laws.specs.Claims.{IsLaterSubchannel, is_same_id, is_id, serial_shown, serial_by, serial_of, serial_at, serials}
 use Rattle.machine_laws.proofs.Sound.{AreNumbered}
@@ -250,17 +252,48 @@ executes-shows n id s cpu (instruction.Hsch word) r new a stays w = inl refl
 executes-shows n id s cpu (instruction.Csch word) r new a stays w = inl refl
 executes-shows n id s cpu (instruction.Xsch word) r new a stays w = inl refl
 
+does-shows : (n : ℕ) (id : SubchannelId) (s : State) (e : Event) (r : Reply) (new : State) →
+    All (SoundSub n) s.subs → place_in id new.subs ≡ place_in id s.subs → Does s e (does r new) → Shows id s new (serial_of s.sets id e r)
+does-shows n id s (event.Put address bytes) r new a stays w = inl refl
+does-shows n id s (event.SetKey address key) r new a stays w = inl refl
+does-shows n id s (event.SetPrefix cpu address) r new a stays w = inl refl
+does-shows n id s (event.Show address count) r new a stays w = inl refl
+does-shows n id s (event.Execute cpu i) r new a stays w = executes-shows n id s cpu i r new a stays w
+does-shows n id s (event.ExecuteOther cpu i) r new a stays w = inl refl
+does-shows n id s (event.Choose word) r new a stays w = inl refl
+does-shows n id s (event.Up word path) r new a stays w = inl refl
+does-shows n id s (event.Down word path) r new a stays w = inl refl
+does-shows n id s (event.Report place report) r new a stays w = inl refl
+does-shows n id s (event.Act place what) r new a stays w = inl refl
+does-shows n id s (event.Restart place) r new a stays w = inl refl
+does-shows n id s (event.PathDown chpid) r new a stays w = inl refl
+does-shows n id s (event.PathUp chpid) r new a stays w = inl refl
+does-shows n id s (event.PathReset chpid) r new a stays w = inl refl
+does-shows n id s event.SystemReset r new a stays w = inl refl
+
+-- the requests that are settled show nothing
+settled-shows : (id : SubchannelId) (s new : State) (waiting : WaitingRequests) (ns : List ℕ) → Shows id s new ns → Shows id s (record new { requests = waiting }) ns
+settled-shows id s new waiting ns k =
+    elim k [
+      | inl e ↦ inl e
+      | inr c ↦ inr (
+        c.0,
+        c.1,
+        record { before = c.2.before; after = c.2.after; found = c.2.found; left = c.2.left; above = c.2.above; reached = c.2.reached },
+      )
+    ]
+
+outcome-shows : (n : ℕ) (id : SubchannelId) (s : State) (e : Event) (r : Reply) (new : State) (o : Outcome) →
+    All (SoundSub n) s.subs → place_in id new.subs ≡ place_in id s.subs → Does s e o → does r new ≡ settled s e o → Shows id s new (serial_of s.sets id e r)
+outcome-shows n id s e r new (Ok t) a stays w m =
+    let same : record { reply = r; state = new } ≡ record t { state = record t.state { requests = requests_settled s e t } } = cc m in
+    subst (λ (x : Turn). place_in id x.state.subs ≡ place_in id s.subs → Shows id s x.state (serial_of s.sets id e x.reply)) (sym same)
+    (λ k. settled-shows id s t.state (requests_settled s e t) (serial_of s.sets id e t.reply) (does-shows n id s e t.reply t.state a k w)) stays
+outcome-shows n id s e r new (Err f) a stays w m = absurd (cc m)
+
 step-shows : (n : ℕ) (id : SubchannelId) (s : State) (e : Event) (r : Reply) (new : State) →
     All (SoundSub n) s.subs → place_in id new.subs ≡ place_in id s.subs → Step s e r new → Shows id s new (serial_of s.sets id e r)
-step-shows n id s (event.Put address bytes) r new a stays w = inl refl
-step-shows n id s (event.SetKey address key) r new a stays w = inl refl
-step-shows n id s (event.SetPrefix cpu address) r new a stays w = inl refl
-step-shows n id s (event.Show address count) r new a stays w = inl refl
-step-shows n id s (event.Execute cpu i) r new a stays w = executes-shows n id s cpu i r new a stays w
-step-shows n id s (event.Choose word) r new a stays w = inl refl
-step-shows n id s (event.Up word path) r new a stays w = inl refl
-step-shows n id s (event.Down word path) r new a stays w = inl refl
-step-shows n id s (event.Report place report) r new a stays w = inl refl
+step-shows n id s e r new a stays (o, w, m) = outcome-shows n id s e r new o a stays w m
 
 run-told : AreWalks → AreNumbered → (setup : Setup) (id : SubchannelId) (h : List Entry) (s : State) → Run (opening_of setup) h s → Told (set_count setup) id h s
 run-told walks numbered setup id _ _ Opened =

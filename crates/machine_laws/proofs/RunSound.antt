@@ -17,7 +17,7 @@ use Rattle.machine_model.specs.State.{State, opening_of}
 use Rattle.subchannel_model.specs.Opening.{opened}
 use Rattle.machine_model.specs.Steps.{Step, Run, Opened, Stepped}
 use Rattle.machine_laws.specs.Claims.{IsLaterSubchannel}
-use Rattle.machine_laws.proofs.Sound.{Sound, AreNumbered, later, started-sound, wholly-sound, modified-sound, effect-sound, reset_sent-sound, halt_sent-sound, made-sound, offered-sound, up-sound}
+use Rattle.machine_laws.proofs.Sound.{Sound, AreNumbered, later, started-sound, wholly-sound, modified-sound, effect-sound, reset_sent-sound, halt_sent-sound, made-sound, offered-sound, up-sound, lost-sound, system-sound}
 use Rattle.step_laws.specs.Walks.{AreWalks}
 use Rattle.machine_laws.proofs.Moves.{IsKept, Changed, step-moves, sets-stay}
 
@@ -39,6 +39,10 @@ turns numbered n = record {
   ends = λ s floor k. made-sound floor n s cause.HaltDone tt k;
   over = λ s floor k. made-sound floor n s cause.NoPath tt k;
   takes = λ returns storage s path signal floor k. up-sound numbered returns floor n storage s path signal k;
+  marks = λ s new used looks f floor k. f floor k;
+  loses = λ s path floor k. lost-sound numbered floor n s path k;
+  shows = λ s new path up f floor k. f floor k;
+  system = λ s floor k. system-sound floor n s k;
 }
 
 abbrev pub no_serials : Serials

@@ -47,7 +47,9 @@ use Rattle.subchannel_model.specs.Halt.{halt_begun, status_dropped, drops_status
 use Rattle.subchannel_model.specs.Clear.{cleared_scsw}
 use Rattle.subchannel_model.specs.Programs.{without_programs}
 use Rattle.subchannel_model.specs.Ends.{has_status_modifier, chains_command, has_shown}
-use Rattle.subchannel_model.specs.Losing.{has_any, is_offered_or_held, reset_drawn, reset_with, reset_for}
+use Rattle.subchannel_model.specs.Losing.{has_any, is_offered_or_held, reset_drawn, reset_with, reset_for, path_lost}
+use Rattle.subchannel_model.specs.SystemReset.{scsw_reset, state_reset}
+use Rattle.chan_model.specs.ResetCauses.{rests_on}
 use Rattle.subchannel_model.specs.Taking.{with_known, Met, meets, ignoring, quietly, without_pci, with_pci_of, standing, goes_ahead, taking_over, suspended_alone, standing_still, suspending, beginning, begin_standing, halt_done, accepted_by, accept_by, with_transfer, moving_on, give_next, take_in, bytes_of_load, move_bytes, move_data, take_data, with_end, end_taken, chaining, chain_with, goes_on, end_shown_at, stops_at, command_ended, end_of, end_command, reset_taken, may_attend, takes_up, path_used, let_go}
 use Rattle.subchannel_model.proofs.Cleared.{none-uncleared, tested-pending}
 use Rattle.step_laws.specs.Walks.{Function, Resumes, Halts, Clears, Cancels, effect_of}
@@ -189,6 +191,9 @@ wholly-sound floor n s k =
 none-sound : (floor : Serials) (n : ℕ) (s : SubchannelState) (b : Option ActiveProgram) (m : ℕ) (scsw : Scsw) → scsw.status.pending ≡ false → m ≤ n + 1 → IsMovedWithin (n + 1) b →
     Ready floor n s → Sound floor (n + 1) (record s { drawn = m; begun = b; scsw = scsw; serials = serials_cleared s.serials })
 none-sound floor n s b m scsw p d w k = (d, k.1, omega (arith, k.2), w, p ∙ none-uncleared s.serials, omega arith, omega (arith, k.5, k.6), k.7)
+
+pub system-sound : (floor : Serials) (n : ℕ) (s : SubchannelState) → Sound floor n s → Sound floor (n + 1) (state_reset s)
+system-sound floor n s k = none-sound floor n s None (s.drawn + 1) (scsw_reset s.scsw) refl (omega (arith, k.0)) tt (to-ready floor n s k)
 
 pub effect-sound : (floor : Serials) (n : ℕ) (s : SubchannelState) (f : Function) → Sound floor n s → Sound floor (n + 1) (effect_of f s)
 effect-sound floor n s Resumes k = later floor n s k
@@ -389,6 +394,11 @@ module _ (numbered : AreNumbered) where
   reset_with-sound : (floor : Serials) (n : ℕ) (s : SubchannelState) (shows : Bool) → Sound floor n s → Sound floor (n + 1) (reset_with s shows)
   reset_with-sound floor n s true k = cause-sound floor n (reset_drawn s) cause.InterfaceControlCheck tt (drawn-ready floor n s k)
   reset_with-sound floor n s false k = ready-sound floor n (reset_drawn s) (drawn-ready floor n s k)
+
+  pub lost-sound : (floor : Serials) (n : ℕ) (s : SubchannelState) (path : ℕ) → Sound floor n s → Sound floor (n + 1) (path_lost s path)
+  lost-sound floor n s path k =
+      pick-state floor (n + 1) (rests_on s.hold path) (reset_for s) s
+      (reset_with-sound floor n s (is_offered_or_held s.hold.phase && has_any s.waiting s.begun s.suspended) k) (later floor n s k)
 
   pub up-sound : (returns : Bool) → (floor : Serials) (n : ℕ) (storage : Contents) (s : SubchannelState) (p : ℕ) (signal : Up) → Sound floor n s →
       Sound floor (n + 1) (takes_up returns storage s p signal).step.state

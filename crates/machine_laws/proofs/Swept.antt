@@ -1,4 +1,5 @@
--- A claim that each change of one subchannel keeps is kept where all are changed so; what is lost with a path.
+-- A claim that each change of one subchannel keeps is kept where all are changed so: as a path goes down, comes up or is reset, and
+-- as the subsystem is reset.
 use Rattle.std.proofs.Common.{◌≡◌, refl, sym, ◌∙◌, subst, ℕ, zero, suc, ◌&&◌, Bool, true, false, Option, None, Some, List, [], ◌∷◌, map, arith}
 use Rattle.std.specs.Prelude.{slice_get, slice_set, if◌then◌else◌, Contains}
 use Rattle.std.proofs.lemmas.List.Elements.{All-nil}
@@ -12,14 +13,17 @@ use Rattle.agreement_laws.specs.Moving.{Loses, still, reset_again}
 use Rattle.channel_config.specs.declared.names.SubchannelId.{SubchannelId}
 use Rattle.subchannel_model.specs.declared.state.Subchannel.{Subchannel}
 use Rattle.subchannel_model.specs.declared.state.SubchannelState.{SubchannelState}
-use Rattle.subchannel_model.specs.Losing.{has_any, is_offered_or_held, reset_with, path_lost, path_index, loses_at, loses}
+use Rattle.subchannel_model.specs.Losing.{has_any, is_offered_or_held, reset_with, path_lost, path_index, loses_at, loses, available_pmcw, shows_at}
+use Rattle.subchannel_model.specs.SystemReset.{state_reset}
+use Rattle.machine_model.specs.declared.state.Sweep.{Sweep}
+use Rattle.machine_model.specs.declared.state.Sweep.TheVariants as sweep
+use Rattle.machine_model.specs.PathSteps.{swept}
 use Rattle.subchannel_model.specs.Places.{place_in}
 use Rattle.machine_laws.specs.Beginnings.{StartCounts}
 use Rattle.machine_laws.proofs.Growth.{Covers, queue-set, IsLink, Keeps, Reaches, acts, IsReached, reached-by, AreLaws}
-use Rattle.machine_laws.proofs.HoldEvents.{IsOfHold}
-use Rattle.machine_laws.proofs.Linked.{AreLinked, hold-linked}
-use Rattle.machine_laws.proofs.RunAgrees.{IsStateTold, place-set}
-use Rattle.machine_laws.proofs.TaleEvents.{Tells}
+use Rattle.machine_laws.proofs.HoldEvents.{IsOfHold, system-turns}
+use Rattle.machine_laws.proofs.Linked.{AreLinked, hold-linked, IsStateTold, place-set}
+use Rattle.machine_laws.proofs.TaleEvents.{Tells, told-masks}
 use Rattle.machine_laws.proofs.Tales.{AreSpent, AreSpentBut, IsTold, told-same}
 use Rattle.machine_laws.proofs.Resetting.{reset-waits}
 
@@ -71,25 +75,52 @@ loses_at-tells : (sub : Subchannel) (q : Option ℕ) (k : StartCounts) → Tells
 loses_at-tells sub None k w side b t = t
 loses_at-tells sub (Some p) k w side b t = lost-told sub.state k w side (rests_on sub.state.hold p) t
 
-module _ (laws : AreLaws) (chpid : ℕ) where
-  loses-hold : (sub : Subchannel) → IsOfHold sub (loses chpid sub)
-  loses-hold sub = loses_at-hold laws.keeps sub (path_index chpid sub.setup.paths)
+-- the path-available mask is nothing to the hold
+shows_at-hold : (sub new : Subchannel) (q : Option ℕ) (up : Bool) → IsOfHold sub new → IsOfHold sub (shows_at q up new)
+shows_at-hold sub new None up h = h
+shows_at-hold sub new (Some p) up h =
+    record {
+      setup = h.setup;
+      reaches = λ l k.
+          let r : IsReached l new = h.reaches l k in
+          record { link = r.link; leads = r.leads; is = record { drawn = r.is.drawn; hold = r.is.hold; downs = r.is.downs; ups = r.is.ups }; accepted = r.accepted };
+    }
 
-  swept-linked : (subs : List Subchannel) (units : List UnitState) (which : Option ℕ) (k : StartCounts) → AreLinked subs units which k → AreLinked (map (loses chpid) subs) units which k
+shows_at-tells : (sub new : Subchannel) (q : Option ℕ) (up : Bool) (k : StartCounts) → Tells sub new.state k k → Tells sub (shows_at q up new).state k k
+shows_at-tells sub new None up k f w side b t = f w side b t
+shows_at-tells sub new (Some p) up k f w side b t = told-masks k new.state (available_pmcw new.state.pmcw p up) new.state.scsw w side (f w side b t)
+
+pub swept-hold : Keeps → (what : Sweep) (sub : Subchannel) → IsOfHold sub (swept what sub)
+swept-hold keeps (sweep.GoesDown chpid) sub =
+    shows_at-hold sub (loses chpid sub) (path_index chpid (loses chpid sub).setup.paths) false (loses_at-hold keeps sub (path_index chpid sub.setup.paths))
+swept-hold keeps (sweep.ComesUp chpid) sub = shows_at-hold sub sub (path_index chpid sub.setup.paths) true (loses_at-hold keeps sub None)
+swept-hold keeps (sweep.PathReset chpid) sub = loses_at-hold keeps sub (path_index chpid sub.setup.paths)
+swept-hold keeps sweep.SystemReset sub = system-turns keeps sub
+
+pub swept-tells : (what : Sweep) (sub : Subchannel) (k : StartCounts) → Tells sub (swept what sub).state k k
+swept-tells (sweep.GoesDown chpid) sub k w side b t =
+    shows_at-tells sub (loses chpid sub) (path_index chpid (loses chpid sub).setup.paths) false k (loses_at-tells sub (path_index chpid sub.setup.paths) k) w side b t
+swept-tells (sweep.ComesUp chpid) sub k w side b t = shows_at-tells sub sub (path_index chpid sub.setup.paths) true k (loses_at-tells sub None k) w side b t
+swept-tells (sweep.PathReset chpid) sub k w side b t = loses_at-tells sub (path_index chpid sub.setup.paths) k w side b t
+swept-tells sweep.SystemReset sub k w side b t =
+    told-same k sub.state (state_reset sub.state) w side refl (omega arith) (record { waiting = tt; begun = tt }) t
+
+module _ (laws : AreLaws) (what : Sweep) where
+  swept-linked : (subs : List Subchannel) (units : List UnitState) (which : Option ℕ) (k : StartCounts) → AreLinked subs units which k → AreLinked (map (swept what) subs) units which k
   swept-linked subs units which k l =
-      map-by-places (λ (xs : List Subchannel). AreLinked xs units which k) (loses chpid)
-      (λ xs i x e h. hold-linked laws xs units i x (loses chpid x) which k k k e (loses-hold x) (loses_at-tells x (path_index chpid x.setup.paths) k) (record { here = λ h. refl; there = λ h. refl }) h)
+      map-by-places (λ (xs : List Subchannel). AreLinked xs units which k) (swept what)
+      (λ xs i x e h. hold-linked laws xs units i x (swept what x) which k k k e (swept-hold laws.keeps what x) (swept-tells what x k) (record { here = λ h. refl; there = λ h. refl }) h)
       subs l
 
   -- the places of subchannels stay
-  place-swept : (id : SubchannelId) (subs : List Subchannel) → place_in id (map (loses chpid) subs) ≡ place_in id subs
+  place-swept : (id : SubchannelId) (subs : List Subchannel) → place_in id (map (swept what) subs) ≡ place_in id subs
   place-swept id subs =
-      map-by-places (λ (xs : List Subchannel). place_in id xs ≡ place_in id subs) (loses chpid)
-      (λ xs i x e h. place-set id xs i x (loses chpid x) e (loses-hold x).setup ∙ h) subs refl
+      map-by-places (λ (xs : List Subchannel). place_in id xs ≡ place_in id subs) (swept what)
+      (λ xs i x e h. place-set id xs i x (swept what x) e (swept-hold laws.keeps what x).setup ∙ h) subs refl
 
-  pub swept-told : (id : SubchannelId) (k : StartCounts) (subs : List Subchannel) (units : List UnitState) → IsStateTold id k subs units → IsStateTold id k (map (loses chpid) subs) units
+  pub swept-told : (id : SubchannelId) (k : StartCounts) (subs : List Subchannel) (units : List UnitState) → IsStateTold id k subs units → IsStateTold id k (map (swept what) subs) units
   swept-told id k subs units l =
       record {
-        linked = subst (λ (which : Option ℕ). AreLinked (map (loses chpid) subs) units which k) (sym (place-swept id subs)) (swept-linked subs units (place_in id subs) k l.linked);
+        linked = subst (λ (which : Option ℕ). AreLinked (map (swept what) subs) units which k) (sym (place-swept id subs)) (swept-linked subs units (place_in id subs) k l.linked);
         rises = l.rises;
       }

@@ -34,7 +34,9 @@ use Rattle.subchannel_model.specs.declared.state.Chosen.TheVariants as chosen_is
 use Rattle.subchannel_model.specs.declared.state.Subchannel.{Subchannel}
 use Rattle.subchannel_model.specs.declared.state.SubchannelState.{SubchannelState}
 use Rattle.subchannel_model.specs.Causes.{with_cause}
-use Rattle.subchannel_model.specs.Choosing.{IsFitFor, reset_sent, halt_sent, offered}
+use Rattle.scsw_irb.specs.declared.scsw.Scsw.{Scsw}
+use Rattle.subchannel_model.specs.declared.state.PmcwState.{PmcwState}
+use Rattle.subchannel_model.specs.Choosing.{IsFitFor, marked_sub, reset_sent, halt_sent, offered}
 use Rattle.subchannel_model.specs.Test.{ends_suspended, tested}
 use Rattle.subchannel_model.specs.Programs.{without_programs}
 use Rattle.subchannel_model.specs.Resume.{resumed}
@@ -45,7 +47,7 @@ use Rattle.subchannel_model.specs.Modify.{modified_state}
 use Rattle.subchannel_model.specs.Start.{started}
 use Rattle.machine_model.specs.InstructionSteps.{test_with, function_sub}
 use Rattle.machine_model.specs.ChooseSteps.{choose_sub}
-use Rattle.subchannel_model.specs.Sending.{is_full, finds_full}
+use Rattle.subchannel_model.specs.Sending.{carried_by, finds_full}
 use Rattle.machine_model.specs.UpSteps.{up_front, up_sub}
 use Rattle.subchannel_model.specs.Taking.{takes_up}
 use Rattle.machine_laws.specs.Beginnings.{StartCounts, with_start, with_offer, starts_with_answer, starts_with_sent, with_taken}
@@ -249,18 +251,34 @@ pub choose-tells : (sub : Subchannel) (c : Chosen) (k : StartCounts) → IsFitFo
     IfOk (choose_sub sub c) (λ t. Tells sub t.sub.state k (with_offer t.reply k))
 choose-tells sub chosen_is.Idle k fit of = tells-same sub k
 choose-tells sub (chosen_is.Resets r path) k fit of =
-    if-ok (λ t. Tells sub t.sub.state k (with_offer t.reply k)) (is_full sub.wires.down path) _ _ tt (reset-tells sub path k)
+    if-ok (λ t. Tells sub t.sub.state k (with_offer t.reply k)) (finds_full sub.wires.down (carried_by sub (Some (record { path = path; signal = down.Reset r sub.state.hold.known })))) _ _ tt (reset-tells sub path k)
 choose-tells sub chosen_is.PerformsClear k fit of =
     calm-tells sub (with_cause sub.state cause.ClearDone) k (cause-calm sub.state cause.ClearDone) (inr refl)
 choose-tells sub (chosen_is.Halts t path) k fit of =
-    if-ok (λ t. Tells sub t.sub.state k (with_offer t.reply k)) (is_full sub.wires.down path) _ _ tt
+    if-ok (λ t. Tells sub t.sub.state k (with_offer t.reply k)) (finds_full sub.wires.down (carried_by sub (Some (record { path = path; signal = down.Halt t })))) _ _ tt
     (calm-tells sub (halt_sent sub.state) k (kept sub.state (halt_sent sub.state) refl refl refl refl refl) (inr refl))
 choose-tells sub chosen_is.PerformsHalt k fit of =
     calm-tells sub (with_cause sub.state cause.HaltDone) k (cause-calm sub.state cause.HaltDone) (inl refl)
 choose-tells sub chosen_is.FindsNoPath k fit of =
     calm-tells sub (with_cause sub.state cause.NoPath) k (cause-calm sub.state cause.NoPath) (inr (without_waiting-begun sub.state sub.state.waiting))
 choose-tells sub (chosen_is.Offers c path) k fit of =
-    if-ok (λ t. Tells sub t.sub.state k (with_offer t.reply k)) (is_full sub.wires.down path) _ _ tt (offer-tells sub c path c.resumes k refl fit of)
+    if-ok (λ t. Tells sub t.sub.state k (with_offer t.reply k)) (finds_full sub.wires.down (carried_by sub (Some (record { path = path; signal = down.Select (sub.state.drawn + 1) })))) _ _ tt (offer-tells sub c path c.resumes k refl fit of)
+
+-- of the masks of paths and of the status word nothing is told
+pub told-masks : (k : StartCounts) (s : SubchannelState) (pmcw : PmcwState) (scsw : Scsw) (w : Links) (side : Side) → IsTold k s w side →
+    IsTold k (record s { pmcw = pmcw; scsw = scsw }) w side
+told-masks k s pmcw scsw w side t =
+    let x : SubchannelState = record s { pmcw = pmcw; scsw = scsw } in
+    told-same k s x w side refl (omega arith)
+    (record {
+      waiting = moved-as (AreSpent w side k) (AreSpentBut w side k) s x refl refl (λ u p h. h) s.waiting t.waits.waiting;
+      begun = t.waits.begun;
+    })
+    t
+
+pub marked-tells : (sub : Subchannel) (choice : Option ℕ) (x : SubchannelState) (k next : StartCounts) → Tells (marked_sub sub choice) x k next → Tells sub x k next
+marked-tells sub choice x k next f w side b t =
+    f w side b (told-masks k sub.state (marked_sub sub choice).state.pmcw (marked_sub sub choice).state.scsw w side t)
 
 -- Up
 up-tells : (returns : Bool) → (storage : Contents) (sub : Subchannel) (path : ℕ) (x : Up) (k : StartCounts) → slice_get (queue sub.wires.up path) 0 ≡ Some x →
@@ -274,7 +292,7 @@ front-tells : (returns : Bool) → (storage : Contents) (sub : Subchannel) (path
     IfOk (up_front returns storage sub path front) (λ t. Tells sub t.sub.state k k)
 front-tells returns storage sub path None k e = tt
 front-tells returns storage sub path (Some x) k e =
-    if-ok (λ t. Tells sub t.sub.state k k) (finds_full sub.wires.down (takes_up returns storage sub.state path x).step.came.sent) _ _ tt (up-tells returns storage sub path x k e)
+    if-ok (λ t. Tells sub t.sub.state k k) (finds_full sub.wires.down (carried_by sub (takes_up returns storage sub.state path x).step.came.sent)) _ _ tt (up-tells returns storage sub path x k e)
 
 pub up_sub-tells : (returns : Bool) → (storage : Contents) (sub : Subchannel) (path : ℕ) (k : StartCounts) → IfOk (up_sub returns storage sub path) (λ t. Tells sub t.sub.state k k)
 up_sub-tells returns storage sub path k =

@@ -7,6 +7,8 @@ use Rattle.chan_model.specs.declared.names.Side.TheVariants.{First, Second}
 use Rattle.chan_model.specs.declared.report.Report.{Report}
 use Rattle.chan_events.specs.declared.reply.Reply.{Reply}
 use Rattle.chan_events.specs.declared.reply.Reply.TheVariants as reply
+use Rattle.chan_events.specs.declared.event.UnitAct as told_act
+use Rattle.chan_events.specs.declared.event.UnitAct.TheVariants as act
 use Rattle.chan_model.specs.declared.signal.Down.{Down}
 use Rattle.chan_model.specs.declared.signal.OnPath.{OnPath}
 use Rattle.chan_model.specs.declared.signal.Up.{Up}
@@ -16,7 +18,7 @@ use Rattle.chan_model.specs.declared.unit_state.Own.TheVariants as own
 use Rattle.chan_model.specs.declared.unit_state.UnitState.{UnitState}
 use Rattle.chan_model.specs.Sides.{same_side}
 use Rattle.chan_model.specs.UnitTable as unit_table
-use Rattle.chan_model.specs.UnitTable.{UnitStep, resets, unit_takes, unit_after}
+use Rattle.chan_model.specs.UnitTable.{UnitStep, resets, unit_takes, unit_after, leaving, asking, attending, noticing}
 use Rattle.chan_model.specs.UnitReports.{unit_reports, report_on, report_of}
 use Rattle.wires.specs.Queues.{queue, taken}
 use Rattle.agreement_laws.specs.Claims.{IsPassed, IsResetDue, DoAgree, IsReset, IsTakenBy}
@@ -24,20 +26,25 @@ use Rattle.machine_laws.specs.Agreeing.{IsEnd}
 use Rattle.chan_model.specs.declared.signal.Down.TheVariants as down
 use Rattle.chan_model.specs.declared.hold_state.HoldState.{HoldState}
 use Rattle.chan_model.specs.declared.hold_state.HoldPhase.TheVariants as hold
+use Rattle.chan_model.specs.declared.hold_state.HoldPhase.{HoldPhase}
 use Rattle.agreement_laws.specs.Links.{Link, Links, link_of, with_accepted}
 use Rattle.agreement_laws.specs.Moving.{UnitAct, Takes_down, Reports, unit_steps, is_to, is_owner_side, sent_by, sent_to, up_sent, Unit_acts, IsUnitGiven, LinksStep}
+use Rattle.agreement_laws.specs.Moving as moving
 use Rattle.agreement_laws.specs.Invariant.{IsGood}
 use Rattle.subchannel_model.specs.declared.state.Subchannel.{Subchannel}
 use Rattle.machine_model.specs.Turns.{DownTurn}
-use Rattle.subchannel_model.specs.Sending.{with_any_sent, finds_full}
+use Rattle.subchannel_model.specs.Sending.{carried_by, with_any_sent, finds_full}
 use Rattle.machine_model.specs.DownSteps.{down_front, down_sub}
 use Rattle.machine_model.specs.ReportSteps.{report_taken, report_sub}
-use Rattle.machine_laws.proofs.Growth.{one-wider, one-within, Covers, covers-taken, covers-sent, covers-wider, covers-first, IsLink, IsWider, told, told-step, AreLaws, IsReached, links_of}
+use Rattle.machine_model.specs.ActSteps.{owner_side, has_path_of_act, acts, act_sub}
+use Rattle.machine_model.specs.Sharing.{owing}
+use Rattle.machine_laws.proofs.Growth.{one-wider, one-within, Covers, covers-taken, covers-sent, carried-if, covers-wider, covers-first, IsLink, IsWider, told, told-step, AreLaws, IsReached, links_of}
 use Rattle.machine_laws.specs.Beginnings.{StartCounts, with_taken}
 use Rattle.machine_laws.proofs.Tales.{IsAccepted, IsTold, told-wider}
 use Rattle.machine_laws.proofs.TaleEvents.{takes-of, accepted-wider, Wide, taken-told, AreBusyPassed, Tells}
 use Rattle.machine_laws.proofs.HoldEvents.{IsOfHold}
 use Rattle.step_laws.proofs.Places.{same-side, one-side}
+use Rattle.step_laws.specs.Walks.{IsOfSide}
 
 -- the links of a unit after an event at the subchannel of this side, and what is told of the subchannel before and after it
 pub record Follows (T : Type 0) (w : Links) (side : Side) (sub new : Subchannel) (v : UnitState) (k next : StartCounts) : Type 0 where
@@ -128,14 +135,14 @@ hold-kept laws sub new u k next h f =
     }
 
 -- an act of the unit
-abbrev told_links : Links → UnitAct → Links
+abbrev pub told_links : Links → UnitAct → Links
 told_links w act =
     record { «unit» = unit_after w.«unit» (unit_steps w.«unit» act); first = told w.first (up_sent w.«unit» act First); second = told w.second (up_sent w.«unit» act Second) }
 
 link-told : (l : Link) (one : Option (OnPath Up)) → IsWider l (told l one)
 link-told l one = record { drawn = refl; hold = refl; downs = λ x c. c; ups = one-wider l.ups one }
 
-links-wider : (w : Links) (act : UnitAct) (k : Side) → IsWider (link_of w k) (link_of (told_links w act) k)
+pub links-wider : (w : Links) (act : UnitAct) (k : Side) → IsWider (link_of w k) (link_of (told_links w act) k)
 links-wider w act First = link-told w.first (up_sent w.«unit» act First)
 links-wider w act Second = link-told w.second (up_sent w.«unit» act Second)
 
@@ -150,7 +157,7 @@ sent-told w act Second e = sent-within w.second (is_to w.«unit» act Second) (s
 
 -- what it leaves of the subchannel of a side that it sends to
 abbrev sent_up : Subchannel → List (List Down) → Option (OnPath Up) → Subchannel
-sent_up sub downs one = record sub { wires = record { down = downs; up = with_any_sent sub.wires.up one } }
+sent_up sub downs one = record sub { wires = record { down = downs; up = with_any_sent sub.wires.up (carried_by sub one) } }
 
 abbrev IsFewer : List (List Down) → List (List Down) → Type 0
 IsFewer old new = (m : List (OnPath Down)) → Covers m old → Covers m new
@@ -162,7 +169,8 @@ unit-link sub l m downs one k w h f =
       drawn = w.drawn ∙ k.drawn;
       hold = w.hold ∙ k.hold;
       downs = f m.downs (covers-wider l.downs m.downs sub.wires.down w.downs k.downs);
-      ups = covers-sent m.ups sub.wires.up one h (covers-wider l.ups m.ups sub.wires.up w.ups k.ups);
+      ups = covers-sent m.ups sub.wires.up (carried_by sub one) (carried-if (λ x. Contains m.ups x) sub.state.pmcw.available one h)
+          (covers-wider l.ups m.ups sub.wires.up w.ups k.ups);
     }
 
 came-sent : (step : Option UnitStep) → sent_by step ≡ (unit_table.came_of step).sent
@@ -178,7 +186,7 @@ if-kept sub u k g true x y e f = e
 if-kept sub u k g false x y e f = f
 
 -- what was accepted at each side after an act of the unit
-told-accepted : (w : Links) (act : UnitAct) (j : Side) (t : ℕ) → IsAccepted w j t → IsAccepted (told_links w act) j t
+pub told-accepted : (w : Links) (act : UnitAct) (j : Side) (t : ℕ) → IsAccepted w j t → IsAccepted (told_links w act) j t
 told-accepted w act First t c = accepted-wider w.first.accepted (up_sent w.«unit» act First) t c
 told-accepted w act Second t c = accepted-wider w.second.accepted (up_sent w.«unit» act Second) t c
 
@@ -292,7 +300,7 @@ module _ (laws : AreLaws) where
   down_front-kept may sub path u k (Some x) e =
       let step = unit_takes u sub.setup.side path x may in
       let next = with_taken (reply.Down x (unit_table.came_of step).taken (unit_table.came_of step).sent) k in
-      if-kept sub u k (λ r. with_taken r k) (finds_full sub.wires.up (unit_table.came_of step).sent) _ _ tt
+      if-kept sub u k (λ r. with_taken r k) (finds_full sub.wires.up (carried_by sub (unit_table.came_of step).sent)) _ _ tt
       (subst (λ (one : Option (OnPath Up)). IsKept (IsEnd sub u (reply.Down x (unit_table.came_of step).taken (unit_table.came_of step).sent)) sub (sent_up sub (taken sub.wires.down path) one) u (unit_after u step) k next)
       (came-sent step)
       (unit-kept _ sub u (Takes_down sub.setup.side (record { path = path; signal = x }) may) (taken sub.wires.down path) k next
@@ -310,7 +318,7 @@ module _ (laws : AreLaws) where
       AreKept sub u k (λ r. k) (report_taken sub step)
   taken-kept sub u r k None h e = tt
   taken-kept sub u r k (Some y) h e =
-      if-kept sub u k (λ r. k) (finds_full sub.wires.up y.sent) _ _ tt
+      if-kept sub u k (λ r. k) (finds_full sub.wires.up (carried_by sub y.sent)) _ _ tt
       (subst (λ (step : Option UnitStep). IsKept ⊥ sub (sent_up sub sub.wires.down (sent_by step)) u (unit_after u step) k k) h
       (unit-kept ⊥ sub u (Reports r) sub.wires.down k k (λ w l. tt)
       (subst (λ (side : Side). is_owner_side u.own side ≡ true) (sym (one-side sub.setup.side r.side e)) (report-side u u.own r y h)) (λ m c. c)
@@ -318,3 +326,97 @@ module _ (laws : AreLaws) where
 
   pub report-kept : (sub : Subchannel) (u : UnitState) (r : Report) (k : StartCounts) → same_side sub.setup.side r.side ≡ true → AreKept sub u k (λ r. k) (report_sub sub u r)
   report-kept sub u r k e = taken-kept sub u r k (unit_reports u r) refl e
+
+  -- an act of itself
+  act-taken : (sub : Subchannel) (u : UnitState) (act : UnitAct) (k : StartCounts) (step : Option UnitStep) → unit_steps u act ≡ step → is_to u act sub.setup.side ≡ true →
+      ((w : Links) → IsUnitGiven w act) → ((phase : HoldPhase) (j : Side) → IsTakenBy u phase act j → ⊥) → AreKept sub u k (λ r. k) (report_taken sub step)
+  act-taken sub u act k None h to given none = tt
+  act-taken sub u act k (Some y) h to given none =
+      if-kept sub u k (λ r. k) (finds_full sub.wires.up (carried_by sub y.sent)) _ _ tt
+      (subst (λ (step : Option UnitStep). IsKept ⊥ sub (sent_up sub sub.wires.down (sent_by step)) u (unit_after u step) k k) h
+      (unit-kept ⊥ sub u act sub.wires.down k k (λ w l. given w) to (λ m c. c)
+      (λ w m side h t. told-wider k sub.state w m side h.passed h.accepted t) (λ w l j t. absurd (none (link_of w j).hold.phase j t))))
+
+  owned-to : (o : Own) (side : Side) → owner_side o ≡ Some side → is_owner_side o side ≡ true
+  owned-to own.Idle side e = absurd (cc e)
+  owned-to (own.Owned k t place) side e = let same : k ≡ side = cc e in subst (λ (j : Side). same_side k j ≡ true) same (same-side k)
+
+  acted-kept : (sub : Subchannel) (u : UnitState) (what : told_act.UnitAct) (k : StartCounts) → IsOfSide u sub.setup.side what →
+      AreKept sub u k (λ r. k) (report_taken sub (acts u sub.setup.side what))
+  acted-kept sub u act.Leave k e = act-taken sub u moving.Leaves k (leaving u u.own) refl (owned-to u.own sub.setup.side e) (λ w. tt) (λ phase j t. t)
+  acted-kept sub u (act.Ask p) k e = act-taken sub u (moving.Asks p) k (asking u u.own p) refl (owned-to u.own sub.setup.side e) (λ w. tt) (λ phase j t. t)
+  acted-kept sub u (act.Attention p side) k e =
+      act-taken sub u (moving.Attends sub.setup.side p) k (attending u sub.setup.side p) refl (same-side sub.setup.side) (λ w. tt) (λ phase j t. t)
+  acted-kept sub u (act.Notice p side) k e =
+      act-taken sub u (moving.Notices sub.setup.side p) k (noticing u sub.setup.side p) refl (same-side sub.setup.side) (λ w. tt) (λ phase j t. t)
+
+  pub act-kept : (sub : Subchannel) (u : UnitState) (what : told_act.UnitAct) (k : StartCounts) → IsOfSide u sub.setup.side what → AreKept sub u k (λ r. k) (act_sub sub u what)
+  act-kept sub u what k e = if-kept sub u k (λ r. k) (has_path_of_act sub what) _ _ (acted-kept sub u what k e) tt
+
+  -- a restart of the unit, which no subchannel is told of
+  restarts-step : (w : Links) → LinksStep w (Unit_acts moving.Restarts) (told_links w moving.Restarts)
+  restarts-step w = record { given = tt; «unit» = refl; first = told-step w.first None; second = told-step w.second None }
+
+  pub restart-good : (w : Links) → IsGood w → IsGood (told_links w moving.Restarts) × ((j : Side) → IsResetDue w j → IsResetDue (told_links w moving.Restarts) j)
+  restart-good w g =
+      let all = laws.keeps w (Unit_acts moving.Restarts) (told_links w moving.Restarts) g (restarts-step w) in (
+        all.0,
+        λ j d.
+            elim (all.1 j d) [
+              | inl x ↦ x
+              | inr p ↦ absurd p.0
+            ],
+      )
+
+  pub restart-passed : (w : Links) (j : Side) (t : ℕ) → IsGood w → IsPassed w j t → IsPassed (told_links w moving.Restarts) j t
+  restart-passed w j t g p = laws.stays w (Unit_acts moving.Restarts) (told_links w moving.Restarts) j t g (restarts-step w) p
+
+-- what a unit owes changes none of it
+abbrev pub with_owed : Bool → Links → Links
+with_owed owed w = record w { «unit» = owing owed w.«unit» }
+
+pub owed-link : (owed : Bool) (w : Links) (j : Side) → link_of (with_owed owed w) j ≡ link_of w j
+owed-link owed w First = refl
+owed-link owed w Second = refl
+
+pub owed-good : (owed : Bool) (w : Links) → IsGood w → IsGood (with_owed owed w)
+owed-good owed w g = record { first = g.first; second = g.second; first_free = g.first_free; second_free = g.second_free }
+
+pub owed-passed : (owed : Bool) (w : Links) (j : Side) (t : ℕ) → IsPassed w j t → IsPassed (with_owed owed w) j t
+owed-passed owed w First t p = record { never = p.never; floor = p.floor }
+owed-passed owed w Second t p = record { never = p.never; floor = p.floor }
+
+pub owed-accepted : (owed : Bool) (w : Links) (j : Side) (t : ℕ) → IsAccepted w j t → IsAccepted (with_owed owed w) j t
+owed-accepted owed w First t c = c
+owed-accepted owed w Second t c = c
+
+pub owed-due : (owed : Bool) (w : Links) (j : Side) → IsResetDue w j → IsResetDue (with_owed owed w) j
+owed-due owed w First d = d
+owed-due owed w Second d = d
+
+owed-agree : (owed : Bool) (w : Links) (j : Side) → DoAgree w j → DoAgree (with_owed owed w) j
+owed-agree owed w First d = d
+owed-agree owed w Second d = d
+
+owed-follows : (T : Type 0) (owed : Bool) (w : Links) (side : Side) (sub new : Subchannel) (v : UnitState) (k next : StartCounts) → Follows T w side sub new v k next →
+    Follows T w side sub new (owing owed v) k next
+owed-follows T owed w side sub new v k next f =
+    record {
+      links = with_owed owed f.links;
+      good = owed-good owed f.links f.good;
+      «unit» = ap (owing owed) f.«unit»;
+      here = subst (λ (l : Link). IsLink new l) (sym (owed-link owed f.links side)) f.here;
+      there = λ j h. subst (λ (l : Link). IsWider (link_of w j) l) (sym (owed-link owed f.links j)) (f.there j h);
+      passed = λ j t p. owed-passed owed f.links j t (f.passed j t p);
+      accepted = λ j t c. owed-accepted owed f.links j t (f.accepted j t c);
+      told = λ t. told-wider next new.state f.links (with_owed owed f.links) side (owed-passed owed f.links side) (owed-accepted owed f.links side) (f.told t);
+      ends = λ j d.
+          elim (f.ends j d) [
+            | inl x ↦ inl (owed-due owed f.links j x)
+            | inr p ↦ inr (p.0, p.1, owed-agree owed f.links j p.2)
+          ];
+    }
+
+pub owing-kept : (T : Type 0) (owed : Bool) (sub new : Subchannel) (u v : UnitState) (k next : StartCounts) → IsKept T sub new u v k next → IsKept T sub new u (owing owed v) k next
+owing-kept T owed sub new u v k next kept =
+    record { setup = kept.setup; follows = λ w g e l. owed-follows T owed w sub.setup.side sub new v k next (kept.follows w g e l) }

@@ -1,4 +1,5 @@
--- No signal, and no answer of a device, restarts a unit, and each raises the number of its last chunk by one at most.
+-- Each event raises the numbers of a unit by one at most: that of its last chunk, of its last connection and of its last
+-- attention, and how often it was restarted.
 use Rattle.std.proofs.Common.{◌≡◌, refl, sym, ◌∙◌, subst, ℕ, ◌+◌, ◌≤◌, Bool, true, false, ◌==◌, ◌&&◌, not, nat_lt, nat_le, length, Option, None, Some, List, arith}
 use Rattle.std.specs.Prelude.{if◌then◌else◌}
 use Rattle.std.proofs.lemmas.Bool.{eqb-true}
@@ -22,14 +23,20 @@ use Rattle.chan_model.specs.declared.unit_state.Progress.TheVariants as progress
 use Rattle.chan_model.specs.declared.unit_state.SideState.{SideState}
 use Rattle.chan_model.specs.declared.unit_state.UnitState.{UnitState}
 use Rattle.chan_model.specs.Sides.{same_side}
-use Rattle.chan_model.specs.UnitTable.{UnitStep, changes, with_given, at_hand_answered, side_of, with_side, owns, is_owner, is_owner_on, freed, raised, selected, given_next, answered_load, answered_last, granted_at, granted, grant_refused_at, grant_refused, without_side, resets, forgetting, unit_works, unit_takes, unit_after, telling}
+use Rattle.chan_model.specs.UnitTable.{UnitStep, changes, with_given, at_hand_answered, side_of, with_side, owns, is_owner, is_owner_on, freed, raised, selected, given_next, answered_load, answered_last, granted_at, granted, grant_refused_at, grant_refused, without_side, resets, forgetting, unit_works, unit_takes, unit_after, telling, is_idle, marked_again, leaving_from, leaving, asking_from, asking, restarted}
 use Rattle.chan_model.specs.UnitReports.{is_outward, is_to_supply, most_of, may_end, shown_end, end_sent, command_begun, report_absorbed, with_supplied, report_supplied, sent_again, answer_taken, report_on, report_of, unit_reports}
-use Rattle.machine_model.specs.Bounds.{IsAtWithin}
+use Rattle.chan_events.specs.declared.event.UnitAct.{UnitAct}
+use Rattle.chan_events.specs.declared.event.UnitAct.TheVariants as act
+use Rattle.machine_model.specs.Bounds.{IsAtWithin, IsPlaceWithin, IsOwnWithin}
+use Rattle.machine_model.specs.ActSteps.{acts}
+use Rattle.machine_model.specs.Sharing.{owing}
 
--- a unit after a step that does not restart it
+-- a unit after a step
 pub record IsPlain (old new : UnitState) : Type 0 where
-  pub restarts : new.restarts ≡ old.restarts
   pub within : (n : ℕ) → IsAtWithin n old.at_hand → IsAtWithin (n + 1) new.at_hand
+  pub connection : (n : ℕ) → IsOwnWithin n old.own → IsOwnWithin (n + 1) new.own
+  pub attentions : new.attentions ≤ old.attentions + 1
+  pub restarts : new.restarts ≤ old.restarts + 1
 
 abbrev pub IsPlainStep : UnitState → Option UnitStep → Type 0
 IsPlainStep u step = IsPlain u (unit_after u step)
@@ -38,15 +45,37 @@ at-later : (n : ℕ) (x : Option AtHand) → IsAtWithin n x → IsAtWithin (n + 
 at-later n None w = tt
 at-later n (Some x) w = omega (arith, w)
 
+place-later : (n : ℕ) (place : Place) → IsPlaceWithin n place → IsPlaceWithin (n + 1) place
+place-later n (On p c) w = omega (arith, w)
+place-later n (Ask p c) w = omega (arith, w)
+place-later n (Away c) w = omega (arith, w)
+
+own-later : (n : ℕ) (o : Own) → IsOwnWithin n o → IsOwnWithin (n + 1) o
+own-later n own.Idle w = tt
+own-later n (own.Owned side t place) w = place-later n place w
+
+-- where it was not restarted, nor asked for attention
+plain : (u v : UnitState) → v.restarts ≡ u.restarts → v.attentions ≡ u.attentions → ((n : ℕ) → IsOwnWithin n u.own → IsOwnWithin (n + 1) v.own) →
+    ((n : ℕ) → IsAtWithin n u.at_hand → IsAtWithin (n + 1) v.at_hand) → IsPlain u v
+plain u v r a o h = record { within = h; connection = o; attentions = omega (arith, a); restarts = omega (arith, r) }
+
+own-stays : (u v : UnitState) → v.own ≡ u.own → (n : ℕ) → IsOwnWithin n u.own → IsOwnWithin (n + 1) v.own
+own-stays u v o n w = subst (IsOwnWithin (n + 1)) (sym o) (own-later n u.own w)
+
+hand-stays : (u v : UnitState) → v.at_hand ≡ u.at_hand → (n : ℕ) → IsAtWithin n u.at_hand → IsAtWithin (n + 1) v.at_hand
+hand-stays u v h n w = subst (IsAtWithin (n + 1)) (sym h) (at-later n u.at_hand w)
+
 -- the command at hand stays, is none, or has the same last chunk
-same-hand : (u v : UnitState) → v.restarts ≡ u.restarts → v.at_hand ≡ u.at_hand → IsPlain u v
-same-hand u v r h = record { restarts = r; within = λ n w. subst (IsAtWithin (n + 1)) (sym h) (at-later n u.at_hand w) }
+same-hand : (u v : UnitState) → v.restarts ≡ u.restarts → v.attentions ≡ u.attentions → v.own ≡ u.own → v.at_hand ≡ u.at_hand → IsPlain u v
+same-hand u v r a o h = plain u v r a (own-stays u v o) (hand-stays u v h)
 
 pub stays : (u : UnitState) → IsPlain u u
-stays u = same-hand u u refl refl
+stays u = same-hand u u refl refl refl refl
 
-no-hand : (u v : UnitState) → v.restarts ≡ u.restarts → v.at_hand ≡ None → IsPlain u v
-no-hand u v r h = record { restarts = r; within = λ n w. subst (IsAtWithin (n + 1)) (sym h) tt }
+-- the program that holds the device moves to another place, by a connection that is not later
+moved-on : (u v : UnitState) (o : Own) → v.restarts ≡ u.restarts → v.attentions ≡ u.attentions → v.at_hand ≡ u.at_hand → u.own ≡ o →
+    ((n : ℕ) → IsOwnWithin n o → IsOwnWithin (n + 1) v.own) → IsPlain u v
+moved-on u v o r a h e f = plain u v r a (λ n w. f n (subst (IsOwnWithin n) e w)) (hand-stays u v h)
 
 if-plain : (u : UnitState) (c : Bool) (x y : Option UnitStep) → IsPlainStep u x → IsPlainStep u y → IsPlainStep u (if c then x else y)
 if-plain u true x y e f = e
@@ -56,19 +85,27 @@ side-restarts : (u : UnitState) (side : Side) (s : SideState) → (with_side u s
 side-restarts u First s = refl
 side-restarts u Second s = refl
 
+side-attentions : (u : UnitState) (side : Side) (s : SideState) → (with_side u side s).attentions ≡ u.attentions
+side-attentions u First s = refl
+side-attentions u Second s = refl
+
+side-own : (u : UnitState) (side : Side) (s : SideState) → (with_side u side s).own ≡ u.own
+side-own u First s = refl
+side-own u Second s = refl
+
 side-hand : (u : UnitState) (side : Side) (s : SideState) → (with_side u side s).at_hand ≡ u.at_hand
 side-hand u First s = refl
 side-hand u Second s = refl
 
 -- Select, at a side whose floor was raised
 selected-plain : (u : UnitState) (o : Own) (side : Side) (p t : ℕ) (may : Bool) → IsPlainStep u (selected (raised u side t) o side p t may)
-selected-plain u own.Idle side p t true = no-hand u _ (side-restarts u side _) refl
-selected-plain u own.Idle side p t false = same-hand u _ (side-restarts u side _) (side-hand u side _)
-selected-plain u (own.Owned k v place) side p t may = same-hand u _ (side-restarts u side _) (side-hand u side _)
+selected-plain u own.Idle side p t true = plain u _ (side-restarts u side _) (side-attentions u side _) (λ n w. omega arith) (λ n w. tt)
+selected-plain u own.Idle side p t false = same-hand u _ (side-restarts u side _) (side-attentions u side _) (side-own u side _) (side-hand u side _)
+selected-plain u (own.Owned k v place) side p t may = same-hand u _ (side-restarts u side _) (side-attentions u side _) (side-own u side _) (side-hand u side _)
 
 -- with another command at hand
 with-hand : (u : UnitState) (x : AtHand) → ((n : ℕ) → IsAtWithin n u.at_hand → x.sequence ≤ n + 1) → IsPlain u (record u { at_hand = Some x })
-with-hand u x f = record { restarts = refl; within = f }
+with-hand u x f = plain u (record u { at_hand = Some x }) refl refl (λ n w. own-later n u.own w) f
 
 given-plain : (u : UnitState) (x : Option AtHand) (s : ℕ) (bytes : List ℕ) → u.at_hand ≡ x → IsPlainStep u (given_next u x s bytes)
 given-plain u None s bytes h = stays u
@@ -89,46 +126,55 @@ answered-plain : (u : UnitState) (x : Option AtHand) (s room : ℕ) → u.at_han
 answered-plain u None s room h = stays u
 answered-plain u (Some x) s room h = if-plain u (s == x.sequence) _ None (load-plain u x x.unanswered room h) (stays u)
 
-granted_at-plain : (u : UnitState) (side : Side) (t : ℕ) (place : Place) (p c : ℕ) → IsPlainStep u (granted_at u side t place p c)
-granted_at-plain u side t (Ask q d) p c = if-plain u (c == d) _ _ (same-hand u _ refl refl) (if-plain u (nat_lt c d) _ None (stays u) (stays u))
-granted_at-plain u side t (On q d) p c = if-plain u (nat_lt c d) _ None (stays u) (stays u)
-granted_at-plain u side t (Away d) p c = if-plain u (nat_lt c d) _ None (stays u) (stays u)
+granted_at-plain : (u : UnitState) (side : Side) (t : ℕ) (place : Place) (p c : ℕ) → u.own ≡ own.Owned side t place → IsPlainStep u (granted_at u side t place p c)
+granted_at-plain u side t (Ask q d) p c e =
+    if-plain u (c == d) _ _ (moved-on u _ _ refl refl refl e (λ n w. omega (arith, w))) (if-plain u (nat_lt c d) _ None (stays u) (stays u))
+granted_at-plain u side t (On q d) p c e = if-plain u (nat_lt c d) _ None (stays u) (stays u)
+granted_at-plain u side t (Away d) p c e = if-plain u (nat_lt c d) _ None (stays u) (stays u)
 
-granted-plain : (u : UnitState) (o : Own) (side : Side) (p t c : ℕ) → IsPlainStep u (granted u o side p t c)
-granted-plain u own.Idle side p t c = stays u
-granted-plain u (own.Owned k v place) side p t c = if-plain u (same_side k side && (t == v)) _ None (granted_at-plain u k v place p c) (stays u)
+granted-plain : (u : UnitState) (o : Own) (side : Side) (p t c : ℕ) → u.own ≡ o → IsPlainStep u (granted u o side p t c)
+granted-plain u own.Idle side p t c e = stays u
+granted-plain u (own.Owned k v place) side p t c e = if-plain u (same_side k side && (t == v)) _ None (granted_at-plain u k v place p c e) (stays u)
 
-refused_at-plain : (u : UnitState) (side : Side) (t : ℕ) (place : Place) (c : ℕ) → IsPlainStep u (grant_refused_at u side t place c)
-refused_at-plain u side t (Ask q d) c = if-plain u (c == d) _ None (same-hand u _ refl refl) (stays u)
-refused_at-plain u side t (On q d) c = stays u
-refused_at-plain u side t (Away d) c = stays u
+refused_at-plain : (u : UnitState) (side : Side) (t : ℕ) (place : Place) (c : ℕ) → u.own ≡ own.Owned side t place → IsPlainStep u (grant_refused_at u side t place c)
+refused_at-plain u side t (Ask q d) c e = if-plain u (c == d) _ None (moved-on u _ _ refl refl refl e (λ n w. omega (arith, w))) (stays u)
+refused_at-plain u side t (On q d) c e = stays u
+refused_at-plain u side t (Away d) c e = stays u
 
-refused-plain : (u : UnitState) (o : Own) (side : Side) (t c : ℕ) → IsPlainStep u (grant_refused u o side t c)
-refused-plain u own.Idle side t c = stays u
-refused-plain u (own.Owned k v place) side t c = if-plain u (same_side k side && (t == v)) _ None (refused_at-plain u k v place c) (stays u)
+refused-plain : (u : UnitState) (o : Own) (side : Side) (t c : ℕ) → u.own ≡ o → IsPlainStep u (grant_refused u o side t c)
+refused-plain u own.Idle side t c e = stays u
+refused-plain u (own.Owned k v place) side t c e = if-plain u (same_side k side && (t == v)) _ None (refused_at-plain u k v place c e) (stays u)
 
 forgetting-plain : (u : UnitState) (x : Option Attention) (side : Side) (a : ℕ) → IsPlainStep u (forgetting u x side a)
 forgetting-plain u None side a = stays u
-forgetting-plain u (Some x) side a = if-plain u (same_side x.side side && (a == x.number)) _ None (same-hand u _ refl refl) (stays u)
+forgetting-plain u (Some x) side a = if-plain u (same_side x.side side && (a == x.number)) _ None (same-hand u _ refl refl refl refl) (stays u)
 
 works-plain : (u : UnitState) (side : Side) (p : ℕ) (d : Down) (may : Bool) → IsPlainStep u (unit_works u side p d may)
 works-plain u side p (down.Select t) may = if-plain u (nat_lt (side_of u side).floor t) _ None (selected-plain u u.own side p t may) (stays u)
 works-plain u side p (down.Command t n code room) may =
-    if-plain u (is_owner u.own side t && (n == u.last_command + 1)) _ None (record { restarts = refl; within = λ n w. omega arith }) (stays u)
-works-plain u side p (down.Grant t c) may = granted-plain u u.own side p t c
-works-plain u side p (down.Refuse t c) may = refused-plain u u.own side t c
+    if-plain u (is_owner u.own side t && (n == u.last_command + 1)) _ None (plain u _ refl refl (λ n w. own-later n u.own w) (λ n w. omega arith)) (stays u)
+works-plain u side p (down.Grant t c) may = granted-plain u u.own side p t c refl
+works-plain u side p (down.Refuse t c) may = refused-plain u u.own side t c refl
 works-plain u side p (down.Took t n s room) may =
     if-plain u (is_owner u.own side t && (n == u.last_command)) _ None (answered-plain u u.at_hand s room refl) (stays u)
 works-plain u side p (down.Give t c n s bytes) may =
     if-plain u (is_owner_on u.own side t c && (n == u.last_command)) _ None (given-plain u u.at_hand s bytes refl) (stays u)
-works-plain u side p (down.Halt t) may = if-plain u (is_owner u.own side t && not u.halted) _ None (same-hand u _ refl refl) (stays u)
-works-plain u side p (down.Release t) may = if-plain u (is_owner u.own side t) _ None (no-hand u _ refl refl) (stays u)
+works-plain u side p (down.Halt t) may = if-plain u (is_owner u.own side t && not u.halted) _ None (same-hand u _ refl refl refl refl) (stays u)
+works-plain u side p (down.Release t) may = if-plain u (is_owner u.own side t) _ None (plain u _ refl refl (λ n w. tt) (λ n w. tt)) (stays u)
 works-plain u side p (down.Reset r c) may = stays u
 works-plain u side p (down.Got a) may = forgetting-plain u u.attention side a
 
 without-restarts : (u : UnitState) (c : Bool) → (if c then freed u else u).restarts ≡ u.restarts
 without-restarts u true = refl
 without-restarts u false = refl
+
+without-attentions : (u : UnitState) (c : Bool) → (if c then freed u else u).attentions ≡ u.attentions
+without-attentions u true = refl
+without-attentions u false = refl
+
+without-own : (u : UnitState) (c : Bool) (n : ℕ) → IsOwnWithin n u.own → IsOwnWithin (n + 1) (if c then freed u else u).own
+without-own u true n w = tt
+without-own u false n w = own-later n u.own w
 
 without-hand : (u : UnitState) (c : Bool) (n : ℕ) → IsAtWithin n u.at_hand → IsAtWithin (n + 1) (if c then freed u else u).at_hand
 without-hand u true n w = tt
@@ -140,10 +186,9 @@ fresh-plain u side p step h = if-plain u (side_of u side).fresh (telling u p) st
 reset-plain : (u : UnitState) (side : Side) (p r c : ℕ) (may : Bool) → IsPlainStep u (unit_takes u side p (down.Reset r c) may)
 reset-plain u side p r c may =
     if-plain u (resets u side r c) _ _
-    (record {
-      restarts = side-restarts (without_side u side) side _ ∙ without-restarts u (owns u.own side);
-      within = λ n w. subst (IsAtWithin (n + 1)) (sym (side-hand (without_side u side) side _)) (without-hand u (owns u.own side) n w);
-    })
+    (plain u _ (side-restarts (without_side u side) side _ ∙ without-restarts u (owns u.own side)) (side-attentions (without_side u side) side _ ∙ without-attentions u (owns u.own side))
+    (λ n w. subst (IsOwnWithin (n + 1)) (sym (side-own (without_side u side) side _)) (without-own u (owns u.own side) n w))
+    (λ n w. subst (IsAtWithin (n + 1)) (sym (side-hand (without_side u side) side _)) (without-hand u (owns u.own side) n w)))
     (fresh-plain u side p None (stays u))
 
 pub takes-plain : (u : UnitState) (side : Side) (p : ℕ) (d : Down) (may : Bool) → IsPlainStep u (unit_takes u side p d may)
@@ -218,3 +263,43 @@ report_of-plain u (own.Owned k t place) r =
 
 pub report-plain : (u : UnitState) (r : Report) → IsPlainStep u (unit_reports u r)
 report-plain u r = report_of-plain u u.own r
+
+-- acts of the unit of itself
+again-within : (n : ℕ) (x : Option AtHand) → IsAtWithin n x → IsAtWithin (n + 1) (marked_again x)
+again-within n None w = tt
+again-within n (Some x) w = omega (arith, w)
+
+leaving_from-plain : (u : UnitState) (side : Side) (t : ℕ) (place : Place) → u.own ≡ own.Owned side t place → IsPlainStep u (leaving_from u side t place)
+leaving_from-plain u side t (On p c) e =
+    plain u _ refl refl (λ n w. let at : c ≤ n = subst (IsOwnWithin n) e w in omega (arith, at)) (λ n w. again-within n u.at_hand w)
+leaving_from-plain u side t (Ask p c) e = stays u
+leaving_from-plain u side t (Away c) e = stays u
+
+leaving-plain : (u : UnitState) (o : Own) → u.own ≡ o → IsPlainStep u (leaving u o)
+leaving-plain u own.Idle e = stays u
+leaving-plain u (own.Owned side t place) e = leaving_from-plain u side t place e
+
+asking_from-plain : (u : UnitState) (side : Side) (t : ℕ) (place : Place) (p : ℕ) → u.own ≡ own.Owned side t place → IsPlainStep u (asking_from u side t place p)
+asking_from-plain u side t (On q c) p e = stays u
+asking_from-plain u side t (Ask q c) p e = moved-on u _ _ refl refl refl e (λ n w. omega (arith, w))
+asking_from-plain u side t (Away c) p e = moved-on u _ _ refl refl refl e (λ n w. omega (arith, w))
+
+asking-plain : (u : UnitState) (o : Own) (p : ℕ) → u.own ≡ o → IsPlainStep u (asking u o p)
+asking-plain u own.Idle p e = stays u
+asking-plain u (own.Owned side t place) p e = asking_from-plain u side t place p e
+
+attends-plain : (u : UnitState) (side : Side) → IsPlain u (record u { attentions = u.attentions + 1; attention = Some (record { number = u.attentions + 1; side = side }); end_owed = false })
+attends-plain u side = record { within = λ n w. at-later n u.at_hand w; connection = λ n w. own-later n u.own w; attentions = omega arith; restarts = omega arith }
+
+pub act-plain : (u : UnitState) (side : Side) (what : UnitAct) → IsPlainStep u (acts u side what)
+act-plain u side act.Leave = leaving-plain u u.own refl
+act-plain u side (act.Ask p) = asking-plain u u.own p refl
+act-plain u side (act.Attention p named) = if-plain u (is_idle u.own && not (side_of u side).fresh) _ None (attends-plain u side) (stays u)
+act-plain u side (act.Notice p named) = if-plain u (side_of u side).fresh _ None (stays u) (stays u)
+
+-- what a unit owes is no number of it
+pub owing-plain : (owed : Bool) (u v : UnitState) → IsPlain u v → IsPlain u (owing owed v)
+owing-plain owed u v k = record { within = k.within; connection = k.connection; attentions = k.attentions; restarts = k.restarts }
+
+pub restart-plain : (u : UnitState) → IsPlain u (restarted u)
+restart-plain u = record { within = λ n w. tt; connection = λ n w. tt; attentions = omega arith; restarts = omega arith }

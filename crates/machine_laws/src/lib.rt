@@ -18,11 +18,11 @@ ghost use Rattle.machine_laws.specs.Beginnings.{IsBegunOnce};
 ghost use Rattle.machine_laws.specs.Claims.{IsPendingUncleared, IsLaterSubchannel, IsClearedOnce};
 
 use agreement_laws::{agreement, passing, resets, rising};
-use step_laws::{storage_blocks, walks};
+use step_laws::{stays_set_up, storage_blocks, walks};
 use transfer::law::command_numbers;
 
-/// After each run the numbers of each subchannel, and of the chunks at each unit, are at most as many as there were events, and its status is pending
-/// exactly where some status that was made is not cleared.
+/// After each run the numbers of each subchannel and of each unit (its chunks, connections, attentions and restarts) are at most
+/// as many as there were events, and status of a subchannel is pending exactly where some status that was made is not cleared.
 pub fn numbers()
     ensures within { (setup : Setup) (h : List Entry) (s : State) → Run (opening_of setup) h s → All (IsWithin (length h)) s.subs }
     ensures units { (setup : Setup) (h : List Entry) (s : State) → Run (opening_of setup) h s → All (IsUnitWithin (length h)) s.units }
@@ -43,13 +43,15 @@ pub fn steps()
     command_numbers();
 }
 
-/// No step changes how the machine is set up: its subchannels and their order, its sets, its units, or how large storage is.
+/// No step changes how the machine is set up: its subchannels and their order, its sets, its channel paths, its units and their
+/// groups, how large storage is, or for how many requests there is room.
 pub fn setups()
     ensures stay { (s : State) (e : Event) (r : Reply) (new : State) → Step s e r new → map (λ sub. sub.setup) new.subs ≡ map (λ sub. sub.setup) s.subs }
     ensures set_up { (setup : Setup) (s : State) (e : Event) (r : Reply) (new : State) → Step s e r new → IsSetUp setup s → IsSetUp setup new }
 {
     walks();
     storage_blocks();
+    stays_set_up();
 }
 
 /// Of two TEST SUBCHANNEL instructions of one subchannel that answered condition code 0 (SA22-7832, chapter 14), the later
@@ -85,7 +87,7 @@ pub fn beginnings()
     passing();
 }
 
-/// Where a channel path goes down after a run, and each subchannel loses it, they agree still.
+/// Where each subchannel loses any one channel path after a run, they agree still.
 pub fn sweeps()
     ensures agree { (setup : Setup) (h : List Entry) (s : State) (chpid : ℕ) → IsLawful setup → Run (opening_of setup) h s →
         AllAgree (record s { subs = map (loses chpid) s.subs }) }

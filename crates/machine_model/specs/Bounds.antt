@@ -1,6 +1,10 @@
 -- Numbers that can still be raised: a channel subsystem makes fewer than 2 ^ 62 steps.
 use Rattle.std.specs.Prelude.{◌≤◌, ◌^◌, ℕ, Option, None, Some}
 use Rattle.chan_model.specs.declared.unit_state.AtHand.{AtHand}
+use Rattle.chan_model.specs.declared.unit_state.Place.{Place}
+use Rattle.chan_model.specs.declared.unit_state.Place.TheVariants.{On, Ask, Away}
+use Rattle.chan_model.specs.declared.unit_state.Own.{Own}
+use Rattle.chan_model.specs.declared.unit_state.Own.TheVariants.{Idle, Owned}
 use Rattle.chan_model.specs.declared.unit_state.UnitState.{UnitState}
 use Rattle.subchannel_model.specs.declared.state.ActiveProgram.{ActiveProgram}
 use Rattle.subchannel_model.specs.declared.state.Subchannel.{Subchannel}
@@ -22,8 +26,22 @@ abbrev pub IsAtWithin : ℕ → Option AtHand → Type 0
 IsAtWithin n None = Unit {0}
 IsAtWithin n (Some x) = x.sequence ≤ n
 
-abbrev pub IsUnitWithin : ℕ → UnitState → Type 0
-IsUnitWithin n u = IsAtWithin n u.at_hand
+-- the last connection of the program that holds a unit has at most this number
+abbrev pub IsPlaceWithin : ℕ → Place → Type 0
+IsPlaceWithin n (On p c) = c ≤ n
+IsPlaceWithin n (Ask p c) = c ≤ n
+IsPlaceWithin n (Away c) = c ≤ n
+
+abbrev pub IsOwnWithin : ℕ → Own → Type 0
+IsOwnWithin n Idle = Unit {0}
+IsOwnWithin n (Owned side t place) = IsPlaceWithin n place
+
+-- the numbers of a unit are at most n
+pub record IsUnitWithin (n : ℕ) (u : UnitState) : Type 0 where
+  pub at_hand : IsAtWithin n u.at_hand
+  pub connection : IsOwnWithin n u.own
+  pub attentions : u.attentions ≤ n
+  pub restarts : u.restarts ≤ n
 
 abbrev pub IsUnitRoomy : UnitState → Type 0
 IsUnitRoomy u = IsUnitWithin (2 ^ 62) u

@@ -4,10 +4,10 @@ use Rattle.chan_model.specs.declared.fault.Fault.{Fault}
 use Rattle.chan_model.specs.declared.fault.Fault.TheVariants as fault
 use Rattle.chan_model.specs.declared.signal.Down.{Down}
 use Rattle.chan_model.specs.declared.signal.Down.TheVariants as down
+use Rattle.chan_model.specs.declared.signal.OnPath.{OnPath}
 use Rattle.chan_events.specs.declared.reply.Reply.{Reply}
 use Rattle.chan_events.specs.declared.reply.Reply.TheVariants as reply
 use Rattle.path_select.specs.Choice.{IsChoice}
-use Rattle.wires.specs.Queues.{sent}
 use Rattle.subchannel_model.specs.declared.state.SubchannelState.{SubchannelState}
 use Rattle.subchannel_model.specs.declared.state.Subchannel.{Subchannel}
 use Rattle.subchannel_model.specs.declared.cause.StatusCause.{StatusCause}
@@ -16,16 +16,20 @@ use Rattle.machine_model.specs.State.{State}
 use Rattle.subchannel_model.specs.declared.state.Chosen.{Chosen}
 use Rattle.subchannel_model.specs.declared.state.Chosen.TheVariants.{Idle, Resets, PerformsClear, Halts, PerformsHalt, FindsNoPath, Offers}
 use Rattle.subchannel_model.specs.Causes.{with_cause}
-use Rattle.subchannel_model.specs.Choosing.{chosen, paths_to_choose, reset_sent, halt_sent, offered}
+use Rattle.subchannel_model.specs.Choosing.{chosen, marked_sub, paths_to_choose, reset_sent, halt_sent, offered}
 use Rattle.machine_model.specs.Turns.{Outcome, SubTurn, leaves, with_state, at_sub}
 use Rattle.subchannel_model.specs.Places.{Found}
-use Rattle.subchannel_model.specs.Sending.{is_full}
+use Rattle.subchannel_model.specs.Sending.{carried_by, finds_full, with_any_sent}
 
 -- a signal is sent
+abbrev pub send_any : Subchannel → SubchannelState → Option (OnPath Down) → Reply → Result SubTurn Fault
+send_any sub state sent r =
+    if finds_full sub.wires.down sent then Err fault.WireFull
+    else Ok (leaves r (record sub { state = state; wires = record sub.wires { down = with_any_sent sub.wires.down sent } }))
+
 abbrev pub send_sub : Subchannel → SubchannelState → ℕ → Down → Reply → Result SubTurn Fault
 send_sub sub state path signal r =
-    if is_full sub.wires.down path then Err fault.WireFull
-    else Ok (leaves r (record sub { state = state; wires = record sub.wires { down = sent sub.wires.down path signal } }))
+    send_any sub state (carried_by sub (Some (record { path = path; signal = signal }))) r
 
 -- a status is made pending
 abbrev pub pend_sub : Subchannel → StatusCause → Result SubTurn Fault
@@ -44,4 +48,4 @@ choose_sub sub (Offers c path) =
 abbrev pub Chooses : State → Option Found → Outcome → Type 0
 Chooses s None r = r ≡ Err fault.NoSuchSubchannel
 Chooses s (Some f) r =
-    (choice : Option ℕ) × IsChoice (paths_to_choose s.subs f.sub) choice × (r ≡ at_sub s f.place (choose_sub f.sub (chosen f.sub choice)))
+    (choice : Option ℕ) × IsChoice (paths_to_choose s.subs f.sub) choice × (r ≡ at_sub s f.place (choose_sub (marked_sub f.sub choice) (chosen f.sub choice)))

@@ -1,8 +1,10 @@
--- The steps in which a unit takes the signal that waits longest on a wire down; its control unit may serve it (own).
-use Rattle.std.specs.Prelude.{ℕ, Bool, true, nat_lt, if◌then◌else◌, Option, None, Some, length, slice_get, Result, Ok, Err}
+-- The steps in which a unit takes the signal that waits longest on a wire down (own).
+use Rattle.std.specs.Prelude.{ℕ, Bool, false, nat_lt, if◌then◌else◌, List, Option, None, Some, length, slice_get, Result, Ok, Err}
 use Rattle.chan_model.specs.declared.fault.Fault.{Fault}
 use Rattle.chan_model.specs.declared.fault.Fault.TheVariants as fault
 use Rattle.chan_model.specs.declared.signal.Down.{Down}
+use Rattle.chan_model.specs.declared.signal.OnPath.{OnPath}
+use Rattle.chan_model.specs.declared.signal.Up.{Up}
 use Rattle.chan_model.specs.declared.unit_state.UnitState.{UnitState}
 use Rattle.chan_events.specs.declared.reply.Reply.TheVariants as reply
 use Rattle.chan_model.specs.UnitTable as unit_table
@@ -10,16 +12,23 @@ use Rattle.chan_model.specs.UnitTable.{UnitStep, unit_takes, unit_after}
 use Rattle.wires.specs.Queues.{queue, taken}
 use Rattle.subchannel_model.specs.declared.state.Subchannel.{Subchannel}
 use Rattle.machine_model.specs.State.{State}
-use Rattle.machine_model.specs.Turns.{Outcome, DownTurn, at_unit}
+use Rattle.control_units.specs.declared.Member.{Member}
+use Rattle.chan_model.specs.declared.names.Side.{Side}
+use Rattle.machine_model.specs.Sharing.{is_asked_for, may_take, members_after, owing_after}
+use Rattle.machine_model.specs.Turns.{Outcome, DownTurn, SharedTurn, at_unit}
 use Rattle.subchannel_model.specs.Places.{Found}
-use Rattle.subchannel_model.specs.Sending.{finds_full, with_any_sent}
+use Rattle.subchannel_model.specs.Sending.{carried_by, finds_full, with_any_sent}
+
+abbrev pub with_answer : Subchannel → ℕ → Option (OnPath Up) → Subchannel
+with_answer sub path sent =
+    record sub { wires = record { down = taken sub.wires.down path; up = with_any_sent sub.wires.up (carried_by sub sent) } }
 
 abbrev pub down_with : Subchannel → ℕ → Down → UnitState → Option UnitStep → Result DownTurn Fault
 down_with sub path signal u step =
-    if finds_full sub.wires.up (unit_table.came_of step).sent then Err fault.WireFull
+    if finds_full sub.wires.up (carried_by sub (unit_table.came_of step).sent) then Err fault.WireFull
     else Ok (record {
       reply = reply.Down signal (unit_table.came_of step).taken (unit_table.came_of step).sent;
-      sub = record sub { wires = record { down = taken sub.wires.down path; up = with_any_sent sub.wires.up (unit_table.came_of step).sent } };
+      sub = with_answer sub path (unit_table.came_of step).sent;
       «unit» = unit_after u step;
     })
 
@@ -32,9 +41,36 @@ down_sub may sub path u =
     if nat_lt path (length sub.setup.paths) then down_front may sub path u (slice_get (queue sub.wires.down path) 0)
     else Err fault.NoSuchPath
 
+-- the control unit is asked where it must be, and what it keeps and owes is left as the rules of sharing say
+abbrev pub asks_front : UnitState → Side → Option Down → Bool
+asks_front u side None = false
+asks_front u side (Some signal) = is_asked_for u side signal
+
+abbrev pub asks_at : Subchannel → ℕ → UnitState → Bool
+asks_at sub path u = asks_front u sub.setup.side (slice_get (queue sub.wires.down path) 0)
+
+abbrev pub shared_turn : List Member → ℕ → Bool → UnitState → DownTurn → SharedTurn
+shared_turn members place asks u t = record {
+  turn = record t { «unit» = owing_after members place u t.«unit» };
+  members = members_after members place asks u t.«unit»;
+}
+
+abbrev pub share_with : List Member → ℕ → Bool → UnitState → Result DownTurn Fault → Result SharedTurn Fault
+share_with members place asks u (Ok t) = Ok (shared_turn members place asks u t)
+share_with members place asks u (Err f) = Err f
+
+abbrev pub down_shared : List Member → Subchannel → ℕ → UnitState → Result SharedTurn Fault
+down_shared members sub path u =
+    let asks = asks_at sub path u in
+    share_with members sub.setup.unit asks u (down_sub (may_take members sub.setup.unit asks) sub path u)
+
+abbrev pub at_shared : State → ℕ → ℕ → Result SharedTurn Fault → Outcome
+at_shared s place «unit» (Err f) = Err f
+at_shared s place «unit» (Ok t) = at_unit (record s { members = t.members }) place «unit» (Ok t.turn)
+
 abbrev pub down_unit : State → Found → ℕ → Option UnitState → Outcome
 down_unit s f path None = Err fault.NoSuchUnit
-down_unit s f path (Some u) = at_unit s f.place f.sub.setup.unit (down_sub true f.sub path u)
+down_unit s f path (Some u) = at_shared s f.place f.sub.setup.unit (down_shared s.members f.sub path u)
 
 abbrev pub down_at : State → Option Found → ℕ → Outcome
 down_at s None path = Err fault.NoSuchSubchannel

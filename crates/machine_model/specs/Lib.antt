@@ -3,10 +3,16 @@ pub mod Setups
 pub mod Turns
 pub mod StorageSteps
 pub mod InstructionSteps
+pub mod OtherSteps
 pub mod ChooseSteps
 pub mod UpSteps
+pub mod Sharing
 pub mod DownSteps
 pub mod ReportSteps
+pub mod ActSteps
+pub mod RestartSteps
+pub mod PathSteps
+pub mod Requests
 pub mod Steps
 pub mod Ruled
 pub mod Bounds

@@ -13,16 +13,16 @@ use Rattle.subchannel_model.specs.declared.state.Subchannel.{Subchannel}
 use Rattle.machine_model.specs.State.{State}
 use Rattle.subchannel_model.specs.Places.{Found, found_at, reached_in}
 use Rattle.machine_model.specs.Turns.{Outcome, DownTurn, at_unit}
-use Rattle.subchannel_model.specs.Sending.{finds_full, with_any_sent}
+use Rattle.subchannel_model.specs.Sending.{carried_by, finds_full, with_any_sent}
 
 -- a report that is taken may send nothing
 abbrev pub with_any_up : Subchannel → Option (OnPath Up) → Subchannel
-with_any_up sub sends = record sub { wires = record sub.wires { up = with_any_sent sub.wires.up sends } }
+with_any_up sub sends = record sub { wires = record sub.wires { up = with_any_sent sub.wires.up (carried_by sub sends) } }
 
 abbrev pub report_taken : Subchannel → Option UnitStep → Result DownTurn Fault
 report_taken sub None = Err fault.NotNow
 report_taken sub (Some step) =
-    if finds_full sub.wires.up step.sent then Err fault.WireFull
+    if finds_full sub.wires.up (carried_by sub step.sent) then Err fault.WireFull
     else Ok (record { reply = reply.Done; sub = with_any_up sub step.sent; «unit» = step.state })
 
 abbrev pub report_sub : Subchannel → UnitState → Report → Result DownTurn Fault

@@ -6,19 +6,20 @@ use Rattle.chan_model.specs.declared.fault.Fault.{Fault}
 use Rattle.chan_model.specs.declared.fault.Fault.TheVariants as fault
 use Rattle.chan_events.specs.declared.reply.Reply.{Reply}
 use Rattle.path_select.specs.Choice.{Rule, IsChoice}
-use Rattle.subchannel_model.specs.Choosing.{chosen, paths_to_choose}
+use Rattle.subchannel_model.specs.Choosing.{chosen, marked_sub, paths_to_choose}
 use Rattle.machine_model.specs.State.{State, found_of}
 use Rattle.subchannel_model.specs.Places.{Found}
 use Rattle.machine_model.specs.Turns.{Outcome, does, at_sub}
 use Rattle.machine_model.specs.ChooseSteps.{choose_sub}
+use Rattle.machine_model.specs.Requests.{settled}
 
 -- the path of an offer, a Reset or a Halt is one that the rule allows, by the paths to choose from and the path of the last
--- offer or Reset
+-- offer, Reset or Grant
 pub record IsRuled (picks : Rule) (s : State) (f : Found) (r : Outcome) : Type 0 where
   pub choice : Option ℕ
   pub member : IsChoice (paths_to_choose s.subs f.sub) choice
   pub picked : picks (paths_to_choose s.subs f.sub) f.sub.state.last_path choice
-  pub gives : r ≡ at_sub s f.place (choose_sub f.sub (chosen f.sub choice))
+  pub gives : r ≡ at_sub s f.place (choose_sub (marked_sub f.sub choice) (chosen f.sub choice))
 
 abbrev pub RulesAt : Rule → State → Option Found → Outcome → Type 0
 RulesAt picks s None r = r ≡ Err fault.NoSuchSubchannel
@@ -26,7 +27,7 @@ RulesAt picks s (Some f) r = IsRuled picks s f r
 
 -- of the events, Choose alone takes a path of its own choice
 abbrev pub Rules : Rule → State → Event → Outcome → Type 0
-Rules picks s (event.Choose word) r = RulesAt picks s (found_of s word) r
+Rules picks s (event.Choose word) r = (t : Outcome) × RulesAt picks s (found_of s word) t × (r ≡ settled s (event.Choose word) t)
 Rules picks s other r = Unit {0}
 
 abbrev pub outcome_of : Result Reply Fault → State → Outcome

@@ -1,14 +1,22 @@
 -- How a machine is set up, as its state shows it.
-use Rattle.std.specs.Prelude.{◌≡◌, length, map, unwrap_or}
+use Rattle.std.specs.Prelude.{◌≡◌, ℕ, length, map, unwrap_or}
 use Rattle.channel_config.specs.Lawful.{IsLawful}
-use Rattle.channel_config.specs.Setup.{Setup, set_count}
+use Rattle.channel_config.specs.Setup.{Setup, set_count, groups_of}
+use Rattle.control_units.specs.declared.Member.{Member}
 use Rattle.machine_model.specs.State.{State}
 
--- the machine is set up so, lawfully: by the blocks of its storage, its sets, its subchannels in their order and the number
--- of its units. No step changes any of these
+abbrev pub group_of : Member → ℕ
+group_of m = m.group
+
+-- the machine is set up so, lawfully: by the blocks of its storage, its sets, its channel paths, its subchannels in their
+-- order, the number of its units and their groups; there is room for a request of each subchannel. No step changes any of
+-- these
 pub record IsSetUp (setup : Setup) (s : State) : Type 0 where
   pub lawful : IsLawful setup
   pub blocks : length s.storage.keys ≡ unwrap_or setup.blocks 16
   pub sets : s.sets ≡ set_count setup
+  pub chpids : s.chpids ≡ setup.paths
   pub subs : map (λ sub. sub.setup) s.subs ≡ setup.subchannels
   pub units : length s.units ≡ length setup.units
+  pub groups : map group_of s.members ≡ groups_of setup
+  pub requests : s.requests.numbers ≡ 0x100

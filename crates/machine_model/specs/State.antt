@@ -1,11 +1,16 @@
 -- What there is of a channel subsystem, as small values.
-use Rattle.std.specs.Prelude.{◌≡◌, ◌≤◌, ◌^◌, ◌⊎◌, ℕ, zero, suc, ◌+◌, ◌%◌, ◌==◌, not, nat_lt, Bool, List, map, length, slice_get, slice_set, unwrap_or, Option, None, Some, if◌then◌else◌}
+use Rattle.std.specs.Prelude.{◌≡◌, ◌≤◌, ◌^◌, ◌⊎◌, ℕ, zero, suc, ◌+◌, ◌%◌, ◌==◌, not, Bool, List, map, length, slice_get, slice_set, unwrap_or, Option, None, Some, if◌then◌else◌}
+use Rattle.std.specs.List.{range_with_len}
 use Rattle.storage_keys.specs.Storage.{Contents, cleared_storage}
 use Rattle.chan_model.specs.declared.unit_state.UnitState.{UnitState}
 use Rattle.chan_events.specs.declared.reply.Entry.{Entry}
 use Rattle.chan_model.specs.UnitTable.{idle_unit}
 use Rattle.channel_config.specs.declared.parts.UnitKind.{UnitKind}
-use Rattle.channel_config.specs.Setup.{Setup, set_count}
+use Rattle.channel_config.specs.Setup.{Setup, set_count, has_number, groups_of}
+use Rattle.control_units.specs.declared.Member.{Member}
+use Rattle.control_units.specs.Units.{idle_member}
+use Rattle.interruptions.specs.Requests.{WaitingRequests, no_requests_wait}
+use Rattle.channel_reports.specs.Queue.{WaitingReports, no_reports_wait}
 use Rattle.channel_config.specs.SubchannelWords.{subchannel_named}
 use Rattle.scsw_irb.specs.declared.serials.Serials.{Serials}
 use Rattle.chan_model.specs.declared.signal.Down.{Down}
@@ -22,15 +27,24 @@ use Rattle.chan_model.specs.declared.unit_state.Place.{Place}
 use Rattle.chan_model.specs.declared.unit_state.Place.TheVariants.{Away}
 use Rattle.wires.specs.Queues.{queue}
 use Rattle.subchannel_model.specs.declared.state.Subchannel.{Subchannel}
+use Rattle.allegiance.specs.PathUse.{is_member}
 use Rattle.subchannel_model.specs.Opening.{opened}
+use Rattle.subchannel_model.specs.Store.{available_paths}
 use Rattle.subchannel_model.specs.Places.{place_of_id, sub_at, reached_sub, Found, found_at}
 
--- storage, how many sets of subchannels there are, the subchannels in the order of their configuration, and the units
+-- storage, how many sets of subchannels there are, the identifiers of the channel paths, and by identifier whether a path is
+-- configured and not down; the subchannels in the order of their configuration; the units, and what control units keep of
+-- them; the requests for interruptions and the channel reports that wait
 pub record State : Type 0 where
   pub storage : Contents
   pub sets : ℕ
+  pub chpids : List ℕ
+  pub up : List Bool
   pub subs : List Subchannel
   pub units : List UnitState
+  pub members : List Member
+  pub requests : WaitingRequests
+  pub reports : WaitingReports
 
 -- a state, the accepted events with their replies that led there, and for how many more of them there is room
 pub record Past : Type 0 where
@@ -56,13 +70,22 @@ LacksRoom old new = (new ≡ old) × IsSpent old
 abbrev pub idle_of : UnitKind → UnitState
 idle_of kind = idle_unit
 
+-- at the opening each path that is configured is up
+unfoldable pub configured_paths : List ℕ → ℕ → List Bool
+configured_paths chpids count = map (has_number chpids) (range_with_len 0 count)
+
 -- the opening of a machine that is set up so; where no storage is said there is the least, 16 blocks of 4,096 bytes (own)
 abbrev pub opening_of : Setup → State
 opening_of setup = record {
   storage = cleared_storage (unwrap_or setup.blocks 16);
   sets = set_count setup;
+  chpids = setup.paths;
+  up = configured_paths setup.paths 0x100;
   subs = map opened setup.subchannels;
   units = map idle_of setup.units;
+  members = map idle_member (groups_of setup);
+  requests = no_requests_wait 0x100;
+  reports = no_reports_wait;
 }
 
 -- the place of the subchannel that a subsystem-identification word names, where it is provided
@@ -109,15 +132,15 @@ abbrev pub takes_from : Option Subchannel → Option UnitTurn
 takes_from None = None
 takes_from (Some sub) = takes_on sub (signal_path sub.wires.down)
 
--- a program that is away may ask for a path: the first of its subchannel in cyclic order from the one whose index is the
--- number of its last connection, modulo 8 (own)
-abbrev pub cyclic_path : ℕ → ℕ → ℕ → Option ℕ
+-- a program that is away may ask for a path: the first available one of its subchannel in cyclic order from the one whose
+-- index is the number of its last connection, modulo 8 (own)
+abbrev pub cyclic_path : List Bool → ℕ → ℕ → Option ℕ
 cyclic_path paths zero from = None
-cyclic_path paths (suc n) from = if nat_lt (from % 8) paths then Some (from % 8) else cyclic_path paths n (from + 1)
+cyclic_path paths (suc n) from = if is_member paths (from % 8) then Some (from % 8) else cyclic_path paths n (from + 1)
 
 abbrev pub away_path : Option Subchannel → ℕ → Option ℕ
 away_path None c = None
-away_path (Some sub) c = cyclic_path (length sub.setup.paths) 8 c
+away_path (Some sub) c = cyclic_path (available_paths sub) 8 c
 
 abbrev pub turn_of_place : List Subchannel → ℕ → Side → Place → UnitTurn
 turn_of_place subs place side (Away c) = unit_turn.Away (away_path (reached_sub place side subs) c)

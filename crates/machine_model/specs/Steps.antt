@@ -11,22 +11,38 @@ use Rattle.machine_model.specs.Setups.{IsSetUp}
 use Rattle.machine_model.specs.Turns.{Outcome, does}
 use Rattle.machine_model.specs.StorageSteps.{put_turn, key_turn, prefix_turn, show_turn}
 use Rattle.machine_model.specs.InstructionSteps.{Executes}
+use Rattle.machine_model.specs.OtherSteps.{other_at}
 use Rattle.machine_model.specs.ChooseSteps.{Chooses}
 use Rattle.machine_model.specs.UpSteps.{up_at}
 use Rattle.machine_model.specs.DownSteps.{down_at}
 use Rattle.machine_model.specs.ReportSteps.{report_at}
+use Rattle.machine_model.specs.ActSteps.{act_at}
+use Rattle.machine_model.specs.RestartSteps.{restart_at}
+use Rattle.machine_model.specs.PathSteps.{path_down_at, path_up_at, path_reset_at, system_reset_at}
+use Rattle.machine_model.specs.Requests.{settled}
 
--- What an event comes to: its turn, or its refusal.
+-- What an event itself comes to: its turn, or its refusal.
+abbrev pub Does : State → Event → Outcome → Type 0
+Does s (event.Put address bytes) r = r ≡ put_turn s address bytes
+Does s (event.SetKey address key) r = r ≡ key_turn s address key
+Does s (event.SetPrefix cpu address) r = r ≡ prefix_turn s cpu address
+Does s (event.Show address count) r = r ≡ show_turn s address count
+Does s (event.Execute cpu i) r = Executes s cpu i r
+Does s (event.ExecuteOther cpu i) r = r ≡ other_at s cpu i
+Does s (event.Choose word) r = Chooses s (found_of s word) r
+Does s (event.Up word path) r = r ≡ up_at s (found_of s word) path
+Does s (event.Down word path) r = r ≡ down_at s (found_of s word) path
+Does s (event.Report place report) r = r ≡ report_at s place (slice_get s.units place) report
+Does s (event.Act place act) r = r ≡ act_at s place (slice_get s.units place) act
+Does s (event.Restart place) r = r ≡ restart_at s place (slice_get s.units place)
+Does s (event.PathDown chpid) r = r ≡ path_down_at s chpid
+Does s (event.PathUp chpid) r = r ≡ path_up_at s chpid
+Does s (event.PathReset chpid) r = r ≡ path_reset_at s chpid
+Does s event.SystemReset r = r ≡ system_reset_at s
+
+-- What an event comes to, with the requests for interruptions that are left of it.
 abbrev pub Steps : State → Event → Outcome → Type 0
-Steps s (event.Put address bytes) r = r ≡ put_turn s address bytes
-Steps s (event.SetKey address key) r = r ≡ key_turn s address key
-Steps s (event.SetPrefix cpu address) r = r ≡ prefix_turn s cpu address
-Steps s (event.Show address count) r = r ≡ show_turn s address count
-Steps s (event.Execute cpu i) r = Executes s cpu i r
-Steps s (event.Choose word) r = Chooses s (found_of s word) r
-Steps s (event.Up word path) r = r ≡ up_at s (found_of s word) path
-Steps s (event.Down word path) r = r ≡ down_at s (found_of s word) path
-Steps s (event.Report place report) r = r ≡ report_at s place (slice_get s.units place) report
+Steps s e r = (t : Outcome) × Does s e t × (r ≡ settled s e t)
 
 abbrev pub Step : State → Event → Reply → State → Type 0
 Step old e r new = Steps old e (does r new)

@@ -1,9 +1,10 @@
 -- What an event answers and leaves, or why it is refused: of the whole, and of one subchannel.
-use Rattle.std.specs.Prelude.{ℕ, Result, Ok, Err}
+use Rattle.std.specs.Prelude.{ℕ, List, Result, Ok, Err}
 use Rattle.storage_keys.specs.Storage.{Contents}
 use Rattle.chan_model.specs.declared.fault.Fault.{Fault}
 use Rattle.chan_model.specs.declared.unit_state.UnitState.{UnitState}
 use Rattle.chan_events.specs.declared.reply.Reply.{Reply}
+use Rattle.control_units.specs.declared.Member.{Member}
 use Rattle.subchannel_model.specs.declared.state.SubchannelState.{SubchannelState}
 use Rattle.subchannel_model.specs.declared.state.Subchannel.{Subchannel}
 use Rattle.machine_model.specs.State.{State, with_sub, state_with_unit}
@@ -35,6 +36,11 @@ pub record DownTurn : Type 0 where
   pub reply : Reply
   pub sub : Subchannel
   pub «unit» : UnitState
+
+-- the same, with what control units keep of their units
+pub record SharedTurn : Type 0 where
+  pub turn : DownTurn
+  pub members : List Member
 
 abbrev pub leaves : Reply → Subchannel → SubTurn
 leaves r sub = record { reply = r; sub = sub }

@@ -1,14 +1,32 @@
 -- What a call answered and left of what it was lent.
-use Rattle.std.specs.Prelude.{◌≡◌, ◌<◌, ℕ, Bool, true, false, nat_lt, Option, None, Some, List, length, Result, Ok, Err}
+use Rattle.std.specs.Prelude.{◌≡◌, ◌<◌, ◌+◌, ℕ, Bool, true, false, not, nat_lt, is_some, if◌then◌else◌, Option, None, Some, List, length, Result, Ok, Err}
 use Rattle.storage_keys.specs.Storage.{Contents}
 use Rattle.chan_model.specs.declared.fault.Fault.{Fault}
+use Rattle.chan_model.specs.UnitTable.{UnitStep, unit_takes}
+use Rattle.chan_model.specs.declared.names.Side.{Side}
+use Rattle.chan_model.specs.declared.signal.Down.{Down}
+use Rattle.chan_model.specs.declared.signal.Down.TheVariants as down
 use Rattle.chan_model.specs.declared.signal.OnPath.{OnPath}
+use Rattle.chan_model.specs.declared.unit_state.Own.{Own}
+use Rattle.chan_model.specs.declared.unit_state.Own.TheVariants.{Idle, Owned}
+use Rattle.chan_model.specs.declared.unit_state.Place.{Place}
+use Rattle.chan_model.specs.declared.unit_state.Place.TheVariants.{On, Ask, Away}
 use Rattle.chan_model.specs.declared.unit_state.UnitState.{UnitState}
 use Rattle.chan_events.specs.declared.reply.Reply.{Reply}
+use Rattle.channel_config.specs.Setup.{has_number}
+use Rattle.control_units.specs.declared.Member.{Member}
+use Rattle.interruptions.specs.Requests.{WaitingRequests, posted}
 use Rattle.wires.specs.Queues.{queue}
+use Rattle.subchannel_model.specs.declared.state.Chosen.{Chosen}
+use Rattle.subchannel_model.specs.declared.state.Chosen.TheVariants as chosen
 use Rattle.subchannel_model.specs.declared.state.Subchannel.{Subchannel}
+use Rattle.subchannel_model.specs.declared.state.SubchannelState.{SubchannelState}
+use Rattle.subchannel_model.specs.Sending.{carried_by, finds_full}
+use Rattle.machine_model.specs.Sharing.{is_asked_for, may_take}
 use Rattle.machine_model.specs.State.{State}
-use Rattle.machine_model.specs.Turns.{Outcome, does, SubTurn, leaves, UpTurn, DownTurn}
+use Rattle.machine_model.specs.Requests.{request_of}
+use Rattle.machine_model.specs.Turns.{Outcome, does, SubTurn, leaves, UpTurn, DownTurn, SharedTurn}
+use Rattle.machine_model.specs.UpSteps.{returns_at}
 
 -- where the outcome of an event is determined: its turn, or its refusal, which changed nothing
 abbrev pub Gives : State → Outcome → Result Reply Fault → State → Type 0
@@ -25,6 +43,11 @@ abbrev pub GivesBoth : Subchannel → UnitState → Result DownTurn Fault → Re
 GivesBoth old u outcome (Ok r) new v = outcome ≡ Ok (record { reply = r; sub = new; «unit» = v })
 GivesBoth old u outcome (Err f) new v = (outcome ≡ Err f) × ((new ≡ old) × (v ≡ u))
 
+-- the same of one subchannel, its unit, and what control units keep
+abbrev pub GivesShared : Subchannel → UnitState → List Member → Result SharedTurn Fault → Result Reply Fault → Subchannel → UnitState → List Member → Type 0
+GivesShared old u members outcome (Ok r) new v later = outcome ≡ Ok (record { turn = record { reply = r; sub = new; «unit» = v }; members = later })
+GivesShared old u members outcome (Err f) new v later = (outcome ≡ Err f) × ((new ≡ old) × ((v ≡ u) × (later ≡ members)))
+
 -- the same of one subchannel and of storage
 abbrev pub GivesStorage : Contents → Subchannel → Result UpTurn Fault → Result Reply Fault → Contents → Subchannel → Type 0
 GivesStorage before old outcome (Ok r) after new = outcome ≡ Ok (record { reply = r; sub = new; storage = after })
@@ -35,7 +58,56 @@ abbrev pub HasRoomFor : {A : Type 0} → List (List A) → Option (OnPath A) →
 HasRoomFor queues None full = Unit {0}
 HasRoomFor queues (Some s) full = full ≡ false → length (queue queues s.path) < 8
 
+-- whether a signal that must be sent finds its wire full, and that there is room for it where not
+abbrev pub TellsFull : {A : Type 0} → List (List A) → Option (OnPath A) → Bool → Type 0
+TellsFull queues sends full = (full ≡ finds_full queues sends) × HasRoomFor queues sends full
+
+-- the signal that is sent where this was chosen
+abbrev pub signal_of_chosen : SubchannelState → Chosen → Option (OnPath Down)
+signal_of_chosen s chosen.Idle = None
+signal_of_chosen s (chosen.Resets r path) = Some (record { path = path; signal = down.Reset r s.hold.known })
+signal_of_chosen s chosen.PerformsClear = None
+signal_of_chosen s (chosen.Halts t path) = Some (record { path = path; signal = down.Halt t })
+signal_of_chosen s chosen.PerformsHalt = None
+signal_of_chosen s chosen.FindsNoPath = None
+signal_of_chosen s (chosen.Offers c path) = Some (record { path = path; signal = down.Select (s.drawn + 1) })
+
+abbrev pub HasRoomForChosen : Subchannel → Chosen → Type 0
+HasRoomForChosen sub what = TellsFull sub.wires.down (carried_by sub (signal_of_chosen sub.state what)) false
+
+-- the channel path of this identifier, where it is one of these
+abbrev pub ChpidOf : List ℕ → ℕ → Option ℕ → Type 0
+ChpidOf chpids number None = has_number chpids number ≡ false
+ChpidOf chpids number (Some chpid) = (has_number chpids chpid ≡ true) × (chpid ≡ number)
+
 -- the path of this index, where the subchannel has one
 abbrev pub PathOf : Subchannel → ℕ → Option ℕ → Type 0
 PathOf sub path None = nat_lt path (length sub.setup.paths) ≡ false
 PathOf sub path (Some p) = (nat_lt path (length sub.setup.paths) ≡ true) × (p ≡ path)
+
+-- the subchannel made statuses beyond so many, and its request is posted; or it made none
+abbrev pub posted_since : ℕ → Subchannel → WaitingRequests → WaitingRequests
+posted_since made sub waiting = if nat_lt made sub.state.serials.made then posted waiting (request_of sub) else waiting
+
+-- whether a program may come back by a path, where it is one of the subchannel
+abbrev pub MayReturn : List Subchannel → Subchannel → ℕ → Bool → Type 0
+MayReturn subs sub path may = nat_lt path (length sub.setup.paths) ≡ true → may ≡ returns_at subs sub path
+
+-- a unit's step with a signal, its control unit being asked where it must be
+abbrev pub shared_step : List Member → ℕ → UnitState → Side → ℕ → Down → Option UnitStep
+shared_step members place u side path d = unit_takes u side path d (may_take members place (is_asked_for u side d))
+
+-- the path of a program that is connected
+abbrev pub path_of_place : Place → Option ℕ
+path_of_place (On p c) = Some p
+path_of_place (Ask p c) = None
+path_of_place (Away c) = None
+
+abbrev pub connected_path : Own → Option ℕ
+connected_path Idle = None
+connected_path (Owned side t place) = path_of_place place
+
+-- a program holds the device and is not connected
+abbrev pub is_without_path : Own → Bool
+is_without_path Idle = false
+is_without_path (Owned side t place) = not (is_some (path_of_place place))

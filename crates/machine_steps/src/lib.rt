@@ -1,11 +1,18 @@
-//! One event at a time on the whole machine: storage, subchannels with their wires, and units.
+//! One event at a time on the whole machine: storage, channel paths, subchannels with their wires, units and the control units
+//! that they share, and the requests and reports that wait for the program.
 //!
 //! Used alone, this crate promises: `Machine::perform` answers and leaves what the machine's definitions give for the
 //! event, by a path that the rule of the choice gives, or refuses it and changes nothing. Only the opening takes
 //! memory. Nothing is kept of what went before.
 #![tactic(auto)]
 
+mod acts;
 pub mod machine;
 pub mod opening;
+mod paths;
+mod posting;
+mod sending;
+mod sharing;
+mod tables;
 mod turns;
 mod unit_turns;

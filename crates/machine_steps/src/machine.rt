@@ -9,21 +9,29 @@ ghost use Rattle.machine_steps.specs.Giving as giving_spec;
 ghost use Rattle.machine_model.specs.StorageSteps as storage_spec;
 ghost use Rattle.machine_model.specs.Steps as spec;
 ghost use Rattle.machine_model.specs.Bounds.{IsRoomy, IsUnitRoomy};
+ghost use Rattle.machine_steps.specs.Postable.{IsPostable};
 ghost use Rattle.chan_events.specs.declared.event.Event.TheVariants as event_spec;
 ghost use Rattle.finding.specs.Tables.{Fits};
 
-use crate::turns::{choose_sub, down_sub, report_sub, up_sub};
+use crate::acts::{act_sub, not_held, side_of_act};
+use crate::posting::post;
+use crate::sharing::restart;
+use crate::tables::engaged_for;
+use crate::turns::{choose_sub, down_sub, report_sub, returns_at, up_sub};
 use crate::unit_turns::turn_of_unit;
-use chan_events::event::{Event, Instruction};
+use chan_events::event::{Event, Instruction, OtherInstruction, UnitAct};
 use chan_events::reply::Reply;
 use chan_model::chunk::{Chunk, ChunkLength};
 use chan_model::fault::Fault;
 use chan_model::names::Cpu;
 use chan_model::report::Report;
 use channel_config::names::subchannel_named;
+use channel_reports::Reports;
+use control_units::sharing::Sharing;
 use finding::engines::{Counted, Engines, engaged};
 use finding::tables::Places;
-use io_step::{execute, execute_absent};
+use interruptions::Pending;
+use io_step::{ChannelPaths, PathTable, execute_absent, perform_other, perform_provided};
 use machine_model::state::UnitTurn;
 use path_select::PathChoice;
 use scsw_irb::serials::Serials;
@@ -51,25 +59,42 @@ fn word_of(instruction: Instruction) -> u32
     }
 }
 
-/// Storage, subchannels and units.
+/// Storage, channel paths, subchannels and units, and what waits for the program.
 #[derive(Drop)]
 pub struct Machine {
     pub(crate) storage: Storage,
     pub(crate) sets: u8,
+    pub(crate) chpids: Vec<u8>,
+    /// Of each channel path, whether it is configured and not down.
+    pub(crate) up: PathTable,
     pub(crate) subs: Vec<Subchannel>,
     pub(crate) units: Vec<Unit>,
+    pub(crate) sharing: Sharing,
+    pub(crate) pending: Pending,
+    pub(crate) reports: Reports,
     pub(crate) engines: Engines,
 }
 
 impl Model for Machine {
+    ghost use Rattle.std.specs.Prelude.{◌≤◌, length};
     ghost use Rattle.machine_model.specs.State.{State};
     ghost use Rattle.finding.specs.Tables.{Counts};
 
     ghost Value = { State };
 
-    ghost view = { λ m. record { storage = m.storage; sets = m.sets; subs = m.subs.items; units = m.units.items } };
+    ghost view = { λ m. record {
+      storage = m.storage;
+      sets = m.sets;
+      chpids = m.chpids.items;
+      up = m.up;
+      subs = m.subs.items;
+      units = m.units.items;
+      members = m.sharing;
+      requests = m.pending;
+      reports = m.reports;
+    } };
 
-    ghost invariant = { λ m. Counts m.engines m.subs.items };
+    ghost invariant = { λ m. Counts m.engines m.subs.items × (length m.units.items ≤ 0x10000) };
 }
 
 impl Machine {
@@ -153,6 +178,8 @@ impl Machine {
     ) -> Result<Reply, Fault>
         requires fits { Fits places.now self.old.subs }
         requires roomy { All IsRoomy self.old.subs }
+        requires postable { All IsPostable self.old.subs }
+        requires requests { self.old.requests.numbers ≡ 0x100 }
         ensures { spec.Performs self.old (event_spec.Execute cpu instruction) result self.new }
     {
         let Some(id) = subchannel_named(self.sets, word_of(instruction)) else {
@@ -163,10 +190,30 @@ impl Machine {
         };
         let sub = &mut self.subs[place];
         let before = engaged(sub);
-        let answer = execute(&mut self.storage, sub, cpu, instruction);
+        let made = sub.state.serials.made;
+        let answer = perform_provided(&mut self.storage, sub, &mut self.pending, cpu, instruction);
+        post(&mut self.pending, sub, made);
         let after = engaged(sub);
         self.engines.change(before, after);
         answer
+    }
+
+    fn execute_other(&mut self, cpu: Cpu, instruction: OtherInstruction) -> Result<Reply, Fault>
+        ensures { spec.Performs self.old (event_spec.ExecuteOther cpu instruction) result self.new }
+    {
+        let counted = Counted::of(self.subs.as_slice(), &self.engines);
+        let paths = ChannelPaths {
+            up: self.up,
+            engaged: engaged_for(&counted, instruction),
+        };
+        perform_other(
+            &mut self.storage,
+            &mut self.pending,
+            &mut self.reports,
+            &paths,
+            cpu,
+            instruction,
+        )
     }
 
     fn choose<P: PathChoice>(
@@ -177,6 +224,8 @@ impl Machine {
     ) -> Result<Reply, Fault>
         requires fits { Fits places.now self.old.subs }
         requires roomy { All IsRoomy self.old.subs }
+        requires postable { All IsPostable self.old.subs }
+        requires requests { self.old.requests.numbers ≡ 0x100 }
         ensures performs { spec.Performs self.old (event_spec.Choose word) result self.new }
         ensures ruled { GoesByRule P.picks self.old (event_spec.Choose word) result self.new }
     {
@@ -189,23 +238,31 @@ impl Machine {
         let path = choice.choose(&paths, sub.state.last_path);
         let what = chosen(sub, path);
         let before = engaged(sub);
-        let answer = choose_sub(sub, what);
+        let made = sub.state.serials.made;
+        let answer = choose_sub(sub, &path, what);
         let after = engaged(sub);
         self.engines.change(before, after);
+        post(&mut self.pending, sub, made);
         answer
     }
 
     fn up(&mut self, places: &Places, word: u32, path: u32) -> Result<Reply, Fault>
         requires fits { Fits places.now self.old.subs }
         requires roomy { All IsRoomy self.old.subs }
+        requires postable { All IsPostable self.old.subs }
+        requires requests { self.old.requests.numbers ≡ 0x100 }
         ensures { spec.Performs self.old (event_spec.Up word path) result self.new }
     {
         let Some(place) = self.place_of(places, word) else {
             return Err(Fault::NoSuchSubchannel);
         };
+        let counted = Counted::of(self.subs.as_slice(), &self.engines);
+        let returns = returns_at(&counted, &self.subs[place], path);
         let sub = &mut self.subs[place];
         let before = engaged(sub);
-        let answer = up_sub(&mut self.storage, sub, path);
+        let made = sub.state.serials.made;
+        let answer = up_sub(&mut self.storage, sub, path, returns);
+        post(&mut self.pending, sub, made);
         let after = engaged(sub);
         self.engines.change(before, after);
         answer
@@ -224,7 +281,7 @@ impl Machine {
         }
         let sub = &mut self.subs[place];
         let unit = &mut self.units[number];
-        down_sub(sub, unit, path)
+        down_sub(sub, unit, &mut self.sharing, path)
     }
 
     fn report(&mut self, places: &Places, number: u32, report: &Report) -> Result<Reply, Fault>
@@ -244,7 +301,40 @@ impl Machine {
         report_sub(sub, unit, report)
     }
 
+    fn act(&mut self, places: &Places, number: u32, act: UnitAct) -> Result<Reply, Fault>
+        requires fits { Fits places.now self.old.subs }
+        requires roomy { All IsUnitRoomy self.old.units }
+        ensures { spec.Performs self.old (event_spec.Act number act) result self.new }
+    {
+        let number = number as usize;
+        if number >= self.units.len() {
+            return Err(Fault::NoSuchUnit);
+        }
+        let Some(side) = side_of_act(&self.units[number], act) else {
+            return Err(not_held(places, number, act, self.subs.as_slice()));
+        };
+        let Some(place) = places.reached_in(number, side, self.subs.as_slice()) else {
+            return Err(Fault::NotNow);
+        };
+        let sub = &mut self.subs[place];
+        let unit = &mut self.units[number];
+        act_sub(sub, unit, act)
+    }
+
+    fn restart(&mut self, number: u32) -> Result<Reply, Fault>
+        requires { All IsUnitRoomy self.old.units }
+        ensures { spec.Performs self.old (event_spec.Restart number) result self.new }
+    {
+        if number as usize >= self.units.len() {
+            return Err(Fault::NoSuchUnit);
+        }
+        let unit = &mut self.units[number as usize];
+        restart(&mut self.sharing, number as u16, unit);
+        Ok(Reply::Done)
+    }
+
     /// Performs one event; a refusal changes nothing.
+    #[tactic(auto, using(crate::proofs::Storing::put_performs, crate::proofs::Storing::key_performs, crate::proofs::Storing::prefix_performs, crate::proofs::Storing::show_performs))]
     pub fn perform<P: PathChoice>(
         &mut self,
         places: &Places,
@@ -254,6 +344,8 @@ impl Machine {
         requires fits { Fits places.now self.old.subs }
         requires subs { All IsRoomy self.old.subs }
         requires units { All IsUnitRoomy self.old.units }
+        requires postable { All IsPostable self.old.subs }
+        requires requests { self.old.requests.numbers ≡ 0x100 }
         ensures performs { spec.Performs self.old event.now result self.new }
         ensures ruled { GoesByRule P.picks self.old event.now result self.new }
     {
@@ -263,10 +355,17 @@ impl Machine {
             Event::SetPrefix { cpu, address } => self.set_prefix(*cpu, *address),
             Event::Show { address, length } => self.show(*address, *length),
             Event::Execute { cpu, instruction } => self.execute(places, *cpu, *instruction),
+            Event::ExecuteOther { cpu, instruction } => self.execute_other(*cpu, *instruction),
             Event::Choose { subchannel } => self.choose(places, choice, *subchannel),
             Event::Up { subchannel, path } => self.up(places, *subchannel, *path),
             Event::Down { subchannel, path } => self.down(places, *subchannel, *path),
             Event::Report { unit, report } => self.report(places, *unit, report),
+            Event::Act { unit, act } => self.act(places, *unit, *act),
+            Event::Restart { unit } => self.restart(*unit),
+            Event::PathDown { chpid } => self.path_down(*chpid),
+            Event::PathUp { chpid } => self.path_up(*chpid),
+            Event::PathReset { chpid } => self.path_reset(*chpid),
+            Event::SystemReset => self.system_reset(),
         }
     }
 }

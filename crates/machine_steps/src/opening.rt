@@ -4,22 +4,32 @@ ghost use Rattle.std.specs.Prelude.{◌≡◌, IfOk, OnOk, OnErr, map, true};
 ghost use Rattle.machine_model.specs.State as state_spec;
 ghost use Rattle.subchannel_model.specs.Opening as opening_spec;
 ghost use Rattle.channel_config.specs.Lawful.{IsLawful};
+ghost use Rattle.channel_config.specs.Setup as setup_spec;
+ghost use Rattle.control_units.specs.Units as members_spec;
 ghost use Rattle.finding.specs.Tables.{Fits};
 
 use crate::machine::Machine;
+use crate::tables::configured;
 use channel_config::config::Config;
 use channel_config::parts::{SubchannelSetup, UnitKind};
+use channel_reports::Reports;
+use control_units::sharing::Sharing;
 use finding::engines::Engines;
 use finding::tables::Places;
 use hold::Hold;
+use interruptions::Pending;
 use scsw_irb::scsw::Scsw;
 use scsw_irb::serials::Serials;
 use std::alloc::{AllocError, Global};
 use storage_keys::Storage;
-use subchannel_model::state::{PmcwState, Subchannel, SubchannelState};
+use subchannel::opening::opening_pmcw;
+use subchannel_model::state::{Subchannel, SubchannelState};
 use supply::{Supply, push};
 use unit::Unit;
 use wires::Wires;
+
+/// How many numbers a set of subchannels has.
+const NUMBERS_OF_A_SET: u16 = 0x100;
 
 /// A subchannel at the opening.
 fn opened(setup: &SubchannelSetup) -> Subchannel
@@ -29,21 +39,6 @@ fn opened(setup: &SubchannelSetup) -> Subchannel
         setup: setup.copy(),
         state: opening_subchannel(),
         wires: Wires::new(),
-    }
-}
-
-fn opening_pmcw() -> PmcwState
-    ensures { result ≡ opening_spec.opening_pmcw }
-{
-    PmcwState {
-        parameter: 0,
-        subclass: 0,
-        enabled: false,
-        multipath: false,
-        logical: [true; 8],
-        not_operational: [false; 8],
-        last_used: None,
-        operational: [true; 8],
     }
 }
 
@@ -110,6 +105,29 @@ fn idle_units<S: Supply>(
     Ok(units)
 }
 
+/// The identifiers of the channel paths.
+fn copied<S: Supply>(alloc: Global, supply: &mut S, chpids: &[u8]) -> Result<Vec<u8>, AllocError>
+    ensures copied { IfOk result (λ copy. copy.items ≡ chpids.now) }
+    ensures given { OnOk result (S.refused supply.new ≡ S.refused supply.old) }
+    ensures memory { OnErr result (S.refused supply.new ≡ true) }
+{
+    let mut copy = Vec::new(alloc);
+    for chpid in chpids {
+        push(supply, &mut copy, *chpid)?;
+    }
+    Ok(copy)
+}
+
+/// What control units keep of the units of a configuration.
+fn shared<S: Supply>(alloc: Global, supply: &mut S, config: &Config) -> Result<Sharing, AllocError>
+    ensures shared { IfOk result (λ sharing. sharing ≡ map members_spec.idle_member (setup_spec.groups_of config.now)) }
+    ensures given { OnOk result (S.refused supply.new ≡ S.refused supply.old) }
+    ensures memory { OnErr result (S.refused supply.new ≡ true) }
+{
+    let groups = config.groups_with(alloc, supply)?;
+    Sharing::new_with(alloc, supply, groups.as_slice())
+}
+
 /// The machine of a configuration, with the places of its subchannels. It is refused only where the supply refuses a
 /// growth.
 pub fn opened_machine<S: Supply>(
@@ -135,8 +153,13 @@ pub fn opened_machine<S: Supply>(
     let machine = Machine {
         storage: Storage::new_with(alloc, supply, blocks)?,
         sets,
+        chpids: copied(alloc, supply, config.paths())?,
+        up: configured(config.paths()),
         subs,
         units,
+        sharing: shared(alloc, supply, config)?,
+        pending: Pending::new_with(alloc, supply, NUMBERS_OF_A_SET)?,
+        reports: Reports::new(),
         engines,
     };
     Ok((places, machine))

@@ -1,12 +1,13 @@
 //! What an event does at one subchannel.
 
-ghost use Rattle.std.specs.Prelude.{◌≡◌, ◌<◌, true, false, length, Option};
+ghost use Rattle.std.specs.Prelude.{◌≡◌, ◌<◌, ◌^◌, Bool, Option};
 ghost use Rattle.machine_steps.specs.Giving as giving_spec;
 ghost use Rattle.machine_model.specs.ChooseSteps as choose_spec;
 ghost use Rattle.subchannel_model.specs.Sending as sending_spec;
 ghost use Rattle.machine_model.specs.UpSteps as up_spec;
 ghost use Rattle.machine_model.specs.DownSteps as down_spec;
 ghost use Rattle.machine_model.specs.ReportSteps as report_spec;
+ghost use Rattle.machine_model.specs.Turns as turn_spec;
 ghost use Rattle.subchannel_model.specs.Choosing as choosing_spec;
 ghost use Rattle.subchannel_model.specs.Taking.{IsBelow, takes_up};
 ghost use Rattle.subchannel_model.specs.declared.state.Chosen.TheVariants as chosen_spec;
@@ -14,122 +15,156 @@ ghost use Rattle.machine_model.specs.Bounds.{IsRoomy, IsUnitRoomy};
 ghost use Rattle.chan_model.specs.UnitReports as reports_spec;
 ghost use Rattle.chan_model.specs.UnitTable as unit_spec;
 ghost use Rattle.chan_model.specs.UnitTable.{UnitStep};
-ghost use Rattle.wires.specs.Queues.{queue};
 ghost use Rattle.finding.specs.Tables.{engaged};
 
+use crate::sending::{finds_down_full, finds_up_full, send_any_down, send_any_up};
+use crate::sharing::take;
 use chan_events::reply::Reply;
 use chan_model::fault::Fault;
-use chan_model::names::{Path, Side};
+use chan_model::names::Path;
 use chan_model::report::{Report, ReportPath};
 use chan_model::signal::{Down, OnPath, Taken, Up};
+use control_units::sharing::Sharing;
+use finding::engines::Counted;
 use status::make_pending;
 use storage_keys::Storage;
 use subchannel::answering::answer_path;
-use subchannel::choosing::{offer, send_halt, send_reset};
+use subchannel::choosing::{mark_lost_paths, offer, send_halt, send_reset};
+use subchannel::paths::is_granted;
 use subchannel::taking::take_up;
 use subchannel_model::cause::StatusCause;
 use subchannel_model::state::{Candidate, Chosen, Subchannel};
 use unit::Unit;
-use wires::Wires;
+
+/// Whether what was chosen is a signal that finds its wire full.
+fn chosen_finds_full(sub: &Subchannel, chosen: &Chosen) -> bool
+    ensures { giving_spec.TellsFull sub.now.wires.down
+        (sending_spec.carried_by sub.now (giving_spec.signal_of_chosen sub.now.state chosen.now)) result }
+{
+    match chosen {
+        Chosen::Resets { path, .. } | Chosen::Halts { path, .. } | Chosen::Offers { path, .. } =>
+            finds_down_full(sub, *path),
+        Chosen::Idle | Chosen::PerformsClear | Chosen::PerformsHalt | Chosen::FindsNoPath => false,
+    }
+}
+
+/// A Reset is sent on a path.
+fn reset_on(sub: &mut Subchannel, number: u64, path: Path) -> Reply
+    requires due { choosing_spec.IsFitFor (chosen_spec.Resets number path) sub.old.state.hold }
+    requires room { giving_spec.HasRoomForChosen sub.old (chosen_spec.Resets number path) }
+    ensures gives { choose_spec.choose_sub sub.old (chosen_spec.Resets number path) ≡ Ok (turn_spec.leaves result sub.new) }
+    ensures setup { sub.new.setup ≡ sub.old.setup }
+{
+    let available = sub.state.pmcw.available;
+    let sent = send_reset(&mut sub.state, path);
+    send_any_down(&mut sub.wires, &available, &sent);
+    Reply::ResetSent { number, path }
+}
 
 /// A Halt is sent on a path.
-fn halt_on(sub: &mut Subchannel, number: u64, path: Path) -> Result<Reply, Fault>
-    ensures { giving_spec.GivesSub sub.old (choose_spec.choose_sub sub.old (chosen_spec.Halts number path))
-        result sub.new }
+fn halt_on(sub: &mut Subchannel, number: u64, path: Path) -> Reply
+    requires { giving_spec.HasRoomForChosen sub.old (chosen_spec.Halts number path) }
+    ensures gives { choose_spec.choose_sub sub.old (chosen_spec.Halts number path) ≡ Ok (turn_spec.leaves result sub.new) }
+    ensures setup { sub.new.setup ≡ sub.old.setup }
 {
-    if sub.wires.down_is_full(path) {
-        return Err(Fault::WireFull);
-    }
+    let available = sub.state.pmcw.available;
+    let sent = Some(OnPath {
+        path,
+        signal: Down::Halt { number },
+    });
+    send_any_down(&mut sub.wires, &available, &sent);
     send_halt(&mut sub.state);
-    sub.wires.send_down(path, Down::Halt { number });
-    Ok(Reply::HaltSent { number, path })
+    Reply::HaltSent { number, path }
 }
 
 /// A program is offered on a path.
-fn offer_sub(sub: &mut Subchannel, candidate: Candidate, path: Path) -> Result<Reply, Fault>
-    requires roomy { IsRoomy sub.old }
+fn offer_on(sub: &mut Subchannel, candidate: Candidate, path: Path) -> Reply
+    requires drawn { sub.old.state.drawn < 2 ^ 63 }
     requires free { choosing_spec.IsFitFor (chosen_spec.Offers candidate path) sub.old.state.hold }
-    ensures { giving_spec.GivesSub sub.old (choose_spec.choose_sub sub.old (chosen_spec.Offers candidate path))
-        result sub.new }
+    requires room { giving_spec.HasRoomForChosen sub.old (chosen_spec.Offers candidate path) }
+    ensures gives { choose_spec.choose_sub sub.old (chosen_spec.Offers candidate path) ≡ Ok (turn_spec.leaves result sub.new) }
+    ensures setup { sub.new.setup ≡ sub.old.setup }
 {
-    if sub.wires.down_is_full(path) {
-        return Err(Fault::WireFull);
-    }
-    let sent = offer(&mut sub.state, &candidate.program, path);
-    sub.wires.send_down(sent.path, sent.signal);
-    Ok(Reply::Offered {
+    let available = sub.state.pmcw.available;
+    let sent = Some(offer(&mut sub.state, &candidate.program, path));
+    send_any_down(&mut sub.wires, &available, &sent);
+    Reply::Offered {
         number: sub.state.drawn,
         path,
         resumed: candidate.resumes,
-    })
+    }
 }
 
 /// A status is made pending.
-fn pend_sub(sub: &mut Subchannel, cause: &StatusCause) -> Result<Reply, Fault>
-    requires { IsRoomy sub.old }
-    ensures { giving_spec.GivesSub sub.old (choose_spec.pend_sub sub.old cause.now) result sub.new }
+fn pend_sub(sub: &mut Subchannel, cause: &StatusCause) -> Reply
+    requires { sub.old.state.serials.made < 2 ^ 63 }
+    ensures gives { choose_spec.pend_sub sub.old cause.now ≡ Ok (turn_spec.leaves result sub.new) }
+    ensures setup { sub.new.setup ≡ sub.old.setup }
 {
     make_pending(&mut sub.state, cause);
-    Ok(Reply::Pending)
+    Reply::Pending
 }
 
-/// The subsystem does what was chosen.
-pub fn choose_sub(sub: &mut Subchannel, chosen: Chosen) -> Result<Reply, Fault>
-    requires roomy { IsRoomy sub.old }
+/// What was chosen is done.
+fn act_on_choice(sub: &mut Subchannel, chosen: Chosen) -> Reply
+    requires drawn { sub.old.state.drawn < 2 ^ 63 }
+    requires made { sub.old.state.serials.made < 2 ^ 63 }
     requires fits { choosing_spec.IsFitFor chosen sub.old.state.hold }
-    ensures { giving_spec.GivesSub sub.old (choose_spec.choose_sub sub.old chosen) result sub.new }
+    requires room { giving_spec.HasRoomForChosen sub.old chosen }
+    ensures gives { choose_spec.choose_sub sub.old chosen ≡ Ok (turn_spec.leaves result sub.new) }
+    ensures setup { sub.new.setup ≡ sub.old.setup }
 {
     match chosen {
-        Chosen::Idle => Ok(Reply::Idle),
-        Chosen::Resets { number, path } => {
-            if sub.wires.down_is_full(path) {
-                return Err(Fault::WireFull);
-            }
-            let sent = send_reset(&mut sub.state, path);
-            send_any_down(&mut sub.wires, &sent);
-            Ok(Reply::ResetSent { number, path })
-        }
+        Chosen::Idle => Reply::Idle,
+        Chosen::Resets { number, path } => reset_on(sub, number, path),
         Chosen::PerformsClear => pend_sub(sub, &StatusCause::ClearDone),
         Chosen::Halts { number, path } => halt_on(sub, number, path),
         Chosen::PerformsHalt => pend_sub(sub, &StatusCause::HaltDone),
         Chosen::FindsNoPath => pend_sub(sub, &StatusCause::NoPath),
-        Chosen::Offers { candidate, path } => offer_sub(sub, candidate, path),
+        Chosen::Offers { candidate, path } => offer_on(sub, candidate, path),
     }
 }
 
-fn finds_down_full(wires: &Wires, path: Path) -> bool
-    ensures full { result ≡ sending_spec.is_full wires.now.down path }
-    ensures room { result ≡ false → length (queue wires.now.down path) < 8 }
+/// The subsystem does what was chosen, once it is known that what it sends finds room. Beforehand the paths that are found
+/// not operational are marked so. `choice`: the path by which it was chosen.
+pub fn choose_sub(
+    sub: &mut Subchannel,
+    choice: &Option<Path>,
+    chosen: Chosen,
+) -> Result<Reply, Fault>
+    requires roomy { IsRoomy sub.old }
+    requires fits { choosing_spec.IsFitFor chosen sub.old.state.hold }
+    ensures gives { giving_spec.GivesSub sub.old
+        (choose_spec.choose_sub (choosing_spec.marked_sub sub.old choice.now) chosen) result sub.new }
+    ensures setup { sub.new.setup ≡ sub.old.setup }
 {
-    wires.down_is_full(path)
+    if chosen_finds_full(sub, &chosen) {
+        return Err(Fault::WireFull);
+    }
+    mark_lost_paths(sub, choice);
+    Ok(act_on_choice(sub, chosen))
 }
 
 /// Whether what comes of a signal finds its wire full.
-#[tactic(auto, using(crate::proofs::Answered::finds_none, crate::proofs::Answered::finds_some, crate::proofs::Answered::room_none, crate::proofs::Answered::room_some))]
-fn up_finds_full(storage: &Storage, sub: &Subchannel, path: Path, signal: &Up) -> bool
+fn up_finds_full(
+    storage: &Storage,
+    sub: &Subchannel,
+    path: Path,
+    signal: &Up,
+    returns: bool,
+) -> bool
     requires { IsBelow sub.now.state.begun }
-    ensures full { result ≡ sending_spec.finds_full sub.now.wires.down
-        (takes_up false storage.now sub.now.state path signal.now).step.came.sent }
-    ensures room { giving_spec.HasRoomFor sub.now.wires.down
-        (takes_up false storage.now sub.now.state path signal.now).step.came.sent result }
+    ensures { giving_spec.TellsFull sub.now.wires.down (sending_spec.carried_by sub.now
+        (takes_up returns storage.now sub.now.state path signal.now).step.came.sent) result }
 {
-    match answer_path(storage, &sub.state, path, signal, false) {
+    match answer_path(storage, &sub.state, path, signal, returns) {
         None => false,
-        Some(at) => finds_down_full(&sub.wires, at),
-    }
-}
-
-fn send_any_down(wires: &mut Wires, sent: &Option<OnPath<Down>>)
-    requires { giving_spec.HasRoomFor wires.old.down sent.now false }
-    ensures { wires.new ≡ record wires.old { down = sending_spec.with_any_sent wires.old.down sent.now } }
-{
-    if let Some(signal) = sent {
-        wires.send_down(signal.path, signal.signal.copy());
+        Some(at) => finds_down_full(sub, at),
     }
 }
 
 /// A path of the subchannel.
-fn path_of(sub: &Subchannel, path: u32) -> Option<Path>
+pub fn path_of(sub: &Subchannel, path: u32) -> Option<Path>
     ensures { giving_spec.PathOf sub.now path result }
 {
     if (path as usize) < sub.setup.paths.as_slice().len() {
@@ -139,11 +174,30 @@ fn path_of(sub: &Subchannel, path: u32) -> Option<Path>
     }
 }
 
+/// Whether a program may come back by a path, where its Back waits there; no other signal asks.
+pub fn returns_at(subs: &Counted<'_>, sub: &Subchannel, path: u32) -> bool
+    ensures { giving_spec.MayReturn subs.now sub.now path result }
+{
+    let Some(path) = path_of(sub, path) else {
+        return false;
+    };
+    match sub.wires.front_up(path) {
+        Some(Up::Back { .. }) => is_granted(subs, sub, path),
+        _ => false,
+    }
+}
+
 /// The subchannel takes the signal that waits longest on the wire up of a path, once it is known that what comes of it
-/// finds room.
-pub fn up_sub(storage: &mut Storage, sub: &mut Subchannel, path: u32) -> Result<Reply, Fault>
+/// finds room. `returns`: a program that is away may come back by the path.
+pub fn up_sub(
+    storage: &mut Storage,
+    sub: &mut Subchannel,
+    path: u32,
+    returns: bool,
+) -> Result<Reply, Fault>
     requires { IsRoomy sub.old }
-    ensures { giving_spec.GivesStorage storage.old sub.old (up_spec.up_sub false storage.old sub.old path)
+    ensures setup { sub.new.setup ≡ sub.old.setup }
+    ensures gives { giving_spec.GivesStorage storage.old sub.old (up_spec.up_sub returns storage.old sub.old path)
         result storage.new sub.new }
 {
     let Some(path) = path_of(sub, path) else {
@@ -152,12 +206,13 @@ pub fn up_sub(storage: &mut Storage, sub: &mut Subchannel, path: u32) -> Result<
     let Some(front) = sub.wires.front_up(path) else {
         return Err(Fault::NotSent);
     };
-    if up_finds_full(storage, sub, path, front) {
+    if up_finds_full(storage, sub, path, front, returns) {
         return Err(Fault::WireFull);
     }
     let signal = sub.wires.take_up(path);
-    let Taken { taken, sent } = take_up(storage, &mut sub.state, path, &signal, false);
-    send_any_down(&mut sub.wires, &sent);
+    let available = sub.state.pmcw.available;
+    let Taken { taken, sent } = take_up(storage, &mut sub.state, path, &signal, returns);
+    send_any_down(&mut sub.wires, &available, &sent);
     Ok(Reply::Up {
         signal,
         taken,
@@ -165,44 +220,40 @@ pub fn up_sub(storage: &mut Storage, sub: &mut Subchannel, path: u32) -> Result<
     })
 }
 
-/// Whether the answer of a unit to a signal finds its wire full.
-fn answer_finds_full(wires: &Wires, unit: &Unit, side: Side, path: Path, signal: &Down) -> bool
-    ensures full { result ≡ sending_spec.finds_full wires.now.up
-        (unit_spec.came_of (unit_spec.unit_takes «unit».now side path signal.now true)).sent }
-    ensures room { giving_spec.HasRoomFor wires.now.up
-        (unit_spec.came_of (unit_spec.unit_takes «unit».now side path signal.now true)).sent result }
+/// Whether the answer of a unit to a signal finds its wire full. What the control unit may do makes no difference.
+fn answer_finds_full(sub: &Subchannel, unit: &Unit, path: Path, signal: &Down) -> bool
+    ensures { (may : Bool) → giving_spec.TellsFull sub.now.wires.up (sending_spec.carried_by sub.now
+        (unit_spec.came_of (unit_spec.unit_takes «unit».now sub.now.setup.side path signal.now may)).sent) result }
 {
-    unit.answers(side, signal) && wires.up_is_full(path)
+    unit.answers(sub.setup.side, signal) && finds_up_full(sub, path)
 }
 
-fn send_any_up(wires: &mut Wires, sent: &Option<OnPath<Up>>)
-    requires { giving_spec.HasRoomFor wires.old.up sent.now false }
-    ensures { wires.new ≡ record wires.old { up = sending_spec.with_any_sent wires.old.up sent.now } }
-{
-    if let Some(signal) = sent {
-        wires.send_up(signal.path, signal.signal.copy());
-    }
-}
-
-/// The unit takes the signal that waits longest on the wire down of a path.
-pub fn down_sub(sub: &mut Subchannel, unit: &mut Unit, path: u32) -> Result<Reply, Fault>
+/// The unit takes the signal that waits longest on the wire down of a path, once it is known that its answer finds room; its
+/// control unit is asked where it must be.
+pub fn down_sub(
+    sub: &mut Subchannel,
+    unit: &mut Unit,
+    sharing: &mut Sharing,
+    path: u32,
+) -> Result<Reply, Fault>
     ensures engaged { engaged sub.new ≡ engaged sub.old }
-    ensures gives { giving_spec.GivesBoth sub.old «unit».old (down_spec.down_sub true sub.old path «unit».old)
-        result sub.new «unit».new }
+    ensures state { sub.new.state ≡ sub.old.state }
+    ensures gives { giving_spec.GivesShared sub.old «unit».old sharing.old
+        (down_spec.down_shared sharing.old sub.old path «unit».old) result sub.new «unit».new sharing.new }
 {
     let Some(path) = path_of(sub, path) else {
         return Err(Fault::NoSuchPath);
     };
-    let side = sub.setup.side;
     let Some(front) = sub.wires.front_down(path) else {
         return Err(Fault::NotSent);
     };
-    if answer_finds_full(&sub.wires, unit, side, path, front) {
+    if answer_finds_full(sub, unit, path, front) {
         return Err(Fault::WireFull);
     }
     let signal = sub.wires.take_down(path);
-    let Taken { taken, sent } = unit.take(side, path, &signal, true);
-    send_any_up(&mut sub.wires, &sent);
+    let side = sub.setup.side;
+    let Taken { taken, sent } = take(sharing, sub.setup.unit, unit, side, path, &signal);
+    send_any_up(sub, &sent);
     Ok(Reply::Down {
         signal,
         taken,
@@ -210,22 +261,13 @@ pub fn down_sub(sub: &mut Subchannel, unit: &mut Unit, path: u32) -> Result<Repl
     })
 }
 
-fn finds_up_full(wires: &Wires, path: Path) -> bool
-    ensures full { result ≡ sending_spec.is_full wires.now.up path }
-    ensures room { result ≡ false → length (queue wires.now.up path) < 8 }
-{
-    wires.up_is_full(path)
-}
-
 /// Whether what comes of a report, whose path is this, finds its wire full.
-fn report_finds_full(wires: &Wires, path: &ReportPath) -> bool
-    ensures full { (step : Option UnitStep) → reports_spec.report_path step ≡ path.now →
-        result ≡ sending_spec.finds_full wires.now.up (unit_spec.came_of step).sent }
-    ensures room { (step : Option UnitStep) → reports_spec.report_path step ≡ path.now →
-        giving_spec.HasRoomFor wires.now.up (unit_spec.came_of step).sent result }
+fn report_finds_full(sub: &Subchannel, path: &ReportPath) -> bool
+    ensures { (step : Option UnitStep) → reports_spec.report_path step ≡ path.now →
+        giving_spec.TellsFull sub.now.wires.up (sending_spec.carried_by sub.now (unit_spec.came_of step).sent) result }
 {
     match path {
-        ReportPath::SentOn(path) => finds_up_full(wires, *path),
+        ReportPath::SentOn(path) => finds_up_full(sub, *path),
         ReportPath::Refused | ReportPath::NothingSent => false,
     }
 }
@@ -234,6 +276,7 @@ fn report_finds_full(wires: &Wires, path: &ReportPath) -> bool
 pub fn report_sub(sub: &mut Subchannel, unit: &mut Unit, report: &Report) -> Result<Reply, Fault>
     requires { IsUnitRoomy «unit».old }
     ensures engaged { engaged sub.new ≡ engaged sub.old }
+    ensures state { sub.new.state ≡ sub.old.state }
     ensures gives { giving_spec.GivesBoth sub.old «unit».old (report_spec.report_sub sub.old «unit».old report.now)
         result sub.new «unit».new }
 {
@@ -241,10 +284,10 @@ pub fn report_sub(sub: &mut Subchannel, unit: &mut Unit, report: &Report) -> Res
     if let ReportPath::Refused = path {
         return Err(Fault::NotNow);
     }
-    if report_finds_full(&sub.wires, &path) {
+    if report_finds_full(sub, &path) {
         return Err(Fault::WireFull);
     }
     let Taken { sent, .. } = unit.report(report);
-    send_any_up(&mut sub.wires, &sent);
+    send_any_up(sub, &sent);
     Ok(Reply::Done)
 }

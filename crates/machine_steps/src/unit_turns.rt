@@ -7,8 +7,10 @@ ghost use Rattle.machine_model.specs.State.{State};
 ghost use Rattle.finding.specs.Tables.{Fits};
 
 use chan_model::names::{Path, Side};
+use chan_model::paths::PathSet;
 use chan_model::unit_state::{Own, Place};
 use finding::tables::Places;
+use functions::blocks::available_paths;
 use machine_model::state::UnitTurn;
 use subchannel_model::state::Subchannel;
 use unit::Unit;
@@ -50,7 +52,7 @@ fn signal_path(wires: &Wires) -> Option<u32>
 }
 
 /// The subchannel that reaches this side of a unit.
-fn reached_sub<'a>(
+pub fn reached_sub<'a>(
     places: &Places,
     unit: usize,
     side: Side,
@@ -77,13 +79,13 @@ fn taken_from(places: &Places, unit: usize, side: Side, subs: &[Subchannel]) -> 
     })
 }
 
-/// The first of the paths below `paths`, in cyclic order of 8 from this one.
-fn cyclic_path(paths: usize, from: u64) -> Option<u32>
-    ensures { result ≡ state_spec.cyclic_path paths 8 from }
+/// The first of the paths, in cyclic order of 8 from this one.
+fn cyclic_path(paths: &PathSet, from: u64) -> Option<u32>
+    ensures { result ≡ state_spec.cyclic_path paths.now 8 from }
 {
     let mut next = (from % 8) as u32;
     for _ in 0..8u32 {
-        if (next as usize) < paths {
+        if paths[next as usize] {
             return Some(next);
         }
         next = (next + 1) % 8;
@@ -103,7 +105,7 @@ fn away_path(
     ensures { result ≡ state_spec.away_path (place_spec.reached_sub «unit» side subs.now) connection }
 {
     let sub = reached_sub(places, unit, side, subs)?;
-    cyclic_path(sub.setup.paths.as_slice().len(), connection)
+    cyclic_path(&available_paths(sub), connection)
 }
 
 /// What a unit without a signal and without work is to do.

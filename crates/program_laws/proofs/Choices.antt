@@ -39,7 +39,7 @@ use Rattle.subchannel_model.specs.declared.state.ProgramPosition.{ProgramPositio
 use Rattle.subchannel_model.specs.declared.state.Program.{Program}
 use Rattle.subchannel_model.specs.declared.state.Subchannel.{Subchannel}
 use Rattle.subchannel_model.specs.declared.state.SubchannelState.{SubchannelState}
-use Rattle.subchannel_model.specs.Choosing.{chosen, reset_sent, halt_sent, offered}
+use Rattle.subchannel_model.specs.Choosing.{chosen, marked_sub, reset_sent, halt_sent, offered}
 use Rattle.subchannel_model.specs.Causes.{without_waiting, with_cause}
 use Rattle.subchannel_model.specs.Resume.{resumed}
 use Rattle.subchannel_model.specs.Halt.{halt_begun, drops_status, status_dropped, halted}
@@ -53,25 +53,31 @@ use Rattle.subchannel_model.specs.Opening.{opened}
 use Rattle.subchannel_model.specs.Taking as taking
 use Rattle.subchannel_model.specs.Taking.{takes_up, goes_ahead, by_hold, reset_taken}
 use Rattle.machine_model.specs.Turns.{SubTurn, UpTurn, DownTurn}
-use Rattle.subchannel_model.specs.Sending.{is_full, finds_full}
+use Rattle.subchannel_model.specs.Sending.{carried_by, finds_full}
 use Rattle.machine_model.specs.ChooseSteps.{choose_sub}
 use Rattle.machine_model.specs.UpSteps.{up_front, up_sub}
 use Rattle.machine_model.specs.DownSteps.{down_front, down_sub}
 use Rattle.machine_model.specs.ReportSteps.{report_taken, report_sub}
 use Rattle.machine_model.specs.Steps.{Run, Opened, Stepped}
 use Rattle.subchannel_model.specs.Losing.{has_any, is_offered_or_held, reset_with, reset_for}
+use Rattle.subchannel_model.specs.SystemReset.{state_reset}
+use Rattle.machine_model.specs.declared.state.Sweep.{Sweep}
+use Rattle.machine_model.specs.PathSteps.{swept}
 use Rattle.step_laws.specs.Walks.{IsFound, Suits}
 use Rattle.machine_laws.proofs.TaleEvents.{reset-phase}
 use Rattle.program_laws.specs.Traces as stories
 use Rattle.program_laws.specs.Traces.{ProgramTrace, offered_for, resumed_for, chosen_at, met_with, met_at, takes, taken_at, absorbs, reported, reported_at, trace, trace_after}
 use Rattle.program_laws.specs.Claims.{IsCopied}
-use Rattle.program_laws.proofs.Turns.{PlaceStep, Stays, Starts_with_orb, Is_tested, Is_resumed, Is_halted, Is_cleared, Is_cancelled, Is_modified, Is_chosen, Meets, Sinks, Is_reported, Other_sinks, Other_reported, if-ok, step-happens}
+use Rattle.program_laws.proofs.Turns.{PlaceStep, Stays, Starts_with_orb, Is_tested, Is_resumed, Is_halted, Is_cleared, Is_cancelled, Is_modified, Is_chosen, Meets, Sinks, Is_reported, Other_sinks, Other_reported, Unit_acts, Is_swept, step-happens}
 use Rattle.program_laws.proofs.Accesses.{AreAccesses}
 use Rattle.program_laws.proofs.Ties.{AreLaws}
 use Rattle.program_laws.proofs.Holds.{IsPhase, IsDrawn, HasWork, IsStanding, IsHeld, IsUnheld, IsUntold, HeldBy, done-held, none-begun, none-stands, without-held, nothing-done, past-done}
-use Rattle.program_laws.proofs.HoldMeets.{signal-held}
+use Rattle.program_laws.proofs.HoldMeets.{reset-held, signal-held}
 use Rattle.program_laws.proofs.Copies.{AreCopied, meets-copied}
 use Rattle.program_laws.proofs.RunSides.{run-one-sided}
+use Rattle.program_laws.proofs.UnitActs.{if-ok}
+use Rattle.program_laws.proofs.Vanishing.{send-ok}
+use Rattle.program_laws.proofs.Sweeps.{swept-kept}
 use Rattle.step_laws.proofs.Places.{map-get}
 
 -- what is kept of its program, and what was copied for it
@@ -183,25 +189,26 @@ choose-held : (sub : Subchannel) (k : Option ProgramTrace) (c : Chosen) → Suit
     IfOk (choose_sub sub c) (λ t. KeptBy t.sub.state (chosen_at (Some sub) t.reply k))
 choose-held sub k Idle o h = h
 choose-held sub k (Resets r path) o h =
-    if-ok (λ t. KeptBy t.sub.state (chosen_at (Some sub) t.reply k)) (is_full sub.wires.down path) (Err fault.WireFull) _ tt
+    send-ok (λ t. KeptBy t.sub.state (chosen_at (Some sub) t.reply k)) sub (reset_sent sub.state path) path
+    (down.Reset r sub.state.hold.known) (reply.ResetSent r path)
     (same-kept sub.state (reset_sent sub.state path) k (reset-phase sub.state.hold sub.state.hold.phase path) refl refl refl refl h)
 choose-held sub k PerformsClear o h = same-kept sub.state (with_cause sub.state cause.ClearDone) k refl refl refl refl refl h
 choose-held sub k (Halts t path) o h =
-    if-ok (λ t. KeptBy t.sub.state (chosen_at (Some sub) t.reply k)) (is_full sub.wires.down path) (Err fault.WireFull) _ tt
+    send-ok (λ t. KeptBy t.sub.state (chosen_at (Some sub) t.reply k)) sub (halt_sent sub.state) path (down.Halt t) (reply.HaltSent t path)
     (same-kept sub.state (halt_sent sub.state) k refl refl refl refl refl h)
 choose-held sub k PerformsHalt o h =
     same-kept (without_programs sub.state) (with_cause sub.state cause.HaltDone) k refl refl refl refl refl (without-kept sub.state k h)
 choose-held sub k FindsNoPath o h =
     same-kept (without_waiting sub.state.waiting sub.state) (with_cause sub.state cause.NoPath) k refl refl refl refl refl (over-kept sub.state sub.state.waiting k refl h)
 choose-held sub k (Offers c path) o h =
-    if-ok (λ t. KeptBy t.sub.state (chosen_at (Some sub) t.reply k)) (is_full sub.wires.down path) (Err fault.WireFull) _ tt
+    send-ok (λ t. KeptBy t.sub.state (chosen_at (Some sub) t.reply k)) sub (offered sub.state c.program path) path
+    (down.Select (sub.state.drawn + 1)) (reply.Offered (sub.state.drawn + 1) path c.resumes)
     (found-held sub c.program path c.resumes k (none-begun sub.state k (kept-held sub.state k h) o.fits) o.found h)
 
-pub chosen-held : (sub : Subchannel) (k : Option ProgramTrace) (choice : Option ℕ) (t : SubTurn) → Suits (chosen sub choice) sub.state → choose_sub sub (chosen sub choice) ≡ Ok t → KeptBy sub.state k →
-    KeptBy t.sub.state (chosen_at (Some sub) t.reply k)
-chosen-held sub k choice t f e h =
-    subst (λ (r : Result SubTurn Fault). IfOk r (λ t. KeptBy t.sub.state (chosen_at (Some sub) t.reply k))) e
-    (choose-held sub k (chosen sub choice) f h)
+pub chosen-held : (sub : Subchannel) (k : Option ProgramTrace) (c : Chosen) (t : SubTurn) → Suits c sub.state → choose_sub sub c ≡ Ok t →
+    KeptBy sub.state k → KeptBy t.sub.state (chosen_at (Some sub) t.reply k)
+chosen-held sub k c t f e h =
+    subst (λ (r : Result SubTurn Fault). IfOk r (λ t. KeptBy t.sub.state (chosen_at (Some sub) t.reply k))) e (choose-held sub k c f h)
 
 -- the unit's doings leave it
 untaken-held : (s : SubchannelState) (k : ProgramTrace) (taken : List ℕ) (absorbed : List ℕ) → IsKept s k → IsKept s (record k { taken = taken; absorbed = absorbed })
@@ -245,7 +252,7 @@ down_front-held : (may : Bool) → (sub : Subchannel) (path : ℕ) (u : UnitStat
 down_front-held may sub path u None k h = tt
 down_front-held may sub path u (Some d) k h =
     let step : Option UnitStep = unit_takes u sub.setup.side path d may in
-    if-ok (λ t. KeptBy t.sub.state (taken_at t.reply k)) (finds_full sub.wires.up (unit_table.came_of step).sent) (Err fault.WireFull) _ tt
+    if-ok (λ t. KeptBy t.sub.state (taken_at t.reply k)) (finds_full sub.wires.up (carried_by sub (unit_table.came_of step).sent)) (Err fault.WireFull) _ tt
     (taken-held sub.state d (unit_table.came_of step).taken (unit_table.came_of step).sent k h)
 
 pub sunk-held : (may : Bool) → (sub : Subchannel) (path : ℕ) (u : UnitState) (t : DownTurn) (k : Option ProgramTrace) → down_sub may sub path u ≡ Ok t → KeptBy sub.state k → KeptBy t.sub.state (taken_at t.reply k)
@@ -281,7 +288,7 @@ report_taken-held : (sub : Subchannel) (u : UnitState) (report : Report) (step :
     IfOk (report_taken sub step) (λ t. KeptBy t.sub.state (reported_at (Some u) report k))
 report_taken-held sub u report None k h = tt
 report_taken-held sub u report (Some step) k h =
-    if-ok (λ t. KeptBy t.sub.state (reported_at (Some u) report k)) (finds_full sub.wires.up step.sent) (Err fault.WireFull) _ tt (reported_at-held sub.state u report k h)
+    if-ok (λ t. KeptBy t.sub.state (reported_at (Some u) report k)) (finds_full sub.wires.up (carried_by sub step.sent)) (Err fault.WireFull) _ tt (reported_at-held sub.state u report k h)
 
 pub told-held : (sub : Subchannel) (u : UnitState) (report : Report) (t : DownTurn) (k : Option ProgramTrace) → report_sub sub u report ≡ Ok t → KeptBy sub.state k →
     KeptBy t.sub.state (reported_at (Some u) report k)
@@ -356,7 +363,7 @@ module _ (laws : AreLaws) (accesses : AreAccesses) where
       IfOk (up_front returns storage sub path front) (λ t. KeptBy t.sub.state (met_with storage sub.state path front k))
   up_front-held returns storage sub path None k h = tt
   up_front-held returns storage sub path (Some signal) k h =
-      if-ok (λ t. KeptBy t.sub.state (met_with storage sub.state path (Some signal) k)) (finds_full sub.wires.down (takes_up returns storage sub.state path signal).step.came.sent) (Err fault.WireFull) _ tt
+      if-ok (λ t. KeptBy t.sub.state (met_with storage sub.state path (Some signal) k)) (finds_full sub.wires.down (carried_by sub (takes_up returns storage sub.state path signal).step.came.sent)) (Err fault.WireFull) _ tt
       (any-met returns storage sub.state path signal k h)
 
   pub met-held : (returns : Bool) → (storage : Contents) (sub : Subchannel) (path : ℕ) (t : UpTurn) (k : Option ProgramTrace) → up_sub returns storage sub path ≡ Ok t → KeptBy sub.state k →
@@ -401,6 +408,17 @@ module _ (laws : AreLaws) (accesses : AreAccesses) where
   cancelled-held s None h = record { phase = h.phase; begun = h.begun; suspended = refl }
   cancelled-held s (Some k) h = (record { number = h.0.number; phase = h.0.phase; drawn = h.0.drawn; work = h.0.work; standing = tt }, h.1)
 
+  -- a path is lost, or all is reset
+  reset-kept : (s : SubchannelState) (k : Option ProgramTrace) → KeptBy s k → KeptBy (reset_for s) k
+  reset-kept s None h = reset-untold s (is_offered_or_held s.hold.phase && has_any s.waiting s.begun s.suspended) h
+  reset-kept s (Some k) h = (reset-held laws accesses s k (is_offered_or_held s.hold.phase && has_any s.waiting s.begun s.suspended) refl h.0, h.1)
+
+  swept-held : (what : Sweep) (x : Subchannel) (k : Option ProgramTrace) → KeptBy x.state k → KeptBy (swept what x).state k
+  swept-held what x k h =
+      swept-kept x (λ y. KeptBy y.state k) (λ y path up g. same-kept y.state _ k refl refl refl refl refl g) (λ path g. g)
+      (λ wires g. reset-kept x.state k g)
+      (λ g. same-kept (cleared x.state) (state_reset x.state) k refl refl refl refl refl (cleared-kept x.state k g)) what h
+
   told : (new : Subchannel) (s : SubchannelState) (f : Option ProgramTrace → Option ProgramTrace) (k next : Option ProgramTrace) → new.state ≡ s → f k ≡ next → KeptBy s next → KeptBy new.state (f k)
   told new s f k next e g h = subst (λ (x : Option ProgramTrace). KeptBy new.state x) (sym g) (subst (λ (x : SubchannelState). KeptBy x next) (sym e) h)
 
@@ -420,15 +438,19 @@ module _ (laws : AreLaws) (accesses : AreAccesses) where
   happens-held storage old new u v f (Is_modified pmcw e w g) k h = told new (record old.state { pmcw = pmcw }) f k k (ap state-of e) (g k)
       (same-kept old.state (record old.state { pmcw = pmcw }) k refl refl refl refl refl h)
   happens-held storage old new u v f (Is_chosen choice t x c e w g) k h =
-      told new t.sub.state f k (chosen_at (Some old) t.reply k) (ap state-of e) (g k) (chosen-held old k choice t x c h)
+      let m : Subchannel = marked_sub old choice in
+      told new t.sub.state f k (chosen_at (Some m) t.reply k) (ap state-of e) (g k)
+      (chosen-held m k (chosen old choice) t x c (same-kept old.state m.state k refl refl refl refl refl h))
   happens-held storage old new u v f (Meets path returns t c e w g) k h =
       told new t.sub.state f k (met_at storage (Some old) path k) (ap state-of e) (g k) (met-held returns storage old path t k c h)
-  happens-held storage old new u v f (Sinks path may x t a c e w g) k h =
+  happens-held storage old new u v f (Sinks path may owed x t a c e w g) k h =
       told new t.sub.state f k (taken_at t.reply k) (ap state-of e) (g k) (sunk-held may old path x t k c h)
   happens-held storage old new u v f (Is_reported report x t a b c e w g) k h =
       told new t.sub.state f k (reported_at (Some x) report k) (ap state-of e) (g k) (told-held old x report t k c h)
-  happens-held storage old new u v f (Other_sinks other path may x t a b c e w g) k h = same-held old new f k e (g k) h
+  happens-held storage old new u v f (Other_sinks other path may owed x t a b c e w g) k h = same-held old new f k e (g k) h
   happens-held storage old new u v f (Other_reported other report x t a b c d e w g) k h = same-held old new f k e (g k) h
+  happens-held storage old new u v f (Unit_acts x y sends is gentle quiet e w g) k h = told new old.state f k k (ap state-of e) (g k) h
+  happens-held storage old new u v f (Is_swept what e w g) k h = told new (swept what old).state f k k (ap state-of e) (g k) (swept-held what old k h)
 
   -- after a run
   free-untold : (sub : Subchannel) (setup : SubchannelSetup) → opened setup ≡ sub → IsUntold sub.state

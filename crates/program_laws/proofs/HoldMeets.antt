@@ -426,7 +426,7 @@ module _ (laws : AreLaws) (accesses : AreAccesses) where
   unshown-begun (hold.Letting t p) n sent w (Some b) d f k = k.1
   unshown-begun (hold.Reset r) n sent w (Some b) d f k = k.0
 
-  reset-held : (s : SubchannelState) (k : ProgramTrace) (shows : Bool) → (is_offered_or_held s.hold.phase && has_any s.waiting s.begun s.suspended) ≡ shows → IsHeld s k → IsHeld (reset_with s shows) k
+  pub reset-held : (s : SubchannelState) (k : ProgramTrace) (shows : Bool) → (is_offered_or_held s.hold.phase && has_any s.waiting s.begun s.suspended) ≡ shows → IsHeld s k → IsHeld (reset_with s shows) k
   reset-held s k true e h =
       let n : k.number ≤ s.drawn = h.number in
       record { number = omega (arith, n); phase = (refl, omega (arith, n)); drawn = omega arith; work = done-held s k h; standing = tt }

@@ -11,7 +11,9 @@ use Rattle.chan_model.specs.HoldTable.{HoldStep, hold_after, letting_go}
 use Rattle.chan_model.specs.UnitReports.{is_outward}
 use Rattle.channel_program.specs.Programs.{role_of}
 use Rattle.channel_program.specs.Walks.{walk_place}
+use Rattle.scsw_irb.specs.declared.scsw.Scsw.{Scsw}
 use Rattle.subchannel_model.specs.declared.state.ActiveProgram.{ActiveProgram}
+use Rattle.subchannel_model.specs.declared.state.PmcwState.{PmcwState}
 use Rattle.subchannel_model.specs.declared.state.Program.{Program}
 use Rattle.subchannel_model.specs.declared.state.SubchannelState.{SubchannelState}
 use Rattle.subchannel_model.specs.declared.state.ProgramPosition.{ProgramPosition}
@@ -79,6 +81,12 @@ pub record IsUntold (s : SubchannelState) : Type 0 where
 abbrev pub HeldBy : SubchannelState → Option ProgramTrace → Type 0
 HeldBy s None = IsUntold s
 HeldBy s (Some k) = IsHeld s k
+
+-- the path management and the status word do not matter
+pub marked-held : (s : SubchannelState) (pmcw : PmcwState) (scsw : Scsw) (k : Option ProgramTrace) → HeldBy s k →
+    HeldBy (record s { pmcw = pmcw; scsw = scsw }) k
+marked-held s pmcw scsw None h = record { phase = h.phase; begun = h.begun; suspended = h.suspended }
+marked-held s pmcw scsw (Some k) h = record { number = h.number; phase = h.phase; drawn = h.drawn; work = h.work; standing = h.standing }
 
 pub done-held : (s : SubchannelState) (k : ProgramTrace) → IsHeld s k → IsDone k.orb k.now
 done-held s k h = by s.begun h.work

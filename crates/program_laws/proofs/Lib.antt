@@ -1,3 +1,6 @@
+mod Vanishing
+mod Marks
+mod Sweeps
 mod Turns
 mod Lists
 mod Advances
@@ -16,6 +19,7 @@ mod LinkSent
 mod LinkNeeds
 mod LinkDrawn
 mod LinkOrders
+mod PlaceOrders
 mod RunSides
 mod RunOrders
 mod Copies
@@ -23,6 +27,7 @@ mod Choices
 mod UnitFlows
 mod LinkViews
 mod UnitHands
+mod UnitActs
 mod UnitTold
 mod LinkWires
 mod LinkModes

@@ -27,7 +27,7 @@ use Rattle.transfer.specs.Chunks.{with_moved}
 use Rattle.wires.specs.Queues.{queue, taken}
 use Rattle.subchannel_model.specs.declared.state.ActiveProgram.{ActiveProgram}
 use Rattle.subchannel_model.specs.declared.state.SubchannelState.{SubchannelState}
-use Rattle.subchannel_model.specs.Sending.{with_any_sent}
+use Rattle.subchannel_model.specs.Sending.{carried, with_any_sent}
 use Rattle.program_laws.specs.CommandActs.{CommandTrace}
 use Rattle.program_laws.specs.DataAreas.{data_areas}
 use Rattle.program_laws.specs.Traces.{ProgramTrace, takes, taken_at, absorbs, reported}
@@ -40,11 +40,12 @@ use Rattle.program_laws.proofs.UnitOrders.{IsDown, IsNumbered, IsOrdered}
 use Rattle.program_laws.proofs.UnitFlows.{View, Flow, IsGive, IsData, IsLead, lead_places}
 use Rattle.program_laws.proofs.UnitGrowth.{codes_of}
 use Rattle.program_laws.proofs.UnitTold.{IsReportTaken}
+use Rattle.program_laws.proofs.Vanishing.{Fewer, carried-fewer}
 use Rattle.program_laws.proofs.LinkNeeds.{IsLast, work-last}
 use Rattle.program_laws.proofs.LinkOrders.{number_of, took_of}
 use Rattle.program_laws.proofs.LinkReports.{mode-reports}
 use Rattle.program_laws.proofs.LinkViews.{view_of}
-use Rattle.program_laws.proofs.LinkWires.{HandClosed, IsWired}
+use Rattle.program_laws.proofs.LinkWires.{HandClosed, IsGiving, IsTelling, IsClosed, IsWired}
 use Rattle.program_laws.proofs.LinkModes.{AnyGive, AnyData, HandFlow, Mode, Waits, Over, Reads, Writes, ModeOf, IsFit, fit-closed, mode-carried, mode-down}
 
 -- the command of the program that is at work or over; or one of a program that was over before the device was done with it
@@ -76,6 +77,29 @@ pub course-carried : (side : Side) (begun : Option ActiveProgram) (k : Option Pr
 course-carried side begun None downs downs' ups ups' u v f c = f HandClosed AnyGive AnyData fit-closed c
 course-carried side begun (Some k) downs downs' ups ups' u v f (Follows m) = Follows (mode-carried side begun k downs downs' ups ups' u v f m)
 course-carried side begun (Some k) downs downs' ups ups' u v f (Cut e b w m) = Cut e b w (mode-carried side (Some b) k downs downs' ups ups' u v f m)
+
+-- signals that vanish
+pub fewer-course : (side : Side) (begun : Option ActiveProgram) (k : Option ProgramTrace) (downs downs' : List (List Down)) (ups ups' : List (List Up))
+    (u : UnitState) → Fewer downs downs' → Fewer ups ups' → CourseOf side begun k downs ups u → CourseOf side begun k downs' ups' u
+fewer-course side begun k downs downs' ups ups' u f g c =
+    course-carried side begun k downs downs' ups ups' u u
+    (λ P Q R fit w. record {
+      hand = w.hand;
+      gives = f (IsGiving (number_of k) (length (took_of k)) Q) w.gives;
+      tells = g (IsTelling (number_of k) (length (took_of k)) R (IsClosed side (number_of k) u)) w.tells;
+    }) c
+
+pub carried-course : (side : Side) (begun : Option ActiveProgram) (k : Option ProgramTrace) (downs : List (List Down)) (ups : List (List Up)) (u : UnitState)
+    (available : List Bool) (one : Option (OnPath Down)) →
+    CourseOf side begun k (with_any_sent downs one) ups u → CourseOf side begun k (with_any_sent downs (carried available one)) ups u
+carried-course side begun k downs ups u available one c =
+    fewer-course side begun k (with_any_sent downs one) (with_any_sent downs (carried available one)) ups ups u (carried-fewer downs available one) (λ P a. a) c
+
+pub answered-course : (side : Side) (begun : Option ActiveProgram) (k : Option ProgramTrace) (downs : List (List Down)) (ups : List (List Up)) (u : UnitState)
+    (available : List Bool) (one : Option (OnPath Up)) →
+    CourseOf side begun k downs (with_any_sent ups one) u → CourseOf side begun k downs (with_any_sent ups (carried available one)) u
+answered-course side begun k downs ups u available one c =
+    fewer-course side begun k downs downs (with_any_sent ups one) (with_any_sent ups (carried available one)) u (λ P a. a) (carried-fewer ups available one) c
 
 -- what the unit does leaves the command that is at work for the story
 abbrev pub WorkOf : ActiveProgram → Option ProgramTrace → Type 0

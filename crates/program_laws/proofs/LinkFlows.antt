@@ -28,35 +28,37 @@ use Rattle.subchannel_model.specs.declared.state.Chosen.TheVariants.{Idle, Reset
 use Rattle.subchannel_model.specs.declared.state.Program.{Program}
 use Rattle.subchannel_model.specs.declared.state.Subchannel.{Subchannel}
 use Rattle.subchannel_model.specs.declared.state.SubchannelState.{SubchannelState}
+use Rattle.subchannel_model.specs.declared.state.UpStep.{UpStep}
 use Rattle.subchannel_model.specs.Choosing as choosing
 use Rattle.subchannel_model.specs.Taking.{takes_up}
-use Rattle.subchannel_model.specs.Sending.{with_any_sent, is_full, finds_full}
+use Rattle.subchannel_model.specs.Sending.{carried, carried_by, with_any_sent, finds_full}
 use Rattle.machine_model.specs.ChooseSteps.{choose_sub}
 use Rattle.machine_model.specs.UpSteps.{up_front, up_sub}
 use Rattle.machine_model.specs.DownSteps.{down_front, down_sub}
-use Rattle.machine_model.specs.ReportSteps.{report_taken}
+use Rattle.machine_model.specs.ReportSteps.{with_any_up, report_taken}
 use Rattle.subchannel_model.specs.Losing.{has_any, is_offered_or_held, reset_with, reset_for}
 use Rattle.subchannel_model.specs.Taking as taking
 use Rattle.step_laws.specs.Walks.{IsFound, Suits}
 use Rattle.program_laws.specs.Traces.{ProgramTrace, trace_offered, offered_for, trace_resumed, chosen_at, trace_meets, met_with, met_at, taken_at, reported_at}
-use Rattle.program_laws.proofs.Turns.{if-ok}
 use Rattle.program_laws.proofs.Ties.{AreLaws}
 use Rattle.program_laws.proofs.Accesses.{AreAccesses}
 use Rattle.program_laws.proofs.Caused.{path-begun}
 use Rattle.program_laws.proofs.Holds.{IsPhase, IsHeld, IsUnheld, HasWork, HeldBy}
 use Rattle.program_laws.proofs.UnitSides.{other-owner}
 use Rattle.program_laws.proofs.UnitOrders.{IsDown, IsNumbered, on-first}
-use Rattle.program_laws.proofs.UnitHands.{IsCalm, other-calm}
+use Rattle.program_laws.proofs.UnitHands.{IsCalm, IsQuiet, other-calm}
 use Rattle.program_laws.proofs.UnitTold.{IsTold, Begins_out, Begins_in, Absorbs, Supplies, Tells_again, Ends, IsReportTaken, report-taken}
 use Rattle.program_laws.proofs.LinkNeeds.{held-needs}
 use Rattle.program_laws.proofs.LinkOrders.{IsLinked, number_of, took_of, number-drawn}
 use Rattle.program_laws.proofs.LinkIdle.{IsIdle, IsNoOffer, idle-meets}
-use Rattle.program_laws.proofs.LinkCourses.{Course, Follows, Cut, CourseOf, over-course, course-carried, course-down, course-reports}
-use Rattle.program_laws.proofs.LinkWires.{HandClosed, IsClosed, IsOfCommand, IsGiving, IsTelling, IsWired, IsAnswered, wired-holds, wired-sends, sent-hold, wired-offers, wired-calm, wired-takes, wired-tells, first-tells}
+use Rattle.program_laws.proofs.LinkCourses.{Course, Follows, Cut, CourseOf, over-course, course-carried, carried-course, answered-course, course-down, course-reports}
+use Rattle.program_laws.proofs.LinkWires.{HandClosed, IsClosed, IsOfCommand, IsGiving, IsTelling, IsWired, IsAnswered, wired-holds, wired-sends, sent-hold, wired-offers, wired-calm, wired-gentle, wired-takes, wired-tells, first-tells}
 use Rattle.program_laws.proofs.LinkViews.{view_of}
 use Rattle.program_laws.proofs.LinkModes as modes
 use Rattle.program_laws.proofs.LinkModes.{AnyGive, NoGive, AnyData, HandPlain, HandFlow, Mode, Waits, Reads, Writes, fit-closed, mode-carried, absorbs-none}
 use Rattle.program_laws.proofs.UnitFlows.{IsGive, IsData}
+use Rattle.program_laws.proofs.UnitActs.{IsGentle, if-ok}
+use Rattle.program_laws.proofs.Vanishing.{send-ok}
 use Rattle.program_laws.proofs.LinkReports.{one-side, report-owner, told-closed, told-own}
 use Rattle.program_laws.proofs.LinkMeets.{quiet, mode-meets}
 
@@ -119,33 +121,40 @@ offers-flows sub program path true t (Some k) u w h l a d x f =
     λ y. offers-over sub path t (Some k) (trace_resumed n k) u h l a d x (offered-begun t.state n path (trace_resumed n k) f y) refl refl refl refl
 
 -- a signal that gives nothing
-sends-flows : (side : Side) (begun : Option ActiveProgram) (k : Option ProgramTrace) (downs : List (List Down)) (ups : List (List Up)) (u : UnitState) (path : ℕ) (d : Down) →
-    ((number m : ℕ) (Q : ℕ → List ℕ → Type 0) → IsGiving number m Q d) → CourseOf side begun k downs ups u → CourseOf side begun k (with_any_sent downs (Some (record { path = path; signal = d }))) ups u
-sends-flows side begun k downs ups u path d g a =
+sends-flows : (side : Side) (begun : Option ActiveProgram) (k : Option ProgramTrace) (downs : List (List Down)) (ups : List (List Up)) (u : UnitState)
+    (available : List Bool) (path : ℕ) (d : Down) →
+    ((number m : ℕ) (Q : ℕ → List ℕ → Type 0) → IsGiving number m Q d) → CourseOf side begun k downs ups u →
+    CourseOf side begun k (with_any_sent downs (carried available (Some (record { path = path; signal = d })))) ups u
+sends-flows side begun k downs ups u available path d g a =
     let one : Option (OnPath Down) = Some (record { path = path; signal = d }) in
-    course-carried side begun k downs (with_any_sent downs one) ups ups u u
-    (λ P Q R f w. wired-sends side (number_of k) (length (took_of k)) P Q R downs ups u one (g (number_of k) (length (took_of k)) Q) w) a
+    carried-course side begun k downs ups u available one
+    (course-carried side begun k downs (with_any_sent downs one) ups ups u u
+    (λ P Q R f w. wired-sends side (number_of k) (length (took_of k)) P Q R downs ups u one (g (number_of k) (length (took_of k)) Q) w) a)
 
 pub choose-flows : (sub : Subchannel) (c : Chosen) (k : Option ProgramTrace) (u : UnitState) → Suits c sub.state → HeldBy sub.state k → IsLinked sub.setup.side sub.state.drawn sub.wires.down k u →
     AtSub sub.setup.side sub k u → IfOk (choose_sub sub c) (λ t. HeldBy t.sub.state (chosen_at (Some sub) t.reply k) → AtSub sub.setup.side t.sub (chosen_at (Some sub) t.reply k) u)
 choose-flows sub Idle k u w h l a = λ x. a
 choose-flows sub (Resets r path) k u w h l a =
-    if-ok (λ t. HeldBy t.sub.state (chosen_at (Some sub) t.reply k) → AtSub sub.setup.side t.sub (chosen_at (Some sub) t.reply k) u) (is_full sub.wires.down path) (Err fault.WireFull) _ tt
-    (λ x. sends-flows sub.setup.side sub.state.begun k sub.wires.down sub.wires.up u path (down.Reset r sub.state.hold.known) (λ n m Q. tt) a)
+    send-ok (λ t. HeldBy t.sub.state (chosen_at (Some sub) t.reply k) → AtSub sub.setup.side t.sub (chosen_at (Some sub) t.reply k) u) sub
+    (choosing.reset_sent sub.state path) path (down.Reset r sub.state.hold.known) (reply.ResetSent r path)
+    (λ x. sends-flows sub.setup.side sub.state.begun k sub.wires.down sub.wires.up u sub.state.pmcw.available path (down.Reset r sub.state.hold.known) (λ n m Q. tt) a)
 choose-flows sub PerformsClear k u w h l a = λ x. a
 choose-flows sub (Halts t path) k u w h l a =
-    if-ok (λ t. HeldBy t.sub.state (chosen_at (Some sub) t.reply k) → AtSub sub.setup.side t.sub (chosen_at (Some sub) t.reply k) u) (is_full sub.wires.down path) (Err fault.WireFull) _ tt
-    (λ x. sends-flows sub.setup.side sub.state.begun k sub.wires.down sub.wires.up u path (down.Halt t) (λ n m Q. tt) a)
+    send-ok (λ t. HeldBy t.sub.state (chosen_at (Some sub) t.reply k) → AtSub sub.setup.side t.sub (chosen_at (Some sub) t.reply k) u) sub
+    (choosing.halt_sent sub.state) path (down.Halt t) (reply.HaltSent t path)
+    (λ x. sends-flows sub.setup.side sub.state.begun k sub.wires.down sub.wires.up u sub.state.pmcw.available path (down.Halt t) (λ n m Q. tt) a)
 choose-flows sub PerformsHalt k u w h l a = λ x. over-course sub.setup.side sub.state k sub.wires.down sub.wires.up u h a
 choose-flows sub FindsNoPath k u w h l a =
     λ x. subst (λ (b : Option ActiveProgram). CourseOf sub.setup.side b k sub.wires.down sub.wires.up u) (sym (path-begun sub.state sub.state.waiting)) a
 choose-flows sub (Offers c path) k u w h l a =
-    let t : Subchannel = record sub {
-      state = choosing.offered sub.state c.program path;
-      wires = record sub.wires { down = with_any_sent sub.wires.down (Some (record { path = path; signal = down.Select (sub.state.drawn + 1) })) };
-    } in
-    if-ok (λ t. HeldBy t.sub.state (chosen_at (Some sub) t.reply k) → AtSub sub.setup.side t.sub (chosen_at (Some sub) t.reply k) u) (is_full sub.wires.down path) (Err fault.WireFull) _ tt
-    (offers-flows sub c.program path c.resumes t k u w.found h l a refl refl refl)
+    let n : ℕ = sub.state.drawn + 1 in
+    let one : Option (OnPath Down) = Some (record { path = path; signal = down.Select n }) in
+    let t : Subchannel = record sub { state = choosing.offered sub.state c.program path; wires = record sub.wires { down = with_any_sent sub.wires.down one } } in
+    send-ok (λ t. HeldBy t.sub.state (chosen_at (Some sub) t.reply k) → AtSub sub.setup.side t.sub (chosen_at (Some sub) t.reply k) u) sub
+    (choosing.offered sub.state c.program path) path (down.Select n) (reply.Offered n path c.resumes)
+    (λ x. carried-course sub.setup.side t.state.begun (chosen_at (Some sub) (reply.Offered n path c.resumes) k) sub.wires.down sub.wires.up u
+    sub.state.pmcw.available one
+    (offers-flows sub c.program path c.resumes t k u w.found h l a refl refl refl x))
 
 -- Up: where nothing was offered, and where the program was over before the device was done
 untold-no-offer : (phase : HoldPhase) (drawn : ℕ) → IsUnheld phase drawn → IsNoOffer phase
@@ -221,8 +230,10 @@ module _ (laws : AreLaws) (accesses : AreAccesses) where
       AtSub sub.setup.side sub k u → IfOk (up_front returns storage sub path front) (λ t. AtSub sub.setup.side t.sub (met_with storage sub.state path front k) u)
   up_front-flows returns storage sub path None k u e h a = tt
   up_front-flows returns storage sub path (Some x) k u e h a =
-      if-ok (λ t. AtSub sub.setup.side t.sub (met_with storage sub.state path (Some x) k) u) (finds_full sub.wires.down (takes_up returns storage sub.state path x).step.came.sent) (Err fault.WireFull) _ tt
-      (met-flows returns storage sub path x k u e h a)
+      let step : UpStep = (takes_up returns storage sub.state path x).step in
+      if-ok (λ t. AtSub sub.setup.side t.sub (met_with storage sub.state path (Some x) k) u) (finds_full sub.wires.down (carried_by sub step.came.sent)) (Err fault.WireFull) _ tt
+      (carried-course sub.setup.side step.state.begun (met_with storage sub.state path (Some x) k) sub.wires.down (taken sub.wires.up path) u
+      sub.state.pmcw.available step.came.sent (met-flows returns storage sub path x k u e h a))
 
   pub up-flows : (returns : Bool) → (storage : Contents) (sub : Subchannel) (path : ℕ) (k : Option ProgramTrace) (u : UnitState) → HeldBy sub.state k → AtSub sub.setup.side sub k u →
       IfOk (up_sub returns storage sub path) (λ t. AtSub sub.setup.side t.sub (met_at storage (Some sub) path k) u)
@@ -269,8 +280,10 @@ down_front-flows : (may : Bool) → (sub : Subchannel) (path : ℕ) (u : UnitSta
     IfOk (down_front may sub path u front) (λ t. AtSub sub.setup.side t.sub (taken_at t.reply k) t.«unit»)
 down_front-flows may sub path u None k e h l a = tt
 down_front-flows may sub path u (Some d) k e h l a =
-    if-ok (λ t. AtSub sub.setup.side t.sub (taken_at t.reply k) t.«unit») (finds_full sub.wires.up (came_of (unit_takes u sub.setup.side path d may)).sent) (Err fault.WireFull) _ tt
-    (sunk-flows may sub path d k u e h l a)
+    let step : Option UnitStep = unit_takes u sub.setup.side path d may in
+    if-ok (λ t. AtSub sub.setup.side t.sub (taken_at t.reply k) t.«unit») (finds_full sub.wires.up (carried_by sub (came_of step).sent)) (Err fault.WireFull) _ tt
+    (answered-course sub.setup.side sub.state.begun (taken_at (reply.Down d (came_of step).taken (came_of step).sent) k) (taken sub.wires.down path)
+    sub.wires.up (unit_after u step) sub.state.pmcw.available (came_of step).sent (sunk-flows may sub path d k u e h l a))
 
 pub down-flows : (may : Bool) → (sub : Subchannel) (path : ℕ) (u : UnitState) (k : Option ProgramTrace) → HeldBy sub.state k → IsLinked sub.setup.side sub.state.drawn sub.wires.down k u → AtSub sub.setup.side sub k u →
     IfOk (down_sub may sub path u) (λ t. AtSub sub.setup.side t.sub (taken_at t.reply k) t.«unit»)
@@ -305,11 +318,13 @@ pub report-flows : (sub : Subchannel) (u : UnitState) (report : Report) (k : Opt
     IfOk (report_taken sub step) (λ t. AtSub sub.setup.side t.sub (reported_at (Some u) report k) t.«unit»)
 report-flows sub u report k None e s l a = tt
 report-flows sub u report None (Some y) e s l a =
-    if-ok (λ t. AtSub sub.setup.side t.sub (reported_at (Some u) report None) t.«unit») (finds_full sub.wires.up y.sent) (Err fault.WireFull) _ tt
-    (reported-none sub.setup.side sub.state.drawn sub.wires.down sub.wires.up u report y s l.kept (report-taken u report y e) a)
+    if-ok (λ t. AtSub sub.setup.side t.sub (reported_at (Some u) report None) t.«unit») (finds_full sub.wires.up (carried_by sub y.sent)) (Err fault.WireFull) _ tt
+    (answered-course sub.setup.side sub.state.begun None sub.wires.down sub.wires.up y.state sub.state.pmcw.available y.sent
+    (reported-none sub.setup.side sub.state.drawn sub.wires.down sub.wires.up u report y s l.kept (report-taken u report y e) a))
 report-flows sub u report (Some k) (Some y) e s l a =
-    if-ok (λ t. AtSub sub.setup.side t.sub (reported_at (Some u) report (Some k)) t.«unit») (finds_full sub.wires.up y.sent) (Err fault.WireFull) _ tt
-    (course-reports sub.setup.side sub.state.drawn sub.state.begun k sub.wires.down sub.wires.up u report y s l.kept (report-taken u report y e) a)
+    if-ok (λ t. AtSub sub.setup.side t.sub (reported_at (Some u) report (Some k)) t.«unit») (finds_full sub.wires.up (carried_by sub y.sent)) (Err fault.WireFull) _ tt
+    (answered-course sub.setup.side sub.state.begun (reported_at (Some u) report (Some k)) sub.wires.down sub.wires.up y.state
+    sub.state.pmcw.available y.sent (course-reports sub.setup.side sub.state.drawn sub.state.begun k sub.wires.down sub.wires.up u report y s l.kept (report-taken u report y e) a))
 
 -- the other side
 pub calm-flows : (side : Side) (sub : Subchannel) (k : Option ProgramTrace) (u v : UnitState) → IsCalm side u v → AtSub side sub k u → AtSub side sub k v
@@ -317,11 +332,19 @@ calm-flows side sub k u v c a =
     course-carried side sub.state.begun k sub.wires.down sub.wires.down sub.wires.up sub.wires.up u v
     (λ P Q R f w. wired-calm side (number_of k) (length (took_of k)) P Q R sub.wires.down sub.wires.up u v c w) a
 
+-- what the unit does of itself
+pub gentle-flows : (side : Side) (sub : Subchannel) (k : Option ProgramTrace) (u v : UnitState) (sends : Option (OnPath Up)) → IsGentle side u v → IfSome sends (λ x. IsQuiet x.signal) →
+    AtSub side sub k u → AtSub side (with_any_up sub sends) k v
+gentle-flows side sub k u v sends g q a =
+    answered-course side sub.state.begun k sub.wires.down sub.wires.up v sub.state.pmcw.available sends
+    (course-carried side sub.state.begun k sub.wires.down sub.wires.down sub.wires.up (with_any_sent sub.wires.up sends) u v
+    (λ P Q R f w. wired-gentle side (number_of k) (length (took_of k)) P Q R sub.wires.down sub.wires.up u v sends g f.again q w) a)
+
 other-down_front : (may : Bool) → (other : Subchannel) (side : Side) (path : ℕ) (u : UnitState) (front : Option Down) → same_side other.setup.side side ≡ false →
     IfOk (down_front may other path u front) (λ t. IsCalm side u t.«unit»)
 other-down_front may other side path u None e = tt
 other-down_front may other side path u (Some d) e =
-    if-ok (λ t. IsCalm side u t.«unit») (finds_full other.wires.up (came_of (unit_takes u other.setup.side path d may)).sent) (Err fault.WireFull) _ tt (other-calm may side u other.setup.side path d e)
+    if-ok (λ t. IsCalm side u t.«unit») (finds_full other.wires.up (carried_by other (came_of (unit_takes u other.setup.side path d may)).sent)) (Err fault.WireFull) _ tt (other-calm may side u other.setup.side path d e)
 
 pub other-down : (may : Bool) → (other : Subchannel) (side : Side) (path : ℕ) (u : UnitState) → same_side other.setup.side side ≡ false → IfOk (down_sub may other path u) (λ t. IsCalm side u t.«unit»)
 other-down may other side path u e =
@@ -335,6 +358,6 @@ other-told other side u report (Some y) e s z =
     let t : IsReportTaken u report y = report-taken u report y e in
     let at : t.side ≡ other.setup.side = one-side t.side report.side t.same ∙ sym (one-side other.setup.side report.side z) in
     let apart : same_side t.side side ≡ false = ap (λ (x : Side). same_side x side) at ∙ s in
-    if-ok (λ t. IsCalm side u t.«unit») (finds_full other.wires.up y.sent) (Err fault.WireFull) _ tt
+    if-ok (λ t. IsCalm side u t.«unit») (finds_full other.wires.up (carried_by other y.sent)) (Err fault.WireFull) _ tt
     (λ n o. absurd (other-owner side t.side report.number n (On t.path t.connection) apart
     (ap (λ (x : Own). is_owner x side n) (sym t.own ∙ sym (told-own u t.path report.number t.connection t.hand report.answer y t.told)) ∙ o)))

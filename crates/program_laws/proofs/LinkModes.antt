@@ -1,7 +1,7 @@
 -- The bytes that a device absorbs for its command: what holds of them between a subchannel, the story of its program and a
 -- unit, and what a unit keeps of it.
 use Rattle.std.proofs.Common.{◌≡◌, refl, sym, ◌∙◌, ap, subst, ℕ, ◌+◌, ◌≤◌, Bool, true, false, ◌==◌, ◌&&◌, length, Option, None, Some, List, [], ◌∷◌, ◌++◌, arith}
-use Rattle.std.specs.Prelude.{if◌then◌else◌, slice_get}
+use Rattle.std.specs.Prelude.{if◌then◌else◌, ◌||◌, is_some, slice_get}
 use Rattle.std.proofs.lemmas.Bool.{eqb-true, eq-eqb}
 use Rattle.std.proofs.lemmas.List.Elements.{All-nil}
 use Rattle.orb_block.specs.declared.Orb.{Orb}
@@ -26,10 +26,11 @@ use Rattle.program_laws.specs.Traces.{silent, silent_by, ProgramTrace, taken_at}
 use Rattle.program_laws.specs.Claims.{AbsorbsInOrder, IsFirstOf}
 use Rattle.program_laws.proofs.UnitOrders.{IsNth, IsDown, IsOrdered, ends-same}
 use Rattle.program_laws.proofs.UnitGrowth.{codes_of}
-use Rattle.program_laws.proofs.UnitFlows.{View, Hand, Flow, IsGive, IsData, begins-flow, begins-hand, give-hand, answer-hand}
+use Rattle.program_laws.proofs.UnitFlows.{View, Hand, Flow, IsGive, IsData, begins-flow, begins-hand, give-hand, answer-hand, again-hand}
 use Rattle.program_laws.proofs.LinkViews.{view_of}
 use Rattle.program_laws.proofs.UnitHands.{StaysAnswered, TakesGive}
-use Rattle.program_laws.proofs.LinkWires.{HandClosed, IsWired, IsNoNext, IsAnswered, wired-takes, wired-next}
+use Rattle.program_laws.proofs.UnitActs.{StaysMarked}
+use Rattle.program_laws.proofs.LinkWires.{HandClosed, IsWired, closed-marked, IsNoNext, IsAnswered, wired-takes, wired-next}
 use Rattle.program_laws.proofs.LinkNeeds.{IsLast}
 
 abbrev pub AnyGive : ℕ → List ℕ → Type 0
@@ -67,23 +68,33 @@ abbrev pub ModeOf : Side → Option ActiveProgram → Option ProgramTrace → Li
 ModeOf side begun None downs ups u = IsWired side 0 0 HandClosed AnyGive AnyData downs ups u
 ModeOf side begun (Some k) downs ups u = Mode side begun k downs ups u
 
--- what is claimed of the command at hand fits what a signal does to it
+-- what is claimed of the command at hand fits what a signal does to it, and what is done as its program leaves its path
 pub record IsFit (P : Option AtHand → Type 0) (Q : ℕ → List ℕ → Type 0) : Type 0 where
   pub none : P None
   pub answered : StaysAnswered P
   pub gives : (s : ℕ) (bytes : List ℕ) → Q s bytes → TakesGive P s bytes
+  pub again : StaysMarked P
 
 pub fit-closed : IsFit HandClosed AnyGive
-fit-closed = record { none = tt; answered = λ x l room h. h; gives = λ s bytes q x e h. h }
+fit-closed = record { none = tt; answered = λ x l room h. h; gives = λ s bytes q x e h. h; again = closed-marked }
+
+plain-marked : StaysMarked HandPlain
+plain-marked None h = h
+plain-marked (Some x) h = h
 
 fit-plain : IsFit HandPlain NoGive
-fit-plain = record { none = tt; answered = λ x l room h. h; gives = λ s bytes q x e h. absurd q }
+fit-plain = record { none = tt; answered = λ x l room h. h; gives = λ s bytes q x e h. absurd q; again = plain-marked }
+
+flow-marked : (code : ℕ) (v : View) (lead : Option ℕ) → StaysMarked (HandFlow code v lead)
+flow-marked code v lead None h = h
+flow-marked code v lead (Some x) h = (h.0, again-hand v lead x (x.again || is_some x.unanswered) h.1)
 
 fit-flow : (code : ℕ) (v : View) (lead : Option ℕ) → IsFit (HandFlow code v lead) (IsGive v)
 fit-flow code v lead = record {
   none = tt;
   answered = λ x l room h. (h.0, answer-hand v lead x l room h.1);
   gives = λ s bytes q x e h. (h.0, give-hand v lead x s bytes h.1 q e);
+  again = flow-marked code v lead;
 }
 
 pub mode-carried : (side : Side) (begun : Option ActiveProgram) (k : ProgramTrace) (downs downs' : List (List Down)) (ups ups' : List (List Up)) (u v : UnitState) →

@@ -7,11 +7,13 @@ use Rattle.chan_model.specs.declared.hold_state.HoldPhase.TheVariants as hold
 use Rattle.chan_model.specs.HoldTable.{is_connected, is_on}
 use Rattle.channel_program.specs.Programs.{Command, commands, code}
 use Rattle.transfer.specs.declared.Transfer.{Transfer}
+use Rattle.scsw_irb.specs.declared.scsw.Scsw.{Scsw}
 use Rattle.subchannel_model.specs.declared.state.ActiveProgram.{ActiveProgram}
+use Rattle.subchannel_model.specs.declared.state.PmcwState.{PmcwState}
 use Rattle.subchannel_model.specs.declared.state.SubchannelState.{SubchannelState}
 use Rattle.program_laws.specs.Traces.{ProgramTrace}
 use Rattle.program_laws.proofs.Ties.{HasCode}
-use Rattle.program_laws.proofs.Holds.{IsPhase, IsDrawn, IsUnheld, IsUntold, HasWork, HeldBy}
+use Rattle.program_laws.proofs.Holds.{IsPhase, IsDrawn, IsUnheld, IsUntold, HasWork, HeldBy, marked-held}
 use Rattle.program_laws.proofs.UnitGrowth.{later_codes, later-length, later-first, codes_of, IsUnbegun}
 
 -- the command at work is the last of the codes, and the last that was sent
@@ -82,6 +84,12 @@ held-needs (Some k) s h = record {
   begun = λ b e. begun-last s.begun b k h.work e;
   drawn = h.drawn;
 }
+
+-- the path management and the status word do not matter
+pub marked-needs : (k : Option ProgramTrace) (s : SubchannelState) (pmcw : PmcwState) (scsw : Scsw) → Needs k s →
+    Needs k (record s { pmcw = pmcw; scsw = scsw })
+marked-needs None s pmcw scsw n = marked-held s pmcw scsw None n
+marked-needs (Some k) s pmcw scsw n = record { number = n.number; on = n.on; unbegun = n.unbegun; begun = n.begun; drawn = n.drawn }
 
 -- a Reset's number was drawn
 reset-drawn : (phase : HoldPhase) (drawn r : ℕ) → phase ≡ hold.Reset r → IsDrawn phase drawn → r ≤ drawn

@@ -1,8 +1,7 @@
--- The commands that a device takes are those of the program, in order: what a step at one place keeps of this.
-use Rattle.std.proofs.Common.{◌<◌, ◌≡◌, refl, sym, ◌∙◌, ap, subst, ℕ, ◌+◌, ◌≤◌, Bool, true, false, ◌==◌, nat_lt, Option, None, Some, Result, Ok, Err, List, [], ◌∷◌, length, map, inl, inr, arith}
+-- The commands that a device takes are those of the program, in order: what each kind of step keeps of this.
+use Rattle.std.proofs.Common.{◌<◌, ◌≡◌, refl, sym, ◌∙◌, ap, subst, ℕ, ◌+◌, ◌≤◌, Bool, true, false, ◌==◌, nat_lt, Option, None, Some, Err, List, [], ◌∷◌, length, map, inl, inr, arith}
 use Rattle.std.specs.Prelude.{if◌then◌else◌, slice_get, IfOk, IfSome}
 use Rattle.storage_keys.specs.Storage.{Contents}
-use Rattle.chan_model.specs.declared.fault.Fault.{Fault}
 use Rattle.chan_model.specs.declared.fault.Fault.TheVariants as fault
 use Rattle.chan_model.specs.declared.hold_state.HoldPhase.{HoldPhase}
 use Rattle.chan_model.specs.declared.hold_state.HoldPhase.TheVariants as hold
@@ -29,26 +28,18 @@ use Rattle.subchannel_model.specs.declared.cause.StatusCause.TheVariants as caus
 use Rattle.subchannel_model.specs.declared.state.Program.{Program}
 use Rattle.subchannel_model.specs.declared.state.Subchannel.{Subchannel}
 use Rattle.subchannel_model.specs.declared.state.SubchannelState.{SubchannelState}
-use Rattle.channel_config.specs.declared.parts.SubchannelSetup.{SubchannelSetup}
-use Rattle.subchannel_model.specs.Start.{started}
-use Rattle.subchannel_model.specs.Resume.{resumed}
-use Rattle.subchannel_model.specs.Halt.{halted}
-use Rattle.subchannel_model.specs.Clear.{cleared}
-use Rattle.subchannel_model.specs.Cancel.{cancelled}
-use Rattle.subchannel_model.specs.Test.{tested_wholly}
-use Rattle.subchannel_model.specs.Choosing.{chosen}
+use Rattle.subchannel_model.specs.Choosing.{reset_sent, halt_sent, offered}
 use Rattle.subchannel_model.specs.Taking.{takes_up}
-use Rattle.machine_model.specs.Turns.{with_state, SubTurn, UpTurn, DownTurn}
-use Rattle.subchannel_model.specs.Sending.{with_any_sent, is_full, finds_full}
+use Rattle.machine_model.specs.Turns.{UpTurn}
+use Rattle.subchannel_model.specs.Sending.{carried, carried_by, with_any_sent, finds_full}
 use Rattle.machine_model.specs.ChooseSteps.{choose_sub}
 use Rattle.machine_model.specs.UpSteps.{up_front, up_sub}
 use Rattle.machine_model.specs.DownSteps.{down_front, down_sub}
 use Rattle.machine_model.specs.ReportSteps.{report_taken}
 use Rattle.step_laws.specs.Walks.{IsFound, Suits}
 use Rattle.program_laws.specs.Traces.{silent_by, ProgramTrace, trace_offered, offered_for, chosen_at, trace_meets, met_with, met_at, taken_at, absorbs, reported, reported_at}
-use Rattle.program_laws.proofs.Turns.{PlaceStep, Stays, Starts_with_orb, Is_tested, Is_resumed, Is_halted, Is_cleared, Is_cancelled, Is_modified, Is_chosen, Meets, Sinks, Is_reported, Other_sinks, Other_reported, if-ok}
 use Rattle.channel_program.specs.Programs.{Command, commands, code}
-use Rattle.program_laws.proofs.Caused.{cause-kept, tested-kept, halted-kept}
+use Rattle.program_laws.proofs.Caused.{cause-kept}
 use Rattle.program_laws.proofs.Holds.{IsUnheld, IsUntold}
 use Rattle.std.proofs.lemmas.List.{length-map}
 use Rattle.program_laws.proofs.UnitSides.{IsStillStep, other-still, report-still}
@@ -56,7 +47,10 @@ use Rattle.program_laws.proofs.UnitOrders.{IsAbove, IsDown, AreOn, IsOrdered, on
 use Rattle.program_laws.proofs.LinkNeeds.{IsLast, IsNeeded, Needs, reset-needs}
 use Rattle.program_laws.proofs.LinkDrawn.{up-drawn}
 use Rattle.program_laws.proofs.UnitGrowth.{later_codes, later-none, codes_of, IsGrown, meets-grown}
+use Rattle.program_laws.proofs.UnitActs.{IsGentle, if-ok, ordered-gentle}
 use Rattle.program_laws.proofs.LinkSent.{IsOf, IsAtWork, up-sends}
+use Rattle.program_laws.proofs.Vanishing.{Fewer, carried-fewer, send-ok}
+use Rattle.subchannel_model.specs.declared.state.UpStep.{UpStep}
 
 -- the orders between the story and a unit
 abbrev pub number_of : Option ProgramTrace → ℕ
@@ -81,6 +75,22 @@ IsLinked side drawn wires k u = IsOrdered side drawn (number_of k) (sent_of k) (
 abbrev pub AtUnit : (UnitState → Type 0) → Option UnitState → Type 0
 AtUnit P None = ⊥
 AtUnit P (Some u) = P u
+
+with-wires : (side : Side) (drawn number sent : ℕ) (codes took : List ℕ) (wires after : List (List Down)) (u : UnitState) → AreOn (IsDown drawn number sent codes) after →
+    IsOrdered side drawn number sent codes took wires u → IsOrdered side drawn number sent codes took after u
+with-wires side drawn number sent codes took wires after u a k = record { later = k.later; order = k.order; most = k.most; downs = a; kept = k.kept }
+
+-- signals that vanish
+pub fewer-linked : (side : Side) (drawn : ℕ) (wires after : List (List Down)) (k : Option ProgramTrace) (u : UnitState) → Fewer wires after →
+    IsLinked side drawn wires k u → IsLinked side drawn after k u
+fewer-linked side drawn wires after k u f l =
+    with-wires side drawn (number_of k) (sent_of k) (all_codes k) (took_of k) wires after u
+    (f (IsDown drawn (number_of k) (sent_of k) (all_codes k)) l.downs) l
+
+carried-linked : (side : Side) (drawn : ℕ) (wires : List (List Down)) (available : List Bool) (one : Option (OnPath Down)) (k : Option ProgramTrace)
+    (u : UnitState) → IsLinked side drawn (with_any_sent wires one) k u → IsLinked side drawn (with_any_sent wires (carried available one)) k u
+carried-linked side drawn wires available one k u l =
+    fewer-linked side drawn (with_any_sent wires one) (with_any_sent wires (carried available one)) k u (carried-fewer wires available one) l
 
 -- what is sent as a signal is met is of the codes then
 down-of : (k : ProgramTrace) (s : SubchannelState) (d : Down) → IsNeeded k s → IsOf s d → IsDown s.drawn k.number k.sent (codes_of k) d
@@ -165,23 +175,33 @@ offered-linked sub path program true (Some k) u w n l =
     subst (λ (xs : List ℕ). IsOrdered sub.setup.side t t 0 xs [] wires u) (sym none) (offer-linked sub.setup.side sub.state.drawn path sub.wires.down (Some k) u n.number l)
 
 -- whatever is chosen
-choose-linked : (sub : Subchannel) (c : Chosen) (k : Option ProgramTrace) (u : UnitState) → Suits c sub.state → Needs k sub.state →
+pub choose-linked : (sub : Subchannel) (c : Chosen) (k : Option ProgramTrace) (u : UnitState) → Suits c sub.state → Needs k sub.state →
     IsLinked sub.setup.side sub.state.drawn sub.wires.down k u →
     IfOk (choose_sub sub c) (λ t. IsLinked sub.setup.side t.sub.state.drawn t.sub.wires.down (chosen_at (Some sub) t.reply k) u)
 choose-linked sub Idle k u w n l = l
 choose-linked sub (Resets r path) k u w n l =
-    if-ok (λ t. IsLinked sub.setup.side t.sub.state.drawn t.sub.wires.down (chosen_at (Some sub) t.reply k) u) (is_full sub.wires.down path) (Err fault.WireFull) _ tt
-    (same-linked sub.setup.side sub.state.drawn path (down.Reset r sub.state.hold.known) sub.wires.down k u (reset-needs k sub.state r w.fits n) l)
+    send-ok (λ t. IsLinked sub.setup.side t.sub.state.drawn t.sub.wires.down (chosen_at (Some sub) t.reply k) u) sub (reset_sent sub.state path) path
+    (down.Reset r sub.state.hold.known) (reply.ResetSent r path)
+    (carried-linked sub.setup.side sub.state.drawn sub.wires.down sub.state.pmcw.available
+    (Some (record { path = path; signal = down.Reset r sub.state.hold.known })) k u
+    (same-linked sub.setup.side sub.state.drawn path (down.Reset r sub.state.hold.known) sub.wires.down k u (reset-needs k sub.state r w.fits n) l))
 choose-linked sub PerformsClear k u w n l = l
 choose-linked sub (Halts t path) k u w n l =
-    if-ok (λ t. IsLinked sub.setup.side t.sub.state.drawn t.sub.wires.down (chosen_at (Some sub) t.reply k) u) (is_full sub.wires.down path) (Err fault.WireFull) _ tt
-    (same-linked sub.setup.side sub.state.drawn path (down.Halt t) sub.wires.down k u tt l)
+    send-ok (λ t. IsLinked sub.setup.side t.sub.state.drawn t.sub.wires.down (chosen_at (Some sub) t.reply k) u) sub (halt_sent sub.state) path
+    (down.Halt t) (reply.HaltSent t path)
+    (carried-linked sub.setup.side sub.state.drawn sub.wires.down sub.state.pmcw.available (Some (record { path = path; signal = down.Halt t }))
+    k u
+    (same-linked sub.setup.side sub.state.drawn path (down.Halt t) sub.wires.down k u tt l))
 choose-linked sub PerformsHalt k u w n l = l
 choose-linked sub FindsNoPath k u w n l =
     subst (λ (i : ℕ). IsLinked sub.setup.side i sub.wires.down k u) (sym (cause-kept sub.state cause.NoPath).drawn) l
 choose-linked sub (Offers c path) k u w n l =
-    if-ok (λ t. IsLinked sub.setup.side t.sub.state.drawn t.sub.wires.down (chosen_at (Some sub) t.reply k) u) (is_full sub.wires.down path) (Err fault.WireFull) _ tt
-    (offered-linked sub path c.program c.resumes k u w.found n l)
+    let t : ℕ = sub.state.drawn + 1 in
+    send-ok (λ t. IsLinked sub.setup.side t.sub.state.drawn t.sub.wires.down (chosen_at (Some sub) t.reply k) u) sub
+    (offered sub.state c.program path) path (down.Select t) (reply.Offered t path c.resumes)
+    (carried-linked sub.setup.side t sub.wires.down sub.state.pmcw.available (Some (record { path = path; signal = down.Select t }))
+    (chosen_at (Some sub) (reply.Offered t path c.resumes) k) u
+    (offered-linked sub path c.program c.resumes k u w.found n l))
 
 -- Up
 met-linked : (returns : Bool) → (storage : Contents) (sub : Subchannel) (path : ℕ) (x : Up) (k : Option ProgramTrace) (u : UnitState) (drawn : ℕ) →
@@ -213,7 +233,7 @@ met-linked returns storage sub path x (Some k) u drawn same n m l =
     ] in
     subst (λ (t : List ℕ). Q new.number (codes_of new) t) (sym g.taken) (subst (λ (i : ℕ). Q i (codes_of new) k.taken) (sym g.number) made)
 
-abbrev IsMet : Subchannel → Option ProgramTrace → UnitState → UpTurn → Type 0
+abbrev pub IsMet : Subchannel → Option ProgramTrace → UnitState → UpTurn → Type 0
 IsMet sub k u t = Needs k t.sub.state → IsLinked sub.setup.side t.sub.state.drawn t.sub.wires.down k u
 
 signal-linked : (returns : Bool) → (storage : Contents) (sub : Subchannel) (path : ℕ) (x : Up) (k : Option ProgramTrace) (u : UnitState) → Needs k sub.state →
@@ -228,10 +248,12 @@ up_front-linked : (returns : Bool) → (storage : Contents) (sub : Subchannel) (
     IsLinked sub.setup.side sub.state.drawn sub.wires.down k u → IfOk (up_front returns storage sub path front) (IsMet sub (met_with storage sub.state path front k) u)
 up_front-linked returns storage sub path None k u n l = tt
 up_front-linked returns storage sub path (Some x) k u n l =
-    if-ok (IsMet sub (met_with storage sub.state path (Some x) k) u) (finds_full sub.wires.down (takes_up returns storage sub.state path x).step.came.sent) (Err fault.WireFull) _ tt
-    (λ m. signal-linked returns storage sub path x k u n m l)
+    let step : UpStep = (takes_up returns storage sub.state path x).step in
+    if-ok (IsMet sub (met_with storage sub.state path (Some x) k) u) (finds_full sub.wires.down (carried_by sub step.came.sent)) (Err fault.WireFull) _ tt
+    (λ m. carried-linked sub.setup.side step.state.drawn sub.wires.down sub.state.pmcw.available step.came.sent
+    (met_with storage sub.state path (Some x) k) u (signal-linked returns storage sub path x k u n m l))
 
-up-linked : (returns : Bool) → (storage : Contents) (sub : Subchannel) (path : ℕ) (k : Option ProgramTrace) (u : UnitState) → Needs k sub.state →
+pub up-linked : (returns : Bool) → (storage : Contents) (sub : Subchannel) (path : ℕ) (k : Option ProgramTrace) (u : UnitState) → Needs k sub.state →
     IsLinked sub.setup.side sub.state.drawn sub.wires.down k u → IfOk (up_sub returns storage sub path) (IsMet sub (met_at storage (Some sub) path k) u)
 up-linked returns storage sub path k u n l =
     if-ok (IsMet sub (met_at storage (Some sub) path k) u) (nat_lt path (length sub.setup.paths)) (up_front returns storage sub path (slice_get (queue sub.wires.up path) 0)) (Err fault.NoSuchPath)
@@ -273,10 +295,6 @@ took-story side drawn wires v (down.Release t) true None (Some k) o = o
 took-story side drawn wires v (down.Reset r b) true None (Some k) o = o
 took-story side drawn wires v (down.Got a) true None (Some k) o = o
 
-with-wires : (side : Side) (drawn number sent : ℕ) (codes took : List ℕ) (wires after : List (List Down)) (u : UnitState) → AreOn (IsDown drawn number sent codes) after →
-    IsOrdered side drawn number sent codes took wires u → IsOrdered side drawn number sent codes took after u
-with-wires side drawn number sent codes took wires after u a k = record { later = k.later; order = k.order; most = k.most; downs = a; kept = k.kept }
-
 -- each first Reset that waits for the unit, where it is taken, is above the floor
 abbrev pub AreAbove : Subchannel → UnitState → Type 0
 AreAbove sub u = (p r b : ℕ) → first_of sub.wires.down p ≡ Some (down.Reset r b) → resets u sub.setup.side r b ≡ true → (side_of u sub.setup.side).floor < r
@@ -298,14 +316,14 @@ down_front-linked : (may : Bool) → (sub : Subchannel) (path : ℕ) (u : UnitSt
 down_front-linked may sub path u None k e a n l = tt
 down_front-linked may sub path u (Some d) k e a n l =
     let step : Option UnitStep = unit_takes u sub.setup.side path d may in
-    if-ok (λ t. IsLinked sub.setup.side t.sub.state.drawn t.sub.wires.down (taken_at t.reply k) t.«unit») (finds_full sub.wires.up (unit_table.came_of step).sent) (Err fault.WireFull) _ tt
+    if-ok (λ t. IsLinked sub.setup.side t.sub.state.drawn t.sub.wires.down (taken_at t.reply k) t.«unit») (finds_full sub.wires.up (carried_by sub (unit_table.came_of step).sent)) (Err fault.WireFull) _ tt
     (took-story sub.setup.side sub.state.drawn (taken sub.wires.down path) (unit_after u step) d (unit_table.came_of step).taken (unit_table.came_of step).sent k
     (with-wires sub.setup.side sub.state.drawn (number_of k) (sent_of k) (all_codes k) _ sub.wires.down (taken sub.wires.down path) (unit_after u step)
     (on-taken (IsDown sub.state.drawn (number_of k) (sent_of k) (all_codes k)) sub.wires.down path l.downs)
     (unit-takes may sub.setup.side sub.state.drawn (number_of k) (sent_of k) (all_codes k) (took_of k) sub.wires.down u path d (number-drawn k sub.state n)
     (on-first (IsDown sub.state.drawn (number_of k) (sent_of k) (all_codes k)) sub.wires.down path d l.downs e) (above-of u sub.setup.side d (λ r b f. a path r b (e ∙ ap Some f))) l)))
 
-down-linked : (may : Bool) → (sub : Subchannel) (path : ℕ) (u : UnitState) (k : Option ProgramTrace) → AreAbove sub u → Needs k sub.state → IsLinked sub.setup.side sub.state.drawn sub.wires.down k u →
+pub down-linked : (may : Bool) → (sub : Subchannel) (path : ℕ) (u : UnitState) (k : Option ProgramTrace) → AreAbove sub u → Needs k sub.state → IsLinked sub.setup.side sub.state.drawn sub.wires.down k u →
     IfOk (down_sub may sub path u) (λ t. IsLinked sub.setup.side t.sub.state.drawn t.sub.wires.down (taken_at t.reply k) t.«unit»)
 down-linked may sub path u k a n l =
     if-ok (λ t. IsLinked sub.setup.side t.sub.state.drawn t.sub.wires.down (taken_at t.reply k) t.«unit») (nat_lt path (length sub.setup.paths))
@@ -316,6 +334,10 @@ down-linked may sub path u k a n l =
 still-linked : (side : Side) (drawn : ℕ) (wires : List (List Down)) (k : Option ProgramTrace) (u : UnitState) (step : Option UnitStep) → IsStillStep side u step → IsLinked side drawn wires k u →
     IsLinked side drawn wires k (unit_after u step)
 still-linked side drawn wires k u step s l = ordered-still side drawn (number_of k) (sent_of k) (all_codes k) (took_of k) wires u (unit_after u step) s l
+
+-- what the unit does of itself
+pub gentle-linked : (side : Side) (drawn : ℕ) (wires : List (List Down)) (k : Option ProgramTrace) (u v : UnitState) → IsGentle side u v → IsLinked side drawn wires k u → IsLinked side drawn wires k v
+gentle-linked side drawn wires k u v g l = ordered-gentle side drawn (number_of k) (sent_of k) (all_codes k) (took_of k) wires u v g l
 
 -- Report
 absorbs-same : (side : Side) (drawn : ℕ) (wires : List (List Down)) (v : UnitState) (k : ProgramTrace) (count : ℕ) (x : Option AtHand) → IsLinked side drawn wires (Some k) v →
@@ -346,12 +368,12 @@ reported-linked : (side : Side) (drawn : ℕ) (wires : List (List Down)) (v u : 
 reported-linked side drawn wires v u report None l = l
 reported-linked side drawn wires v u report (Some k) l = reported-same side drawn wires v u report report.answer k l
 
-report-linked : (sub : Subchannel) (u : UnitState) (report : Report) (k : Option ProgramTrace) (step : Option UnitStep) → unit_reports u report ≡ step →
+pub report-linked : (sub : Subchannel) (u : UnitState) (report : Report) (k : Option ProgramTrace) (step : Option UnitStep) → unit_reports u report ≡ step →
     IsLinked sub.setup.side sub.state.drawn sub.wires.down k u →
     IfOk (report_taken sub step) (λ t. IsLinked sub.setup.side t.sub.state.drawn t.sub.wires.down (reported_at (Some u) report k) t.«unit»)
 report-linked sub u report k None e l = tt
 report-linked sub u report k (Some step) e l =
-    if-ok (λ t. IsLinked sub.setup.side t.sub.state.drawn t.sub.wires.down (reported_at (Some u) report k) t.«unit») (finds_full sub.wires.up step.sent) (Err fault.WireFull) _ tt
+    if-ok (λ t. IsLinked sub.setup.side t.sub.state.drawn t.sub.wires.down (reported_at (Some u) report k) t.«unit») (finds_full sub.wires.up (carried_by sub step.sent)) (Err fault.WireFull) _ tt
     (reported-linked sub.setup.side sub.state.drawn sub.wires.down step.state u report k
     (still-linked sub.setup.side sub.state.drawn sub.wires.down k u (Some step) (subst (IsStillStep sub.setup.side u) e (report-still sub.setup.side u report)) l))
 
@@ -361,106 +383,19 @@ other-down_front : (may : Bool) → (sub other : Subchannel) (path : ℕ) (u : U
 other-down_front may sub other path u None k e l = tt
 other-down_front may sub other path u (Some d) k e l =
     let step : Option UnitStep = unit_takes u other.setup.side path d may in
-    if-ok (λ t. IsLinked sub.setup.side sub.state.drawn sub.wires.down k t.«unit») (finds_full other.wires.up (unit_table.came_of step).sent) (Err fault.WireFull) _ tt
+    if-ok (λ t. IsLinked sub.setup.side sub.state.drawn sub.wires.down k t.«unit») (finds_full other.wires.up (carried_by other (unit_table.came_of step).sent)) (Err fault.WireFull) _ tt
     (still-linked sub.setup.side sub.state.drawn sub.wires.down k u step (other-still sub.setup.side u other.setup.side path d may e) l)
 
-other-down : (may : Bool) → (sub other : Subchannel) (path : ℕ) (u : UnitState) (k : Option ProgramTrace) → same_side other.setup.side sub.setup.side ≡ false →
+pub other-down : (may : Bool) → (sub other : Subchannel) (path : ℕ) (u : UnitState) (k : Option ProgramTrace) → same_side other.setup.side sub.setup.side ≡ false →
     IsLinked sub.setup.side sub.state.drawn sub.wires.down k u → IfOk (down_sub may other path u) (λ t. IsLinked sub.setup.side sub.state.drawn sub.wires.down k t.«unit»)
 other-down may sub other path u k e l =
     if-ok (λ t. IsLinked sub.setup.side sub.state.drawn sub.wires.down k t.«unit») (nat_lt path (length other.setup.paths))
     (down_front may other path u (slice_get (queue other.wires.down path) 0)) (Err fault.NoSuchPath)
     (other-down_front may sub other path u (slice_get (queue other.wires.down path) 0) k e l) tt
 
-other-report : (sub other : Subchannel) (u : UnitState) (report : Report) (k : Option ProgramTrace) (step : Option UnitStep) → unit_reports u report ≡ step →
+pub other-report : (sub other : Subchannel) (u : UnitState) (report : Report) (k : Option ProgramTrace) (step : Option UnitStep) → unit_reports u report ≡ step →
     IsLinked sub.setup.side sub.state.drawn sub.wires.down k u → IfOk (report_taken other step) (λ t. IsLinked sub.setup.side sub.state.drawn sub.wires.down k t.«unit»)
 other-report sub other u report k None e l = tt
 other-report sub other u report k (Some step) e l =
-    if-ok (λ t. IsLinked sub.setup.side sub.state.drawn sub.wires.down k t.«unit») (finds_full other.wires.up step.sent) (Err fault.WireFull) _ tt
+    if-ok (λ t. IsLinked sub.setup.side sub.state.drawn sub.wires.down k t.«unit») (finds_full other.wires.up (carried_by other step.sent)) (Err fault.WireFull) _ tt
     (still-linked sub.setup.side sub.state.drawn sub.wires.down k u (Some step) (subst (IsStillStep sub.setup.side u) e (report-still sub.setup.side u report)) l)
-
--- a step at the place
-at-same : (side j : Side) (drawn later : ℕ) (wires after : List (List Down)) (k m : Option ProgramTrace) (u v : Option UnitState) → j ≡ side → later ≡ drawn → after ≡ wires → m ≡ k → v ≡ u →
-    AtUnit (IsLinked side drawn wires k) u → AtUnit (IsLinked j later after m) v
-at-same side j drawn later wires after k m u v a z b c d l =
-    subst (λ (x : Side). AtUnit (IsLinked x later after m) v) (sym a)
-    (subst (λ (x : ℕ). AtUnit (IsLinked side x after m) v) (sym z)
-    (subst (λ (x : List (List Down)). AtUnit (IsLinked side drawn x m) v) (sym b)
-    (subst (λ (x : Option ProgramTrace). AtUnit (IsLinked side drawn wires x) v) (sym c)
-    (subst (λ (x : Option UnitState). AtUnit (IsLinked side drawn wires k) x) (sym d) l))))
-
-side-of : (new old : Subchannel) → new.setup ≡ old.setup → new.setup.side ≡ old.setup.side
-side-of new old e = ap (λ (x : SubchannelSetup). x.side) e
-
-drawn-of : (x y : Subchannel) → x ≡ y → x.state.drawn ≡ y.state.drawn
-drawn-of x y e = ap (λ (z : Subchannel). z.state.drawn) e
-
-down-of-sub : (x y : Subchannel) → x ≡ y → x.wires.down ≡ y.wires.down
-down-of-sub x y e = ap (λ (z : Subchannel). z.wires.down) e
-
-chosen-at : (sub : Subchannel) (choice : Option ℕ) (k : Option ProgramTrace) (u : Option UnitState) (t : SubTurn) → Suits (chosen sub choice) sub.state → choose_sub sub (chosen sub choice) ≡ Ok t → Needs k sub.state →
-    AtUnit (IsLinked sub.setup.side sub.state.drawn sub.wires.down k) u → AtUnit (IsLinked sub.setup.side t.sub.state.drawn t.sub.wires.down (chosen_at (Some sub) t.reply k)) u
-chosen-at sub choice k None t f e n l = absurd l
-chosen-at sub choice k (Some u) t f e n l =
-    subst (λ (r : Result SubTurn Fault). IfOk r (λ t. IsLinked sub.setup.side t.sub.state.drawn t.sub.wires.down (chosen_at (Some sub) t.reply k) u)) e
-    (choose-linked sub (chosen sub choice) k u f n l)
-
-met-at : (returns : Bool) → (storage : Contents) (sub : Subchannel) (path : ℕ) (k : Option ProgramTrace) (u : Option UnitState) (t : UpTurn) → up_sub returns storage sub path ≡ Ok t → Needs k sub.state →
-    Needs (met_at storage (Some sub) path k) t.sub.state → AtUnit (IsLinked sub.setup.side sub.state.drawn sub.wires.down k) u →
-    AtUnit (IsLinked sub.setup.side t.sub.state.drawn t.sub.wires.down (met_at storage (Some sub) path k)) u
-met-at returns storage sub path k None t e n m l = absurd l
-met-at returns storage sub path k (Some u) t e n m l =
-    (subst (λ (r : Result UpTurn Fault). IfOk r (IsMet sub (met_at storage (Some sub) path k) u)) e (up-linked returns storage sub path k u n l)) m
-
-draws-linked : (side : Side) (drawn : ℕ) (wires : List (List Down)) (k : Option ProgramTrace) (u : Option UnitState) → AtUnit (IsLinked side drawn wires k) u → AtUnit (IsLinked side (drawn + 1) wires k) u
-draws-linked side drawn wires k None l = absurd l
-draws-linked side drawn wires k (Some u) l = hold-draws side drawn (drawn + 1) (number_of k) (sent_of k) (all_codes k) (took_of k) wires u (omega arith) l
-
-pub happens-linked : (storage : Contents) (old new : Subchannel) (u v : Option UnitState) (f : Option ProgramTrace → Option ProgramTrace) → PlaceStep storage old new u v f → new.setup ≡ old.setup → ((x : UnitState) → u ≡ Some x → AreAbove old x) →
-    (k : Option ProgramTrace) → Needs k old.state → Needs (f k) new.state →
-    AtUnit (IsLinked old.setup.side old.state.drawn old.wires.down k) u → AtUnit (IsLinked new.setup.side new.state.drawn new.wires.down (f k)) v
-happens-linked storage old new u v f (Stays e w s) i a k n m l =
-    at-same old.setup.side new.setup.side old.state.drawn new.state.drawn old.wires.down new.wires.down k (f k) u v (side-of new old i) (drawn-of new old e) (down-of-sub new old e) (s k) w l
-happens-linked storage old new u v f (Starts_with_orb orb e w s) i a k n m l =
-    at-same old.setup.side new.setup.side old.state.drawn new.state.drawn old.wires.down new.wires.down k (f k) u v (side-of new old i) (drawn-of new (with_state old (started old.state orb)) e) (down-of-sub new (with_state old (started old.state orb)) e) (s k) w l
-happens-linked storage old new u v f (Is_tested e w s) i a k n m l =
-    at-same old.setup.side new.setup.side old.state.drawn new.state.drawn old.wires.down new.wires.down k (f k) u v (side-of new old i)
-    (drawn-of new (with_state old (tested_wholly old.state)) e ∙ (tested-kept old.state).drawn) (down-of-sub new (with_state old (tested_wholly old.state)) e) (s k) w l
-happens-linked storage old new u v f (Is_resumed e w s) i a k n m l =
-    at-same old.setup.side new.setup.side old.state.drawn new.state.drawn old.wires.down new.wires.down k (f k) u v (side-of new old i)
-    (drawn-of new (with_state old (resumed old.state)) e) (down-of-sub new (with_state old (resumed old.state)) e) (s k) w l
-happens-linked storage old new u v f (Is_halted e w s) i a k n m l =
-    at-same old.setup.side new.setup.side old.state.drawn new.state.drawn old.wires.down new.wires.down k (f k) u v (side-of new old i)
-    (drawn-of new (with_state old (halted old.state)) e ∙ (halted-kept old.state).drawn) (down-of-sub new (with_state old (halted old.state)) e) (s k) w l
-happens-linked storage old new u v f (Is_cleared e w s) i a k n m l =
-    at-same old.setup.side new.setup.side (old.state.drawn + 1) new.state.drawn old.wires.down new.wires.down k (f k) u v (side-of new old i)
-    (drawn-of new (with_state old (cleared old.state)) e) (down-of-sub new (with_state old (cleared old.state)) e) (s k) w
-    (draws-linked old.setup.side old.state.drawn old.wires.down k u l)
-happens-linked storage old new u v f (Is_cancelled e w s) i a k n m l =
-    at-same old.setup.side new.setup.side old.state.drawn new.state.drawn old.wires.down new.wires.down k (f k) u v (side-of new old i)
-    (drawn-of new (with_state old (cancelled old.state)) e) (down-of-sub new (with_state old (cancelled old.state)) e) (s k) w l
-happens-linked storage old new u v f (Is_modified pmcw e w s) i a k n m l =
-    at-same old.setup.side new.setup.side old.state.drawn new.state.drawn old.wires.down new.wires.down k (f k) u v (side-of new old i) (drawn-of new (with_state old (record old.state { pmcw = pmcw })) e)
-    (down-of-sub new (with_state old (record old.state { pmcw = pmcw })) e) (s k) w l
-happens-linked storage old new u v f (Is_chosen choice t x c e w s) i a k n m l =
-    at-same old.setup.side new.setup.side t.sub.state.drawn new.state.drawn t.sub.wires.down new.wires.down (chosen_at (Some old) t.reply k) (f k) u v (side-of new old i) (drawn-of new t.sub e) (down-of-sub new t.sub e) (s k) w
-    (chosen-at old choice k u t x c n l)
-happens-linked storage old new u v f (Meets path returns t c e w s) i a k n m l =
-    at-same old.setup.side new.setup.side t.sub.state.drawn new.state.drawn t.sub.wires.down new.wires.down (met_at storage (Some old) path k) (f k) u v (side-of new old i) (drawn-of new t.sub e) (down-of-sub new t.sub e) (s k) w
-    (met-at returns storage old path k u t c n
-    (subst (λ (x : Subchannel). Needs (met_at storage (Some old) path k) x.state) e (subst (λ (x : Option ProgramTrace). Needs x new.state) (s k) m)) l)
-happens-linked storage old new u v f (Sinks path may x t is c e w s) i a k n m l =
-    at-same old.setup.side new.setup.side t.sub.state.drawn new.state.drawn t.sub.wires.down new.wires.down (taken_at t.reply k) (f k) (Some t.«unit») v (side-of new old i) (drawn-of new t.sub e) (down-of-sub new t.sub e) (s k) w
-    (subst (λ (r : Result DownTurn Fault). IfOk r (λ t. IsLinked old.setup.side t.sub.state.drawn t.sub.wires.down (taken_at t.reply k) t.«unit»)) c
-    (down-linked may old path x k (a x is) n (subst (AtUnit (IsLinked old.setup.side old.state.drawn old.wires.down k)) is l)))
-happens-linked storage old new u v f (Is_reported report x t is same c e w s) i a k n m l =
-    at-same old.setup.side new.setup.side t.sub.state.drawn new.state.drawn t.sub.wires.down new.wires.down (reported_at (Some x) report k) (f k) (Some t.«unit») v (side-of new old i) (drawn-of new t.sub e) (down-of-sub new t.sub e) (s k) w
-    (subst (λ (r : Result DownTurn Fault). IfOk r (λ t. IsLinked old.setup.side t.sub.state.drawn t.sub.wires.down (reported_at (Some x) report k) t.«unit»)) c
-    (report-linked old x report k (unit_reports x report) refl (subst (AtUnit (IsLinked old.setup.side old.state.drawn old.wires.down k)) is l)))
-happens-linked storage old new u v f (Other_sinks other path may x t apart is c e w s) i a k n m l =
-    at-same old.setup.side new.setup.side old.state.drawn new.state.drawn old.wires.down new.wires.down k (f k) (Some t.«unit») v (side-of new old i) (drawn-of new old e) (down-of-sub new old e) (s k) w
-    (subst (λ (r : Result DownTurn Fault). IfOk r (λ t. IsLinked old.setup.side old.state.drawn old.wires.down k t.«unit»)) c
-    (other-down may old other path x k apart (subst (AtUnit (IsLinked old.setup.side old.state.drawn old.wires.down k)) is l)))
-happens-linked storage old new u v f (Other_reported other report x t apart is same c e w s) i a k n m l =
-    at-same old.setup.side new.setup.side old.state.drawn new.state.drawn old.wires.down new.wires.down k (f k) (Some t.«unit») v (side-of new old i) (drawn-of new old e) (down-of-sub new old e) (s k) w
-    (subst (λ (r : Result DownTurn Fault). IfOk r (λ t. IsLinked old.setup.side old.state.drawn old.wires.down k t.«unit»)) c
-    (other-report old other x report k (unit_reports x report) refl (subst (AtUnit (IsLinked old.setup.side old.state.drawn old.wires.down k)) is l)))

@@ -19,6 +19,7 @@ use Rattle.program_laws.proofs.LinkSent.{IsOfHold}
 use Rattle.program_laws.proofs.UnitOrders.{AreOn, IsDown, IsNumbered, on-taken, on-sent, on-first, on-weaker}
 use Rattle.program_laws.specs.Traces.{silent}
 use Rattle.program_laws.proofs.UnitHands.{IsCalm, IsEasy, easy-calm, IsHeld, calm-held, select-held, StaysAnswered, took-held, TakesGive, give-held, command-held, IsQuiet, takes-quiet}
+use Rattle.program_laws.proofs.UnitActs.{IsGentle, StaysMarked, gentle-held}
 
 -- a command is over at the device
 abbrev pub IsEnded : Progress → Type 0
@@ -165,6 +166,24 @@ quiet-telling number m R E (up.Attn a status) h = tt
 quiet-sent : (number m : ℕ) (R : ℕ → Load → Type 0) (E : Type 0) (one : Option (OnPath Up)) → IfSome one (λ x. IsQuiet x.signal) → IfSome one (λ x. IsTelling number m R E x.signal)
 quiet-sent number m R E None h = tt
 quiet-sent number m R E (Some x) h = quiet-telling number m R E x.signal h
+
+-- what the unit does of itself
+pub closed-marked : StaysMarked HandClosed
+closed-marked None h = h
+closed-marked (Some x) h = h
+
+pub wired-gentle : (side : Side) (number m : ℕ) (P : Option AtHand → Type 0) (Q : ℕ → List ℕ → Type 0) (R : ℕ → Load → Type 0) (downs : List (List Down)) (ups : List (List Up)) (u v : UnitState)
+    (one : Option (OnPath Up)) → IsGentle side u v → StaysMarked P → IfSome one (λ x. IsQuiet x.signal) → IsWired side number m P Q R downs ups u →
+    IsWired side number m P Q R downs (with_any_sent ups one) v
+wired-gentle side number m P Q R downs ups u v one g marked q k = record {
+  hand = gentle-held side number P u v g marked k.hand;
+  gives = k.gives;
+  tells = on-sent (IsTelling number m R (IsClosed side number v)) ups one
+      (on-weaker (IsTelling number m R (IsClosed side number u)) (IsTelling number m R (IsClosed side number v)) ups
+      (telling-other number m number m R R (IsClosed side number u) (IsClosed side number v) (λ t n s l x. x)
+      (λ t n. same-command number m t n (IsClosed side number u) (IsClosed side number v) (gentle-held side number HandClosed u v g closed-marked))) k.tells)
+      (quiet-sent number m R (IsClosed side number v) one q);
+}
 
 closed-answered : StaysAnswered HandClosed
 closed-answered x l room h = h

@@ -1,6 +1,6 @@
 -- After each run of a lawful set-up what a device absorbed for its command are the first bytes of chunks that were copied
 -- for it, side by side from the first place on.
-use Rattle.std.proofs.Common.{◌≡◌, refl, sym, ap, subst, ℕ, ◌+◌, Bool, true, false, ◌==◌, length, Option, None, Some, Result, Ok, List, inl, inr, arith}
+use Rattle.std.proofs.Common.{◌≡◌, refl, sym, ap, subst, ℕ, ◌+◌, Bool, true, false, ◌==◌, ◌&&◌, length, Option, None, Some, Result, Ok, List, inl, inr, arith}
 use Rattle.std.specs.Prelude.{if◌then◌else◌, slice_get, IfOk}
 use Rattle.std.proofs.lemmas.Bool.{eq-eqb, eqb-true}
 use Rattle.storage_keys.specs.Storage.{Contents}
@@ -15,38 +15,47 @@ use Rattle.chan_model.specs.declared.signal.Up.{Up}
 use Rattle.chan_model.specs.declared.unit_state.UnitState.{UnitState}
 use Rattle.chan_model.specs.UnitTable.{idle_unit}
 use Rattle.chan_model.specs.UnitReports.{unit_reports}
-use Rattle.wires.specs.Queues.{no_queues}
+use Rattle.wires.specs.Queues.{lost, no_queues}
 use Rattle.subchannel_model.specs.declared.state.ActiveProgram.{ActiveProgram}
+use Rattle.subchannel_model.specs.declared.state.Chosen.{Chosen}
 use Rattle.subchannel_model.specs.declared.state.Subchannel.{Subchannel}
 use Rattle.subchannel_model.specs.declared.state.SubchannelState.{SubchannelState}
-use Rattle.subchannel_model.specs.Choosing.{chosen}
+use Rattle.subchannel_model.specs.Choosing.{chosen, marked_sub}
 use Rattle.subchannel_model.specs.Resume.{resumed}
 use Rattle.subchannel_model.specs.Halt.{halted}
 use Rattle.subchannel_model.specs.Clear.{cleared}
 use Rattle.subchannel_model.specs.Cancel.{cancelled}
 use Rattle.subchannel_model.specs.Test.{tested_wholly}
 use Rattle.subchannel_model.specs.Start.{started}
+use Rattle.subchannel_model.specs.Losing.{has_any, is_offered_or_held, reset_with}
+use Rattle.subchannel_model.specs.SystemReset.{state_reset}
+use Rattle.machine_model.specs.declared.state.Sweep.{Sweep}
+use Rattle.machine_model.specs.PathSteps.{swept}
 use Rattle.machine_model.specs.State.{State, opening_of}
 use Rattle.subchannel_model.specs.Opening.{opened}
 use Rattle.machine_model.specs.Turns.{with_state, SubTurn, UpTurn, DownTurn}
 use Rattle.machine_model.specs.ChooseSteps.{choose_sub}
 use Rattle.machine_model.specs.UpSteps.{up_sub}
 use Rattle.machine_model.specs.Steps.{Run, Opened, Stepped}
+use Rattle.machine_model.specs.Sharing.{owing}
+use Rattle.machine_model.specs.ReportSteps.{with_any_up}
 use Rattle.step_laws.specs.Walks.{Suits}
 use Rattle.program_laws.specs.Traces.{ProgramTrace, chosen_at, met_at, taken_at, reported_at, trace, trace_after}
 use Rattle.program_laws.specs.Claims.{AbsorbsInOrder, part_of}
-use Rattle.program_laws.proofs.Turns.{PlaceStep, Stays, Starts_with_orb, Is_tested, Is_resumed, Is_halted, Is_cleared, Is_cancelled, Is_modified, Is_chosen, Meets, Sinks, Is_reported, Other_sinks, Other_reported, step-happens}
+use Rattle.program_laws.proofs.Turns.{PlaceStep, Stays, Starts_with_orb, Is_tested, Is_resumed, Is_halted, Is_cleared, Is_cancelled, Is_modified, Is_chosen, Meets, Sinks, Is_reported, Other_sinks, Other_reported, Unit_acts, Is_swept, step-happens}
 use Rattle.program_laws.proofs.Ties.{AreLaws}
 use Rattle.program_laws.proofs.Accesses.{AreAccesses}
-use Rattle.program_laws.proofs.Holds.{HasWork, HeldBy}
+use Rattle.program_laws.proofs.Holds.{HasWork, HeldBy, marked-held}
+use Rattle.program_laws.proofs.Vanishing.{Fewer, lost-fewer}
+use Rattle.program_laws.proofs.Sweeps.{swept-kept}
 use Rattle.program_laws.proofs.UnitHands.{IsCalm}
 use Rattle.program_laws.proofs.LinkNeeds.{held-needs}
 use Rattle.program_laws.proofs.LinkOrders.{AtUnit, IsLinked}
 use Rattle.program_laws.proofs.Caused.{tested-begun, halted-begun}
 use Rattle.program_laws.proofs.LinkWires.{HandClosed, IsGiving, IsTelling, IsClosed, IsWired}
 use Rattle.program_laws.proofs.LinkModes.{AnyGive, AnyData, Mode, Waits, Over, Reads, Writes, absorbs-none}
-use Rattle.program_laws.proofs.LinkCourses.{Course, CourseOf, Follows, Cut, over-course, flow-absorbs}
-use Rattle.program_laws.proofs.LinkFlows.{AtSub, choose-flows, up-flows, down-flows, report-flows, calm-flows, other-down, other-told}
+use Rattle.program_laws.proofs.LinkCourses.{Course, CourseOf, Follows, Cut, over-course, fewer-course, flow-absorbs}
+use Rattle.program_laws.proofs.LinkFlows.{AtSub, choose-flows, up-flows, down-flows, report-flows, calm-flows, gentle-flows, other-down, other-told}
 use Rattle.program_laws.proofs.RunSides.{run-one-sided}
 use Rattle.program_laws.proofs.RunOrders.{AllNeeds, on-none, unit-there, idle-there, run-linked}
 use Rattle.step_laws.proofs.Places.{map-get}
@@ -62,13 +71,13 @@ flows-as side new x k m u v a b c d l =
     (subst (λ (y : Option ProgramTrace). Flows side x y v) (sym c)
     (subst (λ (y : Option UnitState). Flows side x k y) (sym d) l)))
 
-chosen-flows : (sub : Subchannel) (choice : Option ℕ) (k : Option ProgramTrace) (u : Option UnitState) (t : SubTurn) → Suits (chosen sub choice) sub.state → choose_sub sub (chosen sub choice) ≡ Ok t → HeldBy sub.state k →
+chosen-flows : (sub : Subchannel) (c : Chosen) (k : Option ProgramTrace) (u : Option UnitState) (t : SubTurn) → Suits c sub.state → choose_sub sub c ≡ Ok t → HeldBy sub.state k →
     HeldBy t.sub.state (chosen_at (Some sub) t.reply k) → AtUnit (IsLinked sub.setup.side sub.state.drawn sub.wires.down k) u → Flows sub.setup.side sub k u →
     Flows sub.setup.side t.sub (chosen_at (Some sub) t.reply k) u
-chosen-flows sub choice k None t f e h i l a = absurd l
-chosen-flows sub choice k (Some u) t f e h i l a =
+chosen-flows sub c k None t f e h i l a = absurd l
+chosen-flows sub c k (Some u) t f e h i l a =
     (subst (λ (r : Result SubTurn Fault). IfOk r (λ t. HeldBy t.sub.state (chosen_at (Some sub) t.reply k) → AtSub sub.setup.side t.sub (chosen_at (Some sub) t.reply k) u)) e
-    (choose-flows sub (chosen sub choice) k u f h l a)) i
+    (choose-flows sub c k u f h l a)) i
 
 -- a state with the same program at work
 state-flows : (sub : Subchannel) (x : SubchannelState) (k : Option ProgramTrace) (u : Option UnitState) → x.begun ≡ sub.state.begun → Flows sub.setup.side sub k u →
@@ -88,6 +97,28 @@ tested-flows sub k u h a =
       | inl e ↦ state-flows sub (tested_wholly sub.state) k u e a
       | inr e ↦ over-flows sub (tested_wholly sub.state) k u h e a
     ]
+
+-- a path is lost, or all is reset
+fewer-flows : (side : Side) (begun : Option ActiveProgram) (k : Option ProgramTrace) (downs after : List (List Down)) (ups later : List (List Up))
+    (u : Option UnitState) → Fewer downs after → Fewer ups later →
+    AtUnit (CourseOf side begun k downs ups) u → AtUnit (CourseOf side begun k after later) u
+fewer-flows side begun k downs after ups later None f g a = absurd a
+fewer-flows side begun k downs after ups later (Some u) f g a = fewer-course side begun k downs after ups later u f g a
+
+reset-flows : (sub : Subchannel) (k : Option ProgramTrace) (u : Option UnitState) (shows : Bool) → HeldBy sub.state k → Flows sub.setup.side sub k u →
+    Flows sub.setup.side (with_state sub (reset_with sub.state shows)) k u
+reset-flows sub k u true h a = over-flows sub (reset_with sub.state true) k u h refl a
+reset-flows sub k u false h a = state-flows sub (reset_with sub.state false) k u refl a
+
+swept-flows : (what : Sweep) (x : Subchannel) (k : Option ProgramTrace) (u : Option UnitState) → HeldBy x.state k → Flows x.setup.side x k u →
+    Flows (swept what x).setup.side (swept what x) k u
+swept-flows what x k u h a =
+    swept-kept x (λ y. Flows y.setup.side y k u) (λ y path up f. f)
+    (λ path f. fewer-flows x.setup.side x.state.begun k x.wires.down (lost x.wires.down path) x.wires.up (lost x.wires.up path) u
+    (lost-fewer x.wires.down path) (lost-fewer x.wires.up path) f)
+    (λ wires f. reset-flows (record x { wires = wires }) k u
+    (is_offered_or_held x.state.hold.phase && has_any x.state.waiting x.state.begun x.state.suspended) h f)
+    (λ f. over-flows x (state_reset x.state) k u h refl f) what a
 
 module _ (laws : AreLaws) (accesses : AreAccesses) where
   met-flows : (returns : Bool) → (storage : Contents) (sub : Subchannel) (path : ℕ) (k : Option ProgramTrace) (u : Option UnitState) (t : UpTurn) → up_sub returns storage sub path ≡ Ok t → HeldBy sub.state k →
@@ -117,28 +148,36 @@ module _ (laws : AreLaws) (accesses : AreAccesses) where
       flows-as old.setup.side new (with_state old (record old.state { pmcw = pmcw })) k (f k) u v (ap (λ (x : SubchannelSetup). x.side) i) e (s k) w
       (state-flows old (record old.state { pmcw = pmcw }) k u refl a)
   happens-flows storage old new u v f (Is_chosen choice t x c e w s) i k n m l a =
-      flows-as old.setup.side new t.sub (chosen_at (Some old) t.reply k) (f k) u v (ap (λ (x : SubchannelSetup). x.side) i) e (s k) w
-      (chosen-flows old choice k u t x c n
-      (subst (λ (x : Subchannel). HeldBy x.state (chosen_at (Some old) t.reply k)) e (subst (λ (x : Option ProgramTrace). HeldBy new.state x) (s k) m)) l a)
+      let z : Subchannel = marked_sub old choice in
+      flows-as old.setup.side new t.sub (chosen_at (Some z) t.reply k) (f k) u v (ap (λ (x : SubchannelSetup). x.side) i) e (s k) w
+      (chosen-flows z (chosen old choice) k u t x c (marked-held old.state z.state.pmcw z.state.scsw k n)
+      (subst (λ (x : Subchannel). HeldBy x.state (chosen_at (Some z) t.reply k)) e (subst (λ (x : Option ProgramTrace). HeldBy new.state x) (s k) m)) l a)
   happens-flows storage old new u v f (Meets path returns t c e w s) i k n m l a =
       flows-as old.setup.side new t.sub (met_at storage (Some old) path k) (f k) u v (ap (λ (x : SubchannelSetup). x.side) i) e (s k) w (met-flows returns storage old path k u t c n a)
-  happens-flows storage old new u v f (Sinks path may x t is c e w s) i k n m l a =
-      flows-as old.setup.side new t.sub (taken_at t.reply k) (f k) (Some t.«unit») v (ap (λ (x : SubchannelSetup). x.side) i) e (s k) w
+  happens-flows storage old new u v f (Sinks path may owed x t is c e w s) i k n m l a =
+      flows-as old.setup.side new t.sub (taken_at t.reply k) (f k) (Some (owing owed t.«unit»)) v (ap (λ (x : SubchannelSetup). x.side) i) e (s k) w
+      (calm-flows old.setup.side t.sub (taken_at t.reply k) t.«unit» (owing owed t.«unit») (λ n o. (o, refl))
       (subst (λ (r : Result DownTurn Fault). IfOk r (λ t. AtSub old.setup.side t.sub (taken_at t.reply k) t.«unit»)) c
-      (down-flows may old path x k n (subst (AtUnit (IsLinked old.setup.side old.state.drawn old.wires.down k)) is l) (subst (Flows old.setup.side old k) is a)))
+      (down-flows may old path x k n (subst (AtUnit (IsLinked old.setup.side old.state.drawn old.wires.down k)) is l) (subst (Flows old.setup.side old k) is a))))
   happens-flows storage old new u v f (Is_reported report x t is same c e w s) i k n m l a =
       flows-as old.setup.side new t.sub (reported_at (Some x) report k) (f k) (Some t.«unit») v (ap (λ (x : SubchannelSetup). x.side) i) e (s k) w
       (subst (λ (r : Result DownTurn Fault). IfOk r (λ t. AtSub old.setup.side t.sub (reported_at (Some x) report k) t.«unit»)) c
       (report-flows old x report k (unit_reports x report) refl same (subst (AtUnit (IsLinked old.setup.side old.state.drawn old.wires.down k)) is l) (subst (Flows old.setup.side old k) is a)))
-  happens-flows storage old new u v f (Other_sinks other path may x t apart is c e w s) i k n m l a =
-      flows-as old.setup.side new old k (f k) (Some t.«unit») v (ap (λ (x : SubchannelSetup). x.side) i) e (s k) w
+  happens-flows storage old new u v f (Other_sinks other path may owed x t apart is c e w s) i k n m l a =
+      flows-as old.setup.side new old k (f k) (Some (owing owed t.«unit»)) v (ap (λ (x : SubchannelSetup). x.side) i) e (s k) w
+      (calm-flows old.setup.side old k t.«unit» (owing owed t.«unit») (λ n o. (o, refl))
       (calm-flows old.setup.side old k x t.«unit»
-      (subst (λ (r : Result DownTurn Fault). IfOk r (λ t. IsCalm old.setup.side x t.«unit»)) c (other-down may other old.setup.side path x apart)) (subst (Flows old.setup.side old k) is a))
+      (subst (λ (r : Result DownTurn Fault). IfOk r (λ t. IsCalm old.setup.side x t.«unit»)) c (other-down may other old.setup.side path x apart)) (subst (Flows old.setup.side old k) is a)))
   happens-flows storage old new u v f (Other_reported other report x t apart is same c e w s) i k n m l a =
       flows-as old.setup.side new old k (f k) (Some t.«unit») v (ap (λ (x : SubchannelSetup). x.side) i) e (s k) w
       (calm-flows old.setup.side old k x t.«unit»
       (subst (λ (r : Result DownTurn Fault). IfOk r (λ t. IsCalm old.setup.side x t.«unit»)) c (other-told other old.setup.side x report (unit_reports x report) refl apart same))
       (subst (Flows old.setup.side old k) is a))
+  happens-flows storage old new u v f (Unit_acts x y sends is gentle quiet e w s) i k n m l a =
+      flows-as old.setup.side new (with_any_up old sends) k (f k) (Some y) v (ap (λ (x : SubchannelSetup). x.side) i) e (s k) w
+      (gentle-flows old.setup.side old k x y sends (gentle old.setup.side) quiet (subst (Flows old.setup.side old k) is a))
+  happens-flows storage old new u v f (Is_swept what e w s) i k n m l a =
+      flows-as (swept what old).setup.side new (swept what old) k (f k) u v (ap (λ (x : Subchannel). x.setup.side) e) e (s k) w (swept-flows what old k u n a)
 
   -- at the opening
   opens-wired : (side : Side) → IsWired side 0 0 HandClosed AnyGive AnyData no_queues.down no_queues.up idle_unit

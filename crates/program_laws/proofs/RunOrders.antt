@@ -26,7 +26,8 @@ use Rattle.machine_laws.specs.Agreeing.{AreAbove}
 use Rattle.program_laws.proofs.Turns.{step-happens}
 use Rattle.program_laws.proofs.UnitOrders.{IsDown, AreOn, IsOrdered}
 use Rattle.program_laws.proofs.LinkNeeds.{Needs}
-use Rattle.program_laws.proofs.LinkOrders.{IsLinked, AtUnit, happens-linked}
+use Rattle.program_laws.proofs.LinkOrders.{IsLinked, AtUnit}
+use Rattle.program_laws.proofs.PlaceOrders.{happens-linked}
 use Rattle.program_laws.proofs.RunSides.{run-one-sided}
 use Rattle.step_laws.proofs.Places.{map-get}
 

@@ -1,6 +1,6 @@
 -- What a step does at one place: to the subchannel, to its unit, and to the story.
 use Rattle.std.proofs.Common.{◌≡◌, ◌≢◌, refl, sym, ◌∙◌, ap, subst, ℕ, ◌+◌, ◌==◌, Bool, true, false, Option, None, Some, Result, Ok, Err, List, length, inl, inr}
-use Rattle.std.specs.Prelude.{slice_get, slice_set, if◌then◌else◌, nat_lt, IfOk}
+use Rattle.std.specs.Prelude.{map, slice_get, slice_set, if◌then◌else◌, nat_lt, IfOk, IfSome}
 use Rattle.std.proofs.lemmas.Bool.{eqb-true, and_parts}
 use Rattle.orb_block.specs.declared.Orb.{Orb}
 use Rattle.schib_block.specs.declared.pmcw.Pmcw as block
@@ -18,10 +18,12 @@ use Rattle.chan_model.specs.declared.report.Report.{Report}
 use Rattle.chan_model.specs.declared.signal.Down.{Down}
 use Rattle.chan_model.specs.declared.signal.Down.TheVariants as down
 use Rattle.chan_model.specs.declared.signal.Up.{Up}
+use Rattle.chan_model.specs.declared.signal.OnPath.{OnPath}
 use Rattle.chan_model.specs.declared.unit_state.UnitState.{UnitState}
+use Rattle.chan_model.specs.declared.names.Side.{Side}
 use Rattle.chan_model.specs.Sides.{same_side}
 use Rattle.chan_model.specs.UnitTable as unit_table
-use Rattle.chan_model.specs.UnitTable.{UnitStep, unit_takes}
+use Rattle.chan_model.specs.UnitTable.{UnitStep, unit_takes, restarted}
 use Rattle.chan_model.specs.UnitReports.{unit_reports}
 use Rattle.wires.specs.Queues.{queue}
 use Rattle.subchannel_model.specs.declared.state.Chosen.{Chosen}
@@ -30,6 +32,7 @@ use Rattle.subchannel_model.specs.declared.state.PmcwState.{PmcwState}
 use Rattle.subchannel_model.specs.declared.state.Subchannel.{Subchannel}
 use Rattle.subchannel_model.specs.declared.state.SubchannelState.{SubchannelState}
 use Rattle.machine_model.specs.State.{State, place_of}
+use Rattle.machine_model.specs.Sharing.{owing}
 use Rattle.subchannel_model.specs.Places.{reached_in}
 use Rattle.subchannel_model.specs.Start.{started}
 use Rattle.subchannel_model.specs.Resume.{resumed}
@@ -37,20 +40,28 @@ use Rattle.subchannel_model.specs.Halt.{halted}
 use Rattle.subchannel_model.specs.Clear.{cleared}
 use Rattle.subchannel_model.specs.Cancel.{cancelled}
 use Rattle.subchannel_model.specs.Test.{tested_wholly}
-use Rattle.subchannel_model.specs.Choosing.{chosen}
+use Rattle.subchannel_model.specs.Choosing.{chosen, marked_sub}
 use Rattle.subchannel_model.specs.Taking.{takes_up}
 use Rattle.machine_model.specs.Turns.{SubTurn, UpTurn, DownTurn, with_state}
 use Rattle.subchannel_model.specs.Modify.{modified_state}
 use Rattle.machine_model.specs.InstructionSteps.{test_with, function_sub}
 use Rattle.machine_model.specs.ChooseSteps.{send_sub, choose_sub}
-use Rattle.subchannel_model.specs.Sending.{is_full, finds_full}
+use Rattle.subchannel_model.specs.Sending.{carried_by, finds_full}
 use Rattle.machine_model.specs.UpSteps.{up_front, up_sub}
 use Rattle.machine_model.specs.DownSteps.{down_front, down_sub}
-use Rattle.machine_model.specs.ReportSteps.{report_taken, report_sub}
+use Rattle.machine_model.specs.ReportSteps.{with_any_up, report_taken, report_sub}
+use Rattle.machine_model.specs.declared.state.Sweep.{Sweep}
+use Rattle.machine_model.specs.PathSteps.{swept}
 use Rattle.step_laws.specs.Walks as walked
 use Rattle.step_laws.specs.Walks.{Walked, IsQuiet, Suits, OneSub, OneUnit, Function, effect_of}
 use Rattle.program_laws.specs.Traces.{ProgramTrace, is_place, chosen_at, met_at, taken_at, reported_at, trace_after}
-use Rattle.step_laws.proofs.Places.{same-or-not, get-set, get-other}
+use Rattle.step_laws.proofs.Places.{same-or-not, get-set, get-other, map-get}
+use Rattle.program_laws.proofs.UnitHands as hands
+use Rattle.program_laws.proofs.UnitActs.{IsGentle, IsActed, if-ok, act-acted, restart-gentle}
+use Rattle.program_laws.proofs.Vanishing.{send-ok}
+use Rattle.step_laws.proofs.Marks.{marked-suits}
+use Rattle.program_laws.proofs.Marks.{marked-told}
+use Rattle.program_laws.proofs.Sweeps.{swept-setup}
 
 -- no two subchannels reach the same side of a unit
 abbrev pub IsOneSided : State → Type 0
@@ -68,32 +79,33 @@ pub data PlaceStep (storage : Contents) (old new : Subchannel) (u v : Option Uni
   Is_cleared : new ≡ with_state old (cleared old.state) → v ≡ u → ((k : Option ProgramTrace) → f k ≡ k) → PlaceStep storage old new u v f
   Is_cancelled : new ≡ with_state old (cancelled old.state) → v ≡ u → ((k : Option ProgramTrace) → f k ≡ k) → PlaceStep storage old new u v f
   Is_modified : (pmcw : PmcwState) → new ≡ with_state old (record old.state { pmcw = pmcw }) → v ≡ u → ((k : Option ProgramTrace) → f k ≡ k) → PlaceStep storage old new u v f
-  -- the subsystem chooses a path
-  Is_chosen : (choice : Option ℕ) (t : SubTurn) → Suits (chosen old choice) old.state → choose_sub old (chosen old choice) ≡ Ok t → new ≡ t.sub → v ≡ u →
-      ((k : Option ProgramTrace) → f k ≡ chosen_at (Some old) t.reply k) → PlaceStep storage old new u v f
+  -- the subsystem chooses a path, and marks paths
+  Is_chosen : (choice : Option ℕ) (t : SubTurn) → Suits (chosen old choice) (marked_sub old choice).state →
+      choose_sub (marked_sub old choice) (chosen old choice) ≡ Ok t → new ≡ t.sub → v ≡ u → ((k : Option ProgramTrace) → f k ≡ chosen_at (Some (marked_sub old choice)) t.reply k) → PlaceStep storage old new u v f
   -- a signal comes up
   Meets : (path : ℕ) (returns : Bool) (t : UpTurn) → up_sub returns storage old path ≡ Ok t → new ≡ t.sub → v ≡ u →
       ((k : Option ProgramTrace) → f k ≡ met_at storage (Some old) path k) → PlaceStep storage old new u v f
   -- a signal goes down
-  Sinks : (path : ℕ) (may : Bool) (x : UnitState) (t : DownTurn) → u ≡ Some x → down_sub may old path x ≡ Ok t → new ≡ t.sub → v ≡ Some t.«unit» →
+  Sinks : (path : ℕ) (may owed : Bool) (x : UnitState) (t : DownTurn) → u ≡ Some x → down_sub may old path x ≡ Ok t → new ≡ t.sub → v ≡ Some (owing owed t.«unit») →
       ((k : Option ProgramTrace) → f k ≡ taken_at t.reply k) → PlaceStep storage old new u v f
   -- the unit takes its device's answer
   Is_reported : (report : Report) (x : UnitState) (t : DownTurn) → u ≡ Some x → same_side old.setup.side report.side ≡ true → report_sub old x report ≡ Ok t →
       new ≡ t.sub → v ≡ Some t.«unit» → ((k : Option ProgramTrace) → f k ≡ reported_at (Some x) report k) → PlaceStep storage old new u v f
   -- the unit does the same for the subchannel on its other side
-  Other_sinks : (other : Subchannel) (path : ℕ) (may : Bool) (x : UnitState) (t : DownTurn) → same_side other.setup.side old.setup.side ≡ false → u ≡ Some x →
-      down_sub may other path x ≡ Ok t → new ≡ old → v ≡ Some t.«unit» → ((k : Option ProgramTrace) → f k ≡ k) → PlaceStep storage old new u v f
+  Other_sinks : (other : Subchannel) (path : ℕ) (may owed : Bool) (x : UnitState) (t : DownTurn) → same_side other.setup.side old.setup.side ≡ false → u ≡ Some x →
+      down_sub may other path x ≡ Ok t → new ≡ old → v ≡ Some (owing owed t.«unit») → ((k : Option ProgramTrace) → f k ≡ k) → PlaceStep storage old new u v f
   Other_reported : (other : Subchannel) (report : Report) (x : UnitState) (t : DownTurn) → same_side other.setup.side old.setup.side ≡ false → u ≡ Some x →
       same_side other.setup.side report.side ≡ true → report_sub other x report ≡ Ok t → new ≡ old → v ≡ Some t.«unit» → ((k : Option ProgramTrace) → f k ≡ k) →
       PlaceStep storage old new u v f
-
-pub if-ok : {A : Type 0} (P : A → Type 0) (b : Bool) (x y : Result A Fault) → IfOk x P → IfOk y P → IfOk (if b then x else y) P
-if-ok P true x y e f = e
-if-ok P false x y e f = f
+  -- the unit acts of itself, or is restarted, and the subchannel may be told of it
+  Unit_acts : (x y : UnitState) (sends : Option (OnPath Up)) → u ≡ Some x → ((side : Side) → IsGentle side x y) → IfSome sends (λ z. hands.IsQuiet z.signal) →
+      new ≡ with_any_up old sends → v ≡ Some y → ((k : Option ProgramTrace) → f k ≡ k) → PlaceStep storage old new u v f
+  -- a channel path goes down, comes up or is reset, or all is reset
+  Is_swept : (what : Sweep) → new ≡ swept what old → v ≡ u → ((k : Option ProgramTrace) → f k ≡ k) → PlaceStep storage old new u v f
 
 -- no event changes how a subchannel is set up
 send-setup : (sub : Subchannel) (state : SubchannelState) (path : ℕ) (signal : Down) (r : Reply) → IfOk (send_sub sub state path signal r) (λ t. t.sub.setup ≡ sub.setup)
-send-setup sub state path signal r = if-ok (λ t. t.sub.setup ≡ sub.setup) (is_full sub.wires.down path) _ _ tt refl
+send-setup sub state path signal r = send-ok (λ t. t.sub.setup ≡ sub.setup) sub state path signal r refl
 
 choose-setup : (sub : Subchannel) (c : Chosen) → IfOk (choose_sub sub c) (λ t. t.sub.setup ≡ sub.setup)
 choose-setup sub Idle = refl
@@ -107,7 +119,7 @@ choose-setup sub (Offers c path) = send-setup sub _ path (down.Select (sub.state
 up_front-setup : (returns : Bool) → (storage : Contents) (sub : Subchannel) (path : ℕ) (front : Option Up) → IfOk (up_front returns storage sub path front) (λ t. t.sub.setup ≡ sub.setup)
 up_front-setup returns storage sub path None = tt
 up_front-setup returns storage sub path (Some signal) =
-    if-ok (λ t. t.sub.setup ≡ sub.setup) (finds_full sub.wires.down (takes_up returns storage sub.state path signal).step.came.sent) _ _ tt refl
+    if-ok (λ t. t.sub.setup ≡ sub.setup) (finds_full sub.wires.down (carried_by sub (takes_up returns storage sub.state path signal).step.came.sent)) _ _ tt refl
 
 up-setup : (returns : Bool) → (storage : Contents) (sub : Subchannel) (path : ℕ) → IfOk (up_sub returns storage sub path) (λ t. t.sub.setup ≡ sub.setup)
 up-setup returns storage sub path = if-ok (λ t. t.sub.setup ≡ sub.setup) (nat_lt path (length sub.setup.paths)) (up_front returns storage sub path (slice_get (queue sub.wires.up path) 0)) (Err fault.NoSuchPath) (up_front-setup returns storage sub path (slice_get (queue sub.wires.up path) 0)) tt
@@ -115,14 +127,14 @@ up-setup returns storage sub path = if-ok (λ t. t.sub.setup ≡ sub.setup) (nat
 down_front-setup : (may : Bool) → (sub : Subchannel) (path : ℕ) (u : UnitState) (front : Option Down) → IfOk (down_front may sub path u front) (λ t. t.sub.setup ≡ sub.setup)
 down_front-setup may sub path u None = tt
 down_front-setup may sub path u (Some signal) =
-    if-ok (λ t. t.sub.setup ≡ sub.setup) (finds_full sub.wires.up (unit_table.came_of (unit_takes u sub.setup.side path signal may)).sent) _ _ tt refl
+    if-ok (λ t. t.sub.setup ≡ sub.setup) (finds_full sub.wires.up (carried_by sub (unit_table.came_of (unit_takes u sub.setup.side path signal may)).sent)) _ _ tt refl
 
 down-setup : (may : Bool) → (sub : Subchannel) (path : ℕ) (u : UnitState) → IfOk (down_sub may sub path u) (λ t. t.sub.setup ≡ sub.setup)
 down-setup may sub path u = if-ok (λ t. t.sub.setup ≡ sub.setup) (nat_lt path (length sub.setup.paths)) (down_front may sub path u (slice_get (queue sub.wires.down path) 0)) (Err fault.NoSuchPath) (down_front-setup may sub path u (slice_get (queue sub.wires.down path) 0)) tt
 
 report-setup : (sub : Subchannel) (step : Option UnitStep) → IfOk (report_taken sub step) (λ t. t.sub.setup ≡ sub.setup)
 report-setup sub None = tt
-report-setup sub (Some step) = if-ok (λ t. t.sub.setup ≡ sub.setup) (finds_full sub.wires.up step.sent) _ _ tt refl
+report-setup sub (Some step) = if-ok (λ t. t.sub.setup ≡ sub.setup) (finds_full sub.wires.up (carried_by sub step.sent)) _ _ tt refl
 
 -- an event that tells nothing
 quiet-story : (place : ℕ) (s : State) (e : Event) (r : Reply) → IsQuiet e r → (k : Option ProgramTrace) → trace_after place s e r k ≡ k
@@ -135,6 +147,13 @@ quiet-story place s (event.Choose word) r q k = absurd q
 quiet-story place s (event.Up word path) r q k = absurd q
 quiet-story place s (event.Down word path) r q k = absurd q
 quiet-story place s (event.Report at report) r q k = absurd q
+quiet-story place s (event.ExecuteOther cpu i) r q k = refl
+quiet-story place s (event.Act at what) r q k = refl
+quiet-story place s (event.Restart at) r q k = refl
+quiet-story place s (event.PathDown chpid) r q k = refl
+quiet-story place s (event.PathUp chpid) r q k = refl
+quiet-story place s (event.PathReset chpid) r q k = refl
+quiet-story place s event.SystemReset r q k = refl
 
 module _ (s : State) (one : IsOneSided s) (place : ℕ) where
   -- what there is at the place after a step, and what was before
@@ -230,6 +249,34 @@ module _ (s : State) (one : IsOneSided s) (place : ℕ) where
             ]
       ]
 
+  -- a unit alone
+  alone-turns : (new : State) (i : ℕ) (u v : UnitState) (f : Option ProgramTrace → Option ProgramTrace) → slice_get s.units i ≡ Some u → new.subs ≡ s.subs → new.units ≡ slice_set s.units i v →
+      ((side : Side) → IsGentle side u v) → ((k : Option ProgramTrace) → f k ≡ k) → At new f
+  alone-turns new i u v f found subs units gentle same x h =
+      let was : slice_get s.subs place ≡ Some x = subst (λ (xs : List Subchannel). slice_get xs place ≡ Some x) subs h in
+      let now : slice_get new.units i ≡ Some v = subst (λ (us : List UnitState). slice_get us i ≡ Some v) (sym units) (get-set s.units i u v found) in (
+        x,
+        was,
+        refl,
+        elim (same-or-not i x.setup.«unit») [
+          | inl its ↦
+              Unit_acts u v None (ap (λ (j : ℕ). slice_get s.units j) (sym its.0) ∙ found) gentle tt refl (ap (λ (j : ℕ). slice_get new.units j) (sym its.0) ∙ now) same
+          | inr l ↦ Stays refl (ap (λ (us : List UnitState). slice_get us x.setup.«unit») units ∙ get-other s.units i v x.setup.«unit» (λ n. l.0 (sym n))) same
+        ],
+      )
+
+  -- every subchannel
+  sweep-turns : (new : State) (what : Sweep) (f : Option ProgramTrace → Option ProgramTrace) → new.subs ≡ map (swept what) s.subs →
+      new.units ≡ s.units → ((k : Option ProgramTrace) → f k ≡ k) → At new f
+  sweep-turns new what f subs units same x h =
+      let a : (sub : Subchannel) × (slice_get s.subs place ≡ Some sub) × (swept what sub ≡ x) =
+      map-get (swept what) s.subs place x (subst (λ (xs : List Subchannel). slice_get xs place ≡ Some x) subs h) in (
+        a.0,
+        a.1,
+        ap (λ (z : Subchannel). z.setup) (sym a.2) ∙ swept-setup what a.0,
+        Is_swept what (sym a.2) (ap (λ (us : List UnitState). slice_get us a.0.setup.«unit») units) same,
+      )
+
   start-turns : (e : Event) (r : Reply) (new : State) (at : ℕ) (sub : Subchannel) (orb : Orb) (c : ConditionCode) → ((k : Option ProgramTrace) → trace_after place s e r k ≡ k) →
       OneSub s new at sub (function_sub sub c (started sub.state orb)).sub → At new (trace_after place s e r)
   start-turns e r new at sub orb code.Zero q o = sub-turns new at sub _ _ o refl (λ there w. Starts_with_orb orb refl refl q) (λ w. q)
@@ -265,25 +312,27 @@ module _ (s : State) (one : IsOneSided s) (place : ℕ) where
   perform-turns e r new at sub f code.Three q o = quiet-turns new e r at sub _ o refl q (Stays refl refl (quiet-story place s e r q))
 
   step-turns : (e : Event) (r : Reply) (new : State) → Walked s e r new → At new (trace_after place s e r)
-  step-turns _ _ _ (walked.Stays e r new q sets subs units) = stays new (trace_after place s e r) subs units (quiet-story place s e r q)
+  step-turns _ _ _ (walked.Stays e r new q sets subs units up) = stays new (trace_after place s e r) subs units (quiet-story place s e r q)
   step-turns _ _ _ (walked.Started cpu word address at sub orb c new n o) = start-turns (event.Execute cpu (instruction.Ssch word address)) (function_sub sub c (started sub.state orb)).reply new at sub orb c (λ k. refl) o
-  step-turns _ _ _ (walked.Tested e r at sub c new q o) = test-turns e r new at sub c q o
+  step-turns _ _ _ (walked.Tested e r at sub c new q o address by answers) = test-turns e r new at sub c q o
   step-turns _ _ _ (walked.Modified e r at sub given c new q o) = modify-turns e r new at sub given c q o
-  step-turns _ _ _ (walked.Performed e r at sub f c new q o) = perform-turns e r new at sub f c q o
+  step-turns _ _ _ (walked.Performed e r at sub f c new q o by answers) = perform-turns e r new at sub f c q o
   step-turns _ _ _ (walked.Chosen word at sub choice t new n x f h o) =
-      sub-turns new at sub t.sub _ o (subst (λ (o : Result SubTurn Fault). IfOk o (λ t. t.sub.setup ≡ sub.setup)) h (choose-setup sub (chosen sub choice)))
-      (λ there w. Is_chosen choice t f h refl refl
-      (λ k. here (place_of s word) at (chosen_at (slice_get s.subs place) t.reply) n w k ∙ ap (λ q. chosen_at q t.reply k) there))
+      let m : Subchannel = marked_sub sub choice in
+      sub-turns new at sub t.sub _ o (subst (λ (o : Result SubTurn Fault). IfOk o (λ t. t.sub.setup ≡ sub.setup)) h (choose-setup m (chosen sub choice)))
+      (λ there w. Is_chosen choice t (marked-suits (chosen sub choice) sub.state m.state.pmcw m.state.scsw f) h refl refl
+      (λ k. here (place_of s word) at (chosen_at (slice_get s.subs place) t.reply) n w k ∙ ap (λ q. chosen_at q t.reply k) there
+      ∙ marked-told sub m.state.pmcw m.state.scsw t.reply k))
       (λ w. elsewhere (place_of s word) at (chosen_at (slice_get s.subs place) t.reply) n w)
-  step-turns _ _ _ (walked.Met word path returns at sub t new n h o) =
+  step-turns _ _ _ (walked.Met word path returns at sub t new n h o may) =
       sub-turns new at sub t.sub _ o (subst (λ (o : Result UpTurn Fault). IfOk o (λ t. t.sub.setup ≡ sub.setup)) h (up-setup returns s.storage sub path))
       (λ there w. Meets path returns t h refl refl
       (λ k. here (place_of s word) at (met_at s.storage (slice_get s.subs place) path) n w k ∙ ap (λ q. met_at s.storage q path k) there))
       (λ w. elsewhere (place_of s word) at (met_at s.storage (slice_get s.subs place) path) n w)
-  step-turns _ _ _ (walked.Sunk word path may at sub u t new n h o) =
-      unit-turns new at sub.setup.«unit» sub t.sub u t.«unit» _ o refl (subst (λ (o : Result DownTurn Fault). IfOk o (λ t. t.sub.setup ≡ sub.setup)) h (down-setup may sub path u))
-      (λ w. Sinks path may u t refl h refl refl (here (place_of s word) at (taken_at t.reply) n w))
-      (λ x side w. Other_sinks sub path may u t side refl h refl refl (elsewhere (place_of s word) at (taken_at t.reply) n w))
+  step-turns _ _ _ (walked.Sunk word path may owed at sub u t new n h o) =
+      unit-turns new at sub.setup.«unit» sub t.sub u (owing owed t.«unit») _ o refl (subst (λ (o : Result DownTurn Fault). IfOk o (λ t. t.sub.setup ≡ sub.setup)) h (down-setup may sub path u))
+      (λ w. Sinks path may owed u t refl h refl refl (here (place_of s word) at (taken_at t.reply) n w))
+      (λ x side w. Other_sinks sub path may owed u t side refl h refl refl (elsewhere (place_of s word) at (taken_at t.reply) n w))
       (λ w. elsewhere (place_of s word) at (taken_at t.reply) n w)
   step-turns _ _ _ (walked.Reported i at sub u report t new n reached h o) =
       let both : ((sub.setup.«unit» == i) ≡ true) × (same_side sub.setup.side report.side ≡ true) = and_parts (sub.setup.«unit» == i) (same_side sub.setup.side report.side) reached in
@@ -294,6 +343,15 @@ module _ (s : State) (one : IsOneSided s) (place : ℕ) where
       (λ k. here (reached_in i report.side s.subs) at g n w k ∙ ap (λ q. reported_at q report k) o.found))
       (λ x side w. Other_reported sub report u t side refl both.1 h refl refl (elsewhere (reached_in i report.side s.subs) at g n w))
       (λ w. elsewhere (reached_in i report.side s.subs) at g n w)
+  step-turns _ _ _ (walked.Acted i at sub u what t new side its h o) =
+      let acted : IsActed sub u t = subst (λ (o : Result DownTurn Fault). IfOk o (IsActed sub u)) h (act-acted sub u what) in
+      unit-turns new at i sub t.sub u t.«unit» _ o (sym its) (ap (λ (x : Subchannel). x.setup) acted.sub_is)
+      (λ w. Unit_acts u t.«unit» acted.sends refl acted.gentle acted.quiet acted.sub_is refl (λ k. refl))
+      (λ x apart w. Unit_acts u t.«unit» None refl acted.gentle tt refl refl (λ k. refl))
+      (λ w k. refl)
+  step-turns _ _ _ (walked.Restarted i owed u r new found sets subs units up) =
+      alone-turns new i u (owing owed (restarted u)) _ found subs units (λ side. restart-gentle side owed u) (λ k. refl)
+  step-turns _ _ _ (walked.Swept e r what new q sets subs units by) = sweep-turns new what _ subs units (quiet-story place s e r q)
 
   pub step-happens : (e : Event) (r : Reply) (new : State) → Walked s e r new → (x : Subchannel) → slice_get new.subs place ≡ Some x →
       (sub : Subchannel) × (slice_get s.subs place ≡ Some sub) × (x.setup ≡ sub.setup)

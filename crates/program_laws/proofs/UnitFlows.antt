@@ -1,5 +1,5 @@
 -- The bytes of a write: the device is level with the subsystem, or one chunk ahead.
-use Rattle.std.proofs.Common.{◌≡◌, refl, sym, ◌∙◌, ap, subst, ℕ, ◌+◌, ◌-◌, ◌≤◌, length, Option, None, Some, List, [], ◌∷◌, ◌++◌, take, inl, inr, arith}
+use Rattle.std.proofs.Common.{◌≡◌, refl, sym, ◌∙◌, ap, subst, ℕ, ◌+◌, ◌-◌, ◌≤◌, Bool, length, Option, None, Some, List, [], ◌∷◌, ◌++◌, take, inl, inr, arith}
 use Rattle.std.specs.Prelude.{◌⊎◌, All, Contains}
 use Rattle.std.specs.List.{flat_map}
 use Rattle.std.proofs.lemmas.List.{append-nil}
@@ -96,6 +96,12 @@ pub answer-hand : (v : View) (lead : Option ℕ) (x : AtHand) (l : Load) (room :
 answer-hand v lead x l room (Level q g m) = Level q g m
 answer-hand v lead x l room (Pending q a m p) = Pending q refl m p
 answer-hand v lead x l room (Ahead q g j m a b) = Ahead q g j m (λ y e. absurd (cc e)) b
+
+-- Leave: what is not answered is to be sent again
+pub again-hand : (v : View) (lead : Option ℕ) (x : AtHand) (again : Bool) → Hand v lead x → Hand v lead (record x { again = again })
+again-hand v lead x again (Level q g m) = Level q g m
+again-hand v lead x again (Pending q a m p) = Pending q a m p
+again-hand v lead x again (Ahead q g j m a b) = Ahead q g j m a b
 
 -- the first bytes of a chunk
 take-all : {A : Type 0} (n : ℕ) (xs : List A) → length xs ≡ n → take n xs ≡ xs

@@ -272,7 +272,7 @@ IsQuiet (up.Attn a status) = Unit {0}
 abbrev pub IsQuietStep : Option UnitStep → Type 0
 IsQuietStep step = IfSome (came_of step).sent (λ x. IsQuiet x.signal)
 
-if-quiet : (c : Bool) (x y : Option UnitStep) → IsQuietStep x → IsQuietStep y → IsQuietStep (if c then x else y)
+pub if-quiet : (c : Bool) (x y : Option UnitStep) → IsQuietStep x → IsQuietStep y → IsQuietStep (if c then x else y)
 if-quiet true x y e f = e
 if-quiet false x y e f = f
 

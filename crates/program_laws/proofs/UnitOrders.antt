@@ -69,7 +69,7 @@ pub record IsOrdered (side : Side) (drawn number sent : ℕ) (codes took : List 
   pub kept : IsNumbered side drawn number took u
 
 -- queues
-queue-set : {A : Type 0} (P : A → Type 0) (queues : List (List A)) (k : ℕ) (xs : List A) → AreOn P queues → All P xs → AreOn P (slice_set queues k xs)
+pub queue-set : {A : Type 0} (P : A → Type 0) (queues : List (List A)) (k : ℕ) (xs : List A) → AreOn P queues → All P xs → AreOn P (slice_set queues k xs)
 queue-set P [] k xs all h p = all p
 queue-set P (ys ∷ queues) zero xs all h zero = h
 queue-set P (ys ∷ queues) zero xs all h (suc p) = all (suc p)

@@ -41,7 +41,7 @@ if-still side u true x y e f = e
 if-still side u false x y e f = f
 
 -- the sides and the owner are as they were
-same-own : (side : Side) (u v : UnitState) → side_of v side ≡ side_of u side → v.own ≡ u.own → v.last_command ≡ u.last_command → IsStill side u v
+pub same-own : (side : Side) (u v : UnitState) → side_of v side ≡ side_of u side → v.own ≡ u.own → v.last_command ≡ u.last_command → IsStill side u v
 same-own side u v s o l = record { side_state = s; owner = λ t e. (ap (λ (x : Own). is_owner x side t) (sym o) ∙ e, l) }
 
 pub same-sides : (side : Side) (u v : UnitState) → v.first ≡ u.first → v.second ≡ u.second → side_of v side ≡ side_of u side
@@ -49,7 +49,7 @@ same-sides First u v e f = e
 same-sides Second u v e f = f
 
 -- the place alone is another
-same-program : (side k : Side) (n : ℕ) (place to : Place) (u : UnitState) → u.own ≡ own.Owned k n place → IsStill side u (record u { own = own.Owned k n to })
+pub same-program : (side k : Side) (n : ℕ) (place to : Place) (u : UnitState) → u.own ≡ own.Owned k n place → IsStill side u (record u { own = own.Owned k n to })
 same-program side k n place to u o = record {
   side_state = same-sides side u (record u { own = own.Owned k n to }) refl refl;
   owner = λ t e. (ap (λ (x : Own). is_owner x side t) o ∙ e, refl);

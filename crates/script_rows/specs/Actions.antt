@@ -3,12 +3,18 @@ use Rattle.std.specs.Prelude.{ℕ, ◌%◌, ◌==◌, ◌&&◌, nat_le, List, []
 use Rattle.std.specs.Str.{bytes_eq}
 use Rattle.chan_events.specs.declared.event.Instruction.{Instruction}
 use Rattle.chan_events.specs.declared.event.Instruction.TheVariants.{Ssch, Tsch, Stsch, Msch, Rsch, Hsch, Csch, Xsch, Enable}
+use Rattle.chan_events.specs.declared.event.OtherInstruction.{OtherInstruction}
+use Rattle.chan_events.specs.declared.event.OtherInstruction.TheVariants.{Tpi, Rchp, Stcrw, Stcps}
+use Rattle.chan_events.specs.declared.event.UnitAct.{UnitAct}
+use Rattle.chan_events.specs.declared.event.UnitAct.TheVariants as act
 use Rattle.chan_events.specs.declared.event.Event.TheVariants as event
+use Rattle.chan_model.specs.declared.names.Side.{Side}
+use Rattle.chan_model.specs.declared.names.Side.TheVariants.{First, Second}
 use Rattle.storage_keys.specs.Storage.{key_of_byte}
 use Rattle.storage_keys.specs.declared.key.Key.{Key}
 use Rattle.script_rows.specs.declared.Action.{Action}
 use Rattle.script_rows.specs.declared.Action.TheVariants as action
-use Rattle.script_rows.specs.Words.{and_then, number, number_up_to, hex_bytes, subchannel, with_one, with_two, with_three}
+use Rattle.script_rows.specs.Words.{and_then, number, number_up_to, hex_bytes, subchannel, or_rule_3, with_one, with_two, with_three}
 
 -- `enable SUBCHANNEL SUBCLASS MULTIPATH`
 abbrev pub enable_row : List (List ℕ) → Result Instruction ℕ
@@ -67,22 +73,60 @@ instruction_row w ws = if bytes_eq w (codes "enable") then Some (enable_row ws)
     else (if bytes_eq w (codes "xsch") then Some (xsch_row ws)
     else None))))))))
 
+-- `tpi MASK ADDRESS`
+abbrev pub tpi_row : List (List ℕ) → Result OtherInstruction ℕ
+tpi_row = with_two (λ m a. and_then (number_up_to 0xFF m) (λ m. and_then (number a) (λ a. Some (Tpi m a))))
+
+-- `rchp REGISTER`
+abbrev pub rchp_row : List (List ℕ) → Result OtherInstruction ℕ
+rchp_row = with_one (λ p. and_then (number p) (λ p. Some (Rchp p)))
+
+-- `stcrw ADDRESS`
+abbrev pub stcrw_row : List (List ℕ) → Result OtherInstruction ℕ
+stcrw_row = with_one (λ a. and_then (number a) (λ a. Some (Stcrw a)))
+
+-- `stcps ADDRESS`
+abbrev pub stcps_row : List (List ℕ) → Result OtherInstruction ℕ
+stcps_row = with_one (λ a. and_then (number a) (λ a. Some (Stcps a)))
+
+-- the table of the instructions that name no subchannel
+abbrev pub other_row : List ℕ → List (List ℕ) → Option (Result OtherInstruction ℕ)
+other_row w ws = if bytes_eq w (codes "tpi") then Some (tpi_row ws)
+    else (if bytes_eq w (codes "rchp") then Some (rchp_row ws)
+    else (if bytes_eq w (codes "stcrw") then Some (stcrw_row ws)
+    else (if bytes_eq w (codes "stcps") then Some (stcps_row ws)
+    else None)))
+
 -- a CPU executes what the words say; rule 3 where there is no such CPU
 abbrev pub on_cpu : Option ℕ → Result Instruction ℕ → Result Action ℕ
 on_cpu cpu (Err rule) = Err rule
 on_cpu None (Ok instruction) = Err 3
 on_cpu (Some cpu) (Ok instruction) = Ok (action.Event (event.Execute cpu instruction))
 
+abbrev pub other_on_cpu : Option ℕ → Result OtherInstruction ℕ → Result Action ℕ
+other_on_cpu cpu (Err rule) = Err rule
+other_on_cpu None (Ok instruction) = Err 3
+other_on_cpu (Some cpu) (Ok instruction) = Ok (action.Event (event.ExecuteOther cpu instruction))
+
+abbrev pub said_on : Option ℕ → Option (Result Instruction ℕ) → Option (Result OtherInstruction ℕ) → Option (Result Action ℕ)
+said_on cpu (Some said) other = Some (on_cpu cpu said)
+said_on cpu None (Some said) = Some (other_on_cpu cpu said)
+said_on cpu None None = None
+
+-- what a CPU executes, where an instruction is named
+abbrev pub executed_row : Option ℕ → List ℕ → List (List ℕ) → Option (Result Action ℕ)
+executed_row cpu w ws = said_on cpu (instruction_row w ws) (other_row w ws)
+
 -- rule 1: no instruction is named
-abbrev pub on_cpu_or_rule_1 : Option ℕ → Option (Result Instruction ℕ) → Result Action ℕ
-on_cpu_or_rule_1 cpu None = Err 1
-on_cpu_or_rule_1 cpu (Some said) = on_cpu cpu said
+abbrev pub or_rule_1 : Option (Result Action ℕ) → Result Action ℕ
+or_rule_1 None = Err 1
+or_rule_1 (Some said) = said
 
 -- `cpu NUMBER INSTRUCTION ..`
 abbrev pub cpu_row : List (List ℕ) → Result Action ℕ
 cpu_row [] = Err 1
 cpu_row (n ∷ []) = Err 1
-cpu_row (n ∷ w ∷ ws) = on_cpu_or_rule_1 (number_up_to 0xF n) (instruction_row w ws)
+cpu_row (n ∷ w ∷ ws) = or_rule_1 (executed_row (number_up_to 0xF n) w ws)
 
 -- `put ADDRESS BYTES`
 abbrev pub put_row : List (List ℕ) → Result Action ℕ
@@ -128,6 +172,62 @@ dev_row = with_one (λ u. and_then (number u) (λ u. Some (action.Dev u)))
 abbrev pub glance_row : List (List ℕ) → Result Action ℕ
 glance_row = with_one (λ s. and_then (subchannel s) (λ s. Some (action.Glance s)))
 
+abbrev pub acts : ℕ → UnitAct → Action
+acts u act = action.Event (event.Act u act)
+
+-- `leave UNIT`
+abbrev pub leave_row : List (List ℕ) → Result Action ℕ
+leave_row = with_one (λ u. and_then (number u) (λ u. Some (acts u act.Leave)))
+
+-- `ask UNIT PATH`
+abbrev pub ask_row : List (List ℕ) → Result Action ℕ
+ask_row = with_two (λ u p. and_then (number u) (λ u. and_then (number p) (λ p. Some (acts u (act.Ask p)))))
+
+-- a side of a unit: the first is 0, the second 1
+abbrev pub side_named : List ℕ → Option Side
+side_named word = and_then (number_up_to 1 word) (λ k. Some (if k == 0 then First else Second))
+
+-- a unit, a path and a side, which is the first where none is named
+abbrev pub side_row : List (List ℕ) → Result (ℕ × ℕ × Side) ℕ
+side_row [] = Err 2
+side_row (u ∷ []) = Err 2
+side_row (u ∷ p ∷ []) = or_rule_3 (and_then (number u) (λ u. and_then (number p) (λ p. Some (u, p, First))))
+side_row (u ∷ p ∷ k ∷ []) = or_rule_3 (and_then (number u) (λ u. and_then (number p) (λ p. and_then (side_named k) (λ k. Some (u, p, k)))))
+side_row (u ∷ p ∷ k ∷ w ∷ ws) = Err 2
+
+abbrev pub acts_at : (ℕ → Side → UnitAct) → Result (ℕ × ℕ × Side) ℕ → Result Action ℕ
+acts_at act (Err rule) = Err rule
+acts_at act (Ok said) = Ok (acts said.0 (act said.1 said.2))
+
+-- `attn UNIT PATH SIDE`
+abbrev pub attn_row : List (List ℕ) → Result Action ℕ
+attn_row ws = acts_at act.Attention (side_row ws)
+
+-- `notice UNIT PATH SIDE`
+abbrev pub notice_row : List (List ℕ) → Result Action ℕ
+notice_row ws = acts_at act.Notice (side_row ws)
+
+-- `restart UNIT`
+abbrev pub restart_row : List (List ℕ) → Result Action ℕ
+restart_row = with_one (λ u. and_then (number u) (λ u. Some (action.Event (event.Restart u))))
+
+-- `pathdown CHPID`
+abbrev pub pathdown_row : List (List ℕ) → Result Action ℕ
+pathdown_row = with_one (λ c. and_then (number c) (λ c. Some (action.Event (event.PathDown c))))
+
+-- `pathup CHPID`
+abbrev pub pathup_row : List (List ℕ) → Result Action ℕ
+pathup_row = with_one (λ c. and_then (number c) (λ c. Some (action.Event (event.PathUp c))))
+
+-- `pathreset CHPID`
+abbrev pub pathreset_row : List (List ℕ) → Result Action ℕ
+pathreset_row = with_one (λ c. and_then (number c) (λ c. Some (action.Event (event.PathReset c))))
+
+-- `sysreset`
+abbrev pub sysreset_row : List (List ℕ) → Result Action ℕ
+sysreset_row [] = Ok (action.Event event.SystemReset)
+sysreset_row (w ∷ ws) = Err 2
+
 -- the lines that set and show storage
 abbrev pub storage_row : List ℕ → List (List ℕ) → Option (Result Action ℕ)
 storage_row w ws = if bytes_eq w (codes "put") then Some (put_row ws)
@@ -146,18 +246,31 @@ subsystem_row w ws = if bytes_eq w (codes "cpu") then Some (cpu_row ws)
     else (if bytes_eq w (codes "glance") then Some (glance_row ws)
     else None)))))
 
+-- the lines of what units do of themselves
+abbrev pub act_row : List ℕ → List (List ℕ) → Option (Result Action ℕ)
+act_row w ws = if bytes_eq w (codes "leave") then Some (leave_row ws)
+    else (if bytes_eq w (codes "ask") then Some (ask_row ws)
+    else (if bytes_eq w (codes "attn") then Some (attn_row ws)
+    else (if bytes_eq w (codes "notice") then Some (notice_row ws)
+    else (if bytes_eq w (codes "restart") then Some (restart_row ws)
+    else None))))
+
+-- the lines of channel paths, and of the reset of the channel subsystem
+abbrev pub path_row : List ℕ → List (List ℕ) → Option (Result Action ℕ)
+path_row w ws = if bytes_eq w (codes "pathdown") then Some (pathdown_row ws)
+    else (if bytes_eq w (codes "pathup") then Some (pathup_row ws)
+    else (if bytes_eq w (codes "pathreset") then Some (pathreset_row ws)
+    else (if bytes_eq w (codes "sysreset") then Some (sysreset_row ws)
+    else None)))
+
 abbrev pub or_row : Option (Result Action ℕ) → Option (Result Action ℕ) → Option (Result Action ℕ)
 or_row (Some said) other = Some said
 or_row None other = other
 
 -- the table of the other lines
 abbrev pub event_row : List ℕ → List (List ℕ) → Option (Result Action ℕ)
-event_row w ws = or_row (storage_row w ws) (subsystem_row w ws)
-
-abbrev pub on_first_cpu : Option (Result Instruction ℕ) → Option (Result Action ℕ) → Option (Result Action ℕ)
-on_first_cpu (Some said) other = Some (on_cpu (Some 0) said)
-on_first_cpu None other = other
+event_row w ws = or_row (storage_row w ws) (or_row (subsystem_row w ws) (or_row (act_row w ws) (path_row w ws)))
 
 -- an instruction without `cpu` is of CPU 0
 abbrev pub action_row : List ℕ → List (List ℕ) → Option (Result Action ℕ)
-action_row w ws = on_first_cpu (instruction_row w ws) (event_row w ws)
+action_row w ws = or_row (executed_row (Some 0) w ws) (event_row w ws)

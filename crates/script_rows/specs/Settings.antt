@@ -3,9 +3,9 @@ use Rattle.std.specs.Prelude.{ℕ, List, [], ◌∷◌, Option, Some, None, Resu
 use Rattle.std.specs.Str.{bytes_eq}
 use Rattle.channel_config.specs.declared.parts.UnitKind.{UnitKind}
 use Rattle.channel_config.specs.declared.parts.UnitKind.TheVariants.{Block, Console, Rejecting}
-use Rattle.channel_config.specs.Setup.{Setup, with_storage, with_sets, with_path, with_unit, with_subchannel}
+use Rattle.channel_config.specs.Setup.{Setup, with_storage, with_sets, with_path, with_unit, with_share, with_subchannel}
 use Rattle.script_rows.specs.declared.settings.Setting.{Setting}
-use Rattle.script_rows.specs.declared.settings.Setting.TheVariants.{Storage, Sets, Path, Unit, Subchannel}
+use Rattle.script_rows.specs.declared.settings.Setting.TheVariants.{Storage, Sets, Path, Unit, Share, Subchannel}
 use Rattle.script_rows.specs.Words.{and_then, number, numbers_of, subchannel, or_rule_3, with_one, with_two}
 
 abbrev pub kind_named : List ℕ → Option UnitKind
@@ -30,6 +30,12 @@ path_row = with_one (λ c. and_then (number c) (λ c. Some (Path c)))
 abbrev pub unit_row : List (List ℕ) → Result Setting ℕ
 unit_row = with_two (λ n k. and_then (number n) (λ n. and_then (kind_named k) (λ k. Some (Unit n k))))
 
+-- `share UNIT UNIT..`
+abbrev pub share_row : List (List ℕ) → Result Setting ℕ
+share_row [] = Err 2
+share_row (u ∷ []) = Err 2
+share_row (u ∷ v ∷ us) = or_rule_3 (and_then (numbers_of (u ∷ v ∷ us)) (λ units. Some (Share units)))
+
 -- `sub SUBCHANNEL DEVICE UNIT CHPID..`
 abbrev pub sub_row : List (List ℕ) → Result Setting ℕ
 sub_row [] = Err 2
@@ -44,8 +50,9 @@ setting_row w ws = if bytes_eq w (codes "storage") then Some (storage_setting_ro
     else (if bytes_eq w (codes "sets") then Some (sets_row ws)
     else (if bytes_eq w (codes "path") then Some (path_row ws)
     else (if bytes_eq w (codes "unit") then Some (unit_row ws)
+    else (if bytes_eq w (codes "share") then Some (share_row ws)
     else (if bytes_eq w (codes "sub") then Some (sub_row ws)
-    else None))))
+    else None)))))
 
 -- the set-up with one more setting, or the rule of configurations that it breaks
 abbrev pub configured : Setup → Setting → Result Setup ℕ
@@ -53,4 +60,5 @@ configured s (Storage blocks) = with_storage s blocks
 configured s (Sets count) = with_sets s count
 configured s (Path chpid) = with_path s chpid
 configured s (Unit number kind) = with_unit s number kind
+configured s (Share units) = with_share s units
 configured s (Subchannel word device unit paths) = with_subchannel s word device unit paths

@@ -5,8 +5,10 @@ ghost use Rattle.script_rows.specs.Words.{number_up_to};
 ghost use Rattle.script_rows.specs.Actions as spec;
 
 use crate::Action;
+use crate::acts::act_row;
+use crate::paths::path_row;
 use crate::words::{hex_bytes, number, number_up_to, one, subchannel, three, two};
-use chan_events::event::{Event, Instruction};
+use chan_events::event::{Event, Instruction, OtherInstruction};
 use chan_model::chunk::ChunkLength;
 use chan_model::names::Cpu;
 use storage_keys::key::Key;
@@ -141,6 +143,61 @@ fn instruction_row(word: &[u8], words: &[&[u8]]) -> Option<Result<Instruction, u
     None
 }
 
+fn tpi_row(words: &[&[u8]]) -> Result<OtherInstruction, u8>
+    ensures { result ≡ spec.tpi_row (map (λ w. w.now) words.now) }
+{
+    let (mask, address) = two(words).ok_or(2)?;
+    let mask = number_up_to(0xFF, mask).ok_or(3)?;
+    let address = number(address).ok_or(3)?;
+    Ok(OtherInstruction::Tpi {
+        mask: mask as u8,
+        address,
+    })
+}
+
+fn rchp_row(words: &[&[u8]]) -> Result<OtherInstruction, u8>
+    ensures { result ≡ spec.rchp_row (map (λ w. w.now) words.now) }
+{
+    let path = one(words).ok_or(2)?;
+    let path = number(path).ok_or(3)?;
+    Ok(OtherInstruction::Rchp { path })
+}
+
+fn stcrw_row(words: &[&[u8]]) -> Result<OtherInstruction, u8>
+    ensures { result ≡ spec.stcrw_row (map (λ w. w.now) words.now) }
+{
+    let address = one(words).ok_or(2)?;
+    let address = number(address).ok_or(3)?;
+    Ok(OtherInstruction::Stcrw { address })
+}
+
+fn stcps_row(words: &[&[u8]]) -> Result<OtherInstruction, u8>
+    ensures { result ≡ spec.stcps_row (map (λ w. w.now) words.now) }
+{
+    let address = one(words).ok_or(2)?;
+    let address = number(address).ok_or(3)?;
+    Ok(OtherInstruction::Stcps { address })
+}
+
+/// The instruction without a subchannel that a line's words ask for, where its first word names one.
+fn other_row(word: &[u8], words: &[&[u8]]) -> Option<Result<OtherInstruction, u8>>
+    ensures { result ≡ spec.other_row word.now (map (λ w. w.now) words.now) }
+{
+    if word == b"tpi".as_slice() {
+        return Some(tpi_row(words));
+    }
+    if word == b"rchp".as_slice() {
+        return Some(rchp_row(words));
+    }
+    if word == b"stcrw".as_slice() {
+        return Some(stcrw_row(words));
+    }
+    if word == b"stcps".as_slice() {
+        return Some(stcps_row(words));
+    }
+    None
+}
+
 fn cpu_named(word: &[u8]) -> Option<Cpu>
     ensures { result ≡ number_up_to 0xF word.now }
 {
@@ -155,14 +212,35 @@ fn on_cpu(cpu: Option<Cpu>, said: Result<Instruction, u8>) -> Result<Action, u8>
     Ok(Action::Event(Event::Execute { cpu, instruction }))
 }
 
+fn other_on_cpu(cpu: Option<Cpu>, said: Result<OtherInstruction, u8>) -> Result<Action, u8>
+    ensures { result ≡ spec.other_on_cpu cpu said }
+{
+    let instruction = said?;
+    let cpu = cpu.ok_or(3)?;
+    Ok(Action::Event(Event::ExecuteOther { cpu, instruction }))
+}
+
+/// What a CPU executes, where a line's first word names an instruction.
+fn executed_row(cpu: Option<Cpu>, word: &[u8], words: &[&[u8]]) -> Option<Result<Action, u8>>
+    ensures { result ≡ spec.executed_row cpu word.now (map (λ w. w.now) words.now) }
+{
+    match instruction_row(word, words) {
+        Some(said) => Some(on_cpu(cpu, said)),
+        None => match other_row(word, words) {
+            Some(said) => Some(other_on_cpu(cpu, said)),
+            None => None,
+        },
+    }
+}
+
 fn cpu_row(words: &[&[u8]]) -> Result<Action, u8>
     ensures { result ≡ spec.cpu_row (map (λ w. w.now) words.now) }
 {
     match words {
         [] => Err(1),
         [_] => Err(1),
-        [cpu, word, others @ ..] => match instruction_row(word, others) {
-            Some(said) => on_cpu(cpu_named(cpu), said),
+        [cpu, word, others @ ..] => match executed_row(cpu_named(cpu), word, others) {
+            Some(said) => said,
             None => Err(1),
         },
     }
@@ -318,7 +396,13 @@ fn event_row(word: &[u8], words: &[&[u8]]) -> Option<Result<Action, u8>>
 {
     match storage_row(word, words) {
         Some(said) => Some(said),
-        None => subsystem_row(word, words),
+        None => match subsystem_row(word, words) {
+            Some(said) => Some(said),
+            None => match act_row(word, words) {
+                Some(said) => Some(said),
+                None => path_row(word, words),
+            },
+        },
     }
 }
 
@@ -326,8 +410,8 @@ fn event_row(word: &[u8], words: &[&[u8]]) -> Option<Result<Action, u8>>
 pub fn action_row(word: &[u8], words: &[&[u8]]) -> Option<Result<Action, u8>>
     ensures { result ≡ spec.action_row word.now (map (λ w. w.now) words.now) }
 {
-    match instruction_row(word, words) {
-        Some(said) => Some(on_cpu(Cpu::new(0), said)),
+    match executed_row(Cpu::new(0), word, words) {
+        Some(said) => Some(said),
         None => event_row(word, words),
     }
 }

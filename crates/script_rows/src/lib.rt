@@ -2,6 +2,8 @@
 #![tactic(auto)]
 
 pub mod actions;
+mod acts;
+mod paths;
 pub mod settings;
 pub mod words;
 

@@ -27,6 +27,9 @@ pub enum Setting {
         number: u32,
         kind: UnitKind,
     },
+    Share {
+        units: Numbers,
+    },
     Subchannel {
         word: u32,
         device: u32,
@@ -80,6 +83,26 @@ fn unit_row(words: &[&[u8]]) -> Result<Setting, u8>
     let unit = number(unit).ok_or(3)?;
     let kind = kind_named(kind).ok_or(3)?;
     Ok(Setting::Unit { number: unit, kind })
+}
+
+fn share_row<S: Supply>(
+    alloc: Global,
+    supply: &mut S,
+    words: &[&[u8]],
+) -> Result<Setting, LineFault>
+    ensures says { MatchResult result (λ s. spec.share_row (map (λ w. w.now) words.now) ≡ Ok s)
+        (λ f. FaultOf f (spec.share_row (map (λ w. w.now) words.now))) }
+    ensures given { OnOk result (S.refused supply.new ≡ S.refused supply.old) }
+    ensures memory { result ≡ Err LineFault.NoMemory → S.refused supply.new ≡ true }
+{
+    match words {
+        [] => Err(LineFault::Rule(2)),
+        [_] => Err(LineFault::Rule(2)),
+        [_, _, ..] => {
+            let units = numbers_of(alloc, supply, words)?;
+            Ok(Setting::Share { units })
+        }
+    }
 }
 
 fn sub_row<S: Supply>(alloc: Global, supply: &mut S, words: &[&[u8]]) -> Result<Setting, LineFault>
@@ -143,6 +166,9 @@ pub fn setting_row<S: Supply>(
     if word == b"unit".as_slice() {
         return Some(ruled(unit_row(words)));
     }
+    if word == b"share".as_slice() {
+        return Some(share_row(alloc, supply, words));
+    }
     if word == b"sub".as_slice() {
         return Some(sub_row(alloc, supply, words));
     }
@@ -164,6 +190,7 @@ pub fn configure<S: Supply>(
         Setting::Sets { count } => config.sets(*count),
         Setting::Path { chpid } => config.path_with(supply, *chpid),
         Setting::Unit { number, kind } => config.unit_with(supply, *number, *kind),
+        Setting::Share { units } => config.share(units.as_slice()),
         Setting::Subchannel {
             word,
             device,

@@ -12,7 +12,7 @@ use Rattle.chan_model.specs.declared.report.Report.{Report}
 use Rattle.chan_model.specs.declared.report.Work.{Work}
 use Rattle.chan_model.specs.declared.report.Work.TheVariants as work
 use Rattle.channel_config.specs.Setup.{Setup}
-use Rattle.device_models.specs.AnyDevices.{device_of, answer_of, after}
+use Rattle.device_models.specs.AnyDevices.{device_of, device_opening, answer_of, after}
 use Rattle.device_models.specs.declared.any_device.AnyDevice.{AnyDevice}
 use Rattle.machine_model.specs.Ruled.{GoesByRule}
 use Rattle.path_select.specs.Choice.{TakesNext}
@@ -135,9 +135,25 @@ abbrev pub glanced : Option Serials → ActionOutcome
 glanced None = Err fault.NoSuchSubchannel
 glanced (Some serials) = Ok (told.Serials serials)
 
+-- where a restart of a unit was accepted its device is put back to its opening; a report that is kept for it is kept on
+abbrev pub put_back : List AnyDevice → ℕ → Option AnyDevice → List AnyDevice
+put_back devices place None = devices
+put_back devices place (Some device) = slice_set devices place (device_opening device)
+
+abbrev pub devices_restarted : List AnyDevice → Event → List AnyDevice
+devices_restarted devices (event.Restart place) = put_back devices place (slice_get devices place)
+devices_restarted devices other = devices
+
+abbrev pub devices_left : List AnyDevice → Event → Result Reply Fault → List AnyDevice
+devices_left devices e (Ok r) = devices_restarted devices e
+devices_left devices e (Err f) = devices
+
+abbrev pub Happens : Installed → Event → Result Reply Fault → Installed → Type 0
+Happens old e r new = Enters old.past e r new.past × (new.devices ≡ devices_left old.devices e r) × (new.kept ≡ old.kept)
+
 abbrev pub PerformsAction : Installed → Action → ActionOutcome → Installed → Type 0
 PerformsAction old (action.Event e) r new =
-    (came : Result Reply Fault) × (r ≡ told_of came) × Enters old.past e came new.past × (new.devices ≡ old.devices) × (new.kept ≡ old.kept)
+    (came : Result Reply Fault) × (r ≡ told_of came) × Happens old e came new
 PerformsAction old (action.Dev place) r new = (came : Result Reply Fault) × (r ≡ told_of came) × TakesTurn old place came new
 PerformsAction old (action.Glance word) r new = (r ≡ glanced (serials_in (sub_of old.past.state word))) × (new ≡ old)
 

@@ -2,7 +2,7 @@
 
 ghost use Rattle.std.specs.Prelude.{◌≡◌, IfOk, None, OnErr, OnOk, map, replicate, slice_get, true};
 ghost use Rattle.serving.specs.Acting as spec;
-ghost use Rattle.serving.specs.Acting.{PerformsAction, TakesTurn, HandsIn, kept_after, opening_installed, glanced};
+ghost use Rattle.serving.specs.Acting.{PerformsAction, Happens, TakesTurn, HandsIn, kept_after, opening_installed, glanced};
 ghost use Rattle.machine_model.specs.State.{sub_of, serials_in};
 ghost use Rattle.device_models.specs.AnyDevices.{device_of};
 
@@ -12,6 +12,7 @@ use chan_model::fault::Fault;
 use chan_model::report::{Call, DeviceAnswer, Report, Work};
 use channel_config::config::Config;
 use channel_config::parts::UnitKind;
+use device_law::Device;
 use device_law::answering::answer;
 use device_models::any_device::AnyDevice;
 use machine_model::state::UnitTurn;
@@ -63,7 +64,8 @@ impl Installation {
         }
     }
 
-    /// Performs an action. A turn of a device hands in the report that is kept for its unit, else the one of the unit's
+    /// Performs an action. An event that restarts a unit, where it is accepted, puts the unit's device back to its
+    /// opening; a report that is kept for the unit stays, and is refused NotNow by the unit's next turn. A turn of a device hands in the report that is kept for its unit, else the one of the unit's
     /// next work. It is refused NoSuchUnit where the unit is not configured, and NotNow where no report is kept and a
     /// signal waits for the unit, its program may ask for a path, or it has nothing to do. A look at serials is refused
     /// NoSuchSubchannel where the subchannel is not configured.
@@ -71,10 +73,21 @@ impl Installation {
         ensures { PerformsAction self.old action.now result self.new }
     {
         match action {
-            Action::Event(event) => told_of(self.subsystem.step(event)),
+            Action::Event(event) => told_of(self.enter(event)),
             Action::Dev(unit) => told_of(self.take_turn(*unit)),
             Action::Glance(subchannel) => self.glance(*subchannel),
         }
+    }
+
+    /// Performs an event.
+    fn enter(&mut self, event: &Event) -> Result<Reply, Fault>
+        ensures { Happens self.old event.now result self.new }
+    {
+        let came = self.subsystem.step(event);
+        if came.is_ok() {
+            restart_device(&mut self.devices, event);
+        }
+        came
     }
 
     /// The serials of the subchannel that a word names.
@@ -137,6 +150,24 @@ fn told_of(came: Result<Reply, Fault>) -> Result<ActionResult, Fault>
     match came {
         Ok(reply) => Ok(ActionResult::Reply(reply)),
         Err(fault) => Err(fault),
+    }
+}
+
+/// Where an event restarts a unit, its device is put back to its opening.
+fn restart_device(devices: &mut Vec<AnyDevice>, event: &Event)
+    ensures { devices.new.items ≡ spec.devices_restarted devices.old.items event.now }
+{
+    if let Event::Restart { unit } = event {
+        put_back(devices, *unit);
+    }
+}
+
+/// The device of a unit is put back to its opening.
+fn put_back(devices: &mut Vec<AnyDevice>, unit: u32)
+    ensures { devices.new.items ≡ spec.put_back devices.old.items «unit» (slice_get devices.old.items «unit») }
+{
+    if let Some(device) = devices.get_mut(unit as usize) {
+        device.restart();
     }
 }
 

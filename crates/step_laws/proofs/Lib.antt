@@ -1,4 +1,5 @@
 mod Walk
 mod Suiting
 pub mod Places
+pub mod Marks
 mod Blocks

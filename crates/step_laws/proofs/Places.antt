@@ -2,7 +2,7 @@
 -- subchannel reaches a side of a unit that is lawfully set up.
 use Rattle.std.proofs.Common.{◌≡◌, ◌≢◌, refl, sym, ◌∙◌, ap, subst, ℕ, ◌+◌, ◌≤◌, ◌==◌, ◌&&◌, zero, suc, Bool, true, false, Option, None, Some, List, [], ◌∷◌, map, inl, inr, arith}
 use Rattle.std.specs.Prelude.{◌⊎◌, slice_get, slice_set, option_map, count_by, cond, if◌then◌else◌}
-use Rattle.std.proofs.lemmas.Bool.{eq-eqb, eqb-true}
+use Rattle.std.proofs.lemmas.Bool.{eq-eqb, eqb-true, and_parts}
 use Rattle.std.proofs.lemmas.List.Sums.{sum_by-cons}
 use Rattle.std.proofs.lemmas.Option.{slice_get-map}
 use Rattle.chan_model.specs.declared.names.Side.{Side}
@@ -11,7 +11,7 @@ use Rattle.chan_model.specs.Sides.{same_side}
 use Rattle.channel_config.specs.declared.parts.SubchannelSetup.{SubchannelSetup}
 use Rattle.channel_config.specs.Lawful.{IsShared, uses_by}
 use Rattle.subchannel_model.specs.declared.state.Subchannel.{Subchannel}
-use Rattle.subchannel_model.specs.Places.{first_place, one_later}
+use Rattle.subchannel_model.specs.Places.{first_place, one_later, reaches}
 
 -- an element of a list in which one was set
 pub set-get : {A : Type 0} (xs : List A) (k : ℕ) (y : A) (i : ℕ) (x : A) → slice_get (slice_set xs k y) i ≡ Some x →
@@ -127,3 +127,9 @@ same-or-not i k = by (i == k) refl
     by : (b : Bool) → (i == k) ≡ b → ((i ≡ k) × ((i == k) ≡ true)) ⊎ ((i ≢ k) × ((i == k) ≡ false))
     by true e = inl (eqb-true i k e, e)
     by false e = inr (λ h. absurd (cc (sym (eq-eqb i k h) ∙ e)), e)
+
+-- a subchannel that was found for a side of a unit is of that unit and side
+pub reached-there : (place : ℕ) (side : Side) (sub : Subchannel) → reaches place side sub ≡ true → (sub.setup.«unit» ≡ place) × (sub.setup.side ≡ side)
+reached-there place side sub e =
+    let both : ((sub.setup.«unit» == place) ≡ true) × (same_side sub.setup.side side ≡ true) = and_parts (sub.setup.«unit» == place) (same_side sub.setup.side side) e in
+    (eqb-true sub.setup.«unit» place both.0, one-side sub.setup.side side both.1)

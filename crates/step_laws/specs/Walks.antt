@@ -1,9 +1,10 @@
 -- The kinds of steps of a channel subsystem.
-use Rattle.std.specs.Prelude.{◌≡◌, ℕ, Bool, true, false, Option, Some, slice_get, slice_set, Ok}
+use Rattle.std.specs.Prelude.{◌≡◌, ℕ, Bool, true, false, Option, Some, List, map, slice_get, slice_set, Ok}
 use Rattle.orb_block.specs.declared.Orb.{Orb}
 use Rattle.schib_block.specs.declared.pmcw.Pmcw as block
 use Rattle.chan_events.specs.declared.event.Event.{Event}
 use Rattle.chan_events.specs.declared.event.Event.TheVariants as event
+use Rattle.chan_events.specs.declared.event.Instruction.{Instruction}
 use Rattle.chan_events.specs.declared.event.Instruction.TheVariants as instruction
 use Rattle.chan_model.specs.declared.answer.Answer.TheVariants as answer
 use Rattle.chan_model.specs.declared.answer.ConditionCode.{ConditionCode}
@@ -24,15 +25,23 @@ use Rattle.subchannel_model.specs.Resume.{resumed}
 use Rattle.subchannel_model.specs.Halt.{halted}
 use Rattle.subchannel_model.specs.Clear.{cleared}
 use Rattle.subchannel_model.specs.Cancel.{cancelled}
-use Rattle.subchannel_model.specs.Choosing.{IsFitFor, chosen, paths_to_choose}
+use Rattle.subchannel_model.specs.Choosing.{IsFitFor, chosen, marked_sub, paths_to_choose}
 use Rattle.machine_model.specs.Turns.{SubTurn, UpTurn, DownTurn}
 use Rattle.subchannel_model.specs.Start.{started}
 use Rattle.subchannel_model.specs.Modify.{modified_state}
 use Rattle.machine_model.specs.InstructionSteps.{test_with, function_sub}
 use Rattle.machine_model.specs.ChooseSteps.{choose_sub}
-use Rattle.machine_model.specs.UpSteps.{up_sub}
+use Rattle.machine_model.specs.UpSteps.{returns_at, up_sub}
 use Rattle.machine_model.specs.DownSteps.{down_sub}
 use Rattle.machine_model.specs.ReportSteps.{report_sub}
+use Rattle.machine_model.specs.Sharing.{owing}
+use Rattle.machine_model.specs.ActSteps.{side_of_act, act_sub}
+use Rattle.machine_model.specs.declared.state.Sweep.{Sweep}
+use Rattle.machine_model.specs.declared.state.Sweep.TheVariants as sweep
+use Rattle.machine_model.specs.PathSteps.{swept}
+use Rattle.chan_model.specs.UnitTable.{restarted}
+use Rattle.chan_model.specs.declared.names.Side.{Side}
+use Rattle.chan_events.specs.declared.event.UnitAct.{UnitAct}
 use Rattle.machine_model.specs.Steps.{Step}
 
 -- an event by which no start is accepted, nothing is offered and no signal comes
@@ -55,16 +64,30 @@ pub data Function : Type 0 where
   Clears : Function
   Cancels : Function
 
+abbrev pub instruction_of : Function → ℕ → Instruction
+instruction_of Resumes word = instruction.Rsch word
+instruction_of Halts word = instruction.Hsch word
+instruction_of Clears word = instruction.Csch word
+instruction_of Cancels word = instruction.Xsch word
+
+-- the event is this instruction, on the subchannel of a place
+pub record IsExecuted (s : State) (e : Event) (place : ℕ) (i : ℕ → Instruction) : Type 0 where
+  pub cpu : ℕ
+  pub word : ℕ
+  pub event : e ≡ event.Execute cpu (i word)
+  pub at : place_of s word ≡ Some place
+
 abbrev pub effect_of : Function → SubchannelState → SubchannelState
 effect_of Resumes s = resumed s
 effect_of Halts s = halted s
 effect_of Clears s = cleared s
 effect_of Cancels s = cancelled s
 
--- the subchannel of a place was changed, and nothing else of subchannels and units
+-- the subchannel of a place was changed, and nothing else of subchannels, units and the states of paths
 pub record OneSub (s new : State) (place : ℕ) (sub after : Subchannel) : Type 0 where
   pub there : slice_get s.subs place ≡ Some sub
   pub sets : new.sets ≡ s.sets
+  pub up : new.up ≡ s.up
   pub subs : new.subs ≡ slice_set s.subs place after
   pub units : new.units ≡ s.units
 
@@ -73,6 +96,7 @@ pub record OneUnit (s new : State) (place : ℕ) (sub after : Subchannel) (at : 
   pub there : slice_get s.subs place ≡ Some sub
   pub found : slice_get s.units at ≡ Some u
   pub sets : new.sets ≡ s.sets
+  pub up : new.up ≡ s.up
   pub subs : new.subs ≡ slice_set s.subs place after
   pub units : new.units ≡ slice_set s.units at v
 
@@ -90,27 +114,59 @@ pub record Suits (c : choosing.Chosen) (s : SubchannelState) : Type 0 where
   pub fits : IsFitFor c s.hold
   pub found : IsForProgram c s
 
+-- an act is of the side that it is told to: a program of that side holds the device where it leaves its path or asks for one
+abbrev pub IsOfSide : UnitState → Side → UnitAct → Type 0
+IsOfSide u side what = side_of_act u what ≡ Some side
+
+-- the event of a channel path by which each subchannel is swept so, or the reset of the subsystem; what it leaves of the states of
+-- paths
+abbrev pub sweep_event : Sweep → Event
+sweep_event (sweep.GoesDown chpid) = event.PathDown chpid
+sweep_event (sweep.ComesUp chpid) = event.PathUp chpid
+sweep_event (sweep.PathReset chpid) = event.PathReset chpid
+sweep_event sweep.SystemReset = event.SystemReset
+
+abbrev pub up_after : Sweep → List Bool → List Bool
+up_after (sweep.GoesDown chpid) up = slice_set up chpid false
+up_after (sweep.ComesUp chpid) up = slice_set up chpid true
+up_after (sweep.PathReset chpid) up = up
+up_after sweep.SystemReset up = up
+
+pub record IsSweep (s : State) (e : Event) (what : Sweep) (new : State) : Type 0 where
+  pub event : e ≡ sweep_event what
+  pub up : new.up ≡ up_after what s.up
+
 pub data Walked (s : State) : Event → Reply → State → Type 0 where
-  Stays : (e : Event) (r : Reply) (new : State) → IsQuiet e r → new.sets ≡ s.sets → new.subs ≡ s.subs → new.units ≡ s.units → Walked s e r new
+  Stays : (e : Event) (r : Reply) (new : State) → IsQuiet e r → new.sets ≡ s.sets → new.subs ≡ s.subs → new.units ≡ s.units → new.up ≡ s.up →
+      Walked s e r new
   Started : (cpu word address place : ℕ) (sub : Subchannel) (orb : Orb) (c : ConditionCode) (new : State) → place_of s word ≡ Some place →
       OneSub s new place sub (function_sub sub c (started sub.state orb)).sub → Walked s (event.Execute cpu (instruction.Ssch word address)) (function_sub sub c (started sub.state orb)).reply new
   Tested : (e : Event) (r : Reply) (place : ℕ) (sub : Subchannel) (c : ConditionCode) (new : State) → IsQuiet e r →
-      OneSub s new place sub (test_with sub c).sub → Walked s e r new
+      OneSub s new place sub (test_with sub c).sub → (address : ℕ) → IsExecuted s e place (λ word. instruction.Tsch word address) →
+      r ≡ (test_with sub c).reply → Walked s e r new
   Modified : (e : Event) (r : Reply) (place : ℕ) (sub : Subchannel) (given : block.Pmcw) (c : ConditionCode) (new : State) → IsQuiet e r →
       OneSub s new place sub (function_sub sub c (modified_state sub given)).sub → Walked s e r new
   Performed : (e : Event) (r : Reply) (place : ℕ) (sub : Subchannel) (f : Function) (c : ConditionCode) (new : State) → IsQuiet e r →
-      OneSub s new place sub (function_sub sub c (effect_of f sub.state)).sub → Walked s e r new
+      OneSub s new place sub (function_sub sub c (effect_of f sub.state)).sub → IsExecuted s e place (instruction_of f) →
+      r ≡ (function_sub sub c (effect_of f sub.state)).reply → Walked s e r new
   Chosen : (word place : ℕ) (sub : Subchannel) (choice : Option ℕ) (t : SubTurn) (new : State) → place_of s word ≡ Some place →
-      IsChoice (paths_to_choose s.subs sub) choice → Suits (chosen sub choice) sub.state → choose_sub sub (chosen sub choice) ≡ Ok t →
+      IsChoice (paths_to_choose s.subs sub) choice → Suits (chosen sub choice) sub.state → choose_sub (marked_sub sub choice) (chosen sub choice) ≡ Ok t →
       OneSub s new place sub t.sub →
       Walked s (event.Choose word) t.reply new
   Met : (word path : ℕ) (returns : Bool) (place : ℕ) (sub : Subchannel) (t : UpTurn) (new : State) → place_of s word ≡ Some place →
-      up_sub returns s.storage sub path ≡ Ok t → OneSub s new place sub t.sub → Walked s (event.Up word path) t.reply new
-  Sunk : (word path : ℕ) (may : Bool) (place : ℕ) (sub : Subchannel) (u : UnitState) (t : DownTurn) (new : State) → place_of s word ≡ Some place →
-      down_sub may sub path u ≡ Ok t → OneUnit s new place sub t.sub sub.setup.«unit» u t.«unit» → Walked s (event.Down word path) t.reply new
+      up_sub returns s.storage sub path ≡ Ok t → OneSub s new place sub t.sub → returns ≡ returns_at s.subs sub path →
+      Walked s (event.Up word path) t.reply new
+  Sunk : (word path : ℕ) (may owed : Bool) (place : ℕ) (sub : Subchannel) (u : UnitState) (t : DownTurn) (new : State) → place_of s word ≡ Some place →
+      down_sub may sub path u ≡ Ok t → OneUnit s new place sub t.sub sub.setup.«unit» u (owing owed t.«unit») → Walked s (event.Down word path) t.reply new
   Reported : (at place : ℕ) (sub : Subchannel) (u : UnitState) (report : Report) (t : DownTurn) (new : State) → reached_in at report.side s.subs ≡ Some place →
       reaches at report.side sub ≡ true → report_sub sub u report ≡ Ok t → OneUnit s new place sub t.sub at u t.«unit» →
       Walked s (event.Report at report) t.reply new
+  Acted : (at place : ℕ) (sub : Subchannel) (u : UnitState) (what : UnitAct) (t : DownTurn) (new : State) → IsOfSide u sub.setup.side what →
+      sub.setup.«unit» ≡ at → act_sub sub u what ≡ Ok t → OneUnit s new place sub t.sub at u t.«unit» → Walked s (event.Act at what) t.reply new
+  Restarted : (at : ℕ) (owed : Bool) (u : UnitState) (r : Reply) (new : State) → slice_get s.units at ≡ Some u → new.sets ≡ s.sets → new.subs ≡ s.subs →
+      new.units ≡ slice_set s.units at (owing owed (restarted u)) → new.up ≡ s.up → Walked s (event.Restart at) r new
+  Swept : (e : Event) (r : Reply) (what : Sweep) (new : State) → IsQuiet e r → new.sets ≡ s.sets → new.subs ≡ map (swept what) s.subs →
+      new.units ≡ s.units → IsSweep s e what new → Walked s e r new
 
 -- each step is of one of these kinds
 abbrev pub AreWalks : Type 0

@@ -1,3 +1,4 @@
 pub mod Answered
+mod PathIndices
 mod Returned
 pub mod Working

@@ -1,21 +1,22 @@
 //! What the subsystem does of itself for a subchannel (own).
 
-ghost use Rattle.std.specs.Prelude.{◌≡◌, ◌<◌, ◌+◌, ◌^◌, IfSome, Some};
+ghost use Rattle.std.specs.Prelude.{◌≡◌, ◌<◌, ◌+◌, ◌^◌, if◌then◌else◌, IfSome, Some, true};
 ghost use Rattle.chan_model.specs.HoldTable.{came_of, offering, sending_reset};
 ghost use Rattle.subchannel_model.specs.Choosing as spec;
 ghost use Rattle.chan_model.specs.declared.hold_state.HoldPhase.TheVariants as phase;
 
-use crate::paths::{engaged_paths, installed_paths, path_use, return_paths};
-use allegiance::path_use::is_any;
+use crate::paths::{engaged_paths, path_use, return_paths};
+use allegiance::path_use::{PathUse, is_any};
 use chan_model::hold_state::{HoldPhase, HoldState};
 use chan_model::names::Path;
 use chan_model::paths::PathSet;
 use chan_model::signal::{Down, OnPath};
 use finding::engines::Counted;
+use functions::blocks::available_paths;
 use hold::Hold;
 use scsw_irb::scsw::Scsw;
 use subchannel_model::state::{
-    Candidate, Chosen, Program, ProgramPosition, Subchannel, SubchannelState,
+    Candidate, Chosen, PmcwState, Program, ProgramPosition, Subchannel, SubchannelState,
 };
 
 /// The number of a Reset that was not sent yet.
@@ -45,14 +46,14 @@ fn paths_unreset(subs: &Counted<'_>, sub: &Subchannel) -> PathSet
     }
 }
 
-/// The paths of which one is chosen: for a Reset each that is installed, for a Halt of a program that is away those by which
+/// The paths of which one is chosen: for a Reset each that is available, for a Halt of a program that is away those by which
 /// the program may come back, and otherwise those that may be used and whose engines are free.
 pub fn paths_to_choose(subs: &Counted<'_>, sub: &Subchannel) -> PathSet
     ensures { result ≡ spec.paths_to_choose subs.now sub.now }
 {
     match unsent_reset(&sub.state.hold) {
         None => paths_unreset(subs, sub),
-        Some(_) => installed_paths(sub),
+        Some(_) => available_paths(sub),
     }
 }
 
@@ -172,6 +173,51 @@ pub fn chosen(sub: &Subchannel, choice: Option<Path>) -> Chosen
     match offer_chosen(&state.hold, candidate(state), reachable, &choice) {
         Some(chosen) => chosen,
         None => Chosen::Idle,
+    }
+}
+
+/// Whether a program is to be offered, and neither a Reset that has a path nor a clear nor a halt comes before it.
+fn looks_for_path(state: &SubchannelState, choice: &Option<Path>) -> bool
+    ensures { result ≡ spec.looks_for_path state.now choice.now }
+{
+    let activity = &state.scsw.activity;
+    reset_chosen(&state.hold, choice).is_none()
+        && clear_chosen(&state.hold, activity.clear_pending).is_none()
+        && !activity.halt_pending
+        && candidate(state).is_some()
+}
+
+fn mark_pmcw(pmcw: &mut PmcwState, marked: &PathUse)
+    ensures { pmcw.new ≡ record pmcw.old { operational = marked.now.operational; not_operational = marked.now.not_operational } }
+{
+    pmcw.operational = marked.operational;
+    pmcw.not_operational = marked.not_operational;
+}
+
+fn mark_scsw(scsw: &mut Scsw, any: bool)
+    ensures { scsw.new ≡ record scsw.old { path_not_operational = if any then true else scsw.old.path_not_operational } }
+{
+    scsw.path_not_operational = any || scsw.path_not_operational;
+}
+
+/// Marks the paths that are found not operational by these masks, and shows whether there are any.
+fn mark_state(state: &mut SubchannelState, used: PathUse)
+    ensures { state.new ≡ spec.marked_state state.old used true }
+{
+    let mut used = used;
+    let any = used.mark_lost();
+    mark_pmcw(&mut state.pmcw, &used);
+    mark_scsw(&mut state.scsw, any);
+}
+
+/// Where a program is to be offered, the paths that are found not operational are marked so, also where nothing comes of it.
+/// `choice` is the one that `chosen` is asked with.
+pub fn mark_lost_paths(sub: &mut Subchannel, choice: &Option<Path>)
+    ensures { sub.new ≡ spec.marked_sub sub.old choice.now }
+{
+    if looks_for_path(&sub.state, choice) {
+        let used = path_use(sub);
+        mark_state(&mut sub.state, used);
     }
 }
 

@@ -1,4 +1,4 @@
-//! One subchannel: what choosing and signals do to it.
+//! One subchannel: what choosing, signals, lost paths and a reset of the channel subsystem do to it.
 #![tactic(auto)]
 
 mod accepting;
@@ -10,6 +10,8 @@ mod ending;
 mod intermediate;
 pub mod losing;
 pub mod moving;
-mod paths;
+pub mod opening;
+pub mod paths;
 mod returning;
+pub mod system_reset;
 pub mod taking;

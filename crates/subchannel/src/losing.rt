@@ -1,13 +1,14 @@
-//! What a subchannel loses as its unit restarts (own).
+//! What a subchannel loses as its unit restarts, or as a path of it is lost, and how its path-available mask follows (own).
 
-ghost use Rattle.std.specs.Prelude.{◌≡◌, ◌<◌, ◌^◌};
+ghost use Rattle.std.specs.Prelude.{◌≡◌, ◌<◌, ◌≤◌, ◌^◌, length};
 ghost use Rattle.subchannel_model.specs.Losing as spec;
 
 use chan_model::hold_state::HoldPhase;
+use chan_model::names::Path;
 use hold::Hold;
 use status::make_pending;
 use subchannel_model::cause::StatusCause;
-use subchannel_model::state::SubchannelState;
+use subchannel_model::state::{PmcwState, Subchannel, SubchannelState};
 
 fn is_offered_or_held(phase: HoldPhase) -> bool
     ensures { result ≡ spec.is_offered_or_held phase }
@@ -26,7 +27,7 @@ fn has_program(state: &SubchannelState) -> bool
 }
 
 /// The hold is to be reset under a number of its own.
-fn draw_reset(state: &mut SubchannelState)
+pub(crate) fn draw_reset(state: &mut SubchannelState)
     requires { state.old.drawn < 2 ^ 63 }
     ensures { state.new ≡ spec.reset_drawn state.old }
 {
@@ -48,4 +49,68 @@ pub fn reset_for(state: &mut SubchannelState)
     if shows {
         make_pending(state, &StatusCause::InterfaceControlCheck);
     }
+}
+
+/// Which path of these is the channel path of this identifier. None where none is.
+fn path_index(chpid: u8, paths: &[u8]) -> Option<Path>
+    requires { length paths.now ≤ 8 }
+    ensures { result ≡ spec.path_index chpid paths.now }
+{
+    for (index, path) in paths.iter().enumerate() {
+        if *path == chpid {
+            return Path::new(index as u32);
+        }
+    }
+    None
+}
+
+/// A path is lost: a hold that rests on it is to be reset.
+fn lose_hold(state: &mut SubchannelState, path: Path)
+    requires made { state.old.serials.made < 2 ^ 63 }
+    requires drawn { state.old.drawn < 2 ^ 63 }
+    ensures { state.new ≡ spec.path_lost state.old path }
+{
+    // Only the answer counts: `reset_for` draws the number, and resets the hold under it.
+    let mut hold = Hold::of(state.hold);
+    if hold.path_down(path, state.drawn + 1) {
+        reset_for(state);
+    }
+}
+
+/// All that is on a channel path is lost: a hold that rests on it is to be reset, and the signals on its wires vanish. Where
+/// the subchannel has no such path, nothing changes.
+pub fn lose_path(sub: &mut Subchannel, chpid: u8)
+    requires made { sub.old.state.serials.made < 2 ^ 63 }
+    requires drawn { sub.old.state.drawn < 2 ^ 63 }
+    ensures { sub.new ≡ spec.loses chpid sub.old }
+{
+    if let Some(path) = path_index(chpid, sub.setup.paths.as_slice()) {
+        lose_hold(&mut sub.state, path);
+        sub.wires.lose(path);
+    }
+}
+
+fn show_available(pmcw: &mut PmcwState, path: Path, up: bool)
+    ensures { pmcw.new ≡ spec.available_pmcw pmcw.old path up }
+{
+    pmcw.available[path.index()] = up;
+}
+
+/// The path-available mask shows whether a channel path is up. Where the subchannel has no such path, nothing changes.
+pub fn show_path(sub: &mut Subchannel, chpid: u8, up: bool)
+    ensures { sub.new ≡ spec.shows_path chpid up sub.old }
+{
+    if let Some(path) = path_index(chpid, sub.setup.paths.as_slice()) {
+        show_available(&mut sub.state.pmcw, path, up);
+    }
+}
+
+/// A channel path goes down: it is lost, and no longer available.
+pub fn go_down(sub: &mut Subchannel, chpid: u8)
+    requires made { sub.old.state.serials.made < 2 ^ 63 }
+    requires drawn { sub.old.state.drawn < 2 ^ 63 }
+    ensures { sub.new ≡ spec.goes_down chpid sub.old }
+{
+    lose_path(sub, chpid);
+    show_path(sub, chpid, false);
 }

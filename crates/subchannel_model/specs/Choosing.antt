@@ -1,5 +1,5 @@
 -- What the subsystem does of itself for a subchannel (own).
-use Rattle.std.specs.Prelude.{◌≡◌, ℕ, ◌+◌, Bool, true, false, ◌==◌, ◌&&◌, if◌then◌else◌, Option, None, Some, unwrap_or, List, [], ◌∷◌, slice_get}
+use Rattle.std.specs.Prelude.{◌≡◌, ℕ, ◌+◌, Bool, true, false, not, ◌==◌, ◌&&◌, if◌then◌else◌, Option, None, Some, is_some, unwrap_or, List, [], ◌∷◌, slice_get}
 use Rattle.std.specs.List.{list_any}
 use Rattle.chan_model.specs.declared.hold_state.HoldPhase.{HoldPhase}
 use Rattle.chan_model.specs.declared.hold_state.HoldPhase.TheVariants as hold
@@ -9,15 +9,16 @@ use Rattle.chan_model.specs.ResetCauses.{engaged_path}
 use Rattle.scsw_irb.specs.declared.scsw.Scsw.{Scsw}
 use Rattle.allegiance.specs.Allegiances.{may_reconnect}
 use Rattle.allegiance.specs.declared.path_use.PathUse.{PathUse}
-use Rattle.allegiance.specs.PathUse.{is_member, each_path, is_any, reachable_paths, usable_paths}
+use Rattle.allegiance.specs.PathUse.{is_member, each_path, is_any, reachable_paths, usable_paths, lost_paths, marked}
 use Rattle.subchannel_model.specs.declared.state.Candidate.{Candidate}
 use Rattle.subchannel_model.specs.declared.state.Chosen.{Chosen}
 use Rattle.subchannel_model.specs.declared.state.Chosen.TheVariants.{Idle, Resets, PerformsClear, Halts, PerformsHalt, FindsNoPath, Offers}
+use Rattle.subchannel_model.specs.declared.state.PmcwState.{PmcwState}
 use Rattle.subchannel_model.specs.declared.state.Program.{Program}
 use Rattle.subchannel_model.specs.declared.state.ProgramPosition.{ProgramPosition}
 use Rattle.subchannel_model.specs.declared.state.SubchannelState.{SubchannelState}
 use Rattle.subchannel_model.specs.declared.state.Subchannel.{Subchannel}
-use Rattle.subchannel_model.specs.Store.{installed_paths}
+use Rattle.subchannel_model.specs.Store.{installed_paths, available_paths}
 
 -- the engine of a channel path serves one subchannel: the one whose hold is offered, connected or letting go there
 abbrev pub is_chpid : Option ℕ → ℕ → Bool
@@ -38,12 +39,12 @@ abbrev pub is_engaged : List Subchannel → Option ℕ → Bool
 is_engaged subs None = false
 is_engaged subs (Some chpid) = any_engages subs chpid
 
--- what decides which paths the subchannel may use; each path that is installed is available (own)
+-- what decides which paths the subchannel may use
 abbrev pub path_use : Subchannel → PathUse
 path_use sub = record {
   logical = sub.state.pmcw.logical;
   installed = installed_paths sub;
-  available = installed_paths sub;
+  available = available_paths sub;
   operational = sub.state.pmcw.operational;
   not_operational = sub.state.pmcw.not_operational;
   dedicated = sub.state.dedicated;
@@ -55,7 +56,7 @@ engaged_paths subs sub = each_path (λ p. is_engaged subs (slice_get sub.setup.p
 
 -- the paths by which a program that is away may come back
 abbrev pub return_paths : Subchannel → List Bool
-return_paths sub = each_path (λ p. is_member (installed_paths sub) p && may_reconnect sub.state.hold (installed_paths sub) p)
+return_paths sub = each_path (λ p. is_member (available_paths sub) p && may_reconnect sub.state.hold (available_paths sub) p)
 
 -- a Reset that was not sent yet, by its number
 abbrev pub unsent_at : HoldPhase → Option ℕ → Option ℕ
@@ -70,7 +71,7 @@ abbrev pub is_away : HoldPhase → Bool
 is_away (hold.Away t) = true
 is_away phase = false
 
--- the paths of which one is chosen: each that is installed for a Reset, those by which it may come back for a Halt of a
+-- the paths of which one is chosen: each that is available for a Reset, those by which it may come back for a Halt of a
 -- program that is away, and otherwise the usable ones
 abbrev pub paths_unreset : List Subchannel → Subchannel → List Bool
 paths_unreset subs sub =
@@ -79,7 +80,7 @@ paths_unreset subs sub =
 
 abbrev pub paths_by : Option ℕ → List Subchannel → Subchannel → List Bool
 paths_by None subs sub = paths_unreset subs sub
-paths_by (Some r) subs sub = installed_paths sub
+paths_by (Some r) subs sub = available_paths sub
 
 abbrev pub paths_to_choose : List Subchannel → Subchannel → List Bool
 paths_to_choose subs sub = paths_by (unsent_reset sub.state.hold) subs sub
@@ -166,6 +167,31 @@ chosen sub choice = chosen_of (
     ∷ halt_chosen sub.state.scsw.activity.halt_pending sub.state.hold.phase choice
     ∷ offered_by sub choice
     ∷ [])
+
+-- The fourth rule is reached where neither of the first two applies, no halt is pending and a program is to be offered. Then each
+-- path that is found not operational is marked so, whatever comes of it: it leaves the path-operational mask for the
+-- path-not-operational mask, and N is one where there is such a path
+abbrev pub looks_for_path : SubchannelState → Option ℕ → Bool
+looks_for_path s choice =
+    not (is_some (reset_chosen (unsent_reset s.hold) choice))
+    && (not (is_some (clear_chosen (unsent_reset s.hold) s.scsw.activity.clear_pending))
+    && (not s.scsw.activity.halt_pending && is_some (candidate s)))
+
+abbrev pub marked_pmcw : PmcwState → PathUse → Bool → PmcwState
+marked_pmcw pmcw used looks = record pmcw {
+  operational = if looks then (marked used).operational else pmcw.operational;
+  not_operational = if looks then (marked used).not_operational else pmcw.not_operational;
+}
+
+abbrev pub marked_scsw : Scsw → PathUse → Bool → Scsw
+marked_scsw scsw used looks =
+    record scsw { path_not_operational = if looks && is_any (lost_paths used) then true else scsw.path_not_operational }
+
+abbrev pub marked_state : SubchannelState → PathUse → Bool → SubchannelState
+marked_state s used looks = record s { pmcw = marked_pmcw s.pmcw used looks; scsw = marked_scsw s.scsw used looks }
+
+abbrev pub marked_sub : Subchannel → Option ℕ → Subchannel
+marked_sub sub choice = record sub { state = marked_state sub.state (path_use sub) (looks_for_path sub.state choice) }
 
 -- an offer is made where the hold is free, a Reset is sent where it is due, and a Halt goes to the program that is held
 abbrev pub IsHeldBy : HoldPhase → ℕ → Type 0

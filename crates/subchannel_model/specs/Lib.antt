@@ -17,4 +17,5 @@ pub mod Causes
 pub mod Choosing
 pub mod Sending
 pub mod Losing
+pub mod SystemReset
 pub mod Taking

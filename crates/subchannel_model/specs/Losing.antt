@@ -1,5 +1,5 @@
--- What a subchannel loses as a path of it goes down or is reset.
-use Rattle.std.specs.Prelude.{ℕ, ◌+◌, ◌==◌, ◌&&◌, ◌||◌, Bool, true, false, if◌then◌else◌, Option, None, Some, is_some, List, [], ◌∷◌}
+-- What a subchannel loses as a path of it goes down or is reset, and how its path-available mask follows (own).
+use Rattle.std.specs.Prelude.{ℕ, ◌+◌, ◌==◌, ◌&&◌, ◌||◌, Bool, true, false, if◌then◌else◌, Option, None, Some, is_some, List, [], ◌∷◌, slice_set}
 use Rattle.chan_model.specs.declared.hold_state.HoldPhase.{HoldPhase}
 use Rattle.chan_model.specs.declared.hold_state.HoldPhase.TheVariants as hold
 use Rattle.chan_model.specs.HoldTable.{resetting}
@@ -7,6 +7,7 @@ use Rattle.chan_model.specs.ResetCauses.{rests_on}
 use Rattle.wires.specs.Queues.{lost}
 use Rattle.subchannel_model.specs.declared.cause.StatusCause.TheVariants as cause
 use Rattle.subchannel_model.specs.declared.state.ActiveProgram.{ActiveProgram}
+use Rattle.subchannel_model.specs.declared.state.PmcwState.{PmcwState}
 use Rattle.subchannel_model.specs.declared.state.Program.{Program}
 use Rattle.subchannel_model.specs.declared.state.ProgramPosition.{ProgramPosition}
 use Rattle.subchannel_model.specs.declared.state.Subchannel.{Subchannel}
@@ -52,3 +53,18 @@ loses_at (Some p) sub = record sub { state = path_lost sub.state p; wires = reco
 
 abbrev pub loses : ℕ → Subchannel → Subchannel
 loses chpid sub = loses_at (path_index chpid sub.setup.paths) sub
+
+-- the path-available mask shows whether a channel path is up
+abbrev pub available_pmcw : PmcwState → ℕ → Bool → PmcwState
+available_pmcw pmcw p up = record pmcw { available = slice_set pmcw.available p up }
+
+abbrev pub shows_at : Option ℕ → Bool → Subchannel → Subchannel
+shows_at None up sub = sub
+shows_at (Some p) up sub = record sub { state = record sub.state { pmcw = available_pmcw sub.state.pmcw p up } }
+
+abbrev pub shows_path : ℕ → Bool → Subchannel → Subchannel
+shows_path chpid up sub = shows_at (path_index chpid sub.setup.paths) up sub
+
+-- a channel path goes down: all that is on it is lost, and it is no longer available
+abbrev pub goes_down : ℕ → Subchannel → Subchannel
+goes_down chpid sub = shows_path chpid false (loses chpid sub)

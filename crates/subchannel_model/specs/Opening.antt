@@ -1,4 +1,4 @@
--- A subchannel at the opening: not enabled, all its paths logically available and operational (own).
+-- A subchannel at the opening: not enabled, all its paths logically available, operational and up (own).
 use Rattle.std.proofs.Common.{lit<}
 use Rattle.std.specs.Prelude.{Bool, true, false, List, replicate, None}
 use Rattle.scsw_irb.specs.Empty.{zero_scsw}
@@ -16,7 +16,7 @@ abbrev pub no_paths : List Bool
 no_paths = replicate 8 false
 
 abbrev pub opening_pmcw : PmcwState
-opening_pmcw = record { parameter = 0; subclass = 0; enabled = false; multipath = false; logical = all_paths; not_operational = no_paths; last_used = None; operational = all_paths; subclass_fits = lit< tt }
+opening_pmcw = record { parameter = 0; subclass = 0; enabled = false; multipath = false; logical = all_paths; not_operational = no_paths; last_used = None; operational = all_paths; available = all_paths; subclass_fits = lit< tt }
 
 abbrev pub opening_subchannel : SubchannelState
 opening_subchannel = record {

@@ -7,7 +7,7 @@ use Rattle.schib_block.specs.declared.schib.Schib.{Schib}
 use Rattle.chan_model.specs.declared.answer.ConditionCode.{ConditionCode}
 use Rattle.chan_model.specs.ConditionCodes.{in_order}
 use Rattle.chan_model.specs.PathSets.{mask_of_path, mask_of_paths}
-use Rattle.allegiance.specs.PathUse.{each_path}
+use Rattle.allegiance.specs.PathUse.{each_path, in_both}
 use Rattle.subchannel_model.specs.declared.status.Condition.{Condition}
 use Rattle.subchannel_model.specs.declared.state.Subchannel.{Subchannel}
 
@@ -15,9 +15,12 @@ use Rattle.subchannel_model.specs.declared.state.Subchannel.{Subchannel}
 abbrev pub stsch_code : Condition → ConditionCode
 stsch_code c = in_order c.provided false false
 
--- the paths that are configured are installed, and available
+-- the paths that are configured are installed; those of them that are not down are available
 abbrev pub installed_paths : Subchannel → List Bool
 installed_paths sub = each_path (λ path. nat_lt path (length sub.setup.paths))
+
+abbrev pub available_paths : Subchannel → List Bool
+available_paths sub = in_both (installed_paths sub) sub.state.pmcw.available
 
 -- the identifiers of the paths 0 to 7; those that are not configured are zero (own)
 abbrev pub chpids_of : List ℕ → List ℕ
@@ -43,7 +46,7 @@ pmcw_of sub = record {
   installed = mask_of_paths (installed_paths sub);
   measurement_block = 0;
   operational = mask_of_paths sub.state.pmcw.operational;
-  available = mask_of_paths (installed_paths sub);
+  available = mask_of_paths (available_paths sub);
   chpids = chpids_of sub.setup.paths;
   concurrent_sense = false;
   subclass_fits = sub.state.pmcw.subclass_fits;

@@ -33,6 +33,8 @@ pub struct PmcwState {
     pub last_used: Option<Path>,
     /// POM: the paths that are operational.
     pub operational: PathSet,
+    /// PAM: the paths that are not down. Of a path that is not installed it says nothing.
+    pub available: PathSet,
     ghost subclass_fits: { subclass < 8 },
 }
 
@@ -83,7 +85,7 @@ pub struct SubchannelState {
     pub hold: HoldState,
     /// The start that the number of the hold was offered for.
     pub offered: u64,
-    /// The path of the last offer or Reset.
+    /// The path of the last offer, Reset or Grant.
     pub last_path: Option<Path>,
     /// The path of the dedicated allegiance (SA22-7832, chapter 15).
     pub dedicated: Option<Path>,

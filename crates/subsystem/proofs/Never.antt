@@ -1,5 +1,5 @@
 -- The machine never refuses an event for want of memory: that comes of the history alone.
-use Rattle.std.proofs.Common.{◌≡◌, refl, sym, subst, ℕ, ◌+◌, Bool, true, false, nat_lt, Option, None, Some, Result, Ok, Err, List, length, inl, inr}
+use Rattle.std.proofs.Common.{◌≡◌, refl, sym, subst, ℕ, ◌+◌, ◌==◌, Bool, cond, not, nat_lt, Option, None, Some, Result, Ok, Err, List, length, inl, inr}
 use Rattle.std.specs.Prelude.{◌≢◌, IfErr, slice_get}
 use Rattle.std.proofs.lemmas.Bool.{cond_both}
 use Rattle.storage_keys.specs.Storage.{Contents, put, key_set, prefix_set, shown, operand_at, operand_check}
@@ -8,10 +8,14 @@ use Rattle.channel_config.specs.declared.names.SubchannelId.{SubchannelId}
 use Rattle.channel_config.specs.SubchannelWords.{subchannel_named}
 use Rattle.chan_events.specs.declared.event.Instruction.{Instruction}
 use Rattle.chan_events.specs.declared.event.Instruction.TheVariants as instruction
+use Rattle.chan_events.specs.declared.event.OtherInstruction.{OtherInstruction}
+use Rattle.chan_events.specs.declared.event.OtherInstruction.TheVariants as others
+use Rattle.chan_events.specs.declared.event.UnitAct.{UnitAct}
+use Rattle.chan_events.specs.declared.event.UnitAct.TheVariants as acts
 use Rattle.chan_events.specs.declared.event.Event.{Event}
 use Rattle.chan_events.specs.declared.event.Event.TheVariants as event
 use Rattle.chan_model.specs.declared.fault.Fault.{Fault}
-use Rattle.chan_model.specs.declared.fault.Fault.TheVariants.{NoMemory, Storage, Operand, WireFull, NoSuchSubchannel, NoSuchPath}
+use Rattle.chan_model.specs.declared.fault.Fault.TheVariants.{NoMemory, NotNow, Storage, Operand, WireFull, NoSuchSubchannel, NoSuchPath}
 use Rattle.chan_model.specs.declared.signal.Down.{Down}
 use Rattle.chan_model.specs.declared.signal.Up.{Up}
 use Rattle.chan_model.specs.declared.report.Report.{Report}
@@ -24,7 +28,7 @@ use Rattle.chan_events.specs.declared.reply.Reply.TheVariants as reply
 use Rattle.orb_block.specs.declared.Orb.{Orb}
 use Rattle.schib_block.specs.declared.pmcw.Pmcw as block
 use Rattle.chan_model.specs.UnitReports.{unit_reports}
-use Rattle.wires.specs.Queues.{queue, sent, taken}
+use Rattle.wires.specs.Queues.{queue}
 use Rattle.subchannel_model.specs.declared.state.Chosen.{Chosen}
 use Rattle.subchannel_model.specs.declared.state.Chosen.TheVariants.{Idle, Resets, PerformsClear, Halts, PerformsHalt, FindsNoPath, Offers}
 use Rattle.subchannel_model.specs.declared.state.Subchannel.{Subchannel}
@@ -37,7 +41,7 @@ use Rattle.subchannel_model.specs.Halt.{hsch_code, halted}
 use Rattle.subchannel_model.specs.Clear.{csch_code, cleared}
 use Rattle.subchannel_model.specs.Cancel.{xsch_code, cancelled}
 use Rattle.subchannel_model.specs.Places.{Found, found_at, place_in, reached_in}
-use Rattle.subchannel_model.specs.Choosing.{chosen, reset_sent, halt_sent, offered}
+use Rattle.subchannel_model.specs.Choosing.{chosen, marked_sub, reset_sent, halt_sent, offered}
 use Rattle.machine_model.specs.StorageSteps as storage_spec
 use Rattle.machine_model.specs.InstructionSteps as instruction_steps
 use Rattle.machine_model.specs.ChooseSteps as choose_spec
@@ -46,8 +50,20 @@ use Rattle.machine_model.specs.Turns as turn_spec
 use Rattle.machine_model.specs.UpSteps as up_spec
 use Rattle.machine_model.specs.DownSteps as down_spec
 use Rattle.machine_model.specs.ReportSteps as report_spec
+use Rattle.machine_model.specs.ActSteps as act_spec
+use Rattle.machine_model.specs.OtherSteps as other_spec
+use Rattle.machine_model.specs.Requests as requests_spec
+use Rattle.machine_model.specs.RestartSteps as restart_spec
+use Rattle.machine_model.specs.PathSteps as path_spec
+use Rattle.machine_model.specs.Sharing.{may_take}
+use Rattle.control_units.specs.declared.Member.{Member}
+use Rattle.channel_config.specs.Setup.{has_number}
+use Rattle.channel_reports.specs.Queue.{WaitingReports, is_asked}
+use Rattle.interruptions.specs.Requests.{answer}
+use Rattle.zbits.specs.Bits.{field_of}
+use Rattle.chan_model.specs.declared.names.Side.{Side}
 use Rattle.machine_model.specs.Steps as spec
-use Rattle.machine_model.specs.Turns.{Outcome, SubTurn, UpTurn, DownTurn}
+use Rattle.machine_model.specs.Turns.{Outcome, SubTurn, UpTurn, DownTurn, SharedTurn}
 use Rattle.machine_model.specs.Steps.{IsRefused}
 use Rattle.subchannel_model.specs.Taking.{takes_up}
 
@@ -141,8 +157,11 @@ executes_on s cpu i (Some id) r e = executes_at s cpu i (found_at s.subs (place_
 
 -- Choose
 sends : (sub : Subchannel) (state : SubchannelState) (path : ℕ) (signal : Down) (r : Reply) → Sound (choose_spec.send_sub sub state path signal r)
-sends sub state path signal r = cond_both (sending_spec.is_full sub.wires.down path) (Err WireFull)
-    (Ok (turn_spec.leaves r (record sub { state = state; wires = record sub.wires { down = sent sub.wires.down path signal } }))) (λ r. Sound r) (λ e g. cc g) (λ e. tt)
+sends sub state path signal r =
+    let sent = sending_spec.carried_by sub (Some (record { path = path; signal = signal })) in
+    cond_both (sending_spec.finds_full sub.wires.down sent) (Err WireFull)
+    (Ok (turn_spec.leaves r (record sub { state = state; wires = record sub.wires { down = sending_spec.with_any_sent sub.wires.down sent } })))
+    (λ r. Sound r) (λ e g. cc g) (λ e. tt)
 
 chooses_sub : (sub : Subchannel) (what : Chosen) → Sound (choose_spec.choose_sub sub what)
 chooses_sub sub Idle = tt
@@ -161,15 +180,15 @@ at_sub s place (Err f) sound = sound
 chooses : (s : State) (found : Option Found) (r : Outcome) → choose_spec.Chooses s found r → Sound r
 chooses s None r e = is r (Err NoSuchSubchannel) (λ g. cc g) e
 chooses s (Some f) r e =
-    let x = choose_spec.choose_sub f.sub (chosen f.sub e.0) in
-    is r (turn_spec.at_sub s f.place x) (at_sub s f.place x (chooses_sub f.sub (chosen f.sub e.0))) e.2
+    let x = choose_spec.choose_sub (marked_sub f.sub e.0) (chosen f.sub e.0) in
+    is r (turn_spec.at_sub s f.place x) (at_sub s f.place x (chooses_sub (marked_sub f.sub e.0) (chosen f.sub e.0))) e.2
 
 -- Up
 up_front : (returns : Bool) (storage : Contents) (sub : Subchannel) (path : ℕ) (signal : Option Up) → Sound (up_spec.up_front returns storage sub path signal)
 up_front returns storage sub path None = λ g. cc g
 up_front returns storage sub path (Some signal) =
     let m = takes_up returns storage sub.state path signal in
-    cond_both (sending_spec.finds_full sub.wires.down m.step.came.sent) (Err WireFull)
+    cond_both (sending_spec.finds_full sub.wires.down (sending_spec.carried_by sub m.step.came.sent)) (Err WireFull)
     (Ok (record { reply = reply.Up signal m.step.came.taken m.step.came.sent; sub = up_spec.with_met sub path m.step; storage = m.storage })) (λ r. Sound r) (λ e g. cc g) (λ e. tt)
 
 up_sub : (returns : Bool) (storage : Contents) (sub : Subchannel) (path : ℕ) → Sound (up_spec.up_sub returns storage sub path)
@@ -183,17 +202,19 @@ at_storage s place (Err f) sound = sound
 
 up_at : (s : State) (found : Option Found) (path : ℕ) → Sound (up_spec.up_at s found path)
 up_at s None path = λ g. cc g
-up_at s (Some f) path = at_storage s f.place (up_spec.up_sub false s.storage f.sub path) (up_sub false s.storage f.sub path)
+up_at s (Some f) path =
+    let returns = up_spec.returns_at s.subs f.sub path in
+    at_storage s f.place (up_spec.up_sub returns s.storage f.sub path) (up_sub returns s.storage f.sub path)
 
 -- Down and Report
 down_front : (may : Bool) (sub : Subchannel) (path : ℕ) (u : UnitState) (signal : Option Down) → Sound (down_spec.down_front may sub path u signal)
 down_front may sub path u None = λ g. cc g
 down_front may sub path u (Some signal) =
     let step = unit_takes u sub.setup.side path signal may in
-    cond_both (sending_spec.finds_full sub.wires.up (unit_table.came_of step).sent) (Err WireFull)
+    cond_both (sending_spec.finds_full sub.wires.up (sending_spec.carried_by sub (unit_table.came_of step).sent)) (Err WireFull)
     (Ok (record {
       reply = reply.Down signal (unit_table.came_of step).taken (unit_table.came_of step).sent;
-      sub = record sub { wires = record { down = taken sub.wires.down path; up = sending_spec.with_any_sent sub.wires.up (unit_table.came_of step).sent } };
+      sub = down_spec.with_answer sub path (unit_table.came_of step).sent;
       «unit» = unit_after u step;
     })) (λ r. Sound r) (λ e g. cc g) (λ e. tt)
 
@@ -206,9 +227,24 @@ at_unit : (s : State) (place k : ℕ) (x : Result DownTurn Fault) → Sound x �
 at_unit s place k (Ok t) sound = tt
 at_unit s place k (Err f) sound = sound
 
+share_with : (members : List Member) (place : ℕ) (asks : Bool) (u : UnitState) (x : Result DownTurn Fault) → Sound x → Sound (down_spec.share_with members place asks u x)
+share_with members place asks u (Ok t) sound = tt
+share_with members place asks u (Err f) sound = sound
+
+down_shared : (members : List Member) (sub : Subchannel) (path : ℕ) (u : UnitState) → Sound (down_spec.down_shared members sub path u)
+down_shared members sub path u =
+    let asks = down_spec.asks_at sub path u in
+    let may = may_take members sub.setup.«unit» asks in
+    share_with members sub.setup.«unit» asks u (down_spec.down_sub may sub path u) (down_sub may sub path u)
+
+at_shared : (s : State) (place k : ℕ) (x : Result SharedTurn Fault) → Sound x → Sound (down_spec.at_shared s place k x)
+at_shared s place k (Ok t) sound = tt
+at_shared s place k (Err f) sound = sound
+
 down_unit : (s : State) (f : Found) (path : ℕ) (u : Option UnitState) → Sound (down_spec.down_unit s f path u)
 down_unit s f path None = λ g. cc g
-down_unit s f path (Some u) = at_unit s f.place f.sub.setup.«unit» (down_spec.down_sub true f.sub path u) (down_sub true f.sub path u)
+down_unit s f path (Some u) =
+    at_shared s f.place f.sub.setup.«unit» (down_spec.down_shared s.members f.sub path u) (down_shared s.members f.sub path u)
 
 down_at : (s : State) (found : Option Found) (path : ℕ) → Sound (down_spec.down_at s found path)
 down_at s None path = λ g. cc g
@@ -216,7 +252,7 @@ down_at s (Some f) path = down_unit s f path (slice_get s.units f.sub.setup.«un
 
 report_taken : (sub : Subchannel) (step : Option UnitStep) → Sound (report_spec.report_taken sub step)
 report_taken sub None = λ g. cc g
-report_taken sub (Some step) = cond_both (sending_spec.finds_full sub.wires.up step.sent) (Err WireFull)
+report_taken sub (Some step) = cond_both (sending_spec.finds_full sub.wires.up (sending_spec.carried_by sub step.sent)) (Err WireFull)
     (Ok (record { reply = reply.Done; sub = report_spec.with_any_up sub step.sent; «unit» = step.state })) (λ r. Sound r) (λ e g. cc g) (λ e. tt)
 
 report_to : (s : State) (place : ℕ) (u : UnitState) (report : Report) (found : Option Found) → Sound (report_spec.report_to s place u report found)
@@ -227,16 +263,114 @@ report_at : (s : State) (place : ℕ) (u : Option UnitState) (report : Report) �
 report_at s place None report = λ g. cc g
 report_at s place (Some u) report = report_to s place u report (found_at s.subs (reached_in place report.side s.subs))
 
+-- acts and restarts
+not_held : (subs : List Subchannel) (place : ℕ) (act : UnitAct) → act_spec.not_held subs place act ≢ NoMemory
+not_held subs place acts.Leave = λ g. cc g
+not_held subs place (acts.Ask path) = cond_both (act_spec.is_path_of subs place path) NotNow NoSuchPath (λ f. f ≢ NoMemory) (λ e g. cc g) (λ e g. cc g)
+not_held subs place (acts.Attention path side) = λ g. cc g
+not_held subs place (acts.Notice path side) = λ g. cc g
+
+act_sub : (sub : Subchannel) (u : UnitState) (act : UnitAct) → Sound (act_spec.act_sub sub u act)
+act_sub sub u act =
+    let step = act_spec.acts u sub.setup.side act in
+    cond_both (act_spec.has_path_of_act sub act) (report_spec.report_taken sub step) (Err NoSuchPath) (λ r. Sound r) (λ e. report_taken sub step) (λ e g. cc g)
+
+act_to : (s : State) (place : ℕ) (u : UnitState) (act : UnitAct) (found : Option Found) → Sound (act_spec.act_to s place u act found)
+act_to s place u act None = λ g. cc g
+act_to s place u act (Some f) = at_unit s f.place place (act_spec.act_sub f.sub u act) (act_sub f.sub u act)
+
+act_on : (s : State) (place : ℕ) (u : UnitState) (act : UnitAct) (side : Option Side) → Sound (act_spec.act_on s place u act side)
+act_on s place u act None = not_held s.subs place act
+act_on s place u act (Some side) = act_to s place u act (found_at s.subs (reached_in place side s.subs))
+
+act_at : (s : State) (place : ℕ) (u : Option UnitState) (act : UnitAct) → Sound (act_spec.act_at s place u act)
+act_at s place None act = λ g. cc g
+act_at s place (Some u) act = act_on s place u act (act_spec.side_of_act u act)
+
+restart_at : (s : State) (place : ℕ) (u : Option UnitState) → Sound (restart_spec.restart_at s place u)
+restart_at s place None = λ g. cc g
+restart_at s place (Some u) = tt
+
+-- instructions that name no subchannel
+where_stored : {A : Type 0} (x : Result (Unit {0}) StorageFault) (done : A) → Sound (other_spec.where_stored x done)
+where_stored (Ok u) done = tt
+where_stored (Err f) done = λ g. cc g
+
+tpi : (old : other_spec.LentWhole) (x : Result other_spec.TpiTurn Fault) → Sound x → Sound (other_spec.tpi_lent old x)
+tpi old (Ok t) sound = tt
+tpi old (Err f) sound = sound
+
+stcrw : (old : other_spec.LentWhole) (x : Result other_spec.StcrwTurn Fault) → Sound x → Sound (other_spec.stcrw_lent old x)
+stcrw old (Ok t) sound = tt
+stcrw old (Err f) sound = sound
+
+rchp : (old : other_spec.LentWhole) (x : Result other_spec.RchpTurn Fault) → Sound x → Sound (other_spec.rchp_lent old x)
+rchp old (Ok t) sound = tt
+rchp old (Err f) sound = sound
+
+stcps : (old : other_spec.LentWhole) (x : Result other_spec.StcpsTurn Fault) → Sound x → Sound (other_spec.stcps_lent old x)
+stcps old (Ok t) sound = tt
+stcps old (Err f) sound = sound
+
+rchp_turn : (reports : WaitingReports) (up : List Bool) (path : ℕ) → Sound (other_spec.rchp_turn reports up path)
+rchp_turn reports up path =
+    cond_both (field_of path 0 23 == 0) (Ok (other_spec.rchp_of reports up (field_of path 24 31))) (Err Operand) (λ r. Sound r) (λ e. tt) (λ e g. cc g)
+
+other_turn : (old : other_spec.LentWhole) (up engaged : List Bool) (cpu : ℕ) (i : OtherInstruction) → Sound (other_spec.other_turn old up engaged cpu i)
+other_turn old up engaged cpu (others.Tpi mask address) =
+    tpi old (other_spec.tpi_turn old.storage old.requests cpu mask address)
+    (where_stored (other_spec.code_check old.storage cpu address) (other_spec.tpi_done old.storage old.requests cpu address (answer old.requests mask)))
+other_turn old up engaged cpu (others.Rchp path) = rchp old (other_spec.rchp_turn old.reports up path) (rchp_turn old.reports up path)
+other_turn old up engaged cpu (others.Stcrw address) =
+    stcrw old (other_spec.stcrw_turn old.storage old.reports cpu address)
+    (where_stored (operand_check old.storage cpu address 4 4) (other_spec.stcrw_done old.storage old.reports cpu address))
+other_turn old up engaged cpu (others.Stcps address) =
+    stcps old (other_spec.stcps_turn old.storage engaged cpu address)
+    (where_stored (operand_check old.storage cpu address 32 32) (other_spec.stcps_done old.storage cpu address (other_spec.engaged_bytes engaged 32)))
+
+other_done : (s : State) (x : Result other_spec.OtherTurn Fault) → Sound x → Sound (other_spec.other_done s x)
+other_done s (Ok t) sound = tt
+other_done s (Err f) sound = sound
+
+other_at : (s : State) (cpu : ℕ) (i : OtherInstruction) → Sound (other_spec.other_at s cpu i)
+other_at s cpu i =
+    let lent = other_spec.lent_whole s.storage s.requests s.reports in
+    let engaged = other_spec.engaged_chpids s.subs 0x100 in
+    other_done s (other_spec.other_turn lent s.up engaged cpu i) (other_turn lent s.up engaged cpu i)
+
+-- channel paths
+where_path : (s : State) (chpid : ℕ) (right : Bool) (turn : Outcome) → Sound turn → Sound (path_spec.where_path s chpid right turn)
+where_path s chpid right turn sound =
+    cond_both (has_number s.chpids chpid) (cond right turn (Err NotNow)) (Err NoSuchPath) (λ r. Sound r)
+    (λ e. cond_both right turn (Err NotNow) (λ r. Sound r) (λ f. sound) (λ f g. cc g)) (λ e g. cc g)
+
+does : (s : State) (e : Event) (r : Outcome) → spec.Does s e r → Sound r
+does s (event.Put address bytes) r e = is r (storage_spec.put_turn s address bytes) (stored s (put s.storage address bytes)) e
+does s (event.SetKey address key) r e = is r (storage_spec.key_turn s address key) (stored s (key_set s.storage address key)) e
+does s (event.SetPrefix cpu address) r e = is r (storage_spec.prefix_turn s cpu address) (stored s (prefix_set s.storage cpu address)) e
+does s (event.Show address count) r e = is r (storage_spec.show_turn s address count) (told s (shown s.storage address count)) e
+does s (event.Execute cpu i) r e = executes_on s cpu i (subchannel_named s.sets (instruction_steps.subchannel_word i)) r e
+does s (event.ExecuteOther cpu i) r e = is r (other_spec.other_at s cpu i) (other_at s cpu i) e
+does s (event.Choose word) r e = chooses s (found_of s word) r e
+does s (event.Up word path) r e = is r (up_spec.up_at s (found_of s word) path) (up_at s (found_of s word) path) e
+does s (event.Down word path) r e = is r (down_spec.down_at s (found_of s word) path) (down_at s (found_of s word) path) e
+does s (event.Report place report) r e = is r (report_spec.report_at s place (slice_get s.units place) report) (report_at s place (slice_get s.units place) report) e
+does s (event.Act place act) r e = is r (act_spec.act_at s place (slice_get s.units place) act) (act_at s place (slice_get s.units place) act) e
+does s (event.Restart place) r e = is r (restart_spec.restart_at s place (slice_get s.units place)) (restart_at s place (slice_get s.units place)) e
+does s (event.PathDown chpid) r e =
+    is r (path_spec.path_down_at s chpid) (where_path s chpid (other_spec.is_up s.up chpid) (turn_spec.does reply.Done (path_spec.down_path s chpid)) tt) e
+does s (event.PathUp chpid) r e =
+    is r (path_spec.path_up_at s chpid) (where_path s chpid (not (other_spec.is_up s.up chpid)) (turn_spec.does reply.Done (path_spec.up_path s chpid)) tt) e
+does s (event.PathReset chpid) r e =
+    is r (path_spec.path_reset_at s chpid) (where_path s chpid (is_asked s.reports chpid) (turn_spec.does reply.Done (path_spec.reset_path s chpid)) tt) e
+does s event.SystemReset r e = is r (path_spec.system_reset_at s) tt e
+
+settled : (s : State) (e : Event) (t : Outcome) → Sound t → Sound (requests_spec.settled s e t)
+settled s e (Ok t) sound = tt
+settled s e (Err f) sound = sound
+
 steps : (s : State) (e : Event) (r : Outcome) → spec.Steps s e r → Sound r
-steps s (event.Put address bytes) r e = is r (storage_spec.put_turn s address bytes) (stored s (put s.storage address bytes)) e
-steps s (event.SetKey address key) r e = is r (storage_spec.key_turn s address key) (stored s (key_set s.storage address key)) e
-steps s (event.SetPrefix cpu address) r e = is r (storage_spec.prefix_turn s cpu address) (stored s (prefix_set s.storage cpu address)) e
-steps s (event.Show address count) r e = is r (storage_spec.show_turn s address count) (told s (shown s.storage address count)) e
-steps s (event.Execute cpu i) r e = executes_on s cpu i (subchannel_named s.sets (instruction_steps.subchannel_word i)) r e
-steps s (event.Choose word) r e = chooses s (found_of s word) r e
-steps s (event.Up word path) r e = is r (up_spec.up_at s (found_of s word) path) (up_at s (found_of s word) path) e
-steps s (event.Down word path) r e = is r (down_spec.down_at s (found_of s word) path) (down_at s (found_of s word) path) e
-steps s (event.Report place report) r e = is r (report_spec.report_at s place (slice_get s.units place) report) (report_at s place (slice_get s.units place) report) e
+steps s e r k = is r (requests_spec.settled s e k.0) (settled s e k.0 (does s e k.0 k.1)) k.2
 
 pub never : (s : State) (e : Event) → ¬ IsRefused s e NoMemory
 never s e refused = steps s e (Err NoMemory) refused refl

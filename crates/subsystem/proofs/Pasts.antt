@@ -1,27 +1,35 @@
 -- A history that leads to a state, as it opens and grows.
 use Rattle.std.proofs.Common.{◌≡◌, refl, ℕ, ◌∙◌, ap, sym, subst, List, [], ◌∷◌, ◌++◌, ◌^◌, ◌≤◌, map, length, arith, Option, None, Some, Result, Ok, Err}
 use Rattle.std.proofs.lemmas.List.{length-map, length-replicate}
-use Rattle.std.proofs.lemmas.List.Elements.{All-weaker}
+use Rattle.std.proofs.lemmas.List.Elements.{All-cons, All-head, All-nil, All-tail, All-weaker}
 use Rattle.std.specs.Prelude.{unwrap_or, All}
 use Rattle.storage_keys.specs.Storage.{cleared_storage}
 use Rattle.channel_config.specs.declared.parts.SubchannelSetup.{SubchannelSetup}
 use Rattle.channel_config.specs.declared.parts.UnitKind.{UnitKind}
-use Rattle.channel_config.specs.Lawful.{IsLawful}
-use Rattle.channel_config.specs.Setup.{Setup, set_count}
+use Rattle.channel_config.specs.Lawful.{IsLawful, IsPlaced}
+use Rattle.channel_config.specs.Setup.{Setup, set_count, groups_of}
+use Rattle.channel_reports.specs.Queue.{no_reports_wait}
+use Rattle.control_units.specs.Units.{idle_member}
+use Rattle.interruptions.specs.Requests.{no_requests_wait}
 use Rattle.chan_events.specs.declared.event.Event.{Event}
 use Rattle.chan_events.specs.declared.reply.Entry.{Entry}
 use Rattle.chan_events.specs.declared.reply.Reply.{Reply}
 use Rattle.chan_model.specs.declared.fault.Fault.{Fault}
 use Rattle.chan_model.specs.declared.unit_state.AtHand.{AtHand}
+use Rattle.chan_model.specs.declared.unit_state.Own.{Own}
+use Rattle.chan_model.specs.declared.unit_state.Own.TheVariants.{Idle, Owned}
+use Rattle.chan_model.specs.declared.unit_state.Place.{Place}
+use Rattle.chan_model.specs.declared.unit_state.Place.TheVariants.{On, Ask, Away}
 use Rattle.chan_model.specs.declared.unit_state.UnitState.{UnitState}
 use Rattle.subchannel_model.specs.Opening.{opened}
+use Rattle.subchannel_model.specs.declared.state.Subchannel.{Subchannel}
 use Rattle.machine_laws.specs.Agreeing.{AllAgree}
 use Rattle.machine_laws.specs.Beginnings.{IsBegunOnce}
-use Rattle.program_laws.specs.Claims.{AllTold, HasTold}
 use Rattle.machine_laws.specs.Claims.{IsClearedOnce}
-use Rattle.machine_model.specs.Bounds.{IsAtWithin, IsUnitWithin, IsUnitRoomy}
-use Rattle.machine_model.specs.State.{State, opening_of, idle_of}
-use Rattle.machine_model.specs.Setups.{IsSetUp}
+use Rattle.machine_model.specs.Bounds.{IsAtWithin, IsOwnWithin, IsPlaceWithin, IsUnitWithin, IsUnitRoomy}
+use Rattle.machine_steps.specs.Postable.{IsPostable}
+use Rattle.machine_model.specs.State.{State, configured_paths, opening_of, idle_of}
+use Rattle.machine_model.specs.Setups.{IsSetUp, group_of}
 use Rattle.subsystem.specs.Keeping.{StaysSetUp}
 use Rattle.machine_model.specs.Steps.{HasRun, Run, Opened, Stepped, Step, Performs}
 
@@ -36,29 +44,50 @@ idle-units [] (y ∷ ys) e = absurd (omega (arith, e))
 idle-units (x ∷ xs) [] e = absurd (omega (arith, e))
 idle-units (x ∷ xs) (y ∷ ys) e = ap (λ us. idle_of x ∷ us) (idle-units xs ys (omega (arith, e)))
 
-abbrev opening-with : ℕ → ℕ → List SubchannelSetup → List UnitState → State
-opening-with blocks sets subs units = record { storage = cleared_storage blocks; sets = sets; subs = map opened subs; units = units }
+abbrev opening-with : ℕ → ℕ → List ℕ → List SubchannelSetup → List UnitState → List ℕ → State
+opening-with blocks sets chpids subs units groups = record {
+  storage = cleared_storage blocks;
+  sets = sets;
+  chpids = chpids;
+  up = configured_paths chpids 0x100;
+  subs = map opened subs;
+  units = units;
+  members = map idle_member groups;
+  requests = no_requests_wait 0x100;
+  reports = no_reports_wait;
+}
 
-opening-same : (blocks n sets m : ℕ) (subs these : List SubchannelSetup) (units those : List UnitState) → blocks ≡ n → sets ≡ m → subs ≡ these → units ≡ those →
-    opening-with blocks sets subs units ≡ opening-with n m these those
-opening-same blocks n sets m subs these units those a b c d =
-    ap (λ (k : ℕ). opening-with k sets subs units) a
-    ∙ (ap (λ (k : ℕ). opening-with n k subs units) b
-    ∙ (ap (λ (xs : List SubchannelSetup). opening-with n m xs units) c
-    ∙ ap (λ (us : List UnitState). opening-with n m these us) d))
+opening-same : (blocks n sets m : ℕ) (chpids paths : List ℕ) (subs these : List SubchannelSetup) (units those : List UnitState) (groups shared : List ℕ) →
+    blocks ≡ n → sets ≡ m → chpids ≡ paths → subs ≡ these → units ≡ those → groups ≡ shared →
+    opening-with blocks sets chpids subs units groups ≡ opening-with n m paths these those shared
+opening-same blocks n sets m chpids paths subs these units those groups shared a b c d e f =
+    ap (λ (k : ℕ). opening-with k sets chpids subs units groups) a
+    ∙ (ap (λ (k : ℕ). opening-with n k chpids subs units groups) b
+    ∙ (ap (λ (ps : List ℕ). opening-with n m ps subs units groups) c
+    ∙ (ap (λ (xs : List SubchannelSetup). opening-with n m paths xs units groups) d
+    ∙ (ap (λ (us : List UnitState). opening-with n m paths these us groups) e
+    ∙ ap (λ (gs : List ℕ). opening-with n m paths these those gs) f))))
 
 one-opening : (a b : Setup) (s : State) → IsSetUp a s → IsSetUp b s → opening_of a ≡ opening_of b
 one-opening a b s x y =
-    opening-same (unwrap_or a.blocks 16) (unwrap_or b.blocks 16) (set_count a) (set_count b) a.subchannels b.subchannels (map idle_of a.units) (map idle_of b.units)
-    (sym x.blocks ∙ y.blocks) (sym x.sets ∙ y.sets) (sym x.subs ∙ y.subs) (idle-units a.units b.units (sym x.units ∙ y.units))
+    opening-same (unwrap_or a.blocks 16) (unwrap_or b.blocks 16) (set_count a) (set_count b) a.paths b.paths a.subchannels b.subchannels (map idle_of a.units) (map idle_of b.units)
+    (groups_of a) (groups_of b) (sym x.blocks ∙ y.blocks) (sym x.sets ∙ y.sets) (sym x.chpids ∙ y.chpids) (sym x.subs ∙ y.subs)
+    (idle-units a.units b.units (sym x.units ∙ y.units)) (sym x.groups ∙ y.groups)
+
+idle-groups : (groups : List ℕ) → map group_of (map idle_member groups) ≡ groups
+idle-groups [] = refl
+idle-groups (g ∷ gs) = ap (λ xs. g ∷ xs) (idle-groups gs)
 
 opening-set_up : (setup : Setup) → IsLawful setup → IsSetUp setup (opening_of setup)
 opening-set_up setup lawful = record {
   lawful = lawful;
   blocks = length-replicate (unwrap_or setup.blocks 16) _;
   sets = refl;
+  chpids = refl;
   subs = opened-setups setup.subchannels;
   units = length-map setup.units idle_of;
+  groups = idle-groups (groups_of setup);
+  requests = refl;
 }
 
 -- a run from the opening of one set-up is one from that of each
@@ -101,17 +130,48 @@ pub past-agrees : ((setup : Setup) (h : List Entry) (s : State) → IsLawful set
     (h : List Entry) (s : State) → HasRun h s → AllAgree s
 past-agrees agrees h s past = agrees past.0.0 h s past.0.1.lawful (past.1 past.0.0 past.0.1)
 
-pub past-told : ((setup : Setup) → IsLawful setup → (h : List Entry) (s : State) (run : Run (opening_of setup) h s) → AllTold (opening_of setup) h s run) →
-    (h : List Entry) (s : State) → HasRun h s → HasTold h s
-past-told told h s past = (past.0, λ setup k. let run = past.1 setup k in (run, told setup k.lawful h s run))
-
 at-wider : (n m : ℕ) (x : Option AtHand) → n ≤ m → IsAtWithin n x → IsAtWithin m x
 at-wider n m None le k = tt
 at-wider n m (Some x) le k = omega (arith, le, k)
+
+place-wider : (n m : ℕ) (place : Place) → n ≤ m → IsPlaceWithin n place → IsPlaceWithin m place
+place-wider n m (On p c) le k = omega (arith, le, k)
+place-wider n m (Ask p c) le k = omega (arith, le, k)
+place-wider n m (Away c) le k = omega (arith, le, k)
+
+own-wider : (n m : ℕ) (own : Own) → n ≤ m → IsOwnWithin n own → IsOwnWithin m own
+own-wider n m Idle le k = tt
+own-wider n m (Owned side t place) le k = place-wider n m place le k
+
+unit-wider : (n m : ℕ) (u : UnitState) → n ≤ m → IsUnitWithin n u → IsUnitWithin m u
+unit-wider n m u le k = record {
+  at_hand = at-wider n m u.at_hand le k.at_hand;
+  connection = own-wider n m u.own le k.connection;
+  attentions = omega (arith, le, k.attentions);
+  restarts = omega (arith, le, k.restarts);
+}
 
 -- the units have room for the numbers of another event
 pub past-roomy : ((setup : Setup) (h : List Entry) (s : State) → Run (opening_of setup) h s → All (IsUnitWithin (length h)) s.units) →
     (h : List Entry) (s : State) → HasRun h s → length h ≤ 2 ^ 62 → All IsUnitRoomy s.units
 past-roomy within h s past few =
-    All-weaker (IsUnitWithin (length h)) IsUnitRoomy (λ u k. at-wider (length h) (2 ^ 62) u.at_hand few k) s.units
+    All-weaker (IsUnitWithin (length h)) IsUnitRoomy (λ u k. unit-wider (length h) (2 ^ 62) u few k) s.units
     (within past.0.0 h s (past.1 past.0.0 past.0.1))
+
+-- there is room for a request of each subchannel
+placed-postable : (sets units : ℕ) (known : List ℕ) (subs : List Subchannel) → All (IsPlaced sets units known) (map (λ sub. sub.setup) subs) → All IsPostable subs
+placed-postable sets units known [] k = All-nil IsPostable
+placed-postable sets units known (x ∷ xs) k =
+    let setups = map (λ (sub : Subchannel). sub.setup) xs in
+    let placed : IsPlaced sets units known x.setup = All-head (IsPlaced sets units known) x.setup setups k in
+    All-cons IsPostable x xs placed.number (placed-postable sets units known xs (All-tail (IsPlaced sets units known) x.setup setups k))
+
+pub past-postable : (h : List Entry) (s : State) → HasRun h s → All IsPostable s.subs
+past-postable h s past =
+    let setup = past.0.0 in
+    let up = past.0.1 in
+    placed-postable (set_count setup) (length setup.units) setup.paths s.subs
+    (subst (λ (xs : List SubchannelSetup). All (IsPlaced (set_count setup) (length setup.units) setup.paths) xs) (sym up.subs) up.lawful.subchannels)
+
+pub past-requests : (h : List Entry) (s : State) → HasRun h s → s.requests.numbers ≡ 0x100
+past-requests h s past = past.0.1.requests

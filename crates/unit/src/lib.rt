@@ -8,7 +8,7 @@ mod reports;
 mod signals;
 mod works;
 
-ghost use Rattle.std.specs.Prelude.{◌≡◌, ◌<◌, ◌^◌, ℕ, Bool, IfSome, is_some};
+ghost use Rattle.std.specs.Prelude.{◌≡◌, ◌<◌, ◌^◌, ◌||◌, ℕ, Bool, IfSome, is_some};
 ghost use Rattle.chan_model.specs.UnitReports as reports;
 ghost use Rattle.chan_model.specs.UnitTable as table;
 ghost use Rattle.unit.specs.UnitWords as words;
@@ -70,6 +70,13 @@ impl Unit {
         ensures { result ≡ self.now.own }
     {
         self.state.own
+    }
+
+    /// Whether no program holds the device.
+    pub fn is_idle(&self) -> bool
+        ensures { result ≡ table.is_idle self.now.own }
+    {
+        matches!(self.state.own, Own::Idle)
     }
 
     /// Takes a signal of a side that came by a path. `may` says, at Select, that the control unit may serve it.
@@ -151,6 +158,13 @@ impl Unit {
         ensures { self.new ≡ table.restarted self.old }
     {
         acts::restart(&mut self.state);
+    }
+
+    /// From now on a control-unit end is owed where `owed` says so, or was owed already; its next attention says it.
+    pub fn owe(&mut self, owed: bool)
+        ensures { self.new ≡ record self.old { end_owed = self.old.end_owed || owed } }
+    {
+        self.state.end_owed = self.state.end_owed || owed;
     }
 
     /// Tells a side that is fresh how often it was restarted. None where the side is not fresh.

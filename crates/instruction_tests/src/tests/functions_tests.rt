@@ -30,6 +30,7 @@ fn subchannel(words: [u32; 3]) -> SubchannelState {
         not_operational: [true; 8],
         last_used: Path::new(3),
         operational: [false; 8],
+        available: [true; 8],
     };
     state.scsw = Scsw::of_words(&words).unwrap_or(Scsw::zero());
     state.serials = Serials {

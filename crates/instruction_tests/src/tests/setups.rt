@@ -1,9 +1,15 @@
-//! The subchannel that these tests begin with.
+//! The subchannel that these tests begin with, and its programs.
 
+use ccw_walk::Walk;
 use chan_model::hold_state::{HoldPhase, HoldState};
+use orb_block::Orb;
 use scsw_irb::scsw::Scsw;
 use scsw_irb::serials::Serials;
-use subchannel_model::state::{PmcwState, SubchannelState};
+use std::alloc::Global;
+use storage_keys::Storage;
+use subchannel_model::state::{ActiveProgram, PmcwState, Program, SubchannelState};
+use transfer::CommandStart;
+use transfer::commands::first_command;
 
 /// An enabled subchannel of subclass 0 that holds no device and has no status.
 pub(crate) fn idle_state() -> SubchannelState {
@@ -17,6 +23,7 @@ pub(crate) fn idle_state() -> SubchannelState {
             not_operational: [false; 8],
             last_used: None,
             operational: [true; 8],
+            available: [true; 8],
         },
         scsw: Scsw::zero(),
         serials: Serials {
@@ -45,4 +52,61 @@ pub(crate) fn idle_state() -> SubchannelState {
 /// Whether the status word of a subchannel has these three words.
 pub(crate) fn is_same_words(state: &SubchannelState, words: [u32; 3]) -> bool {
     state.scsw.words() == words
+}
+
+/// An enabled subchannel whose status word has these three words, and whose statuses are all cleared.
+pub(crate) fn state_of_words(words: [u32; 3]) -> SubchannelState {
+    let mut state = idle_state();
+    state.scsw = Scsw::of_words(&words).unwrap_or(Scsw::zero());
+    state.serials = Serials {
+        made: 8,
+        cleared: 8,
+    };
+    state.starts = 2;
+    state
+}
+
+/// A program of format 1 at 1000, with access key 0.
+pub(crate) fn program() -> Option<Program> {
+    let orb = Orb::read(&[0, 0, 0, 0, 0, 0x80, 0xFF, 0, 0, 0, 0x10, 0]).ok()?;
+    Some(Program {
+        start: 2,
+        orb,
+        single_path: true,
+    })
+}
+
+/// The same with its first command at work: a block of this code and these flags, for four bytes at 2000.
+pub(crate) fn begun_by(alloc: Global, code: u8, flags: u8) -> Option<ActiveProgram> {
+    let program = program()?;
+    let mut storage = Storage::new(alloc, 16).ok()?;
+    storage
+        .put(0x1000, &[code, flags, 0, 4, 0, 0, 0x20, 0])
+        .ok()?;
+    let CommandStart::Begins(transfer) = first_command(&storage, Walk::start(program.orb)).came
+    else {
+        return None;
+    };
+    Some(ActiveProgram {
+        program,
+        primary_shown: false,
+        transfer,
+    })
+}
+
+/// The same with SLI one.
+pub(crate) fn begun(alloc: Global, code: u8, primary_shown: bool) -> Option<ActiveProgram> {
+    let begun = begun_by(alloc, code, 0x20)?;
+    Some(ActiveProgram {
+        primary_shown,
+        ..begun
+    })
+}
+
+/// The subchannel with a start that waits.
+pub(crate) fn waiting(words: [u32; 3]) -> SubchannelState {
+    SubchannelState {
+        waiting: program(),
+        ..state_of_words(words)
+    }
 }

@@ -1,10 +1,9 @@
 //! Status words that are known from elsewhere, cause by cause.
 
-use crate::tests::setups::{idle_state, is_same_words};
+use crate::tests::setups::{begun, begun_by, is_same_words, program, state_of_words, waiting};
 use ccw_walk::Walk;
 use chan_model::answer::ConditionCode;
 use channel_program::check::Check;
-use orb_block::Orb;
 use scsw_irb::scsw::Scsw;
 use scsw_irb::serials::Serials;
 use scsw_irb::status::DeviceStatus;
@@ -14,59 +13,8 @@ use status::{law, make_pending, tsch};
 use std::alloc::Global;
 use storage_keys::Storage;
 use subchannel_model::cause::StatusCause;
-use subchannel_model::state::{ActiveProgram, Program, ProgramPosition, SubchannelState};
-use transfer::CommandStart;
+use subchannel_model::state::{ActiveProgram, ProgramPosition, SubchannelState};
 use transfer::chunks::{absorbed, next_given};
-use transfer::commands::first_command;
-
-/// An enabled subchannel whose status word has these three words, and whose statuses are all cleared.
-fn subchannel(words: [u32; 3]) -> SubchannelState {
-    let mut state = idle_state();
-    state.scsw = Scsw::of_words(&words).unwrap_or(Scsw::zero());
-    state.serials = Serials {
-        made: 8,
-        cleared: 8,
-    };
-    state.starts = 2;
-    state
-}
-
-/// A program of format 1 at 1000, with access key 0.
-fn program() -> Option<Program> {
-    let orb = Orb::read(&[0, 0, 0, 0, 0, 0x80, 0xFF, 0, 0, 0, 0x10, 0]).ok()?;
-    Some(Program {
-        start: 2,
-        orb,
-        single_path: true,
-    })
-}
-
-/// The same with its first command at work: a block of this code and these flags, for four bytes at 2000.
-fn begun_by(alloc: Global, code: u8, flags: u8) -> Option<ActiveProgram> {
-    let program = program()?;
-    let mut storage = Storage::new(alloc, 16).ok()?;
-    storage
-        .put(0x1000, &[code, flags, 0, 4, 0, 0, 0x20, 0])
-        .ok()?;
-    let CommandStart::Begins(transfer) = first_command(&storage, Walk::start(program.orb)).came
-    else {
-        return None;
-    };
-    Some(ActiveProgram {
-        program,
-        primary_shown: false,
-        transfer,
-    })
-}
-
-/// The same with SLI one.
-fn begun(alloc: Global, code: u8, primary_shown: bool) -> Option<ActiveProgram> {
-    let begun = begun_by(alloc, code, 0x20)?;
-    Some(ActiveProgram {
-        primary_shown,
-        ..begun
-    })
-}
 
 /// The same once its device has absorbed the four bytes.
 fn moved(alloc: Global) -> Option<ActiveProgram> {
@@ -107,14 +55,6 @@ fn shows(state: &SubchannelState, cause: StatusCause, words: [u32; 3]) -> bool {
     }
 }
 
-/// The subchannel with a start that waits.
-fn waiting(words: [u32; 3]) -> SubchannelState {
-    SubchannelState {
-        waiting: program(),
-        ..subchannel(words)
-    }
-}
-
 /// The subchannel with a program that is suspended before its first block, and showed a count of 4.
 fn with_suspended(words: [u32; 3]) -> SubchannelState {
     let suspended = program().map(|program| ProgramPosition {
@@ -124,7 +64,7 @@ fn with_suspended(words: [u32; 3]) -> SubchannelState {
     });
     SubchannelState {
         suspended,
-        ..subchannel(words)
+        ..state_of_words(words)
     }
 }
 
@@ -144,7 +84,7 @@ fn the_last_end_of_a_program(rt: HostRuntime) {
     let Some(begun) = begun(rt.alloc(), 1, false) else {
         return assert!(rt; false, "no memory, or the program is wrong");
     };
-    let active = subchannel([0x0080_40C0, 0x1000, 0]);
+    let active = state_of_words([0x0080_40C0, 0x1000, 0]);
     assert!(rt;
         shows(
             &active,
@@ -166,7 +106,7 @@ fn the_last_end_of_a_program(rt: HostRuntime) {
             [0x0080_4017, 0x1008, 0x0E00_0004]
         )
     );
-    let halted = subchannel([0x0080_60C0, 0x1000, 0]);
+    let halted = state_of_words([0x0080_60C0, 0x1000, 0]);
     assert!(rt;
         shows(
             &halted,
@@ -181,7 +121,7 @@ fn channel_end_alone_and_device_end_later(rt: HostRuntime) {
     let Some(begun) = begun(rt.alloc(), 3, false) else {
         return assert!(rt; false, "no memory, or the program is wrong");
     };
-    let active = subchannel([0x0080_40C0, 0x1000, 0]);
+    let active = state_of_words([0x0080_40C0, 0x1000, 0]);
     let Some(ended) = after(&active, end(&begun, 0x08)) else {
         return assert!(rt; false, "the counts are small");
     };
@@ -190,7 +130,7 @@ fn channel_end_alone_and_device_end_later(rt: HostRuntime) {
         return assert!(rt; false, "the program works on");
     };
     assert!(rt; begun.primary_shown && begun.transfer.unchained);
-    let cleared = subchannel([0x0080_0040, 0x1008, 0x0800_0004]);
+    let cleared = state_of_words([0x0080_0040, 0x1008, 0x0800_0004]);
     assert!(rt;
         shows(
             &cleared,
@@ -272,7 +212,7 @@ fn a_suspended_program_shows_its_own_words(rt: HostRuntime) {
 
 #[test]
 fn a_command_is_chained_where_nothing_breaks_the_chain(rt: HostRuntime) {
-    let state = subchannel([0x0080_40C0, 0x1000, 0]);
+    let state = state_of_words([0x0080_40C0, 0x1000, 0]);
     let Some(chained) = begun_by(rt.alloc(), 1, 0x60) else {
         return assert!(rt; false, "no memory, or the program is wrong");
     };
@@ -288,7 +228,7 @@ fn a_command_is_chained_where_nothing_breaks_the_chain(rt: HostRuntime) {
 
 #[test]
 fn attention(rt: HostRuntime) {
-    let idle = subchannel([0, 0, 0]);
+    let idle = state_of_words([0, 0, 0]);
     assert!(rt; shows(&idle, StatusCause::Attention, [0x0000_0011, 0, 0x8000_0000]));
     let start = waiting([0x0080_4400, 0x1000, 0]);
     assert!(rt;
@@ -312,7 +252,7 @@ fn interface_control_check(rt: HostRuntime) {
     );
     let held = SubchannelState {
         begun: begun(rt.alloc(), 1, false),
-        ..subchannel([0x0080_40C0, 0x1000, 0])
+        ..state_of_words([0x0080_40C0, 0x1000, 0])
     };
     assert!(rt;
         shows(
@@ -334,7 +274,7 @@ fn interface_control_check(rt: HostRuntime) {
     );
     let ended = SubchannelState {
         begun: begun(rt.alloc(), 3, true),
-        ..subchannel([0x0080_0040, 0x1008, 0x0800_0004])
+        ..state_of_words([0x0080_0040, 0x1008, 0x0800_0004])
     };
     assert!(rt;
         shows(
@@ -351,25 +291,25 @@ fn interruption_and_suspension(rt: HostRuntime) {
         tried: 0x1008,
         count: 4,
     };
-    let active = subchannel([0x0080_40C0, 0x1000, 0]);
+    let active = state_of_words([0x0080_40C0, 0x1000, 0]);
     assert!(rt; shows(&active, interruption, [0x0080_40C9, 0x1008, 0x0080_0004]));
     let suspension = StatusCause::Suspension {
         tried: 0x1008,
         count: 0,
     };
-    let active = subchannel([0x0880_40C0, 0x1000, 0]);
+    let active = state_of_words([0x0880_40C0, 0x1000, 0]);
     assert!(rt; shows(&active, suspension, [0x0880_4029, 0x1008, 0]));
 }
 
 #[test]
 fn a_clear_and_a_halt(rt: HostRuntime) {
-    let clear = subchannel([0x0000_1100, 0, 0]);
+    let clear = state_of_words([0x0000_1100, 0, 0]);
     assert!(rt; shows(&clear, StatusCause::ClearDone, [0x0000_1001, 0, 0]));
-    let halt = subchannel([0x0000_2200, 0, 0]);
+    let halt = state_of_words([0x0000_2200, 0, 0]);
     assert!(rt; shows(&halt, StatusCause::HaltDone, [0x0000_2001, 0, 0]));
     let start = waiting([0x0080_6600, 0x1000, 0]);
     assert!(rt; shows(&start, StatusCause::HaltDone, [0x0080_6001, 0x1000, 0]));
-    let suspended = subchannel([0x0880_6229, 0x1008, 0]);
+    let suspended = state_of_words([0x0880_6229, 0x1008, 0]);
     assert!(rt; shows(&suspended, StatusCause::HaltDone, [0x0880_6001, 0x1008, 0]));
 }
 

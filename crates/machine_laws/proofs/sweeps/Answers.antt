@@ -1,5 +1,6 @@
 use Rattle.std.specs.Prelude.{map}
 use Rattle.subchannel_model.specs.Losing.{loses}
+use Rattle.machine_model.specs.declared.state.Sweep.TheVariants as sweep
 use Rattle.machine_laws.proofs.Growth.{AreLaws, laws-of}
 use Rattle.machine_laws.proofs.RunAgrees.{run-told, linked-agree}
 use Rattle.machine_laws.proofs.Swept.{swept-told}
@@ -13,5 +14,5 @@ returns c =
       agree = λ setup h s chpid lawful run.
           let told = run-told laws setup (record { set = 0; number = 0 }) h s lawful c.agreement.ensures.opens run in
           linked-agree laws.means (record s { subs = map (loses chpid) s.subs }) _ _
-          (swept-told laws chpid (record { set = 0; number = 0 }) _ s.subs s.units told.1).linked;
+          (swept-told laws (sweep.PathReset chpid) (record { set = 0; number = 0 }) _ s.subs s.units told.1).linked;
     }

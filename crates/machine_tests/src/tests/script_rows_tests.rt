@@ -1,6 +1,7 @@
 //! Lines that drive a machine, lines that configure it, and lines that break a rule, each by its words.
 
-use chan_events::event::{Event, Instruction};
+use chan_events::event::{Event, Instruction, OtherInstruction, UnitAct};
+use chan_model::names::Side;
 use channel_config::config::Config;
 use script_rows::Action;
 use script_rows::actions::action_row;
@@ -59,6 +60,33 @@ fn shown_instruction(cpu: u32, instruction: &Instruction) -> (&[u8], [u32; 4]) {
     }
 }
 
+/// What an instruction without a subchannel is: its name, and its numbers in order, the CPU's first.
+fn shown_other(cpu: u32, instruction: &OtherInstruction) -> (&[u8], [u32; 4]) {
+    match instruction {
+        OtherInstruction::Tpi { mask, address } => (b"tpi", [cpu, u32::from(*mask), *address, 0]),
+        OtherInstruction::Rchp { path } => (b"rchp", [cpu, *path, 0, 0]),
+        OtherInstruction::Stcrw { address } => (b"stcrw", [cpu, *address, 0, 0]),
+        OtherInstruction::Stcps { address } => (b"stcps", [cpu, *address, 0, 0]),
+    }
+}
+
+fn side_number(side: Side) -> u32 {
+    match side {
+        Side::First => 0,
+        Side::Second => 1,
+    }
+}
+
+/// What a unit does: its name, and its numbers in order, the unit's first and the side's last.
+fn shown_act(unit: u32, act: &UnitAct) -> (&[u8], [u32; 4]) {
+    match act {
+        UnitAct::Leave => (b"leave", [unit, 0, 0, 0]),
+        UnitAct::Ask { path } => (b"ask", [unit, *path, 0, 0]),
+        UnitAct::Attention { path, side } => (b"attn", [unit, *path, side_number(*side), 0]),
+        UnitAct::Notice { path, side } => (b"notice", [unit, *path, side_number(*side), 0]),
+    }
+}
+
 /// What an action is: its kind, and its numbers in order.
 fn shown(action: &Action) -> (&[u8], [u32; 4]) {
     match action {
@@ -86,15 +114,24 @@ fn shown(action: &Action) -> (&[u8], [u32; 4]) {
         Action::Event(Event::Execute { cpu, instruction }) => {
             shown_instruction(u32::from(cpu.number()), instruction)
         }
+        Action::Event(Event::ExecuteOther { cpu, instruction }) => {
+            shown_other(u32::from(cpu.number()), instruction)
+        }
         Action::Event(Event::Choose { subchannel }) => (b"choose", [*subchannel, 0, 0, 0]),
         Action::Event(Event::Up { subchannel, path }) => (b"up", [*subchannel, *path, 0, 0]),
         Action::Event(Event::Down { subchannel, path }) => (b"down", [*subchannel, *path, 0, 0]),
         Action::Event(Event::Report { .. }) => (b"report", [0, 0, 0, 0]),
+        Action::Event(Event::Act { unit, act }) => shown_act(*unit, act),
+        Action::Event(Event::Restart { unit }) => (b"restart", [*unit, 0, 0, 0]),
+        Action::Event(Event::PathDown { chpid }) => (b"pathdown", [*chpid, 0, 0, 0]),
+        Action::Event(Event::PathUp { chpid }) => (b"pathup", [*chpid, 0, 0, 0]),
+        Action::Event(Event::PathReset { chpid }) => (b"pathreset", [*chpid, 0, 0, 0]),
+        Action::Event(Event::SystemReset) => (b"sysreset", [0, 0, 0, 0]),
     }
 }
 
 /// Lines that drive a machine, and what each asks for.
-const DRIVING: [(&[u8], &[u8], [u32; 4]); 21] = [
+const DRIVING: [(&[u8], &[u8], [u32; 4]); 41] = [
     (b"put 500 c1C2", b"put", [0x500, 2, 0xC1, 0xC2]),
     (b"key 2FFF 1e", b"key", [0x2FFF, 0x1E, 0, 0]),
     (b"prefix f 4000", b"prefix", [0xF, 0x4000, 0, 0]),
@@ -116,6 +153,26 @@ const DRIVING: [(&[u8], &[u8], [u32; 4]); 21] = [
     (b"down 0 12345678", b"down", [0x1_0000, 0x1234_5678, 0, 0]),
     (b"dev 3FF", b"dev", [0x3FF, 0, 0, 0]),
     (b"glance 3", b"glance", [0x1_0003, 0, 0, 0]),
+    (b"tpi FF 600", b"tpi", [0, 0xFF, 0x600, 0]),
+    (b"cpu 3 tpi 0 0", b"tpi", [3, 0, 0, 0]),
+    (b"rchp 10", b"rchp", [0, 0x10, 0, 0]),
+    (b"cpu f rchp 12345678", b"rchp", [0xF, 0x1234_5678, 0, 0]),
+    (b"stcrw 700", b"stcrw", [0, 0x700, 0, 0]),
+    (b"cpu 1 stcrw 702", b"stcrw", [1, 0x702, 0, 0]),
+    (b"stcps 720", b"stcps", [0, 0x720, 0, 0]),
+    (b"cpu 2 stcps 0", b"stcps", [2, 0, 0, 0]),
+    (b"leave 3FF", b"leave", [0x3FF, 0, 0, 0]),
+    (b"ask 1 8", b"ask", [1, 8, 0, 0]),
+    (b"attn 1 0", b"attn", [1, 0, 0, 0]),
+    (b"attn 400 7 1", b"attn", [0x400, 7, 1, 0]),
+    (b"notice 1 7 0", b"notice", [1, 7, 0, 0]),
+    (b"notice 0 0 01", b"notice", [0, 0, 1, 0]),
+    (b"restart 1", b"restart", [1, 0, 0, 0]),
+    (b"pathdown 10", b"pathdown", [0x10, 0, 0, 0]),
+    (b"pathdown 100", b"pathdown", [0x100, 0, 0, 0]),
+    (b"pathup 00000fF", b"pathup", [0xFF, 0, 0, 0]),
+    (b"pathreset 0", b"pathreset", [0, 0, 0, 0]),
+    (b"sysreset", b"sysreset", [0, 0, 0, 0]),
 ];
 
 #[test]
@@ -138,7 +195,7 @@ fn driving_lines_are_read(rt: HostRuntime) -> Result<(), AllocError> {
 }
 
 /// Lines of words that drive no machine, and the rule that each breaks.
-const WRONG: [(&[u8], u8); 45] = [
+const WRONG: [(&[u8], u8); 92] = [
     (b"cpu", 1),
     (b"cpu 1", 1),
     (b"cpu 1 up 0 0", 1),
@@ -184,6 +241,53 @@ const WRONG: [(&[u8], u8); 45] = [
     (b"xsch G", 3),
     (b"cpu 2 hsch", 2),
     (b"cpu 10 csch 0", 3),
+    (b"tpi 80", 2),
+    (b"tpi 80 600 0", 2),
+    (b"tpi 100 600", 3),
+    (b"tpi 80 x", 3),
+    (b"cpu G tpi 80", 2),
+    (b"cpu 10 tpi 80 600", 3),
+    (b"rchp", 2),
+    (b"rchp 10 11", 2),
+    (b"rchp x", 3),
+    (b"cpu 10 rchp 10", 3),
+    (b"stcrw", 2),
+    (b"stcrw 700 4", 2),
+    (b"stcrw 123456789", 3),
+    (b"cpu G stcrw 700", 3),
+    (b"stcps", 2),
+    (b"stcps 700 20", 2),
+    (b"stcps G", 3),
+    (b"leave", 2),
+    (b"leave 0 0", 2),
+    (b"leave x", 3),
+    (b"cpu 0 leave 0", 1),
+    (b"ask 0", 2),
+    (b"ask 0 0 0", 2),
+    (b"ask x 0", 3),
+    (b"attn 0", 2),
+    (b"attn 0 0 0 0", 2),
+    (b"attn x 0", 3),
+    (b"attn 0 x 1", 3),
+    (b"attn 0 0 2", 3),
+    (b"notice 0", 2),
+    (b"notice 0 0 0 0", 2),
+    (b"notice 0 0 2", 3),
+    (b"restart", 2),
+    (b"restart 0 0", 2),
+    (b"restart 0x", 3),
+    (b"pathdown", 2),
+    (b"pathdown 10 11", 2),
+    (b"pathdown 1x", 3),
+    (b"cpu 0 pathdown 10", 1),
+    (b"pathup", 2),
+    (b"pathup ", 3),
+    (b"pathup 123456789", 3),
+    (b"pathreset 10 ", 2),
+    (b"pathreset x", 3),
+    (b"sysreset 0", 2),
+    (b"sysreset ", 2),
+    (b"cpu 0 sysreset", 1),
 ];
 
 #[test]
@@ -202,13 +306,15 @@ fn wrong_driving_lines_break_a_rule(rt: HostRuntime) -> Result<(), AllocError> {
 }
 
 /// Lines that configure a machine.
-const CONFIGURING: [&[u8]; 8] = [
+const CONFIGURING: [&[u8]; 10] = [
     b"storage 10",
     b"sets 2",
     b"path 10",
     b"path fF",
     b"unit 0 block",
     b"unit 1 console",
+    b"unit 2 block",
+    b"share 2 1",
     b"sub 0 0100 0 10 FF",
     b"sub 00030000 0101 1 10",
 ];
@@ -233,11 +339,19 @@ fn configuring_lines_are_read(rt: HostRuntime) -> Result<(), AllocError> {
     assert!(rt; config.set_count() == 2);
     assert!(rt; config.paths() == [0x10, 0xFF].as_slice());
     assert!(rt; config.subchannels().len() == 2);
+    let groups = config.groups_with(rt.alloc(), &mut supply)?;
+    assert!(rt; groups.as_slice() == [0, 2, 2].as_slice());
     Ok(())
 }
 
 /// Lines of words that configure no machine, and the rule that each breaks.
-const WRONG_SETTINGS: [(&[u8], u8); 2] = [(b"sub 0 0", 2), (b"unit 0 printer", 3)];
+const WRONG_SETTINGS: [(&[u8], u8); 5] = [
+    (b"sub 0 0", 2),
+    (b"unit 0 printer", 3),
+    (b"share", 2),
+    (b"share 0", 2),
+    (b"share 0 x", 3),
+];
 
 #[test]
 fn wrong_configuring_lines_break_a_rule(rt: HostRuntime) -> Result<(), AllocError> {

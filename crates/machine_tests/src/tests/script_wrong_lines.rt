@@ -4,7 +4,7 @@ use script::{Script, ScriptBad};
 use std::alloc::AllocError;
 use supply::{Given, Refusing};
 
-const WRONG: [(&[u8], u64, u8); 27] = [
+const WRONG: [(&[u8], u64, u8); 38] = [
     (b"", 1, 6),
     (b"\n\n# nothing\n", 1, 6),
     (b"\n#\xFF\n", 1, 6),
@@ -32,6 +32,25 @@ const WRONG: [(&[u8], u64, u8); 27] = [
     (b"storage 10\nunit 0 block\npath 10\nsub 0 0 1 10\n", 4, 5),
     (b"storage 10\npath 10\npath 10\nglance 0\n", 3, 5),
     (b"storage 10\nput 500 C1\nput 500 x", 3, 3),
+    (b"storage 10\ncpu 0 restart 0\n", 2, 1),
+    (b"storage 10\nunit 0 block\nshare 0\n", 3, 2),
+    (b"storage 10\nattn 0 0 2\n", 2, 3),
+    (b"storage 10\npath 10\nsysreset\npath 11\n", 4, 4),
+    (b"storage 10\nsystemreset\n", 2, 1),
+    (b"pathdown 10\nstorage 10\n", 1, 6),
+    (b"storage 10\npathdown 100\npathdown 10\r\n", 3, 3),
+    (
+        b"storage 10\nunit 0 block\nunit 1 block\nstcrw 700\nshare 0 1\n",
+        5,
+        4,
+    ),
+    (b"storage 10\nunit 0 block\nshare 0 1\n", 3, 5),
+    (b"storage 10\nunit 0 block\nshare 0 0\n", 3, 5),
+    (
+        b"storage 10\nunit 0 block\nunit 1 block\nshare 0 1\nshare 1 0\n",
+        5,
+        5,
+    ),
 ];
 
 #[test]
@@ -69,7 +88,7 @@ fn a_line_is_at_most_1024_bytes(rt: HostRuntime) -> Result<(), AllocError> {
 
 /// Every growth that reading meets: of lines, words, numbers, paths, units, subchannels and actions.
 const GROWING: &[u8] =
-    b"storage 10\npath 10\npath FF\nunit 0 block\nsub 0 0100 0 10 FF\nput 500 C1\nglance 0";
+    b"storage 10\npath 10\npath FF\nunit 0 block\nunit 1 block\nshare 0 1\nsub 0 0100 0 10 FF\nput 500 C1\nglance 0";
 
 #[test]
 fn each_growth_is_refused_in_turn(rt: HostRuntime) {

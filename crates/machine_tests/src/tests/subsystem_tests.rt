@@ -18,7 +18,7 @@ use std::alloc::Global;
 use subsystem::subsystem::{NotMade, Subsystem};
 use supply::Refusing;
 
-const WORD: u32 = 0x0001_0000;
+pub const WORD: u32 = 0x0001_0000;
 
 fn one_path(alloc: Global) -> Config {
     let mut config = Config::new(alloc);
@@ -60,14 +60,14 @@ fn report(sequence: u64, answer: DeviceAnswer) -> Event {
     }
 }
 
-fn down() -> Event {
+pub fn down() -> Event {
     Event::Down {
         subchannel: WORD,
         path: 0,
     }
 }
 
-fn up() -> Event {
+pub fn up() -> Event {
     Event::Up {
         subchannel: WORD,
         path: 0,
@@ -213,7 +213,7 @@ fn a_unit_asks_for_its_turns(rt: HostRuntime) {
 }
 
 /// A subsystem after the first of the events of a write.
-fn begun(alloc: Global, count: usize) -> Option<Subsystem<Rotating>> {
+pub fn begun(alloc: Global, count: usize) -> Option<Subsystem<Rotating>> {
     let mut subsystem = Subsystem::new(alloc, one_path(alloc), Rotating {}).ok()?;
     for event in script(alloc).iter().take(count) {
         subsystem.step(event).ok()?;
@@ -418,8 +418,9 @@ fn a_unit_takes_the_lowest_path_of_its_first_side(rt: HostRuntime) {
 }
 
 /// The requests for room as a subsystem of one unit and one subchannel is made: one for each of both, three for the tables of
-/// places, two for storage.
-const REQUESTS: u64 = 7;
+/// places, two for storage, one for the identifiers of the channel paths, two for what control units keep, and one for the
+/// requests for interruptions.
+const REQUESTS: u64 = 11;
 
 #[test]
 fn each_request_of_an_opening_is_refused_in_turn(rt: HostRuntime) {

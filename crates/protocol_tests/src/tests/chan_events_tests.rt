@@ -1,9 +1,9 @@
 //! Copies of events and replies.
 
-use chan_events::event::Event;
+use chan_events::event::{Event, OtherInstruction, UnitAct};
 use chan_events::reply::Reply;
 use chan_model::chunk::{Chunk, ChunkLength};
-use chan_model::names::{Path, Side};
+use chan_model::names::{Cpu, Path, Side};
 use chan_model::report::{DeviceAnswer, Report};
 use storage_keys::key::Key;
 
@@ -62,6 +62,81 @@ fn reports_are_copied(rt: HostRuntime) {
     };
     assert!(rt; report.side.same(Side::Second));
     assert!(rt; (report.number, report.command, report.sequence) == (1, 2, 3));
+}
+
+#[test]
+fn events_of_units_and_requests_are_copied(rt: HostRuntime) {
+    let told = Event::Act {
+        unit: 3,
+        act: UnitAct::Notice {
+            path: 2,
+            side: Side::Second,
+        },
+    };
+    assert!(rt;
+        matches!(
+            told.copy(),
+            Event::Act {
+                unit: 3,
+                act: UnitAct::Notice {
+                    path: 2,
+                    side: Side::Second
+                }
+            }
+        )
+    );
+    assert!(rt;
+        matches!(
+            (Event::Restart { unit: 5 }).copy(),
+            Event::Restart { unit: 5 }
+        )
+    );
+    let Some(cpu) = Cpu::new(2) else {
+        return assert!(rt; false, "the number is in range");
+    };
+    let asked = Event::ExecuteOther {
+        cpu,
+        instruction: OtherInstruction::Tpi {
+            mask: 0x80,
+            address: 0x600,
+        },
+    };
+    let Event::ExecuteOther { cpu, instruction } = asked.copy() else {
+        return assert!(rt; false, "the same instruction is executed");
+    };
+    assert!(rt; cpu.number() == 2);
+    assert!(rt;
+        matches!(
+            instruction,
+            OtherInstruction::Tpi {
+                mask: 0x80,
+                address: 0x600
+            }
+        )
+    );
+}
+
+#[test]
+fn events_of_channel_paths_are_copied(rt: HostRuntime) {
+    assert!(rt;
+        matches!(
+            (Event::PathDown { chpid: 0x10 }).copy(),
+            Event::PathDown { chpid: 0x10 }
+        )
+    );
+    assert!(rt;
+        matches!(
+            (Event::PathUp { chpid: 0x11 }).copy(),
+            Event::PathUp { chpid: 0x11 }
+        )
+    );
+    assert!(rt;
+        matches!(
+            (Event::PathReset { chpid: 0xFF }).copy(),
+            Event::PathReset { chpid: 0xFF }
+        )
+    );
+    assert!(rt; matches!(Event::SystemReset.copy(), Event::SystemReset));
 }
 
 #[test]

@@ -63,6 +63,38 @@ fn paths_and_units_are_named_once(rt: HostRuntime) {
 }
 
 #[test]
+fn units_share_in_groups(rt: HostRuntime) {
+    let mut config = Config::new(rt.alloc());
+    for number in 0..6 {
+        assert!(rt; config.unit(number, UnitKind::Block) == Ok(()));
+    }
+    let lines: [(&[u32], Result<(), ConfigFault>); 7] = [
+        (&[0, 6], Err(ConfigFault::Rule(6))),
+        (&[1, 0, 1], Err(ConfigFault::Rule(6))),
+        (&[4, 1], Ok(())),
+        (&[0, 1], Err(ConfigFault::Rule(6))),
+        (&[4, 1], Err(ConfigFault::Rule(6))),
+        (&[2, 3], Ok(())),
+        (&[5, 2], Err(ConfigFault::Rule(6))),
+    ];
+    for (units, wanted) in lines {
+        assert!(rt; config.share(units) == wanted);
+    }
+    match config.groups_with(rt.alloc(), &mut Given { refused: false }) {
+        Ok(groups) => assert!(rt; groups.as_slice() == [0, 4, 2, 2, 4, 5].as_slice()),
+        Err(_) => assert!(rt; false, "the allocator has room"),
+    }
+    for left in 0..8 {
+        let mut supply = Refusing {
+            left,
+            refused: false,
+        };
+        assert!(rt; config.groups_with(rt.alloc(), &mut supply).is_err() == (left < 6));
+        assert!(rt; supply.refused == (left < 6));
+    }
+}
+
+#[test]
 fn subchannels_use_what_there_is(rt: HostRuntime) {
     let mut config = Config::new(rt.alloc());
     for chpid in 0x10..0x19 {
@@ -102,7 +134,7 @@ fn subchannels_use_what_there_is(rt: HostRuntime) {
     }
 }
 
-/// A path, a unit and a subchannel.
+/// A path, a unit, which grows two lists, and a subchannel.
 fn fill<S: Supply>(config: &mut Config, supply: &mut S) -> Result<(), ConfigFault> {
     config.path_with(supply, 0x10)?;
     config.unit_with(supply, 0, UnitKind::Block)?;
@@ -111,22 +143,22 @@ fn fill<S: Supply>(config: &mut Config, supply: &mut S) -> Result<(), ConfigFaul
 
 #[test]
 fn each_growth_is_refused_in_turn(rt: HostRuntime) {
-    for left in 0..5 {
+    for left in 0..6 {
         let mut config = Config::new(rt.alloc());
         let mut supply = Refusing {
             left,
             refused: false,
         };
-        let wanted = if left < 3 {
+        let wanted = if left < 4 {
             Err(ConfigFault::NoMemory)
         } else {
             Ok(())
         };
         assert!(rt; fill(&mut config, &mut supply) == wanted);
-        assert!(rt; supply.refused == (left < 3));
+        assert!(rt; supply.refused == (left < 4));
         assert!(rt; config.paths().len() == (usize::from(left > 0)));
-        assert!(rt; config.units().len() == (usize::from(left > 1)));
-        assert!(rt; config.subchannels().len() == (usize::from(left > 2)));
+        assert!(rt; config.units().len() == (usize::from(left > 2)));
+        assert!(rt; config.subchannels().len() == (usize::from(left > 3)));
         let mut again = Config::new(rt.alloc());
         assert!(rt; fill(&mut again, &mut Given { refused: false }) == Ok(()));
     }

@@ -433,3 +433,25 @@ fn a_restart_is_told_to_both_sides(rt: HostRuntime) {
     assert!(rt; state.first.floor == 5 && !state.first.fresh);
     assert!(rt; state.second.floor == 0 && state.second.fresh);
 }
+
+/// The status of the attention that was sent.
+fn attention_status(sent: Option<OnPath<Up>>) -> Option<DeviceStatus> {
+    let OnPath { signal, .. } = sent?;
+    match signal {
+        Up::Attn { status, .. } => Some(status),
+        _ => None,
+    }
+}
+
+#[test]
+fn an_owed_control_unit_end_is_said_once(rt: HostRuntime) {
+    let mut unit = Unit::new();
+    let path = Path::new(0).unwrap();
+    assert!(rt; unit.is_idle());
+    unit.owe(true);
+    unit.owe(false);
+    let first = unit.attention(Side::First, path);
+    assert!(rt; attention_status(first) == Some(DeviceStatus::CONTROL_UNIT_END));
+    let second = unit.attention(Side::First, path);
+    assert!(rt; attention_status(second) == Some(DeviceStatus::ATTENTION));
+}

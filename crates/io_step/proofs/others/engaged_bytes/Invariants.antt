@@ -1,5 +1,5 @@
 use Rattle.std.proofs.Common.{◌≡◌, length, take}
-use Rattle.io_step.specs.Others.{engaged_bytes}
+use Rattle.machine_model.specs.OtherSteps.{engaged_bytes}
 use Rattle.io_step.proofs.others.engaged_bytes.Given as goal
 
 -- the bytes so far are stored

@@ -6,8 +6,8 @@ use Rattle.io_step.specs.Executing.{state_with_storage}
 use Rattle.io_step.proofs.Executions.{starts}
 use Rattle.io_step.proofs.provided.start.Goals as goal
 
-pub returns : goal.returns
-returns c = λ word s place there.
+pub returns-clause-done : goal.returns-clause-done
+returns-clause-done c = λ word s place there.
     let now = state_with_storage s c.args.storage.now in
     starts now (Some (record { place = place; sub = c.args.sub.now })) (operand_at c.args.storage.now c.args.cpu c.args.address 12 4) c.in_ok-orb.orb
-    (does c.start_sub.result (with_sub now place c.start_sub.new.sub)) c.in_ok-orb.ensures (sym (ap (at_place now place) c.start_sub.ensures))
+    (does c.start_sub.result (with_sub now place c.start_sub.new.sub)) c.in_ok-orb.ensures (sym (ap (at_place now place) c.start_sub.ensures.left))

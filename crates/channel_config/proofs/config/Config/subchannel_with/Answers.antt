@@ -12,5 +12,5 @@ invariant_of-self-2 g c =
     let paths : are_paths c.args.self.now.paths c.in-Some-chpids_of.paths ≡ true =
     ap (λ (ns : List ℕ). are_paths ns c.in-Some-chpids_of.paths) (sym known) ∙ c.in-Some-chpids_of.ensures.placed in
     lawful-subchannel-more _ c.args.self.now _ _ c.self.view_is c.in_ok-push.ensures.pushed
-    (record { set = c.in-Some.ensures.set; unit = c.in-Some-side_left.ensures.known; paths = paths })
+    (record { set = c.in-Some.ensures.set; number = c.in-Some.ensures.number; unit = c.in-Some-side_left.ensures.known; paths = paths })
     c.in-Some.ensures.room (sym c.in-Some-side_left.ensures.value) c.self.invariant

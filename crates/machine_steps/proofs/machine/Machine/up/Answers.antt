@@ -1,9 +1,11 @@
-use Rattle.std.proofs.Common.{ap, subst}
+use Rattle.std.proofs.Common.{arith, ◌∙◌, ap, subst, List}
 use Rattle.chan_events.specs.declared.event.Event.TheVariants as event
+use Rattle.subchannel_model.specs.declared.state.Subchannel.{Subchannel}
 use Rattle.machine_model.specs.State.{State, with_sub}
 use Rattle.machine_model.specs.Steps.{Performs}
+use Rattle.machine_steps.specs.Giving.{MayReturn}
 use Rattle.machine_steps.specs.contracts.machine.Machine.{the_view}
-use Rattle.machine_steps.proofs.Lifting.{at_seen, named_at, up-performs, counted-out, counted-in}
+use Rattle.machine_steps.proofs.Lifting.{at_seen, named_at, up-performs, counted-room, counted-out, counted-in}
 use Rattle.machine_steps.proofs.machine.Machine.up.Goals as goal
 
 pub returns : goal.returns
@@ -11,18 +13,27 @@ returns c =
     let old = the_view c.self.inside in
     let at = named_at old c.args.self.now c.args.word c.in-Some.place c.place_of.result c.self.view_is c.place_of.ensures.place c.in-Some.is in
     let stands = at_seen old.subs c.args.self.now.subs c.in-Some.place c.index_mut-sub.result.now (ap (λ (s : State). s.subs) c.self.view_is) c.in-Some.ensures.bound c.index_mut-sub.ensures.value in
-    subst (λ (s : State). Performs s (event.Up c.args.word c.args.path) c.up_sub-answer.result (with_sub (record old { storage = c.up_sub-answer.new.storage }) c.in-Some.place c.up_sub-answer.new.sub)) c.self.view_is
-    (up-performs old c.args.word c.args.path c.in-Some.place c.index_mut-sub.result.now c.up_sub-answer.new.sub c.up_sub-answer.new.storage c.up_sub-answer.result at stands c.up_sub-answer.ensures)
+    let may : MayReturn old.subs c.index.result.now c.args.path c.returns_at-returns.result =
+    subst (λ (subs : List Subchannel). MayReturn subs c.index.result.now c.args.path c.returns_at-returns.result) (c.of-counted.ensures ∙ c.as_slice.ensures.value) c.returns_at-returns.ensures in
+    subst (λ (s : State). Performs s (event.Up c.args.word c.args.path) c.up_sub-answer.result
+    (record (with_sub (record old { storage = c.up_sub-answer.new.storage }) c.in-Some.place c.up_sub-answer.new.sub) { requests = c.post.new.pending })) c.self.view_is
+    (up-performs old c.args.word c.args.path c.in-Some.place c.index.result.now c.index_mut-sub.result.now c.up_sub-answer.new.sub c.up_sub-answer.new.storage
+    c.returns_at-returns.result c.up_sub-answer.result c.post.new.pending at stands c.index.ensures may c.up_sub-answer.ensures.gives c.post.ensures)
 
 pub change-requires-clause-some : goal.change-requires-clause-some
 change-requires-clause-some c =
     let subs = c.self.inside.subs.items in
     let stands = at_seen subs c.args.self.now.subs c.in-Some.place c.index_mut-sub.result.now (ap (λ (s : State). s.subs) c.self.view_is) c.in-Some.ensures.bound c.index_mut-sub.ensures.value in
-    counted-out c.self.inside.engines subs c.in-Some.place c.index_mut-sub.result.now c.engaged-before.result stands c.self.invariant c.engaged-before.ensures.value c.engaged-before.ensures.small
+    counted-out c.self.inside.engines subs c.in-Some.place c.index_mut-sub.result.now c.engaged-before.result stands c.self.invariant.0 c.engaged-before.ensures.value c.engaged-before.ensures.small
 
 pub invariant_of-self : goal.invariant_of-self
 invariant_of-self c =
     let subs = c.self.inside.subs.items in
-    let stands = at_seen subs c.args.self.now.subs c.in-Some.place c.index_mut-sub.result.now (ap (λ (s : State). s.subs) c.self.view_is) c.in-Some.ensures.bound c.index_mut-sub.ensures.value in
-    counted-in c.self.inside.engines c.change.new.self subs c.in-Some.place c.index_mut-sub.result.now c.up_sub-answer.new.sub c.engaged-before.result c.engaged-after.result stands c.self.invariant
-    c.engaged-before.ensures.value c.engaged-after.ensures.value c.change.ensures
+    let stands = at_seen subs c.args.self.now.subs c.in-Some.place c.index_mut-sub.result.now (ap (λ (s : State). s.subs) c.self.view_is) c.in-Some.ensures.bound c.index_mut-sub.ensures.value in (
+      counted-in c.self.inside.engines c.change.new.self subs c.in-Some.place c.index_mut-sub.result.now c.up_sub-answer.new.sub c.engaged-before.result c.engaged-after.result stands c.self.invariant.0
+          c.engaged-before.ensures.value c.engaged-after.ensures.value c.change.ensures,
+      c.self.invariant.1,
+    )
+
+pub change-requires-clause-room : goal.change-requires-clause-room
+change-requires-clause-room c = λ chpid small. counted-room c.self.inside.engines c.self.inside.subs.items c.self.invariant.0 (omega arith) chpid small

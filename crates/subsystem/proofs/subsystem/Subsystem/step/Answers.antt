@@ -3,12 +3,13 @@ use Rattle.chan_events.specs.declared.event.Event.{Event}
 use Rattle.chan_events.specs.declared.reply.Entry.{Entry}
 use Rattle.chan_events.specs.declared.reply.Reply.{Reply}
 use Rattle.chan_model.specs.declared.fault.Fault.{Fault}
+use Rattle.machine_model.specs.Ruled.{GoesByRule}
 use Rattle.machine_model.specs.Setups.{IsSetUp}
 use Rattle.machine_model.specs.State.{Past}
 use Rattle.machine_model.specs.Steps.{Performs}
 use Rattle.finding.proofs.Keeping.{fits-kept}
 use Rattle.subsystem.proofs.Never.{never}
-use Rattle.subsystem.proofs.Pasts.{past-more, past-roomy, performed-set_up}
+use Rattle.subsystem.proofs.Pasts.{past-more, past-postable, past-requests, past-roomy, performed-set_up}
 use Rattle.subsystem.proofs.subsystem.Subsystem.step.Goals as goal
 
 pub invariant_of-self-2 : goal.invariant_of-self-2
@@ -36,7 +37,17 @@ pub perform-answer-requires-clause-units : goal.perform-answer-requires-clause-u
 perform-answer-requires-clause-units g c =
     past-roomy c.numbers.ensures.units c.self.inside.history.items c.self.inside.machine c.self.invariant.0 (omega (arith, c.if-len.false, c.len.ensures))
 
+pub perform-answer-requires-clause-postable : goal.perform-answer-requires-clause-postable
+perform-answer-requires-clause-postable g c = past-postable c.self.inside.history.items c.self.inside.machine c.self.invariant.0
+
+pub perform-answer-requires-clause-requests : goal.perform-answer-requires-clause-requests
+perform-answer-requires-clause-requests g c = past-requests c.self.inside.history.items c.self.inside.machine c.self.invariant.0
+
 pub returns-clause-set_up : goal.returns-clause-set_up
 returns-clause-set_up g c = λ setup k.
     performed-set_up c.setups.ensures.set_up c.self.inside.machine c.args.event.now c.perform-answer.result c.perform-answer.new.self c.perform-answer.ensures.performs
     setup (subst (λ (p : Past). IsSetUp setup p.state) (sym c.self.view_is) k)
+
+pub returns-clause-ruled : goal.returns-clause-ruled
+returns-clause-ruled g c = λ other.
+    subst (λ (p : Past). GoesByRule g.P.PathChoice.picks p.state c.args.event.now c.perform-answer.result c.perform-answer.new.self) c.self.view_is c.perform-answer.ensures.ruled

@@ -1,4 +1,4 @@
--- The instructions that name no subchannel (SA22-7832, chapter 14).
+-- The steps in which a CPU executes an instruction that names no subchannel (SA22-7832, chapter 14).
 use Rattle.std.specs.Prelude.{ℕ, ◌+◌, ◌*◌, ◌==◌, Bool, false, if◌then◌else◌, List, [], ◌∷◌, map, slice_index_or, take, Option, None, Some, Result, Ok, Err}
 use Rattle.std.specs.List.{range_with_len}
 use Rattle.zbits.specs.Bits.{field_of}
@@ -17,6 +17,14 @@ use Rattle.chan_model.specs.ConditionCodes.{rchp_code}
 use Rattle.chan_model.specs.PathSets.{mask_of_paths}
 use Rattle.interruptions.specs.Requests as requests
 use Rattle.channel_reports.specs.Queue as reports
+use Rattle.chan_events.specs.declared.event.OtherInstruction.{OtherInstruction}
+use Rattle.chan_events.specs.declared.event.OtherInstruction.TheVariants as other
+use Rattle.chan_events.specs.declared.reply.Reply.{Reply}
+use Rattle.chan_events.specs.declared.reply.Reply.TheVariants as reply
+use Rattle.subchannel_model.specs.declared.state.Subchannel.{Subchannel}
+use Rattle.subchannel_model.specs.Choosing.{any_engages}
+use Rattle.machine_model.specs.State.{State}
+use Rattle.machine_model.specs.Turns.{Outcome, does}
 
 -- what an act comes to where its operand was tested
 abbrev pub where_stored : {A : Type 0} → Result (Unit {0}) StorageFault → A → Result A Fault
@@ -110,3 +118,53 @@ stcps_done storage cpu address engaged = record { engaged = engaged; storage = o
 abbrev pub stcps_turn : Contents → List Bool → ℕ → ℕ → Result StcpsTurn Fault
 stcps_turn storage engaged cpu address =
     where_stored (operand_check storage cpu address 32 32) (stcps_done storage cpu address (engaged_bytes engaged 32))
+
+-- what an instruction that names no subchannel is lent, and what it answers and leaves
+pub record LentWhole : Type 0 where
+  pub storage : Contents
+  pub requests : requests.WaitingRequests
+  pub reports : reports.WaitingReports
+
+abbrev pub lent_whole : Contents → requests.WaitingRequests → reports.WaitingReports → LentWhole
+lent_whole storage waiting queue = record { storage = storage; requests = waiting; reports = queue }
+
+pub record OtherTurn : Type 0 where
+  pub answer : Reply
+  pub left : LentWhole
+
+abbrev pub tpi_lent : LentWhole → Result TpiTurn Fault → Result OtherTurn Fault
+tpi_lent old (Ok t) = Ok (record { answer = reply.Interruption t.found; left = record old { storage = t.storage; requests = t.requests } })
+tpi_lent old (Err f) = Err f
+
+abbrev pub stcrw_lent : LentWhole → Result StcrwTurn Fault → Result OtherTurn Fault
+stcrw_lent old (Ok t) = Ok (record { answer = reply.ChannelReport t.report; left = record old { storage = t.storage; reports = t.reports } })
+stcrw_lent old (Err f) = Err f
+
+abbrev pub rchp_lent : LentWhole → Result RchpTurn Fault → Result OtherTurn Fault
+rchp_lent old (Ok t) = Ok (record { answer = reply.PathReset t.code; left = record old { reports = t.reports } })
+rchp_lent old (Err f) = Err f
+
+abbrev pub stcps_lent : LentWhole → Result StcpsTurn Fault → Result OtherTurn Fault
+stcps_lent old (Ok t) = Ok (record { answer = reply.Paths t.engaged; left = record old { storage = t.storage } })
+stcps_lent old (Err f) = Err f
+
+-- up: the channel paths that are configured and not down; engaged: those whose engine serves a subchannel
+abbrev pub other_turn : LentWhole → List Bool → List Bool → ℕ → OtherInstruction → Result OtherTurn Fault
+other_turn old up engaged cpu (other.Tpi mask address) = tpi_lent old (tpi_turn old.storage old.requests cpu mask address)
+other_turn old up engaged cpu (other.Rchp path) = rchp_lent old (rchp_turn old.reports up path)
+other_turn old up engaged cpu (other.Stcrw address) = stcrw_lent old (stcrw_turn old.storage old.reports cpu address)
+other_turn old up engaged cpu (other.Stcps address) = stcps_lent old (stcps_turn old.storage engaged cpu address)
+
+-- by identifier, the channel paths whose engine serves a subchannel
+unfoldable pub engaged_chpids : List Subchannel → ℕ → List Bool
+engaged_chpids subs count = map (any_engages subs) (range_with_len 0 count)
+
+abbrev pub with_lent : State → LentWhole → State
+with_lent s left = record s { storage = left.storage; requests = left.requests; reports = left.reports }
+
+abbrev pub other_done : State → Result OtherTurn Fault → Outcome
+other_done s (Ok t) = does t.answer (with_lent s t.left)
+other_done s (Err f) = Err f
+
+abbrev pub other_at : State → ℕ → OtherInstruction → Outcome
+other_at s cpu i = other_done s (other_turn (lent_whole s.storage s.requests s.reports) s.up (engaged_chpids s.subs 0x100) cpu i)

@@ -1,0 +1,227 @@
+//! A subchannel whose paths go down, come up or are found down, and a reset of the channel subsystem.
+
+use crate::tests::setups::{begun, is_same_words, state_of_words, waiting};
+use chan_model::hold_state::{HoldPhase, HoldState};
+use chan_model::names::{Path, Side};
+use chan_model::paths::mask_of_paths;
+use chan_model::signal::{Down, Up};
+use channel_config::names::SubchannelId;
+use channel_config::parts::{ChpidList, SubchannelSetup};
+use functions::blocks::pmcw_of;
+use subchannel::choosing::mark_lost_paths;
+use subchannel::losing::{go_down, lose_path, show_path};
+use subchannel::system_reset::reset_by_system;
+use subchannel_model::state::{Subchannel, SubchannelState};
+use wires::Wires;
+
+fn first_path() -> Path {
+    Path::new(0).unwrap()
+}
+
+fn second_path() -> Path {
+    Path::new(1).unwrap()
+}
+
+/// A signal waits each way.
+fn send(wires: &mut Wires, path: Path) {
+    if !wires.down_is_full(path) {
+        wires.send_down(path, Down::Halt { number: 1 });
+    }
+    if !wires.up_is_full(path) {
+        wires.send_up(path, Up::Busy { number: 1 });
+    }
+}
+
+/// Whether a signal waits, down or up.
+fn waits(sub: &Subchannel, path: Path) -> bool {
+    sub.wires.front_down(path).is_some() || sub.wires.front_up(path).is_some()
+}
+
+/// A subchannel in this state whose number 1 was drawn last, with two paths, 10 and 11 in hexadecimal, and signals on both. Its
+/// hold is in this phase, in single-path mode, and the first path of its program is 10.
+fn subchannel(state: SubchannelState, phase: HoldPhase) -> Subchannel {
+    let mut paths = ChpidList::new();
+    paths.push(0x10);
+    paths.push(0x11);
+    let mut wires = Wires::new();
+    send(&mut wires, first_path());
+    send(&mut wires, second_path());
+    Subchannel {
+        setup: SubchannelSetup {
+            id: SubchannelId { set: 0, number: 0 },
+            device: 0x100,
+            unit: 0,
+            side: Side::First,
+            paths,
+        },
+        state: SubchannelState {
+            drawn: 1,
+            hold: HoldState {
+                phase,
+                first_path: Some(first_path()),
+                ..state.hold
+            },
+            ..state
+        },
+        wires,
+    }
+}
+
+fn lose(sub: &mut Subchannel, chpid: u8) {
+    if sub.state.serials.made < 9 && sub.state.drawn < 9 {
+        lose_path(sub, chpid);
+    }
+}
+
+fn down(sub: &mut Subchannel, chpid: u8) {
+    if sub.state.serials.made < 9 && sub.state.drawn < 9 {
+        go_down(sub, chpid);
+    }
+}
+
+/// Whether its hold is to be reset under the next number, and so many statuses were made.
+fn is_reset(sub: &Subchannel, made: u64) -> bool {
+    let state = &sub.state;
+    matches!(state.hold.phase, HoldPhase::Reset { number: 2 })
+        && state.hold.reset_path.is_none()
+        && state.drawn == 2
+        && state.serials.made == made
+}
+
+/// Whether no program is left.
+fn is_over(sub: &Subchannel) -> bool {
+    sub.state.waiting.is_none() && sub.state.begun.is_none()
+}
+
+fn offered() -> HoldPhase {
+    HoldPhase::Offer {
+        number: 1,
+        path: first_path(),
+    }
+}
+
+fn connected() -> HoldPhase {
+    HoldPhase::On {
+        number: 1,
+        path: first_path(),
+        connection: 0,
+    }
+}
+
+#[test]
+fn a_program_is_over_as_its_path_is_lost(rt: HostRuntime) {
+    let start = waiting([0x0080_4400, 0x1000, 0]);
+    let active = SubchannelState {
+        begun: begun(rt.alloc(), 1, false),
+        ..state_of_words([0x0080_40C0, 0x1000, 0])
+    };
+    let ended = SubchannelState {
+        begun: begun(rt.alloc(), 3, true),
+        ..state_of_words([0x0080_0040, 0x1008, 0x0800_0004])
+    };
+    for (state, phase, words) in [
+        (start, offered(), [0x0080_4017, 0x1000, 0x0002_0000]),
+        (active, connected(), [0x0080_4017, 0x1008, 0x0002_0004]),
+        (
+            active,
+            HoldPhase::Away { number: 1 },
+            [0x0080_4017, 0x1008, 0x0002_0004],
+        ),
+        (ended, connected(), [0x0080_0013, 0x1008, 0x0002_0004]),
+    ] {
+        let mut sub = subchannel(state, phase);
+        lose(&mut sub, 0x10);
+        assert!(rt; is_same_words(&sub.state, words));
+        assert!(rt; is_reset(&sub, 9) && is_over(&sub));
+        assert!(rt; !waits(&sub, first_path()) && waits(&sub, second_path()));
+    }
+}
+
+#[test]
+fn a_start_behind_a_lost_path_waits_on(rt: HostRuntime) {
+    let start = waiting([0x0080_4400, 0x1000, 0]);
+    let letting = HoldPhase::Letting {
+        number: 1,
+        path: first_path(),
+    };
+    for phase in [letting, HoldPhase::Reset { number: 1 }] {
+        let mut sub = subchannel(start, phase);
+        sub.state.hold.reset_path = Some(first_path());
+        lose(&mut sub, 0x10);
+        assert!(rt; is_same_words(&sub.state, [0x0080_4400, 0x1000, 0]));
+        assert!(rt; is_reset(&sub, 8) && sub.state.waiting.is_some());
+    }
+}
+
+#[test]
+fn a_path_that_no_program_is_on_goes_down_and_up(rt: HostRuntime) {
+    let active = SubchannelState {
+        begun: begun(rt.alloc(), 1, false),
+        ..state_of_words([0x0080_40C0, 0x1000, 0])
+    };
+    let mut sub = subchannel(active, connected());
+    down(&mut sub, 0x11);
+    assert!(rt; is_same_words(&sub.state, [0x0080_40C0, 0x1000, 0]));
+    assert!(rt; matches!(sub.state.hold.phase, HoldPhase::On { .. }) && !is_over(&sub));
+    assert!(rt; waits(&sub, first_path()) && !waits(&sub, second_path()));
+    assert!(rt; pmcw_of(&sub).available == 0x80);
+    down(&mut sub, 0x12);
+    assert!(rt; sub.state.drawn == 1 && waits(&sub, first_path()));
+    show_path(&mut sub, 0x12, true);
+    assert!(rt; pmcw_of(&sub).available == 0x80);
+    show_path(&mut sub, 0x11, true);
+    assert!(rt; pmcw_of(&sub).available == 0xC0 && pmcw_of(&sub).installed == 0xC0);
+    down(&mut sub, 0x10);
+    assert!(rt; is_reset(&sub, 9) && pmcw_of(&sub).available == 0x40);
+}
+
+#[test]
+fn a_path_that_is_down_is_found_once(rt: HostRuntime) {
+    let halted = waiting([0x0080_6600, 0x1000, 0]);
+    let mut sub = subchannel(halted, offered());
+    show_path(&mut sub, 0x10, false);
+    mark_lost_paths(&mut sub, &None);
+    assert!(rt; is_same_words(&sub.state, [0x0080_6600, 0x1000, 0]));
+    assert!(rt; mask_of_paths(sub.state.pmcw.operational) == 0xFF);
+    for choice in [None, Some(second_path())] {
+        let mut sub = subchannel(waiting([0x0080_4400, 0x1000, 0]), offered());
+        show_path(&mut sub, 0x10, false);
+        mark_lost_paths(&mut sub, &choice);
+        assert!(rt; is_same_words(&sub.state, [0x0081_4400, 0x1000, 0]));
+        assert!(rt; mask_of_paths(sub.state.pmcw.operational) == 0x7F);
+        assert!(rt; mask_of_paths(sub.state.pmcw.not_operational) == 0x80);
+        let again = SubchannelState {
+            pmcw: sub.state.pmcw,
+            ..waiting([0x0080_4400, 0x1000, 0])
+        };
+        let mut sub = subchannel(again, offered());
+        mark_lost_paths(&mut sub, &choice);
+        assert!(rt; is_same_words(&sub.state, [0x0080_4400, 0x1000, 0]));
+    }
+}
+
+#[test]
+fn a_reset_of_the_subsystem_keeps_what_is_up(rt: HostRuntime) {
+    let mut active = SubchannelState {
+        begun: begun(rt.alloc(), 1, false),
+        last_path: Some(first_path()),
+        dedicated: Some(first_path()),
+        ..state_of_words([0x0080_40C9, 0x1000, 0x0080_0004])
+    };
+    active.serials.made = 9;
+    active.pmcw.parameter = 7;
+    active.pmcw.multipath = true;
+    let mut sub = subchannel(active, connected());
+    show_path(&mut sub, 0x11, false);
+    if sub.state.drawn < 9 {
+        reset_by_system(&mut sub);
+    }
+    assert!(rt; is_same_words(&sub.state, [0x0080_0000, 0x1000, 0x0080_0004]));
+    assert!(rt; is_reset(&sub, 9) && is_over(&sub) && sub.state.serials.cleared == 9);
+    let word = pmcw_of(&sub);
+    assert!(rt; !word.enabled && word.parameter == 0 && !word.multipath);
+    assert!(rt; word.available == 0x80);
+    assert!(rt; sub.state.starts == 2 && sub.state.last_path.is_some());
+    assert!(rt; sub.state.dedicated.is_none());
+    assert!(rt; waits(&sub, first_path()) && waits(&sub, second_path()));
+}

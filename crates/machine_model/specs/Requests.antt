@@ -1,0 +1,97 @@
+-- The requests for I/O interruptions that a step leaves (SA22-7832, chapter 16).
+use Rattle.std.proofs.Common.{lit<}
+use Rattle.std.proofs.lemmas.Nat.{mod_below}
+use Rattle.std.specs.Prelude.{◌%◌, Bool, true, false, nat_lt, if◌then◌else◌, Option, None, Some, List, [], ◌∷◌, Ok, Err}
+use Rattle.scsw_irb.specs.declared.code.IntCode.{IntCode}
+use Rattle.chan_model.specs.declared.answer.ConditionCode.{ConditionCode}
+use Rattle.chan_model.specs.declared.answer.ConditionCode.TheVariants.{Zero, One, Two, Three}
+use Rattle.chan_model.specs.ConditionCodes.{code_of, tpi_code, stcrw_code}
+use Rattle.chan_events.specs.declared.event.Event.{Event}
+use Rattle.chan_events.specs.declared.event.Event.TheVariants as event
+use Rattle.chan_events.specs.declared.event.Instruction.{Instruction}
+use Rattle.chan_events.specs.declared.event.Instruction.TheVariants as instruction
+use Rattle.chan_events.specs.declared.reply.Reply.{Reply}
+use Rattle.chan_events.specs.declared.reply.Reply.TheVariants as reply
+use Rattle.interruptions.specs.Requests as requests
+use Rattle.subchannel_model.specs.declared.state.Subchannel.{Subchannel}
+use Rattle.machine_model.specs.State.{State, sub_of}
+use Rattle.machine_model.specs.Turns.{Turn, Outcome}
+use Rattle.machine_model.specs.InstructionSteps.{subchannel_word}
+
+-- the condition code that an instruction with this reply set; STORE CHANNEL PATH STATUS sets none
+abbrev pub reply_code : Reply → Option ConditionCode
+reply_code (reply.Code answer) = Some (code_of answer)
+reply_code (reply.Status answer scsw) = Some (code_of answer)
+reply_code (reply.Interruption found) = Some (tpi_code found)
+reply_code (reply.PathReset code) = Some code
+reply_code (reply.ChannelReport report) = Some (stcrw_code report)
+reply_code other = None
+
+-- TEST with code 0 and 1, and CLEAR with code 0, drop the request of their subchannel (chapter 16)
+abbrev pub is_zero : Option ConditionCode → Bool
+is_zero None = false
+is_zero (Some Zero) = true
+is_zero (Some One) = false
+is_zero (Some Two) = false
+is_zero (Some Three) = false
+
+abbrev pub is_zero_or_one : Option ConditionCode → Bool
+is_zero_or_one None = false
+is_zero_or_one (Some Zero) = true
+is_zero_or_one (Some One) = true
+is_zero_or_one (Some Two) = false
+is_zero_or_one (Some Three) = false
+
+abbrev pub drops : Instruction → Option ConditionCode → Bool
+drops (instruction.Ssch word address) code = false
+drops (instruction.Tsch word address) code = is_zero_or_one code
+drops (instruction.Stsch word address) code = false
+drops (instruction.Msch word address) code = false
+drops (instruction.Rsch word) code = false
+drops (instruction.Hsch word) code = false
+drops (instruction.Csch word) code = is_zero code
+drops (instruction.Xsch word) code = false
+drops (instruction.Enable word subclass multipath) code = false
+
+abbrev pub requests_left : requests.WaitingRequests → Subchannel → Instruction → Reply → requests.WaitingRequests
+requests_left waiting sub i r = if drops i (reply_code r) then requests.request_dropped waiting sub.setup.id.set sub.setup.id.number else waiting
+
+abbrev pub requests_after : requests.WaitingRequests → Option Subchannel → Instruction → Reply → requests.WaitingRequests
+requests_after waiting None i r = waiting
+requests_after waiting (Some sub) i r = requests_left waiting sub i r
+
+abbrev pub requests_dropped : State → Event → Reply → requests.WaitingRequests → requests.WaitingRequests
+requests_dropped s (event.Execute cpu i) r waiting = requests_after waiting (sub_of s (subchannel_word i)) i r
+requests_dropped s other r waiting = waiting
+
+-- where status is made, a request of the subchannel is posted, unless one stands; with the interruption parameter and the
+-- subclass that the subchannel has; the number of a set has two bits
+abbrev pub request_of : Subchannel → IntCode
+request_of sub = record {
+  set = sub.setup.id.set % 4;
+  subchannel = sub.setup.id.number;
+  parameter = sub.state.pmcw.parameter;
+  subclass = sub.state.pmcw.subclass;
+  set_fits = mod_below sub.setup.id.set 4 (lit< tt);
+  subclass_fits = sub.state.pmcw.subclass_fits;
+}
+
+abbrev pub makes_status : Subchannel → Subchannel → Bool
+makes_status old new = nat_lt old.state.serials.made new.state.serials.made
+
+abbrev pub posted_for : Subchannel → Subchannel → requests.WaitingRequests → requests.WaitingRequests
+posted_for old new waiting = if makes_status old new then requests.posted waiting (request_of new) else waiting
+
+-- in the order of the subchannels' configuration (own)
+abbrev pub posted_all : List Subchannel → List Subchannel → requests.WaitingRequests → requests.WaitingRequests
+posted_all [] news waiting = waiting
+posted_all (old ∷ olds) [] waiting = waiting
+posted_all (old ∷ olds) (new ∷ news) waiting = posted_all olds news (posted_for old new waiting)
+
+-- what an event came to, with the requests that are left of it
+abbrev pub requests_settled : State → Event → Turn → requests.WaitingRequests
+requests_settled s e t = posted_all s.subs t.state.subs (requests_dropped s e t.reply t.state.requests)
+
+abbrev pub settled : State → Event → Outcome → Outcome
+settled s e (Ok t) = Ok (record t { state = record t.state { requests = requests_settled s e t } })
+settled s e (Err f) = Err f

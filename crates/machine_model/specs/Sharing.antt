@@ -1,0 +1,42 @@
+-- What control units keep of their units, and what they owe (own; `control_units` has the rules).
+use Rattle.std.specs.Prelude.{ℕ, Bool, true, false, not, ◌&&◌, ◌||◌, nat_lt, if◌then◌else◌, List}
+use Rattle.chan_model.specs.declared.names.Side.{Side}
+use Rattle.chan_model.specs.declared.signal.Down.{Down}
+use Rattle.chan_model.specs.declared.signal.Down.TheVariants as down
+use Rattle.chan_model.specs.declared.unit_state.UnitState.{UnitState}
+use Rattle.chan_model.specs.UnitTable.{side_of, is_idle}
+use Rattle.control_units.specs.declared.Member.{Member}
+use Rattle.control_units.specs.Units.{may_serve, asked, member_begun, is_owed, over}
+
+-- the control unit is asked for a Select above the floor, at a side that is not fresh, where no program holds the device
+abbrev pub is_asked_for : UnitState → Side → Down → Bool
+is_asked_for u side (down.Select t) = not (side_of u side).fresh && (nat_lt (side_of u side).floor t && is_idle u.own)
+is_asked_for u side signal = false
+
+abbrev pub may_take : List Member → ℕ → Bool → Bool
+may_take members place asks = not asks || may_serve members place
+
+-- the unit is begun, or refused, where it was asked for; it is over where a program held its device and none does any more
+abbrev pub members_asked : List Member → ℕ → Bool → List Member
+members_asked members place true = member_begun members place
+members_asked members place false = asked members place false
+
+abbrev pub is_let_go : UnitState → UnitState → Bool
+is_let_go old new = not (is_idle old.own) && is_idle new.own
+
+abbrev pub members_over : List Member → ℕ → Bool → List Member
+members_over members place ends = if ends then over members place else members
+
+abbrev pub members_after : List Member → ℕ → Bool → UnitState → UnitState → List Member
+members_after members place asks old new =
+    if asks then members_asked members place (may_serve members place) else members_over members place (is_let_go old new)
+
+-- as it is over, a control-unit end may be owed, which the unit's next attention says
+abbrev pub owing : Bool → UnitState → UnitState
+owing owed u = record u { end_owed = u.end_owed || owed }
+
+abbrev pub is_owed_after : List Member → ℕ → UnitState → UnitState → Bool
+is_owed_after members place old new = is_let_go old new && is_owed members place
+
+abbrev pub owing_after : List Member → ℕ → UnitState → UnitState → UnitState
+owing_after members place old new = owing (is_owed_after members place old new) new

@@ -1,0 +1,156 @@
+//! Channel paths that go down, come up and are reset, and the reset of the channel subsystem.
+
+ghost use Rattle.std.specs.Prelude.{◌≡◌, ◌+◌, ◌<◌, ◌≤◌, ◌^◌, ℕ, All, Some, map, slice_index};
+ghost use Rattle.chan_events.specs.declared.event.Event.TheVariants as event_spec;
+ghost use Rattle.finding.specs.Tables.{Counts, engaged as engaged_by, one};
+ghost use Rattle.machine_model.specs.Bounds.{IsRoomy};
+ghost use Rattle.machine_model.specs.PathSteps as path_spec;
+ghost use Rattle.machine_model.specs.Requests as requests_spec;
+ghost use Rattle.machine_model.specs.Steps as spec;
+ghost use Rattle.machine_steps.specs.Giving as giving_spec;
+ghost use Rattle.machine_steps.specs.Postable.{IsPostable};
+
+use crate::machine::Machine;
+use crate::posting::post;
+use crate::tables::has_chpid;
+use chan_events::reply::Reply;
+use chan_model::fault::Fault;
+use channel_reports::Reports;
+use finding::engines::{Engines, engaged};
+use interruptions::Pending;
+use machine_model::state::Sweep;
+use subchannel::losing::{go_down, lose_path, show_path};
+use subchannel::system_reset::reset_by_system;
+use subchannel_model::state::Subchannel;
+
+/// The channel path of this identifier, where it is configured.
+fn chpid_of(chpids: &[u8], number: u32) -> Option<u8>
+    ensures { giving_spec.ChpidOf chpids.now number result }
+{
+    if has_chpid(chpids, number as usize) {
+        Some(number as u8)
+    } else {
+        None
+    }
+}
+
+fn sweep(sub: &mut Subchannel, what: Sweep)
+    requires { IsRoomy sub.old }
+    ensures { sub.new ≡ path_spec.swept what sub.old }
+{
+    match what {
+        Sweep::GoesDown { chpid } => go_down(sub, chpid),
+        Sweep::ComesUp { chpid } => show_path(sub, chpid, true),
+        Sweep::PathReset { chpid } => lose_path(sub, chpid),
+        Sweep::SystemReset => reset_by_system(sub),
+    }
+}
+
+/// What befalls all subchannels befalls one: its request is posted, and its engine is counted.
+fn sweep_one(sub: &mut Subchannel, pending: &mut Pending, engines: &mut Engines, what: Sweep)
+    requires roomy { IsRoomy sub.old }
+    requires postable { sub.old.setup.id.number < pending.old.numbers }
+    requires some { (c : ℕ) → engaged_by sub.old ≡ Some c → c < 0x100 → 1 ≤ slice_index engines.old c }
+    requires room { (c : ℕ) → c < 0x100 → slice_index engines.old c < 2 ^ 63 }
+    ensures swept { sub.new ≡ path_spec.swept what sub.old }
+    ensures posted { pending.new ≡ requests_spec.posted_for sub.old sub.new pending.old }
+    ensures counted { (c : ℕ) → c < 0x100 →
+        slice_index engines.new c + one (engaged_by sub.old) c ≡ slice_index engines.old c + one (engaged_by sub.new) c }
+{
+    let before = engaged(sub);
+    let made = sub.state.serials.made;
+    sweep(sub, what);
+    post(pending, sub, made);
+    let after = engaged(sub);
+    engines.change(before, after);
+}
+
+/// What befalls all subchannels, in the order of their configuration.
+fn sweep_all(subs: &mut Vec<Subchannel>, pending: &mut Pending, engines: &mut Engines, what: Sweep)
+    requires roomy { All IsRoomy subs.old.items }
+    requires postable { All IsPostable subs.old.items }
+    requires numbers { pending.old.numbers ≡ 0x100 }
+    requires counted { Counts engines.old subs.old.items }
+    ensures swept { subs.new.items ≡ map (path_spec.swept what) subs.old.items }
+    ensures posted { pending.new ≡
+        requests_spec.posted_all subs.old.items (map (path_spec.swept what) subs.old.items) pending.old }
+    ensures counted { Counts engines.new subs.new.items }
+{
+    for sub in subs.iter_mut() {
+        sweep_one(sub, pending, engines, what);
+    }
+}
+
+impl Machine {
+    /// A channel path goes down.
+    pub(crate) fn path_down(&mut self, number: u32) -> Result<Reply, Fault>
+        requires roomy { All IsRoomy self.old.subs }
+        requires postable { All IsPostable self.old.subs }
+        requires requests { self.old.requests.numbers ≡ 0x100 }
+        ensures { spec.Performs self.old (event_spec.PathDown number) result self.new }
+    {
+        let Some(chpid) = chpid_of(self.chpids.as_slice(), number) else {
+            return Err(Fault::NoSuchPath);
+        };
+        if !self.up[usize::from(chpid)] {
+            return Err(Fault::NotNow);
+        }
+        let what = Sweep::GoesDown { chpid };
+        sweep_all(&mut self.subs, &mut self.pending, &mut self.engines, what);
+        self.up[usize::from(chpid)] = false;
+        self.reports.path_lost(chpid);
+        Ok(Reply::Done)
+    }
+
+    /// A channel path that was down comes up.
+    pub(crate) fn path_up(&mut self, number: u32) -> Result<Reply, Fault>
+        requires roomy { All IsRoomy self.old.subs }
+        requires postable { All IsPostable self.old.subs }
+        requires requests { self.old.requests.numbers ≡ 0x100 }
+        ensures { spec.Performs self.old (event_spec.PathUp number) result self.new }
+    {
+        let Some(chpid) = chpid_of(self.chpids.as_slice(), number) else {
+            return Err(Fault::NoSuchPath);
+        };
+        if self.up[usize::from(chpid)] {
+            return Err(Fault::NotNow);
+        }
+        let what = Sweep::ComesUp { chpid };
+        sweep_all(&mut self.subs, &mut self.pending, &mut self.engines, what);
+        self.up[usize::from(chpid)] = true;
+        self.reports.path_back(chpid);
+        Ok(Reply::Done)
+    }
+
+    /// A channel path whose reset is asked for is reset.
+    pub(crate) fn path_reset(&mut self, number: u32) -> Result<Reply, Fault>
+        requires roomy { All IsRoomy self.old.subs }
+        requires postable { All IsPostable self.old.subs }
+        requires requests { self.old.requests.numbers ≡ 0x100 }
+        ensures { spec.Performs self.old (event_spec.PathReset number) result self.new }
+    {
+        let Some(chpid) = chpid_of(self.chpids.as_slice(), number) else {
+            return Err(Fault::NoSuchPath);
+        };
+        if !self.reports.reset_done(chpid) {
+            return Err(Fault::NotNow);
+        }
+        let what = Sweep::PathReset { chpid };
+        sweep_all(&mut self.subs, &mut self.pending, &mut self.engines, what);
+        Ok(Reply::Done)
+    }
+
+    /// The channel subsystem is reset.
+    pub(crate) fn system_reset(&mut self) -> Result<Reply, Fault>
+        requires roomy { All IsRoomy self.old.subs }
+        requires postable { All IsPostable self.old.subs }
+        requires requests { self.old.requests.numbers ≡ 0x100 }
+        ensures { spec.Performs self.old event_spec.SystemReset result self.new }
+    {
+        self.pending.drop_all();
+        self.reports = Reports::new();
+        let what = Sweep::SystemReset;
+        sweep_all(&mut self.subs, &mut self.pending, &mut self.engines, what);
+        Ok(Reply::Done)
+    }
+}
