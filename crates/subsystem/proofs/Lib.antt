@@ -1,4 +1,3 @@
 mod Pasts
 mod Answering
 mod Never
-mod Headlines
