@@ -19,7 +19,7 @@ fn word_of(set: u32, number: u32) -> u32 {
 /// A subchannel of each set more, each with a unit of its own.
 fn add_number(config: &mut Config, number: u32) {
     for set in 0..4u32 {
-        let unit = config.units().len() as u32;
+        let unit = (number << 2) | set;
         let _ = config.unit(unit, UnitKind::Block);
         let _ = config.subchannel(word_of(set, number), unit, unit, &[0x10]);
     }
