@@ -1,3 +1,4 @@
 mod Pasts
 mod Answering
 mod Never
+mod Headlines

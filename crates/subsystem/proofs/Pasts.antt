@@ -30,7 +30,6 @@ use Rattle.machine_model.specs.Bounds.{IsAtWithin, IsOwnWithin, IsPlaceWithin, I
 use Rattle.machine_steps.specs.Postable.{IsPostable}
 use Rattle.machine_model.specs.State.{State, configured_paths, opening_of, idle_of}
 use Rattle.machine_model.specs.Setups.{IsSetUp, group_of}
-use Rattle.program_laws.specs.Claims.{AllTold, HasTold}
 use Rattle.subsystem.specs.Keeping.{StaysSetUp}
 use Rattle.machine_model.specs.Steps.{HasRun, Run, Opened, Stepped, Step, Performs}
 
@@ -130,10 +129,6 @@ past-begun once h s past =
 pub past-agrees : ((setup : Setup) (h : List Entry) (s : State) → IsLawful setup → Run (opening_of setup) h s → AllAgree s) →
     (h : List Entry) (s : State) → HasRun h s → AllAgree s
 past-agrees agrees h s past = agrees past.0.0 h s past.0.1.lawful (past.1 past.0.0 past.0.1)
-
-pub past-told : ((setup : Setup) → IsLawful setup → (h : List Entry) (s : State) (run : Run (opening_of setup) h s) → AllTold (opening_of setup) h s run) →
-    (h : List Entry) (s : State) → HasRun h s → HasTold h s
-past-told told h s past = (past.0, λ setup k. let run = past.1 setup k in (run, told setup k.lawful h s run))
 
 at-wider : (n m : ℕ) (x : Option AtHand) → n ≤ m → IsAtWithin n x → IsAtWithin m x
 at-wider n m None le k = tt

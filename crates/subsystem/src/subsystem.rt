@@ -11,7 +11,7 @@ ghost use Rattle.machine_model.specs.Answering.{HasAnswered, HasBegun};
 ghost use Rattle.std.specs.Bool.{OnTrue, OnFalse};
 ghost use Rattle.finding.specs.Tables.{Fits};
 ghost use Rattle.machine_laws.specs.Agreeing.{AllAgree};
-ghost use Rattle.program_laws.specs.Claims.{HasTold};
+ghost use Rattle.subsystem.specs.Headline.{HasHeld};
 ghost use Rattle.subsystem.specs.Keeping.{StaysSetUp};
 ghost use Rattle.machine_laws.specs.Claims.{IsClearedOnce};
 ghost use Rattle.machine_laws.specs.Beginnings.{IsBegunOnce};
@@ -161,8 +161,9 @@ impl<P: PathChoice + Drop> Subsystem<P> {
         ensures begun_once { IsBegunOnce self.new.state.sets self.new.history }
         // Each subchannel and its unit agree on the program that holds the device, or a reset is due; by one path.
         ensures agree { AllAgree self.new.state }
-        // What is told of the program that each subchannel offered last: its blocks, its commands and its bytes.
-        ensures told { HasTold self.new.history self.new.state }
+        // At the opening, in each step and after each step: one path, agreement, causes of resets, condition codes, and what is told
+        // of programs.
+        ensures headline { HasHeld self.new.history self.new.state }
     {
         self.run_with(alloc, &mut Given { refused: false }, events)
     }
@@ -186,7 +187,7 @@ impl<P: PathChoice + Drop> Subsystem<P> {
         ensures cleared_once { IsClearedOnce self.new.state.sets self.new.history }
         ensures begun_once { IsBegunOnce self.new.state.sets self.new.history }
         ensures agree { AllAgree self.new.state }
-        ensures told { HasTold self.new.history self.new.state }
+        ensures headline { HasHeld self.new.history self.new.state }
     {
         let mut answers = Vec::new(alloc);
         if make_room(supply, &mut answers, events.len()).is_err() {
@@ -205,18 +206,27 @@ impl<P: PathChoice + Drop> Subsystem<P> {
         Ok(answers)
     }
 
-    /// The history replays to the state, each status is cleared once, each start begins one program at most,
-    /// subchannels and units agree, and what is told of the programs holds.
+    /// The history replays to the state, each status is cleared once, each start begins one program at most, subchannels and
+    /// units agree, and throughout the history the headline holds.
     fn recalls(&self)
         ensures replays { HasRun self.now.history self.now.state }
         ensures cleared_once { IsClearedOnce self.now.state.sets self.now.history }
         ensures begun_once { IsBegunOnce self.now.state.sets self.now.history }
         ensures agree { AllAgree self.now.state }
-        ensures told { HasTold self.now.history self.now.state }
+        ensures headline { HasHeld self.now.history self.now.state }
     {
         serials();
         beginnings();
+        numbers();
         agreements();
+        machine_laws::ends();
+        path_laws::engines();
+        path_laws::path_states();
+        path_laws::offers();
+        path_laws::returns();
+        event_laws::codes();
+        event_laws::clearings();
+        event_laws::resets();
         programs();
         let _ = &self.history;
     }
@@ -228,7 +238,7 @@ impl<P: PathChoice + Drop> Subsystem<P> {
         ensures cleared_once { IsClearedOnce self.now.state.sets self.now.history }
         ensures begun_once { IsBegunOnce self.now.state.sets self.now.history }
         ensures agree { AllAgree self.now.state }
-        ensures told { HasTold self.now.history self.now.state }
+        ensures headline { HasHeld self.now.history self.now.state }
     {
         self.recalls();
         History::of(self.history.as_slice())

@@ -15,6 +15,6 @@ loop-event-preserved g c = record {
   cleared_once = c.recalls-in-loop-event.ensures.cleared_once;
   begun_once = c.recalls-in-loop-event.ensures.begun_once;
   agree = c.recalls-in-loop-event.ensures.agree;
-  told = c.recalls-in-loop-event.ensures.told;
+  headline = c.recalls-in-loop-event.ensures.headline;
   given = c.loop-event.invariant.given;
 }

@@ -2,7 +2,7 @@ use Rattle.std.proofs.Common.{◌≡◌, ◌+◌, ◌≤◌, length, take, vec_l
 use Rattle.machine_model.specs.Answering.{HasAnswered}
 use Rattle.machine_model.specs.Steps.{HasRun}
 use Rattle.machine_laws.specs.Agreeing.{AllAgree}
-use Rattle.program_laws.specs.Claims.{HasTold}
+use Rattle.subsystem.specs.Headline.{HasHeld}
 use Rattle.machine_laws.specs.Beginnings.{IsBegunOnce}
 use Rattle.machine_laws.specs.Claims.{IsClearedOnce}
 use Rattle.subsystem.specs.Keeping.{StaysSetUp}
@@ -18,6 +18,6 @@ invariant-loop-event g l = record {
   cleared_once : IsClearedOnce l.self.state.sets l.self.history;
   begun_once : IsBegunOnce l.self.state.sets l.self.history;
   agree : AllAgree l.self.state;
-  told : HasTold l.self.history l.self.state;
+  headline : HasHeld l.self.history l.self.state;
   given : g.S.Supply.refused l.supply ≡ g.S.Supply.refused l.fn.supply;
 }

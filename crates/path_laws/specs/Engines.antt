@@ -1,0 +1,25 @@
+-- What holds of the engines of channel paths: one subchannel for an engine, and one engine for a subchannel (SA22-7832, chapter 15,
+-- the active allegiance).
+use Rattle.std.specs.Prelude.{◌≡◌, ℕ, true, Some, slice_get}
+use Rattle.chan_model.specs.declared.names.Side.{Side}
+use Rattle.chan_model.specs.declared.unit_state.UnitState.{UnitState}
+use Rattle.chan_model.specs.Agreement.{device_path}
+use Rattle.chan_model.specs.ResetCauses.{engaged_path}
+use Rattle.allegiance.specs.PathUse.{is_member}
+use Rattle.subchannel_model.specs.declared.state.Subchannel.{Subchannel}
+use Rattle.subchannel_model.specs.Choosing.{engages}
+use Rattle.subchannel_model.specs.Store.{available_paths}
+use Rattle.machine_model.specs.State.{State}
+
+pub record IsOnePath (s : State) : Type 0 where
+  -- the engine of a channel path serves one subchannel at most
+  pub subchannel : (chpid i j : ℕ) (x y : Subchannel) → slice_get s.subs i ≡ Some x → slice_get s.subs j ≡ Some y → engages chpid x ≡ true →
+      engages chpid y ≡ true → i ≡ j
+  -- a subchannel has one engine at most that serves it
+  pub engine : (place c d : ℕ) (x : Subchannel) → slice_get s.subs place ≡ Some x → engages c x ≡ true → engages d x ≡ true → c ≡ d
+  -- that engine is of a path that is available
+  pub available : (place p : ℕ) (x : Subchannel) → slice_get s.subs place ≡ Some x → engaged_path x.state.hold.phase ≡ Some p →
+      is_member (available_paths x) p ≡ true
+  -- a device moves data by one path at most, whichever of its sides it is of
+  pub device : (place p q : ℕ) (a b : Side) (u : UnitState) → slice_get s.units place ≡ Some u → device_path u.own a ≡ Some p →
+      device_path u.own b ≡ Some q → (a ≡ b) × (p ≡ q)

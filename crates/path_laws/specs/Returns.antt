@@ -1,0 +1,56 @@
+-- By which paths programs go out and come back (SA22-7832, chapter 15, the dedicated and the working allegiance).
+use Rattle.std.specs.Prelude.{◌≡◌, ℕ, Bool, true, if◌then◌else◌, Option, None, Some, List, slice_get}
+use Rattle.chan_model.specs.declared.signal.Down.{Down}
+use Rattle.chan_model.specs.declared.signal.OnPath.{OnPath}
+use Rattle.chan_model.specs.declared.signal.Up.TheVariants as up
+use Rattle.chan_model.specs.ResetCauses.{is_path}
+use Rattle.chan_events.specs.declared.event.Event.{Event}
+use Rattle.chan_events.specs.declared.event.Event.TheVariants as event
+use Rattle.chan_events.specs.declared.reply.Entry.{Entry}
+use Rattle.chan_events.specs.declared.reply.Reply.{Reply}
+use Rattle.chan_events.specs.declared.reply.Reply.TheVariants as reply
+use Rattle.subchannel_model.specs.declared.state.Subchannel.{Subchannel}
+use Rattle.subchannel_model.specs.Taking.{is_grant}
+use Rattle.machine_model.specs.State.{State, place_of, sub_of}
+use Rattle.machine_model.specs.Steps.{Run, Opened, Stepped}
+
+-- while a dedicated allegiance stands, a program is offered on its path
+abbrev pub OffersOnDedicated : State → Event → Reply → Type 0
+OffersOnDedicated s (event.Choose word) (reply.Offered t path resumes) =
+    (sub : Subchannel) (d : ℕ) → sub_of s word ≡ Some sub → sub.state.dedicated ≡ Some d → path ≡ d
+OffersOnDedicated s e r = Unit {0}
+
+-- the path of the first Accept that the subchannel of a place took since a program of it was offered last, anew or resumed
+abbrev pub first_of_both : Option ℕ → ℕ → Option ℕ
+first_of_both None path = Some path
+first_of_both (Some first) path = Some first
+
+abbrev pub accepted_by : Reply → ℕ → Option ℕ → Option ℕ
+accepted_by (reply.Offered t p resumes) path before = None
+accepted_by (reply.Up (up.Accept t) true sent) path before = first_of_both before path
+accepted_by r path before = before
+
+abbrev pub accepted_after : ℕ → State → Event → Reply → Option ℕ → Option ℕ
+accepted_after place s (event.Choose word) r before = if is_path (place_of s word) place then accepted_by r 0 before else before
+accepted_after place s (event.Up word path) r before = if is_path (place_of s word) place then accepted_by r path before else before
+accepted_after place s e r before = before
+
+abbrev pub accepted_path : ℕ → (opening : State) (h : List Entry) (s : State) → Run opening h s → Option ℕ
+accepted_path place opening _ _ Opened = None
+accepted_path place opening _ _ (Stepped h old e r new run step) = accepted_after place old e r (accepted_path place opening h old run)
+
+-- a reconnection is granted
+abbrev pub granted_on : Option (OnPath Down) → Option ℕ
+granted_on None = None
+granted_on (Some sent) = if is_grant sent.signal then Some sent.path else None
+
+abbrev pub granted_path : Reply → Option ℕ
+granted_path (reply.Up signal taken sent) = granted_on sent
+granted_path r = None
+
+-- in single-path mode that is by the path of the first Accept since the program was started or resumed
+abbrev pub ReturnsByFirst : (opening : State) (h : List Entry) (s : State) → Run opening h s → Event → Reply → Type 0
+ReturnsByFirst opening h s run (event.Up word path) r =
+    (place p : ℕ) (sub : Subchannel) → place_of s word ≡ Some place → slice_get s.subs place ≡ Some sub → sub.state.hold.single_path ≡ true →
+    granted_path r ≡ Some p → accepted_path place opening h s run ≡ Some p
+ReturnsByFirst opening h s run e r = Unit {0}

@@ -1,0 +1,28 @@
+-- The headline, from the laws that it gathers.
+use Rattle.std.proofs.Common.{List}
+use Rattle.chan_events.specs.declared.event.Event.{Event}
+use Rattle.chan_events.specs.declared.reply.Entry.{Entry}
+use Rattle.chan_events.specs.declared.reply.Reply.{Reply}
+use Rattle.channel_config.specs.Lawful.{IsLawful}
+use Rattle.channel_config.specs.Setup.{Setup}
+use Rattle.machine_model.specs.State.{State, opening_of}
+use Rattle.machine_model.specs.Steps.{Step, Run, Opened, Stepped}
+use Rattle.subsystem.specs.Headline.{HoldsAfter, HoldsIn, HoldsThroughout, HasHeld}
+
+-- what holds after each run, and in each step from where a run led
+abbrev pub AfterEach : Type 0
+AfterEach = (setup : Setup) → IsLawful setup → (h : List Entry) (s : State) (run : Run (opening_of setup) h s) → HoldsAfter (opening_of setup) h s run
+
+abbrev pub InEach : Type 0
+InEach =
+    (setup : Setup) → IsLawful setup → (h : List Entry) (old : State) (run : Run (opening_of setup) h old) (e : Event) (r : Reply) (new : State) →
+    Step old e r new → HoldsIn (opening_of setup) h old run e r new
+
+holds-throughout : AfterEach → InEach → (setup : Setup) → IsLawful setup → (h : List Entry) (s : State) (run : Run (opening_of setup) h s) →
+    HoldsThroughout (opening_of setup) h s run
+holds-throughout after each setup lawful _ _ Opened = after setup lawful _ _ Opened
+holds-throughout after each setup lawful _ _ (Stepped h old e r new run step) =
+    (holds-throughout after each setup lawful h old run, each setup lawful h old run e r new step, after setup lawful _ _ (Stepped h old e r new run step))
+
+pub past-held : AfterEach → InEach → (h : List Entry) (s : State) → HasHeld h s
+past-held after each h s setup k run = holds-throughout after each setup k.lawful h s run

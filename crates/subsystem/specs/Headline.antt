@@ -1,0 +1,57 @@
+-- The headline: what holds of a channel subsystem at its opening, in each step, and after each step of its history.
+use Rattle.std.specs.Prelude.{List, All}
+use Rattle.chan_events.specs.declared.event.Event.{Event}
+use Rattle.chan_events.specs.declared.reply.Entry.{Entry}
+use Rattle.chan_events.specs.declared.reply.Reply.{Reply}
+use Rattle.channel_config.specs.Setup.{Setup}
+use Rattle.event_laws.specs.Clearing.{ClearsByCause}
+use Rattle.event_laws.specs.Codes.{IsByTable}
+use Rattle.event_laws.specs.Resets.{ResetsByCause, StaysReset}
+use Rattle.machine_laws.specs.Agreeing.{AllAgree, HoldEndsByReset}
+use Rattle.machine_laws.specs.Claims.{IsPendingUncleared}
+use Rattle.machine_model.specs.Setups.{IsSetUp}
+use Rattle.machine_model.specs.State.{State, opening_of}
+use Rattle.machine_model.specs.Steps.{Run, Opened, Stepped}
+use Rattle.path_laws.specs.Engines.{IsOnePath}
+use Rattle.path_laws.specs.Returns.{OffersOnDedicated, ReturnsByFirst}
+use Rattle.path_laws.specs.Shown.{AreShown}
+use Rattle.program_laws.specs.Claims.{AllTold}
+
+-- of each state
+pub record HoldsAfter (opening : State) (h : List Entry) (s : State) (run : Run opening h s) : Type 0 where
+  -- no subchannel has two paths moving data
+  pub one_path : IsOnePath s
+  -- subsystem and device agree on the program that holds the device, or a reset isn't yet taken; by one path
+  pub agree : AllAgree s
+  -- status is pending exactly where some that was made is not cleared
+  pub pending : All IsPendingUncleared s.subs
+  -- the path-available masks are the states of the paths, and nothing waits on a path that is down
+  pub shown : AreShown s
+  -- of the program that each subchannel offered last: its blocks, commands, bytes and count
+  pub told : AllTold opening h s run
+
+-- of each step, from the state that a run led to
+pub record HoldsIn (opening : State) (h : List Entry) (old : State) (run : Run opening h old) (e : Event) (r : Reply) (new : State) : Type 0 where
+  -- a reset that isn't yet taken ends only as the unit takes it, and both sides agree right after
+  pub ends : HoldEndsByReset old e r new
+  -- a hold is to be reset by one of the listed causes, and leaves that by its Cleared alone, or for a newer reset
+  pub causes : ResetsByCause old e r new
+  pub stays : StaysReset old e r new
+  -- only what is listed clears status
+  pub clears : ClearsByCause old e r new
+  -- condition codes are the table's
+  pub codes : IsByTable old e r new
+  -- while a dedicated allegiance stands, offers are on its path
+  pub offers : OffersOnDedicated old e r
+  -- in single-path mode a program comes back by the path of its first Accept
+  pub returns : ReturnsByFirst opening h old run e r
+
+-- throughout a run
+abbrev pub HoldsThroughout : (opening : State) (h : List Entry) (s : State) → Run opening h s → Type 0
+HoldsThroughout opening _ _ Opened = HoldsAfter opening _ _ Opened
+HoldsThroughout opening _ _ (Stepped h old e r new run step) =
+    HoldsThroughout opening h old run × HoldsIn opening h old run e r new × HoldsAfter opening _ _ (Stepped h old e r new run step)
+
+-- from the opening of each set-up that the machine has, by whatever states these entries led there
+abbrev pub HasHeld : List Entry → State → Type 0
+HasHeld h s = (setup : Setup) → IsSetUp setup s → (run : Run (opening_of setup) h s) → HoldsThroughout (opening_of setup) h s run
