@@ -15,8 +15,8 @@ AfterEach = (setup : Setup) → IsLawful setup → (h : List Entry) (s : State) 
 
 abbrev pub InEach : Type 0
 InEach =
-    (setup : Setup) → IsLawful setup → (h : List Entry) (old : State) (run : Run (opening_of setup) h old) (e : Event) (r : Reply) (new : State) →
-    Step old e r new → HoldsIn (opening_of setup) h old run e r new
+    (setup : Setup) → IsLawful setup → (h : List Entry) (old : State) (run : Run (opening_of setup) h old) (e : Event) (r : Reply) (new : State)
+    (step : Step old e r new) → HoldsIn (opening_of setup) h old run e r new step
 
 holds-throughout : AfterEach → InEach → (setup : Setup) → IsLawful setup → (h : List Entry) (s : State) (run : Run (opening_of setup) h s) →
     HoldsThroughout (opening_of setup) h s run

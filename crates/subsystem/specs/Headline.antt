@@ -11,11 +11,13 @@ use Rattle.machine_laws.specs.Agreeing.{AllAgree, HoldEndsByReset}
 use Rattle.machine_laws.specs.Claims.{IsPendingUncleared}
 use Rattle.machine_model.specs.Setups.{IsSetUp}
 use Rattle.machine_model.specs.State.{State, opening_of}
-use Rattle.machine_model.specs.Steps.{Run, Opened, Stepped}
+use Rattle.machine_model.specs.Steps.{Run, Opened, Step, Stepped}
 use Rattle.path_laws.specs.Engines.{IsOnePath}
 use Rattle.path_laws.specs.Returns.{OffersOnDedicated, ReturnsByFirst}
 use Rattle.path_laws.specs.Shown.{AreShown}
 use Rattle.program_laws.specs.Claims.{AllTold}
+use Rattle.program_laws.specs.Fetches.{FetchesFromStorage}
+use Rattle.program_laws.specs.Shows.{ShowsCount}
 
 -- of each state
 pub record HoldsAfter (opening : State) (h : List Entry) (s : State) (run : Run opening h s) : Type 0 where
@@ -27,11 +29,11 @@ pub record HoldsAfter (opening : State) (h : List Entry) (s : State) (run : Run 
   pub pending : All IsPendingUncleared s.subs
   -- the path-available masks are the states of the paths, and nothing waits on a path that is down
   pub shown : AreShown s
-  -- of the program that each subchannel offered last: its blocks, commands, bytes and count
+  -- of the program that each subchannel offered last: its blocks, commands and bytes
   pub told : AllTold opening h s run
 
 -- of each step, from the state that a run led to
-pub record HoldsIn (opening : State) (h : List Entry) (old : State) (run : Run opening h old) (e : Event) (r : Reply) (new : State) : Type 0 where
+pub record HoldsIn (opening : State) (h : List Entry) (old : State) (run : Run opening h old) (e : Event) (r : Reply) (new : State) (step : Step old e r new) : Type 0 where
   -- a reset that isn't yet taken ends only as the unit takes it, and both sides agree right after
   pub ends : HoldEndsByReset old e r new
   -- a hold is to be reset by one of the listed causes, and leaves that by its Cleared alone, or for a newer reset
@@ -45,12 +47,16 @@ pub record HoldsIn (opening : State) (h : List Entry) (old : State) (run : Run o
   pub offers : OffersOnDedicated old e r
   -- in single-path mode a program comes back by the path of its first Accept
   pub returns : ReturnsByFirst opening h old run e r
+  -- status that a program makes shows the count of its command less the bytes that were moved
+  pub counts : ShowsCount opening h old run e r new step
+  -- each block and indirect word of a program is what storage held as it was fetched
+  pub fetched : FetchesFromStorage opening h old run e r new step
 
 -- throughout a run
 abbrev pub HoldsThroughout : (opening : State) (h : List Entry) (s : State) → Run opening h s → Type 0
 HoldsThroughout opening _ _ Opened = HoldsAfter opening _ _ Opened
 HoldsThroughout opening _ _ (Stepped h old e r new run step) =
-    HoldsThroughout opening h old run × HoldsIn opening h old run e r new × HoldsAfter opening _ _ (Stepped h old e r new run step)
+    HoldsThroughout opening h old run × HoldsIn opening h old run e r new step × HoldsAfter opening _ _ (Stepped h old e r new run step)
 
 -- from the opening of each set-up that the machine has, by whatever states these entries led there
 abbrev pub HasHeld : List Entry → State → Type 0
