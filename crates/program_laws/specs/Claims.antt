@@ -85,27 +85,7 @@ pub record TraceCorrect (k : ProgramTrace) : Type 0 where
   pub arrived : All IsStored k.now.arrived
   pub arrives : IsBeginning (places_arrived k.now.arrived) (places_of k.orb k.now.acts)
 
--- the count of what would be shown: the sum of the counts of the command's blocks, less the bytes that were moved
-abbrev pub IsRest : Shown → ProgramTrace → Type 0
-IsRest shown k = counts (data_areas k.orb k.now.acts) ≡ length k.now.moved + shown.count
-
--- an End of the command at work would be shown with that count, by the definitions of what is shown: channel end alone, the
--- last of its program, or one after which the next block shows a check. Nothing is said of the status word itself
-abbrev pub IsCountShown : Scsw → Option ActiveProgram → ProgramTrace → Type 0
-IsCountShown scsw None k = Unit {0}
-IsCountShown scsw (Some b) k =
-    (status : DeviceStatus) (more : Bool) (tried : ℕ) (check : Check) →
-    IsRest (channel_end_shown scsw b status more) k × IsRest (last_end_shown scsw b status more) k
-    × IsRest (fetch_fault_shown tried check (residual b.transfer.moving)) k
-
 -- after a run this holds of each subchannel
 abbrev pub AllTold : (opening : State) (h : List Entry) (s : State) → Run opening h s → Type 0
 AllTold opening h s run = (place : ℕ) (sub : Subchannel) (k : ProgramTrace) → slice_get s.subs place ≡ Some sub → trace place opening h s run ≡ Some k →
-    TraceCorrect k × IsCountShown sub.state.scsw sub.state.begun k
-
--- the machine is lawfully set up, and from the opening of each set-up that it has these entries lead to the state, and so
--- they tell
-abbrev pub HasTold : List Entry → State → Type 0
-HasTold h s =
-    ((setup : Setup) × IsSetUp setup s)
-    × ((setup : Setup) → IsSetUp setup s → (run : Run (opening_of setup) h s) × AllTold (opening_of setup) h s run)
+    TraceCorrect k
