@@ -37,5 +37,7 @@ mod LinkIdle
 mod LinkMeets
 mod LinkFlows
 mod RunFlows
+mod Fetches
+mod Fetched
 mod Told
 mod Example
