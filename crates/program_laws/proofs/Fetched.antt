@@ -1,9 +1,10 @@
 -- In each step after a run, the acts of a program grow by what storage then holds.
-use Rattle.std.proofs.Common.{◌≡◌, refl, ap, sym, ◌∙◌, subst, ℕ, ◌+◌, ◌==◌, Bool, true, false, List, [], ◌∷◌, ◌++◌, length, Option, Some, None, Result, Ok, Err}
+use Rattle.std.proofs.Common.{◌≡◌, refl, ap, sym, subst, ℕ, ◌+◌, ◌==◌, Bool, true, false, List, [], ◌∷◌, length, Option, Some, None, Result, Ok, Err}
 use Rattle.std.specs.Prelude.{◌&&◌, if◌then◌else◌, is_some, nat_lt, slice_get, IfOk}
 use Rattle.std.proofs.lemmas.Bool.{eqb-true}
 use Rattle.storage_keys.specs.Storage.{Contents}
 use Rattle.scsw_irb.specs.declared.status.DeviceStatus.{DeviceStatus}
+use Rattle.chan_model.specs.declared.fault.Fault.{Fault}
 use Rattle.chan_model.specs.declared.fault.Fault.TheVariants as fault
 use Rattle.chan_model.specs.declared.hold_state.HoldPhase.{HoldPhase}
 use Rattle.chan_model.specs.declared.hold_state.HoldPhase.TheVariants as hold
@@ -13,7 +14,6 @@ use Rattle.chan_model.specs.declared.report.Report.{Report}
 use Rattle.chan_model.specs.declared.signal.Down.{Down}
 use Rattle.chan_model.specs.declared.signal.Down.TheVariants as down
 use Rattle.chan_model.specs.declared.signal.Load.{Load}
-use Rattle.chan_model.specs.declared.signal.OnPath.{OnPath}
 use Rattle.chan_model.specs.declared.signal.Up.{Up}
 use Rattle.chan_model.specs.declared.signal.Up.TheVariants as up
 use Rattle.chan_model.specs.declared.unit_state.AtHand.{AtHand}
@@ -43,23 +43,22 @@ use Rattle.subchannel_model.specs.declared.state.ProgramPosition.{ProgramPositio
 use Rattle.subchannel_model.specs.declared.state.Subchannel.{Subchannel}
 use Rattle.subchannel_model.specs.declared.state.SubchannelState.{SubchannelState}
 use Rattle.subchannel_model.specs.Ends.{has_status_modifier, chains_command}
-use Rattle.subchannel_model.specs.Places.{found_with, found_at}
+use Rattle.subchannel_model.specs.Places.{found_with, found_at, reached_in}
 use Rattle.subchannel_model.specs.Sending.{carried_by, finds_full}
 use Rattle.subchannel_model.specs.Taking as taking
 use Rattle.subchannel_model.specs.Taking.{takes_up, goes_ahead, bytes_of_load}
-use Rattle.machine_model.specs.State.{State, place_of, found_of, opening_of}
+use Rattle.machine_model.specs.State.{State, place_of, opening_of}
 use Rattle.machine_model.specs.Steps.{Run, Step}
 use Rattle.machine_model.specs.Turns.{Outcome, Turn, UpTurn, at_storage, does}
 use Rattle.machine_model.specs.Requests.{requests_settled, settled}
 use Rattle.machine_model.specs.UpSteps.{returns_at, up_front, up_sub, up_at}
-use Rattle.subchannel_model.specs.Places.{reached_in}
 use Rattle.program_laws.specs.CommandActs.{no_trace, first_acts, next_acts, gives, takes_in}
 use Rattle.program_laws.specs.Fetches.{AreFetched, GrowsByFetches, acts_of, FetchesFromStorage}
 use Rattle.program_laws.specs.Traces as stories
 use Rattle.program_laws.specs.Traces.{ProgramTrace, past_part, trace_meets, met_with, met_at, chosen_at, offered_for, resumed_for, taken_at, takes, absorbs, reported, reported_at, is_place, trace, trace_after}
 use Rattle.program_laws.proofs.Accesses.{AreAccesses}
 use Rattle.program_laws.proofs.Ties.{AreLaws}
-use Rattle.program_laws.proofs.Parts.{IsAtWork, IsDone}
+use Rattle.program_laws.proofs.Parts.{IsAtWork}
 use Rattle.program_laws.proofs.Holds.{HasWork, IsStanding, IsHeld, HeldBy, done-held}
 use Rattle.program_laws.proofs.HoldMeets.{chains-facts}
 use Rattle.program_laws.proofs.Choices.{kept-held, run-held}
@@ -242,7 +241,7 @@ module _ (laws : AreLaws) (accesses : AreAccesses) where
       if-ok (λ t. GrowsAt t.storage k (met_at storage (Some sub) path k)) (nat_lt path (length sub.setup.paths)) (up_front returns storage sub path (slice_get (queue sub.wires.up path) 0)) (Err fault.NoSuchPath)
       (up_front-grows returns storage sub path (slice_get (queue sub.wires.up path) 0) k h) tt
 
-  at_storage-grows : (s : State) (at : ℕ) (r : Result UpTurn _) (old new : Option ProgramTrace) → IfOk r (λ t. GrowsAt t.storage old new) →
+  at_storage-grows : (s : State) (at : ℕ) (r : Result UpTurn Fault) (old new : Option ProgramTrace) → IfOk r (λ t. GrowsAt t.storage old new) →
       IfOk (at_storage s at r) (λ t. GrowsAt t.state.storage old new)
   at_storage-grows s at (Ok t) old new g = g
   at_storage-grows s at (Err f) old new g = tt
