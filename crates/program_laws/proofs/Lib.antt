@@ -39,5 +39,7 @@ mod LinkFlows
 mod RunFlows
 mod Fetches
 mod Fetched
+mod Shows
+mod Counted
 mod Told
 mod Example

@@ -1,9 +1,8 @@
 -- What is told of the program of each subchannel, after each run.
-use Rattle.std.proofs.Common.{◌≡◌, subst, ◌+◌, Option, None, Some, List, length}
+use Rattle.std.proofs.Common.{subst, Option, List}
 use Rattle.chan_events.specs.declared.reply.Entry.{Entry}
 use Rattle.channel_config.specs.Lawful.{IsLawful}
 use Rattle.channel_config.specs.Setup.{Setup}
-use Rattle.subchannel_model.specs.declared.state.ActiveProgram.{ActiveProgram}
 use Rattle.machine_model.specs.State.{State, opening_of}
 use Rattle.machine_model.specs.Steps.{Run}
 use Rattle.program_laws.specs.Traces.{ProgramTrace, trace}
