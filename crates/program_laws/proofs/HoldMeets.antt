@@ -294,7 +294,7 @@ module _ (laws : AreLaws) (accesses : AreAccesses) where
       let l : (_ : shows_length scsw b status more ≡ false) × (last ≡ false) = or-false (shows_length scsw b status more) last j.1 in
       (not-true b.transfer.moving.ccw.chain_data g.0, (or-false (is_some b.transfer.fault) scsw.functions.halt l.1).0)
 
-  abbrev ending : Bool → Ended
+  abbrev pub ending : Bool → Ended
   ending modifier = record { goes_on = true; modifier = modifier }
 
   pub next-went : (earlier : ℕ) (storage : Contents) (orb : Orb) (p : CommandTrace) (t : Transfer) (modifier : Bool) → Tied earlier orb p.acts p.moved t → t.moving.ccw.chain_data ≡ false →
@@ -365,7 +365,7 @@ module _ (laws : AreLaws) (accesses : AreAccesses) where
         standing = none-stands u.waiting u.begun u.suspended k (v ∙ standing-some s.waiting s.begun b s.suspended k e h.standing);
       }
 
-  abbrev end-left : SubchannelState → ActiveProgram → EndSignal → Shown → Bool → SubchannelState
+  abbrev pub end-left : SubchannelState → ActiveProgram → EndSignal → Shown → Bool → SubchannelState
   end-left s b signal shown last =
       record (with_row s (record { shown = shown; left = causes.programs_after_end s b last; joins = s.scsw })) {
         dedicated = taking.dedicated_by_end s.dedicated signal;

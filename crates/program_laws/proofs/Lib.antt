@@ -37,5 +37,9 @@ mod LinkIdle
 mod LinkMeets
 mod LinkFlows
 mod RunFlows
+mod Fetches
+mod Fetched
+mod Shows
+mod Counted
 mod Told
 mod Example

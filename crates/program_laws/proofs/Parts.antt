@@ -183,7 +183,7 @@ module _ (earlier : ℕ) where
       arrived = k.arrived;
     }
 
-    answer-by : (storage : Contents) (orb : Orb) (p : CommandTrace) (t : Transfer) (s count : ℕ) (b : Bool) → IsAtWork orb p t true →
+    pub answer-by : (storage : Contents) (orb : Orb) (p : CommandTrace) (t : Transfer) (s count : ℕ) (b : Bool) → IsAtWork orb p t true →
         IsAtWork orb (if b then doing.trace_moved_on storage (with_answer t s count) (min count (room t.moving)) p else p)
         (if b then moved_on storage (with_answer t s count) (min count (room t.moving)) else t) true
     answer-by storage orb p t s count true k = moved_on-out storage orb p (with_answer t s count) (min count (room t.moving)) (room-left t count) (answer-tied orb p t s count k)
@@ -265,7 +265,7 @@ module _ (earlier : ℕ) where
           let g : room t.moving ≤ t.moving.left = min-le_left t.moving.left 256 in
           omega (arith, e, f, g)
 
-      bring-by : (storage : Contents) (orb : Orb) (p : CommandTrace) (t : Transfer) (s : ℕ) (bytes : List ℕ) (b : Bool) → IsAtWork orb p t false →
+      pub bring-by : (storage : Contents) (orb : Orb) (p : CommandTrace) (t : Transfer) (s : ℕ) (bytes : List ℕ) (b : Bool) → IsAtWork orb p t false →
           IsAtWork orb (if b then storing storage (record t { sequence = s }) (fitting t bytes) p else p)
           (if b then brought_in storage (record t { sequence = s }) (fitting t bytes) else record { transfer = t; storage = storage }).transfer false
       bring-by storage orb p t s bytes true k =

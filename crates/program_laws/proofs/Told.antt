@@ -1,33 +1,21 @@
 -- What is told of the program of each subchannel, after each run.
-use Rattle.std.proofs.Common.{◌≡◌, subst, ◌+◌, Option, None, Some, List, length}
+use Rattle.std.proofs.Common.{subst, Option, List}
 use Rattle.chan_events.specs.declared.reply.Entry.{Entry}
 use Rattle.channel_config.specs.Lawful.{IsLawful}
 use Rattle.channel_config.specs.Setup.{Setup}
-use Rattle.subchannel_model.specs.declared.state.ActiveProgram.{ActiveProgram}
 use Rattle.machine_model.specs.State.{State, opening_of}
 use Rattle.machine_model.specs.Steps.{Run}
-use Rattle.scsw_irb.specs.declared.scsw.Scsw.{Scsw}
-use Rattle.data_move.specs.Moving.{residual}
-use Rattle.program_laws.specs.DataAreas.{data_areas, counts}
 use Rattle.program_laws.specs.Traces.{ProgramTrace, trace}
-use Rattle.program_laws.specs.Claims.{IsCountShown, AllTold}
-use Rattle.program_laws.proofs.Ties.{AreLaws, spot-counts}
+use Rattle.program_laws.specs.Claims.{AllTold}
+use Rattle.program_laws.proofs.Ties.{AreLaws}
 use Rattle.program_laws.proofs.Accesses.{AreAccesses}
 use Rattle.program_laws.proofs.Parts.{IsDone}
-use Rattle.program_laws.proofs.Holds.{HasWork, done-held}
+use Rattle.program_laws.proofs.Holds.{done-held}
 use Rattle.program_laws.proofs.Copies.{copied-part}
 use Rattle.program_laws.proofs.LinkNeeds.{held-needs}
 use Rattle.program_laws.proofs.RunOrders.{AllNeeds, run-takes}
 use Rattle.program_laws.proofs.Choices.{IsKept, KeptBy, kept-held, run-held}
 use Rattle.program_laws.proofs.RunFlows.{AllHeld, run-absorbs}
-
--- the count that is shown
-work-counts : (scsw : Scsw) (b : Option ActiveProgram) (k : ProgramTrace) → HasWork b k → IsCountShown scsw b k
-work-counts scsw None k w = tt
-work-counts scsw (Some b) k w =
-    let c : counts (data_areas k.orb k.now.acts) ≡ length k.now.moved + residual b.transfer.moving =
-    spot-counts k.orb (data_areas k.orb k.now.acts) b.transfer k.now.moved w.0.tied.spot in
-    λ status more tried check. (c, c, c)
 
 module _ (laws : AreLaws) (accesses : AreAccesses) where
   all-held : (setup : Setup) → IsLawful setup → AllHeld laws accesses setup
@@ -43,15 +31,13 @@ module _ (laws : AreLaws) (accesses : AreAccesses) where
   pub run-told : (setup : Setup) → IsLawful setup → (h : List Entry) (s : State) (run : Run (opening_of setup) h s) → AllTold (opening_of setup) h s run
   run-told setup lawful h s run place sub k e f =
       let kept : IsKept sub.state k = subst (λ (x : Option ProgramTrace). KeptBy sub.state x) f (run-held laws accesses setup lawful h s run place sub e) in
-      let done : IsDone k.orb k.now = done-held sub.state k kept.0 in (
-        record {
-          program = done.program;
-          takes = run-takes laws.walks setup lawful (λ h s run. laws.above setup h s lawful run) (all-needs setup lawful) h s run place sub k e f;
-          moves = done.moves;
-          copied = copied-part k kept.1;
-          absorbs = run-absorbs laws accesses setup lawful (all-held setup lawful) h s run place sub k e f;
-          arrived = done.arrived;
-          arrives = done.arrives;
-        },
-        work-counts sub.state.scsw sub.state.begun k kept.0.work,
-      )
+      let done : IsDone k.orb k.now = done-held sub.state k kept.0 in
+      record {
+        program = done.program;
+        takes = run-takes laws.walks setup lawful (λ h s run. laws.above setup h s lawful run) (all-needs setup lawful) h s run place sub k e f;
+        moves = done.moves;
+        copied = copied-part k kept.1;
+        absorbs = run-absorbs laws accesses setup lawful (all-held setup lawful) h s run place sub k e f;
+        arrived = done.arrived;
+        arrives = done.arrives;
+      }

@@ -1,27 +1,17 @@
 -- What is claimed of the program that a subchannel offered last (SA22-7832, chapter 15).
-use Rattle.std.specs.Prelude.{Bool, ◌≡◌, ◌⊎◌, ℕ, ◌+◌, ◌==◌, Option, None, Some, List, [], ◌∷◌, ◌++◌, length, map, reverse, take, drop, slice_get, if◌then◌else◌, All, Contains}
+use Rattle.std.specs.Prelude.{◌≡◌, ◌⊎◌, ℕ, ◌==◌, Option, Some, List, [], ◌∷◌, ◌++◌, length, map, reverse, take, drop, slice_get, if◌then◌else◌, All, Contains}
 use Rattle.std.specs.List.{flat_map}
 use Rattle.chan_events.specs.declared.reply.Entry.{Entry}
-use Rattle.channel_config.specs.Setup.{Setup}
 use Rattle.orb_block.specs.declared.Orb.{Orb}
-use Rattle.scsw_irb.specs.declared.scsw.Scsw.{Scsw}
-use Rattle.scsw_irb.specs.declared.status.DeviceStatus.{DeviceStatus}
-use Rattle.subchannel_model.specs.declared.status.Shown.{Shown}
-use Rattle.channel_program.specs.declared.check.Check.{Check}
 use Rattle.channel_program.specs.Acts.{Act, PlacedBytes}
 use Rattle.channel_program.specs.Programs.{IsProgram, commands, code}
 use Rattle.idaw.specs.Lists.{kind_of, block}
 use Rattle.idaw.specs.Places.{places_of_bytes}
 use Rattle.data_move.specs.Accesses.{bytes_at}
-use Rattle.data_move.specs.Moving.{residual}
-use Rattle.subchannel_model.specs.Causes.{fetch_fault_shown}
-use Rattle.subchannel_model.specs.Ends.{channel_end_shown, last_end_shown}
-use Rattle.subchannel_model.specs.declared.state.ActiveProgram.{ActiveProgram}
 use Rattle.subchannel_model.specs.declared.state.Subchannel.{Subchannel}
-use Rattle.machine_model.specs.State.{State, opening_of}
-use Rattle.machine_model.specs.Setups.{IsSetUp}
+use Rattle.machine_model.specs.State.{State}
 use Rattle.machine_model.specs.Steps.{Run}
-use Rattle.program_laws.specs.DataAreas.{data_areas, counts}
+use Rattle.program_laws.specs.DataAreas.{data_areas}
 use Rattle.program_laws.specs.CommandActs.{Arrival, CommandTrace}
 use Rattle.program_laws.specs.Traces.{ProgramTrace, trace}
 

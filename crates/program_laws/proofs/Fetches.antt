@@ -1,0 +1,241 @@
+-- What comes to a program, act by act, is what storage holds.
+use Rattle.std.proofs.Common.{◌≡◌, refl, ap, sym, ◌∙◌, subst, ℕ, ◌+◌, Bool, true, false, List, [], ◌∷◌, ◌++◌, length, Option, Some, None, Result, Ok, Err, inl, inr, arith, append_assoc}
+use Rattle.std.specs.Prelude.{◌==◌, ◌&&◌, ◌%◌, not, min, is_some, if◌then◌else◌}
+use Rattle.orb_block.specs.declared.Orb.{Orb}
+use Rattle.ccw_codec.specs.declared.Ccw.{Ccw}
+use Rattle.ccw_codec.specs.Command.{class_of}
+use Rattle.storage_keys.specs.declared.StorageFault.{StorageFault}
+use Rattle.storage_keys.specs.Storage.{Contents, fetched}
+use Rattle.channel_program.specs.declared.check.Check.{Check}
+use Rattle.channel_program.specs.declared.check.Check.TheVariants.{Program}
+use Rattle.channel_program.specs.declared.Role.{Role}
+use Rattle.channel_program.specs.declared.Ended.{Ended}
+use Rattle.channel_program.specs.declared.Reading.{Reading}
+use Rattle.channel_program.specs.declared.Reading.TheVariants.{Transfers, Takes, Suspends, Shows}
+use Rattle.channel_program.specs.Acts.{Act, Block, Unfetched, Used_up, End}
+use Rattle.channel_program.specs.Blocks.{reads}
+use Rattle.channel_program.specs.Programs.{IsProgram, role_of, next, commands}
+use Rattle.channel_program.specs.Walks.{WalkPlace, walk_place, after_block, after_used_up, walk_after_end, is_program_misplaced, act_of_fetch, fetch_act, with_target, acts_from, acts_at, advance_acts}
+use Rattle.idaw.specs.declared.ListKind.{ListKind}
+use Rattle.idaw.specs.Lists.{kind_of, width, address_of_word}
+use Rattle.idaw.specs.Places.{Reach}
+use Rattle.data_move.specs.Moving.{Moving, needs_word, room}
+use Rattle.data_move.specs.Accesses as access
+use Rattle.data_move.specs.Accesses.{checked, list_word_of}
+use Rattle.transfer.specs.declared.Transfer.{Transfer}
+use Rattle.transfer.specs.declared.CommandStart.{CommandStart}
+use Rattle.transfer.specs.declared.CommandStart.TheVariants as came
+use Rattle.transfer.specs.Commands.{goes_to, located_transfer, has_stopped, brings}
+use Rattle.transfer.specs.Chunks.{chains_data, with_moved, with_answer, taken_by_device, brought_by, brought_in, brought, fitting}
+use Rattle.program_laws.specs.DataAreas.{data_areas}
+use Rattle.program_laws.specs.CommandActs as doing
+use Rattle.program_laws.specs.CommandActs.{CommandTrace, act_of_word, located_acts, room_acts, goes_acts, next_acts, chained_acts, with_acts, with_places, with_copy, copying, trace_answered, gives, with_arrival, storing, arriving, takes_in}
+use Rattle.program_laws.specs.Fetches.{IsNextWord, IsFetched, AreFetched, GrowsByFetches}
+use Rattle.program_laws.proofs.Accesses.{AreAccesses}
+use Rattle.program_laws.proofs.Ties.{AreLaws, IsMovedTo, Tied, Begins, goes-begins}
+use Rattle.program_laws.proofs.Parts.{IsAtWork, answer-by, bring-by}
+
+-- acts are those before, and more that storage holds
+abbrev pub AddsFetched : Contents → Orb → List Act → List Act → Type 0
+AddsFetched storage orb before acts = (more : List Act) × (acts ≡ more ++ before) × AreFetched storage orb before more
+
+pub adds-none : (storage : Contents) (orb : Orb) (before : List Act) → AddsFetched storage orb before before
+adds-none storage orb before = ([], refl, tt)
+
+fetched-append : (storage : Contents) (orb : Orb) (acts more before : List Act) → AreFetched storage orb (more ++ before) acts → AreFetched storage orb before more →
+    AreFetched storage orb before (acts ++ more)
+fetched-append storage orb [] more before a b = b
+fetched-append storage orb (act ∷ acts) more before a b =
+    (subst (λ (xs : List Act). IsFetched storage orb xs act) (sym (append_assoc acts more before)) a.0, fetched-append storage orb acts more before a.1 b)
+
+adds-more : (storage : Contents) (orb : Orb) (before mid acts : List Act) → AddsFetched storage orb before mid → AreFetched storage orb mid acts →
+    AddsFetched storage orb before (acts ++ mid)
+adds-more storage orb before mid acts a b = (
+  acts ++ a.0,
+  ap (λ (xs : List Act). acts ++ xs) a.1 ∙ sym (append_assoc acts a.0 before),
+  fetched-append storage orb acts a.0 before (subst (λ (xs : List Act). AreFetched storage orb xs acts) a.1 b) a.2,
+)
+
+pub adds-grows : (storage : Contents) (orb : Orb) (before acts : List Act) → AddsFetched storage orb before acts → GrowsByFetches storage orb before acts
+adds-grows storage orb before acts a = (before, a.0, a.1, inl refl, a.2)
+
+pub anew-grows : (storage : Contents) (orb : Orb) (before acts : List Act) → AddsFetched storage orb [] acts → GrowsByFetches storage orb before acts
+anew-grows storage orb before acts a = ([], a.0, a.1, inr refl, a.2)
+
+-- a block
+fetch-by : (storage : Contents) (orb : Orb) (before : List Act) (address : ℕ) (test : Bool) (answer : Result (List ℕ) StorageFault) → fetched storage orb.key address 8 ≡ answer →
+    IsFetched storage orb before (if test then Unfetched address Program else act_of_fetch address answer)
+fetch-by storage orb before address true answer e = tt
+fetch-by storage orb before address false (Ok bytes) e = e
+fetch-by storage orb before address false (Err fault) e = tt
+
+fetch-fetched : (storage : Contents) (orb : Orb) (before : List Act) (role : Role) (address : ℕ) → IsFetched storage orb before (fetch_act storage orb role address)
+fetch-fetched storage orb before role address =
+    fetch-by storage orb before address (role.first && is_program_misplaced orb address) (fetched storage orb.key address 8) refl
+
+target-fetched : (storage : Contents) (orb : Orb) (before : List Act) (address : ℕ) (bytes : List ℕ) (r : Reading) → fetched storage orb.key address 8 ≡ Ok bytes →
+    AreFetched storage orb before (with_target storage (after_block (walk_place orb before) address bytes) r (Block address bytes ∷ []))
+target-fetched storage orb before address bytes (Transfers target) e =
+    (fetch-fetched storage orb (Block address bytes ∷ before) (role_of orb (Block address bytes ∷ before)) target, (e, tt))
+target-fetched storage orb before address bytes (Takes ccw) e = (e, tt)
+target-fetched storage orb before address bytes Suspends e = (e, tt)
+target-fetched storage orb before address bytes Shows e = (e, tt)
+
+from-by : (storage : Contents) (orb : Orb) (before : List Act) (address : ℕ) (test : Bool) (answer : Result (List ℕ) StorageFault) → fetched storage orb.key address 8 ≡ answer →
+    AreFetched storage orb before (acts_from storage (walk_place orb before) (if test then Unfetched address Program else act_of_fetch address answer))
+from-by storage orb before address true answer e = (tt, tt)
+from-by storage orb before address false (Ok bytes) e = target-fetched storage orb before address bytes (reads orb (role_of orb before) bytes) e
+from-by storage orb before address false (Err fault) e = (tt, tt)
+
+at-fetched : (storage : Contents) (orb : Orb) (before : List Act) (n : Option ℕ) → AreFetched storage orb before (acts_at storage (walk_place orb before) n)
+at-fetched storage orb before None = tt
+at-fetched storage orb before (Some address) =
+    from-by storage orb before address ((role_of orb before).first && is_program_misplaced orb address) (fetched storage orb.key address 8) refl
+
+advance-fetched : (storage : Contents) (orb : Orb) (before : List Act) → AreFetched storage orb before (advance_acts storage (walk_place orb before))
+advance-fetched storage orb before = at-fetched storage orb before (next orb before)
+
+-- data is chained
+chained-fetched : (storage : Contents) (orb : Orb) (acts : List Act) (t : Transfer) → t.walk ≡ walk_place orb acts → AreFetched storage orb acts (chained_acts storage t)
+chained-fetched storage orb acts t e =
+    subst (λ (w : WalkPlace). AreFetched storage orb acts (advance_acts storage (after_used_up w) ++ Used_up ∷ [])) (sym e)
+    (fetched-append storage orb (advance_acts storage (walk_place orb (Used_up ∷ acts))) (Used_up ∷ []) acts (advance-fetched storage orb (Used_up ∷ acts)) (tt, tt))
+
+moved_on-if : (storage : Contents) (orb : Orb) (p : CommandTrace) (t : Transfer) (n : ℕ) (b : Bool) → t.walk ≡ walk_place orb p.acts →
+    AddsFetched storage orb p.acts (if b then with_acts (with_places p t.moving n) (chained_acts storage (with_moved t n)) else with_places p t.moving n).acts
+moved_on-if storage orb p t n true e = (chained_acts storage (with_moved t n), refl, chained-fetched storage orb p.acts (with_moved t n) e)
+moved_on-if storage orb p t n false e = adds-none storage orb p.acts
+
+moved_on-adds : (storage : Contents) (orb : Orb) (p : CommandTrace) (t : Transfer) (n : ℕ) → t.walk ≡ walk_place orb p.acts →
+    AddsFetched storage orb p.acts (doing.trace_moved_on storage t n p).acts
+moved_on-adds storage orb p t n e = moved_on-if storage orb p t n (chains_data (with_moved t n) n) e
+
+-- a word of an indirect list
+aligned-word : (b : Bool) (x : Result ℕ Check) (word : ℕ) → (if b then Err Program else x) ≡ Ok word → x ≡ Ok word
+aligned-word true x word e = absurd (cc e)
+aligned-word false x word e = e
+
+abbrev list-word : Contents → ℕ → ListKind → ℕ → ℕ → Result ℕ Check
+list-word storage key kind list i = list_word_of kind (checked (fetched storage key (address_of_word kind list i) (width kind)))
+
+next-word : (storage : Contents) (orb : Orb) (r : Reach) (rs : List Reach) (m : Moving) (word : ℕ) → m.kind ≡ kind_of orb → m.ccw ≡ r.ccw → m.words ≡ length r.words →
+    access.word_fetched storage orb.key m ≡ Ok word → IsNextWord storage orb (r ∷ rs) word
+next-word storage orb r rs m word k c n e =
+    ap (λ (i : ℕ). list-word storage orb.key (kind_of orb) r.ccw.address i) (sym n)
+    ∙ ap (λ (ccw : Ccw). list-word storage orb.key (kind_of orb) ccw.address m.words) (sym c)
+    ∙ ap (λ (kind : ListKind). list-word storage orb.key kind m.ccw.address m.words) (sym k)
+    ∙ aligned-word (not (m.ccw.address % width m.kind == 0)) (list-word storage orb.key m.kind m.ccw.address m.words) word e
+
+spot-word : (storage : Contents) (orb : Orb) (rs : List Reach) (t : Transfer) (ps : List (Option ℕ)) (word : ℕ) → t.moving.kind ≡ kind_of orb → is_some t.fault ≡ false →
+    access.word_fetched storage orb.key t.moving ≡ Ok word → IsMovedTo orb rs t ps → IsNextWord storage orb rs word
+spot-word storage orb [] t ps word e f w k = k
+spot-word storage orb (r ∷ rs) t ps word e f w k =
+    elim k.0 [
+      | inl a ↦ next-word storage orb r rs t.moving word e a.ccw a.words w
+      | inr a ↦ absurd (cc (sym a.fault ∙ f))
+    ]
+
+-- so many commands were sent under earlier numbers
+module _ (earlier : ℕ) where
+  located-by : (storage : Contents) (orb : Orb) (acts : List Act) (ps : List (Option ℕ)) (t : Transfer) (b c : Bool) (w : Result ℕ Check) → is_some t.fault ≡ b →
+      access.word_fetched storage t.walk.orb.key t.moving ≡ w → Tied earlier orb acts ps t → AreFetched storage orb acts (if b then [] else (if c then act_of_word w else []))
+  located-by storage orb acts ps t true c w f e k = tt
+  located-by storage orb acts ps t false false w f e k = tt
+  located-by storage orb acts ps t false true (Ok word) f e k =
+      let same : access.word_fetched storage orb.key t.moving ≡ Ok word =
+      ap (λ (x : WalkPlace). access.word_fetched storage x.orb.key t.moving) (sym k.walk) ∙ e in
+      (spot-word storage orb (data_areas orb acts) t ps word k.kind f same k.spot, tt)
+  located-by storage orb acts ps t false true (Err check) f e k = tt
+
+  located-fetched : (storage : Contents) (orb : Orb) (acts : List Act) (ps : List (Option ℕ)) (t : Transfer) → Tied earlier orb acts ps t →
+      AreFetched storage orb acts (located_acts storage t)
+  located-fetched storage orb acts ps t k =
+      located-by storage orb acts ps t (is_some t.fault) (needs_word t.moving) (access.word_fetched storage t.walk.orb.key t.moving) refl refl k
+
+  module _ (laws : AreLaws) where
+    -- a command begins, or can't, or the program is suspended
+    room-if : (storage : Contents) (orb : Orb) (acts : List Act) (t : Transfer) (b : Bool) → Tied earlier orb acts [] t →
+        AreFetched storage orb acts (if b then located_acts storage t else [])
+    room-if storage orb acts t true k = located-fetched storage orb acts [] t k
+    room-if storage orb acts t false k = tt
+
+    room-fetched : (storage : Contents) (orb : Orb) (before acts : List Act) (n : ℕ) (c : CommandStart) → Begins earlier laws orb before acts n c →
+        AreFetched storage orb acts (room_acts storage c)
+    room-fetched storage orb before acts n (came.Begins t) k = room-if storage orb acts t (brings (class_of t.code)) k.0
+    room-fetched storage orb before acts n came.Suspends k = tt
+    room-fetched storage orb before acts n (came.Stops check) k = tt
+
+    pub goes-fetched : (storage : Contents) (orb : Orb) (before : List Act) (n : ℕ) → (role_of orb before).chained ≡ false → length (commands orb before) + 1 ≡ earlier + n →
+        IsProgram orb before → AreFetched storage orb before (goes_acts storage n (walk_place orb before))
+    goes-fetched storage orb before n c l p =
+        let old : WalkPlace = walk_place orb before in
+        fetched-append storage orb (room_acts storage (goes_to storage n old).came) (advance_acts storage old) before
+        (room-fetched storage orb before (advance_acts storage old ++ before) n (goes_to storage n old).came (goes-begins earlier laws storage orb before n c l p))
+        (advance-fetched storage orb before)
+
+    abbrev ending : Bool → Ended
+    ending modifier = record { goes_on = true; modifier = modifier }
+
+    pub next-fetched : (storage : Contents) (orb : Orb) (acts : List Act) (ps : List (Option ℕ)) (t : Transfer) (modifier : Bool) → t.moving.ccw.chain_data ≡ false →
+        is_some t.fault ≡ false → Tied earlier orb acts ps t → AreFetched storage orb acts (next_acts storage t modifier)
+    next-fetched storage orb acts ps t modifier d f k =
+        let before : List Act = End (ending modifier) ∷ acts in
+        let m : length (commands orb before) ≡ earlier + t.command = k.number in
+        subst (λ (w : WalkPlace). AreFetched storage orb acts (goes_acts storage (t.command + 1) (walk_after_end w (ending modifier)) ++ End (ending modifier) ∷ [])) (sym k.walk)
+        (fetched-append storage orb (goes_acts storage (t.command + 1) (walk_place orb before)) (End (ending modifier) ∷ []) acts
+        (goes-fetched storage orb before (t.command + 1) (k.chained f ∙ d) (omega (arith, m)) (k.stands f, k.program)) (tt, tt))
+
+    -- a Data of a command that takes bytes to the device
+    answer-if : (storage : Contents) (orb : Orb) (p : CommandTrace) (t : Transfer) (s count : ℕ) (b : Bool) → t.walk ≡ walk_place orb p.acts →
+        AddsFetched storage orb p.acts (if b then doing.trace_moved_on storage (with_answer t s count) (min count (room t.moving)) p else p).acts
+    answer-if storage orb p t s count true e = moved_on-adds storage orb p (with_answer t s count) (min count (room t.moving)) e
+    answer-if storage orb p t s count false e = adds-none storage orb p.acts
+
+    copy-by : (storage : Contents) (t : Transfer) (r : Result (List ℕ) Check) (p : CommandTrace) → (with_copy storage t r p).acts ≡ p.acts
+    copy-by storage t (Ok bytes) p = refl
+    copy-by storage t (Err check) p = refl
+
+    copy-if : (storage : Contents) (t : Transfer) (r : Result (List ℕ) Check) (p : CommandTrace) (b : Bool) → (if b then p else with_copy storage t r p).acts ≡ p.acts
+    copy-if storage t r p true = refl
+    copy-if storage t r p false = copy-by storage t r p
+
+    copy-same : (storage : Contents) (t : Transfer) (p : CommandTrace) → (copying storage t p).acts ≡ p.acts
+    copy-same storage t p = copy-if storage t (access.copied storage t.walk.orb.key t.moving) p (has_stopped t)
+
+    pub gives-adds : (storage : Contents) (orb : Orb) (p : CommandTrace) (t : Transfer) (s count : ℕ) → IsAtWork earlier orb p t true →
+        AddsFetched storage orb p.acts (gives storage t s count p).acts
+    gives-adds storage orb p t s count k =
+        let q : CommandTrace = trace_answered storage t s count p in
+        let u : Transfer = taken_by_device storage t s count in
+        let w : IsAtWork earlier orb q u true = answer-by earlier laws storage orb p t s count (s == t.sequence + 1) k in
+        subst (λ (xs : List Act). AddsFetched storage orb p.acts xs) (sym (copy-same storage (located_transfer storage u) (with_acts q (located_acts storage u))))
+        (adds-more storage orb p.acts q.acts (located_acts storage u) (answer-if storage orb p t s count (s == t.sequence + 1) k.tied.walk)
+        (located-fetched storage orb q.acts q.moved u w.tied))
+
+    -- a Data of a command that brings bytes in: they are stored first
+    arrival-adds : (storage : Contents) (orb : Orb) (p : CommandTrace) (t : Transfer) (bytes : List ℕ) (r : Result Contents Check) → t.walk ≡ walk_place orb p.acts →
+        AddsFetched (brought_by storage t (length bytes) r).storage orb p.acts (with_arrival storage t bytes r p).acts
+    arrival-adds storage orb p t bytes (Ok after) e =
+        moved_on-adds after orb (record p { arrived = record { former = storage.bytes; chunk = doing.chunk_of after t.moving bytes } ∷ p.arrived }) t (length bytes) e
+    arrival-adds storage orb p t bytes (Err check) e = adds-none storage orb p.acts
+
+    store-if : (storage : Contents) (orb : Orb) (p : CommandTrace) (t : Transfer) (bytes : List ℕ) (r : Result Contents Check) (b : Bool) → t.walk ≡ walk_place orb p.acts →
+        AddsFetched (if b then record { transfer = t; storage = storage } else brought_by storage t (length bytes) r).storage orb p.acts (if b then p else with_arrival storage t bytes r p).acts
+    store-if storage orb p t bytes r true e = adds-none storage orb p.acts
+    store-if storage orb p t bytes r false e = arrival-adds storage orb p t bytes r e
+
+    bring-if : (storage : Contents) (orb : Orb) (p : CommandTrace) (t : Transfer) (s : ℕ) (bytes : List ℕ) (b : Bool) → t.walk ≡ walk_place orb p.acts →
+        AddsFetched (if b then brought_in storage (record t { sequence = s }) (fitting t bytes) else record { transfer = t; storage = storage }).storage orb p.acts
+        (if b then storing storage (record t { sequence = s }) (fitting t bytes) p else p).acts
+    bring-if storage orb p t s bytes true e =
+        store-if storage orb p (record t { sequence = s }) (fitting t bytes) (access.stored_or_skipped storage t.walk.orb.key t.moving (fitting t bytes)) (is_some t.fault) e
+    bring-if storage orb p t s bytes false e = adds-none storage orb p.acts
+
+    pub takes_in-adds : (accesses : AreAccesses) (storage : Contents) (orb : Orb) (p : CommandTrace) (t : Transfer) (s : ℕ) (bytes : List ℕ) → IsAtWork earlier orb p t false →
+        AddsFetched (brought storage t s bytes).storage orb p.acts (takes_in storage t s bytes p).acts
+    takes_in-adds accesses storage orb p t s bytes k =
+        let q : CommandTrace = arriving storage t s bytes p in
+        let x = brought storage t s bytes in
+        let w : IsAtWork earlier orb q x.transfer false = bring-by earlier laws accesses storage orb p t s bytes (s == t.sequence + 1) k in
+        adds-more x.storage orb p.acts q.acts (located_acts x.storage x.transfer) (bring-if storage orb p t s bytes (s == t.sequence + 1) k.tied.walk)
+        (located-fetched x.storage orb q.acts q.moved x.transfer w.tied)

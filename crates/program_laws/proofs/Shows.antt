@@ -1,0 +1,200 @@
+-- Status that a Data or an End makes shows the count of the command less the bytes that were moved.
+use Rattle.std.proofs.Common.{◌≡◌, refl, sym, ◌∙◌, ap, subst, arith, ℕ, ◌+◌, ◌<◌, Bool, true, false, List, ◌∷◌, ◌++◌, Option, Some, None}
+use Rattle.std.specs.Prelude.{if◌then◌else◌, ◌==◌, ◌&&◌, is_some}
+use Rattle.scsw_irb.specs.declared.scsw.Scsw.{Scsw}
+use Rattle.scsw_irb.specs.declared.serials.Serials.{Serials}
+use Rattle.scsw_irb.specs.declared.status.DeviceStatus.{DeviceStatus}
+use Rattle.scsw_irb.specs.Empty.{no_status}
+use Rattle.storage_keys.specs.Storage.{Contents}
+use Rattle.chan_model.specs.declared.signal.Load.{Load}
+use Rattle.chan_model.specs.Loads.{load_length}
+use Rattle.chan_model.specs.UnitReports.{is_outward, is_last_end, has_device_end}
+use Rattle.channel_program.specs.declared.check.Check.{Check}
+use Rattle.channel_program.specs.Acts.{Act, End}
+use Rattle.channel_program.specs.Walks.{WalkPlace}
+use Rattle.data_move.specs.Moving.{residual}
+use Rattle.transfer.specs.declared.Beginning.{Beginning}
+use Rattle.transfer.specs.declared.CommandStart.{CommandStart}
+use Rattle.transfer.specs.declared.CommandStart.TheVariants as came
+use Rattle.transfer.specs.Commands.{next_command, begun_with_room, with_room}
+use Rattle.transfer.specs.Chunks.{brought, is_answered, next_given, taken_by_device}
+use Rattle.subchannel_model.specs.declared.signals.DataSignal.{DataSignal}
+use Rattle.subchannel_model.specs.declared.signals.EndSignal.{EndSignal}
+use Rattle.subchannel_model.specs.declared.state.ActiveProgram.{ActiveProgram}
+use Rattle.subchannel_model.specs.declared.state.Program.{Program}
+use Rattle.subchannel_model.specs.declared.state.SubchannelState.{SubchannelState}
+use Rattle.subchannel_model.specs.declared.status.Shown.{Shown}
+use Rattle.subchannel_model.specs.declared.cause.StatusCause.TheVariants as cause
+use Rattle.subchannel_model.specs.Status.{no_device_status, no_subchannel_status, with_joined, scsw_made, serials_made}
+use Rattle.subchannel_model.specs.Ends.{has_status_modifier, chains_command, channel_end_shown, last_shown, end_shown}
+use Rattle.subchannel_model.specs.Causes.{scsw_joined, without_begun, fetch_fault_shown, pci_shown, suspension_shown, with_cause, with_row}
+use Rattle.subchannel_model.specs.Taking as taking
+use Rattle.subchannel_model.specs.Taking.{bytes_of_load, let_go, with_end, without_pci, standing_still, suspended_alone}
+use Rattle.program_laws.specs.CommandActs.{with_acts, next_acts}
+use Rattle.program_laws.specs.DataAreas.{data_areas, counts}
+use Rattle.program_laws.specs.Shows.{IsRest}
+use Rattle.program_laws.specs.Traces as stories
+use Rattle.program_laws.specs.Traces.{ProgramTrace}
+use Rattle.program_laws.proofs.Accesses.{AreAccesses}
+use Rattle.program_laws.proofs.Ties.{AreLaws, spot-counts}
+use Rattle.program_laws.proofs.Parts.{WentOn}
+use Rattle.program_laws.proofs.Holds.{HasWork, IsHeld}
+use Rattle.program_laws.proofs.HoldMeets.{chains-facts, ending, next-went, end-left}
+
+-- a status shows its count
+joined-count : (b : Bool) (scsw : Scsw) (shown : Shown) →
+    (if b then with_joined scsw scsw.status scsw.device_status scsw.subchannel_status shown
+    else with_joined scsw no_status no_device_status no_subchannel_status shown).count ≡ shown.count
+joined-count true scsw shown = refl
+joined-count false scsw shown = refl
+
+status-count : (enabled : Bool) (scsw : Scsw) (x : Serials) (shown : Shown) → x.made < (serials_made enabled x).made → (scsw_made enabled scsw shown).count ≡ shown.count
+status-count true scsw x shown l = joined-count scsw.status.pending scsw shown
+status-count false scsw x shown l = absurd (omega (arith, l))
+
+-- where a status was made, its count is the rest
+abbrev pub ShowsRest : ℕ → SubchannelState → ProgramTrace → Type 0
+ShowsRest made s k = made < s.serials.made → IsRest s.scsw.count k
+
+unmade : (made : ℕ) (s : SubchannelState) (k : ProgramTrace) → s.serials.made ≡ made → ShowsRest made s k
+unmade made s k e = λ l. absurd (omega (arith, e, l))
+
+counted : (n m : ℕ) (k : ProgramTrace) → n ≡ m → IsRest m k → IsRest n k
+counted n m k e r = subst (λ (x : ℕ). IsRest x k) (sym e) r
+
+-- of a command at work
+rest-of : (b : ActiveProgram) (k : ProgramTrace) → HasWork (Some b) k → IsRest (residual b.transfer.moving) k
+rest-of b k w = spot-counts k.orb (data_areas k.orb k.now.acts) b.transfer k.now.moved w.0.tied.spot
+
+-- an interruption by the program
+interrupted-shows : (s : SubchannelState) (b : ActiveProgram) (k : ProgramTrace) (x : Bool) →
+    let after : SubchannelState = if x then with_cause (record s { begun = Some (without_pci b) }) (cause.Pci b.transfer.walk.tried (residual b.transfer.moving)) else s in
+    IsHeld after k → ShowsRest s.serials.made after k
+interrupted-shows s b k true h =
+    λ l. counted (with_cause (record s { begun = Some (without_pci b) }) (cause.Pci b.transfer.walk.tried (residual b.transfer.moving))).scsw.count
+    (residual b.transfer.moving) k
+    (status-count s.pmcw.enabled (scsw_joined s.pmcw.enabled s.scsw s.scsw) s.serials
+    (pci_shown (record s { begun = Some (without_pci b) }) b.transfer.walk.tried (residual b.transfer.moving)) l)
+    (rest-of (without_pci b) k h.work)
+interrupted-shows s b k false h = unmade s.serials.made s k refl
+
+-- Data
+move-shows : (storage : Contents) (s : SubchannelState) (b : ActiveProgram) (signal : DataSignal) (load : Load) (k : ProgramTrace) (x : Bool) →
+    let after : SubchannelState = (if x then taking.meets storage (taking.give_next storage s b signal (load_length load))
+    else taking.take_in s b signal (brought storage b.transfer signal.sequence (bytes_of_load load))).step.state in
+    IsHeld after k → ShowsRest s.serials.made after k
+move-shows storage s b signal load k true h =
+    let t = (next_given storage (taken_by_device storage b.transfer signal.sequence (load_length load))).transfer in
+    interrupted-shows (taking.with_transfer s b t) (record b { transfer = t }) k t.pci_pending h
+move-shows storage s b signal load k false h =
+    let t = (with_room (brought storage b.transfer signal.sequence (bytes_of_load load)).storage (brought storage b.transfer signal.sequence (bytes_of_load load)).transfer).transfer in
+    interrupted-shows (taking.with_transfer s b t) (record b { transfer = t }) k t.pci_pending h
+
+answered-shows : (storage : Contents) (s : SubchannelState) (b : ActiveProgram) (signal : DataSignal) (load : Load) (k : ProgramTrace) (x : Bool) →
+    let after : SubchannelState = (if x then taking.move_bytes storage s b signal load else taking.meets storage (taking.ignoring s)).step.state in
+    IsHeld after k → ShowsRest s.serials.made after k
+answered-shows storage s b signal load k true h = move-shows storage s b signal load k (is_outward b.transfer.code) h
+answered-shows storage s b signal load k false h = unmade s.serials.made s k refl
+
+begun-shows : (storage : Contents) (s : SubchannelState) (b : Option ActiveProgram) (signal : DataSignal) (load : Load) (k : ProgramTrace) →
+    IsHeld (taking.move_data storage s b signal load).step.state k → ShowsRest s.serials.made (taking.move_data storage s b signal load).step.state k
+begun-shows storage s None signal load k h = unmade s.serials.made s k refl
+begun-shows storage s (Some b) signal load k h = answered-shows storage s b signal load k (is_answered b.transfer signal.command signal.sequence) h
+
+pub data-shows : (storage : Contents) (s : SubchannelState) (signal : DataSignal) (load : Load) (k : ProgramTrace) (x : Bool) →
+    let after : SubchannelState = (if x then taking.move_data storage s s.begun signal load else taking.meets storage (taking.ignoring s)).step.state in
+    IsHeld after k → ShowsRest s.serials.made after k
+data-shows storage s signal load k true h = begun-shows storage s s.begun signal load k h
+data-shows storage s signal load k false h = unmade s.serials.made s k refl
+
+-- a command can't begin: what is fetched for it takes no control
+rest-stays : (k : ProgramTrace) (acts : List Act) (before : List Act) (n : ℕ) → data_areas k.orb (acts ++ k.now.acts) ≡ data_areas k.orb before →
+    data_areas k.orb before ≡ data_areas k.orb k.now.acts → IsRest n k → IsRest n (record k { now = with_acts k.now acts })
+rest-stays k acts before n e f r = ap counts (e ∙ f) ∙ r
+
+suspended-shows : (s : SubchannelState) (program : Program) (walk : WalkPlace) (count : ℕ) (k : ProgramTrace) (x : Bool) → IsRest count k →
+    ShowsRest s.serials.made (let_go (if x then record (standing_still s program walk count) { scsw = suspended_alone s.scsw }
+    else with_cause (standing_still s program walk count) (cause.Suspension walk.tried count))).state k
+suspended-shows s program walk count k true r = λ l. absurd (omega (arith, l))
+suspended-shows s program walk count k false r =
+    λ l. counted (with_cause (standing_still s program walk count) (cause.Suspension walk.tried count)).scsw.count count k
+    (status-count s.pmcw.enabled (scsw_joined s.pmcw.enabled s.scsw s.scsw) s.serials (suspension_shown walk.tried count) l) r
+
+fault-shows : (s : SubchannelState) (b : Option ActiveProgram) (tried : ℕ) (check : Check) (count : ℕ) (k : ProgramTrace) → IsRest count k →
+    ShowsRest s.serials.made
+    (let_go (with_row s (record { shown = fetch_fault_shown tried check count; left = without_begun b s; joins = s.scsw }))).state k
+fault-shows s None tried check count k r =
+    λ l. counted _ count k (status-count s.pmcw.enabled (scsw_joined s.pmcw.enabled s.scsw s.scsw) s.serials (fetch_fault_shown tried check count) l) r
+fault-shows s (Some b) tried check count k r =
+    λ l. counted _ count k (status-count s.pmcw.enabled (scsw_joined s.pmcw.enabled s.scsw s.scsw) s.serials (fetch_fault_shown tried check count) l) r
+
+-- an End after which nothing is chained, where no start waits
+end-count : (s : SubchannelState) (b : ActiveProgram) (status : DeviceStatus) (more x : Bool) (w : Option Program) → w ≡ None →
+    (if x then last_shown s.scsw b w status more else channel_end_shown s.scsw b status more).count ≡ residual b.transfer.moving
+end-count s b status more true None e = refl
+end-count s b status more true (Some program) e = absurd (cc e)
+end-count s b status more false w e = refl
+
+module _ (laws : AreLaws) (accesses : AreAccesses) where
+  stops-shows : (s : SubchannelState) (b : ActiveProgram) (k : ProgramTrace) (signal : EndSignal) (shown : Shown) (last : Bool) → IsRest shown.count k →
+      ShowsRest s.serials.made (if last then let_go (end-left laws accesses s b signal shown last) else taking.quietly (end-left laws accesses s b signal shown last)).state k
+  stops-shows s b k signal shown true r =
+      λ l. counted _ shown.count k (status-count s.pmcw.enabled (scsw_joined s.pmcw.enabled s.scsw s.scsw) s.serials shown l) r
+  stops-shows s b k signal shown false r =
+      λ l. counted _ shown.count k (status-count s.pmcw.enabled (scsw_joined s.pmcw.enabled s.scsw s.scsw) s.serials shown l) r
+
+  chains-shows : (storage : Contents) (s : SubchannelState) (b : ActiveProgram) (k : ProgramTrace) (signal : EndSignal) (walk : WalkPlace) (c : CommandStart) (acts before : List Act) (n : ℕ) →
+      WentOn k.earlier laws storage k.orb before (acts ++ k.now.acts) n walk c → data_areas k.orb before ≡ data_areas k.orb k.now.acts →
+      IsRest (residual b.transfer.moving) k → IsHeld (taking.chaining storage s (with_end b) signal walk c).state (stories.trace_goes_on c acts k) →
+      ShowsRest s.serials.made (taking.chaining storage s (with_end b) signal walk c).state (stories.trace_goes_on c acts k)
+  chains-shows storage s b k signal walk (came.Begins transfer) acts before n w e r h =
+      let t = (begun_with_room storage transfer).transfer in
+      interrupted-shows (taking.with_transfer s (with_end b) t) (record (with_end b) { transfer = t }) (stories.trace_goes_on (came.Begins transfer) acts k) t.pci_pending h
+  chains-shows storage s b k signal walk came.Suspends acts before n w e r h =
+      suspended-shows (taking.end_taken s signal) b.program walk (residual b.transfer.moving) (record k { now = with_acts k.now acts }) b.program.orb.suppress_suspended
+      (rest-stays k acts before (residual b.transfer.moving) w.1 e r)
+  chains-shows storage s b k signal walk (came.Stops check) acts before n w e r h =
+      fault-shows (taking.end_taken s signal) s.begun walk.tried check (residual b.transfer.moving) (record k { now = with_acts k.now acts })
+      (rest-stays k acts before (residual b.transfer.moving) w.1 e r)
+
+  goes-shows : (storage : Contents) (s : SubchannelState) (b : ActiveProgram) (k : ProgramTrace) (signal : EndSignal) (x y : Bool) → chains_command s.scsw b signal.status signal.more ≡ x →
+      s.waiting ≡ None → HasWork (Some b) k →
+      let after : SubchannelState =
+      (if x then (if y then taking.chain_with storage s (with_end b) signal (next_command storage (with_end b).transfer (has_status_modifier signal.status))
+      else taking.quietly (record (taking.end_taken s signal) { begun = Some (with_end b) }))
+      else taking.stops_at s b signal).state in
+      let now : ProgramTrace =
+      if x && y then stories.trace_goes_on (next_command storage b.transfer (has_status_modifier signal.status)).came (next_acts storage b.transfer (has_status_modifier signal.status)) k else k in
+      IsHeld after now → ShowsRest s.serials.made after now
+  goes-shows storage s b k signal true true c e w h =
+      let f : (_ : b.transfer.moving.ccw.chain_data ≡ false) × (is_some b.transfer.fault ≡ false) = chains-facts laws accesses s.scsw b signal.status signal.more c in
+      let modifier : Bool = has_status_modifier signal.status in
+      let next : Beginning = next_command storage b.transfer modifier in
+      chains-shows storage s b k signal next.walk next.came (next_acts storage b.transfer modifier) (End (ending laws accesses modifier) ∷ k.now.acts) (b.transfer.command + 1)
+      (next-went laws accesses k.earlier storage k.orb k.now b.transfer modifier w.0.tied f.0 f.1) refl (rest-of b k w) h
+  goes-shows storage s b k signal true false c e w h = unmade s.serials.made (record (taking.end_taken s signal) { begun = Some (with_end b) }) k refl
+  goes-shows storage s b k signal false y c e w h =
+      stops-shows s b k signal (end_shown s b signal.status signal.more) (is_last_end signal.status)
+      (counted (end_shown s b signal.status signal.more).count (residual b.transfer.moving) k
+      (end-count s b signal.status signal.more (is_last_end signal.status) s.waiting e) (rest-of b k w))
+
+  command-shows : (storage : Contents) (s : SubchannelState) (b : ActiveProgram) (k : ProgramTrace) (signal : EndSignal) (x : Bool) → s.waiting ≡ None → HasWork (Some b) k →
+      let after : SubchannelState = (if x then taking.command_ended storage s b signal else taking.ignoring s).state in
+      let now : ProgramTrace = if x then stories.chains storage s b signal.status signal.more k else k in
+      IsHeld after now → ShowsRest s.serials.made after now
+  command-shows storage s b k signal true e w h = goes-shows storage s b k signal (chains_command s.scsw b signal.status signal.more) (has_device_end signal.status) refl e w h
+  command-shows storage s b k signal false e w h = unmade s.serials.made s k refl
+
+  ended-shows : (storage : Contents) (s : SubchannelState) (b : Option ActiveProgram) (k : ProgramTrace) (signal : EndSignal) → s.waiting ≡ None → HasWork b k →
+      let after : SubchannelState = (taking.end_of storage s b signal).state in
+      let now : ProgramTrace = stories.trace_ends storage s b signal.command signal.status signal.more k in
+      IsHeld after now → ShowsRest s.serials.made after now
+  ended-shows storage s None k signal e w h = unmade s.serials.made s k refl
+  ended-shows storage s (Some b) k signal e w h = command-shows storage s b k signal (signal.command == b.transfer.command) e w h
+
+  pub end-shows : (storage : Contents) (s : SubchannelState) (k : ProgramTrace) (signal : EndSignal) (x : Bool) → s.waiting ≡ None → IsHeld s k →
+      let after : SubchannelState = (if x then taking.end_of storage s s.begun signal else taking.ignoring s).state in
+      let now : ProgramTrace = if x then stories.trace_ends storage s s.begun signal.command signal.status signal.more k else k in
+      IsHeld after now → ShowsRest s.serials.made after now
+  end-shows storage s k signal true e g h = ended-shows storage s s.begun k signal e g.work h
+  end-shows storage s k signal false e g h = unmade s.serials.made s k refl
