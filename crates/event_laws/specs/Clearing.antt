@@ -19,8 +19,8 @@ IsClearing s (event.Execute cpu (instruction.Hsch word)) (reply.Code (answer.Zer
 IsClearing s event.SystemReset r place sub = Unit {0}
 IsClearing s e r place sub = ⊥
 
--- nothing else moves what is cleared of a subchannel, and these clear all that was made before
+-- nothing else moves what is cleared of a subchannel, and each of these clears all that was made before
 abbrev pub ClearsByCause : State → Event → Reply → State → Type 0
 ClearsByCause s e r new = (place : ℕ) (sub after : Subchannel) → slice_get s.subs place ≡ Some sub → slice_get new.subs place ≡ Some after →
-    (after.state.serials.cleared ≡ sub.state.serials.cleared)
-    ⊎ ((after.state.serials.cleared ≡ sub.state.serials.made) × IsClearing s e r place sub)
+    ((after.state.serials.cleared ≡ sub.state.serials.cleared) ⊎ IsClearing s e r place sub)
+    × (IsClearing s e r place sub → after.state.serials.cleared ≡ sub.state.serials.made)
