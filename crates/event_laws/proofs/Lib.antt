@@ -1,1 +1,4 @@
 mod Answered
+mod Calm
+mod Signals
+mod Following
