@@ -2,3 +2,4 @@ mod Answered
 mod Calm
 mod Signals
 mod Following
+mod Reasons
