@@ -3,3 +3,4 @@ mod Calm
 mod Signals
 mod Following
 mod Reasons
+mod AllCleared
