@@ -1,5 +1,5 @@
 -- What clears status of a subchannel clears all that was made before.
-use Rattle.std.proofs.Common.{◌≡◌, refl, sym, ◌∙◌, ap, subst, ℕ, Bool, true, false, Option, None, Some, Result, Ok, Err, List, map}
+use Rattle.std.proofs.Common.{◌≡◌, refl, sym, ◌∙◌, ap, subst, ℕ, Bool, true, false, Option, None, Some, Result, Ok, Err}
 use Rattle.std.specs.Prelude.{slice_get, slice_set, if◌then◌else◌, IfOk}
 use Rattle.storage_keys.specs.declared.StorageFault.{StorageFault}
 use Rattle.storage_keys.specs.Storage.{operand_check}
@@ -18,8 +18,7 @@ use Rattle.subchannel_model.specs.Clear.{csch_code, cleared}
 use Rattle.subchannel_model.specs.Halt.{hsch_code, drops_status, status_dropped, halt_begun, halted}
 use Rattle.subchannel_model.specs.Places.{Found, found_at, place_in, place_of_id}
 use Rattle.subchannel_model.specs.Programs.{without_programs}
-use Rattle.subchannel_model.specs.SystemReset.{reset_by_system}
-use Rattle.subchannel_model.specs.Test.{tsch_code, ends_suspended, tested, tested_wholly}
+use Rattle.subchannel_model.specs.Test.{tsch_code, ends_suspended, tested}
 use Rattle.machine_model.specs.State.{State, place_of}
 use Rattle.machine_model.specs.declared.state.Sweep.TheVariants as sweep
 use Rattle.machine_model.specs.InstructionSteps.{code_at, function_sub, function_at, test_with, test_sub, tests, Executes_at, Executes_on, subchannel_word}
@@ -31,7 +30,7 @@ use Rattle.step_laws.proofs.Places.{get-set, map-get}
 use Rattle.event_laws.specs.Clearing.{IsClearing, ClearsByCause}
 use Rattle.step_laws.specs.Walks.{Walked}
 use Rattle.event_laws.proofs.Answered.{found-place}
-use Rattle.event_laws.proofs.Following.{step-follows}
+use Rattle.event_laws.proofs.Following.{same-sub, step-follows}
 
 -- TEST, and HALT where it drops the status
 wholly-cleared : (s : SubchannelState) (ends : Bool) → (if ends then without_programs (tested s) else tested s).serials.cleared ≡ s.serials.made
@@ -41,9 +40,6 @@ wholly-cleared s false = refl
 dropped-cleared : (s : SubchannelState) (drops : Bool) → drops ≡ true → (if drops then status_dropped (halt_begun s) else halt_begun s).serials.cleared ≡ s.serials.made
 dropped-cleared s true e = refl
 dropped-cleared s false e = absurd (cc e)
-
-same-sub : (x y : Subchannel) → Some x ≡ Some y → x ≡ y
-same-sub x y e = cc e
 
 same-place : (i k : ℕ) → Some i ≡ Some k → i ≡ k
 same-place i k e = cc e

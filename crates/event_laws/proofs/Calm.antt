@@ -1,5 +1,5 @@
 -- What clears no status of a subchannel, and neither resets its hold nor ends a reset.
-use Rattle.std.proofs.Common.{◌≡◌, refl, sym, ◌∙◌, ap, subst, ℕ, ◌+◌, Bool, true, false, Option, None, Some}
+use Rattle.std.proofs.Common.{◌≡◌, refl, sym, ◌∙◌, ℕ, ◌+◌, Bool, true, false, Option, None, Some}
 use Rattle.std.specs.Prelude.{if◌then◌else◌}
 use Rattle.chan_model.specs.declared.hold_state.HoldPhase.{HoldPhase}
 use Rattle.chan_model.specs.declared.hold_state.HoldPhase.TheVariants as hold
@@ -15,8 +15,7 @@ use Rattle.subchannel_model.specs.declared.cause.StatusCause.TheVariants as caus
 use Rattle.subchannel_model.specs.declared.state.ActiveProgram.{ActiveProgram}
 use Rattle.subchannel_model.specs.declared.state.Program.{Program}
 use Rattle.subchannel_model.specs.declared.state.SubchannelState.{SubchannelState}
-use Rattle.subchannel_model.specs.declared.status.Shown.{Shown}
-use Rattle.subchannel_model.specs.Causes.{without_begun, without_waiting, programs_after_end, CauseRow, row_of, with_status, with_row, with_cause}
+use Rattle.subchannel_model.specs.Causes.{without_begun, without_waiting, programs_after_end, CauseRow, row_of, with_row, with_cause}
 use Rattle.subchannel_model.specs.Losing.{reset_drawn, reset_with}
 use Rattle.subchannel_model.specs.Status.{serials_made}
 use Rattle.subchannel_model.specs.Taking.{let_go, without_pci, interrupted, with_pci_of, with_transfer, moving_on, suspended_alone, standing_still, suspending, halt_done, clear_done, with_attention}

@@ -1,10 +1,9 @@
 -- What each step does to what is cleared of a subchannel, and to the reset of its hold.
-use Rattle.std.proofs.Common.{◌≡◌, refl, sym, ◌∙◌, ap, subst, ℕ, zero, suc, ◌+◌, ◌==◌, ◌&&◌, nat_lt, Bool, true, false, Option, None, Some, Result, Ok, Err, List, [], ◌∷◌, map, inl, inr, length, arith}
+use Rattle.std.proofs.Common.{◌≡◌, refl, sym, ◌∙◌, ap, subst, ℕ, suc, ◌+◌, ◌==◌, ◌&&◌, nat_lt, Bool, true, false, Option, None, Some, Result, List, [], ◌∷◌, map, inl, inr, length, arith}
 use Rattle.std.specs.Prelude.{◌⊎◌, slice_get, slice_set, if◌then◌else◌, IfOk}
 use Rattle.std.proofs.lemmas.Bool.{eqb-true, ltb-true}
 use Rattle.schib_block.specs.declared.pmcw.Pmcw as block
 use Rattle.orb_block.specs.declared.Orb.{Orb}
-use Rattle.storage_keys.specs.Storage.{Contents}
 use Rattle.chan_model.specs.declared.answer.ConditionCode.{ConditionCode}
 use Rattle.chan_model.specs.declared.answer.ConditionCode.TheVariants as code
 use Rattle.chan_model.specs.declared.fault.Fault.{Fault}
@@ -35,15 +34,15 @@ use Rattle.subchannel_model.specs.declared.state.PmcwState.{PmcwState}
 use Rattle.subchannel_model.specs.declared.state.Subchannel.{Subchannel}
 use Rattle.subchannel_model.specs.declared.state.SubchannelState.{SubchannelState}
 use Rattle.subchannel_model.specs.declared.state.UpStep.{UpStep}
-use Rattle.subchannel_model.specs.Choosing.{IsFitFor, chosen, marked_sub, reset_sent, halt_sent, offered}
+use Rattle.subchannel_model.specs.Choosing.{IsFitFor, chosen, marked_sub, halt_sent}
 use Rattle.subchannel_model.specs.Halt.{drops_status, status_dropped, halt_begun}
-use Rattle.subchannel_model.specs.Losing.{has_any, is_offered_or_held, reset_for, reset_with, index_after, path_index, loses_at, loses, available_pmcw, shows_at}
+use Rattle.subchannel_model.specs.Losing.{has_any, is_offered_or_held, reset_for, index_after, path_index, loses_at, loses, available_pmcw, shows_at}
 use Rattle.subchannel_model.specs.Modify.{modified_state}
 use Rattle.subchannel_model.specs.Programs.{without_programs}
 use Rattle.subchannel_model.specs.Sending.{carried_by, finds_full}
 use Rattle.subchannel_model.specs.Start.{started}
-use Rattle.subchannel_model.specs.Taking.{ignoring, quietly, clear_done, reset_taken, with_known, takes_up}
-use Rattle.subchannel_model.specs.Test.{ends_suspended, tested, tested_wholly}
+use Rattle.subchannel_model.specs.Taking.{ignoring, quietly, reset_taken, with_known, takes_up}
+use Rattle.subchannel_model.specs.Test.{ends_suspended, tested}
 use Rattle.machine_model.specs.State.{State, place_of}
 use Rattle.machine_model.specs.declared.state.Sweep.{Sweep}
 use Rattle.machine_model.specs.declared.state.Sweep.TheVariants as sweep
@@ -52,7 +51,7 @@ use Rattle.machine_model.specs.ChooseSteps.{choose_sub}
 use Rattle.machine_model.specs.DownSteps.{down_front, down_sub}
 use Rattle.machine_model.specs.InstructionSteps.{test_with, function_sub}
 use Rattle.machine_model.specs.PathSteps.{swept}
-use Rattle.machine_model.specs.ReportSteps.{report_taken, report_sub}
+use Rattle.machine_model.specs.ReportSteps.{report_taken}
 use Rattle.machine_model.specs.Turns.{SubTurn, UpTurn, DownTurn}
 use Rattle.machine_model.specs.UpSteps.{up_front, up_sub}
 use Rattle.step_laws.specs.Walks as walked
@@ -60,7 +59,7 @@ use Rattle.step_laws.specs.Walks.{Walked, OneSub, OneUnit, Function, Resumes, Ha
 use Rattle.step_laws.proofs.Places.{set-get, map-get}
 use Rattle.event_laws.specs.Clearing.{IsClearing}
 use Rattle.event_laws.specs.Resets.{RestsOn, IsResetCause, IsCleared}
-use Rattle.event_laws.proofs.Calm.{IsAsReset, as-same, IsCalm, calm-same, calm-then, if-calm, cause-calm, clear_done-calm, reset-phase, reset-cleared, clear_done-phase}
+use Rattle.event_laws.proofs.Calm.{IsAsReset, as-same, IsCalm, calm-same, cause-calm, clear_done-calm, reset-phase, reset-cleared, clear_done-phase}
 use Rattle.event_laws.proofs.Signals.{takes-calm}
 
 -- a hold that is to be reset is so still and no other is, or is reset for a cause under a fresh number, or its reset ends
@@ -77,6 +76,9 @@ pub record Follows (s : State) (e : Event) (r : Reply) (place : ℕ) (sub : Subc
 if-ok : {A : Type 0} (P : A → Type 0) (b : Bool) (x y : Result A Fault) → IfOk x P → IfOk y P → IfOk (if b then x else y) P
 if-ok P true x y e f = e
 if-ok P false x y e f = f
+
+pub same-sub : (x y : Subchannel) → Some x ≡ Some y → x ≡ y
+same-sub x y e = cc e
 
 -- the index of a channel path of a subchannel
 index-there : (chpid x p : ℕ) (xs : List ℕ) (same : Bool) (o : Option ℕ) → (x == chpid) ≡ same → ((i : ℕ) → o ≡ Some i → slice_get xs i ≡ Some chpid) →
@@ -327,30 +329,27 @@ module _ (s : State) where
   Followed e r new =
       (place : ℕ) (sub after : Subchannel) → slice_get s.subs place ≡ Some sub → slice_get new.subs place ≡ Some after → Follows s e r place sub after.state
 
-  some-same : (x y : Subchannel) → Some x ≡ Some y → x ≡ y
-  some-same x y e = cc e
-
   same-followed : (e : Event) (r : Reply) (new : State) → new.subs ≡ s.subs → Followed e r new
   same-followed e r new same place sub after there left =
       same-follows e r place sub after.state
-      (ap (λ (x : Subchannel). x.state) (some-same after sub (sym left ∙ ap (λ (xs : List Subchannel). slice_get xs place) same ∙ there)))
+      (ap (λ (x : Subchannel). x.state) (same-sub after sub (sym left ∙ ap (λ (xs : List Subchannel). slice_get xs place) same ∙ there)))
 
   one-followed : (e : Event) (r : Reply) (new : State) (at : ℕ) (x y : Subchannel) → slice_get s.subs at ≡ Some x → new.subs ≡ slice_set s.subs at y →
       Follows s e r at x y.state → Followed e r new
   one-followed e r new at x y found set k place sub after there left =
       elim (set-get s.subs at y place after (sym (ap (λ (xs : List Subchannel). slice_get xs place) set) ∙ left)) [
         | inl p ↦
-          let same : x ≡ sub = some-same x sub (sym found ∙ ap (λ (i : ℕ). slice_get s.subs i) (sym p.0) ∙ there) in
+          let same : x ≡ sub = same-sub x sub (sym found ∙ ap (λ (i : ℕ). slice_get s.subs i) (sym p.0) ∙ there) in
           subst (λ (z : Subchannel). Follows s e r place sub z.state) (sym p.1)
           (subst (λ (z : Subchannel). Follows s e r place z y.state) same (subst (λ (i : ℕ). Follows s e r i x y.state) (sym p.0) k))
-        | inr p ↦ same-follows e r place sub after.state (ap (λ (z : Subchannel). z.state) (some-same after sub (sym p.1 ∙ there)))
+        | inr p ↦ same-follows e r place sub after.state (ap (λ (z : Subchannel). z.state) (same-sub after sub (sym p.1 ∙ there)))
       ]
 
   swept-followed : (e : Event) (r : Reply) (what : Sweep) (new : State) → new.subs ≡ map (swept what) s.subs → e ≡ sweep_event what → Followed e r new
   swept-followed e r what new set k place sub after there left =
       let got : (x : Subchannel) × (slice_get s.subs place ≡ Some x) × (swept what x ≡ after) =
       map-get (swept what) s.subs place after (sym (ap (λ (xs : List Subchannel). slice_get xs place) set) ∙ left) in
-      let same : got.0 ≡ sub = some-same got.0 sub (sym got.1 ∙ there) in
+      let same : got.0 ≡ sub = same-sub got.0 sub (sym got.1 ∙ there) in
       subst (λ (v : Event). Follows s v r place sub after.state) (sym k)
       (subst (λ (z : Subchannel). Follows s (sweep_event what) r place sub z.state) got.2
       (subst (λ (z : Subchannel). Follows s (sweep_event what) r place z (swept what got.0).state) same (swept-follows r what place got.0)))

@@ -1,7 +1,6 @@
 -- Why a hold is to be reset after a step, and how a reset ends.
 use Rattle.std.proofs.Common.{◌≡◌, sym, ◌∙◌, subst, ℕ, ◌+◌, inl, inr}
 use Rattle.std.specs.Prelude.{◌⊎◌}
-use Rattle.chan_model.specs.declared.hold_state.HoldPhase.{HoldPhase}
 use Rattle.chan_model.specs.declared.hold_state.HoldPhase.TheVariants as hold
 use Rattle.chan_events.specs.declared.event.Event.{Event}
 use Rattle.chan_events.specs.declared.reply.Reply.{Reply}

@@ -1,7 +1,6 @@
 -- Each signal that comes up but a Cleared and a Notice is calm.
-use Rattle.std.proofs.Common.{◌≡◌, refl, sym, ◌∙◌, ap, subst, ℕ, ◌+◌, ◌<◌, ◌==◌, ◌&&◌, nat_lt, not, Bool, true, false, Option, None, Some, inl, inr}
-use Rattle.std.specs.Prelude.{◌⊎◌, if◌then◌else◌}
-use Rattle.std.proofs.lemmas.Bool.{eqb-true, ltb-true}
+use Rattle.std.proofs.Common.{◌≡◌, refl, sym, ◌∙◌, ℕ, ◌==◌, ◌&&◌, nat_lt, not, Bool, true, false, Option, None, Some}
+use Rattle.std.specs.Prelude.{if◌then◌else◌}
 use Rattle.storage_keys.specs.Storage.{Contents}
 use Rattle.chan_model.specs.declared.hold_state.HoldPhase.{HoldPhase}
 use Rattle.chan_model.specs.declared.hold_state.HoldPhase.TheVariants as hold
@@ -10,7 +9,7 @@ use Rattle.chan_model.specs.declared.signal.Load.{Load}
 use Rattle.chan_model.specs.declared.signal.Up.{Up}
 use Rattle.chan_model.specs.declared.signal.Up.TheVariants as up
 use Rattle.chan_model.specs.Loads.{load_length}
-use Rattle.chan_model.specs.HoldTable.{HoldStep, hold_quietly, refusing, granting, program_begun, offer_accepted, found_busy, left, asked_back, released, reset_cleared, attended, hold_after, hold_takes, came_of, is_connected, is_on}
+use Rattle.chan_model.specs.HoldTable.{HoldStep, hold_quietly, refusing, granting, program_begun, offer_accepted, found_busy, left, asked_back, released, attended, hold_after, came_of, is_connected, is_on}
 use Rattle.chan_model.specs.UnitReports.{is_last_end, is_outward, has_device_end}
 use Rattle.channel_program.specs.Walks.{WalkPlace}
 use Rattle.data_move.specs.Moving.{residual}
@@ -27,9 +26,8 @@ use Rattle.subchannel_model.specs.declared.state.UpStep.{UpStep}
 use Rattle.subchannel_model.specs.declared.cause.StatusCause.TheVariants as cause
 use Rattle.subchannel_model.specs.Causes.{with_cause}
 use Rattle.subchannel_model.specs.Ends.{has_status_modifier, chains_command}
-use Rattle.subchannel_model.specs.Losing.{has_any, is_offered_or_held, reset_drawn, reset_with, reset_for}
-use Rattle.subchannel_model.specs.Taking.{Met, meets, ignoring, quietly, let_go, by_hold, interrupted, path_used, taking_over, suspending, standing, goes_ahead, beginning, begin_standing, halt_done, accept, moving_on, give_next, take_in, bytes_of_load, move_bytes, move_data, with_end, end_taken, chaining, chain_with, goes_on, end_shown_at, stops_at, command_ended, end_of, may_attend, with_attention, takes_up}
-use Rattle.event_laws.proofs.Calm.{IsAsReset, as-same, IsCalm, calm-same, calm-then, if-calm, cause-calm, interrupted-calm, moving-calm, suspending-calm, halt_done-calm, clear_done-calm, attention-calm, let_go-calm}
+use Rattle.subchannel_model.specs.Taking.{Met, meets, ignoring, quietly, let_go, by_hold, interrupted, path_used, taking_over, suspending, standing, goes_ahead, beginning, begin_standing, halt_done, accept, give_next, take_in, bytes_of_load, move_bytes, move_data, with_end, end_taken, chaining, chain_with, goes_on, end_shown_at, stops_at, command_ended, end_of, may_attend, with_attention, takes_up}
+use Rattle.event_laws.proofs.Calm.{IsAsReset, as-same, IsCalm, calm-same, calm-then, cause-calm, interrupted-calm, moving-calm, suspending-calm, halt_done-calm, attention-calm, let_go-calm}
 
 -- what the hold alone does with a signal
 abbrev LeavesAs : HoldState → HoldPhase → Option HoldStep → Type 0
