@@ -1,10 +1,8 @@
 -- Condition codes are the table's (SA22-7832, chapter 14).
-use Rattle.std.specs.Prelude.{◌≡◌, ℕ, Option, None, Some}
+use Rattle.std.specs.Prelude.{◌≡◌, Option, None, Some}
 use Rattle.zbits.specs.Bits.{field_of}
 use Rattle.channel_reports.specs.Queue as reports
 use Rattle.interruptions.specs.Requests as requests
-use Rattle.scsw_irb.specs.declared.code.IntCode.{IntCode}
-use Rattle.scsw_irb.specs.declared.crw.Crw.{Crw}
 use Rattle.scsw_irb.specs.declared.serials.Serials.{Serials}
 use Rattle.chan_model.specs.declared.answer.Answer.{Answer}
 use Rattle.chan_model.specs.declared.answer.ConditionCode.{ConditionCode}

@@ -1,0 +1,142 @@
+-- What clears no status of a subchannel, and neither resets its hold nor ends a reset.
+use Rattle.std.proofs.Common.{◌≡◌, refl, sym, ◌∙◌, ℕ, ◌+◌, Bool, true, false, Option, None, Some}
+use Rattle.std.specs.Prelude.{if◌then◌else◌}
+use Rattle.chan_model.specs.declared.hold_state.HoldPhase.{HoldPhase}
+use Rattle.chan_model.specs.declared.hold_state.HoldPhase.TheVariants as hold
+use Rattle.chan_model.specs.declared.hold_state.HoldState.{HoldState}
+use Rattle.chan_model.specs.HoldTable.{letting_go, hold_after}
+use Rattle.chan_model.specs.UnitReports.{is_last_end}
+use Rattle.channel_program.specs.Walks.{WalkPlace}
+use Rattle.data_move.specs.Moving.{residual}
+use Rattle.scsw_irb.specs.declared.serials.Serials.{Serials}
+use Rattle.transfer.specs.declared.Transfer.{Transfer}
+use Rattle.subchannel_model.specs.declared.cause.StatusCause.{StatusCause}
+use Rattle.subchannel_model.specs.declared.cause.StatusCause.TheVariants as cause
+use Rattle.subchannel_model.specs.declared.state.ActiveProgram.{ActiveProgram}
+use Rattle.subchannel_model.specs.declared.state.Program.{Program}
+use Rattle.subchannel_model.specs.declared.state.SubchannelState.{SubchannelState}
+use Rattle.subchannel_model.specs.Causes.{without_begun, without_waiting, programs_after_end, CauseRow, row_of, with_row, with_cause}
+use Rattle.subchannel_model.specs.Losing.{reset_drawn, reset_with}
+use Rattle.subchannel_model.specs.Status.{serials_made}
+use Rattle.subchannel_model.specs.Taking.{let_go, without_pci, interrupted, with_pci_of, with_transfer, moving_on, suspended_alone, standing_still, suspending, halt_done, clear_done, with_attention}
+
+-- one phase is a reset under a number exactly where the other is
+pub record IsAsReset (old new : HoldPhase) : Type 0 where
+  pub still : (n : ℕ) → old ≡ hold.Reset n → new ≡ hold.Reset n
+  pub was : (n : ℕ) → new ≡ hold.Reset n → old ≡ hold.Reset n
+
+pub as-same : (old new : HoldPhase) → new ≡ old → IsAsReset old new
+as-same old new e = record { still = λ n k. e ∙ k; was = λ n k. sym e ∙ k }
+
+pub record IsCalm (s x : SubchannelState) : Type 0 where
+  pub cleared : x.serials.cleared ≡ s.serials.cleared
+  pub reset : IsAsReset s.hold.phase x.hold.phase
+
+pub calm-same : (s x : SubchannelState) → x.serials.cleared ≡ s.serials.cleared → x.hold.phase ≡ s.hold.phase → IsCalm s x
+calm-same s x c h = record { cleared = c; reset = as-same s.hold.phase x.hold.phase h }
+
+pub calm-then : (s x y : SubchannelState) → IsCalm s x → IsCalm x y → IsCalm s y
+calm-then s x y a b =
+    record {
+      cleared = b.cleared ∙ a.cleared;
+      reset = record { still = λ n k. b.reset.still n (a.reset.still n k); was = λ n k. a.reset.was n (b.reset.was n k) };
+    }
+
+pub if-calm : (s : SubchannelState) (b : Bool) (x y : SubchannelState) → IsCalm s x → IsCalm s y → IsCalm s (if b then x else y)
+if-calm s true x y e f = e
+if-calm s false x y e f = f
+
+-- a status that is made
+made-cleared : (enabled : Bool) (serials : Serials) → (serials_made enabled serials).cleared ≡ serials.cleared
+made-cleared true serials = refl
+made-cleared false serials = refl
+
+row-calm : (s : SubchannelState) (row : CauseRow) → IsCalm s row.left → IsCalm s (with_row s row)
+row-calm s row k = record { cleared = made-cleared row.left.pmcw.enabled row.left.serials ∙ k.cleared; reset = k.reset }
+
+after_end-calm : (s : SubchannelState) (b : ActiveProgram) (last : Bool) → IsCalm s (programs_after_end s b last)
+after_end-calm s b true = calm-same s _ refl refl
+after_end-calm s b false = calm-same s _ refl refl
+
+without_begun-calm : (s : SubchannelState) (b : Option ActiveProgram) → IsCalm s (without_begun b s)
+without_begun-calm s None = calm-same s _ refl refl
+without_begun-calm s (Some b) = calm-same s _ refl refl
+
+without_waiting-calm : (s : SubchannelState) (w : Option Program) → IsCalm s (without_waiting w s)
+without_waiting-calm s None = calm-same s _ refl refl
+without_waiting-calm s (Some w) = calm-same s _ refl refl
+
+left-calm : (s : SubchannelState) (c : StatusCause) → IsCalm s (row_of s c).left
+left-calm s (cause.End b status more) = after_end-calm s b (is_last_end status)
+left-calm s (cause.FetchFault tried check count) = without_begun-calm s s.begun
+left-calm s cause.Attention = calm-same s _ refl refl
+left-calm s cause.NoPath = without_waiting-calm s s.waiting
+left-calm s cause.InterfaceControlCheck = calm-same s _ refl refl
+left-calm s (cause.Pci tried count) = calm-same s _ refl refl
+left-calm s (cause.Suspension tried count) = calm-same s _ refl refl
+left-calm s cause.ClearDone = calm-same s _ refl refl
+left-calm s cause.HaltDone = calm-same s _ refl refl
+
+pub cause-calm : (s : SubchannelState) (c : StatusCause) → IsCalm s (with_cause s c)
+cause-calm s c = row-calm s (row_of s c) (left-calm s c)
+
+-- an interruption by the program, and a program that goes on or is suspended
+pci-calm : (s : SubchannelState) (b : ActiveProgram) → IsCalm s (with_pci_of s b)
+pci-calm s b =
+    let x : SubchannelState = record s { begun = Some (without_pci b) } in
+    let c : StatusCause = cause.Pci b.transfer.walk.tried (residual b.transfer.moving) in
+    if-calm s b.transfer.pci_pending (with_cause x c) s (calm-then s x (with_cause x c) (calm-same s x refl refl) (cause-calm x c)) (calm-same s s refl refl)
+
+pub interrupted-calm : (s : SubchannelState) (b : Option ActiveProgram) → IsCalm s (interrupted s b)
+interrupted-calm s None = calm-same s s refl refl
+interrupted-calm s (Some b) = pci-calm s b
+
+pub moving-calm : (s : SubchannelState) (b : ActiveProgram) (t : Transfer) → IsCalm s (moving_on s b t)
+moving-calm s b t =
+    let x : SubchannelState = with_transfer s b t in calm-then s x (moving_on s b t) (calm-same s x refl refl) (interrupted-calm x x.begun)
+
+pub suspending-calm : (s : SubchannelState) (program : Program) (walk : WalkPlace) (count : ℕ) → IsCalm s (suspending s program walk count)
+suspending-calm s program walk count =
+    let x : SubchannelState = standing_still s program walk count in
+    let c : StatusCause = cause.Suspension walk.tried count in
+    if-calm s program.orb.suppress_suspended (record x { scsw = suspended_alone s.scsw }) (with_cause x c) (calm-same s _ refl refl)
+    (calm-then s x (with_cause x c) (calm-same s x refl refl) (cause-calm x c))
+
+-- a halt or a clear that is performed, and an attention
+pub halt_done-calm : (s : SubchannelState) → IsCalm s (halt_done s)
+halt_done-calm s = if-calm s s.scsw.activity.halt_pending (with_cause s cause.HaltDone) s (cause-calm s cause.HaltDone) (calm-same s s refl refl)
+
+pub clear_done-calm : (s : SubchannelState) → IsCalm s (clear_done s)
+clear_done-calm s = if-calm s s.scsw.activity.clear_pending (with_cause s cause.ClearDone) s (cause-calm s cause.ClearDone) (calm-same s s refl refl)
+
+pub attention-calm : (s : SubchannelState) (shows : Bool) → IsCalm s (with_attention s shows)
+attention-calm s shows = if-calm s shows (with_cause s cause.Attention) s (cause-calm s cause.Attention) (calm-same s s refl refl)
+
+-- the device is let go
+letting-as : (h : HoldState) (phase : HoldPhase) → h.phase ≡ phase → IsAsReset phase (hold_after h (letting_go h phase)).phase
+letting-as h hold.Free e = as-same hold.Free h.phase e
+letting-as h (hold.Offer t p) e = as-same (hold.Offer t p) h.phase e
+letting-as h (hold.On t p c) e = record { still = λ n k. absurd (cc k); was = λ n k. absurd (cc k) }
+letting-as h (hold.Away t) e = as-same (hold.Away t) h.phase e
+letting-as h (hold.Letting t p) e = as-same (hold.Letting t p) h.phase e
+letting-as h (hold.Reset r) e = as-same (hold.Reset r) h.phase e
+
+pub let_go-calm : (s x : SubchannelState) → IsCalm s x → IsCalm s (let_go x).state
+let_go-calm s x k = calm-then s x (let_go x).state k (record { cleared = refl; reset = letting-as x.hold x.hold.phase refl })
+
+-- the hold is to be reset under a fresh number: nothing is cleared
+pub reset-phase : (s : SubchannelState) (shows : Bool) → (reset_with s shows).hold.phase ≡ hold.Reset (s.drawn + 1)
+reset-phase s true = refl
+reset-phase s false = refl
+
+pub reset-cleared : (s : SubchannelState) (shows : Bool) → (reset_with s shows).serials.cleared ≡ s.serials.cleared
+reset-cleared s true = (cause-calm (reset_drawn s) cause.InterfaceControlCheck).cleared
+reset-cleared s false = refl
+
+-- the hold stays as a clear is performed
+clear-phase : (s : SubchannelState) (pending : Bool) → (if pending then with_cause s cause.ClearDone else s).hold.phase ≡ s.hold.phase
+clear-phase s true = refl
+clear-phase s false = refl
+
+pub clear_done-phase : (s : SubchannelState) → (clear_done s).hold.phase ≡ s.hold.phase
+clear_done-phase s = clear-phase s s.scsw.activity.clear_pending

@@ -1,0 +1,6 @@
+mod Answered
+mod Calm
+mod Signals
+mod Following
+mod Reasons
+mod AllCleared
