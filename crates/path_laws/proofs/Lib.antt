@@ -1,0 +1,2 @@
+mod PathSets
+mod Offering
