@@ -1,2 +1,7 @@
 mod PathSets
 mod Offering
+mod SameState
+mod Signals
+mod Told
+mod Calm
+mod Meeting
