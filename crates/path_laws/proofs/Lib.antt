@@ -5,3 +5,4 @@ mod Signals
 mod Told
 mod Calm
 mod Meeting
+mod Units
