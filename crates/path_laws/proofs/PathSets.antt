@@ -1,0 +1,41 @@
+-- Which paths are in the sets that a path is chosen from.
+use Rattle.std.proofs.Common.{◌≡◌, refl, ℕ, zero, suc, ◌<◌, Bool, true, false, not, ◌&&◌, Some, List, arith}
+use Rattle.std.proofs.lemmas.Bool.{and_parts, false_from_ne_true}
+use Rattle.std.proofs.lemmas.Option.{get_or_from_slice_get}
+use Rattle.allegiance.specs.PathUse.{is_member, each_path, in_both, without}
+use Rattle.path_select.specs.Choice.{IsUsable}
+
+pub each-true : (f : ℕ → Bool) (p : ℕ) → is_member (each_path f) p ≡ true → f p ≡ true
+each-true f zero e = e
+each-true f (suc zero) e = e
+each-true f (suc (suc zero)) e = e
+each-true f (suc (suc (suc zero))) e = e
+each-true f (suc (suc (suc (suc zero)))) e = e
+each-true f (suc (suc (suc (suc (suc zero))))) e = e
+each-true f (suc (suc (suc (suc (suc (suc zero)))))) e = e
+each-true f (suc (suc (suc (suc (suc (suc (suc zero))))))) e = e
+each-true f (suc (suc (suc (suc (suc (suc (suc (suc p)))))))) e = absurd (cc e)
+
+pub each-from : (f : ℕ → Bool) (p : ℕ) → p < 8 → f p ≡ true → is_member (each_path f) p ≡ true
+each-from f zero l e = e
+each-from f (suc zero) l e = e
+each-from f (suc (suc zero)) l e = e
+each-from f (suc (suc (suc zero))) l e = e
+each-from f (suc (suc (suc (suc zero)))) l e = e
+each-from f (suc (suc (suc (suc (suc zero))))) l e = e
+each-from f (suc (suc (suc (suc (suc (suc zero)))))) l e = e
+each-from f (suc (suc (suc (suc (suc (suc (suc zero))))))) l e = e
+each-from f (suc (suc (suc (suc (suc (suc (suc (suc p)))))))) l e = absurd (omega (arith, l))
+
+pub both-parts : (a b : List Bool) (p : ℕ) → is_member (in_both a b) p ≡ true → (is_member a p ≡ true) × (is_member b p ≡ true)
+both-parts a b p e = and_parts (is_member a p) (is_member b p) (each-true (λ q. is_member a q && is_member b q) p e)
+
+not-true : (b : Bool) → not b ≡ true → b ≡ false
+not-true true e = absurd (cc e)
+not-true false e = refl
+
+pub without-parts : (a b : List Bool) (p : ℕ) → is_member (without a b) p ≡ true → (is_member a p ≡ true) × (not (is_member b p) ≡ true)
+without-parts a b p e = and_parts (is_member a p) (not (is_member b p)) (each-true (λ q. is_member a q && not (is_member b q)) p e)
+
+pub usable-member : (set : List Bool) (p : ℕ) → IsUsable set p → is_member set p ≡ true
+usable-member set p u = get_or_from_slice_get set p true false u.1

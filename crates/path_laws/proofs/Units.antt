@@ -1,0 +1,222 @@
+-- What a unit sends: it accepts a program only as an answer to its Select, on the same path.
+use Rattle.std.proofs.Common.{◌≡◌, refl, ℕ, ◌+◌, ◌==◌, ◌&&◌, nat_le, nat_lt, Bool, true, false, not, Option, None, Some, List, length, if◌then◌else◌}
+use Rattle.chan_model.specs.declared.names.Side.{Side}
+use Rattle.chan_model.specs.declared.report.DeviceAnswer.{DeviceAnswer}
+use Rattle.chan_model.specs.declared.report.DeviceAnswer.TheVariants as answer
+use Rattle.chan_model.specs.declared.report.Report.{Report}
+use Rattle.chan_model.specs.declared.signal.Down.{Down}
+use Rattle.chan_model.specs.declared.signal.Down.TheVariants as down
+use Rattle.chan_model.specs.declared.signal.Load.{Load}
+use Rattle.chan_model.specs.declared.signal.OnPath.{OnPath}
+use Rattle.chan_model.specs.declared.signal.Up.{Up}
+use Rattle.chan_model.specs.declared.signal.Up.TheVariants as up
+use Rattle.chan_model.specs.declared.unit_state.AtHand.{AtHand}
+use Rattle.chan_model.specs.declared.unit_state.Attention.{Attention}
+use Rattle.chan_model.specs.declared.unit_state.Own.{Own}
+use Rattle.chan_model.specs.declared.unit_state.Own.TheVariants as own
+use Rattle.chan_model.specs.declared.unit_state.Place.{Place}
+use Rattle.chan_model.specs.declared.unit_state.Place.TheVariants as place
+use Rattle.chan_model.specs.declared.unit_state.Progress.{Progress}
+use Rattle.chan_model.specs.declared.unit_state.Progress.TheVariants as progress
+use Rattle.chan_model.specs.declared.unit_state.UnitState.{UnitState}
+use Rattle.chan_model.specs.Sides.{same_side}
+use Rattle.chan_model.specs.UnitReports.{is_outward, may_end, most_of, is_to_supply, command_begun, report_absorbed, report_supplied, sent_again, answer_taken, report_on, report_of, unit_reports}
+use Rattle.chan_model.specs.UnitTable.{UnitStep, came_of, side_of, raised, selected, is_owner, is_owner_on, given_next, answered_load, answered_last, granted_at, granted, grant_refused_at, grant_refused, resets, forgetting, telling, unit_works, unit_takes, leaving_from, leaving, asking_from, asking, is_idle, attending, noticing}
+use Rattle.chan_events.specs.declared.event.UnitAct.{UnitAct}
+use Rattle.chan_events.specs.declared.event.UnitAct.TheVariants as act
+use Rattle.machine_model.specs.ActSteps.{acts}
+
+-- the answer to a signal that came by p
+abbrev pub IsEcho : ℕ → Down → ℕ → Up → Type 0
+IsEcho p d q (up.Accept t) = (d ≡ down.Select t) × (q ≡ p)
+IsEcho p d q x = Unit {0}
+
+abbrev pub AreEchoes : ℕ → Down → Option (OnPath Up) → Type 0
+AreEchoes p d None = Unit {0}
+AreEchoes p d (Some s) = IsEcho p d s.path s.signal
+
+-- any other signal
+abbrev pub IsOther : Up → Type 0
+IsOther (up.Accept t) = ⊥
+IsOther x = Unit {0}
+
+abbrev pub AreOthers : Option (OnPath Up) → Type 0
+AreOthers None = Unit {0}
+AreOthers (Some s) = IsOther s.signal
+
+abbrev Sends : Option UnitStep → Type 0
+Sends step = AreOthers (came_of step).sent
+
+other-echo : (p : ℕ) (d : Down) (q : ℕ) (x : Up) → IsOther x → IsEcho p d q x
+other-echo p d q (up.Accept t) other = absurd other
+other-echo p d q (up.Busy t) other = tt
+other-echo p d q (up.Leave t c) other = tt
+other-echo p d q (up.Back t c) other = tt
+other-echo p d q (up.Data t c n s load) other = tt
+other-echo p d q (up.End t n status more) other = tt
+other-echo p d q (up.Released t) other = tt
+other-echo p d q (up.Cleared r) other = tt
+other-echo p d q (up.Notice b) other = tt
+other-echo p d q (up.Attn a status) other = tt
+
+others-echo : (p : ℕ) (d : Down) (one : Option (OnPath Up)) → AreOthers one → AreEchoes p d one
+others-echo p d None others = tt
+others-echo p d (Some s) others = other-echo p d s.path s.signal others
+
+if-sends : (b : Bool) (x y : Option UnitStep) → Sends x → Sends y → Sends (if b then x else y)
+if-sends true x y k l = k
+if-sends false x y k l = l
+
+if-echo : (p : ℕ) (d : Down) (b : Bool) (x y : Option UnitStep) → AreEchoes p d (came_of x).sent → AreEchoes p d (came_of y).sent →
+    AreEchoes p d (came_of (if b then x else y)).sent
+if-echo p d true x y k l = k
+if-echo p d false x y k l = l
+
+-- the signals from the subchannel
+selected-echo : (u : UnitState) (o : Own) (side : Side) (p t : ℕ) (may : Bool) → AreEchoes p (down.Select t) (came_of (selected u o side p t may)).sent
+selected-echo u own.Idle side p t true = (refl, refl)
+selected-echo u own.Idle side p t false = tt
+selected-echo u (own.Owned k v at) side p t may = tt
+
+granted_at-sends : (u : UnitState) (side : Side) (t : ℕ) (at : Place) (p c : ℕ) → Sends (granted_at u side t at p c)
+granted_at-sends u side t (place.Ask q d) p c = if-sends (c == d) _ _ tt (if-sends (nat_lt c d) _ None tt tt)
+granted_at-sends u side t (place.On q d) p c = if-sends (nat_lt c d) _ None tt tt
+granted_at-sends u side t (place.Away d) p c = if-sends (nat_lt c d) _ None tt tt
+
+granted-sends : (u : UnitState) (o : Own) (side : Side) (p t c : ℕ) → Sends (granted u o side p t c)
+granted-sends u own.Idle side p t c = tt
+granted-sends u (own.Owned k v at) side p t c = if-sends (same_side k side && (t == v)) (granted_at u k v at p c) None (granted_at-sends u k v at p c) tt
+
+refused_at-sends : (u : UnitState) (side : Side) (t : ℕ) (at : Place) (c : ℕ) → Sends (grant_refused_at u side t at c)
+refused_at-sends u side t (place.Ask q d) c = if-sends (c == d) _ None tt tt
+refused_at-sends u side t (place.On q d) c = tt
+refused_at-sends u side t (place.Away d) c = tt
+
+refused-sends : (u : UnitState) (o : Own) (side : Side) (t c : ℕ) → Sends (grant_refused u o side t c)
+refused-sends u own.Idle side t c = tt
+refused-sends u (own.Owned k v at) side t c = if-sends (same_side k side && (t == v)) (grant_refused_at u k v at c) None (refused_at-sends u k v at c) tt
+
+load-sends : (u : UnitState) (x : AtHand) (load : Option Load) (room : ℕ) → Sends (answered_load u x load room)
+load-sends u x None room = tt
+load-sends u x (Some load) room = tt
+
+last-sends : (u : UnitState) (x : Option AtHand) (s room : ℕ) → Sends (answered_last u x s room)
+last-sends u None s room = tt
+last-sends u (Some x) s room = if-sends (s == x.sequence) (answered_load u x x.unanswered room) None (load-sends u x x.unanswered room) tt
+
+next-sends : (u : UnitState) (x : Option AtHand) (s : ℕ) (bytes : List ℕ) → Sends (given_next u x s bytes)
+next-sends u None s bytes = tt
+next-sends u (Some x) s bytes = if-sends (s == x.sequence + 1) _ None tt tt
+
+forgetting-sends : (u : UnitState) (x : Option Attention) (side : Side) (a : ℕ) → Sends (forgetting u x side a)
+forgetting-sends u None side a = tt
+forgetting-sends u (Some x) side a = if-sends (same_side x.side side && (a == x.number)) _ None tt tt
+
+works-echo : (u : UnitState) (side : Side) (p : ℕ) (d : Down) (may : Bool) → AreEchoes p d (came_of (unit_works u side p d may)).sent
+works-echo u side p (down.Select t) may =
+    if-echo p (down.Select t) (nat_lt (side_of u side).floor t) (selected (raised u side t) u.own side p t may) None
+    (selected-echo (raised u side t) u.own side p t may) tt
+works-echo u side p (down.Command t n code room) may =
+    others-echo p (down.Command t n code room) _ (if-sends (is_owner u.own side t && (n == u.last_command + 1)) _ None tt tt)
+works-echo u side p (down.Grant t c) may = others-echo p (down.Grant t c) _ (granted-sends u u.own side p t c)
+works-echo u side p (down.Refuse t c) may = others-echo p (down.Refuse t c) _ (refused-sends u u.own side t c)
+works-echo u side p (down.Took t n s room) may =
+    others-echo p (down.Took t n s room) _
+    (if-sends (is_owner u.own side t && (n == u.last_command)) (answered_last u u.at_hand s room) None (last-sends u u.at_hand s room) tt)
+works-echo u side p (down.Give t c n s bytes) may =
+    others-echo p (down.Give t c n s bytes) _
+    (if-sends (is_owner_on u.own side t c && (n == u.last_command)) (given_next u u.at_hand s bytes) None (next-sends u u.at_hand s bytes) tt)
+works-echo u side p (down.Halt t) may = others-echo p (down.Halt t) _ (if-sends (is_owner u.own side t && not u.halted) _ None tt tt)
+works-echo u side p (down.Release t) may = others-echo p (down.Release t) _ (if-sends (is_owner u.own side t) _ None tt tt)
+works-echo u side p (down.Reset r b) may = tt
+works-echo u side p (down.Got a) may = others-echo p (down.Got a) _ (forgetting-sends u u.attention side a)
+
+fresh-echo : (u : UnitState) (side : Side) (p : ℕ) (d : Down) (may : Bool) →
+    AreEchoes p d (came_of (if (side_of u side).fresh then telling u p else unit_works u side p d may)).sent
+fresh-echo u side p d may = if-echo p d (side_of u side).fresh (telling u p) (unit_works u side p d may) tt (works-echo u side p d may)
+
+pub takes-echo : (u : UnitState) (side : Side) (p : ℕ) (d : Down) (may : Bool) → AreEchoes p d (came_of (unit_takes u side p d may)).sent
+takes-echo u side p (down.Select t) may = fresh-echo u side p (down.Select t) may
+takes-echo u side p (down.Command t n code room) may = fresh-echo u side p (down.Command t n code room) may
+takes-echo u side p (down.Grant t c) may = fresh-echo u side p (down.Grant t c) may
+takes-echo u side p (down.Refuse t c) may = fresh-echo u side p (down.Refuse t c) may
+takes-echo u side p (down.Took t n s room) may = fresh-echo u side p (down.Took t n s room) may
+takes-echo u side p (down.Give t c n s bytes) may = fresh-echo u side p (down.Give t c n s bytes) may
+takes-echo u side p (down.Halt t) may = fresh-echo u side p (down.Halt t) may
+takes-echo u side p (down.Release t) may = fresh-echo u side p (down.Release t) may
+takes-echo u side p (down.Reset r b) may =
+    others-echo p (down.Reset r b) _
+    (if-sends (resets u side r b) _ (if (side_of u side).fresh then telling u p else None) tt (if-sends (side_of u side).fresh (telling u p) None tt tt))
+takes-echo u side p (down.Got a) may = fresh-echo u side p (down.Got a) may
+
+-- its reports
+begun-sends : (u : UnitState) (p t c : ℕ) (x : AtHand) → Sends (command_begun u p t c x)
+begun-sends u p t c x = if-sends (is_outward x.code) _ _ tt tt
+
+absorbed-sends : (u : UnitState) (p t c : ℕ) (x : AtHand) (given : Option (List ℕ)) (count : ℕ) → Sends (report_absorbed u p t c x given count)
+absorbed-sends u p t c x None count = tt
+absorbed-sends u p t c x (Some bytes) count = if-sends (nat_le count (length bytes)) _ None tt tt
+
+again-sends : (u : UnitState) (p t c : ℕ) (x : AtHand) (load : Option Load) → Sends (sent_again u p t c x load)
+again-sends u p t c x None = tt
+again-sends u p t c x (Some load) = if-sends x.again _ None tt tt
+
+answer-sends : (u : UnitState) (p t c : ℕ) (x : AtHand) (at : Progress) (a : DeviceAnswer) → Sends (answer_taken u p t c x at a)
+answer-sends u p t c x at (answer.Ended status more) = if-sends (may_end u.halted x at status more) _ None tt tt
+answer-sends u p t c x progress.New answer.Begins = begun-sends u p t c x
+answer-sends u p t c x progress.New (answer.Absorbed count) = tt
+answer-sends u p t c x progress.New (answer.Supplied bytes) = tt
+answer-sends u p t c x progress.New answer.Again = tt
+answer-sends u p t c x progress.Working answer.Begins = tt
+answer-sends u p t c x progress.Working (answer.Absorbed count) = absorbed-sends u p t c x x.given count
+answer-sends u p t c x progress.Working (answer.Supplied bytes) = if-sends (is_to_supply x && nat_le (length bytes) (most_of x)) _ None tt tt
+answer-sends u p t c x progress.Working answer.Again = again-sends u p t c x x.unanswered
+answer-sends u p t c x progress.ChannelEnded answer.Begins = tt
+answer-sends u p t c x progress.ChannelEnded (answer.Absorbed count) = tt
+answer-sends u p t c x progress.ChannelEnded (answer.Supplied bytes) = tt
+answer-sends u p t c x progress.ChannelEnded answer.Again = tt
+answer-sends u p t c x progress.Ended answer.Begins = tt
+answer-sends u p t c x progress.Ended (answer.Absorbed count) = tt
+answer-sends u p t c x progress.Ended (answer.Supplied bytes) = tt
+answer-sends u p t c x progress.Ended answer.Again = tt
+
+report_on-sends : (u : UnitState) (t : ℕ) (at : Place) (x : Option AtHand) (r : Report) → Sends (report_on u t at x r)
+report_on-sends u t (place.On p c) None r = tt
+report_on-sends u t (place.On p c) (Some x) r =
+    if-sends (r.sequence == x.sequence) (answer_taken u p t c x x.progress r.answer) None (answer-sends u p t c x x.progress r.answer) tt
+report_on-sends u t (place.Ask p c) x r = tt
+report_on-sends u t (place.Away c) x r = tt
+
+report_of-sends : (u : UnitState) (o : Own) (r : Report) → Sends (report_of u o r)
+report_of-sends u own.Idle r = tt
+report_of-sends u (own.Owned k t at) r =
+    if-sends (same_side k r.side && ((r.number == t) && (r.command == u.last_command))) (report_on u t at u.at_hand r) None
+    (report_on-sends u t at u.at_hand r) tt
+
+pub reports-send : (u : UnitState) (r : Report) → AreOthers (came_of (unit_reports u r)).sent
+reports-send u r = report_of-sends u u.own r
+
+-- its acts
+leaving_from-sends : (u : UnitState) (side : Side) (t : ℕ) (at : Place) → Sends (leaving_from u side t at)
+leaving_from-sends u side t (place.On p c) = tt
+leaving_from-sends u side t (place.Ask p c) = tt
+leaving_from-sends u side t (place.Away c) = tt
+
+leaving-sends : (u : UnitState) (o : Own) → Sends (leaving u o)
+leaving-sends u own.Idle = tt
+leaving-sends u (own.Owned k t at) = leaving_from-sends u k t at
+
+asking_from-sends : (u : UnitState) (side : Side) (t : ℕ) (at : Place) (p : ℕ) → Sends (asking_from u side t at p)
+asking_from-sends u side t (place.On q c) p = tt
+asking_from-sends u side t (place.Ask q c) p = tt
+asking_from-sends u side t (place.Away c) p = tt
+
+asking-sends : (u : UnitState) (o : Own) (p : ℕ) → Sends (asking u o p)
+asking-sends u own.Idle p = tt
+asking-sends u (own.Owned k t at) p = asking_from-sends u k t at p
+
+pub acts-send : (u : UnitState) (side : Side) (what : UnitAct) → AreOthers (came_of (acts u side what)).sent
+acts-send u side act.Leave = leaving-sends u u.own
+acts-send u side (act.Ask p) = asking-sends u u.own p
+acts-send u side (act.Attention p named) = if-sends (is_idle u.own && not (side_of u side).fresh) _ None tt tt
+acts-send u side (act.Notice p named) = if-sends (side_of u side).fresh (telling u p) None tt tt
