@@ -37,7 +37,8 @@ wholly-cleared : (s : SubchannelState) (ends : Bool) → (if ends then without_p
 wholly-cleared s true = refl
 wholly-cleared s false = refl
 
-dropped-cleared : (s : SubchannelState) (drops : Bool) → drops ≡ true → (if drops then status_dropped (halt_begun s) else halt_begun s).serials.cleared ≡ s.serials.made
+dropped-cleared : (s : SubchannelState) (drops : Bool) → drops ≡ true →
+    (if drops then status_dropped (halt_begun s) else halt_begun s).serials.cleared ≡ s.serials.made
 dropped-cleared s true e = refl
 dropped-cleared s false e = absurd (cc e)
 
@@ -54,8 +55,10 @@ module _ (s : State) where
   OkCleared e o = IfOk o (λ t. IsAllCleared e t.reply t.state)
 
   -- the subchannel that the instruction names was found and changed, where it was so
-  one-cleared : (If : Subchannel → Type 0) (p : Option ℕ) (f : Found) (y : Subchannel) (place : ℕ) (sub after : Subchannel) → found_at s.subs p ≡ Some f →
-      (If f.sub → y.state.serials.cleared ≡ f.sub.state.serials.made) → slice_get s.subs place ≡ Some sub → slice_get (slice_set s.subs f.place y) place ≡ Some after →
+  one-cleared : (If : Subchannel → Type 0) (p : Option ℕ) (f : Found) (y : Subchannel) (place : ℕ) (sub after : Subchannel) →
+      found_at s.subs p ≡ Some f →
+      (If f.sub → y.state.serials.cleared ≡ f.sub.state.serials.made) → slice_get s.subs place ≡ Some sub →
+      slice_get (slice_set s.subs f.place y) place ≡ Some after →
       p ≡ Some place → If sub → after.state.serials.cleared ≡ sub.state.serials.made
   one-cleared If p f y place sub after found clears there left at k =
       let was : (p ≡ Some f.place) × (slice_get s.subs f.place ≡ Some f.sub) = found-place s.subs p f found in
@@ -85,7 +88,8 @@ module _ (s : State) where
   clear-cleared : (cpu word : ℕ) (f : Found) (c : ConditionCode) → found_at s.subs (place_of s word) ≡ Some f →
       OkCleared (event.Execute cpu (instruction.Csch word)) (at_place s f.place (function_sub f.sub c (cleared f.sub.state)))
   clear-cleared cpu word f code.Zero found place sub after there left k =
-      one-cleared (λ x. Unit {0}) (place_of s word) f (function_sub f.sub code.Zero (cleared f.sub.state)).sub place sub after found (λ u. refl) there left k tt
+      one-cleared (λ x. Unit {0}) (place_of s word) f (function_sub f.sub code.Zero (cleared f.sub.state)).sub place sub after found
+      (λ u. refl) there left k tt
   clear-cleared cpu word f code.One found place sub after there left k = absurd k
   clear-cleared cpu word f code.Two found place sub after there left k = absurd k
   clear-cleared cpu word f code.Three found place sub after there left k = absurd k
@@ -98,7 +102,8 @@ module _ (s : State) where
   halt-cleared : (cpu word : ℕ) (f : Found) (c : ConditionCode) → found_at s.subs (place_of s word) ≡ Some f →
       OkCleared (event.Execute cpu (instruction.Hsch word)) (at_place s f.place (function_sub f.sub c (halted f.sub.state)))
   halt-cleared cpu word f code.Zero found place sub after there left k =
-      one-cleared (λ x. drops_status x.state.scsw ≡ true) (place_of s word) f (function_sub f.sub code.Zero (halted f.sub.state)).sub place sub after found
+      one-cleared (λ x. drops_status x.state.scsw ≡ true) (place_of s word) f
+      (function_sub f.sub code.Zero (halted f.sub.state)).sub place sub after found
       (λ e. dropped-cleared f.sub.state (drops_status f.sub.state.scsw) e) there left k.0 k.1
   halt-cleared cpu word f code.One found place sub after there left k = absurd k
   halt-cleared cpu word f code.Two found place sub after there left k = absurd k
@@ -126,10 +131,12 @@ module _ (s : State) where
       let q : Option Found = found_at s.subs (place_in id s.subs) in
       subst (OkCleared (event.Execute cpu i)) (sym (so q o w)) (k q (ap (λ (x : Option SubchannelId). found_at s.subs (place_of_id s.subs x)) n))
 
-  instruction-cleared : (cpu : ℕ) (i : Instruction) (r : Reply) (new : State) → Step s (event.Execute cpu i) r new → IsAllCleared (event.Execute cpu i) r new
+  instruction-cleared : (cpu : ℕ) (i : Instruction) (r : Reply) (new : State) → Step s (event.Execute cpu i) r new →
+      IsAllCleared (event.Execute cpu i) r new
   instruction-cleared cpu (instruction.Tsch word address) r new (o, w, m) =
       settled-cleared (event.Execute cpu (instruction.Tsch word address)) r new o
-      (executed-cleared cpu (instruction.Tsch word address) (λ q. tests s cpu address q (operand_check s.storage cpu address 64 4)) (subchannel_named s.sets word) o
+      (executed-cleared cpu (instruction.Tsch word address)
+      (λ q. tests s cpu address q (operand_check s.storage cpu address 64 4)) (subchannel_named s.sets word) o
       (λ q o e. e) (λ q found. tests-cleared cpu word address q (operand_check s.storage cpu address 64 4) found) refl w) m
   instruction-cleared cpu (instruction.Csch word) r new (o, w, m) =
       settled-cleared (event.Execute cpu (instruction.Csch word)) r new o
@@ -148,7 +155,8 @@ module _ (s : State) where
 
   system-cleared : OkCleared event.SystemReset (system_reset_at s)
   system-cleared place sub after there left k =
-      let got : (x : Subchannel) × (slice_get s.subs place ≡ Some x) × (swept sweep.SystemReset x ≡ after) = map-get (swept sweep.SystemReset) s.subs place after left in
+      let got : (x : Subchannel) × (slice_get s.subs place ≡ Some x) × (swept sweep.SystemReset x ≡ after) =
+      map-get (swept sweep.SystemReset) s.subs place after left in
       ap (λ (x : Subchannel). x.state.serials.cleared) (sym got.2)
       ∙ ap (λ (x : Subchannel). x.state.serials.made) (same-sub got.0 sub (sym got.1 ∙ there))
 

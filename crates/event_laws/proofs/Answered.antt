@@ -61,21 +61,24 @@ with-place place None f e = absurd (cc e)
 with-place place (Some sub) f e =
     let same : record { place = place; sub = sub } ≡ f = cc e in (ap (λ (x : Found). Some x.place) same, ap (λ (x : Found). Some x.sub) same)
 
-pub found-place : (subs : List Subchannel) (p : Option ℕ) (f : Found) → found_at subs p ≡ Some f → (p ≡ Some f.place) × (slice_get subs f.place ≡ Some f.sub)
+pub found-place : (subs : List Subchannel) (p : Option ℕ) (f : Found) → found_at subs p ≡ Some f →
+    (p ≡ Some f.place) × (slice_get subs f.place ≡ Some f.sub)
 found-place subs None f e = absurd (cc e)
 found-place subs (Some place) f e =
     let there : (Some place ≡ Some f.place) × (slice_get subs place ≡ Some f.sub) = with-place place (slice_get subs place) f e in
     (there.0, subst (λ (p : Option ℕ). sub_at subs p ≡ Some f.sub) there.0 there.1)
 
 -- the places of subchannels stay where one of them is changed
-place-stays : (id : SubchannelId) (subs : List Subchannel) (place : ℕ) (sub new : Subchannel) → slice_get subs place ≡ Some sub → new.setup ≡ sub.setup →
+place-stays : (id : SubchannelId) (subs : List Subchannel) (place : ℕ) (sub new : Subchannel) → slice_get subs place ≡ Some sub →
+    new.setup ≡ sub.setup →
     place_in id (slice_set subs place new) ≡ place_in id subs
 place-stays id [] place sub new e s = absurd (cc e)
 place-stays id (x ∷ xs) zero sub new e s =
     let same : x ≡ sub = cc e in
     ap (λ (setup : SubchannelSetup). if (setup.id.set == id.set) && (setup.id.number == id.number) then Some 0 else one_later (place_in id xs))
     (s ∙ ap (λ (y : Subchannel). y.setup) (sym same))
-place-stays id (x ∷ xs) (suc place) sub new e s = ap (λ (p : Option ℕ). if is_named id x then Some 0 else one_later p) (place-stays id xs place sub new e s)
+place-stays id (x ∷ xs) (suc place) sub new e s =
+    ap (λ (p : Option ℕ). if is_named id x then Some 0 else one_later p) (place-stays id xs place sub new e s)
 
 -- the code of an instruction for what it found, with the serials of what it left
 abbrev IsAnsweredBy : Instruction → Option Subchannel → Reply → Option Subchannel → Type 0
@@ -91,10 +94,15 @@ module _ (s : State) where
   IsAnsweredOn i id r new =
       (new.sets ≡ s.sets) × IsAnsweredBy i (sub_at s.subs (place_in id s.subs)) r (sub_at new.subs (place_in id new.subs))
 
+  -- the same by what is named before and after
+  abbrev IsAnsweredAs : Instruction → Option SubchannelId → Reply → Option SubchannelId → State → Type 0
+  IsAnsweredAs i was r is new = IsAnsweredBy i (sub_at s.subs (place_of_id s.subs was)) r (sub_at new.subs (place_of_id new.subs is))
+
   abbrev OkOn : Instruction → SubchannelId → Outcome → Type 0
   OkOn i id o = IfOk o (λ t. IsAnsweredOn i id t.reply t.state)
 
-  same-answers : (i : Instruction) (id : SubchannelId) (q : Option Found) (r : Reply) (storage : Contents) → found_at s.subs (place_in id s.subs) ≡ q →
+  same-answers : (i : Instruction) (id : SubchannelId) (q : Option Found) (r : Reply) (storage : Contents) →
+      found_at s.subs (place_in id s.subs) ≡ q →
       IsAnsweredBy i (sub_in q) r (sub_in q) → IsAnsweredOn i id r (record s { storage = storage })
   same-answers i id q r storage e k =
       (refl, subst (λ (o : Option Subchannel). IsAnsweredBy i o r o) (sym (found-sub s.subs (place_in id s.subs) ∙ ap sub_in e)) k)
@@ -105,56 +113,64 @@ module _ (s : State) where
   one-answers i id f r after storage e same k =
       let there : (place_in id s.subs ≡ Some f.place) × (slice_get s.subs f.place ≡ Some f.sub) = found-place s.subs (place_in id s.subs) f e in
       let before : sub_at s.subs (place_in id s.subs) ≡ Some f.sub = ap (sub_at s.subs) there.0 ∙ there.1 in
-      let left : sub_at (slice_set s.subs f.place after) (place_in id (slice_set s.subs f.place after)) ≡ Some after =
-      ap (sub_at (slice_set s.subs f.place after)) (place-stays id s.subs f.place f.sub after there.1 same ∙ there.0)
+      let subs : List Subchannel = slice_set s.subs f.place after in
+      let left : sub_at subs (place_in id subs) ≡ Some after =
+      ap (sub_at subs) (place-stays id s.subs f.place f.sub after there.1 same ∙ there.0)
       ∙ get-set s.subs f.place f.sub after there.1 in
       (
         refl,
-        subst (λ (o : Option Subchannel). IsAnsweredBy i o r (sub_at (slice_set s.subs f.place after) (place_in id (slice_set s.subs f.place after)))) (sym before)
+        subst (λ (o : Option Subchannel). IsAnsweredBy i o r (sub_at subs (place_in id subs))) (sym before)
         (subst (λ (o : Option Subchannel). IsAnsweredBy i (Some f.sub) r o) (sym left) k),
       )
 
-  -- an instruction whose reply is the code
-  codes-answer : (code : Condition → ConditionCode) (i : Instruction) (c : Condition) (sub : Option Subchannel) →
-      ((c : Condition) → code_by i c ≡ code c) → Some (answer_of_code (code c) (serials_of sub)) ≡ Some (answer_of_code (code_by i c) (serials_of sub))
-  codes-answer code i c sub same = ap (λ (x : ConditionCode). Some (answer_of_code x (serials_of sub))) (sym (same c))
+  -- the column of the instruction is this one
+  column-answers : (code : Condition → ConditionCode) (i : Instruction) (c : Condition) (sub : Option Subchannel) →
+      ((c : Condition) → code_by i c ≡ code c) →
+      Some (answer_of_code (code c) (serials_of sub)) ≡ Some (answer_of_code (code_by i c) (serials_of sub))
+  column-answers code i c sub same = ap (λ (x : ConditionCode). Some (answer_of_code x (serials_of sub))) (sym (same c))
 
-  function-answers : (i : Instruction) (id : SubchannelId) (q : Option Found) (storage : Contents) (code : Condition → ConditionCode) (effect : Subchannel → SubchannelState) →
-      found_at s.subs (place_in id s.subs) ≡ q → ((c : Condition) → code_by i c ≡ code c) → OkOn i id (function_at (record s { storage = storage }) q code effect)
+  function-answers : (i : Instruction) (id : SubchannelId) (q : Option Found) (storage : Contents) (code : Condition → ConditionCode)
+      (effect : Subchannel → SubchannelState) →
+      found_at s.subs (place_in id s.subs) ≡ q → ((c : Condition) → code_by i c ≡ code c) →
+      OkOn i id (function_at (record s { storage = storage }) q code effect)
   function-answers i id None storage code effect e same =
-      same-answers i id None (absent_reply code) storage e (codes-answer code i (condition_of None) None same)
+      same-answers i id None (absent_reply code) storage e (column-answers code i (condition_of None) None same)
   function-answers i id (Some f) storage code effect e same =
       let t : SubTurn = function_sub f.sub (code_at code f.sub) (effect f.sub) in
-      one-answers i id f t.reply t.sub storage e refl (codes-answer code i (condition_of (Some f.sub.state)) (Some t.sub) same)
+      one-answers i id f t.reply t.sub storage e refl (column-answers code i (condition_of (Some f.sub.state)) (Some t.sub) same)
 
-  code-answers : (code : ConditionCode) (i : Instruction) (sub after : Subchannel) → code_by i (condition_of (Some sub.state)) ≡ code →
+  -- the code that the column gives is this one
+  known-answers : (code : ConditionCode) (i : Instruction) (sub after : Subchannel) → code_by i (condition_of (Some sub.state)) ≡ code →
       Some (answer_of_code code after.state.serials) ≡ Some (answer_of_code (code_by i (condition_of (Some sub.state))) after.state.serials)
-  code-answers code i sub after k = ap (λ (x : ConditionCode). Some (answer_of_code x after.state.serials)) (sym k)
+  known-answers code i sub after k = ap (λ (x : ConditionCode). Some (answer_of_code x after.state.serials)) (sym k)
 
   -- TEST
-  test-answers : (i : Instruction) (id : SubchannelId) (cpu address : ℕ) (f : Found) (c : ConditionCode) → found_at s.subs (place_in id s.subs) ≡ Some f →
+  test-answers : (i : Instruction) (id : SubchannelId) (cpu address : ℕ) (f : Found) (c : ConditionCode) →
+      found_at s.subs (place_in id s.subs) ≡ Some f →
       code_by i (condition_of (Some f.sub.state)) ≡ c → OkOn i id (test_sub s cpu address f c)
   test-answers i id cpu address f code.Zero e k =
       one-answers i id f (test_with f.sub code.Zero).reply (test_with f.sub code.Zero).sub (with_irb s cpu address f.sub true).storage e refl
-      (code-answers code.Zero i f.sub (test_with f.sub code.Zero).sub k)
+      (known-answers code.Zero i f.sub (test_with f.sub code.Zero).sub k)
   test-answers i id cpu address f code.One e k =
       one-answers i id f (test_with f.sub code.One).reply (test_with f.sub code.One).sub (with_irb s cpu address f.sub true).storage e refl
-      (code-answers code.One i f.sub (test_with f.sub code.One).sub k)
+      (known-answers code.One i f.sub (test_with f.sub code.One).sub k)
   test-answers i id cpu address f code.Two e k =
       one-answers i id f (test_with f.sub code.Two).reply (test_with f.sub code.Two).sub (with_irb s cpu address f.sub false).storage e refl
-      (code-answers code.Two i f.sub (test_with f.sub code.Two).sub k)
+      (known-answers code.Two i f.sub (test_with f.sub code.Two).sub k)
   test-answers i id cpu address f code.Three e k =
       one-answers i id f (test_with f.sub code.Three).reply (test_with f.sub code.Three).sub (with_irb s cpu address f.sub false).storage e refl
-      (code-answers code.Three i f.sub (test_with f.sub code.Three).sub k)
+      (known-answers code.Three i f.sub (test_with f.sub code.Three).sub k)
 
-  tests-answer : (cpu word address : ℕ) (id : SubchannelId) (q : Option Found) (r : Result (Unit {0}) StorageFault) → found_at s.subs (place_in id s.subs) ≡ q →
+  tests-answer : (cpu word address : ℕ) (id : SubchannelId) (q : Option Found) (r : Result (Unit {0}) StorageFault) →
+      found_at s.subs (place_in id s.subs) ≡ q →
       OkOn (instruction.Tsch word address) id (tests s cpu address q r)
   tests-answer cpu word address id q (Err f) e = tt
   tests-answer cpu word address id None (Ok u) e = same-answers (instruction.Tsch word address) id None (absent_reply tsch_code) s.storage e refl
   tests-answer cpu word address id (Some f) (Ok u) e = test-answers (instruction.Tsch word address) id cpu address f (code_at tsch_code f.sub) e refl
 
   -- STORE
-  stores-answer : (cpu word address : ℕ) (id : SubchannelId) (q : Option Found) (r : Result (Unit {0}) StorageFault) → found_at s.subs (place_in id s.subs) ≡ q →
+  stores-answer : (cpu word address : ℕ) (id : SubchannelId) (q : Option Found) (r : Result (Unit {0}) StorageFault) →
+      found_at s.subs (place_in id s.subs) ≡ q →
       OkOn (instruction.Stsch word address) id (stores s cpu address q r)
   stores-answer cpu word address id q (Err f) e = tt
   stores-answer cpu word address id None (Ok u) e = same-answers (instruction.Stsch word address) id None (absent_reply stsch_code) s.storage e refl
@@ -175,27 +191,33 @@ module _ (s : State) where
 
   -- MODIFY
   modified-answers : (i : Instruction) (id : SubchannelId) (storage : Contents) (q : Option Found) (image : List ℕ) (o : Outcome) →
-      found_at s.subs (place_in id s.subs) ≡ q → ((c : Condition) → code_by i c ≡ msch_code c) → Modifies_by (record s { storage = storage }) q image o → OkOn i id o
+      found_at s.subs (place_in id s.subs) ≡ q → ((c : Condition) → code_by i c ≡ msch_code c) →
+      Modifies_by (record s { storage = storage }) q image o → OkOn i id o
   modified-answers i id storage q image o e same w =
       elim w.2 [
         | inl x ↦ subst (OkOn i id) (sym x.1) tt
         | inr x ↦ subst (OkOn i id) (sym x.1) (function-answers i id q storage msch_code (λ sub. modified_state sub w.0) e same)
       ]
 
-  modifies-answer : (word address : ℕ) (id : SubchannelId) (q : Option Found) (r : Result (List ℕ) StorageFault) (o : Outcome) → found_at s.subs (place_in id s.subs) ≡ q →
+  modifies-answer : (word address : ℕ) (id : SubchannelId) (q : Option Found) (r : Result (List ℕ) StorageFault) (o : Outcome) →
+      found_at s.subs (place_in id s.subs) ≡ q →
       Modifies s q r o → OkOn (instruction.Msch word address) id o
   modifies-answer word address id q (Err f) o e w = subst (OkOn (instruction.Msch word address) id) (sym w) tt
   modifies-answer word address id q (Ok image) o e w = modified-answers (instruction.Msch word address) id s.storage q image o e (λ c. refl) w
 
-  enabled-answers : (i : Instruction) (id : SubchannelId) (cpu : ℕ) (q : Option Found) (subclass : ℕ) (multipath : Bool) (image : List ℕ) (o : Outcome) →
-      found_at s.subs (place_in id s.subs) ≡ q → ((c : Condition) → code_by i c ≡ msch_code c) → Enables_with s cpu q subclass multipath image o → OkOn i id o
+  enabled-answers : (i : Instruction) (id : SubchannelId) (cpu : ℕ) (q : Option Found) (subclass : ℕ) (multipath : Bool) (image : List ℕ)
+      (o : Outcome) →
+      found_at s.subs (place_in id s.subs) ≡ q → ((c : Condition) → code_by i c ≡ msch_code c) → Enables_with s cpu q subclass multipath image o →
+      OkOn i id o
   enabled-answers i id cpu None subclass multipath image o e same w =
       modified-answers i id (with_enabling s cpu image subclass multipath).storage None image o e same w
   enabled-answers i id cpu (Some f) subclass multipath image o e same w =
       subst (OkOn i id) (sym w)
-      (function-answers i id (Some f) (with_schib s cpu 0xF00 (enabling_schib f.sub subclass multipath)).storage msch_code (λ sub. modified_state sub (enabling (pmcw_of sub) subclass multipath)) e same)
+      (function-answers i id (Some f) (with_schib s cpu 0xF00 (enabling_schib f.sub subclass multipath)).storage msch_code
+      (λ sub. modified_state sub (enabling (pmcw_of sub) subclass multipath)) e same)
 
-  enables-answer : (i : Instruction) (id : SubchannelId) (cpu : ℕ) (q : Option Found) (subclass : ℕ) (multipath : Bool) (r : Result (List ℕ) StorageFault) (o : Outcome) →
+  enables-answer : (i : Instruction) (id : SubchannelId) (cpu : ℕ) (q : Option Found) (subclass : ℕ) (multipath : Bool)
+      (r : Result (List ℕ) StorageFault) (o : Outcome) →
       found_at s.subs (place_in id s.subs) ≡ q → ((c : Condition) → code_by i c ≡ msch_code c) → Enables s cpu q subclass multipath r o → OkOn i id o
   enables-answer i id cpu q subclass multipath (Err f) o e same w = subst (OkOn i id) (sym w) tt
   enables-answer i id cpu q subclass multipath (Ok image) o e same w = enabled-answers i id cpu q subclass multipath image o e same w
@@ -225,20 +247,25 @@ module _ (s : State) where
       (function-answers (instruction.Xsch word) id q s.storage xsch_code (λ sub. cancelled sub.state) e (λ c. refl))
 
   -- the requests for interruptions that are left are nothing to the answer
-  settled-answers : (cpu : ℕ) (i : Instruction) (id : SubchannelId) (r : Reply) (new : State) (o : Outcome) → subchannel_named s.sets (subchannel_word i) ≡ Some id → OkOn i id o →
+  settled-answers : (cpu : ℕ) (i : Instruction) (id : SubchannelId) (r : Reply) (new : State) (o : Outcome) →
+      subchannel_named s.sets (subchannel_word i) ≡ Some id → OkOn i id o →
       does r new ≡ settled s (event.Execute cpu i) o → IsAnswered s i r new
   settled-answers cpu i id r new (Err f) n k m = absurd (cc m)
   settled-answers cpu i id r new (Ok t) n k m =
-      let same : record { reply = r; state = new } ≡ record t { state = record t.state { requests = requests_settled s (event.Execute cpu i) t } } = cc m in
-      let after : subchannel_named t.state.sets (subchannel_word i) ≡ Some id = ap (λ (sets : ℕ). subchannel_named sets (subchannel_word i)) k.0 ∙ n in
+      let same : record { reply = r; state = new } ≡ record t { state = record t.state { requests = requests_settled s (event.Execute cpu i) t } } =
+      cc m in
+      let after : subchannel_named t.state.sets (subchannel_word i) ≡ Some id =
+      ap (λ (sets : ℕ). subchannel_named sets (subchannel_word i)) k.0 ∙ n in
       subst (λ (x : Turn). IsAnswered s i x.reply x.state) (sym same)
-      (subst (λ (id : Option SubchannelId). IsAnsweredBy i (sub_at s.subs (place_of_id s.subs id)) t.reply (sub_at t.state.subs (place_of_id t.state.subs (subchannel_named t.state.sets (subchannel_word i))))) (sym n)
-      (subst (λ (x : Option SubchannelId). IsAnsweredBy i (sub_at s.subs (place_in id s.subs)) t.reply (sub_at t.state.subs (place_of_id t.state.subs x))) (sym after) k.1))
+      (subst (λ (x : Option SubchannelId). IsAnsweredAs i x t.reply (subchannel_named t.state.sets (subchannel_word i)) t.state) (sym n)
+      (subst (λ (x : Option SubchannelId). IsAnsweredAs i (Some id) t.reply x t.state) (sym after) k.1))
 
-  executed-answers : (cpu : ℕ) (i : Instruction) (named : Option SubchannelId) (r : Reply) (new : State) (o : Outcome) → subchannel_named s.sets (subchannel_word i) ≡ named →
+  executed-answers : (cpu : ℕ) (i : Instruction) (named : Option SubchannelId) (r : Reply) (new : State) (o : Outcome) →
+      subchannel_named s.sets (subchannel_word i) ≡ named →
       Executes_on s cpu i named o → does r new ≡ settled s (event.Execute cpu i) o → IsAnswered s i r new
   executed-answers cpu i None r new o n w m = absurd (cc (m ∙ ap (settled s (event.Execute cpu i)) w))
-  executed-answers cpu i (Some id) r new o n w m = settled-answers cpu i id r new o n (executes-answer cpu i id (found_at s.subs (place_in id s.subs)) o refl w) m
+  executed-answers cpu i (Some id) r new o n w m =
+      settled-answers cpu i id r new o n (executes-answer cpu i id (found_at s.subs (place_in id s.subs)) o refl w) m
 
   -- the instructions that name no subchannel
   abbrev OkOther : OtherInstruction → Outcome → Type 0
@@ -246,28 +273,34 @@ module _ (s : State) where
 
   tpi-answers : (cpu mask address : ℕ) (r : Result (Unit {0}) StorageFault) →
       OkOther (other.Tpi mask address)
-      (other_done s (tpi_lent (lent_whole s.storage s.requests s.reports) (where_stored r (tpi_done s.storage s.requests cpu address (requests.answer s.requests mask)))))
+      (other_done s (tpi_lent (lent_whole s.storage s.requests s.reports)
+      (where_stored r (tpi_done s.storage s.requests cpu address (requests.answer s.requests mask)))))
   tpi-answers cpu mask address (Ok u) = refl
   tpi-answers cpu mask address (Err f) = tt
 
   rchp-answers : (path : ℕ) (right : Bool) →
       OkOther (other.Rchp path)
-      (other_done s (rchp_lent (lent_whole s.storage s.requests s.reports) (if right then Ok (rchp_of s.reports s.up (field_of path 24 31)) else Err fault.Operand)))
+      (other_done s (rchp_lent (lent_whole s.storage s.requests s.reports)
+      (if right then Ok (rchp_of s.reports s.up (field_of path 24 31)) else Err fault.Operand)))
   rchp-answers path true = refl
   rchp-answers path false = tt
 
   stcrw-answers : (cpu address : ℕ) (r : Result (Unit {0}) StorageFault) →
-      OkOther (other.Stcrw address) (other_done s (stcrw_lent (lent_whole s.storage s.requests s.reports) (where_stored r (stcrw_done s.storage s.reports cpu address))))
+      OkOther (other.Stcrw address)
+      (other_done s (stcrw_lent (lent_whole s.storage s.requests s.reports) (where_stored r (stcrw_done s.storage s.reports cpu address))))
   stcrw-answers cpu address (Ok u) = refl
   stcrw-answers cpu address (Err f) = tt
 
-  other-settled : (cpu : ℕ) (i : OtherInstruction) (r : Reply) (new : State) (o : Outcome) → OkOther i o → does r new ≡ settled s (event.ExecuteOther cpu i) o → IsAnsweredOther s i r
+  other-settled : (cpu : ℕ) (i : OtherInstruction) (r : Reply) (new : State) (o : Outcome) → OkOther i o →
+      does r new ≡ settled s (event.ExecuteOther cpu i) o → IsAnsweredOther s i r
   other-settled cpu i r new (Err f) k m = absurd (cc m)
   other-settled cpu i r new (Ok t) k m =
-      let same : record { reply = r; state = new } ≡ record t { state = record t.state { requests = requests_settled s (event.ExecuteOther cpu i) t } } = cc m in
+      let same : record { reply = r; state = new } ≡ record t { state = record t.state { requests = requests_settled s (event.ExecuteOther cpu i) t } } =
+      cc m in
       subst (λ (x : Turn). IsAnsweredOther s i x.reply) (sym same) k
 
-  others-answer : (cpu : ℕ) (i : OtherInstruction) (r : Reply) (new : State) (o : Outcome) → o ≡ other_at s cpu i → does r new ≡ settled s (event.ExecuteOther cpu i) o →
+  others-answer : (cpu : ℕ) (i : OtherInstruction) (r : Reply) (new : State) (o : Outcome) → o ≡ other_at s cpu i →
+      does r new ≡ settled s (event.ExecuteOther cpu i) o →
       IsAnsweredOther s i r
   others-answer cpu (other.Tpi mask address) r new o w m =
       other-settled cpu (other.Tpi mask address) r new o

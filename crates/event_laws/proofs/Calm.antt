@@ -85,7 +85,8 @@ pci-calm : (s : SubchannelState) (b : ActiveProgram) → IsCalm s (with_pci_of s
 pci-calm s b =
     let x : SubchannelState = record s { begun = Some (without_pci b) } in
     let c : StatusCause = cause.Pci b.transfer.walk.tried (residual b.transfer.moving) in
-    if-calm s b.transfer.pci_pending (with_cause x c) s (calm-then s x (with_cause x c) (calm-same s x refl refl) (cause-calm x c)) (calm-same s s refl refl)
+    if-calm s b.transfer.pci_pending (with_cause x c) s (calm-then s x (with_cause x c) (calm-same s x refl refl) (cause-calm x c))
+    (calm-same s s refl refl)
 
 pub interrupted-calm : (s : SubchannelState) (b : Option ActiveProgram) → IsCalm s (interrupted s b)
 interrupted-calm s None = calm-same s s refl refl

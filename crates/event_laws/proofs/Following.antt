@@ -81,7 +81,8 @@ pub same-sub : (x y : Subchannel) → Some x ≡ Some y → x ≡ y
 same-sub x y e = cc e
 
 -- the index of a channel path of a subchannel
-index-there : (chpid x p : ℕ) (xs : List ℕ) (same : Bool) (o : Option ℕ) → (x == chpid) ≡ same → ((i : ℕ) → o ≡ Some i → slice_get xs i ≡ Some chpid) →
+index-there : (chpid x p : ℕ) (xs : List ℕ) (same : Bool) (o : Option ℕ) → (x == chpid) ≡ same →
+    ((i : ℕ) → o ≡ Some i → slice_get xs i ≡ Some chpid) →
     (if same then Some 0 else index_after o) ≡ Some p → slice_get (x ∷ xs) p ≡ Some chpid
 index-there chpid x p xs true o e f h =
     let z : 0 ≡ p = cc h in subst (λ (k : ℕ). slice_get (x ∷ xs) k ≡ Some chpid) z (ap (λ (k : ℕ). Some k) (eqb-true x chpid e))
@@ -125,16 +126,19 @@ OkCalm sub r = IfOk r (λ t. IsCalm sub.state t.sub.state)
 choose-calm : (sub : Subchannel) (c : Chosen) → IsFitFor c sub.state.hold → OkCalm sub (choose_sub sub c)
 choose-calm sub chosen_is.Idle fit = calm-same sub.state sub.state refl refl
 choose-calm sub (chosen_is.Resets r path) fit =
-    if-ok (λ t. IsCalm sub.state t.sub.state) (finds_full sub.wires.down (carried_by sub (Some (record { path = path; signal = down.Reset r sub.state.hold.known })))) _ _ tt
+    if-ok (λ t. IsCalm sub.state t.sub.state)
+    (finds_full sub.wires.down (carried_by sub (Some (record { path = path; signal = down.Reset r sub.state.hold.known })))) _ _ tt
     (record { cleared = refl; reset = sending-as sub.state.hold sub.state.hold.phase path refl })
 choose-calm sub chosen_is.PerformsClear fit = cause-calm sub.state cause.ClearDone
 choose-calm sub (chosen_is.Halts t path) fit =
-    if-ok (λ t. IsCalm sub.state t.sub.state) (finds_full sub.wires.down (carried_by sub (Some (record { path = path; signal = down.Halt t })))) _ _ tt
+    if-ok (λ t. IsCalm sub.state t.sub.state)
+    (finds_full sub.wires.down (carried_by sub (Some (record { path = path; signal = down.Halt t })))) _ _ tt
     (calm-same sub.state (halt_sent sub.state) refl refl)
 choose-calm sub chosen_is.PerformsHalt fit = cause-calm sub.state cause.HaltDone
 choose-calm sub chosen_is.FindsNoPath fit = cause-calm sub.state cause.NoPath
 choose-calm sub (chosen_is.Offers c path) fit =
-    if-ok (λ t. IsCalm sub.state t.sub.state) (finds_full sub.wires.down (carried_by sub (Some (record { path = path; signal = down.Select (sub.state.drawn + 1) })))) _ _ tt
+    if-ok (λ t. IsCalm sub.state t.sub.state)
+    (finds_full sub.wires.down (carried_by sub (Some (record { path = path; signal = down.Select (sub.state.drawn + 1) })))) _ _ tt
     (record { cleared = refl; reset = record { still = λ n k. absurd (cc (sym fit ∙ k)); was = λ n k. absurd (cc k) } })
 
 marked-calm : (sub : Subchannel) (choice : Option ℕ) (x : SubchannelState) → IsCalm (marked_sub sub choice).state x → IsCalm sub.state x
@@ -147,11 +151,13 @@ OkSame sub r = IfOk r (λ t. t.sub.state ≡ sub.state)
 down_front-same : (may : Bool) (sub : Subchannel) (path : ℕ) (u : UnitState) (front : Option Down) → OkSame sub (down_front may sub path u front)
 down_front-same may sub path u None = tt
 down_front-same may sub path u (Some signal) =
-    if-ok (λ t. t.sub.state ≡ sub.state) (finds_full sub.wires.up (carried_by sub (unit_table.came_of (unit_takes u sub.setup.side path signal may)).sent)) _ _ tt refl
+    if-ok (λ t. t.sub.state ≡ sub.state)
+    (finds_full sub.wires.up (carried_by sub (unit_table.came_of (unit_takes u sub.setup.side path signal may)).sent)) _ _ tt refl
 
 down-same : (may : Bool) (sub : Subchannel) (path : ℕ) (u : UnitState) → OkSame sub (down_sub may sub path u)
 down-same may sub path u =
-    if-ok (λ t. t.sub.state ≡ sub.state) (nat_lt path (length sub.setup.paths)) (down_front may sub path u (slice_get (queue sub.wires.down path) 0)) _
+    if-ok (λ t. t.sub.state ≡ sub.state) (nat_lt path (length sub.setup.paths))
+    (down_front may sub path u (slice_get (queue sub.wires.down path) 0)) _
     (down_front-same may sub path u (slice_get (queue sub.wires.down path) 0)) tt
 
 report-same : (sub : Subchannel) (step : Option UnitStep) → OkSame sub (report_taken sub step)
@@ -160,7 +166,8 @@ report-same sub (Some step) = if-ok (λ t. t.sub.state ≡ sub.state) (finds_ful
 
 act-same : (sub : Subchannel) (u : UnitState) (what : UnitAct) → OkSame sub (act_sub sub u what)
 act-same sub u what =
-    if-ok (λ t. t.sub.state ≡ sub.state) (has_path_of_act sub what) (report_taken sub (acts u sub.setup.side what)) _ (report-same sub (acts u sub.setup.side what)) tt
+    if-ok (λ t. t.sub.state ≡ sub.state) (has_path_of_act sub what) (report_taken sub (acts u sub.setup.side what)) _
+    (report-same sub (acts u sub.setup.side what)) tt
 
 module _ (s : State) where
   calm-follows : (e : Event) (r : Reply) (place : ℕ) (sub : Subchannel) (x : SubchannelState) → IsCalm sub.state x → Follows s e r place sub x
@@ -168,12 +175,14 @@ module _ (s : State) where
 
   same-follows : (e : Event) (r : Reply) (place : ℕ) (sub : Subchannel) (x : SubchannelState) → x ≡ sub.state → Follows s e r place sub x
   same-follows e r place sub x k =
-      calm-follows e r place sub x (calm-same sub.state x (ap (λ (y : SubchannelState). y.serials.cleared) k) (ap (λ (y : SubchannelState). y.hold.phase) k))
+      calm-follows e r place sub x
+      (calm-same sub.state x (ap (λ (y : SubchannelState). y.serials.cleared) k) (ap (λ (y : SubchannelState). y.hold.phase) k))
 
   -- the instructions
   start-follows : (e : Event) (r : Reply) (place : ℕ) (sub : Subchannel) (orb : Orb) (c : ConditionCode) →
       Follows s e r place sub (function_sub sub c (started sub.state orb)).sub.state
-  start-follows e r place sub orb code.Zero = calm-follows e r place sub (started sub.state orb) (calm-same sub.state (started sub.state orb) refl refl)
+  start-follows e r place sub orb code.Zero =
+      calm-follows e r place sub (started sub.state orb) (calm-same sub.state (started sub.state orb) refl refl)
   start-follows e r place sub orb code.One = same-follows e r place sub sub.state refl
   start-follows e r place sub orb code.Two = same-follows e r place sub sub.state refl
   start-follows e r place sub orb code.Three = same-follows e r place sub sub.state refl
@@ -188,15 +197,18 @@ module _ (s : State) where
 
   modify-follows : (e : Event) (r : Reply) (place : ℕ) (sub : Subchannel) (given : block.Pmcw) (c : ConditionCode) →
       Follows s e r place sub (function_sub sub c (modified_state sub given)).sub.state
-  modify-follows e r place sub given code.Zero = calm-follows e r place sub (modified_state sub given) (calm-same sub.state (modified_state sub given) refl refl)
+  modify-follows e r place sub given code.Zero =
+      calm-follows e r place sub (modified_state sub given) (calm-same sub.state (modified_state sub given) refl refl)
   modify-follows e r place sub given code.One = same-follows e r place sub sub.state refl
   modify-follows e r place sub given code.Two = same-follows e r place sub sub.state refl
   modify-follows e r place sub given code.Three = same-follows e r place sub sub.state refl
 
   effect-follows : (cpu word place : ℕ) (sub : Subchannel) (f : Function) → place_of s word ≡ Some place →
-      Follows s (event.Execute cpu (instruction_of f word)) (function_sub sub code.Zero (effect_of f sub.state)).reply place sub (effect_of f sub.state)
+      Follows s (event.Execute cpu (instruction_of f word)) (function_sub sub code.Zero (effect_of f sub.state)).reply place sub
+      (effect_of f sub.state)
   effect-follows cpu word place sub Resumes at =
-      calm-follows (event.Execute cpu (instruction.Rsch word)) _ place sub (effect_of Resumes sub.state) (calm-same sub.state (effect_of Resumes sub.state) refl refl)
+      calm-follows (event.Execute cpu (instruction.Rsch word)) _ place sub (effect_of Resumes sub.state)
+      (calm-same sub.state (effect_of Resumes sub.state) refl refl)
   effect-follows cpu word place sub Halts at =
       record {
         clears = elim (halted-clears sub.state (drops_status sub.state.scsw) refl) [
@@ -207,10 +219,12 @@ module _ (s : State) where
       }
   effect-follows cpu word place sub Clears at = record { clears = inr at; change = Resets at refl }
   effect-follows cpu word place sub Cancels at =
-      calm-follows (event.Execute cpu (instruction.Xsch word)) _ place sub (effect_of Cancels sub.state) (calm-same sub.state (effect_of Cancels sub.state) refl refl)
+      calm-follows (event.Execute cpu (instruction.Xsch word)) _ place sub (effect_of Cancels sub.state)
+      (calm-same sub.state (effect_of Cancels sub.state) refl refl)
 
   function-follows : (cpu word place : ℕ) (sub : Subchannel) (f : Function) (c : ConditionCode) → place_of s word ≡ Some place →
-      Follows s (event.Execute cpu (instruction_of f word)) (function_sub sub c (effect_of f sub.state)).reply place sub (function_sub sub c (effect_of f sub.state)).sub.state
+      Follows s (event.Execute cpu (instruction_of f word)) (function_sub sub c (effect_of f sub.state)).reply place sub
+      (function_sub sub c (effect_of f sub.state)).sub.state
   function-follows cpu word place sub f code.Zero at = effect-follows cpu word place sub f at
   function-follows cpu word place sub f code.One at = same-follows (event.Execute cpu (instruction_of f word)) _ place sub sub.state refl
   function-follows cpu word place sub f code.Two at = same-follows (event.Execute cpu (instruction_of f word)) _ place sub sub.state refl
@@ -220,25 +234,34 @@ module _ (s : State) where
   abbrev FollowsUp : ℕ → ℕ → ℕ → Subchannel → Up → UpStep → Type 0
   FollowsUp word path place sub x step = Follows s (event.Up word path) (reply.Up x step.came.taken step.came.sent) place sub step.state
 
-  clearing-follows : (word path place : ℕ) (sub : Subchannel) (r n : ℕ) (same : Bool) → place_of s word ≡ Some place → sub.state.hold.phase ≡ hold.Reset n → (r == n) ≡ same →
+  clearing-follows : (word path place : ℕ) (sub : Subchannel) (r n : ℕ) (same : Bool) → place_of s word ≡ Some place →
+      sub.state.hold.phase ≡ hold.Reset n → (r == n) ≡ same →
       FollowsUp word path place sub (up.Cleared r)
-      (reset_taken sub.state (if same then Some (record { state = record sub.state.hold { phase = hold.Free; reset_path = None }; sent = None }) else None))
+      (reset_taken sub.state
+      (if same then Some (record { state = record sub.state.hold { phase = hold.Free; reset_path = None }; sent = None }) else None))
   clearing-follows word path place sub r n true at h e =
       let x : SubchannelState = record sub.state { hold = record sub.state.hold { phase = hold.Free; reset_path = None } } in
       record { clears = inl (clear_done-calm x).cleared; change = Ends n (at, eqb-true r n e) h (clear_done-phase x) }
   clearing-follows word path place sub r n false at h e =
       same-follows (event.Up word path) (reply.Up (up.Cleared r) false None) place sub sub.state refl
 
-  cleared-follows : (word path place : ℕ) (sub : Subchannel) (phase : HoldPhase) (r : ℕ) → place_of s word ≡ Some place → sub.state.hold.phase ≡ phase →
+  cleared-follows : (word path place : ℕ) (sub : Subchannel) (phase : HoldPhase) (r : ℕ) → place_of s word ≡ Some place →
+      sub.state.hold.phase ≡ phase →
       FollowsUp word path place sub (up.Cleared r) (reset_taken sub.state (reset_cleared sub.state.hold phase r))
-  cleared-follows word path place sub hold.Free r at h = same-follows (event.Up word path) (reply.Up (up.Cleared r) false None) place sub sub.state refl
-  cleared-follows word path place sub (hold.Offer t p) r at h = same-follows (event.Up word path) (reply.Up (up.Cleared r) false None) place sub sub.state refl
-  cleared-follows word path place sub (hold.On t p c) r at h = same-follows (event.Up word path) (reply.Up (up.Cleared r) false None) place sub sub.state refl
-  cleared-follows word path place sub (hold.Away t) r at h = same-follows (event.Up word path) (reply.Up (up.Cleared r) false None) place sub sub.state refl
-  cleared-follows word path place sub (hold.Letting t p) r at h = same-follows (event.Up word path) (reply.Up (up.Cleared r) false None) place sub sub.state refl
+  cleared-follows word path place sub hold.Free r at h =
+      same-follows (event.Up word path) (reply.Up (up.Cleared r) false None) place sub sub.state refl
+  cleared-follows word path place sub (hold.Offer t p) r at h =
+      same-follows (event.Up word path) (reply.Up (up.Cleared r) false None) place sub sub.state refl
+  cleared-follows word path place sub (hold.On t p c) r at h =
+      same-follows (event.Up word path) (reply.Up (up.Cleared r) false None) place sub sub.state refl
+  cleared-follows word path place sub (hold.Away t) r at h =
+      same-follows (event.Up word path) (reply.Up (up.Cleared r) false None) place sub sub.state refl
+  cleared-follows word path place sub (hold.Letting t p) r at h =
+      same-follows (event.Up word path) (reply.Up (up.Cleared r) false None) place sub sub.state refl
   cleared-follows word path place sub (hold.Reset n) r at h = clearing-follows word path place sub r n (r == n) at h refl
 
-  notice-follows : (word path place : ℕ) (sub : Subchannel) (b : ℕ) (more : Bool) → place_of s word ≡ Some place → nat_lt sub.state.hold.known b ≡ more →
+  notice-follows : (word path place : ℕ) (sub : Subchannel) (b : ℕ) (more : Bool) → place_of s word ≡ Some place →
+      nat_lt sub.state.hold.known b ≡ more →
       FollowsUp word path place sub (up.Notice b) (if more then quietly (reset_for (with_known sub.state b)) else ignoring sub.state)
   notice-follows word path place sub b true at e =
       let shows : Bool = is_offered_or_held sub.state.hold.phase && has_any sub.state.waiting sub.state.begun sub.state.suspended in
@@ -277,23 +300,28 @@ module _ (s : State) where
   up_front-follows returns word path place sub None at = tt
   up_front-follows returns word path place sub (Some x) at =
       if-ok (λ t. Follows s (event.Up word path) t.reply place sub t.sub.state)
-      (finds_full sub.wires.down (carried_by sub (takes_up returns s.storage sub.state path x).step.came.sent)) _ _ tt (takes-follow returns word path place sub x at)
+      (finds_full sub.wires.down (carried_by sub (takes_up returns s.storage sub.state path x).step.came.sent)) _ _ tt
+      (takes-follow returns word path place sub x at)
 
-  up-follows : (returns : Bool) (word path place : ℕ) (sub : Subchannel) → place_of s word ≡ Some place → OkUp word path place sub (up_sub returns s.storage sub path)
+  up-follows : (returns : Bool) (word path place : ℕ) (sub : Subchannel) → place_of s word ≡ Some place →
+      OkUp word path place sub (up_sub returns s.storage sub path)
   up-follows returns word path place sub at =
       if-ok (λ t. Follows s (event.Up word path) t.reply place sub t.sub.state) (nat_lt path (length sub.setup.paths))
       (up_front returns s.storage sub path (slice_get (queue sub.wires.up path) 0)) _
       (up_front-follows returns word path place sub (slice_get (queue sub.wires.up path) 0) at) tt
 
   -- a channel path that is lost
-  lost-follows : (e : Event) (r : Reply) (place : ℕ) (sub : Subchannel) (chpid p : ℕ) (rests : Bool) → (RestsOn sub chpid → IsResetCause s e r place sub) →
-      slice_get sub.setup.paths p ≡ Some chpid → rests_on sub.state.hold p ≡ rests → Follows s e r place sub (if rests then reset_for sub.state else sub.state)
+  lost-follows : (e : Event) (r : Reply) (place : ℕ) (sub : Subchannel) (chpid p : ℕ) (rests : Bool) →
+      (RestsOn sub chpid → IsResetCause s e r place sub) →
+      slice_get sub.setup.paths p ≡ Some chpid → rests_on sub.state.hold p ≡ rests →
+      Follows s e r place sub (if rests then reset_for sub.state else sub.state)
   lost-follows e r place sub chpid p true f there k =
       let shows : Bool = is_offered_or_held sub.state.hold.phase && has_any sub.state.waiting sub.state.begun sub.state.suspended in
       record { clears = inl (reset-cleared sub.state shows); change = Resets (f (p, there, k)) (reset-phase sub.state shows) }
   lost-follows e r place sub chpid p false f there k = same-follows e r place sub sub.state refl
 
-  loses-follows : (e : Event) (r : Reply) (place : ℕ) (sub : Subchannel) (chpid : ℕ) (q : Option ℕ) → (RestsOn sub chpid → IsResetCause s e r place sub) →
+  loses-follows : (e : Event) (r : Reply) (place : ℕ) (sub : Subchannel) (chpid : ℕ) (q : Option ℕ) →
+      (RestsOn sub chpid → IsResetCause s e r place sub) →
       path_index chpid sub.setup.paths ≡ q → Follows s e r place sub (loses_at q sub).state
   loses-follows e r place sub chpid None f there = same-follows e r place sub sub.state refl
   loses-follows e r place sub chpid (Some p) f there =
@@ -311,7 +339,8 @@ module _ (s : State) where
   shows-follows e r place sub new (Some p) up k =
       record {
         clears = k.clears;
-        change = change-shown (IsResetCause s e r place sub) (IsCleared s e r place) sub.state new.state (available_pmcw new.state.pmcw p up) k.change;
+        change =
+            change-shown (IsResetCause s e r place sub) (IsCleared s e r place) sub.state new.state (available_pmcw new.state.pmcw p up) k.change;
       }
 
   swept-follows : (r : Reply) (what : Sweep) (place : ℕ) (sub : Subchannel) → Follows s (sweep_event what) r place sub (swept what sub).state
@@ -319,7 +348,8 @@ module _ (s : State) where
       shows-follows (event.PathDown chpid) r place sub (loses chpid sub) (path_index chpid (loses chpid sub).setup.paths) false
       (loses-follows (event.PathDown chpid) r place sub chpid (path_index chpid sub.setup.paths) (λ k. k) refl)
   swept-follows r (sweep.ComesUp chpid) place sub =
-      shows-follows (event.PathUp chpid) r place sub sub (path_index chpid sub.setup.paths) true (same-follows (event.PathUp chpid) r place sub sub.state refl)
+      shows-follows (event.PathUp chpid) r place sub sub (path_index chpid sub.setup.paths) true
+      (same-follows (event.PathUp chpid) r place sub sub.state refl)
   swept-follows r (sweep.PathReset chpid) place sub =
       loses-follows (event.PathReset chpid) r place sub chpid (path_index chpid sub.setup.paths) (λ k. k) refl
   swept-follows r sweep.SystemReset place sub = record { clears = inr tt; change = Resets tt refl }
@@ -327,7 +357,8 @@ module _ (s : State) where
   -- the subchannel of the place that was changed, or another
   abbrev Followed : Event → Reply → State → Type 0
   Followed e r new =
-      (place : ℕ) (sub after : Subchannel) → slice_get s.subs place ≡ Some sub → slice_get new.subs place ≡ Some after → Follows s e r place sub after.state
+      (place : ℕ) (sub after : Subchannel) → slice_get s.subs place ≡ Some sub → slice_get new.subs place ≡ Some after →
+      Follows s e r place sub after.state
 
   same-followed : (e : Event) (r : Reply) (new : State) → new.subs ≡ s.subs → Followed e r new
   same-followed e r new same place sub after there left =
@@ -369,7 +400,8 @@ module _ (s : State) where
   step-follows _ _ _ (walked.Performed e r place sub f c new q one by answers) =
       one-followed e r new place sub _ one.there one.subs
       (subst (λ (v : Event). Follows s v r place sub (function_sub sub c (effect_of f sub.state)).sub.state) (sym by.event)
-      (subst (λ (a : Reply). Follows s (event.Execute by.cpu (instruction_of f by.word)) a place sub (function_sub sub c (effect_of f sub.state)).sub.state) (sym answers)
+      (subst (λ (a : Reply). Follows s (event.Execute by.cpu (instruction_of f by.word)) a place sub
+      (function_sub sub c (effect_of f sub.state)).sub.state) (sym answers)
       (function-follows by.cpu by.word place sub f c by.at)))
   step-follows _ _ _ (walked.Chosen word place sub choice t new n x w h one) =
       one-followed (event.Choose word) t.reply new place sub t.sub one.there one.subs

@@ -27,8 +27,10 @@ reset-goes C D s x n (Ends m d k free) e = inr (inr (free, subst D (same-number 
 
 pub resets-by-cause : (s : State) (e : Event) (r : Reply) (new : State) → Walked s e r new → ResetsByCause s e r new
 resets-by-cause s e r new w place n sub after there left =
-    reset-reason (IsResetCause s e r place sub) (IsCleared s e r place) sub.state after.state n (step-follows s e r new w place sub after there left).change
+    reset-reason (IsResetCause s e r place sub) (IsCleared s e r place) sub.state after.state n
+    (step-follows s e r new w place sub after there left).change
 
 pub stays-reset : (s : State) (e : Event) (r : Reply) (new : State) → Walked s e r new → StaysReset s e r new
 stays-reset s e r new w place n sub after there left =
-    reset-goes (IsResetCause s e r place sub) (IsCleared s e r place) sub.state after.state n (step-follows s e r new w place sub after there left).change
+    reset-goes (IsResetCause s e r place sub) (IsCleared s e r place) sub.state after.state n
+    (step-follows s e r new w place sub after there left).change

@@ -33,14 +33,16 @@ use Rattle.event_laws.proofs.Calm.{IsAsReset, as-same, IsCalm, calm-same, calm-t
 abbrev LeavesAs : HoldState → HoldPhase → Option HoldStep → Type 0
 LeavesAs h phase step = IsAsReset phase (hold_after h step).phase
 
-if-as : (h : HoldState) (phase : HoldPhase) (b : Bool) (x y : Option HoldStep) → LeavesAs h phase x → LeavesAs h phase y → LeavesAs h phase (if b then x else y)
+if-as : (h : HoldState) (phase : HoldPhase) (b : Bool) (x y : Option HoldStep) → LeavesAs h phase x → LeavesAs h phase y →
+    LeavesAs h phase (if b then x else y)
 if-as h phase true x y e f = e
 if-as h phase false x y e f = f
 
 busy-as : (h : HoldState) (phase : HoldPhase) (u : ℕ) → h.phase ≡ phase → LeavesAs h phase (found_busy h phase u)
 busy-as h hold.Free u e = as-same hold.Free h.phase e
 busy-as h (hold.Offer t p) u e =
-    if-as h (hold.Offer t p) (u == t) (Some (hold_quietly (record h { phase = hold.Free }))) None (record { still = λ n k. absurd (cc k); was = λ n k. absurd (cc k) })
+    if-as h (hold.Offer t p) (u == t) (Some (hold_quietly (record h { phase = hold.Free }))) None
+    (record { still = λ n k. absurd (cc k); was = λ n k. absurd (cc k) })
     (as-same (hold.Offer t p) h.phase e)
 busy-as h (hold.On t p c) u e = as-same (hold.On t p c) h.phase e
 busy-as h (hold.Away t) u e = as-same (hold.Away t) h.phase e
@@ -61,7 +63,8 @@ back-as : (h : HoldState) (phase : HoldPhase) (p u c : ℕ) (may : Bool) → h.p
 back-as h hold.Free p u c may e = as-same hold.Free h.phase e
 back-as h (hold.Offer t q) p u c may e = as-same (hold.Offer t q) h.phase e
 back-as h (hold.On t q d) p u c may e =
-    if-as h (hold.On t q d) ((u == t) && nat_lt h.seen c) (Some (refusing h p t c)) None (as-same (hold.On t q d) h.phase e) (as-same (hold.On t q d) h.phase e)
+    if-as h (hold.On t q d) ((u == t) && nat_lt h.seen c) (Some (refusing h p t c)) None (as-same (hold.On t q d) h.phase e)
+    (as-same (hold.On t q d) h.phase e)
 back-as h (hold.Away t) p u c may e =
     if-as h (hold.Away t) ((u == t) && nat_lt h.seen c) (if may then Some (granting h p t c) else Some (refusing h p t c)) None
     (if-as h (hold.Away t) may (Some (granting h p t c)) (Some (refusing h p t c)) (record { still = λ n k. absurd (cc k); was = λ n k. absurd (cc k) })
@@ -76,7 +79,8 @@ released-as h (hold.Offer t p) u e = as-same (hold.Offer t p) h.phase e
 released-as h (hold.On t p c) u e = as-same (hold.On t p c) h.phase e
 released-as h (hold.Away t) u e = as-same (hold.Away t) h.phase e
 released-as h (hold.Letting t p) u e =
-    if-as h (hold.Letting t p) (u == t) (Some (hold_quietly (record h { phase = hold.Free }))) None (record { still = λ n k. absurd (cc k); was = λ n k. absurd (cc k) })
+    if-as h (hold.Letting t p) (u == t) (Some (hold_quietly (record h { phase = hold.Free }))) None
+    (record { still = λ n k. absurd (cc k); was = λ n k. absurd (cc k) })
     (as-same (hold.Letting t p) h.phase e)
 released-as h (hold.Reset r) u e = as-same (hold.Reset r) h.phase e
 
@@ -110,7 +114,8 @@ beginning-calm : (storage : Contents) (s : SubchannelState) (p t : ℕ) (st : Pr
 beginning-calm storage s p t st walk (came.Begins transfer) =
     let next : SubchannelState = taking_over s st.program (begun_with_room storage transfer).transfer in
     calm-then s next (interrupted next next.begun) (calm-same s next refl refl) (interrupted-calm next next.begun)
-beginning-calm storage s p t st walk came.Suspends = let_go-calm s (suspending s st.program walk st.count) (suspending-calm s st.program walk st.count)
+beginning-calm storage s p t st walk came.Suspends =
+    let_go-calm s (suspending s st.program walk st.count) (suspending-calm s st.program walk st.count)
 beginning-calm storage s p t st walk (came.Stops check) =
     let_go-calm s (with_cause s (cause.FetchFault walk.tried check st.count)) (cause-calm s (cause.FetchFault walk.tried check st.count))
 
@@ -122,13 +127,16 @@ begun-calm : (storage : Contents) (s : SubchannelState) (t q : ℕ) (may same : 
     Leaves s (accept storage s (if same then Some (program_begun s.hold t q may) else None))
 begun-calm storage s t q may false e = stays s
 begun-calm storage s t q true true e =
-    let next : SubchannelState = record s { hold = record s.hold { phase = hold.On t q 0; seen = 0; first_path = Some q }; pmcw = path_used s.pmcw q } in
+    let next : SubchannelState =
+    record s { hold = record s.hold { phase = hold.On t q 0; seen = 0; first_path = Some q }; pmcw = path_used s.pmcw q } in
     calm-then s next (begin_standing storage next q t (standing s)).state
     (record { cleared = refl; reset = record { still = λ n k. absurd (cc (sym e ∙ k)); was = λ n k. absurd (cc k) } })
     (begin-calm storage next q t (standing s))
 begun-calm storage s t q false true e =
-    let next : SubchannelState = record s { hold = record s.hold { phase = hold.Letting t q; seen = 0; first_path = Some q }; pmcw = path_used s.pmcw q } in
-    calm-then s next (halt_done next) (record { cleared = refl; reset = record { still = λ n k. absurd (cc (sym e ∙ k)); was = λ n k. absurd (cc k) } })
+    let next : SubchannelState =
+    record s { hold = record s.hold { phase = hold.Letting t q; seen = 0; first_path = Some q }; pmcw = path_used s.pmcw q } in
+    calm-then s next (halt_done next)
+    (record { cleared = refl; reset = record { still = λ n k. absurd (cc (sym e ∙ k)); was = λ n k. absurd (cc k) } })
     (halt_done-calm next)
 
 accept-calm : (storage : Contents) (s : SubchannelState) (phase : HoldPhase) (u : ℕ) (may : Bool) → s.hold.phase ≡ phase →
@@ -141,14 +149,16 @@ accept-calm storage s (hold.Letting t q) u may e = stays s
 accept-calm storage s (hold.Reset r) u may e = stays s
 
 -- Data
-move-calm : (storage : Contents) (s : SubchannelState) (b : Option ActiveProgram) (signal : DataSignal) (load : Load) → Leaves s (move_data storage s b signal load).step
+move-calm : (storage : Contents) (s : SubchannelState) (b : Option ActiveProgram) (signal : DataSignal) (load : Load) →
+    Leaves s (move_data storage s b signal load).step
 move-calm storage s None signal load = stays s
 move-calm storage s (Some b) signal load =
     if-meets s (is_answered b.transfer signal.command signal.sequence) (move_bytes storage s b signal load) (meets storage (ignoring s))
     (if-meets s (is_outward b.transfer.code) (meets storage (give_next storage s b signal (load_length load)))
     (take_in s b signal (brought storage b.transfer signal.sequence (bytes_of_load load)))
     (moving-calm s b (next_given storage (taken_by_device storage b.transfer signal.sequence (load_length load))).transfer)
-    (moving-calm s b (with_room (brought storage b.transfer signal.sequence (bytes_of_load load)).storage (brought storage b.transfer signal.sequence (bytes_of_load load)).transfer).transfer))
+    (moving-calm s b (with_room (brought storage b.transfer signal.sequence (bytes_of_load load)).storage
+    (brought storage b.transfer signal.sequence (bytes_of_load load)).transfer).transfer))
     (stays s)
 
 -- End
@@ -176,7 +186,8 @@ end_of-calm storage s None signal = stays s
 end_of-calm storage s (Some b) signal =
     if-leaves s (signal.command == b.transfer.command) (command_ended storage s b signal) (ignoring s)
     (if-leaves s (chains_command s.scsw b signal.status signal.more) (goes_on storage s (with_end b) signal) (stops_at s b signal)
-    (if-leaves s (has_device_end signal.status) (chain_with storage s (with_end b) signal (next_command storage (with_end b).transfer (has_status_modifier signal.status))) _
+    (if-leaves s (has_device_end signal.status)
+    (chain_with storage s (with_end b) signal (next_command storage (with_end b).transfer (has_status_modifier signal.status))) _
     (chaining-calm storage s (with_end b) signal (next_command storage (with_end b).transfer (has_status_modifier signal.status)).walk
     (next_command storage (with_end b).transfer (has_status_modifier signal.status)).came)
     (calm-same s _ refl refl))
@@ -193,14 +204,16 @@ IsCalmSignal (up.Cleared r) = ⊥
 IsCalmSignal (up.Notice b) = ⊥
 IsCalmSignal x = Unit {0}
 
-pub takes-calm : (returns : Bool) (storage : Contents) (s : SubchannelState) (p : ℕ) (x : Up) → IsCalmSignal x → Leaves s (takes_up returns storage s p x).step
+pub takes-calm : (returns : Bool) (storage : Contents) (s : SubchannelState) (p : ℕ) (x : Up) → IsCalmSignal x →
+    Leaves s (takes_up returns storage s p x).step
 takes-calm returns storage s p (up.Accept t) k = accept-calm storage s s.hold.phase t (goes_ahead s) refl
 takes-calm returns storage s p (up.Busy t) k = by_hold-calm s (found_busy s.hold s.hold.phase t) (busy-as s.hold s.hold.phase t refl)
 takes-calm returns storage s p (up.Leave t c) k = by_hold-calm s (left s.hold s.hold.phase t c) (left-as s.hold s.hold.phase t c refl)
 takes-calm returns storage s p (up.Back t c) k = record { cleared = refl; reset = back-as s.hold s.hold.phase p t c returns refl }
 takes-calm returns storage s p (up.Data t c n seq load) k =
     let signal : DataSignal = record { path = p; number = t; connection = c; command = n; sequence = seq } in
-    if-meets s (is_connected s.hold.phase p t c) (move_data storage s s.begun signal load) (meets storage (ignoring s)) (move-calm storage s s.begun signal load) (stays s)
+    if-meets s (is_connected s.hold.phase p t c) (move_data storage s s.begun signal load) (meets storage (ignoring s))
+    (move-calm storage s s.begun signal load) (stays s)
 takes-calm returns storage s p (up.End t n status more) k =
     let signal : EndSignal = record { path = p; number = t; command = n; status = status; more = more } in
     if-leaves s (is_on s.hold.phase t) (end_of storage s s.begun signal) (ignoring s) (end_of-calm storage s s.begun signal) (stays s)
@@ -211,4 +224,5 @@ takes-calm returns storage s p (up.Attn a status) k =
     let step : Option HoldStep = attended s.hold s.hold.phase p a (may_attend s) in
     let x : SubchannelState = record s { hold = hold_after s.hold step } in
     let shows : Bool = (came_of step).taken && not (status.0 == 0x20) in
-    calm-then s x (with_attention x shows) (record { cleared = refl; reset = attended-as s.hold s.hold.phase p a (may_attend s) refl }) (attention-calm x shows)
+    calm-then s x (with_attention x shows) (record { cleared = refl; reset = attended-as s.hold s.hold.phase p a (may_attend s) refl })
+    (attention-calm x shows)
