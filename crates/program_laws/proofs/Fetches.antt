@@ -8,7 +8,6 @@ use Rattle.storage_keys.specs.declared.StorageFault.{StorageFault}
 use Rattle.storage_keys.specs.Storage.{Contents, fetched}
 use Rattle.channel_program.specs.declared.check.Check.{Check}
 use Rattle.channel_program.specs.declared.check.Check.TheVariants.{Program}
-use Rattle.channel_program.specs.declared.Role.{Role}
 use Rattle.channel_program.specs.declared.Ended.{Ended}
 use Rattle.channel_program.specs.declared.Reading.{Reading}
 use Rattle.channel_program.specs.declared.Reading.TheVariants.{Transfers, Takes, Suspends, Shows}
@@ -63,34 +62,36 @@ pub anew-grows : (storage : Contents) (orb : Orb) (before acts : List Act) → A
 anew-grows storage orb before acts a = ([], a.0, a.1, inr refl, a.2)
 
 -- a block
-fetch-by : (storage : Contents) (orb : Orb) (before : List Act) (address : ℕ) (test : Bool) (answer : Result (List ℕ) StorageFault) → fetched storage orb.key address 8 ≡ answer →
+fetch-by : (storage : Contents) (orb : Orb) (before : List Act) (address : ℕ) (test : Bool) (answer : Result (List ℕ) StorageFault) →
+    ((role_of orb before).first && is_program_misplaced orb address) ≡ test → fetched storage orb.key address 8 ≡ answer →
     IsFetched storage orb before (if test then Unfetched address Program else act_of_fetch address answer)
-fetch-by storage orb before address true answer e = tt
-fetch-by storage orb before address false (Ok bytes) e = e
-fetch-by storage orb before address false (Err fault) e = tt
+fetch-by storage orb before address true answer d e = inr (d, refl)
+fetch-by storage orb before address false (Ok bytes) d e = e
+fetch-by storage orb before address false (Err fault) d e = inl (ap checked e)
 
-fetch-fetched : (storage : Contents) (orb : Orb) (before : List Act) (role : Role) (address : ℕ) → IsFetched storage orb before (fetch_act storage orb role address)
-fetch-fetched storage orb before role address =
-    fetch-by storage orb before address (role.first && is_program_misplaced orb address) (fetched storage orb.key address 8) refl
+fetch-fetched : (storage : Contents) (orb : Orb) (before : List Act) (address : ℕ) → IsFetched storage orb before (fetch_act storage orb (role_of orb before) address)
+fetch-fetched storage orb before address =
+    fetch-by storage orb before address ((role_of orb before).first && is_program_misplaced orb address) (fetched storage orb.key address 8) refl refl
 
 target-fetched : (storage : Contents) (orb : Orb) (before : List Act) (address : ℕ) (bytes : List ℕ) (r : Reading) → fetched storage orb.key address 8 ≡ Ok bytes →
     AreFetched storage orb before (with_target storage (after_block (walk_place orb before) address bytes) r (Block address bytes ∷ []))
 target-fetched storage orb before address bytes (Transfers target) e =
-    (fetch-fetched storage orb (Block address bytes ∷ before) (role_of orb (Block address bytes ∷ before)) target, (e, tt))
+    (fetch-fetched storage orb (Block address bytes ∷ before) target, (e, tt))
 target-fetched storage orb before address bytes (Takes ccw) e = (e, tt)
 target-fetched storage orb before address bytes Suspends e = (e, tt)
 target-fetched storage orb before address bytes Shows e = (e, tt)
 
-from-by : (storage : Contents) (orb : Orb) (before : List Act) (address : ℕ) (test : Bool) (answer : Result (List ℕ) StorageFault) → fetched storage orb.key address 8 ≡ answer →
+from-by : (storage : Contents) (orb : Orb) (before : List Act) (address : ℕ) (test : Bool) (answer : Result (List ℕ) StorageFault) →
+    ((role_of orb before).first && is_program_misplaced orb address) ≡ test → fetched storage orb.key address 8 ≡ answer →
     AreFetched storage orb before (acts_from storage (walk_place orb before) (if test then Unfetched address Program else act_of_fetch address answer))
-from-by storage orb before address true answer e = (tt, tt)
-from-by storage orb before address false (Ok bytes) e = target-fetched storage orb before address bytes (reads orb (role_of orb before) bytes) e
-from-by storage orb before address false (Err fault) e = (tt, tt)
+from-by storage orb before address true answer d e = (inr (d, refl), tt)
+from-by storage orb before address false (Ok bytes) d e = target-fetched storage orb before address bytes (reads orb (role_of orb before) bytes) e
+from-by storage orb before address false (Err fault) d e = (inl (ap checked e), tt)
 
 at-fetched : (storage : Contents) (orb : Orb) (before : List Act) (n : Option ℕ) → AreFetched storage orb before (acts_at storage (walk_place orb before) n)
 at-fetched storage orb before None = tt
 at-fetched storage orb before (Some address) =
-    from-by storage orb before address ((role_of orb before).first && is_program_misplaced orb address) (fetched storage orb.key address 8) refl
+    from-by storage orb before address ((role_of orb before).first && is_program_misplaced orb address) (fetched storage orb.key address 8) refl refl
 
 advance-fetched : (storage : Contents) (orb : Orb) (before : List Act) → AreFetched storage orb before (advance_acts storage (walk_place orb before))
 advance-fetched storage orb before = at-fetched storage orb before (next orb before)
