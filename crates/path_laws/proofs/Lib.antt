@@ -6,3 +6,5 @@ mod Told
 mod Calm
 mod Meeting
 mod Units
+mod Moving
+mod Passing
