@@ -8,3 +8,6 @@ mod Meeting
 mod Units
 mod Moving
 mod Passing
+mod Sweeps
+mod Turning
+mod OneEngine
