@@ -11,3 +11,5 @@ mod Passing
 mod Sweeps
 mod Turning
 mod OneEngine
+mod Remembering
+mod Showing
