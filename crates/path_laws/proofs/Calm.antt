@@ -167,18 +167,20 @@ pub record IsReset (s x : SubchannelState) : Type 0 where
   pub drawn : s.drawn ≤ x.drawn
   pub available : x.pmcw.available ≡ s.pmcw.available
   pub hold : IsCalmHold s.hold x.hold
+  pub disengaged : (q : ℕ) → engaged_path x.hold.phase ≡ Some q → ⊥
 
 pub reset-hold : (h : HoldState) (r known : ℕ) → IsCalmHold h (record h { phase = hold.Reset r; reset_path = None; known = known })
 reset-hold h r known = record { engaged = λ q e. absurd (cc e); offered = λ v q e. absurd (cc e); remembers = λ accepted m. tt }
 
 reset-with : (s : SubchannelState) (shows : Bool) → IsReset s (reset_with s shows)
-reset-with s false = record { drawn = omega arith; available = refl; hold = reset-hold s.hold (s.drawn + 1) s.hold.known }
+reset-with s false = record { drawn = omega arith; available = refl; hold = reset-hold s.hold (s.drawn + 1) s.hold.known; disengaged = λ q e. absurd (cc e) }
 reset-with s true =
     let same : IsSame (reset_drawn s) (with_cause (reset_drawn s) cause.InterfaceControlCheck) = cause-same (reset_drawn s) cause.InterfaceControlCheck in
     record {
       drawn = let n : (with_cause (reset_drawn s) cause.InterfaceControlCheck).drawn ≡ s.drawn + 1 = same.drawn in omega (arith, n);
       available = same.available;
       hold = subst (λ (h : HoldState). IsCalmHold s.hold h) (sym same.hold) (reset-hold s.hold (s.drawn + 1) s.hold.known);
+      disengaged = λ q e. absurd (cc (sym (ap (λ (h : HoldState). engaged_path h.phase) same.hold) ∙ e));
     }
 
 pub reset-is : (s : SubchannelState) → IsReset s (reset_with s (is_offered_or_held s.hold.phase && has_any s.waiting s.begun s.suspended))

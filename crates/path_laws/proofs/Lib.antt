@@ -6,3 +6,10 @@ mod Told
 mod Calm
 mod Meeting
 mod Units
+mod Moving
+mod Passing
+mod Sweeps
+mod Turning
+mod OneEngine
+mod Remembering
+mod Showing

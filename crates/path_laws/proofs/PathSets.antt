@@ -1,6 +1,6 @@
 -- Which paths are in the sets that a path is chosen from.
-use Rattle.std.proofs.Common.{◌≡◌, refl, ℕ, zero, suc, ◌<◌, Bool, true, false, not, ◌&&◌, Some, List, arith}
-use Rattle.std.proofs.lemmas.Bool.{and_parts, false_from_ne_true}
+use Rattle.std.proofs.Common.{◌≡◌, refl, sym, ◌∙◌, ℕ, zero, suc, ◌<◌, Bool, true, false, not, ◌&&◌, Some, List, arith}
+use Rattle.std.proofs.lemmas.Bool.{and_parts, and_from, false_from_ne_true}
 use Rattle.std.proofs.lemmas.Option.{get_or_from_slice_get}
 use Rattle.allegiance.specs.PathUse.{is_member, each_path, in_both, without}
 use Rattle.path_select.specs.Choice.{IsUsable}
@@ -39,3 +39,25 @@ without-parts a b p e = and_parts (is_member a p) (not (is_member b p)) (each-tr
 
 pub usable-member : (set : List Bool) (p : ℕ) → IsUsable set p → is_member set p ≡ true
 usable-member set p u = get_or_from_slice_get set p true false u.1
+
+pub each-within : (f : ℕ → Bool) (p : ℕ) → is_member (each_path f) p ≡ true → p < 8
+each-within f zero e = omega arith
+each-within f (suc zero) e = omega arith
+each-within f (suc (suc zero)) e = omega arith
+each-within f (suc (suc (suc zero))) e = omega arith
+each-within f (suc (suc (suc (suc zero)))) e = omega arith
+each-within f (suc (suc (suc (suc (suc zero))))) e = omega arith
+each-within f (suc (suc (suc (suc (suc (suc zero)))))) e = omega arith
+each-within f (suc (suc (suc (suc (suc (suc (suc zero))))))) e = omega arith
+each-within f (suc (suc (suc (suc (suc (suc (suc (suc p)))))))) e = absurd (cc e)
+
+pub each-not : (f : ℕ → Bool) (p : ℕ) → p < 8 → not (is_member (each_path f) p) ≡ true → f p ≡ false
+each-not f p within e = by (f p) refl
+  where
+    by : (b : Bool) → f p ≡ b → f p ≡ false
+    by true h = absurd (cc (sym (not-true (is_member (each_path f) p) e) ∙ each-from f p within h))
+    by false h = h
+
+pub both-from : (f : ℕ → Bool) (b : List Bool) (p : ℕ) → is_member (each_path f) p ≡ true → is_member b p ≡ true → is_member (in_both (each_path f) b) p ≡ true
+both-from f b p e g =
+    each-from (λ q. is_member (each_path f) q && is_member b q) p (each-within f p e) (and_from (is_member (each_path f) p) (is_member b p) e g)

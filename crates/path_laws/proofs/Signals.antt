@@ -1,5 +1,5 @@
 -- What holds of each signal that waits on the wires of a subchannel, as signals are sent, taken and lost.
-use Rattle.std.proofs.Common.{◌≡◌, refl, subst, ℕ, zero, suc, Bool, true, false, Option, None, Some, List, [], ◌∷◌, ◌++◌, drop, slice_get, slice_set}
+use Rattle.std.proofs.Common.{◌≡◌, refl, subst, ℕ, zero, suc, Bool, true, false, Option, None, Some, List, [], ◌∷◌, ◌++◌, drop, replicate, slice_get, slice_set}
 use Rattle.allegiance.specs.PathUse.{is_member}
 use Rattle.chan_model.specs.declared.signal.OnPath.{OnPath}
 use Rattle.wires.specs.Queues.{queue, sent, taken, lost}
@@ -61,3 +61,9 @@ pub carried-each : {A : Type 0} (P : ℕ → A → Type 0) (queues : List (List 
     EachSignal P queues → EachSignal P (with_any_sent queues (carried available one))
 carried-each P queues available None one all = all
 carried-each P queues available (Some s) one all = where-each P queues s (is_member available s.path) one all
+
+-- where none waits
+pub none-wait : {A : Type 0} (P : ℕ → A → Type 0) (n : ℕ) → EachSignal P (replicate n [])
+none-wait P zero q = tt
+none-wait P (suc n) zero = tt
+none-wait {A} P (suc n) (suc q) = none-wait (λ (k : ℕ) (x : A). P (suc k) x) n q

@@ -59,7 +59,7 @@ other-echo p d q (up.Cleared r) other = tt
 other-echo p d q (up.Notice b) other = tt
 other-echo p d q (up.Attn a status) other = tt
 
-others-echo : (p : ℕ) (d : Down) (one : Option (OnPath Up)) → AreOthers one → AreEchoes p d one
+pub others-echo : (p : ℕ) (d : Down) (one : Option (OnPath Up)) → AreOthers one → AreEchoes p d one
 others-echo p d None others = tt
 others-echo p d (Some s) others = other-echo p d s.path s.signal others
 
