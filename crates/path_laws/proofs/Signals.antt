@@ -21,7 +21,7 @@ pub each-front : {A : Type 0} (P : A → Type 0) (xs : List A) (x : A) → Each 
 each-front P [] x all e = absurd (cc e)
 each-front {A} P (y ∷ ys) x all e = let same : y ≡ x = cc e in subst (λ (z : A). P z) same all.0
 
-each-weaker : {A : Type 0} (P Q : A → Type 0) (xs : List A) → ((x : A) → P x → Q x) → Each P xs → Each Q xs
+pub each-weaker : {A : Type 0} (P Q : A → Type 0) (xs : List A) → ((x : A) → P x → Q x) → Each P xs → Each Q xs
 each-weaker P Q [] f all = tt
 each-weaker P Q (x ∷ xs) f all = (f x all.0, each-weaker P Q xs f all.1)
 
