@@ -1,5 +1,5 @@
 -- What a subchannel does that begins no program and connects none: no path is engaged that was not, and no offer is made.
-use Rattle.std.proofs.Common.{◌≡◌, refl, sym, ◌∙◌, ap, subst, ℕ, ◌+◌, ◌≤◌, ◌==◌, ◌&&◌, nat_lt, Bool, true, false, not, Option, None, Some, if◌then◌else◌, arith}
+use Rattle.std.proofs.Common.{◌≡◌, refl, sym, ◌∙◌, ap, subst, ℕ, ◌+◌, ◌≤◌, ◌==◌, ◌&&◌, nat_lt, Bool, true, false, Option, None, Some, if◌then◌else◌, arith}
 use Rattle.chan_model.specs.declared.hold_state.HoldPhase.{HoldPhase}
 use Rattle.chan_model.specs.declared.hold_state.HoldPhase.TheVariants as hold
 use Rattle.chan_model.specs.declared.hold_state.HoldState.{HoldState}
@@ -14,7 +14,7 @@ use Rattle.subchannel_model.specs.declared.state.SubchannelState.{SubchannelStat
 use Rattle.subchannel_model.specs.declared.state.UpStep.{UpStep}
 use Rattle.subchannel_model.specs.Causes.{with_cause}
 use Rattle.subchannel_model.specs.Losing.{has_any, is_offered_or_held, reset_drawn, reset_with}
-use Rattle.subchannel_model.specs.Taking.{ignoring, quietly, sending, let_go, by_hold, clear_done, reset_taken, with_known, notice, with_attention}
+use Rattle.subchannel_model.specs.Taking.{ignoring, quietly, let_go, by_hold, clear_done, reset_taken, with_known, notice, with_attention}
 use Rattle.path_laws.proofs.SameState.{IsSame, cause-same, clear_done-same, attention-same}
 use Rattle.path_laws.proofs.Told.{Remembers}
 

@@ -12,7 +12,6 @@ use Rattle.chan_model.specs.declared.signal.Down.{Down}
 use Rattle.chan_model.specs.declared.signal.Down.TheVariants as down
 use Rattle.chan_model.specs.declared.signal.Load.{Load}
 use Rattle.chan_model.specs.declared.signal.OnPath.{OnPath}
-use Rattle.chan_model.specs.declared.signal.Taken.{Taken}
 use Rattle.chan_model.specs.declared.signal.Up.{Up}
 use Rattle.chan_model.specs.declared.signal.Up.TheVariants as up
 use Rattle.chan_model.specs.HoldTable.{HoldStep, hold_takes, hold_after, came_of, program_begun, asked_back, granting, refusing, is_connected, is_on}
@@ -41,7 +40,7 @@ use Rattle.subchannel_model.specs.Taking.{Met, meets, ignoring, quietly, let_go,
 use Rattle.path_laws.specs.Returns.{first_of_both, accepted_by, granted_on}
 use Rattle.path_laws.proofs.SameState.{IsSame, is-same, same-then, cause-same, interrupted-same, moving-same, suspending-same, halt_done-same}
 use Rattle.path_laws.proofs.Told.{Remembers, IsTiedUp}
-use Rattle.path_laws.proofs.Calm.{IsPlain, ArePlain, IsCalm, IsCalmHold, same-calm, ignored-calm, with_phase, busy-step, left-step, released-step, cleared-step, attended-step, by_hold-calm, cleared-calm, attention-calm, let-calm, notice-calm}
+use Rattle.path_laws.proofs.Calm.{IsPlain, ArePlain, IsCalm, same-calm, ignored-calm, with_phase, busy-step, left-step, released-step, cleared-step, attended-step, by_hold-calm, cleared-calm, attention-calm, let-calm, notice-calm}
 
 -- what may be answered to a signal that came by p: no offer, and a Grant on p only, to a program that is held and may come back
 abbrev pub IsAnswer : Bool → ℕ → HoldPhase → ℕ → Down → Type 0

@@ -1,12 +1,9 @@
 -- What a step leaves of one subchannel: which engine serves it, what waits on its wires, and what its hold remembers.
-use Rattle.std.proofs.Common.{◌≡◌, ◌≢◌, refl, sym, ◌∙◌, ap, subst, ℕ, ◌+◌, ◌≤◌, Bool, true, false, nat_lt, not, ◌&&◌, Option, None, Some, Result, Ok, Err, List, length, slice_get, IfOk, if◌then◌else◌, inl, inr, arith}
+use Rattle.std.proofs.Common.{◌≡◌, refl, sym, ◌∙◌, ap, subst, ℕ, ◌+◌, ◌≤◌, Bool, true, false, not, ◌&&◌, Option, None, Some, Result, Ok, Err, List, slice_get, IfOk, if◌then◌else◌, inl, inr, arith}
 use Rattle.std.specs.Prelude.{◌⊎◌}
 use Rattle.std.proofs.lemmas.Bool.{and_parts}
 use Rattle.allegiance.specs.Allegiances.{may_reconnect}
 use Rattle.allegiance.specs.PathUse.{is_member, reachable_paths, in_both, allowed_paths}
-use Rattle.chan_events.specs.declared.event.UnitAct.{UnitAct}
-use Rattle.chan_events.specs.declared.reply.Reply.{Reply}
-use Rattle.chan_events.specs.declared.reply.Reply.TheVariants as reply
 use Rattle.chan_model.specs.declared.fault.Fault.{Fault}
 use Rattle.chan_model.specs.declared.hold_state.HoldPhase.{HoldPhase}
 use Rattle.chan_model.specs.declared.hold_state.HoldPhase.TheVariants as hold
@@ -14,16 +11,8 @@ use Rattle.chan_model.specs.declared.hold_state.HoldState.{HoldState}
 use Rattle.chan_model.specs.declared.signal.Down.{Down}
 use Rattle.chan_model.specs.declared.signal.Down.TheVariants as down
 use Rattle.chan_model.specs.declared.signal.OnPath.{OnPath}
-use Rattle.chan_model.specs.declared.signal.Up.{Up}
-use Rattle.chan_model.specs.declared.signal.Up.TheVariants as up
-use Rattle.chan_model.specs.declared.unit_state.UnitState.{UnitState}
 use Rattle.chan_model.specs.HoldTable.{hold_after, sending_reset}
-use Rattle.chan_model.specs.ResetCauses.{engaged_path, is_held}
-use Rattle.chan_model.specs.UnitReports.{unit_reports}
-use Rattle.chan_model.specs.UnitTable.{UnitStep, unit_takes}
-use Rattle.chan_model.specs.UnitTable as unit_table
-use Rattle.storage_keys.specs.Storage.{Contents}
-use Rattle.wires.specs.Queues.{queue, taken}
+use Rattle.chan_model.specs.ResetCauses.{engaged_path}
 use Rattle.subchannel_model.specs.declared.cause.StatusCause.{StatusCause}
 use Rattle.subchannel_model.specs.declared.cause.StatusCause.TheVariants as cause
 use Rattle.subchannel_model.specs.declared.state.Chosen.{Chosen}
@@ -31,24 +20,18 @@ use Rattle.subchannel_model.specs.declared.state.Chosen.TheVariants.{Idle, Reset
 use Rattle.subchannel_model.specs.declared.state.Subchannel.{Subchannel}
 use Rattle.subchannel_model.specs.declared.state.SubchannelState.{SubchannelState}
 use Rattle.subchannel_model.specs.Causes.{with_cause}
-use Rattle.subchannel_model.specs.Choosing.{is_engaged, engaged_paths, path_use, return_paths, IsFitFor, marked_sub, reset_sent, halt_sent, offered}
+use Rattle.subchannel_model.specs.Choosing.{is_engaged, engaged_paths, path_use, return_paths, marked_sub, reset_sent, halt_sent, offered}
 use Rattle.subchannel_model.specs.Sending.{carried_by, finds_full, with_any_sent}
 use Rattle.subchannel_model.specs.Store.{available_paths}
-use Rattle.subchannel_model.specs.Taking.{takes_up}
-use Rattle.machine_model.specs.ActSteps.{has_path_of_act, acts, act_sub}
 use Rattle.machine_model.specs.ChooseSteps.{choose_sub}
-use Rattle.machine_model.specs.DownSteps.{down_front, down_sub}
-use Rattle.machine_model.specs.ReportSteps.{report_taken, report_sub}
-use Rattle.machine_model.specs.Turns.{SubTurn, UpTurn, DownTurn, with_state}
-use Rattle.machine_model.specs.UpSteps.{may_return, up_front, up_sub}
-use Rattle.path_laws.specs.Returns.{accepted_by, granted_path}
-use Rattle.path_laws.proofs.PathSets.{each-true, each-within, each-not, both-parts, without-parts}
+use Rattle.machine_model.specs.Turns.{SubTurn, with_state}
+use Rattle.machine_model.specs.UpSteps.{may_return}
+use Rattle.path_laws.specs.Returns.{accepted_by}
+use Rattle.path_laws.proofs.PathSets.{each-true, each-within, each-not, both-parts}
 use Rattle.path_laws.proofs.SameState.{IsSame, is-same, cause-same}
-use Rattle.path_laws.proofs.Signals.{EachSignal, OnSent, each-front, taken-each, carried-each}
-use Rattle.path_laws.proofs.Told.{Remembers, IsTiedDown, IsTiedUp, IsTold, IsLater, downs-later, ups-later}
+use Rattle.path_laws.proofs.Signals.{EachSignal, OnSent, carried-each}
+use Rattle.path_laws.proofs.Told.{Remembers, IsTiedDown, IsTold, IsLater, downs-later, ups-later}
 use Rattle.path_laws.proofs.Calm.{IsCalmHold, still-hold, with_phase}
-use Rattle.path_laws.proofs.Meeting.{IsAnswer, AreAnswers, IsMet, takes-met, answers-granted}
-use Rattle.path_laws.proofs.Units.{IsEcho, AreEchoes, AreOthers, others-echo, takes-echo, reports-send, acts-send}
 
 -- each signal waits on a path that is available
 abbrev pub IsOnAvailable : {A : Type 0} → List Bool → ℕ → A → Type 0

@@ -1,5 +1,5 @@
 -- What is offered is offered on the path that was chosen, one of those that are usable; where an allegiance is dedicated, on its path.
-use Rattle.std.proofs.Common.{◌≡◌, refl, sym, ◌∙◌, ap, subst, ℕ, ◌+◌, Bool, true, false, ◌&&◌, ◌==◌, Option, None, Some, Result, Ok, List, ◌∷◌, IfOk, if◌then◌else◌}
+use Rattle.std.proofs.Common.{◌≡◌, refl, sym, ◌∙◌, ap, subst, ℕ, ◌+◌, Bool, true, false, ◌&&◌, Option, None, Some, Result, List, ◌∷◌, IfOk, if◌then◌else◌}
 use Rattle.std.specs.Prelude.{unwrap_or}
 use Rattle.std.proofs.lemmas.Bool.{and_parts, and_right, eqb-true}
 use Rattle.allegiance.specs.PathUse.{is_member, is_any, keeps_dedicated, is_allowed, allowed_paths, in_both, reachable_paths, usable_paths}
@@ -18,7 +18,7 @@ use Rattle.subchannel_model.specs.declared.state.Subchannel.{Subchannel}
 use Rattle.subchannel_model.specs.Choosing.{unsent_at, unsent_reset, is_away, first_some, candidate, path_use, engaged_paths, return_paths, paths_by, paths_to_choose, reset_chosen, clear_chosen, halt_at, halt_chosen, over_unless, offer_at, offer_chosen, chosen, marked_sub}
 use Rattle.subchannel_model.specs.Sending.{carried_by, finds_full}
 use Rattle.machine_model.specs.ChooseSteps.{choose_sub}
-use Rattle.machine_model.specs.State.{State, place_of, sub_of}
+use Rattle.machine_model.specs.State.{State, sub_of}
 use Rattle.machine_model.specs.Steps.{Step}
 use Rattle.machine_model.specs.Turns.{SubTurn}
 use Rattle.subchannel_model.specs.Places.{sub_at}

@@ -1,9 +1,7 @@
 -- What signals that pass between a subchannel and its unit leave of the subchannel.
-use Rattle.std.proofs.Common.{◌≡◌, refl, sym, subst, ℕ, ◌≤◌, Bool, true, false, nat_lt, Option, None, Some, Result, Ok, Err, List, length, slice_get, IfOk, inl, inr, arith}
-use Rattle.std.specs.Prelude.{◌⊎◌}
+use Rattle.std.proofs.Common.{◌≡◌, refl, sym, subst, ℕ, Bool, true, nat_lt, Option, None, Some, List, length, slice_get, IfOk, inl, inr}
 use Rattle.chan_events.specs.declared.event.UnitAct.{UnitAct}
 use Rattle.chan_events.specs.declared.reply.Reply.TheVariants as reply
-use Rattle.chan_model.specs.declared.fault.Fault.{Fault}
 use Rattle.chan_model.specs.declared.hold_state.HoldPhase.{HoldPhase}
 use Rattle.chan_model.specs.declared.report.Report.{Report}
 use Rattle.chan_model.specs.declared.signal.Down.{Down}
@@ -12,14 +10,13 @@ use Rattle.chan_model.specs.declared.signal.OnPath.{OnPath}
 use Rattle.chan_model.specs.declared.signal.Up.{Up}
 use Rattle.chan_model.specs.declared.signal.Up.TheVariants as up
 use Rattle.chan_model.specs.declared.unit_state.UnitState.{UnitState}
-use Rattle.chan_model.specs.ResetCauses.{engaged_path, is_held}
+use Rattle.chan_model.specs.ResetCauses.{is_held}
 use Rattle.chan_model.specs.UnitReports.{unit_reports}
 use Rattle.chan_model.specs.UnitTable.{UnitStep, unit_takes}
 use Rattle.chan_model.specs.UnitTable as unit_table
 use Rattle.storage_keys.specs.Storage.{Contents}
 use Rattle.wires.specs.Queues.{queue, taken}
 use Rattle.subchannel_model.specs.declared.state.Subchannel.{Subchannel}
-use Rattle.subchannel_model.specs.declared.state.SubchannelState.{SubchannelState}
 use Rattle.subchannel_model.specs.declared.state.UpStep.{UpStep}
 use Rattle.subchannel_model.specs.Sending.{carried_by, finds_full, with_any_sent}
 use Rattle.subchannel_model.specs.Taking.{takes_up}
@@ -29,8 +26,8 @@ use Rattle.machine_model.specs.ReportSteps.{with_any_up, report_taken, report_su
 use Rattle.machine_model.specs.Turns.{UpTurn, DownTurn}
 use Rattle.machine_model.specs.UpSteps.{with_met, up_front, up_sub}
 use Rattle.path_laws.specs.Returns.{accepted_by, granted_path}
-use Rattle.path_laws.proofs.Signals.{EachSignal, OnSent, each-front, taken-each, carried-each}
-use Rattle.path_laws.proofs.Told.{IsTiedDown, IsTiedUp, IsTold, IsLater, downs-later, ups-later}
+use Rattle.path_laws.proofs.Signals.{OnSent, each-front, taken-each, carried-each}
+use Rattle.path_laws.proofs.Told.{IsTiedDown, IsTiedUp, IsLater, downs-later, ups-later}
 use Rattle.path_laws.proofs.Meeting.{IsAnswer, AreAnswers, IsMet, takes-met, answers-granted}
 use Rattle.path_laws.proofs.Units.{IsEcho, AreEchoes, AreOthers, others-echo, takes-echo, reports-send, acts-send}
 use Rattle.path_laws.proofs.Moving.{IsOnAvailable, IsCarried, IsFree, IsMoved, Same, same-available, on-available, if-ok}

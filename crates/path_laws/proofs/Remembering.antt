@@ -1,7 +1,6 @@
 -- After each run the hold of each subchannel remembers the path of what was accepted there, and a program comes back by it in
 -- single-path mode.
-use Rattle.std.proofs.Common.{◌≡◌, refl, sym, ◌∙◌, ap, subst, ℕ, zero, suc, Bool, true, Option, None, Some, Ok, List, [], map, replicate, slice_get, slice_index_or, IfOk, if◌then◌else◌, inl, inr}
-use Rattle.std.specs.Prelude.{◌⊎◌}
+use Rattle.std.proofs.Common.{◌≡◌, sym, ◌∙◌, ap, subst, ℕ, Bool, true, Option, None, Some, Ok, List, map, slice_get, IfOk, if◌then◌else◌, inl, inr}
 use Rattle.std.proofs.lemmas.Bool.{eqb-true}
 use Rattle.allegiance.specs.Allegiances.{may_reconnect}
 use Rattle.allegiance.specs.PathUse.{is_member}
@@ -17,13 +16,13 @@ use Rattle.channel_config.specs.Setup.{Setup}
 use Rattle.subchannel_model.specs.declared.state.Subchannel.{Subchannel}
 use Rattle.subchannel_model.specs.Opening.{opened}
 use Rattle.subchannel_model.specs.Store.{available_paths}
-use Rattle.machine_model.specs.State.{State, opening_of, place_of}
+use Rattle.machine_model.specs.State.{State, opening_of}
 use Rattle.machine_model.specs.Steps.{Step, Run, Opened, Stepped}
 use Rattle.machine_model.specs.Turns.{UpTurn}
-use Rattle.machine_model.specs.UpSteps.{may_return, up_sub, returns_at}
+use Rattle.machine_model.specs.UpSteps.{up_sub, returns_at}
 use Rattle.step_laws.specs.Walks as walked
 use Rattle.step_laws.specs.Walks.{AreWalks, Walked, IsQuiet}
-use Rattle.step_laws.proofs.Places.{set-get, map-get, same-or-not}
+use Rattle.step_laws.proofs.Places.{set-get, map-get}
 use Rattle.path_laws.specs.Returns.{accepted_after, accepted_path, granted_path, ReturnsByFirst}
 use Rattle.path_laws.proofs.Signals.{none-wait}
 use Rattle.path_laws.proofs.Told.{Remembers, IsTiedDown, IsTiedUp, IsTold}

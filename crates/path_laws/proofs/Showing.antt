@@ -1,8 +1,8 @@
 -- After each run the path-available mask of each subchannel shows which of its paths are up, and signals wait on these alone.
-use Rattle.std.proofs.Common.{◌≡◌, ◌≢◌, refl, sym, ◌∙◌, ap, subst, ℕ, zero, suc, ◌+◌, ◌<◌, ◌≤◌, ◌==◌, ◌&&◌, nat_le, nat_lt, not, Bool, true, false, Option, None, Some, List, [], ◌∷◌, length, map, replicate, slice_get, slice_set, slice_index_or, if◌then◌else◌, inl, inr, leb-true, arith}
-use Rattle.std.specs.Prelude.{◌⊎◌, All}
-use Rattle.std.specs.List.{list_any, list_all, range_with_len}
-use Rattle.std.proofs.lemmas.Bool.{and_parts, eq-eqb, eqb-true, eqb-false}
+use Rattle.std.proofs.Common.{◌≡◌, refl, sym, ◌∙◌, ap, subst, ℕ, zero, suc, ◌+◌, ◌<◌, ◌≤◌, ◌==◌, ◌&&◌, nat_le, nat_lt, not, Bool, true, false, Option, None, Some, List, [], ◌∷◌, length, slice_get, slice_set, slice_index_or, if◌then◌else◌, inl, inr, leb-true, arith}
+use Rattle.std.specs.Prelude.{◌⊎◌}
+use Rattle.std.specs.List.{list_all, range_with_len}
+use Rattle.std.proofs.lemmas.Bool.{and_parts, eq-eqb, eqb-true}
 use Rattle.std.proofs.lemmas.List.{length-set, get_or-replicate}
 use Rattle.std.proofs.lemmas.List.Elements.{All-contains}
 use Rattle.std.proofs.lemmas.List.FromFn.{get_or-range_with_len, length-range_with_len}
@@ -14,13 +14,12 @@ use Rattle.chan_events.specs.declared.reply.Entry.{Entry}
 use Rattle.chan_events.specs.declared.reply.Reply.{Reply}
 use Rattle.channel_config.specs.declared.parts.SubchannelSetup.{SubchannelSetup}
 use Rattle.channel_config.specs.Lawful.{IsLawful, IsPlaced}
-use Rattle.channel_config.specs.Setup.{Setup, set_count, has_number, are_distinct, are_paths}
+use Rattle.channel_config.specs.Setup.{Setup, set_count, has_number, are_distinct}
 use Rattle.wires.specs.Queues.{queue, lost}
 use Rattle.subchannel_model.specs.declared.state.Subchannel.{Subchannel}
 use Rattle.subchannel_model.specs.declared.state.SubchannelState.{SubchannelState}
-use Rattle.subchannel_model.specs.Losing.{path_lost, index_after, path_index, loses_at, shows_at, goes_down}
+use Rattle.subchannel_model.specs.Losing.{path_lost, index_after, path_index, loses_at, shows_at}
 use Rattle.subchannel_model.specs.Opening.{opened, all_paths}
-use Rattle.subchannel_model.specs.SystemReset.{reset_by_system}
 use Rattle.machine_model.specs.declared.state.Sweep.{Sweep}
 use Rattle.machine_model.specs.declared.state.Sweep.TheVariants as sweep
 use Rattle.machine_model.specs.PathSteps.{swept}
@@ -31,7 +30,7 @@ use Rattle.step_laws.proofs.Places.{set-get, map-get, same-or-not}
 use Rattle.path_laws.specs.Shown.{IsShown, AreShown}
 use Rattle.path_laws.proofs.Signals.{Each, each-weaker, EachSignal, signals-weaker, lost-each, none-wait}
 use Rattle.path_laws.proofs.Moving.{IsOnAvailable, IsCarried, IsMoved, same-available}
-use Rattle.path_laws.proofs.Sweeps.{set-here, set-other, set-default, member-more, IsLost, is-lost, down-at}
+use Rattle.path_laws.proofs.Sweeps.{set-here, set-other, set-default, member-more, is-lost, down-at}
 use Rattle.path_laws.proofs.Turning.{Turned, OfNone, OfOne, OfAll, step-turned}
 
 -- of a subchannel with up to eight different paths the mask shows which are up, and each signal waits on one of them

@@ -2,7 +2,7 @@
 use Rattle.std.proofs.Common.{◌≡◌, refl, subst, ℕ, zero, suc, Bool, true, false, Option, None, Some, List, [], ◌∷◌, ◌++◌, drop, replicate, slice_get, slice_set}
 use Rattle.allegiance.specs.PathUse.{is_member}
 use Rattle.chan_model.specs.declared.signal.OnPath.{OnPath}
-use Rattle.wires.specs.Queues.{queue, sent, taken, lost}
+use Rattle.wires.specs.Queues.{queue, taken, lost}
 use Rattle.subchannel_model.specs.Sending.{carried_where, carried, with_any_sent}
 
 abbrev pub Each : {A : Type 0} → (A → Type 0) → List A → Type 0

@@ -1,11 +1,9 @@
 -- What a path that goes down, comes up or is reset, and a reset of the subsystem, leave of one subchannel.
-use Rattle.std.proofs.Common.{◌≡◌, ◌≢◌, refl, sym, ◌∙◌, ap, subst, ℕ, zero, suc, ◌+◌, ◌<◌, ◌==◌, ◌||◌, ◌&&◌, Bool, true, false, Option, None, Some, List, [], ◌∷◌, length, slice_index_or, slice_set, if◌then◌else◌, inl, inr, arith}
+use Rattle.std.proofs.Common.{◌≡◌, ◌≢◌, refl, sym, ◌∙◌, ap, subst, ℕ, zero, suc, ◌+◌, ◌<◌, ◌||◌, ◌&&◌, Bool, true, false, Option, None, Some, List, [], ◌∷◌, length, slice_index_or, slice_set, if◌then◌else◌, arith}
 use Rattle.std.proofs.lemmas.Bool.{or_parts, eq-eqb}
 use Rattle.allegiance.specs.PathUse.{is_member}
 use Rattle.channel_config.specs.declared.parts.SubchannelSetup.{SubchannelSetup}
-use Rattle.chan_model.specs.declared.hold_state.HoldState.{HoldState}
 use Rattle.chan_model.specs.ResetCauses.{is_path, engaged_path, is_held, is_reset, rests_on}
-use Rattle.wires.specs.Queues.{lost}
 use Rattle.subchannel_model.specs.declared.state.Subchannel.{Subchannel}
 use Rattle.subchannel_model.specs.declared.state.SubchannelState.{SubchannelState}
 use Rattle.subchannel_model.specs.Losing.{path_lost, path_index, loses_at, loses, shows_at, goes_down, reset_for}
@@ -13,7 +11,6 @@ use Rattle.subchannel_model.specs.SystemReset.{reset_by_system, state_reset}
 use Rattle.machine_model.specs.declared.state.Sweep.{Sweep}
 use Rattle.machine_model.specs.declared.state.Sweep.TheVariants as sweep
 use Rattle.machine_model.specs.PathSteps.{swept}
-use Rattle.step_laws.proofs.Places.{same-or-not}
 use Rattle.path_laws.proofs.Signals.{lost-each}
 use Rattle.path_laws.proofs.Told.{IsTiedDown, IsTiedUp, IsTold, IsLater, downs-later, ups-later}
 use Rattle.path_laws.proofs.Calm.{IsCalmHold, still-hold, IsReset, reset-hold, reset-is}

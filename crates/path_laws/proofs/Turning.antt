@@ -1,5 +1,5 @@
 -- What each step leaves of the subchannels, and of what was accepted at each place.
-use Rattle.std.proofs.Common.{◌≡◌, ◌≢◌, refl, sym, ◌∙◌, ap, subst, ℕ, ◌+◌, ◌==◌, Bool, true, false, Option, None, Some, List, map, slice_get, slice_set, Ok, IfOk, if◌then◌else◌, arith}
+use Rattle.std.proofs.Common.{◌≡◌, ◌≢◌, refl, sym, ◌∙◌, ap, subst, ℕ, ◌+◌, Bool, true, false, Option, None, Some, List, map, slice_get, slice_set, IfOk, if◌then◌else◌, arith}
 use Rattle.std.proofs.lemmas.Bool.{eq-eqb, ne_eqb}
 use Rattle.chan_events.specs.declared.event.Event.{Event}
 use Rattle.chan_events.specs.declared.event.Event.TheVariants as event
@@ -19,7 +19,6 @@ use Rattle.subchannel_model.specs.declared.state.Chosen.{Chosen}
 use Rattle.subchannel_model.specs.declared.state.Chosen.TheVariants.{Idle, Resets, PerformsClear, Halts, PerformsHalt, FindsNoPath, Offers}
 use Rattle.subchannel_model.specs.declared.state.PmcwState.{PmcwState}
 use Rattle.subchannel_model.specs.declared.state.Subchannel.{Subchannel}
-use Rattle.subchannel_model.specs.declared.state.SubchannelState.{SubchannelState}
 use Rattle.subchannel_model.specs.Cancel.{cancelled}
 use Rattle.subchannel_model.specs.Choosing.{chosen, engaged_paths, path_use, paths_to_choose}
 use Rattle.subchannel_model.specs.Clear.{cleared}
@@ -33,7 +32,7 @@ use Rattle.machine_model.specs.declared.state.Sweep.{Sweep}
 use Rattle.machine_model.specs.InstructionSteps.{function_sub, test_with}
 use Rattle.machine_model.specs.PathSteps.{swept}
 use Rattle.machine_model.specs.State.{State, place_of}
-use Rattle.machine_model.specs.Turns.{SubTurn, UpTurn, DownTurn, with_state}
+use Rattle.machine_model.specs.Turns.{with_state}
 use Rattle.machine_model.specs.UpSteps.{may_return, returns_by, returns_at}
 use Rattle.step_laws.specs.Walks as walked
 use Rattle.step_laws.specs.Walks.{Walked, IsQuiet, OneSub, OneUnit, Suits, Function, Resumes, Halts, Clears, Cancels, effect_of, up_after}
@@ -42,7 +41,7 @@ use Rattle.path_laws.proofs.PathSets.{without-parts}
 use Rattle.path_laws.proofs.Offering.{IsOffer, chosen-offer, offer-usable}
 use Rattle.path_laws.proofs.SameState.{is-same, tested-same, halted-same}
 use Rattle.path_laws.proofs.Calm.{reset-hold}
-use Rattle.path_laws.proofs.Moving.{IsFree, IsMoved, Same, moved-as, state-moved, same-moved, unmoved, IsOpen, OkChoose, marked-choose, usable-free, return-parts}
+use Rattle.path_laws.proofs.Moving.{IsMoved, Same, moved-as, state-moved, same-moved, unmoved, IsOpen, OkChoose, marked-choose, usable-free, return-parts}
 use Rattle.path_laws.proofs.Passing.{IsUpMoved, IsUnitMoved, up-moved, down-moved, report-moved, act-moved}
 
 -- a step leaves all subchannels, or all but one, or sweeps over them; and at each other place nothing was accepted or offered
