@@ -116,11 +116,10 @@ module _ (s : State) where
       let subs : List Subchannel = slice_set s.subs f.place after in
       let left : sub_at subs (place_in id subs) ≡ Some after =
       ap (sub_at subs) (place-stays id s.subs f.place f.sub after there.1 same ∙ there.0)
-      ∙ get-set s.subs f.place f.sub after there.1 in
-      (
+      ∙ get-set s.subs f.place f.sub after there.1 in (
         refl,
         subst (λ (o : Option Subchannel). IsAnsweredBy i o r (sub_at subs (place_in id subs))) (sym before)
-        (subst (λ (o : Option Subchannel). IsAnsweredBy i (Some f.sub) r o) (sym left) k),
+            (subst (λ (o : Option Subchannel). IsAnsweredBy i (Some f.sub) r o) (sym left) k),
       )
 
   -- the column of the instruction is this one
@@ -186,7 +185,7 @@ module _ (s : State) where
       elim w [
         | inl x ↦ subst (OkOn (instruction.Ssch word address) id) (sym x.1) tt
         | inr x ↦ subst (OkOn (instruction.Ssch word address) id) (sym x.2)
-          (function-answers (instruction.Ssch word address) id q s.storage ssch_code (λ sub. started sub.state x.0) e (λ c. refl))
+            (function-answers (instruction.Ssch word address) id q s.storage ssch_code (λ sub. started sub.state x.0) e (λ c. refl))
       ]
 
   -- MODIFY

@@ -212,9 +212,9 @@ module _ (s : State) where
   effect-follows cpu word place sub Halts at =
       record {
         clears = elim (halted-clears sub.state (drops_status sub.state.scsw) refl) [
-            | inl k ↦ inl k
-            | inr k ↦ inr (at, k)
-          ];
+          | inl k ↦ inl k
+          | inr k ↦ inr (at, k)
+        ];
         change = Keeps (as-same sub.state.hold.phase _ (halted-phase sub.state (drops_status sub.state.scsw)));
       }
   effect-follows cpu word place sub Clears at = record { clears = inr at; change = Resets at refl }
@@ -370,9 +370,9 @@ module _ (s : State) where
   one-followed e r new at x y found set k place sub after there left =
       elim (set-get s.subs at y place after (sym (ap (λ (xs : List Subchannel). slice_get xs place) set) ∙ left)) [
         | inl p ↦
-          let same : x ≡ sub = same-sub x sub (sym found ∙ ap (λ (i : ℕ). slice_get s.subs i) (sym p.0) ∙ there) in
-          subst (λ (z : Subchannel). Follows s e r place sub z.state) (sym p.1)
-          (subst (λ (z : Subchannel). Follows s e r place z y.state) same (subst (λ (i : ℕ). Follows s e r i x y.state) (sym p.0) k))
+            let same : x ≡ sub = same-sub x sub (sym found ∙ ap (λ (i : ℕ). slice_get s.subs i) (sym p.0) ∙ there) in
+            subst (λ (z : Subchannel). Follows s e r place sub z.state) (sym p.1)
+            (subst (λ (z : Subchannel). Follows s e r place z y.state) same (subst (λ (i : ℕ). Follows s e r i x y.state) (sym p.0) k))
         | inr p ↦ same-follows e r place sub after.state (ap (λ (z : Subchannel). z.state) (same-sub after sub (sym p.1 ∙ there)))
       ]
 

@@ -234,11 +234,10 @@ marked-choose subs sub choice c free =
 pub usable-free : (subs : List Subchannel) (sub : Subchannel) (path : ℕ) → is_member (reachable_paths (path_use sub)) path ≡ true →
     not (is_member (engaged_paths subs sub) path) ≡ true → IsFree subs sub path
 usable-free subs sub path within engaged =
-    let masks = path_use sub in
-    (
+    let masks = path_use sub in (
       (both-parts (in_both (allowed_paths masks) masks.installed) masks.available path within).1,
       each-not (λ p. is_engaged subs (slice_get sub.setup.paths p)) path
-      (each-within (λ p. is_member (in_both (allowed_paths masks) masks.installed) p && is_member masks.available p) path within) engaged,
+          (each-within (λ p. is_member (in_both (allowed_paths masks) masks.installed) p && is_member masks.available p) path within) engaged,
     )
 
 pub return-parts : (subs : List Subchannel) (sub : Subchannel) (path : ℕ) → may_return subs sub path ≡ true →

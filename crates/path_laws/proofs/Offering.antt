@@ -99,9 +99,9 @@ free-paths : (subs : List Subchannel) (sub : Subchannel) → sub.state.hold.phas
 free-paths subs sub e =
     ap (λ (phase : HoldPhase). paths_by (unsent_at phase sub.state.hold.reset_path) subs sub) e
     ∙ ap (λ (phase : HoldPhase). if sub.state.scsw.activity.halt_pending && is_away phase then return_paths sub
-        else usable_paths (path_use sub) (engaged_paths subs sub)) e
+    else usable_paths (path_use sub) (engaged_paths subs sub)) e
     ∙ ap (λ (b : Bool). if b then return_paths sub else usable_paths (path_use sub) (engaged_paths subs sub))
-        (and_right sub.state.scsw.activity.halt_pending false refl)
+    (and_right sub.state.scsw.activity.halt_pending false refl)
 
 pub offer-usable : (subs : List Subchannel) (sub : Subchannel) (choice : Option ℕ) (path : ℕ) → IsChoice (paths_to_choose subs sub) choice →
     sub.state.hold.phase ≡ hold.Free → choice ≡ Some path → is_member (usable_paths (path_use sub) (engaged_paths subs sub)) path ≡ true
@@ -147,10 +147,10 @@ choose-dedicated s word sub choice (Offers c path) at x f o =
     if-ok (λ (t : SubTurn). OffersOnDedicated s (event.Choose word) t.reply)
     (finds_full sub.wires.down (carried_by sub (Some (record { path = path; signal = down.Select (sub.state.drawn + 1) })))) _ _ tt
     (λ other d e h.
-        let same : other ≡ sub = cc (sym e ∙ at) in
-        let usable = offer-usable s.subs sub choice path x f.fits o in
-        let within = (without-parts (reachable_paths (path_use sub)) (engaged_paths s.subs sub) path usable).0 in
-        reach-dedicated sub path d within (subst (λ (y : Subchannel). y.state.dedicated ≡ Some d) same h))
+    let same : other ≡ sub = cc (sym e ∙ at) in
+    let usable = offer-usable s.subs sub choice path x f.fits o in
+    let within = (without-parts (reachable_paths (path_use sub)) (engaged_paths s.subs sub) path usable).0 in
+    reach-dedicated sub path d within (subst (λ (y : Subchannel). y.state.dedicated ≡ Some d) same h))
 
 quiet-dedicated : (s : State) (e : Event) (r : Reply) → IsQuiet e r → OffersOnDedicated s e r
 quiet-dedicated s (event.Put address bytes) r q = tt

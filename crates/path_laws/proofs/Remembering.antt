@@ -54,9 +54,9 @@ turned-told s _ _ _ accepted (OfOne e r new place sub after there subs up m sile
 turned-told s _ _ _ accepted (OfAll e r new what silent subs up) k =
     subst (λ (xs : List Subchannel). AreTold (λ at. accepted_after at s e r (accepted at)) xs) (sym subs)
     (λ at x h.
-        let q = map-get _ s.subs at x h in
-        subst (λ (o : Option ℕ). IsTold o x) (sym (silent at (accepted at)))
-        (subst (λ (y : Subchannel). IsTold (accepted at) y) q.2 ((is-swept what q.0).told (accepted at) (k at q.0 q.1))))
+    let q = map-get _ s.subs at x h in
+    subst (λ (o : Option ℕ). IsTold o x) (sym (silent at (accepted at)))
+    (subst (λ (y : Subchannel). IsTold (accepted at) y) q.2 ((is-swept what q.0).told (accepted at) (k at q.0 q.1))))
 
 -- at the opening nothing was accepted, and no signal waits
 opened-told : (setup : SubchannelSetup) → IsTold None (opened setup)

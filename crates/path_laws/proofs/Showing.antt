@@ -54,8 +54,7 @@ sourced-shown : (up : List Bool) (sub : Subchannel) → IsSourced up sub → IsS
 sourced-shown up sub k = record {
   available = k.available;
   silent = λ p chpid at down.
-      let no : is_member sub.state.pmcw.available p ≡ false = k.available p chpid false at down in
-      (
+      let no : is_member sub.state.pmcw.available p ≡ false = k.available p chpid false at down in (
         no-signal sub.state.pmcw.available p (queue sub.wires.down p) no (k.carried.downs p),
         no-signal sub.state.pmcw.available p (queue sub.wires.up p) no (k.carried.ups p),
       );
@@ -246,8 +245,8 @@ turned-sourced s _ _ _ (OfAll e r new what silent subs up) k =
     subst (λ (paths : List Bool). AreSourced paths new.subs) (sym up)
     (subst (λ (xs : List Subchannel). AreSourced (up_after what s.up) xs) (sym subs)
     (λ at x h.
-        let q = map-get (swept what) s.subs at x h in
-        subst (λ (y : Subchannel). IsSourced (up_after what s.up) y) q.2 (swept-sourced what s.up q.0 (k at q.0 q.1))))
+    let q = map-get (swept what) s.subs at x h in
+    subst (λ (y : Subchannel). IsSourced (up_after what s.up) y) q.2 (swept-sourced what s.up q.0 (k at q.0 q.1))))
 
 -- at the opening each path that is configured is up
 all-at : (test : ℕ → Bool) (xs : List ℕ) (i x : ℕ) → list_all test xs ≡ true → slice_get xs i ≡ Some x → test x ≡ true
