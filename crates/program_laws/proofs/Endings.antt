@@ -16,7 +16,7 @@ use Rattle.program_laws.proofs.Parts.{IsAtWork, HasArrived}
 use Rattle.program_laws.proofs.Holds.{HasWork, IsHeld, none-stands, standing-some}
 
 -- no block is next then
-pub ended-next : (last : Option Latest) (modifier : Bool) → next_ended last (record { goes_on = false; modifier = modifier }) ≡ None
+ended-next : (last : Option Latest) (modifier : Bool) → next_ended last (record { goes_on = false; modifier = modifier }) ≡ None
 ended-next None modifier = refl
 ended-next (Some last) modifier = refl
 
@@ -25,8 +25,8 @@ ended-tied : (earlier : ℕ) (orb : Orb) (acts : List Act) (ps : List (Option �
 ended-tied earlier orb acts ps t modifier k = record {
   walk =
       k.walk
-          ∙ ap (λ (x : Option ℕ). (let p : WalkPlace = record { orb = orb; role = role_of orb acts; latest = latest orb acts; next = x; tried = tried orb acts } in p))
-          (k.stands ∙ sym (ended-next (latest orb acts) modifier));
+      ∙ ap (λ (x : Option ℕ). (let p : WalkPlace = record { orb = orb; role = role_of orb acts; latest = latest orb acts; next = x; tried = tried orb acts } in p))
+      (k.stands ∙ sym (ended-next (latest orb acts) modifier));
   program = (k.stands, k.program);
   stands = ended-next (latest orb acts) modifier;
   chained = k.chained;

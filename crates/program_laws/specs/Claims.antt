@@ -66,19 +66,19 @@ AbsorbsInOrder orb part absorbed =
 abbrev pub part_of : ProgramTrace → CommandTrace
 part_of k = if length k.taken == k.sent then k.now else k.before
 
--- the last block suspended the program before it took control
+-- the program was suspended by its last block, before this took control
 abbrev pub IsSuspended : Orb → List Act → Type 0
 IsSuspended orb (Block address bytes ∷ before) = reads orb (role_of orb before) bytes ≡ Suspends
 IsSuspended orb acts = ⊥
 
--- each block that is next is fetched: none is left to be, but of a program that did not begin, or that was suspended
+-- each block that is next is fetched, but of a program that did not begin, or that was suspended before the block took control
 abbrev pub IsWhole : Orb → List Act → Type 0
 IsWhole orb acts = (acts ≡ []) ⊎ ((next orb acts ≡ None) ⊎ IsSuspended orb acts)
 
 pub record TraceCorrect (k : ProgramTrace) : Type 0 where
   -- each block is where the blocks before it say
   pub program : IsProgram k.orb k.now.acts
-  -- and none that they say is next is left
+  -- and each that is next was fetched
   pub whole : IsWhole k.orb k.now.acts
   pub takes : TakesInOrder k
   -- the bytes that were moved are those at the first places of the command

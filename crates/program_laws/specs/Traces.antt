@@ -128,16 +128,17 @@ abbrev pub answers : Contents → Option ActiveProgram → ℕ → ℕ → Load 
 answers storage None n s load k = k
 answers storage (Some b) n s load k = if is_answered b.transfer n s then moves storage b.transfer s load k else k
 
--- End: the next; a command after which none is chained to ends
+-- End: the command ends, and none is chained to it
 abbrev pub ends_alone : DeviceStatus → ProgramTrace → ProgramTrace
 ends_alone status k = record k { now = with_acts k.now (End (record { goes_on = false; modifier = has_status_modifier status }) ∷ []) }
 
+-- the next command is chained to as device end comes; until then the command has not ended
 abbrev pub chains : Contents → SubchannelState → ActiveProgram → DeviceStatus → Bool → ProgramTrace → ProgramTrace
 chains storage s b status more k =
     if chains_command s.scsw b status more then
-      (if has_device_end status
-      then trace_goes_on (next_command storage b.transfer (has_status_modifier status)).came (next_acts storage b.transfer (has_status_modifier status)) k
-      else k)
+    (if has_device_end status
+    then trace_goes_on (next_command storage b.transfer (has_status_modifier status)).came (next_acts storage b.transfer (has_status_modifier status)) k
+    else k)
     else ends_alone status k
 
 abbrev pub trace_ends : Contents → SubchannelState → Option ActiveProgram → ℕ → DeviceStatus → Bool → ProgramTrace → ProgramTrace
