@@ -1,13 +1,12 @@
 -- Data chaining, and bytes that are moved.
 use Rattle.std.proofs.Common.{◌≡◌, refl, ap, sym, ◌∙◌, subst, ℕ, ◌+◌, ◌-◌, ◌≤◌, Bool, true, false, List, [], ◌∷◌, ◌++◌, length, Option, Some, None, inl, arith, append_assoc}
-use Rattle.std.specs.Prelude.{◌&&◌, ◌==◌, not, is_some, is_none, IsSome, if◌then◌else◌}
+use Rattle.std.specs.Prelude.{◌&&◌, ◌==◌, not, is_some, is_none, if◌then◌else◌}
 use Rattle.std.proofs.lemmas.Bool.{and_parts, eqb-true}
 use Rattle.std.proofs.lemmas.List.{append-nil}
 use Rattle.orb_block.specs.declared.Orb.{Orb}
 use Rattle.ccw_codec.specs.declared.Ccw.{Ccw}
 use Rattle.storage_keys.specs.Storage.{Contents}
 use Rattle.channel_program.specs.declared.check.Check.{Check}
-use Rattle.channel_program.specs.declared.check.Check.TheVariants.{Program}
 use Rattle.channel_program.specs.declared.Advance.{Advance}
 use Rattle.channel_program.specs.declared.Advance.TheVariants as advance
 use Rattle.channel_program.specs.declared.Reading.TheVariants.{Takes}
@@ -26,7 +25,8 @@ use Rattle.program_laws.specs.CommandActs as doing
 use Rattle.program_laws.specs.CommandActs.{CommandTrace, chained_acts, with_acts, with_places}
 use Rattle.program_laws.proofs.Lists.{none-some}
 use Rattle.program_laws.proofs.Advances.{Went, advance-went}
-use Rattle.program_laws.proofs.Ties.{AreLaws, HasCode, IsMovedTo, Tied, spot-changed, ccw-of, done-within, with_moved-tied}
+use Rattle.program_laws.proofs.Standing.{Stands, acts-stand, suspended-unchained}
+use Rattle.program_laws.proofs.Ties.{AreLaws, HasCode, IsMovedTo, Tied, none-next, spot-changed, ccw-of, done-within, with_moved-tied}
 
 module _ (laws : AreLaws) where
   -- where the count is used up, the places are all of them
@@ -71,7 +71,7 @@ module _ (laws : AreLaws) where
         record {
           walk = w;
           program = p;
-          stands = λ x. n;
+          stands = n;
           chained = λ x. i;
           coded = subst (λ (xs : List Command). HasCode xs t.code) (sym commanded) (joined-code cs ccw t.code h);
           kind = ap (λ (x : WalkPlace). kind_of x.orb) w;
@@ -84,11 +84,12 @@ module _ (laws : AreLaws) where
     -- none is: the program stopped
     unjoined : (orb : Orb) (before acts : List Act) (t : Transfer) (walk : WalkPlace) (ps : List (Option ℕ)) (check : Check) → walk ≡ walk_place orb acts → IsProgram orb acts →
         HasCode (commands orb before) t.code → t.moving.kind ≡ kind_of orb → length (commands orb before) ≡ earlier + t.command → IsMovedTo orb (data_areas orb before) t ps →
-        commands orb acts ≡ commands orb before → data_areas orb acts ≡ data_areas orb before → Tied earlier orb acts ps (record t { walk = walk; fault = Some check })
-    unjoined orb before acts t walk ps check w p h m l s f g = record {
+        commands orb acts ≡ commands orb before → data_areas orb acts ≡ data_areas orb before → next orb acts ≡ None →
+        Tied earlier orb acts ps (record t { walk = walk; fault = Some check })
+    unjoined orb before acts t walk ps check w p h m l s f g n = record {
       walk = w;
       program = p;
-      stands = λ x. absurd (cc x);
+      stands = n;
       chained = λ x. absurd (cc x);
       coded = subst (λ (xs : List Command). HasCode xs t.code) (sym f) h;
       kind = m;
@@ -99,13 +100,13 @@ module _ (laws : AreLaws) where
     }
 
     -- no block is next: nothing is done
-    stays-tied : (orb : Orb) (before : List Act) (t : Transfer) (ps : List (Option ℕ)) → is_some t.fault ≡ false → next orb (Used_up ∷ before) ≡ None → Tied earlier orb before ps t →
+    stays-tied : (orb : Orb) (before : List Act) (t : Transfer) (ps : List (Option ℕ)) → next orb (Used_up ∷ before) ≡ None → Tied earlier orb before ps t →
         Tied earlier orb (Used_up ∷ before) ps t
-    stays-tied orb before t ps f n k = record {
+    stays-tied orb before t ps n k = record {
       walk =
-          k.walk ∙ ap (λ (x : Option ℕ). (let p : WalkPlace = record { orb = orb; role = role_of orb before; latest = latest orb before; next = x; tried = tried orb before } in p)) (k.stands f ∙ sym n);
-      program = (k.stands f, k.program);
-      stands = λ x. n;
+          k.walk ∙ ap (λ (x : Option ℕ). (let p : WalkPlace = record { orb = orb; role = role_of orb before; latest = latest orb before; next = x; tried = tried orb before } in p)) (k.stands ∙ sym n);
+      program = (k.stands, k.program);
+      stands = n;
       chained = k.chained;
       coded = k.coded;
       kind = k.kind;
@@ -114,20 +115,16 @@ module _ (laws : AreLaws) where
     }
 
     chained-by : (storage : Contents) (orb : Orb) (before acts : List Act) (t : Transfer) (walk : WalkPlace) (ps : List (Option ℕ)) (a : Option Advance) → walk ≡ walk_place orb acts →
-        IsProgram orb acts → is_some t.fault ≡ false → (role_of orb before).chained ≡ true → residual t.moving ≡ 0 → Tied earlier orb before ps t →
+        IsProgram orb acts → (role_of orb before).chained ≡ true → residual t.moving ≡ 0 → Tied earlier orb before ps t →
         Went (role_of orb before).chained (commands orb before) (commands orb acts) (data_areas orb before) (data_areas orb acts) (next orb acts) (role_of orb acts) a →
-        (a ≡ None → Tied earlier orb acts ps t) → Tied earlier orb acts ps (chained_to t walk a)
-    chained-by storage orb before acts t walk ps (Some (advance.Takes ccw)) w p f c z k g o =
+        ((x : Advance) → a ≡ Some x → Stands orb acts x) → (a ≡ None → Tied earlier orb acts ps t) → Tied earlier orb acts ps (chained_to t walk a)
+    chained-by storage orb before acts t walk ps (Some (advance.Takes ccw)) w p c z k g e o =
         joins orb before acts t walk ps ccw w p c k.coded k.kind k.number k.spot z g.0 g.1 g.2 g.3
-    chained-by storage orb before acts t walk ps (Some advance.Suspends) w p f c z k g o = unjoined orb before acts t walk ps Program w p k.coded k.kind k.number k.spot g.0 g.1
-    chained-by storage orb before acts t walk ps (Some (advance.Stops check)) w p f c z k g o = unjoined orb before acts t walk ps check w p k.coded k.kind k.number k.spot g.0 g.1
-    chained-by storage orb before acts t walk ps None w p f c z k g o = o refl
-
-    none-next : (storage : Contents) (old : WalkPlace) (n : Option ℕ) → old.next ≡ n → advance_of old (advance_acts storage old) ≡ None → n ≡ None
-    none-next storage old None e a = refl
-    none-next storage old (Some address) e a =
-        let s : IsSome (advance_of old (advance_acts storage old)) = (laws.stands storage old).1 (ap (λ (x : Option ℕ). is_some x) e) in
-        absurd (cc (sym (ap (λ (x : Option Advance). is_some x) a) ∙ s))
+    chained-by storage orb before acts t walk ps (Some advance.Suspends) w p c z k g e o =
+        absurd (cc (sym (g.2 ∙ c) ∙ suspended-unchained orb acts (e advance.Suspends refl)))
+    chained-by storage orb before acts t walk ps (Some (advance.Stops check)) w p c z k g e o =
+        unjoined orb before acts t walk ps check w p k.coded k.kind k.number k.spot g.0 g.1 (e (advance.Stops check) refl)
+    chained-by storage orb before acts t walk ps None w p c z k g e o = o refl
 
     chained-tied : (storage : Contents) (orb : Orb) (acts : List Act) (ps : List (Option ℕ)) (t : Transfer) → is_some t.fault ≡ false → t.moving.ccw.chain_data ≡ true →
         residual t.moving ≡ 0 → Tied earlier orb acts ps t → Tied earlier orb (chained_acts storage t ++ acts) ps (chained storage t)
@@ -136,13 +133,14 @@ module _ (laws : AreLaws) where
         let old : WalkPlace = walk_place orb used in
         let news : List Act = advance_acts storage old in
         let by : Tied earlier orb (news ++ used) ps (chained_from storage t old) =
-        chained-by storage orb acts (news ++ used) t (after_acts old news) ps (advance_of old news) (laws.leads orb used news) (laws.goes storage orb used (k.stands f, k.program)) f (k.chained f ∙ d) z
+        chained-by storage orb acts (news ++ used) t (after_acts old news) ps (advance_of old news) (laws.leads orb used news) (laws.goes storage orb used (k.stands, k.program)) (k.chained f ∙ d) z
         k
         (advance-went storage orb used)
+        (λ x. acts-stand orb used news x (laws.leads orb used))
         (λ e.
-        let n : next orb used ≡ None = none-next storage old (next orb used) refl e in
+        let n : next orb used ≡ None = none-next earlier laws storage orb used e in
         let none : news ≡ [] = ap (λ (x : Option ℕ). acts_at storage old x) n in
-        subst (λ (xs : List Act). Tied earlier orb (xs ++ used) ps t) (sym none) (stays-tied orb acts t ps f n k)) in
+        subst (λ (xs : List Act). Tied earlier orb (xs ++ used) ps t) (sym none) (stays-tied orb acts t ps n k)) in
         subst (λ (w : WalkPlace). Tied earlier orb ((advance_acts storage (after_used_up w) ++ Used_up ∷ []) ++ acts) ps (chained_from storage t (after_used_up w))) (sym k.walk)
         (subst (λ (xs : List Act). Tied earlier orb xs ps (chained_from storage t old)) (sym (append_assoc news (Used_up ∷ []) acts)) by)
 

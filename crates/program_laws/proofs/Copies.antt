@@ -1,6 +1,6 @@
 -- What was copied for the device is as storage stood then.
 use Rattle.std.proofs.Common.{◌≡◌, refl, ℕ, ◌+◌, Bool, true, false, List, [], ◌∷◌, length, Option, Some, None, Result, Ok, Err}
-use Rattle.std.specs.Prelude.{◌==◌, ◌&&◌, min, is_some, if◌then◌else◌, All}
+use Rattle.std.specs.Prelude.{◌==◌, min, is_some, if◌then◌else◌, All}
 use Rattle.std.proofs.lemmas.List.Elements.{All-nil, All-cons}
 use Rattle.storage_keys.specs.Storage.{Contents}
 use Rattle.scsw_irb.specs.declared.status.DeviceStatus.{DeviceStatus}
@@ -159,14 +159,16 @@ module _ (accesses : AreAccesses) where
   data-if storage s n seq load k true c = answers-copied storage s.begun n seq load k c
   data-if storage s n seq load k false c = c
 
-  chains-if : (storage : Contents) (b : ActiveProgram) (status : DeviceStatus) (k : ProgramTrace) (x : Bool) → AreCopied k →
-      AreCopied (if x then stories.trace_goes_on (next_command storage b.transfer (has_status_modifier status)).came (next_acts storage b.transfer (has_status_modifier status)) k else k)
-  chains-if storage b status k true c = goes-copied (next_command storage b.transfer (has_status_modifier status)).came (next_acts storage b.transfer (has_status_modifier status)) k c
-  chains-if storage b status k false c = c
+  chains-if : (storage : Contents) (b : ActiveProgram) (status : DeviceStatus) (k : ProgramTrace) (x y : Bool) → AreCopied k →
+      AreCopied (if x then (if y then stories.trace_goes_on (next_command storage b.transfer (has_status_modifier status)).came (next_acts storage b.transfer (has_status_modifier status)) k else k)
+      else stories.ends_alone status k)
+  chains-if storage b status k true true c = goes-copied (next_command storage b.transfer (has_status_modifier status)).came (next_acts storage b.transfer (has_status_modifier status)) k c
+  chains-if storage b status k true false c = c
+  chains-if storage b status k false y c = c
 
   end-if : (storage : Contents) (s : SubchannelState) (b : ActiveProgram) (status : DeviceStatus) (more : Bool) (k : ProgramTrace) (x : Bool) → AreCopied k →
       AreCopied (if x then stories.chains storage s b status more k else k)
-  end-if storage s b status more k true c = chains-if storage b status k (chains_command s.scsw b status more && has_device_end status) c
+  end-if storage s b status more k true c = chains-if storage b status k (chains_command s.scsw b status more) (has_device_end status) c
   end-if storage s b status more k false c = c
 
   ends-copied : (storage : Contents) (s : SubchannelState) (b : Option ActiveProgram) (n : ℕ) (status : DeviceStatus) (more : Bool) (k : ProgramTrace) → AreCopied k →

@@ -1,6 +1,6 @@
 -- In each step after a run, the acts of a program grow by what storage then holds.
 use Rattle.std.proofs.Common.{◌≡◌, refl, ap, sym, subst, ℕ, ◌+◌, ◌==◌, Bool, true, false, List, [], ◌∷◌, length, Option, Some, None, Result, Ok, Err}
-use Rattle.std.specs.Prelude.{◌&&◌, if◌then◌else◌, is_some, nat_lt, slice_get, IfOk}
+use Rattle.std.specs.Prelude.{if◌then◌else◌, is_some, nat_lt, slice_get, IfOk}
 use Rattle.std.proofs.lemmas.Bool.{eqb-true}
 use Rattle.storage_keys.specs.Storage.{Contents}
 use Rattle.scsw_irb.specs.declared.status.DeviceStatus.{DeviceStatus}
@@ -28,7 +28,7 @@ use Rattle.chan_events.specs.declared.reply.Reply.{Reply}
 use Rattle.chan_events.specs.declared.reply.Reply.TheVariants as reply
 use Rattle.channel_config.specs.Lawful.{IsLawful}
 use Rattle.channel_config.specs.Setup.{Setup}
-use Rattle.channel_program.specs.Acts.{Act}
+use Rattle.channel_program.specs.Acts.{Act, End}
 use Rattle.channel_program.specs.Programs.{IsProgram, role_of, commands}
 use Rattle.channel_program.specs.Walks.{WalkPlace, walk_place}
 use Rattle.transfer.specs.declared.CommandStart.{CommandStart}
@@ -170,7 +170,8 @@ module _ (laws : AreLaws) (accesses : AreAccesses) where
   chains-if : (storage : Contents) (s : SubchannelState) (b : ActiveProgram) (status : DeviceStatus) (more : Bool) (k : ProgramTrace) (x y : Bool) →
       chains_command s.scsw b status more ≡ x → IsAtWork k.earlier k.orb k.now b.transfer (is_outward b.transfer.code) →
       GrowsTo storage k.now.acts
-      (if x && y then stories.trace_goes_on (next_command storage b.transfer (has_status_modifier status)).came (next_acts storage b.transfer (has_status_modifier status)) k else k)
+      (if x then (if y then stories.trace_goes_on (next_command storage b.transfer (has_status_modifier status)).came (next_acts storage b.transfer (has_status_modifier status)) k else k)
+      else stories.ends_alone status k)
   chains-if storage s b status more k true true e w =
       let f : (_ : b.transfer.moving.ccw.chain_data ≡ false) × (is_some b.transfer.fault ≡ false) = chains-facts laws accesses s.scsw b status more e in
       let modifier : Bool = has_status_modifier status in
@@ -180,7 +181,9 @@ module _ (laws : AreLaws) (accesses : AreAccesses) where
       adds-grows storage new.orb k.now.acts new.now.acts
       (went-adds storage c acts k (next-fetched k.earlier laws storage k.orb k.now.acts k.now.moved b.transfer modifier f.0 f.1 w.tied))
   chains-if storage s b status more k true false e w = stays-grown storage k
-  chains-if storage s b status more k false y e w = stays-grown storage k
+  chains-if storage s b status more k false y e w =
+      let new : ProgramTrace = stories.ends_alone status k in
+      adds-grows storage new.orb k.now.acts new.now.acts (End (record { goes_on = false; modifier = has_status_modifier status }) ∷ [], refl, (tt, tt))
 
   end-if : (storage : Contents) (s : SubchannelState) (b : ActiveProgram) (status : DeviceStatus) (more : Bool) (k : ProgramTrace) (x : Bool) →
       IsAtWork k.earlier k.orb k.now b.transfer (is_outward b.transfer.code) → GrowsTo storage k.now.acts (if x then stories.chains storage s b status more k else k)

@@ -184,7 +184,7 @@ module _ (earlier : ℕ) where
         let m : length (commands orb before) ≡ earlier + t.command = k.number in
         subst (λ (w : WalkPlace). AreFetched storage orb acts (goes_acts storage (t.command + 1) (walk_after_end w (ending modifier)) ++ End (ending modifier) ∷ [])) (sym k.walk)
         (fetched-append storage orb (goes_acts storage (t.command + 1) (walk_place orb before)) (End (ending modifier) ∷ []) acts
-        (goes-fetched storage orb before (t.command + 1) (k.chained f ∙ d) (omega (arith, m)) (k.stands f, k.program)) (tt, tt))
+        (goes-fetched storage orb before (t.command + 1) (k.chained f ∙ d) (omega (arith, m)) (k.stands, k.program)) (tt, tt))
 
     -- a Data of a command that takes bytes to the device
     answer-if : (storage : Contents) (orb : Orb) (p : CommandTrace) (t : Transfer) (s count : ℕ) (b : Bool) → t.walk ≡ walk_place orb p.acts →

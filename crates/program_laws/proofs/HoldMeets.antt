@@ -1,5 +1,5 @@
 -- What a subchannel does for its program with a signal keeps it in agreement with the story.
-use Rattle.std.proofs.Common.{◌≡◌, refl, ap, sym, ◌∙◌, subst, ℕ, ◌+◌, ◌≤◌, Bool, true, false, List, [], ◌∷◌, ◌++◌, length, Option, Some, None, arith, append_assoc}
+use Rattle.std.proofs.Common.{◌≡◌, refl, ap, sym, ◌∙◌, subst, ℕ, ◌+◌, ◌≤◌, Bool, true, false, List, [], ◌∷◌, ◌++◌, length, Option, Some, None, inl, inr, arith, append_assoc}
 use Rattle.std.specs.Prelude.{if◌then◌else◌, ◌==◌, ◌&&◌, ◌||◌, not, nat_lt, is_some}
 use Rattle.std.proofs.lemmas.Bool.{and_parts}
 use Rattle.orb_block.specs.declared.Orb.{Orb}
@@ -46,22 +46,24 @@ use Rattle.subchannel_model.specs.Taking.{takes_up, goes_ahead, path_used, let_g
 use Rattle.program_laws.specs.CommandActs.{CommandTrace, no_trace, with_acts, goes_acts, first_acts, next_acts, gives, takes_in}
 use Rattle.program_laws.specs.Traces as stories
 use Rattle.program_laws.specs.Traces.{ProgramTrace, past_part, trace_meets}
-use Rattle.program_laws.specs.Claims.{IsBeginning, places_of, places_arrived}
+use Rattle.program_laws.specs.Claims.{IsWhole, IsBeginning, places_of, places_arrived}
 use Rattle.program_laws.specs.DataAreas.{data_areas}
 use Rattle.program_laws.proofs.Accesses.{AreAccesses}
 use Rattle.program_laws.proofs.Ties.{AreLaws, Tied, changed}
 use Rattle.program_laws.proofs.Parts.{IsDone, IsAtWork, done-of, arrived-none, gives-work, takes_in-work, WentOn, goes-on, IsSame, absorbed-same, next_given-same, located-same, brought-same, room-same}
 use Rattle.subchannel_model.specs.Losing.{has_any, is_offered_or_held, reset_with, reset_for}
 use Rattle.program_laws.proofs.Holds.{IsPhase, IsDrawn, HasWork, IsStanding, IsHeld, IsHold, done-held, phase-some, phase-none, busy-phase, left-phase, back-phase, released-phase, attended-phase, by_hold-held, back-held, attention-held, let_go-held, standing-some, none-stands, halt_done-held, reset_taken-held, nothing-done, past-done}
+use Rattle.program_laws.proofs.Endings.{ended-held, ended-work}
 
 module _ (laws : AreLaws) (accesses : AreAccesses) where
   -- the program is over or suspended, where a command can't begin
   over-done : (orb : Orb) (before acts : List Act) (p : CommandTrace) → IsProgram orb acts → data_areas orb acts ≡ data_areas orb before → data_areas orb before ≡ data_areas orb p.acts →
-      IsDone orb p → IsDone orb (record p { acts = acts })
-  over-done orb before acts p w f e d =
+      IsWhole orb acts → IsDone orb p → IsDone orb (record p { acts = acts })
+  over-done orb before acts p w f e o d =
       let same : places_of orb acts ≡ places_of orb p.acts = ap (places_of_bytes (block (kind_of orb))) (f ∙ e) in
       record {
         program = w;
+        whole = o;
         moves = subst (λ (xs : List (Option ℕ)). IsBeginning p.moved xs) (sym same) d.moves;
         arrived = d.arrived;
         arrives = subst (λ (xs : List (Option ℕ)). IsBeginning (places_arrived p.arrived) xs) (sym same) d.arrives;
@@ -144,10 +146,10 @@ module _ (laws : AreLaws) (accesses : AreAccesses) where
       })
   begins-held storage s p t st walk k came.Suspends acts w n on f z none d =
       suspends-held s st.program walk st.count (record k { now = with_acts k.now acts }) n (on-hold s t p k.number k.sent on f s.begun)
-      (over-done k.orb k.now.acts (acts ++ k.now.acts) k.now w.0 w.1 refl d) w.4 w.3
+      (over-done k.orb k.now.acts (acts ++ k.now.acts) k.now w.0 w.1 refl (inr (inr w.5)) d) w.4 w.3
   begins-held storage s p t st walk k (came.Stops check) acts w n on f z none d =
       fault-held s walk.tried check st.count (record k { now = with_acts k.now acts }) n (on-hold s t p k.number k.sent on f s.begun)
-      (over-done k.orb k.now.acts (acts ++ k.now.acts) k.now w.0 w.1 refl d) (λ c e. absurd (cc (sym z ∙ e)))
+      (over-done k.orb k.now.acts (acts ++ k.now.acts) k.now w.0 w.1 refl (inr (inl w.3)) d) (λ c e. absurd (cc (sym z ∙ e)))
 
   -- where it was suspended
   again-held : (storage : Contents) (s : SubchannelState) (p t : ℕ) (k : ProgramTrace) (st : ProgramPosition) (x : Bool) → IsHeld s k → s.hold.phase ≡ hold.On t p 0 → t ≡ k.number → s.begun ≡ None →
@@ -307,7 +309,7 @@ module _ (laws : AreLaws) (accesses : AreAccesses) where
       let old : WalkPlace = walk_place orb before in
       let m : length (commands orb before) ≡ earlier + t.command = k.number in
       let went : WentOn earlier laws storage orb before (goes_acts storage n old ++ before) n (goes_to storage n old).walk (goes_to storage n old).came =
-      goes-on earlier laws storage orb before n (k.chained f ∙ d) (omega (arith, m)) (k.stands f, k.program) in
+      goes-on earlier laws storage orb before n (k.chained f ∙ d) (omega (arith, m)) (k.stands, k.program) in
       subst
       (λ (w : WalkPlace). WentOn earlier laws storage orb before ((goes_acts storage n (walk_after_end w (ending modifier)) ++ End (ending modifier) ∷ []) ++ p.acts) n
       (goes_to storage n (walk_after_end w (ending modifier))).walk (goes_to storage n (walk_after_end w (ending modifier))).came)
@@ -335,10 +337,10 @@ module _ (laws : AreLaws) (accesses : AreAccesses) where
       })
   chains-held storage s b k signal walk came.Suspends acts before n e h d w r m =
       suspends-held (taking.end_taken s signal) b.program walk (residual b.transfer.moving) (record k { now = with_acts k.now acts }) h.number (h.phase, h.drawn)
-      (over-done k.orb before (acts ++ k.now.acts) k.now w.0 w.1 r d) w.4 w.3
+      (over-done k.orb before (acts ++ k.now.acts) k.now w.0 w.1 r (inr (inr w.5)) d) w.4 w.3
   chains-held storage s b k signal walk (came.Stops check) acts before n e h d w r m =
       fault-held (taking.end_taken s signal) walk.tried check (residual b.transfer.moving) (record k { now = with_acts k.now acts }) h.number (h.phase, h.drawn)
-      (over-done k.orb before (acts ++ k.now.acts) k.now w.0 w.1 r d) (λ c f. standing-some s.waiting s.begun c s.suspended k f h.standing)
+      (over-done k.orb before (acts ++ k.now.acts) k.now w.0 w.1 r (inr (inl w.3)) d) (λ c f. standing-some s.waiting s.begun c s.suspended k f h.standing)
 
   -- the transfer has ended
   shown-held : (s : SubchannelState) (b c : ActiveProgram) (k : ProgramTrace) (u : SubchannelState) → s.begun ≡ Some b → IsHeld s k →
@@ -385,7 +387,8 @@ module _ (laws : AreLaws) (accesses : AreAccesses) where
       IsHeld (if x then (if y then taking.chain_with storage s (with_end b) signal (next_command storage (with_end b).transfer (has_status_modifier signal.status))
       else taking.quietly (record (taking.end_taken s signal) { begun = Some (with_end b) }))
       else taking.stops_at s b signal).state
-      (if x && y then stories.trace_goes_on (next_command storage b.transfer (has_status_modifier signal.status)).came (next_acts storage b.transfer (has_status_modifier signal.status)) k else k)
+      (if x then (if y then stories.trace_goes_on (next_command storage b.transfer (has_status_modifier signal.status)).came (next_acts storage b.transfer (has_status_modifier signal.status)) k else k)
+      else stories.ends_alone signal.status k)
   goes-held storage s b k signal true true c e h w m =
       let f : (_ : b.transfer.moving.ccw.chain_data ≡ false) × (is_some b.transfer.fault ≡ false) = chains-facts s.scsw b signal.status signal.more c in
       let modifier : Bool = has_status_modifier signal.status in
@@ -395,7 +398,9 @@ module _ (laws : AreLaws) (accesses : AreAccesses) where
       (ap (λ (n : ℕ). n + 1) m.0)
   goes-held storage s b k signal true false c e h w m =
       shown-held s b (with_end b) k (record (taking.end_taken s signal) { begun = Some (with_end b) }) e h w m refl refl refl refl refl refl refl refl refl
-  goes-held storage s b k signal false y c e h w m = stops-held s b k signal (end_shown s b signal.status signal.more) (is_last_end signal.status) e h w m
+  goes-held storage s b k signal false y c e h w m =
+      stops-held s b (stories.ends_alone signal.status k) signal (end_shown s b signal.status signal.more) (is_last_end signal.status) e
+      (ended-held s b k signal.status e (w, m.0, m.1) h) (ended-work k signal.status b.transfer (is_outward b.transfer.code) w) m
 
   same-command-held : (storage : Contents) (s : SubchannelState) (b : ActiveProgram) (k : ProgramTrace) (signal : EndSignal) (x : Bool) → s.begun ≡ Some b → IsHeld s k →
       IsAtWork k.earlier k.orb k.now b.transfer (is_outward b.transfer.code) → (b.transfer.command ≡ k.sent) × (1 ≤ k.sent) →

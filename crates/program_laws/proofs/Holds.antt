@@ -1,5 +1,5 @@
 -- What a subchannel keeps of its program agrees with the program's story, at each event.
-use Rattle.std.proofs.Common.{◌≡◌, refl, sym, ◌∙◌, subst, ℕ, ◌≤◌, ◌<◌, Bool, true, false, [], Option, Some, None}
+use Rattle.std.proofs.Common.{◌≡◌, refl, sym, ◌∙◌, subst, ℕ, ◌≤◌, ◌<◌, Bool, true, false, [], Option, Some, None, inl}
 use Rattle.std.specs.Prelude.{if◌then◌else◌, ◌==◌, ◌&&◌, nat_lt}
 use Rattle.std.proofs.lemmas.List.Elements.{All-nil}
 use Rattle.orb_block.specs.declared.Orb.{Orb}
@@ -279,7 +279,7 @@ none-begun s None h e = h.begun
 none-begun s (Some k) h e = phase-free s.hold.phase k.number s.begun k.sent e h.phase
 
 pub nothing-done : (orb : Orb) → IsDone orb no_trace
-nothing-done orb = record { program = tt; moves = begins-all (places_of orb []); arrived = All-nil IsStored; arrives = begins-all (places_of orb []) }
+nothing-done orb = record { program = tt; whole = inl refl; moves = begins-all (places_of orb []); arrived = All-nil IsStored; arrives = begins-all (places_of orb []) }
 
 pub past-done : (orb : Orb) (p : CommandTrace) → IsDone orb p → IsDone orb (past_part p)
-past-done orb p d = record { program = d.program; moves = begins-all (places_of orb p.acts); arrived = All-nil IsStored; arrives = begins-all (places_of orb p.acts) }
+past-done orb p d = record { program = d.program; whole = d.whole; moves = begins-all (places_of orb p.acts); arrived = All-nil IsStored; arrives = begins-all (places_of orb p.acts) }

@@ -4,12 +4,14 @@ mod Sweeps
 mod Turns
 mod Lists
 mod Advances
+mod Standing
 mod Ties
 mod Chainings
 mod Accesses
 mod Parts
 mod Caused
 mod Holds
+mod Endings
 mod HoldMeets
 mod UnitPlaces
 mod UnitSides

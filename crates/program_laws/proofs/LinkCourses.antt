@@ -25,12 +25,13 @@ use Rattle.data_move.specs.Moving.{Moving, room, next_place}
 use Rattle.transfer.specs.declared.Transfer.{Transfer}
 use Rattle.transfer.specs.Chunks.{with_moved}
 use Rattle.wires.specs.Queues.{queue, taken}
+use Rattle.scsw_irb.specs.declared.status.DeviceStatus.{DeviceStatus}
 use Rattle.subchannel_model.specs.declared.state.ActiveProgram.{ActiveProgram}
 use Rattle.subchannel_model.specs.declared.state.SubchannelState.{SubchannelState}
 use Rattle.subchannel_model.specs.Sending.{carried, with_any_sent}
 use Rattle.program_laws.specs.CommandActs.{CommandTrace}
 use Rattle.program_laws.specs.DataAreas.{data_areas}
-use Rattle.program_laws.specs.Traces.{ProgramTrace, takes, taken_at, absorbs, reported}
+use Rattle.program_laws.specs.Traces.{ProgramTrace, ends_alone, takes, taken_at, absorbs, reported}
 use Rattle.program_laws.specs.Claims.{AbsorbsInOrder, IsBeginning, IsFirstOf, places_of}
 use Rattle.program_laws.proofs.Ties.{AreLaws, Tied, spot-begins, with_moved-tied}
 use Rattle.program_laws.proofs.Holds.{HasWork, HeldBy}
@@ -200,6 +201,14 @@ pub interrupted-mode : (side : Side) (x : SubchannelState) (b : ActiveProgram) (
 interrupted-mode side x b k downs ups u e m =
     let i : IsInterrupted x (interrupted x (Some b)) b = interrupted-work x b e in
     subst (λ (c : Option ActiveProgram). Mode side c k downs ups u) (sym i.is) (mode-marked side b i.begun k downs ups u i.same m)
+
+-- a command ends, and none is chained to it
+pub mode-ended : (status : DeviceStatus) (side : Side) (begun : Option ActiveProgram) (k : ProgramTrace) (downs : List (List Down)) (ups : List (List Up)) (u : UnitState) →
+    Mode side begun k downs ups u → Mode side begun (ends_alone status k) downs ups u
+mode-ended status side begun k downs ups u (Waits b e n s m a w) = Waits b e n s m a w
+mode-ended status side begun k downs ups u (Over e n z a w) = Over e n z a w
+mode-ended status side begun k downs ups u (Reads b e n o z w) = Reads b e n o z w
+mode-ended status side begun k downs ups u (Writes b e n o lead f w) = Writes b e n o lead f w
 
 -- what was absorbed is of the command that the story has last
 module _ (laws : AreLaws) (k : ProgramTrace) where

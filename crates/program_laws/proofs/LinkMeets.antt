@@ -66,7 +66,7 @@ use Rattle.program_laws.proofs.LinkSent.{IsOfHold, SendsHoldSignal, busy-mutters
 use Rattle.program_laws.proofs.LinkNeeds.{IsLast, on-number, connected-number, held-needs}
 use Rattle.program_laws.proofs.LinkViews.{view_of, answers-view, repeats-view, goes-new, room-seq, current-facts}
 use Rattle.program_laws.proofs.LinkWires.{HandClosed, IsClosed, IsGiving, IsTelling, IsWired, wired-holds, sent-hold}
-use Rattle.program_laws.proofs.LinkCourses.{mode-marked, interrupted-mode, flow-absorbs, absorbs-on}
+use Rattle.program_laws.proofs.LinkCourses.{mode-marked, mode-ended, interrupted-mode, flow-absorbs, absorbs-on}
 use Rattle.program_laws.proofs.LinkModes.{AnyGive, NoGive, AnyData, HandPlain, HandFlow, Mode, Waits, Over, Reads, Writes, mode-carried, absorbs-none}
 
 -- the lesser of two numbers
@@ -439,7 +439,7 @@ module _ (laws : AreLaws) (accesses : AreAccesses) (storage : Contents) (side : 
       (if x then (if y then taking.chain_with storage s (with_end b) signal (next_command storage (with_end b).transfer (has_status_modifier signal.status))
       else taking.quietly (record (taking.end_taken s signal) { begun = Some (with_end b) }))
       else taking.stops_at s b signal)
-      (if x && y then stories.trace_goes_on (next_command storage b.transfer (has_status_modifier signal.status)).came (next_acts storage b.transfer (has_status_modifier signal.status)) k else k)
+      (if x then (if y then stories.trace_goes_on (next_command storage b.transfer (has_status_modifier signal.status)).came (next_acts storage b.transfer (has_status_modifier signal.status)) k else k) else stories.ends_alone signal.status k)
   ends-by b signal true true c e o =
       let f = chains-facts laws accesses s.scsw b signal.status signal.more c in
       chains-goes b signal (next_command storage b.transfer (has_status_modifier signal.status)).walk (next_command storage b.transfer (has_status_modifier signal.status)).came refl refl e o f.0 f.1
@@ -449,11 +449,11 @@ module _ (laws : AreLaws) (accesses : AreAccesses) (storage : Contents) (side : 
       x : SubchannelState
       x = taking.end_shown_at s b signal
 
-      stops : (last : Bool) → is_last_end signal.status ≡ last → Goes (if last then taking.let_go x else taking.quietly x) k
-      stops true l =
-          let one : Option (OnPath Down) = (came_of (letting_go x.hold x.hold.phase)).sent in
-          Over (end-begun b signal true l) o.taken_all o.some o.absorbs (o.wires one (sent-hold k.number m AnyGive one (letting-mutters x.hold x.hold.phase)))
-      stops false l = marked b (has_shown b) x.begun None e (end-begun b signal false l) (record { code = refl; command = refl; sequence = refl; moving = refl }) tt
+      stops : (last : Bool) → is_last_end signal.status ≡ last → Goes (if last then taking.let_go x else taking.quietly x) (stories.ends_alone signal.status k)
+      stops true l = next-over b x (End (record { goes_on = false; modifier = has_status_modifier signal.status }) ∷ []) (end-begun b signal true l) o refl
+      stops false l =
+          mode-ended signal.status side x.begun k downs (taken ups path) u
+          (marked b (has_shown b) x.begun None e (end-begun b signal false l) (record { code = refl; command = refl; sequence = refl; moving = refl }) tt)
 
   module _ (signal : EndSignal)
       (front : (P : Option AtHand → Type 0) (Q : ℕ → List ℕ → Type 0) (R : ℕ → Load → Type 0) → IsWired side k.number m P Q R downs ups u → Front R (up.End signal.number signal.command signal.status signal.more)) where

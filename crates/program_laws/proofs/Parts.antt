@@ -1,5 +1,5 @@
 -- What is done for a program with each signal, and what is kept of its transfer.
-use Rattle.std.proofs.Common.{◌≡◌, refl, ap, sym, ◌∙◌, subst, ℕ, ◌+◌, ◌≤◌, Bool, true, false, List, [], ◌∷◌, ◌++◌, length, Option, Some, None, Result, Ok, Err, arith, append_assoc}
+use Rattle.std.proofs.Common.{◌≡◌, refl, ap, sym, ◌∙◌, subst, ℕ, ◌+◌, ◌≤◌, Bool, true, false, List, [], ◌∷◌, ◌++◌, length, Option, Some, None, Result, Ok, Err, inl, inr, arith, append_assoc}
 use Rattle.std.specs.Prelude.{◌==◌, min, is_some, if◌then◌else◌, All, take}
 use Rattle.std.proofs.lemmas.List.{length-take}
 use Rattle.std.proofs.lemmas.List.Elements.{All-nil, All-cons}
@@ -11,7 +11,7 @@ use Rattle.channel_program.specs.declared.check.Check.{Check}
 use Rattle.channel_program.specs.declared.Advance.{Advance}
 use Rattle.channel_program.specs.declared.Advance.TheVariants as advance
 use Rattle.channel_program.specs.Acts.{Act}
-use Rattle.channel_program.specs.Programs.{IsProgram, Command, role_of, commands, code}
+use Rattle.channel_program.specs.Programs.{IsProgram, Command, role_of, next, commands, code}
 use Rattle.channel_program.specs.Walks.{WalkPlace, walk_place, advance_acts, after_acts, advance_of, after_used_up}
 use Rattle.idaw.specs.Places.{each_below}
 use Rattle.data_move.specs.Moving.{Moving, next_place, room, needs_word}
@@ -25,7 +25,7 @@ use Rattle.transfer.specs.Chunks.{chains_data, chained_to, chained, with_moved, 
 use Rattle.program_laws.specs.DataAreas.{data_areas}
 use Rattle.program_laws.specs.CommandActs as doing
 use Rattle.program_laws.specs.CommandActs.{CommandTrace, Arrival, with_acts, with_places, with_copy, located_acts, room_acts, goes_acts, chunk_of, chained_acts, trace_answered, trace_giving, gives, with_arrival, storing, arriving, takes_in}
-use Rattle.program_laws.specs.Claims.{IsStored, places_arrived, IsBeginning, places_of}
+use Rattle.program_laws.specs.Claims.{IsWhole, IsSuspended, IsStored, places_arrived, IsBeginning, places_of}
 use Rattle.program_laws.proofs.Lists.{length-each_below}
 use Rattle.program_laws.proofs.Accesses.{AreAccesses, IsStore, stored-bytes}
 use Rattle.program_laws.proofs.Ties.{AreLaws, Tied, changed, spot-begins, Begins, goes-begins, located-tied, room-tied}
@@ -126,6 +126,7 @@ arrived-none p false e f = (subst (λ (xs : List Arrival). All IsStored xs) (sym
 -- what holds of a program, at work or over
 pub record IsDone (orb : Orb) (p : CommandTrace) : Type 0 where
   pub program : IsProgram orb p.acts
+  pub whole : IsWhole orb p.acts
   pub moves : IsBeginning p.moved (places_of orb p.acts)
   pub arrived : All IsStored p.arrived
   pub arrives : IsBeginning (places_arrived p.arrived) (places_of orb p.acts)
@@ -155,6 +156,7 @@ module _ (earlier : ℕ) where
       let none : p.arrived ≡ [] = k.arrived in
       record {
         program = k.tied.program;
+        whole = inr (inl k.tied.stands);
         moves = spot-begins orb (data_areas orb p.acts) t p.moved k.tied.spot;
         arrived = subst (λ (xs : List Arrival). All IsStored xs) (sym none) (All-nil IsStored);
         arrives = subst (λ (xs : List Arrival). IsBeginning (places_arrived xs) (places_of orb p.acts)) (sym none) (places_of orb p.acts, refl);
@@ -163,6 +165,7 @@ module _ (earlier : ℕ) where
       let same : places_arrived p.arrived ≡ p.moved = k.arrived.1 in
       record {
         program = k.tied.program;
+        whole = inr (inl k.tied.stands);
         moves = spot-begins orb (data_areas orb p.acts) t p.moved k.tied.spot;
         arrived = k.arrived.0;
         arrives = subst (λ (xs : List (Option ℕ)). IsBeginning xs (places_of orb p.acts)) (sym same) (spot-begins orb (data_areas orb p.acts) t p.moved k.tied.spot);
@@ -284,9 +287,9 @@ module _ (earlier : ℕ) where
     WentOn storage orb before acts n walk (came.Begins t) =
         Tied earlier orb acts [] (begun_with_room storage t).transfer × (t.command ≡ n) × ((c : Command) × (commands orb acts ≡ c ∷ commands orb before) × (code c ≡ t.code))
     WentOn storage orb before acts n walk came.Suspends =
-        IsProgram orb acts × (data_areas orb acts ≡ data_areas orb before) × (commands orb acts ≡ commands orb before) × ((role_of orb acts).chained ≡ false) × (walk ≡ walk_place orb acts)
+        IsProgram orb acts × (data_areas orb acts ≡ data_areas orb before) × (commands orb acts ≡ commands orb before) × ((role_of orb acts).chained ≡ false) × (walk ≡ walk_place orb acts) × IsSuspended orb acts
     WentOn storage orb before acts n walk (came.Stops check) =
-        IsProgram orb acts × (data_areas orb acts ≡ data_areas orb before) × (commands orb acts ≡ commands orb before)
+        IsProgram orb acts × (data_areas orb acts ≡ data_areas orb before) × (commands orb acts ≡ commands orb before) × (next orb acts ≡ None)
 
     located-commands : (storage : Contents) (orb : Orb) (acts : List Act) (t : Transfer) (b c : Bool) (w : Result ℕ Check) →
         commands orb ((if b then [] else (if c then doing.act_of_word w else [])) ++ acts) ≡ commands orb acts
@@ -305,7 +308,7 @@ module _ (earlier : ℕ) where
         WentOn storage orb before (room_acts storage c ++ acts) n walk c
     went-by storage orb before acts n walk (came.Begins t) w k =
         (room-tied earlier laws storage orb acts t k.0, k.1, (k.2.0, room-commands storage orb acts t (brings (class_of t.code)) ∙ k.2.1, k.2.2))
-    went-by storage orb before acts n walk came.Suspends w k = (k.0, k.1, k.2, k.3, w)
+    went-by storage orb before acts n walk came.Suspends w k = (k.0, k.1, k.2, k.3, w, k.4)
     went-by storage orb before acts n walk (came.Stops check) w k = k
 
     pub goes-on : (storage : Contents) (orb : Orb) (before : List Act) (n : ℕ) → (role_of orb before).chained ≡ false → length (commands orb before) + 1 ≡ earlier + n →
@@ -313,7 +316,7 @@ module _ (earlier : ℕ) where
         WentOn storage orb before (goes_acts storage n (walk_place orb before) ++ before) n (goes_to storage n (walk_place orb before)).walk (goes_to storage n (walk_place orb before)).came
     goes-on storage orb before n c l p =
         let old : WalkPlace = walk_place orb before in
-        let next : Beginning = goes_to storage n old in
-        subst (λ (xs : List Act). WentOn storage orb before xs n next.walk next.came) (sym (append_assoc (room_acts storage next.came) (advance_acts storage old) before))
-        (went-by storage orb before (advance_acts storage old ++ before) n next.walk next.came (laws.leads orb before (advance_acts storage old))
+        let new : Beginning = goes_to storage n old in
+        subst (λ (xs : List Act). WentOn storage orb before xs n new.walk new.came) (sym (append_assoc (room_acts storage new.came) (advance_acts storage old) before))
+        (went-by storage orb before (advance_acts storage old ++ before) n new.walk new.came (laws.leads orb before (advance_acts storage old))
         (goes-begins earlier laws storage orb before n c l p))

@@ -1,6 +1,6 @@
 -- Status that a Data or an End makes shows the count of the command less the bytes that were moved.
 use Rattle.std.proofs.Common.{◌≡◌, refl, sym, ◌∙◌, ap, subst, arith, ℕ, ◌+◌, ◌<◌, Bool, true, false, List, ◌∷◌, ◌++◌, Option, Some, None}
-use Rattle.std.specs.Prelude.{if◌then◌else◌, ◌==◌, ◌&&◌, is_some}
+use Rattle.std.specs.Prelude.{if◌then◌else◌, ◌==◌, is_some}
 use Rattle.scsw_irb.specs.declared.scsw.Scsw.{Scsw}
 use Rattle.scsw_irb.specs.declared.serials.Serials.{Serials}
 use Rattle.scsw_irb.specs.declared.status.DeviceStatus.{DeviceStatus}
@@ -164,7 +164,7 @@ module _ (laws : AreLaws) (accesses : AreAccesses) where
       else taking.quietly (record (taking.end_taken s signal) { begun = Some (with_end b) }))
       else taking.stops_at s b signal).state in
       let now : ProgramTrace =
-      if x && y then stories.trace_goes_on (next_command storage b.transfer (has_status_modifier signal.status)).came (next_acts storage b.transfer (has_status_modifier signal.status)) k else k in
+      if x then (if y then stories.trace_goes_on (next_command storage b.transfer (has_status_modifier signal.status)).came (next_acts storage b.transfer (has_status_modifier signal.status)) k else k) else stories.ends_alone signal.status k in
       IsHeld after now → ShowsRest s.serials.made after now
   goes-shows storage s b k signal true true c e w h =
       let f : (_ : b.transfer.moving.ccw.chain_data ≡ false) × (is_some b.transfer.fault ≡ false) = chains-facts laws accesses s.scsw b signal.status signal.more c in
@@ -174,7 +174,7 @@ module _ (laws : AreLaws) (accesses : AreAccesses) where
       (next-went laws accesses k.earlier storage k.orb k.now b.transfer modifier w.0.tied f.0 f.1) refl (rest-of b k w) h
   goes-shows storage s b k signal true false c e w h = unmade s.serials.made (record (taking.end_taken s signal) { begun = Some (with_end b) }) k refl
   goes-shows storage s b k signal false y c e w h =
-      stops-shows s b k signal (end_shown s b signal.status signal.more) (is_last_end signal.status)
+      stops-shows s b (stories.ends_alone signal.status k) signal (end_shown s b signal.status signal.more) (is_last_end signal.status)
       (counted (end_shown s b signal.status signal.more).count (residual b.transfer.moving) k
       (end-count s b signal.status signal.more (is_last_end signal.status) s.waiting e) (rest-of b k w))
 

@@ -14,7 +14,7 @@ use Rattle.channel_program.specs.declared.Advance.TheVariants as advance
 use Rattle.channel_program.specs.declared.Reading.TheVariants.{Takes}
 use Rattle.channel_program.specs.Acts.{Act, Word}
 use Rattle.channel_program.specs.Programs.{IsProgram, Command, role_of, next, commands, commands_after, join_last, code}
-use Rattle.channel_program.specs.Walks.{WalkPlace, walk_place, after_acts, advance_acts, advance_of}
+use Rattle.channel_program.specs.Walks.{WalkPlace, walk_place, after_acts, acts_at, advance_acts, advance_of}
 use Rattle.idaw.specs.declared.ListKind.{ListKind}
 use Rattle.idaw.specs.declared.WordFault.{WordFault}
 use Rattle.idaw.specs.declared.WordFault.TheVariants.{LeftmostBit, OffBlock, OutsideStorage}
@@ -38,9 +38,10 @@ use Rattle.machine_model.specs.State.{State, opening_of}
 use Rattle.machine_model.specs.Steps.{Run}
 use Rattle.program_laws.specs.DataAreas.{reach, data_areas, reaches_after, reaches_with, word_after, counts}
 use Rattle.program_laws.specs.CommandActs.{act_of_word, word_acts, located_acts, room_acts}
-use Rattle.program_laws.specs.Claims.{IsBeginning}
+use Rattle.program_laws.specs.Claims.{IsBeginning, IsSuspended}
 use Rattle.program_laws.proofs.Lists.{some-begin, length-places, length-each_below}
 use Rattle.program_laws.proofs.Advances.{Went, advance-went}
+use Rattle.program_laws.proofs.Standing.{Stands, acts-stand}
 
 -- what is proved below of a command word's data, and of a program that goes on
 pub record AreLaws : Type 0 where
@@ -137,7 +138,7 @@ module _ (earlier : ℕ) where
   pub record Tied (orb : Orb) (acts : List Act) (ps : List (Option ℕ)) (t : Transfer) : Type 0 where
     pub walk : t.walk ≡ walk_place orb acts
     pub program : IsProgram orb acts
-    pub stands : is_some t.fault ≡ false → next orb acts ≡ None
+    pub stands : next orb acts ≡ None
     pub chained : is_some t.fault ≡ false → (role_of orb acts).chained ≡ t.moving.ccw.chain_data
     pub coded : HasCode (commands orb acts) t.code
     pub kind : t.moving.kind ≡ kind_of orb
@@ -150,7 +151,7 @@ module _ (earlier : ℕ) where
   same-command orb acts ps qs t u w ccw kind c n f spot k = record {
     walk = w ∙ k.walk;
     program = k.program;
-    stands = λ e. k.stands (f e);
+    stands = k.stands;
     chained = λ e. k.chained (f e) ∙ ap (λ (x : Ccw). x.chain_data) (sym ccw);
     coded = subst (λ (x : ℕ). HasCode (commands orb acts) x) (sym c) k.coded;
     kind = kind ∙ k.kind;
@@ -172,9 +173,9 @@ module _ (earlier : ℕ) where
     Begins orb before acts n (came.Begins t) =
         Tied orb acts [] t × (t.command ≡ n) × ((c : Command) × (commands orb acts ≡ c ∷ commands orb before) × (code c ≡ t.code))
     Begins orb before acts n came.Suspends =
-        IsProgram orb acts × (data_areas orb acts ≡ data_areas orb before) × (commands orb acts ≡ commands orb before) × ((role_of orb acts).chained ≡ false)
+        IsProgram orb acts × (data_areas orb acts ≡ data_areas orb before) × (commands orb acts ≡ commands orb before) × ((role_of orb acts).chained ≡ false) × IsSuspended orb acts
     Begins orb before acts n (came.Stops check) =
-        IsProgram orb acts × (data_areas orb acts ≡ data_areas orb before) × (commands orb acts ≡ commands orb before)
+        IsProgram orb acts × (data_areas orb acts ≡ data_areas orb before) × (commands orb acts ≡ commands orb before) × (next orb acts ≡ None)
 
     taken-begins : (orb : Orb) (before acts : List Act) (walk : WalkPlace) (n : ℕ) (ccw : Ccw) → walk ≡ walk_place orb acts →
         (role_of orb before).chained ≡ false → length (commands orb before) + 1 ≡ earlier + n → IsProgram orb acts →
@@ -190,7 +191,7 @@ module _ (earlier : ℕ) where
           record {
             walk = w;
             program = p;
-            stands = λ z. h;
+            stands = h;
             chained = λ z. i;
             coded = subst (λ (xs : List Command). HasCode xs ccw.command) (sym commanded) refl;
             kind = ap (λ (x : WalkPlace). kind_of x.orb) w;
@@ -206,11 +207,25 @@ module _ (earlier : ℕ) where
     advance-begins : (orb : Orb) (before acts : List Act) (walk : WalkPlace) (n : ℕ) (a : Option Advance) → walk ≡ walk_place orb acts → (role_of orb before).chained ≡ false →
         length (commands orb before) + 1 ≡ earlier + n → IsProgram orb acts →
         Went (role_of orb before).chained (commands orb before) (commands orb acts) (data_areas orb before) (data_areas orb acts) (next orb acts) (role_of orb acts) a →
-        Begins orb before acts n (command_begins walk n a)
-    advance-begins orb before acts walk n (Some (advance.Takes ccw)) w c l p k = taken-begins orb before acts walk n ccw w c l p k.0 k.1 k.2 k.3
-    advance-begins orb before acts walk n (Some advance.Suspends) w c l p k = (p, k.1, k.0, k.2 ∙ c)
-    advance-begins orb before acts walk n (Some (advance.Stops check)) w c l p k = (p, k.1, k.0)
-    advance-begins orb before acts walk n None w c l p k = (p, k.1, k.0)
+        ((x : Advance) → a ≡ Some x → Stands orb acts x) → (a ≡ None → next orb acts ≡ None) → Begins orb before acts n (command_begins walk n a)
+    advance-begins orb before acts walk n (Some (advance.Takes ccw)) w c l p k s z = taken-begins orb before acts walk n ccw w c l p k.0 k.1 k.2 k.3
+    advance-begins orb before acts walk n (Some advance.Suspends) w c l p k s z = (p, k.1, k.0, k.2 ∙ c, s advance.Suspends refl)
+    advance-begins orb before acts walk n (Some (advance.Stops check)) w c l p k s z = (p, k.1, k.0, s (advance.Stops check) refl)
+    advance-begins orb before acts walk n None w c l p k s z = (p, k.1, k.0, z refl)
+
+    -- where a program does not go on, no block was next
+    pub none-next : (storage : Contents) (orb : Orb) (before : List Act) → let old : WalkPlace = walk_place orb before in
+        advance_of old (advance_acts storage old) ≡ None → next orb before ≡ None
+    none-next storage orb before = by (next orb before) refl
+      where
+        old : WalkPlace
+        old = walk_place orb before
+
+        by : (n : Option ℕ) → old.next ≡ n → advance_of old (advance_acts storage old) ≡ None → n ≡ None
+        by None e a = refl
+        by (Some address) e a =
+            let s : IsSome (advance_of old (advance_acts storage old)) = (laws.stands storage old).1 (ap (λ (x : Option ℕ). is_some x) e) in
+            absurd (cc (sym (ap (λ (x : Option Advance). is_some x) a) ∙ s))
 
     pub goes-begins : (storage : Contents) (orb : Orb) (before : List Act) (n : ℕ) → (role_of orb before).chained ≡ false → length (commands orb before) + 1 ≡ earlier + n →
         IsProgram orb before → Begins orb before (advance_acts storage (walk_place orb before) ++ before) n (goes_to storage n (walk_place orb before)).came
@@ -218,6 +233,10 @@ module _ (earlier : ℕ) where
         let old : WalkPlace = walk_place orb before in
         advance-begins orb before (advance_acts storage old ++ before) (after_acts old (advance_acts storage old)) n (advance_of old (advance_acts storage old))
         (laws.leads orb before (advance_acts storage old)) c l (laws.goes storage orb before p) (advance-went storage orb before)
+        (λ x. acts-stand orb before (advance_acts storage old) x (laws.leads orb before))
+        (λ e.
+        let none : next orb before ≡ None = none-next storage orb before e in
+        subst (λ (xs : List Act). next orb (xs ++ before) ≡ None) (sym (ap (λ (x : Option ℕ). acts_at storage old x) none)) none)
 
     -- a word of an indirect list
     needed-left : (m : Moving) → needs_word m ≡ true → m.left ≡ 0
@@ -304,7 +323,7 @@ module _ (earlier : ℕ) where
     right-tied orb acts ps t word size (Some fault) e f n k = record {
       walk = k.walk;
       program = k.program;
-      stands = λ z. absurd (cc z);
+      stands = k.stands;
       chained = λ z. absurd (cc z);
       coded = k.coded;
       kind = k.kind;

@@ -34,6 +34,7 @@ module _ (laws : AreLaws) (accesses : AreAccesses) where
       let done : IsDone k.orb k.now = done-held sub.state k kept.0 in
       record {
         program = done.program;
+        whole = done.whole;
         takes = run-takes laws.walks setup lawful (λ h s run. laws.above setup h s lawful run) (all-needs setup lawful) h s run place sub k e f;
         moves = done.moves;
         copied = copied-part k kept.1;

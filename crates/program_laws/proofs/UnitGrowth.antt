@@ -1,5 +1,5 @@
 -- What a subchannel does for its program with a signal only adds to the codes of its commands.
-use Rattle.std.proofs.Common.{◌≡◌, refl, sym, ◌∙◌, ap, ℕ, ◌+◌, ◌-◌, ◌≤◌, Bool, true, false, ◌==◌, ◌&&◌, Option, None, Some, Result, Ok, Err, List, [], ◌∷◌, ◌++◌, length, map, append_assoc, inl, inr, arith}
+use Rattle.std.proofs.Common.{◌≡◌, refl, sym, ◌∙◌, ap, ℕ, ◌+◌, ◌-◌, ◌≤◌, Bool, true, false, ◌==◌, Option, None, Some, Result, Ok, Err, List, [], ◌∷◌, ◌++◌, length, map, append_assoc, inl, inr, arith}
 use Rattle.std.specs.Prelude.{◌⊎◌, if◌then◌else◌, is_some, reverse, drop}
 use Rattle.std.proofs.lemmas.Bool.{cases_lt}
 use Rattle.std.proofs.lemmas.List.{append-nil, length-reverse, length-drop, reverse-reverse, reverse-append, drop_all, drop-append-le}
@@ -36,7 +36,7 @@ use Rattle.subchannel_model.specs.declared.state.SubchannelState.{SubchannelStat
 use Rattle.subchannel_model.specs.Ends.{has_status_modifier, chains_command}
 use Rattle.subchannel_model.specs.Taking.{goes_ahead, bytes_of_load}
 use Rattle.program_laws.specs.CommandActs.{CommandTrace, no_trace, with_acts, with_places, trace_moved_on, trace_answered, with_copy, copying, trace_giving, gives, with_arrival, storing, arriving, takes_in, located_acts, chained_acts, chunk_of, first_acts, next_acts}
-use Rattle.program_laws.specs.Traces.{ProgramTrace, past_part, trace_goes_on, trace_begins, begins_anew, begins_again, again_as, begins_as, accepted_at, trace_accepted, moves, answers, chains, trace_ends, trace_meets}
+use Rattle.program_laws.specs.Traces.{ProgramTrace, past_part, trace_goes_on, trace_begins, begins_anew, begins_again, again_as, begins_as, accepted_at, trace_accepted, moves, answers, ends_alone, chains, trace_ends, trace_meets}
 
 -- the codes of the commands after the earlier ones, the latest first
 abbrev pub later_codes : ℕ → List ℕ → List ℕ
@@ -251,8 +251,11 @@ answers-grown storage (Some b) n s load k = if-grown k (is_answered b.transfer n
 
 chains-grown : (storage : Contents) (s : SubchannelState) (b : ActiveProgram) (status : DeviceStatus) (more : Bool) (k : ProgramTrace) → IsGrown k (chains storage s b status more k)
 chains-grown storage s b status more k =
-    if-grown k (chains_command s.scsw b status more && has_device_end status) _ k
-    (goes_on-grown (next_command storage b.transfer (has_status_modifier status)).came (next_acts storage b.transfer (has_status_modifier status)) k) (same-grown k)
+    let acts : List Act = End (record { goes_on = false; modifier = has_status_modifier status }) ∷ [] in
+    if-grown k (chains_command s.scsw b status more) _ (ends_alone status k)
+    (if-grown k (has_device_end status) _ k
+    (goes_on-grown (next_command storage b.transfer (has_status_modifier status)).came (next_acts storage b.transfer (has_status_modifier status)) k) (same-grown k))
+    (now-grown k (with_acts k.now acts) (acts, refl))
 
 ends-grown : (storage : Contents) (s : SubchannelState) (b : Option ActiveProgram) (n : ℕ) (status : DeviceStatus) (more : Bool) (k : ProgramTrace) → IsGrown k (trace_ends storage s b n status more k)
 ends-grown storage s None n status more k = same-grown k

@@ -1,10 +1,12 @@
 -- What is claimed of the program that a subchannel offered last (SA22-7832, chapter 15).
-use Rattle.std.specs.Prelude.{◌≡◌, ◌⊎◌, ℕ, ◌==◌, Option, Some, List, [], ◌∷◌, ◌++◌, length, map, reverse, take, drop, slice_get, if◌then◌else◌, All, Contains}
+use Rattle.std.specs.Prelude.{◌≡◌, ◌⊎◌, ℕ, ◌==◌, Option, None, Some, List, [], ◌∷◌, ◌++◌, length, map, reverse, take, drop, slice_get, if◌then◌else◌, All, Contains}
 use Rattle.std.specs.List.{flat_map}
 use Rattle.chan_events.specs.declared.reply.Entry.{Entry}
 use Rattle.orb_block.specs.declared.Orb.{Orb}
-use Rattle.channel_program.specs.Acts.{Act, PlacedBytes}
-use Rattle.channel_program.specs.Programs.{IsProgram, commands, code}
+use Rattle.channel_program.specs.declared.Reading.TheVariants.{Suspends}
+use Rattle.channel_program.specs.Acts.{Act, Block, PlacedBytes}
+use Rattle.channel_program.specs.Blocks.{reads}
+use Rattle.channel_program.specs.Programs.{IsProgram, role_of, next, commands, code}
 use Rattle.idaw.specs.Lists.{kind_of, block}
 use Rattle.idaw.specs.Places.{places_of_bytes}
 use Rattle.data_move.specs.Accesses.{bytes_at}
@@ -64,9 +66,20 @@ AbsorbsInOrder orb part absorbed =
 abbrev pub part_of : ProgramTrace → CommandTrace
 part_of k = if length k.taken == k.sent then k.now else k.before
 
+-- the program was suspended by its last block, before this took control
+abbrev pub IsSuspended : Orb → List Act → Type 0
+IsSuspended orb (Block address bytes ∷ before) = reads orb (role_of orb before) bytes ≡ Suspends
+IsSuspended orb acts = ⊥
+
+-- each block that is next is fetched, but of a program that did not begin, or that was suspended before the block took control
+abbrev pub IsWhole : Orb → List Act → Type 0
+IsWhole orb acts = (acts ≡ []) ⊎ ((next orb acts ≡ None) ⊎ IsSuspended orb acts)
+
 pub record TraceCorrect (k : ProgramTrace) : Type 0 where
   -- each block is where the blocks before it say
   pub program : IsProgram k.orb k.now.acts
+  -- and each that is next was fetched
+  pub whole : IsWhole k.orb k.now.acts
   pub takes : TakesInOrder k
   -- the bytes that were moved are those at the first places of the command
   pub moves : IsBeginning k.now.moved (places_of k.orb k.now.acts)

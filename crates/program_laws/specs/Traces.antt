@@ -1,5 +1,5 @@
 -- What was done for the program that a subchannel offered last: a function of the run (SA22-7832, chapter 15).
-use Rattle.std.specs.Prelude.{ℕ, ◌+◌, ◌==◌, ◌&&◌, Bool, true, false, if◌then◌else◌, Option, None, Some, List, [], ◌∷◌, ◌++◌, length, take, slice_get}
+use Rattle.std.specs.Prelude.{ℕ, ◌+◌, ◌==◌, Bool, true, false, if◌then◌else◌, Option, None, Some, List, [], ◌∷◌, ◌++◌, length, take, slice_get}
 use Rattle.orb_block.specs.declared.Orb.{Orb}
 use Rattle.scsw_irb.specs.declared.status.DeviceStatus.{DeviceStatus}
 use Rattle.storage_keys.specs.Storage.{Contents}
@@ -25,7 +25,7 @@ use Rattle.chan_model.specs.declared.unit_state.UnitState.{UnitState}
 use Rattle.chan_model.specs.HoldTable.{HoldStep, hold_takes, hold_after, came_of, is_connected, is_on}
 use Rattle.chan_model.specs.Loads.{load_length}
 use Rattle.chan_model.specs.UnitReports.{is_outward, has_device_end}
-use Rattle.channel_program.specs.Acts.{Act}
+use Rattle.channel_program.specs.Acts.{Act, End}
 use Rattle.channel_program.specs.Programs.{commands}
 use Rattle.channel_program.specs.Walks.{WalkPlace, walk_place}
 use Rattle.transfer.specs.declared.Transfer.{Transfer}
@@ -128,12 +128,18 @@ abbrev pub answers : Contents → Option ActiveProgram → ℕ → ℕ → Load 
 answers storage None n s load k = k
 answers storage (Some b) n s load k = if is_answered b.transfer n s then moves storage b.transfer s load k else k
 
--- End: the next
+-- End: the command ends, and none is chained to it
+abbrev pub ends_alone : DeviceStatus → ProgramTrace → ProgramTrace
+ends_alone status k = record k { now = with_acts k.now (End (record { goes_on = false; modifier = has_status_modifier status }) ∷ []) }
+
+-- the next command is chained to as device end comes; until then the command has not ended
 abbrev pub chains : Contents → SubchannelState → ActiveProgram → DeviceStatus → Bool → ProgramTrace → ProgramTrace
 chains storage s b status more k =
-    if chains_command s.scsw b status more && has_device_end status
+    if chains_command s.scsw b status more then
+    (if has_device_end status
     then trace_goes_on (next_command storage b.transfer (has_status_modifier status)).came (next_acts storage b.transfer (has_status_modifier status)) k
-    else k
+    else k)
+    else ends_alone status k
 
 abbrev pub trace_ends : Contents → SubchannelState → Option ActiveProgram → ℕ → DeviceStatus → Bool → ProgramTrace → ProgramTrace
 trace_ends storage s None n status more k = k

@@ -18,14 +18,15 @@ use data_move::law as moves;
 use storage_keys::law as storage;
 
 /// After each run from the opening of a lawful set-up, for each subchannel, of the program that was offered last: each block
-/// stands where the blocks before it say; the device took consecutive commands of the program under the number of its offer,
-/// each once, from the first on, or where it was suspended from the first that was not sent before; the bytes that were moved
-/// are those at the first places of the command at work, in order; a chunk for the device was copied from its places as
-/// storage stood then; what the device absorbed for a command are the first bytes of such chunks, side by side from the first
-/// place of the command on; and the bytes of a read were stored at their places, and no other byte was changed. In each step
-/// after it, where a Data or an End makes status and no start waits, the count shown is the sum of the counts of the command's
-/// blocks less the bytes that were moved; and each block and each indirect word that comes to a program is what storage holds
-/// at its address (SA22-7832, chapters 15 and 16).
+/// stands where the blocks before it say, and each that is next was fetched, but of a program that did not begin or that was
+/// suspended; the device took consecutive commands of the program under the number of its offer, each once, from the first on,
+/// or where it was suspended from the first that was not sent before; the bytes that were moved are those at the first places
+/// of the command at work, in order; a chunk for the device was copied from its places as storage stood then; what the device
+/// absorbed for a command are the first bytes of such chunks, side by side from the first place of the command on; and the
+/// bytes of a read were stored at their places, and no other byte was changed. In each step after it, where a Data or an End
+/// makes status and no start waits, the count shown is the sum of the counts of the command's blocks less the bytes that were
+/// moved; and each block and each indirect word that comes to a program is what storage holds at its address (SA22-7832,
+/// chapters 15 and 16).
 pub fn programs()
     ensures told { (setup : Setup) → IsLawful setup → (h : List Entry) (s : State) (run : Run (opening_of setup) h s) → AllTold (opening_of setup) h s run }
     ensures shown { (setup : Setup) → IsLawful setup → (h : List Entry) (s : State) (run : Run (opening_of setup) h s) (e : Event) (r : Reply) (new : State) (step : Step s e r new) →

@@ -1,0 +1,57 @@
+-- A command to which none is chained ends: what is kept of its program agrees with the longer story.
+use Rattle.std.proofs.Common.{◌≡◌, refl, ap, sym, ◌∙◌, subst, ℕ, Bool, true, false, List, ◌∷◌, Option, Some, None}
+use Rattle.orb_block.specs.declared.Orb.{Orb}
+use Rattle.scsw_irb.specs.declared.status.DeviceStatus.{DeviceStatus}
+use Rattle.channel_program.specs.declared.Latest.{Latest}
+use Rattle.channel_program.specs.Acts.{Act, End}
+use Rattle.channel_program.specs.Programs.{role_of, latest, next_ended, tried}
+use Rattle.channel_program.specs.Walks.{WalkPlace}
+use Rattle.transfer.specs.declared.Transfer.{Transfer}
+use Rattle.subchannel_model.specs.declared.state.ActiveProgram.{ActiveProgram}
+use Rattle.subchannel_model.specs.declared.state.SubchannelState.{SubchannelState}
+use Rattle.subchannel_model.specs.Ends.{has_status_modifier}
+use Rattle.program_laws.specs.Traces.{ProgramTrace, ends_alone}
+use Rattle.program_laws.proofs.Ties.{Tied}
+use Rattle.program_laws.proofs.Parts.{IsAtWork, HasArrived}
+use Rattle.program_laws.proofs.Holds.{HasWork, IsHeld, none-stands, standing-some}
+
+-- no block is next then
+ended-next : (last : Option Latest) (modifier : Bool) → next_ended last (record { goes_on = false; modifier = modifier }) ≡ None
+ended-next None modifier = refl
+ended-next (Some last) modifier = refl
+
+ended-tied : (earlier : ℕ) (orb : Orb) (acts : List Act) (ps : List (Option ℕ)) (t : Transfer) (modifier : Bool) → Tied earlier orb acts ps t →
+    Tied earlier orb (End (record { goes_on = false; modifier = modifier }) ∷ acts) ps t
+ended-tied earlier orb acts ps t modifier k = record {
+  walk =
+      k.walk
+      ∙ ap (λ (x : Option ℕ). (let p : WalkPlace = record { orb = orb; role = role_of orb acts; latest = latest orb acts; next = x; tried = tried orb acts } in p))
+      (k.stands ∙ sym (ended-next (latest orb acts) modifier));
+  program = (k.stands, k.program);
+  stands = ended-next (latest orb acts) modifier;
+  chained = k.chained;
+  coded = k.coded;
+  kind = k.kind;
+  spot = k.spot;
+  number = k.number;
+}
+
+arrived-ended : (k : ProgramTrace) (status : DeviceStatus) (d : Bool) → HasArrived k.now d → HasArrived (ends_alone status k).now d
+arrived-ended k status true a = a
+arrived-ended k status false a = a
+
+pub ended-work : (k : ProgramTrace) (status : DeviceStatus) (t : Transfer) (d : Bool) → IsAtWork k.earlier k.orb k.now t d →
+    IsAtWork k.earlier k.orb (ends_alone status k).now t d
+ended-work k status t d w = record {
+  tied = ended-tied k.earlier k.orb k.now.acts k.now.moved t (has_status_modifier status) w.tied;
+  arrived = arrived-ended k status d w.arrived;
+}
+
+pub ended-held : (s : SubchannelState) (b : ActiveProgram) (k : ProgramTrace) (status : DeviceStatus) → s.begun ≡ Some b → HasWork (Some b) k → IsHeld s k → IsHeld s (ends_alone status k)
+ended-held s b k status e w h = record {
+  number = h.number;
+  phase = h.phase;
+  drawn = h.drawn;
+  work = subst (λ (x : Option ActiveProgram). HasWork x (ends_alone status k)) (sym e) (ended-work k status b.transfer _ w.0, w.1, w.2);
+  standing = none-stands s.waiting s.begun s.suspended (ends_alone status k) (standing-some s.waiting s.begun b s.suspended k e h.standing);
+}
