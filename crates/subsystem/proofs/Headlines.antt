@@ -6,7 +6,7 @@ use Rattle.chan_events.specs.declared.reply.Reply.{Reply}
 use Rattle.channel_config.specs.Lawful.{IsLawful}
 use Rattle.channel_config.specs.Setup.{Setup}
 use Rattle.machine_model.specs.State.{State, opening_of}
-use Rattle.machine_model.specs.Steps.{Step, Run, Opened, Stepped}
+use Rattle.machine_model.specs.Steps.{HasRun, Step, Run, Opened, Stepped}
 use Rattle.subsystem.specs.Headline.{HoldsAfter, HoldsIn, HoldsThroughout, HasHeld}
 
 -- what holds after each run, and in each step from where a run led
@@ -24,5 +24,5 @@ holds-throughout after each setup lawful _ _ Opened = after setup lawful _ _ Ope
 holds-throughout after each setup lawful _ _ (Stepped h old e r new run step) =
     (holds-throughout after each setup lawful h old run, each setup lawful h old run e r new step, after setup lawful _ _ (Stepped h old e r new run step))
 
-pub past-held : AfterEach → InEach → (h : List Entry) (s : State) → HasHeld h s
-past-held after each h s setup k run = holds-throughout after each setup k.lawful h s run
+pub past-held : AfterEach → InEach → (h : List Entry) (s : State) → HasRun h s → HasHeld h s
+past-held after each h s past = (past, λ setup k run. holds-throughout after each setup k.lawful h s run)

@@ -11,7 +11,7 @@ use Rattle.machine_laws.specs.Agreeing.{AllAgree, HoldEndsByReset}
 use Rattle.machine_laws.specs.Claims.{IsPendingUncleared}
 use Rattle.machine_model.specs.Setups.{IsSetUp}
 use Rattle.machine_model.specs.State.{State, opening_of}
-use Rattle.machine_model.specs.Steps.{Run, Opened, Step, Stepped}
+use Rattle.machine_model.specs.Steps.{HasRun, Run, Opened, Step, Stepped}
 use Rattle.path_laws.specs.Engines.{IsOnePath}
 use Rattle.path_laws.specs.Returns.{OffersOnDedicated, ReturnsByFirst}
 use Rattle.path_laws.specs.Shown.{AreShown}
@@ -58,6 +58,7 @@ HoldsThroughout opening _ _ Opened = HoldsAfter opening _ _ Opened
 HoldsThroughout opening _ _ (Stepped h old e r new run step) =
     HoldsThroughout opening h old run × HoldsIn opening h old run e r new step × HoldsAfter opening _ _ (Stepped h old e r new run step)
 
--- from the opening of each set-up that the machine has, by whatever states these entries led there
+-- these entries lead there from the opening of each set-up that the machine has, and by whatever states they do, all that holds
 abbrev pub HasHeld : List Entry → State → Type 0
-HasHeld h s = (setup : Setup) → IsSetUp setup s → (run : Run (opening_of setup) h s) → HoldsThroughout (opening_of setup) h s run
+HasHeld h s =
+    HasRun h s × ((setup : Setup) → IsSetUp setup s → (run : Run (opening_of setup) h s) → HoldsThroughout (opening_of setup) h s run)

@@ -44,4 +44,4 @@ returns-clause-headline g c =
       counts = c.programs.ensures.shown setup lawful h old run e r new step;
       fetched = c.programs.ensures.fetched setup lawful h old run e r new step;
     })
-    c.self.inside.history.items c.self.inside.machine)
+    c.self.inside.history.items c.self.inside.machine c.self.invariant.0)
