@@ -1,11 +1,13 @@
 //! Runs every stored script and compares what it prints with the file beside it, byte by byte.
 //!
-//! Its words are folders. For each `NAME.chs` in one, in the order of their names, one line is printed: the folder, the name, the
-//! exit status, and how the run differs from `NAME.out` where it does.
+//! Its words are folders and lists. For each `NAME.chs` in a folder, in the order of their names, one line is printed: the folder,
+//! the name, the exit status, and how the run differs from `NAME.out` where it does. A list ends in `.txt` and has a script in each
+//! line: its lines parted by ` / `, then ` -> ` and what `check` must print of it. How many there are is printed, and those of which it
+//! prints something else.
 #![tactic(auto)]
 
 use serving::{check_script, serve_script};
-use std::alloc::Global;
+use std::alloc::{AllocError, Global};
 use std::rt::Files;
 use std::{env, fs, io};
 use streams::{Heard, Watched};
@@ -112,12 +114,57 @@ fn told_of<R: Files + AllocGlobal>(rt: &R, path: &str) -> io::Result<String> {
     )
 }
 
+/// What is printed of each script of a folder.
+fn tell_folder<R: Files + AllocGlobal + Print + Clone + Drop>(
+    rt: &R,
+    folder: &str,
+) -> io::Result<()> {
+    for name in names_in(rt, folder)?.iter() {
+        let path = format!(in rt.alloc(); "{folder}/{name}")?;
+        let line = told_of(rt, path.as_str())?;
+        println!(rt; "{line}")?;
+    }
+    Ok(())
+}
+
+/// The lines of a script, which are parted by ` / `, one after the other.
+fn unfolded(alloc: Global, script: &str) -> Result<String, AllocError> {
+    let mut text = String::new(alloc);
+    for line in script.split(" / ") {
+        text.push_str(line)?;
+        text.push('\n')?;
+    }
+    Ok(text)
+}
+
+/// `check` prints this line of the script, and nothing else.
+fn is_checked(alloc: Global, script: &str, wanted: &str) -> Result<bool, AllocError> {
+    let text = unfolded(alloc, script)?;
+    let check = Served::by_check(alloc, text.as_str().as_bytes());
+    let wanted = format!(in alloc; "{wanted}\n")?;
+    Ok(check.printed.as_slice() == wanted.as_str().as_bytes())
+}
+
+/// What is printed of each script of a list.
+fn tell_list<R: Files + AllocGlobal + Print>(rt: &R, name: &str) -> io::Result<()> {
+    let list = fs::read_to_string(rt, name)?;
+    let mut count = 0u64;
+    for line in list.as_str().lines() {
+        count = count.wrapping_add(1);
+        let (script, wanted) = line.split_once(" -> ").unwrap_or((line, ""));
+        if !is_checked(rt.alloc(), script, wanted)? {
+            println!(rt; "{name}: check prints something else of {script}")?;
+        }
+    }
+    println!(rt; "{name}: {count} scripts")
+}
+
 fn main(rt: HostRuntime) -> io::Result<()> {
-    for folder in env::args(&rt)?.skip(1) {
-        for name in names_in(&rt, folder.as_str())?.iter() {
-            let path = format!(in rt.alloc(); "{folder}/{name}")?;
-            let line = told_of(&rt, path.as_str())?;
-            println!(rt; "{line}")?;
+    for word in env::args(&rt)?.skip(1) {
+        if word.as_str().ends_with(".txt") {
+            tell_list(&rt, word.as_str())?;
+        } else {
+            tell_folder(&rt, word.as_str())?;
         }
     }
     Ok(())
