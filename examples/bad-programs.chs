@@ -4,6 +4,7 @@ storage 10
 path 10
 unit 0 block
 sub 0 0100 0 10
+# Storage ends at FFFF; a program of format 0 is below 1000000.
 put 500 000000000080FF0000001004
 put 520 000000000080FF0000010000
 put 540 000000000000FF0001000000

@@ -27,7 +27,7 @@ up 0 0
 tsch 0 600
 down 0 0
 up 0 0
-# The device forgets its block. The unit tells of the restart, and answers nothing before its reset.
+# The device forgets its block, and the unit tells its subchannel of the restart.
 restart 0
 notice 0 0
 up 0 0

@@ -1,5 +1,5 @@
 # A program is suspended before its first block, resumed while that block still has S, and once more without it.
-# Look at the suspended bit, 0020, in the statuses, and at cc 1 and cc 2 of rsch: the status must be cleared, and it counts once.
+# Look at the suspended bit, 0020, in the statuses, and at rsch: cc 1 while a status is pending, cc 2 while a resumption is.
 storage 10
 path 10
 unit 0 block

@@ -1,5 +1,5 @@
 # A unit that is restarted tells so again and again, and its subchannel takes nothing: the wire is full after eight signals.
-# Look at refused 2 for the ninth: it changes nothing, and goes by once a signal was taken.
+# Look at refused 2 for the ninth: it changes nothing; the tenth is sent, as a signal was taken by then.
 storage 10
 path 10
 unit 0 block

@@ -5,6 +5,7 @@ path 10
 unit 0 block
 sub 0 0100 0 10
 put 500 000000000080FF0000001000
+# 10 is no command; 11 would be a write.
 put 1000 1020000400002000
 enable 0 0 0
 ssch 0 500
