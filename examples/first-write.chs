@@ -1,4 +1,5 @@
-# One write of four bytes: it is started, carried to its unit over path 0, taken by the device, and its status is cleared.
+# One write of four bytes, from START SUBCHANNEL over the wires of path 0 to its device, and back to the cleared status.
+# Look at the last line: primary and secondary status, channel end and device end, and the address 8 past the command.
 storage 10
 path 10
 unit 0 block

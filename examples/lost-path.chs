@@ -1,4 +1,5 @@
-# A write loses its path: its status shows an interface-control check, a Reset goes by the other path, and the write is done there.
+# A write loses its path while the device has the command: a Reset goes by the other path, and the write is done there.
+# Look at the first tsch, whose status is an interface-control check, and at N in the stsch after the second offer.
 storage 10
 path 10
 path 11

@@ -5,6 +5,7 @@ mod device_models_ends;
 mod device_models_tests;
 mod many_subchannels_tests;
 mod paths_tests;
+mod script_lines;
 mod script_rows_tests;
 mod script_tests;
 mod script_text_shown_lines;

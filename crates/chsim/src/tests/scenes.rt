@@ -1,6 +1,38 @@
 //! Scripts that are made line by line, each line with what it prints.
 
-use crate::tests::{joined, served};
+use crate::tests::served;
+
+/// The lines of configuration of a subchannel with one path.
+const ONE_PATH: [&[u8]; 4] = [
+    b"storage 10",
+    b"path 10",
+    b"unit 0 block",
+    b"sub 0 0100 0 10",
+];
+
+/// The lines that put an ORB, a CCW and its bytes into storage, and enable the subchannel.
+const PREPARING: [(&[u8], &[u8]); 4] = [
+    (b"put 500 000000000080FF0000001000", b"done"),
+    (b"put 1000 0120000400002000", b"done"),
+    (b"put 2000 C1C2C3C4", b"done"),
+    (b"enable 0 0 0", b"cc 0"),
+];
+
+/// The events of a write by path 0, once it is started.
+const WRITING: [(&[u8], &[u8]); 12] = [
+    (b"choose 0", b"offer 0"),
+    (b"down 0 0", b"took select"),
+    (b"up 0 0", b"took accept"),
+    (b"down 0 0", b"took command"),
+    (b"dev 0", b"done"),
+    (b"up 0 0", b"took data"),
+    (b"down 0 0", b"took give"),
+    (b"dev 0", b"done"),
+    (b"up 0 0", b"took data"),
+    (b"down 0 0", b"took give"),
+    (b"dev 0", b"done"),
+    (b"up 0 0", b"took end"),
+];
 
 /// A script, and what it prints.
 #[derive(Drop)]
@@ -15,8 +47,14 @@ fn digit(number: u64) -> u8 {
     (number % 10) as u8 + b'0'
 }
 
-/// A number below 1,000 in decimal.
+/// A number below 100,000 in decimal.
 fn push_number(printed: &mut Vec<u8>, number: u64) {
+    if number >= 10_000 {
+        let _ = printed.push(digit(number / 10_000));
+    }
+    if number >= 1_000 {
+        let _ = printed.push(digit(number / 1_000));
+    }
     if number >= 100 {
         let _ = printed.push(digit(number / 100));
     }
@@ -27,29 +65,74 @@ fn push_number(printed: &mut Vec<u8>, number: u64) {
 }
 
 impl Scene {
-    /// A set-up of so many lines, and what it prints.
-    pub fn new(rt: &HostRuntime, (text, printed): (&[u8], &[u8]), count: u64) -> Self {
-        Scene {
-            text: joined(rt, text, b""),
-            printed: joined(rt, printed, b""),
-            count,
+    /// A subchannel with one path, which is enabled, and a program in storage.
+    pub fn with_one_path(rt: &HostRuntime) -> Self {
+        Scene::with(rt, &ONE_PATH)
+    }
+
+    /// The same with these lines of configuration.
+    pub fn with(rt: &HostRuntime, config: &[&[u8]]) -> Self {
+        let mut scene = Scene {
+            text: Vec::new(rt.alloc()),
+            printed: Vec::new(rt.alloc()),
+            count: 0,
+        };
+        for line in config {
+            scene.push_line(line);
         }
+        for (line, told) in PREPARING {
+            scene.says(line, told);
+        }
+        scene
+    }
+
+    /// A write, from its start to its cleared status.
+    pub fn of_a_write(rt: &HostRuntime) -> Self {
+        let mut scene = Scene::with_one_path(rt);
+        scene.says(b"ssch 0 500", b"cc 0");
+        scene.writes(12);
+        scene.says(b"tsch 0 600", b"cc 0 00804007 00001008 0C000000");
+        scene
+    }
+
+    /// One line more, which prints nothing.
+    fn push_line(&mut self, line: &[u8]) {
+        self.count = self.count.wrapping_add(1);
+        let _ = self.text.extend_from_slice(line);
+        let _ = self.text.push(b'\n');
     }
 
     /// One line more, and what it prints.
     pub fn says(&mut self, line: &[u8], told: &[u8]) {
-        self.count = self.count.wrapping_add(1);
-        let _ = self.text.extend_from_slice(line);
-        let _ = self.text.push(b'\n');
+        self.push_line(line);
         push_number(&mut self.printed, self.count);
         let _ = self.printed.push(b' ');
         let _ = self.printed.extend_from_slice(told);
         let _ = self.printed.push(b'\n');
     }
 
+    /// So many of the first events of a write by path 0.
+    pub fn writes(&mut self, events: u64) {
+        let mut number = 0u64;
+        for (line, told) in WRITING {
+            if number < events {
+                self.says(line, told);
+            }
+            number = number.wrapping_add(1);
+        }
+    }
+
+    pub fn text(&self) -> &[u8] {
+        self.text.as_slice()
+    }
+
+    pub fn printed(&self) -> &[u8] {
+        self.printed.as_slice()
+    }
+
     /// The script prints what it should, and nothing is refused.
     pub fn is_right(&self, rt: &HostRuntime) -> bool {
-        let (out, status) = served(rt, "run", self.text.as_slice());
-        out.as_slice() == self.printed.as_slice() && status == 0
+        let (out, status) = served(rt, "run", self.text());
+        out.as_slice() == self.printed() && status == 0
     }
 }

@@ -1,11 +1,39 @@
 //! A right script: its configuration, and its actions under the numbers of their lines.
 
+use crate::tests::script_lines::text_of;
 use script::{Script, ScriptBad};
 use script_rows::Action;
+use std::alloc::AllocError;
 use supply::Given;
 
-const RIGHT: &[u8] =
-    b"# a machine\n\nstorage 10\nsets 2\npath 10\npath fF\nunit 0 block\nunit 1 block\nshare 1 0\nsub 0 0100 0 10 FF\nsub 00030000 0101 0 10\nput 500 c1C2\nenable 0 7 1\ncpu f enable 30000 0 0\nssch 0001 500\ncpu 1 ssch 00001 500\ntsch 0 600\nchoose 0\n#\nup 0 1\ndown 0 12345678\ndev 3FF\nglance 3\ncpu 1 tpi 80 600\nattn 0 1 1\nrestart 0";
+const RIGHT: [&[u8]; 26] = [
+    b"# a machine",
+    b"",
+    b"storage 10",
+    b"sets 2",
+    b"path 10",
+    b"path fF",
+    b"unit 0 block",
+    b"unit 1 block",
+    b"share 1 0",
+    b"sub 0 0100 0 10 FF",
+    b"sub 00030000 0101 0 10",
+    b"put 500 c1C2",
+    b"enable 0 7 1",
+    b"cpu f enable 30000 0 0",
+    b"ssch 0001 500",
+    b"cpu 1 ssch 00001 500",
+    b"tsch 0 600",
+    b"choose 0",
+    b"#",
+    b"up 0 1",
+    b"down 0 12345678",
+    b"dev 3FF",
+    b"glance 3",
+    b"cpu 1 tpi 80 600",
+    b"attn 0 1 1",
+    b"restart 0",
+];
 
 /// What an action is: a device's turn or a glance, with its number, or an event.
 fn shown(action: &Action) -> (&[u8], u32) {
@@ -17,12 +45,13 @@ fn shown(action: &Action) -> (&[u8], u32) {
 }
 
 #[test]
-fn a_right_script_is_read(rt: HostRuntime) {
-    let script = match Script::read(rt.alloc(), RIGHT) {
+fn a_right_script_is_read(rt: HostRuntime) -> Result<(), AllocError> {
+    let text = text_of(rt.alloc(), &RIGHT)?;
+    let script = match Script::read(rt.alloc(), text.as_slice()) {
         Ok(script) => script,
         Err(bad) => {
             assert!(rt; bad == ScriptBad::NoMemory);
-            return;
+            return Ok(());
         }
     };
     let wanted: [(u64, &[u8], u32); 14] = [
@@ -58,4 +87,5 @@ fn a_right_script_is_read(rt: HostRuntime) {
         Err(_) => assert!(rt; false, "the allocator has room"),
     }
     assert!(rt; lines.len() == 14);
+    Ok(())
 }

@@ -1,15 +1,15 @@
 //! Scripts with a bad line: its number, and the first rule that it breaks.
 
+use crate::tests::script_lines::text_of;
 use script::{Script, ScriptBad};
 use std::alloc::AllocError;
 use supply::{Given, Refusing};
 
-const WRONG: [(&[u8], u64, u8); 38] = [
+const WRONG: [(&[u8], u64, u8); 32] = [
     (b"", 1, 6),
     (b"\n\n# nothing\n", 1, 6),
     (b"\n#\xFF\n", 1, 6),
     (b"path 10\nstorage 10\n", 1, 6),
-    (b"\n# first\n \nstorage 10", 3, 6),
     (b"race 1 1 tsch 0\n", 1, 6),
     (b"# first \xFF\npath 10\n", 1, 3),
     (b"storage 10\nlook 0\n", 2, 1),
@@ -29,38 +29,88 @@ const WRONG: [(&[u8], u64, u8); 38] = [
     (b"storage 10\nunit 1 block\n", 2, 5),
     (b"storage 10\nunit 0 block\nsub 20000 0 0 10\n", 3, 5),
     (b"storage 10\nunit 0 block\nsub 0 0 0\n", 3, 5),
-    (b"storage 10\nunit 0 block\npath 10\nsub 0 0 1 10\n", 4, 5),
-    (b"storage 10\npath 10\npath 10\nglance 0\n", 3, 5),
     (b"storage 10\nput 500 C1\nput 500 x", 3, 3),
     (b"storage 10\ncpu 0 restart 0\n", 2, 1),
     (b"storage 10\nunit 0 block\nshare 0\n", 3, 2),
     (b"storage 10\nattn 0 0 2\n", 2, 3),
-    (b"storage 10\npath 10\nsysreset\npath 11\n", 4, 4),
     (b"storage 10\nsystemreset\n", 2, 1),
     (b"pathdown 10\nstorage 10\n", 1, 6),
     (b"storage 10\npathdown 100\npathdown 10\r\n", 3, 3),
+    (b"storage 10\nunit 0 block\nshare 0 1\n", 3, 5),
+    (b"storage 10\nunit 0 block\nshare 0 0\n", 3, 5),
+];
+
+/// The same in more lines; the last is empty where the text ends by LF.
+const WRONG_LATER: [(&[&[u8]], u64, u8); 6] = [
+    (&[b"", b"# first", b" ", b"storage 10"], 3, 6),
     (
-        b"storage 10\nunit 0 block\nunit 1 block\nstcrw 700\nshare 0 1\n",
+        &[
+            b"storage 10",
+            b"unit 0 block",
+            b"path 10",
+            b"sub 0 0 1 10",
+            b"",
+        ],
+        4,
+        5,
+    ),
+    (
+        &[b"storage 10", b"path 10", b"path 10", b"glance 0", b""],
+        3,
+        5,
+    ),
+    (
+        &[b"storage 10", b"path 10", b"sysreset", b"path 11", b""],
+        4,
+        4,
+    ),
+    (
+        &[
+            b"storage 10",
+            b"unit 0 block",
+            b"unit 1 block",
+            b"stcrw 700",
+            b"share 0 1",
+            b"",
+        ],
         5,
         4,
     ),
-    (b"storage 10\nunit 0 block\nshare 0 1\n", 3, 5),
-    (b"storage 10\nunit 0 block\nshare 0 0\n", 3, 5),
     (
-        b"storage 10\nunit 0 block\nunit 1 block\nshare 0 1\nshare 1 0\n",
+        &[
+            b"storage 10",
+            b"unit 0 block",
+            b"unit 1 block",
+            b"share 0 1",
+            b"share 1 0",
+            b"",
+        ],
         5,
         5,
     ),
 ];
 
-#[test]
-fn wrong_lines_are_named(rt: HostRuntime) {
-    for (text, line, rule) in WRONG {
-        match Script::read(rt.alloc(), text) {
-            Ok(_) => assert!(rt; false, "line {line} rule {rule}"),
-            Err(bad) => assert!(rt; bad == ScriptBad::Bad { line, rule }),
-        }
+/// Reading a text names this line and this rule.
+fn is_named(rt: &HostRuntime, text: &[u8], line: u64, rule: u8) -> bool {
+    match Script::read(rt.alloc(), text) {
+        Ok(_) => false,
+        Err(bad) => bad == ScriptBad::Bad { line, rule },
     }
+}
+
+#[test]
+fn wrong_lines_are_named(rt: HostRuntime) -> Result<(), AllocError> {
+    for (text, line, rule) in WRONG {
+        assert!(rt; is_named(&rt, text, line, rule), "line {line} rule {rule}");
+    }
+    for (lines, line, rule) in WRONG_LATER {
+        let text = text_of(rt.alloc(), lines)?;
+        assert!(rt;
+            is_named(&rt, text.as_slice(), line, rule),
+            "line {line} rule {rule}"
+        );
+    }
+    Ok(())
 }
 
 #[test]
@@ -87,16 +137,26 @@ fn a_line_is_at_most_1024_bytes(rt: HostRuntime) -> Result<(), AllocError> {
 }
 
 /// Every growth that reading meets: of lines, words, numbers, paths, units, subchannels and actions.
-const GROWING: &[u8] =
-    b"storage 10\npath 10\npath FF\nunit 0 block\nunit 1 block\nshare 0 1\nsub 0 0100 0 10 FF\nput 500 C1\nglance 0";
+const GROWING: [&[u8]; 9] = [
+    b"storage 10",
+    b"path 10",
+    b"path FF",
+    b"unit 0 block",
+    b"unit 1 block",
+    b"share 0 1",
+    b"sub 0 0100 0 10 FF",
+    b"put 500 C1",
+    b"glance 0",
+];
 
 #[test]
-fn each_growth_is_refused_in_turn(rt: HostRuntime) {
+fn each_growth_is_refused_in_turn(rt: HostRuntime) -> Result<(), AllocError> {
+    let growing = text_of(rt.alloc(), &GROWING)?;
     let mut counted = Refusing {
         left: 1_000,
         refused: false,
     };
-    assert!(rt; Script::read_with(rt.alloc(), &mut counted, GROWING).is_ok());
+    assert!(rt; Script::read_with(rt.alloc(), &mut counted, growing.as_slice()).is_ok());
     let growths = 1_000u64.wrapping_sub(counted.left);
     assert!(rt; growths > 20);
     for left in 0..=growths {
@@ -104,7 +164,7 @@ fn each_growth_is_refused_in_turn(rt: HostRuntime) {
             left,
             refused: false,
         };
-        match Script::read_with(rt.alloc(), &mut supply, GROWING) {
+        match Script::read_with(rt.alloc(), &mut supply, growing.as_slice()) {
             Ok(_) => assert!(rt; left == growths && !supply.refused),
             Err(bad) => {
                 assert!(rt; left < growths && supply.refused);
@@ -112,11 +172,12 @@ fn each_growth_is_refused_in_turn(rt: HostRuntime) {
             }
         }
         let mut supply = Given { refused: false };
-        match Script::read_with(rt.alloc(), &mut supply, GROWING) {
+        match Script::read_with(rt.alloc(), &mut supply, growing.as_slice()) {
             Ok(script) => assert!(rt; script.lines().len() == 2),
             Err(_) => assert!(rt; false, "the allocator has room"),
         }
     }
+    Ok(())
 }
 
 #[test]

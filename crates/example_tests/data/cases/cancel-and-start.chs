@@ -1,0 +1,20 @@
+# A start after a cancelled offer is offered once that offer is let go.
+storage 10
+path 10
+unit 0 block
+sub 0 0100 0 10
+put 500 000000000080FF0000001000
+put 1000 0120000400002000
+put 2000 C1C2C3C4
+enable 0 0 0
+ssch 0 500
+choose 0
+xsch 0
+xsch 0
+ssch 0 500
+down 0 0
+up 0 0
+down 0 0
+up 0 0
+stsch 0 700
+choose 0

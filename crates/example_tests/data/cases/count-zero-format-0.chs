@@ -1,0 +1,16 @@
+# A count of zero in format 0.
+storage 10
+path 10
+unit 0 block
+sub 0 0100 0 10
+put 500 000000000080FF0000001000
+put 1000 0120000400002000
+put 2000 C1C2C3C4
+enable 0 0 0
+put 500 000000000000FF0000001000
+put 1000 0100200020000000
+ssch 0 500
+choose 0
+down 0 0
+up 0 0
+tsch 0 600

@@ -1,0 +1,28 @@
+# A dedicated allegiance outlives the loss of its path, so that a start finds none.
+storage 10
+path 10
+path 11
+unit 0 reject
+sub 0 0100 0 10 11
+put 500 000000000080FF0000001000
+put 1000 0120000400002000
+put 2000 C1C2C3C4
+enable 0 0 0
+ssch 0 500
+choose 0
+down 0 0
+up 0 0
+down 0 0
+dev 0
+up 0 0
+tsch 0 600
+pathdown 10
+choose 0
+down 0 1
+up 0 1
+ssch 0 500
+choose 0
+tsch 0 600
+pathup 10
+ssch 0 500
+choose 0

@@ -1,0 +1,38 @@
+# A program without end is cleared as an End waits, which is ignored.
+storage 10
+path 10
+unit 0 block
+sub 0 0100 0 10
+put 500 000000000080FF0000001000
+put 1000 0120000400002000
+put 2000 C1C2C3C4
+enable 0 0 0
+put 1000 0360000000000000
+put 1008 0800000000001000
+ssch 0 500
+choose 0
+down 0 0
+up 0 0
+down 0 0
+dev 0
+up 0 0
+dev 0
+up 0 0
+down 0 0
+dev 0
+up 0 0
+dev 0
+up 0 0
+down 0 0
+dev 0
+up 0 0
+dev 0
+up 0 0
+down 0 0
+dev 0
+csch 0
+choose 0
+down 0 0
+up 0 0
+up 0 0
+tsch 0 600

@@ -1,0 +1,17 @@
+# Another path goes down than that of the Reset: it is answered where it was sent.
+storage 10
+path 10
+path 11
+unit 0 block
+sub 0 0100 0 10 11
+put 500 000000000080FF0000001000
+put 1000 0120000400002000
+put 2000 C1C2C3C4
+enable 0 0 0
+csch 0
+choose 0
+pathdown 11
+choose 0
+down 0 0
+up 0 0
+tsch 0 600

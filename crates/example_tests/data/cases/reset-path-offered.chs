@@ -1,0 +1,23 @@
+# The path of an offer is reset: the program is over, and the path stays available.
+storage 10
+path 10
+path 11
+unit 0 block
+sub 0 0100 0 10 11
+put 500 000000000080FF0000001000
+put 1000 0120000400002000
+put 2000 C1C2C3C4
+enable 0 0 0
+ssch 0 500
+choose 0
+rchp 10
+pathreset 10
+down 0 0
+tsch 0 600
+stcrw 700
+stsch 0 700
+show 708 8
+choose 0
+down 0 1
+up 0 1
+choose 0

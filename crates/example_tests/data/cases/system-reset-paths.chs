@@ -1,0 +1,29 @@
+# A reset of the channel subsystem: programs, reports and resets of paths are gone, and the path that is down stays so.
+storage 10
+path 10
+path 11
+unit 0 block
+sub 0 0100 0 10 11
+put 500 000000000080FF0000001000
+put 1000 0120000400002000
+put 2000 C1C2C3C4
+enable 0 0 0
+ssch 0 500
+choose 0
+down 0 0
+up 0 0
+down 0 0
+pathdown 11
+rchp 10
+sysreset
+stcrw 700
+pathreset 10
+stsch 0 700
+show 704 C
+tsch 0 600
+pathdown 11
+enable 0 0 0
+choose 0
+down 0 0
+up 0 0
+tsch 0 600

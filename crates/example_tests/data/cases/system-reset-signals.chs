@@ -1,0 +1,20 @@
+# A reset of the channel subsystem: signals stay on their wires.
+storage 10
+path 10
+path 11
+unit 0 block
+sub 0 0100 0 10 11
+put 500 000000000080FF0000001000
+put 1000 0120000400002000
+put 2000 C1C2C3C4
+enable 0 0 0
+ssch 0 500
+choose 0
+sysreset
+enable 0 0 0
+down 0 0
+up 0 0
+choose 0
+down 0 1
+up 0 1
+choose 0

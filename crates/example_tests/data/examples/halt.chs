@@ -1,0 +1,22 @@
+# A program is halted while its device has the command.
+# Look at halt 0 and took halt: the device ends early, and all four bytes are left in the count of the status.
+storage 10
+path 10
+unit 0 block
+sub 0 0100 0 10
+put 500 000000000080FF0000001000
+put 1000 0120000400002000
+put 2000 C1C2C3C4
+enable 0 0 0
+ssch 0 500
+choose 0
+down 0 0
+up 0 0
+down 0 0
+# The halt is accepted at once; the signal goes to the device as the subchannel is chosen.
+hsch 0
+choose 0
+down 0 0
+dev 0
+up 0 0
+tsch 0 600

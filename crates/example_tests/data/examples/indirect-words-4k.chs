@@ -1,0 +1,34 @@
+# A write over a list of indirect words of format 2: H in the ORB makes them 8 bytes long, for blocks of 4K.
+# Look at the two gives with bytes: A1A2 up to the end of the block at 2FFE, then A3A4 from the block at 4000.
+storage 10
+path 10
+unit 0 block
+sub 0 0100 0 10
+put 500 000000000080FF0000001000
+put 1000 0120000400002000
+put 2000 C1C2C3C4
+enable 0 0 0
+put 1000 0124000400003000
+put 2FFE A1A2
+put 4000 A3A4
+put 4800 A3A4
+# F is 80 and H is 02 in byte 1 of the second word.
+put 500 000000000082FF0000001000
+put 3000 0000000000002FFE0000000000004000
+ssch 0 500
+choose 0
+down 0 0
+up 0 0
+down 0 0
+dev 0
+up 0 0
+down 0 0
+dev 0
+up 0 0
+down 0 0
+dev 0
+up 0 0
+down 0 0
+dev 0
+up 0 0
+tsch 0 600

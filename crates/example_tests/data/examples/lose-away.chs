@@ -1,0 +1,25 @@
+# A program leaves its path and works on; in single-path mode it must come back by that path, which goes down.
+# Look at the status, an interface-control check at once, and the Reset that goes by the other path.
+storage 10
+path 10
+path 11
+unit 0 block
+sub 0 0100 0 10 11
+put 500 000000000080FF0000001000
+put 1000 0120000400002000
+put 2000 C1C2C3C4
+enable 0 0 0
+ssch 0 500
+choose 0
+down 0 0
+up 0 0
+down 0 0
+# The program works on without a path.
+leave 0
+up 0 0
+pathdown 10
+tsch 0 600
+choose 0
+down 0 1
+up 0 1
+choose 0

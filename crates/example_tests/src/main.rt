@@ -1,0 +1,171 @@
+//! Runs every stored script and compares what it prints with the file beside it, byte by byte.
+//!
+//! Its words are folders and lists. For each `NAME.chs` in a folder, in the order of their names, one line is printed: the folder,
+//! the name, the exit status, and how the run differs from `NAME.out` where it does. A list ends in `.txt` and has a script in each
+//! line: its lines parted by ` / `, then ` -> ` and what `check` must print of it. How many there are is printed, and those of which it
+//! prints something else.
+#![tactic(auto)]
+
+use serving::{check_script, serve_script};
+use std::alloc::{AllocError, Global};
+use std::rt::Files;
+use std::{env, fs, io};
+use streams::{Heard, Watched};
+
+/// What a command printed over a script, and its exit status.
+#[derive(Drop)]
+struct Served {
+    printed: Vec<u8>,
+    status: u8,
+}
+
+impl Served {
+    /// The script is performed.
+    fn by_run(alloc: Global, script: &[u8]) -> Served {
+        let mut reader = Heard::new(script);
+        let mut sink = Watched::new(Vec::new(alloc));
+        let status = serve_script(alloc, &mut reader, &mut sink).status();
+        Served {
+            printed: sink.writer,
+            status,
+        }
+    }
+
+    /// The script is read only.
+    fn by_check(alloc: Global, script: &[u8]) -> Served {
+        let mut reader = Heard::new(script);
+        let mut sink = Watched::new(Vec::new(alloc));
+        let status = check_script(alloc, &mut reader, &mut sink).status();
+        Served {
+            printed: sink.writer,
+            status,
+        }
+    }
+
+    /// `check` answers as it must beside this run: a bad line in the same words, and that any other script is good.
+    fn is_checked_by(&self, check: &Served) -> bool {
+        if self.status == 2 {
+            check.status == 2 && check.printed.as_slice() == self.printed.as_slice()
+        } else {
+            check.status == 0 && check.printed.as_slice() == b"script ok\n".as_slice()
+        }
+    }
+}
+
+/// The number of the first line, from 1, in which two texts differ.
+fn differing_line(one: &[u8], other: &[u8]) -> u64 {
+    let mut line = 1u64;
+    for (a, b) in one.iter().zip(other.iter()) {
+        if *a != *b {
+            return line;
+        }
+        if *a == b'\n' {
+            line = line.wrapping_add(1);
+        }
+    }
+    line
+}
+
+/// The names of the scripts in a folder, without their ending, in order.
+fn names_in<R: Files + AllocGlobal + Clone + Drop>(
+    rt: &R,
+    folder: &str,
+) -> io::Result<Vec<String>> {
+    let mut names = Vec::new(rt.alloc());
+    for entry in fs::read_dir(rt, folder)? {
+        let entry = entry?;
+        if let Some(name) = entry.file_name().strip_suffix(".chs") {
+            names.push(String::from_str(rt.alloc(), name)?)?;
+        }
+    }
+    names.sort()?;
+    Ok(names)
+}
+
+/// What is printed of a script, and of the text that it must print, where there is one.
+fn told(alloc: Global, name: &str, script: &[u8], wanted: Option<&[u8]>) -> io::Result<String> {
+    let run = Served::by_run(alloc, script);
+    let status = run.status;
+    let mut text = format!(in alloc; "{name} {status}")?;
+    match wanted {
+        None => text.push_str(": there is no file of what it prints")?,
+        Some(wanted) if run.printed.as_slice() == wanted => {}
+        Some(wanted) => {
+            let line = differing_line(run.printed.as_slice(), wanted);
+            text.push_str(format!(in alloc; ": what it prints differs in line {line}")?.as_str())?;
+        }
+    }
+    if !run.is_checked_by(&Served::by_check(alloc, script)) {
+        text.push_str(": check answers otherwise")?;
+    }
+    Ok(text)
+}
+
+/// What is printed of the script of this path, which lacks its ending.
+fn told_of<R: Files + AllocGlobal>(rt: &R, path: &str) -> io::Result<String> {
+    let alloc = rt.alloc();
+    let script = fs::read(rt, format!(in alloc; "{path}.chs")?)?;
+    let wanted = fs::read(rt, format!(in alloc; "{path}.out")?).ok();
+    told(
+        alloc,
+        path,
+        script.as_slice(),
+        wanted.as_ref().map(|text| text.as_slice()),
+    )
+}
+
+/// What is printed of each script of a folder.
+fn tell_folder<R: Files + AllocGlobal + Print + Clone + Drop>(
+    rt: &R,
+    folder: &str,
+) -> io::Result<()> {
+    for name in names_in(rt, folder)?.iter() {
+        let path = format!(in rt.alloc(); "{folder}/{name}")?;
+        let line = told_of(rt, path.as_str())?;
+        println!(rt; "{line}")?;
+    }
+    Ok(())
+}
+
+/// The lines of a script, which are parted by ` / `, one after the other.
+fn unfolded(alloc: Global, script: &str) -> Result<String, AllocError> {
+    let mut text = String::new(alloc);
+    for line in script.split(" / ") {
+        text.push_str(line)?;
+        text.push('\n')?;
+    }
+    Ok(text)
+}
+
+/// `check` prints this line of the script, and nothing else.
+fn is_checked(alloc: Global, script: &str, wanted: &str) -> Result<bool, AllocError> {
+    let text = unfolded(alloc, script)?;
+    let check = Served::by_check(alloc, text.as_str().as_bytes());
+    let wanted = format!(in alloc; "{wanted}\n")?;
+    Ok(check.printed.as_slice() == wanted.as_str().as_bytes())
+}
+
+/// What is printed of each script of a list.
+fn tell_list<R: Files + AllocGlobal + Print>(rt: &R, name: &str) -> io::Result<()> {
+    let list = fs::read_to_string(rt, name)?;
+    let mut count = 0u64;
+    for line in list.as_str().lines() {
+        count = count.wrapping_add(1);
+        let (script, wanted) = line.split_once(" -> ").unwrap_or((line, ""));
+        if !is_checked(rt.alloc(), script, wanted)? {
+            println!(rt; "{name}: check prints something else of {script}")?;
+        }
+    }
+    println!(rt; "{name}: {count} scripts")
+}
+
+fn main(rt: HostRuntime) -> io::Result<()> {
+    for word in env::args(&rt)?.skip(1) {
+        if word.as_str().ends_with(".txt") {
+            tell_list(&rt, word.as_str())?;
+        } else {
+            tell_folder(&rt, word.as_str())?;
+        }
+    }
+    Ok(())
+}
