@@ -1,0 +1,27 @@
+# A block asks for an interruption by the program, and nothing clears that status before the program ends.
+# Look at the one status for both: intermediate, primary and secondary; PCI, channel end and device end.
+storage 10
+path 10
+unit 0 block
+sub 0 0100 0 10
+put 500 000000000080FF0000001000
+put 1000 0128000400002000
+put 2000 C1C2C3C4
+enable 0 0 0
+ssch 0 500
+choose 0
+down 0 0
+up 0 0
+stsch 0 700
+down 0 0
+dev 0
+up 0 0
+down 0 0
+dev 0
+up 0 0
+down 0 0
+dev 0
+up 0 0
+glance 0
+tsch 0 600
+glance 0
