@@ -1,5 +1,5 @@
 -- Whether a Choose is answered Idle depends on whether there is a path to choose, and not on which is chosen.
-use Rattle.std.proofs.Common.{◌≡◌, refl, sym, ◌∙◌, ap, subst, ℕ, zero, suc, ◌+◌, ◌<◌, ◌%◌, ◌==◌, Bool, true, false, not, arith, Option, None, Some, is_some, Result, Ok, Err, List, [], ◌∷◌, if◌then◌else◌}
+use Rattle.std.proofs.Common.{◌≡◌, refl, sym, ◌∙◌, ap, subst, ℕ, zero, suc, ◌+◌, ◌<◌, ◌%◌, Bool, true, false, not, arith, Option, None, Some, is_some, Result, Ok, Err, List, [], ◌∷◌, if◌then◌else◌}
 use Rattle.std.specs.Prelude.{◌≢◌, IfOk, slice_get}
 use Rattle.std.proofs.Math.Nat.{mod-eq_of_lt}
 use Rattle.std.proofs.lemmas.Bool.{cond_both}
@@ -27,9 +27,9 @@ use Rattle.subchannel_model.specs.Sending.{carried_by, finds_full, with_any_sent
 use Rattle.subchannel_model.specs.Losing.{path_index}
 use Rattle.machine_model.specs.ChooseSteps.{choose_sub, send_sub}
 use Rattle.machine_model.specs.Requests.{settled}
-use Rattle.machine_model.specs.State.{State, cyclic_path, found_of, place_of, sub_of}
+use Rattle.machine_model.specs.State.{State, cyclic_path, place_of, sub_of}
 use Rattle.machine_model.specs.Steps.{Step}
-use Rattle.machine_model.specs.Turns.{Outcome, SubTurn, at_sub, does, leaves}
+use Rattle.machine_model.specs.Turns.{Outcome, SubTurn, at_sub, leaves}
 use Rattle.machine_steps.specs.PathTurns.{has_to_choose, is_idle, lowest_path, path_turn_of, turn_at, turn_by, turn_on, waits_up}
 
 -- the first path of a set, in cyclic order, is a path of it, and there is one where the set has any

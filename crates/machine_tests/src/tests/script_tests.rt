@@ -47,7 +47,7 @@ fn shown(action: &Action) -> (&[u8], u32) {
 #[test]
 fn a_right_script_is_read(rt: HostRuntime) -> Result<(), AllocError> {
     let text = text_of(rt.alloc(), &RIGHT)?;
-    let script = match Script::read(rt.alloc(), text.as_slice()) {
+    let script = match Script::read(rt.alloc(), false, text.as_slice()) {
         Ok(script) => script,
         Err(bad) => {
             assert!(rt; bad == ScriptBad::NoMemory);

@@ -90,23 +90,80 @@ const WRONG_LATER: [(&[&[u8]], u64, u8); 6] = [
     ),
 ];
 
-/// Reading a text names this line and this rule.
-fn is_named(rt: &HostRuntime, text: &[u8], line: u64, rule: u8) -> bool {
-    match Script::read(rt.alloc(), text) {
+/// Reading a text, where a race may be or not, names this line and this rule.
+fn is_named(rt: &HostRuntime, races: bool, text: &[u8], line: u64, rule: u8) -> bool {
+    match Script::read(rt.alloc(), races, text) {
         Ok(_) => false,
         Err(bad) => bad == ScriptBad::Bad { line, rule },
     }
 }
 
+/// Lines that race CPUs, where the command lets them, each with the line that breaks a rule.
+const RACING: [(&[u8], u64, u8); 13] = [
+    (b"storage 10\ncpu 1 race 4 100 tsch 0\n", 2, 1),
+    (b"storage 10\nrace 4 100 tsch\n", 2, 2),
+    (b"storage 10\nrace 4 100 tsch 0 600\n", 2, 2),
+    (b"storage 10\nrace 0 100 tsch 0\n", 2, 3),
+    (b"storage 10\nrace 17 100 tsch 0\n", 2, 3),
+    (b"storage 10\nrace A 100 tsch 0\n", 2, 3),
+    (b"storage 10\nrace 4 0 tsch 0\n", 2, 3),
+    (b"storage 10\nrace 4 10001 tsch 0\n", 2, 3),
+    (b"storage 10\nrace 4 000000100 tsch 0\n", 2, 3),
+    (b"storage 10\nrace 4 100 csch 0\n", 2, 3),
+    (b"storage 10\nrace 4 100 tsch x\n", 2, 3),
+    (b"storage 10\nrace 4 100 tsch 0\ndev 0\n", 2, 7),
+    (b"storage 10\nrace 4 100 tsch 0\nrace 4 100 tsch 0\n", 2, 7),
+];
+
+#[test]
+fn wrong_races_are_named(rt: HostRuntime) {
+    for (text, line, rule) in RACING {
+        assert!(rt; is_named(&rt, true, text, line, rule), "line {line} rule {rule}");
+    }
+}
+
+/// A race in the last line that has words.
+const RACED: [&[u8]; 7] = [
+    b"storage 10",
+    b"dev 0",
+    b"",
+    b"race 16 0010000 tsch 20003",
+    b"",
+    b"# the end",
+    b"",
+];
+
+#[test]
+fn a_race_is_in_the_last_line_with_words(rt: HostRuntime) -> Result<(), AllocError> {
+    let text = text_of(rt.alloc(), &RACED)?;
+    match Script::read(rt.alloc(), true, text.as_slice()) {
+        Ok(script) => {
+            assert!(rt; script.lines().len() == 1);
+            match script.race() {
+                Some(line) => {
+                    assert!(rt; line.number == 4);
+                    assert!(rt; line.race.cpus == 16);
+                    assert!(rt; line.race.times == 10_000);
+                    assert!(rt; line.race.subchannel == 0x2_0003);
+                }
+                None => assert!(rt; false, "it asks for a race"),
+            }
+        }
+        Err(_) => assert!(rt; false, "the text is right"),
+    }
+    assert!(rt; is_named(&rt, false, text.as_slice(), 4, 7));
+    Ok(())
+}
+
 #[test]
 fn wrong_lines_are_named(rt: HostRuntime) -> Result<(), AllocError> {
     for (text, line, rule) in WRONG {
-        assert!(rt; is_named(&rt, text, line, rule), "line {line} rule {rule}");
+        assert!(rt; is_named(&rt, false, text, line, rule), "line {line} rule {rule}");
     }
     for (lines, line, rule) in WRONG_LATER {
         let text = text_of(rt.alloc(), lines)?;
         assert!(rt;
-            is_named(&rt, text.as_slice(), line, rule),
+            is_named(&rt, false, text.as_slice(), line, rule),
             "line {line} rule {rule}"
         );
     }
@@ -122,7 +179,7 @@ fn a_line_is_at_most_1024_bytes(rt: HostRuntime) -> Result<(), AllocError> {
             text.push(b'#')?;
         }
         text.extend_from_slice(b"\ndev 0\n")?;
-        match Script::read(rt.alloc(), text.as_slice()) {
+        match Script::read(rt.alloc(), false, text.as_slice()) {
             Ok(script) => {
                 assert!(rt; is_right);
                 assert!(rt; script.lines().len() == 1);
@@ -156,7 +213,7 @@ fn each_growth_is_refused_in_turn(rt: HostRuntime) -> Result<(), AllocError> {
         left: 1_000,
         refused: false,
     };
-    assert!(rt; Script::read_with(rt.alloc(), &mut counted, growing.as_slice()).is_ok());
+    assert!(rt; Script::read_with(rt.alloc(), &mut counted, false, growing.as_slice()).is_ok());
     let growths = 1_000u64.wrapping_sub(counted.left);
     assert!(rt; growths > 20);
     for left in 0..=growths {
@@ -164,7 +221,7 @@ fn each_growth_is_refused_in_turn(rt: HostRuntime) -> Result<(), AllocError> {
             left,
             refused: false,
         };
-        match Script::read_with(rt.alloc(), &mut supply, growing.as_slice()) {
+        match Script::read_with(rt.alloc(), &mut supply, false, growing.as_slice()) {
             Ok(_) => assert!(rt; left == growths && !supply.refused),
             Err(bad) => {
                 assert!(rt; left < growths && supply.refused);
@@ -172,7 +229,7 @@ fn each_growth_is_refused_in_turn(rt: HostRuntime) -> Result<(), AllocError> {
             }
         }
         let mut supply = Given { refused: false };
-        match Script::read_with(rt.alloc(), &mut supply, growing.as_slice()) {
+        match Script::read_with(rt.alloc(), &mut supply, false, growing.as_slice()) {
             Ok(script) => assert!(rt; script.lines().len() == 2),
             Err(_) => assert!(rt; false, "the allocator has room"),
         }
@@ -188,7 +245,7 @@ fn a_script_of_many_lines_is_read(rt: HostRuntime) -> Result<(), AllocError> {
         text.push(b'\n')?;
     }
     text.extend_from_slice(b"dev 0\n")?;
-    match Script::read(rt.alloc(), text.as_slice()) {
+    match Script::read(rt.alloc(), false, text.as_slice()) {
         Ok(script) => {
             let lines = script.lines();
             assert!(rt; lines.len() == 1);
