@@ -9,6 +9,7 @@ mod scenes;
 mod stops;
 mod units;
 
+use crate::outcome::Outcome;
 use crate::serve;
 use crate::tests::memory::{Short, Slow};
 use serving::{Ending, serve_script_with};
@@ -92,8 +93,8 @@ pub fn joined(rt: &HostRuntime, first: &[u8], more: &[u8]) -> Vec<u8> {
 pub fn served(rt: &HostRuntime, word: &str, text: &[u8]) -> (Vec<u8>, u8) {
     let mut reader = Heard::new(text);
     let mut sink = Watched::new(Vec::new(rt.alloc()));
-    let status = serve(rt.alloc(), &["chsim", word], &mut reader, &mut sink);
-    (sink.writer, status)
+    let outcome = serve(rt.alloc(), &["chsim", word], &mut reader, &mut sink);
+    (sink.writer, outcome.status())
 }
 
 #[test]
@@ -168,6 +169,13 @@ fn a_device_without_work_is_refused(rt: HostRuntime) {
     assert!(rt; status == 1);
 }
 
+const UNWRITTEN: &str = "chsim: standard output could not be written";
+
+/// Whether it ended with this exit status and with this line on standard error, or with none.
+fn ends(outcome: Outcome, status: u8, complaint: Option<&str>) -> bool {
+    outcome.status() == status && outcome.complaint() == complaint
+}
+
 #[test]
 fn a_text_that_is_not_read_is_not_served(rt: HostRuntime) {
     for fails_at in 0..60u64 {
@@ -178,14 +186,14 @@ fn a_text_that_is_not_read_is_not_served(rt: HostRuntime) {
             fails_at,
         });
         let mut sink = Watched::new(Vec::new(rt.alloc()));
-        let status = serve(rt.alloc(), &["chsim", "run"], &mut reader, &mut sink);
+        let outcome = serve(rt.alloc(), &["chsim", "run"], &mut reader, &mut sink);
         let out = sink.writer;
         if fails_at == 0 || fails_at > reader.reader.calls {
             assert!(rt; out.as_slice() == WRITTEN);
-            assert!(rt; status == 0);
+            assert!(rt; ends(outcome, 0, None));
         } else {
             assert!(rt; out.len() == 0);
-            assert!(rt; status == 2);
+            assert!(rt; ends(outcome, 2, Some("chsim: standard input could not be read")));
         }
     }
 }
@@ -200,15 +208,15 @@ fn nothing_is_performed_after_a_write_fails(rt: HostRuntime) {
             calls: 0,
             fails_at,
         });
-        let status = serve(rt.alloc(), &["chsim", "run"], &mut reader, &mut sink);
+        let outcome = serve(rt.alloc(), &["chsim", "run"], &mut reader, &mut sink);
         let out = sink.writer;
         assert!(rt; WRITTEN.starts_with(out.text.as_slice()));
         if fails_at == 0 || fails_at > out.calls {
             assert!(rt; out.text.as_slice() == WRITTEN);
-            assert!(rt; status == 0);
+            assert!(rt; ends(outcome, 0, None));
         } else {
             assert!(rt; out.calls == fails_at);
-            assert!(rt; status == 1);
+            assert!(rt; ends(outcome, 1, Some(UNWRITTEN)));
         }
     }
 }
@@ -254,10 +262,32 @@ fn other_words_show_a_text(rt: HostRuntime) {
     for (words, begins) in rows {
         let mut reader = Heard::new(WRITE);
         let mut sink = Watched::new(Vec::new(rt.alloc()));
-        let status = serve(rt.alloc(), words, &mut reader, &mut sink);
+        let outcome = serve(rt.alloc(), words, &mut reader, &mut sink);
         let out = sink.writer;
         assert!(rt; out.as_slice().starts_with(begins.as_bytes()), "{begins}");
-        assert!(rt; status == 2);
+        assert!(rt; ends(outcome, 2, None));
         assert!(rt; reader.reader.len() == WRITE.len());
+    }
+}
+
+#[test]
+fn what_is_not_written_is_told(rt: HostRuntime) {
+    let rows: [(&[&str], &[u8], u8); 4] = [
+        (&["chsim", "walk"], WRITE, 2),
+        (&["chsim", "--help"], WRITE, 2),
+        (&["chsim", "check"], WRITE, 1),
+        (&["chsim", "run"], b"", 2),
+    ];
+    for (words, text, status) in rows {
+        let mut reader = Heard::new(text);
+        let mut sink = Watched::new(Short {
+            text: Vec::new(rt.alloc()),
+            most: 3,
+            calls: 0,
+            fails_at: 1,
+        });
+        let outcome = serve(rt.alloc(), words, &mut reader, &mut sink);
+        assert!(rt; sink.writer.text.len() == 0);
+        assert!(rt; ends(outcome, status, Some(UNWRITTEN)));
     }
 }
