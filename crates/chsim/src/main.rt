@@ -5,61 +5,85 @@ ghost use Rattle.std.specs.Prelude.{◌≡◌, map, is_none, IsTrue};
 ghost use Rattle.command_words.specs.Plain.{plain};
 ghost use Rattle.chsim.specs.Program.{IsServed, ShowsRefusal};
 
+pub mod outcome;
 #[cfg(test)]
 mod tests;
 
+use crate::outcome::Outcome;
 use command_words::{Refused, Wanted, command_of};
 use serving::{check_script, serve_script};
 use std::alloc::Global;
+use std::io::ErrorKind;
 use std::process::ExitCode;
 use std::{env, io};
 use streams::{Heard, Sink, Source, Watched};
 
-/// Serves the program's words, its own name being the first of them, and answers the exit status. Words that name no command
-/// write a text, which is help where they ask for it, and end with 2 before anything is read; with 1, and no text, where there
-/// is no memory for it.
-///
-/// 0: all was done. 1: an event was refused, or memory or the writer failed. 2: a bad line, bad words, or the reader failed.
+/// Serves the program's words, its own name being the first of them, and answers how it ended. Words that name no command
+/// write a text, which is help where they ask for it, before anything is read; none where there is no memory for it.
 pub fn serve<'a, R: Source, S: Sink>(
     alloc: Global,
     words: &'a [&'a str],
     reader: &mut R,
     sink: &mut S,
-) -> u8
+) -> Outcome
     ensures served { IsServed (map (λ w. w.now) words.now) (R.left reader.old) (S.seen sink.old) (S.seen sink.new) result }
     ensures unread { IsTrue (is_none (plain (map (λ w. w.now) words.now))) → R.left reader.new ≡ R.left reader.old }
 {
     match command_of(alloc, words) {
-        Ok(Wanted::Run) => serve_script(alloc, reader, sink).status(),
-        Ok(Wanted::Check) => check_script(alloc, reader, sink).status(),
+        Ok(Wanted::Run) => Outcome::Ended(serve_script(alloc, reader, sink)),
+        Ok(Wanted::Check) => Outcome::Ended(check_script(alloc, reader, sink)),
         Err(refused) => show(refused, sink),
     }
 }
 
 /// Shows the text for words that name no command.
-fn show<S: Sink>(refused: Refused, sink: &mut S) -> u8
+fn show<S: Sink>(refused: Refused, sink: &mut S) -> Outcome
     ensures { ShowsRefusal refused (S.seen sink.old) (S.seen sink.new) result }
 {
     match refused {
-        Refused::NoMemory => 1,
+        Refused::NoMemory => Outcome::NoMemory,
         Refused::Text(text) => {
-            let _ = sink.put(text.as_str().as_bytes());
-            2
+            let whole = sink.put(text.as_str().as_bytes());
+            Outcome::NoCommand { whole }
         }
     }
 }
 
-fn main(rt: HostRuntime) -> io::Result<ExitCode> {
-    let mut owned = Vec::new(rt.alloc());
-    for word in env::args(&rt)? {
-        owned.push(word)?;
+/// The program's words, or how it ends where it cannot have them.
+fn words_of(rt: &HostRuntime) -> Result<Vec<String>, Outcome> {
+    let mut words = Vec::new(rt.alloc());
+    for word in env::args(rt).map_err(without_words)? {
+        words.push(word).map_err(|_| Outcome::NoMemory)?;
     }
+    Ok(words)
+}
+
+/// How the program ends for want of its words.
+fn without_words(error: io::Error) -> Outcome {
+    match error.kind() {
+        ErrorKind::InvalidData => Outcome::NotUtf8,
+        _ => Outcome::NoMemory,
+    }
+}
+
+/// Serves the program's words over standard input and standard output.
+fn run(rt: &HostRuntime) -> Result<Outcome, Outcome> {
+    let owned = words_of(rt)?;
     let mut words = Vec::new(rt.alloc());
     for word in owned.iter() {
-        words.push(word.as_str())?;
+        words.push(word.as_str()).map_err(|_| Outcome::NoMemory)?;
     }
     let mut reader = Heard::new(rt.reader());
-    let mut sink = Watched::new(io::writer(&rt));
-    let status = serve(rt.alloc(), words.as_slice(), &mut reader, &mut sink);
-    Ok(ExitCode::from(status))
+    let mut sink = Watched::new(io::writer(rt));
+    Ok(serve(rt.alloc(), words.as_slice(), &mut reader, &mut sink))
+}
+
+fn main(rt: HostRuntime) -> ExitCode {
+    let outcome = match run(&rt) {
+        Ok(outcome) | Err(outcome) => outcome,
+    };
+    if let Some(line) = outcome.complaint() {
+        let _ = eprintln!(rt; "{line}");
+    }
+    ExitCode::from(outcome.status())
 }

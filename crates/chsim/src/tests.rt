@@ -6,6 +6,7 @@ mod paths;
 mod scenes;
 mod stops;
 
+use crate::outcome::Outcome;
 use crate::serve;
 use crate::tests::memory::{Short, Slow};
 use crate::tests::scenes::Scene;
@@ -17,8 +18,8 @@ use supply::Refusing;
 pub fn served(rt: &HostRuntime, word: &str, text: &[u8]) -> (Vec<u8>, u8) {
     let mut reader = Heard::new(text);
     let mut sink = Watched::new(Vec::new(rt.alloc()));
-    let status = serve(rt.alloc(), &["chsim", word], &mut reader, &mut sink);
-    (sink.writer, status)
+    let outcome = serve(rt.alloc(), &["chsim", word], &mut reader, &mut sink);
+    (sink.writer, outcome.status())
 }
 
 #[test]
@@ -46,6 +47,13 @@ fn a_bad_line_is_told_alone(rt: HostRuntime) {
     }
 }
 
+const UNWRITTEN: &str = "chsim: standard output could not be written";
+
+/// Whether it ended with this exit status and with this line on standard error, or with none.
+fn ends(outcome: Outcome, status: u8, complaint: Option<&str>) -> bool {
+    outcome.status() == status && outcome.complaint() == complaint
+}
+
 #[test]
 fn a_text_that_is_not_read_is_not_served(rt: HostRuntime) {
     let write = Scene::of_a_write(&rt);
@@ -57,14 +65,14 @@ fn a_text_that_is_not_read_is_not_served(rt: HostRuntime) {
             fails_at,
         });
         let mut sink = Watched::new(Vec::new(rt.alloc()));
-        let status = serve(rt.alloc(), &["chsim", "run"], &mut reader, &mut sink);
+        let outcome = serve(rt.alloc(), &["chsim", "run"], &mut reader, &mut sink);
         let out = sink.writer;
         if fails_at == 0 || fails_at > reader.reader.calls {
             assert!(rt; out.as_slice() == write.printed());
-            assert!(rt; status == 0);
+            assert!(rt; ends(outcome, 0, None));
         } else {
             assert!(rt; out.len() == 0);
-            assert!(rt; status == 2);
+            assert!(rt; ends(outcome, 2, Some("chsim: standard input could not be read")));
         }
     }
 }
@@ -80,15 +88,15 @@ fn nothing_is_performed_after_a_write_fails(rt: HostRuntime) {
             calls: 0,
             fails_at,
         });
-        let status = serve(rt.alloc(), &["chsim", "run"], &mut reader, &mut sink);
+        let outcome = serve(rt.alloc(), &["chsim", "run"], &mut reader, &mut sink);
         let out = sink.writer;
         assert!(rt; write.printed().starts_with(out.text.as_slice()));
         if fails_at == 0 || fails_at > out.calls {
             assert!(rt; out.text.as_slice() == write.printed());
-            assert!(rt; status == 0);
+            assert!(rt; ends(outcome, 0, None));
         } else {
             assert!(rt; out.calls == fails_at);
-            assert!(rt; status == 1);
+            assert!(rt; ends(outcome, 1, Some(UNWRITTEN)));
         }
     }
 }
@@ -125,6 +133,9 @@ fn each_request_before_the_first_event_is_refused_in_turn(rt: HostRuntime) {
     assert!(rt; refusals > 32 && refusals < 1_000);
 }
 
+/// A good script.
+const GOOD: &[u8] = b"storage 10\nput 500 C1\n";
+
 #[test]
 fn other_words_show_a_text(rt: HostRuntime) {
     let rows: [(&[&str], &str); 3] = [
@@ -132,14 +143,35 @@ fn other_words_show_a_text(rt: HostRuntime) {
         (&["chsim", "walk"], "error: unrecognized subcommand"),
         (&["chsim"], "error"),
     ];
-    let text: &[u8] = b"storage 10\nput 500 C1\n";
     for (words, begins) in rows {
-        let mut reader = Heard::new(text);
+        let mut reader = Heard::new(GOOD);
         let mut sink = Watched::new(Vec::new(rt.alloc()));
-        let status = serve(rt.alloc(), words, &mut reader, &mut sink);
+        let outcome = serve(rt.alloc(), words, &mut reader, &mut sink);
         let out = sink.writer;
         assert!(rt; out.as_slice().starts_with(begins.as_bytes()), "{begins}");
-        assert!(rt; status == 2);
-        assert!(rt; reader.reader.len() == text.len());
+        assert!(rt; ends(outcome, 2, None));
+        assert!(rt; reader.reader.len() == GOOD.len());
+    }
+}
+
+#[test]
+fn what_is_not_written_is_told(rt: HostRuntime) {
+    let rows: [(&[&str], &[u8], u8); 4] = [
+        (&["chsim", "walk"], GOOD, 2),
+        (&["chsim", "--help"], GOOD, 2),
+        (&["chsim", "check"], GOOD, 1),
+        (&["chsim", "run"], b"", 2),
+    ];
+    for (words, text, status) in rows {
+        let mut reader = Heard::new(text);
+        let mut sink = Watched::new(Short {
+            text: Vec::new(rt.alloc()),
+            most: 3,
+            calls: 0,
+            fails_at: 1,
+        });
+        let outcome = serve(rt.alloc(), words, &mut reader, &mut sink);
+        assert!(rt; sink.writer.text.len() == 0);
+        assert!(rt; ends(outcome, status, Some(UNWRITTEN)));
     }
 }
