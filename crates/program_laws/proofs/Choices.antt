@@ -65,8 +65,9 @@ use Rattle.machine_model.specs.declared.state.Sweep.{Sweep}
 use Rattle.machine_model.specs.PathSteps.{swept}
 use Rattle.step_laws.specs.Walks.{IsFound, Suits}
 use Rattle.machine_laws.proofs.TaleEvents.{reset-phase}
-use Rattle.program_laws.specs.Traces as stories
-use Rattle.program_laws.specs.Traces.{ProgramTrace, offered_for, resumed_for, chosen_at, met_with, met_at, takes, taken_at, absorbs, reported, reported_at, trace, trace_after}
+use Rattle.program_laws.specs.Traces as traced
+use Rattle.program_laws.specs.Traces.{ProgramTrace, offered_for, resumed_for, chosen_at, takes, taken_at, absorbs, reported, reported_at}
+use Rattle.program_laws.proofs.MachineTraces.{met_with, met_at, trace, trace_after}
 use Rattle.program_laws.specs.Claims.{IsCopied}
 use Rattle.program_laws.proofs.Turns.{PlaceStep, Stays, Starts_with_orb, Is_tested, Is_resumed, Is_halted, Is_cleared, Is_cancelled, Is_modified, Is_chosen, Meets, Sinks, Is_reported, Other_sinks, Other_reported, Unit_acts, Is_swept, step-happens}
 use Rattle.program_laws.proofs.Accesses.{AreAccesses}
@@ -102,19 +103,19 @@ alone-kept s program None e h = h.suspended
 alone-kept s program (Some k) e h = waiting-alone s.waiting s.begun s.suspended program k e h.0.standing
 
 offered-held : (s : SubchannelState) (program : Program) (path : ℕ) → s.begun ≡ None → s.suspended ≡ None →
-    IsKept (offered s program path) (stories.trace_offered (s.drawn + 1) program.orb)
+    IsKept (offered s program path) (traced.trace_offered (s.drawn + 1) program.orb)
 offered-held s program path z e = (
   record {
     number = omega arith;
     phase = (refl, z, refl);
     drawn = tt;
-    work = subst (λ (b : Option ActiveProgram). HasWork b (stories.trace_offered (s.drawn + 1) program.orb)) (sym z) (nothing-done program.orb);
-    standing = none-stands s.waiting s.begun s.suspended (stories.trace_offered (s.drawn + 1) program.orb) e;
+    work = subst (λ (b : Option ActiveProgram). HasWork b (traced.trace_offered (s.drawn + 1) program.orb)) (sym z) (nothing-done program.orb);
+    standing = none-stands s.waiting s.begun s.suspended (traced.trace_offered (s.drawn + 1) program.orb) e;
   },
   (All-nil IsCopied, All-nil IsCopied),
 )
 
-resumed-stands : (w : Option Program) (b : Option ActiveProgram) (st : Option ProgramPosition) (t : ℕ) (k : ProgramTrace) → IsStanding w b st k → IsStanding w b st (stories.trace_resumed t k)
+resumed-stands : (w : Option Program) (b : Option ActiveProgram) (st : Option ProgramPosition) (t : ℕ) (k : ProgramTrace) → IsStanding w b st k → IsStanding w b st (traced.trace_resumed t k)
 resumed-stands w b None t k x = tt
 resumed-stands w b (Some st) t k x = x
 
@@ -126,7 +127,7 @@ resumed-held s program path st (Some k) z e h = (
     number = omega arith;
     phase = (refl, z, refl);
     drawn = tt;
-    work = subst (λ (b : Option ActiveProgram). HasWork b (stories.trace_resumed (s.drawn + 1) k)) (sym z) (past-done k.orb k.now (done-held s k h.0));
+    work = subst (λ (b : Option ActiveProgram). HasWork b (traced.trace_resumed (s.drawn + 1) k)) (sym z) (past-done k.orb k.now (done-held s k h.0));
     standing = resumed-stands s.waiting s.begun s.suspended (s.drawn + 1) k h.0.standing;
   },
   (All-nil IsCopied, All-nil IsCopied),

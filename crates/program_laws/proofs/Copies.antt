@@ -29,10 +29,12 @@ use Rattle.subchannel_model.specs.declared.state.ProgramPosition.{ProgramPositio
 use Rattle.subchannel_model.specs.declared.state.SubchannelState.{SubchannelState}
 use Rattle.subchannel_model.specs.Ends.{has_status_modifier, chains_command}
 use Rattle.subchannel_model.specs.Taking.{goes_ahead, bytes_of_load}
-use Rattle.program_laws.specs.CommandActs as doing
-use Rattle.program_laws.specs.CommandActs.{CommandTrace, no_trace, with_acts, with_places, with_copy, located_acts, chunk_of, chained_acts, trace_answered, gives, with_arrival, storing, takes_in, first_acts, next_acts}
-use Rattle.program_laws.specs.Traces as stories
-use Rattle.program_laws.specs.Traces.{ProgramTrace, past_part, trace_meets}
+use Rattle.program_laws.proofs.MachineActs as doing
+use Rattle.program_laws.specs.Traces.{CommandTrace, no_trace}
+use Rattle.program_laws.proofs.MachineActs.{with_acts, with_places, with_copy, located_acts, chunk_of, chained_acts, trace_answered, gives, with_arrival, storing, takes_in, first_acts, next_acts}
+use Rattle.program_laws.proofs.MachineTraces as stories
+use Rattle.program_laws.specs.Traces.{ProgramTrace, past_part}
+use Rattle.program_laws.proofs.MachineTraces.{trace_meets}
 use Rattle.program_laws.specs.Claims.{IsCopied, part_of}
 use Rattle.program_laws.proofs.Accesses.{AreAccesses, copied-bytes}
 

@@ -10,7 +10,8 @@ use Rattle.transfer.specs.declared.Transfer.{Transfer}
 use Rattle.subchannel_model.specs.declared.state.ActiveProgram.{ActiveProgram}
 use Rattle.subchannel_model.specs.declared.state.SubchannelState.{SubchannelState}
 use Rattle.subchannel_model.specs.Ends.{has_status_modifier}
-use Rattle.program_laws.specs.Traces.{ProgramTrace, ends_alone}
+use Rattle.program_laws.specs.Traces.{ProgramTrace}
+use Rattle.program_laws.proofs.MachineTraces.{ends_alone}
 use Rattle.program_laws.proofs.Ties.{Tied}
 use Rattle.program_laws.proofs.Parts.{IsAtWork, HasArrived}
 use Rattle.program_laws.proofs.Holds.{HasWork, IsHeld, none-stands, standing-some}

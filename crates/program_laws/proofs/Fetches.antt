@@ -27,16 +27,13 @@ use Rattle.transfer.specs.declared.CommandStart.TheVariants as came
 use Rattle.transfer.specs.Commands.{goes_to, located_transfer, has_stopped, brings}
 use Rattle.transfer.specs.Chunks.{chains_data, with_moved, with_answer, taken_by_device, brought_by, brought_in, brought, fitting}
 use Rattle.program_laws.specs.DataAreas.{data_areas}
-use Rattle.program_laws.specs.CommandActs as doing
-use Rattle.program_laws.specs.CommandActs.{CommandTrace, act_of_word, located_acts, room_acts, goes_acts, next_acts, chained_acts, with_acts, with_places, with_copy, copying, trace_answered, gives, with_arrival, storing, arriving, takes_in}
-use Rattle.program_laws.specs.Fetches.{IsNextWord, IsFetched, AreFetched, GrowsByFetches}
+use Rattle.program_laws.proofs.MachineActs as doing
+use Rattle.program_laws.specs.Traces.{CommandTrace}
+use Rattle.program_laws.proofs.MachineActs.{act_of_word, located_acts, room_acts, goes_acts, next_acts, chained_acts, with_acts, with_places, with_copy, copying, trace_answered, gives, with_arrival, storing, arriving, takes_in}
+use Rattle.program_laws.specs.Fetches.{IsNextWord, IsFetched, AreFetched, AddsFetched}
 use Rattle.program_laws.proofs.Accesses.{AreAccesses}
 use Rattle.program_laws.proofs.Ties.{AreLaws, IsMovedTo, Tied, Begins, goes-begins}
 use Rattle.program_laws.proofs.Parts.{IsAtWork, answer-by, bring-by}
-
--- acts are those before, and more that storage holds
-abbrev pub AddsFetched : Contents → Orb → List Act → List Act → Type 0
-AddsFetched storage orb before acts = (more : List Act) × (acts ≡ more ++ before) × AreFetched storage orb before more
 
 pub adds-none : (storage : Contents) (orb : Orb) (before : List Act) → AddsFetched storage orb before before
 adds-none storage orb before = ([], refl, tt)
@@ -54,12 +51,6 @@ adds-more storage orb before mid acts a b = (
   ap (λ (xs : List Act). acts ++ xs) a.1 ∙ sym (append_assoc acts a.0 before),
   fetched-append storage orb acts a.0 before (subst (λ (xs : List Act). AreFetched storage orb xs acts) a.1 b) a.2,
 )
-
-pub adds-grows : (storage : Contents) (orb : Orb) (before acts : List Act) → AddsFetched storage orb before acts → GrowsByFetches storage orb before acts
-adds-grows storage orb before acts a = (before, a.0, a.1, inl refl, a.2)
-
-pub anew-grows : (storage : Contents) (orb : Orb) (before acts : List Act) → AddsFetched storage orb [] acts → GrowsByFetches storage orb before acts
-anew-grows storage orb before acts a = ([], a.0, a.1, inr refl, a.2)
 
 -- a block
 fetch-by : (storage : Contents) (orb : Orb) (before : List Act) (address : ℕ) (test : Bool) (answer : Result (List ℕ) StorageFault) →
@@ -177,14 +168,17 @@ module _ (earlier : ℕ) where
     abbrev ending : Bool → Ended
     ending modifier = record { goes_on = true; modifier = modifier }
 
-    pub next-fetched : (storage : Contents) (orb : Orb) (acts : List Act) (ps : List (Option ℕ)) (t : Transfer) (modifier : Bool) → t.moving.ccw.chain_data ≡ false →
-        is_some t.fault ≡ false → Tied earlier orb acts ps t → AreFetched storage orb acts (next_acts storage t modifier)
-    next-fetched storage orb acts ps t modifier d f k =
+    pub next-adds : (storage : Contents) (orb : Orb) (acts : List Act) (ps : List (Option ℕ)) (t : Transfer) (modifier : Bool) → t.moving.ccw.chain_data ≡ false →
+        is_some t.fault ≡ false → Tied earlier orb acts ps t → AddsFetched storage orb (End (ending modifier) ∷ acts) (next_acts storage t modifier ++ acts)
+    next-adds storage orb acts ps t modifier d f k =
         let before : List Act = End (ending modifier) ∷ acts in
         let m : length (commands orb before) ≡ earlier + t.command = k.number in
-        subst (λ (w : WalkPlace). AreFetched storage orb acts (goes_acts storage (t.command + 1) (walk_after_end w (ending modifier)) ++ End (ending modifier) ∷ [])) (sym k.walk)
-        (fetched-append storage orb (goes_acts storage (t.command + 1) (walk_place orb before)) (End (ending modifier) ∷ []) acts
-        (goes-fetched storage orb before (t.command + 1) (k.chained f ∙ d) (omega (arith, m)) (k.stands, k.program)) (tt, tt))
+        let more : WalkPlace → List Act = λ w. goes_acts storage (t.command + 1) (walk_after_end w (ending modifier)) in (
+          more t.walk,
+          append_assoc (more t.walk) (End (ending modifier) ∷ []) acts,
+          subst (λ (w : WalkPlace). AreFetched storage orb before (more w)) (sym k.walk)
+              (goes-fetched storage orb before (t.command + 1) (k.chained f ∙ d) (omega (arith, m)) (k.stands, k.program)),
+        )
 
     -- a Data of a command that takes bytes to the device
     answer-if : (storage : Contents) (orb : Orb) (p : CommandTrace) (t : Transfer) (s count : ℕ) (b : Bool) → t.walk ≡ walk_place orb p.acts →

@@ -43,13 +43,16 @@ use Rattle.subchannel_model.specs.Causes as causes
 use Rattle.subchannel_model.specs.Causes.{with_cause, with_row, without_begun, fetch_fault_shown}
 use Rattle.subchannel_model.specs.Taking as taking
 use Rattle.subchannel_model.specs.Taking.{takes_up, goes_ahead, path_used, let_go, bytes_of_load, with_end, without_pci, interrupted, taking_over, from_start, suspended_as, standing_as, standing_still, suspended_alone, suspending}
-use Rattle.program_laws.specs.CommandActs.{CommandTrace, no_trace, with_acts, goes_acts, first_acts, next_acts, gives, takes_in}
-use Rattle.program_laws.specs.Traces as stories
-use Rattle.program_laws.specs.Traces.{ProgramTrace, past_part, trace_meets}
+use Rattle.program_laws.specs.Traces.{CommandTrace, no_trace}
+use Rattle.program_laws.proofs.MachineActs.{with_acts, goes_acts, first_acts, next_acts, gives, takes_in}
+use Rattle.program_laws.proofs.MachineTraces as stories
+use Rattle.program_laws.specs.Traces.{ProgramTrace, past_part}
+use Rattle.program_laws.proofs.MachineTraces.{trace_meets}
 use Rattle.program_laws.specs.Claims.{IsWhole, IsBeginning, places_of, places_arrived}
-use Rattle.program_laws.specs.DataAreas.{data_areas}
+use Rattle.program_laws.specs.DataAreas.{data_areas, counts}
+use Rattle.program_laws.specs.Shows.{IsRest}
 use Rattle.program_laws.proofs.Accesses.{AreAccesses}
-use Rattle.program_laws.proofs.Ties.{AreLaws, Tied, changed}
+use Rattle.program_laws.proofs.Ties.{AreLaws, Tied, changed, spot-counts}
 use Rattle.program_laws.proofs.Parts.{IsDone, IsAtWork, done-of, arrived-none, gives-work, takes_in-work, WentOn, goes-on, IsSame, absorbed-same, next_given-same, located-same, brought-same, room-same}
 use Rattle.subchannel_model.specs.Losing.{has_any, is_offered_or_held, reset_with, reset_for}
 use Rattle.program_laws.proofs.Holds.{IsPhase, IsDrawn, HasWork, IsStanding, IsHeld, IsHold, done-held, phase-some, phase-none, busy-phase, left-phase, back-phase, released-phase, attended-phase, by_hold-held, back-held, attention-held, let_go-held, standing-some, none-stands, halt_done-held, reset_taken-held, nothing-done, past-done}
@@ -94,16 +97,16 @@ module _ (laws : AreLaws) (accesses : AreAccesses) where
 
   -- the program is suspended, or over as a command can't begin
   suspends-held : (s : SubchannelState) (program : Program) (walk : WalkPlace) (count : ℕ) (k : ProgramTrace) → k.number ≤ s.drawn →
-      IsHold s.drawn k.number s.begun k.sent s.hold.phase → IsDone k.orb k.now → walk ≡ walk_place k.orb k.now.acts → (role_of k.orb k.now.acts).chained ≡ false →
+      IsHold s.drawn k.number s.begun k.sent s.hold.phase → IsDone k.orb k.now → walk ≡ walk_place k.orb k.now.acts → (role_of k.orb k.now.acts).chained ≡ false → IsRest count k →
       IsHeld (let_go (suspending s program walk count)).state k
-  suspends-held s program walk count k n p d w c = by program.orb.suppress_suspended
+  suspends-held s program walk count k n p d w c r = by program.orb.suppress_suspended
     where
       by : (x : Bool) → IsHeld (let_go (if x then record (standing_still s program walk count) { scsw = suspended_alone s.scsw }
           else with_cause (standing_still s program walk count) (cause.Suspension walk.tried count))).state k
       by true =
-          let_go-held (record (standing_still s program walk count) { scsw = suspended_alone s.scsw }) k n (phase-none s.hold.phase k.number s.begun k.sent p.0, p.1) refl d (refl, refl, w, c)
+          let_go-held (record (standing_still s program walk count) { scsw = suspended_alone s.scsw }) k n (phase-none s.hold.phase k.number s.begun k.sent p.0, p.1) refl d (refl, refl, w, c, r)
       by false =
-          let_go-held (with_cause (standing_still s program walk count) (cause.Suspension walk.tried count)) k n (phase-none s.hold.phase k.number s.begun k.sent p.0, p.1) refl d (refl, refl, w, c)
+          let_go-held (with_cause (standing_still s program walk count) (cause.Suspension walk.tried count)) k n (phase-none s.hold.phase k.number s.begun k.sent p.0, p.1) refl d (refl, refl, w, c, r)
 
   abbrev fault-left : SubchannelState → Option ActiveProgram → ℕ → Check → ℕ → SubchannelState
   fault-left s b tried check count =
@@ -126,8 +129,8 @@ module _ (laws : AreLaws) (accesses : AreAccesses) where
 
   begins-held : (storage : Contents) (s : SubchannelState) (p t : ℕ) (st : ProgramPosition) (walk : WalkPlace) (k : ProgramTrace) (c : CommandStart) (acts : List Act) →
       WentOn k.earlier laws storage k.orb k.now.acts (acts ++ k.now.acts) 1 walk c → k.number ≤ s.drawn → s.hold.phase ≡ hold.On t p 0 → t ≡ k.number →
-      s.begun ≡ None → k.sent ≡ 0 → IsDone k.orb k.now → IsHeld (taking.beginning storage s p t st walk c).state (stories.trace_goes_on c acts k)
-  begins-held storage s p t st walk k (came.Begins transfer) acts w n on f z none d =
+      s.begun ≡ None → k.sent ≡ 0 → IsDone k.orb k.now → IsRest st.count k → IsHeld (taking.beginning storage s p t st walk c).state (stories.trace_goes_on c acts k)
+  begins-held storage s p t st walk k (came.Begins transfer) acts w n on f z none d r =
       let b : ActiveProgram = record { program = st.program; primary_shown = false; transfer = (begun_with_room storage transfer).transfer } in
       let new : ProgramTrace = stories.trace_goes_on (came.Begins transfer) acts k in
       let next : SubchannelState = taking_over s st.program (begun_with_room storage transfer).transfer in
@@ -144,18 +147,18 @@ module _ (laws : AreLaws) (accesses : AreAccesses) where
         );
         standing = tt;
       })
-  begins-held storage s p t st walk k came.Suspends acts w n on f z none d =
+  begins-held storage s p t st walk k came.Suspends acts w n on f z none d r =
       suspends-held s st.program walk st.count (record k { now = with_acts k.now acts }) n (on-hold s t p k.number k.sent on f s.begun)
-      (over-done k.orb k.now.acts (acts ++ k.now.acts) k.now w.0 w.1 refl (inr (inr w.5)) d) w.4 w.3
-  begins-held storage s p t st walk k (came.Stops check) acts w n on f z none d =
+      (over-done k.orb k.now.acts (acts ++ k.now.acts) k.now w.0 w.1 refl (inr (inr w.5)) d) w.4 w.3 (ap counts w.1 ∙ r)
+  begins-held storage s p t st walk k (came.Stops check) acts w n on f z none d r =
       fault-held s walk.tried check st.count (record k { now = with_acts k.now acts }) n (on-hold s t p k.number k.sent on f s.begun)
       (over-done k.orb k.now.acts (acts ++ k.now.acts) k.now w.0 w.1 refl (inr (inl w.3)) d) (λ c e. absurd (cc (sym z ∙ e)))
 
   -- where it was suspended
   again-held : (storage : Contents) (s : SubchannelState) (p t : ℕ) (k : ProgramTrace) (st : ProgramPosition) (x : Bool) → IsHeld s k → s.hold.phase ≡ hold.On t p 0 → t ≡ k.number → s.begun ≡ None →
-      k.sent ≡ 0 → st.walk ≡ walk_place k.orb k.now.acts → (role_of k.orb k.now.acts).chained ≡ false →
+      k.sent ≡ 0 → st.walk ≡ walk_place k.orb k.now.acts → (role_of k.orb k.now.acts).chained ≡ false → IsRest st.count k →
       IsHeld (taking.begin_standing storage s p t (if x then Some st else None)).state (if x then stories.begins_again storage st k else k)
-  again-held storage s p t k st true h on f z none w c =
+  again-held storage s p t k st true h on f z none w c r =
       let past : ProgramTrace = record k { earlier = length (commands k.orb k.now.acts); now = past_part k.now } in
       let d : IsDone k.orb k.now = done-held s k h in
       subst
@@ -164,14 +167,14 @@ module _ (laws : AreLaws) (accesses : AreAccesses) where
       (sym w)
       (let old : WalkPlace = walk_place k.orb k.now.acts in
       begins-held storage s p t st (first_command storage old).walk past (first_command storage old).came (first_acts storage old)
-      (goes-on past.earlier laws storage k.orb k.now.acts 1 c refl d.program) h.number on f z none (past-done k.orb k.now d))
-  again-held storage s p t k st false h on f z none w c = h
+      (goes-on past.earlier laws storage k.orb k.now.acts 1 c refl d.program) h.number on f z none (past-done k.orb k.now d) r)
+  again-held storage s p t k st false h on f z none w c r = h
 
   suspended-held : (storage : Contents) (s : SubchannelState) (p t : ℕ) (k : ProgramTrace) (w : Option Program) (b : Option ActiveProgram) (st : Option ProgramPosition) (start : ℕ) → IsHeld s k →
       s.hold.phase ≡ hold.On t p 0 → t ≡ k.number → s.begun ≡ None → k.sent ≡ 0 → IsStanding w b st k →
       IsHeld (taking.begin_standing storage s p t (suspended_as st start)).state (stories.again_as storage st start k)
   suspended-held storage s p t k w b None start h on f z none x = h
-  suspended-held storage s p t k w b (Some st) start h on f z none x = again-held storage s p t k st (st.program.start == start) h on f z none x.2 x.3
+  suspended-held storage s p t k w b (Some st) start h on f z none x = again-held storage s p t k st (st.program.start == start) h on f z none x.2 x.3 x.4
 
   anew-held : (storage : Contents) (s : SubchannelState) (p t : ℕ) (k : ProgramTrace) (w : Option Program) (b : Option ActiveProgram) (st : Option ProgramPosition) (start : ℕ) (program : Program) (x : Bool) →
       IsHeld s k → s.hold.phase ≡ hold.On t p 0 → t ≡ k.number → s.begun ≡ None → k.sent ≡ 0 → IsStanding w b st k →
@@ -180,7 +183,7 @@ module _ (laws : AreLaws) (accesses : AreAccesses) where
   anew-held storage s p t k w b st start program true h on f z none x =
       let old : WalkPlace = walk_place program.orb [] in
       begins-held storage s p t (from_start program) (first_command storage old).walk (record k { orb = program.orb; earlier = 0; now = no_trace }) (first_command storage old).came
-      (first_acts storage old) (goes-on 0 laws storage program.orb [] 1 refl refl tt) h.number on f z none (nothing-done program.orb)
+      (first_acts storage old) (goes-on 0 laws storage program.orb [] 1 refl refl tt) h.number on f z none (nothing-done program.orb) refl
   anew-held storage s p t k w b st start program false h on f z none x = suspended-held storage s p t k w b st start h on f z none x
 
   stands-held : (storage : Contents) (s : SubchannelState) (p t : ℕ) (k : ProgramTrace) (w : Option Program) (b : Option ActiveProgram) (st : Option ProgramPosition) (start : ℕ) → IsHeld s k →
@@ -336,8 +339,10 @@ module _ (laws : AreLaws) (accesses : AreAccesses) where
         standing = none-stands s.waiting (Some next) s.suspended (stories.trace_goes_on (came.Begins transfer) acts k) (standing-some s.waiting s.begun b s.suspended k e h.standing);
       })
   chains-held storage s b k signal walk came.Suspends acts before n e h d w r m =
+      let work : HasWork (Some b) k = subst (λ (x : Option ActiveProgram). HasWork x k) e h.work in
       suspends-held (taking.end_taken s signal) b.program walk (residual b.transfer.moving) (record k { now = with_acts k.now acts }) h.number (h.phase, h.drawn)
       (over-done k.orb before (acts ++ k.now.acts) k.now w.0 w.1 r (inr (inr w.5)) d) w.4 w.3
+      (ap counts (w.1 ∙ r) ∙ spot-counts k.orb (data_areas k.orb k.now.acts) b.transfer k.now.moved work.0.tied.spot)
   chains-held storage s b k signal walk (came.Stops check) acts before n e h d w r m =
       fault-held (taking.end_taken s signal) walk.tried check (residual b.transfer.moving) (record k { now = with_acts k.now acts }) h.number (h.phase, h.drawn)
       (over-done k.orb before (acts ++ k.now.acts) k.now w.0 w.1 r (inr (inl w.3)) d) (λ c f. standing-some s.waiting s.begun c s.suspended k f h.standing)

@@ -21,8 +21,9 @@ use Rattle.subchannel_model.specs.declared.cause.StatusCause.TheVariants as caus
 use Rattle.subchannel_model.specs.Causes.{with_cause}
 use Rattle.subchannel_model.specs.Programs.{without_programs}
 use Rattle.subchannel_model.specs.Taking.{let_go, by_hold, back, halt_done, clear_done, with_attention, reset_taken}
-use Rattle.program_laws.specs.CommandActs.{CommandTrace, no_trace}
+use Rattle.program_laws.specs.Traces.{CommandTrace, no_trace}
 use Rattle.program_laws.specs.Traces.{ProgramTrace, past_part}
+use Rattle.program_laws.specs.Shows.{IsRest}
 use Rattle.program_laws.specs.Claims.{IsStored, places_of}
 use Rattle.program_laws.proofs.Lists.{begins-all}
 use Rattle.program_laws.proofs.Parts.{IsDone, IsAtWork, done-of}
@@ -51,11 +52,12 @@ abbrev pub HasWork : Option ActiveProgram → ProgramTrace → Type 0
 HasWork None k = IsDone k.orb k.now
 HasWork (Some b) k = IsAtWork k.earlier k.orb k.now b.transfer (is_outward b.transfer.code) × (b.transfer.command ≡ k.sent) × (1 ≤ k.sent)
 
--- one that is suspended stands where the story left it, where a command may begin; no other waits or is at work
+-- one that is suspended stands where the story left it, where a command may begin, with the count that was left; no other waits or
+-- is at work
 abbrev pub IsStanding : Option Program → Option ActiveProgram → Option ProgramPosition → ProgramTrace → Type 0
 IsStanding waiting begun None k = Unit {0}
 IsStanding waiting begun (Some st) k =
-    (waiting ≡ None) × (begun ≡ None) × (st.walk ≡ walk_place k.orb k.now.acts) × ((role_of k.orb k.now.acts).chained ≡ false)
+    (waiting ≡ None) × (begun ≡ None) × (st.walk ≡ walk_place k.orb k.now.acts) × ((role_of k.orb k.now.acts).chained ≡ false) × IsRest st.count k
 
 pub record IsHeld (s : SubchannelState) (k : ProgramTrace) : Type 0 where
   pub number : k.number ≤ s.drawn
@@ -241,7 +243,7 @@ halt_done-held s k h = by s.scsw.activity.halt_pending
 -- attention: a start that waits is over
 unwaiting : (w : Option Program) (b : Option ActiveProgram) (st : Option ProgramPosition) (k : ProgramTrace) → IsStanding w b st k → IsStanding None b st k
 unwaiting w b None k x = tt
-unwaiting w b (Some st) k x = (refl, x.1, x.2, x.3)
+unwaiting w b (Some st) k x = (refl, x.1, x.2, x.3, x.4)
 
 pub attention-held : (s : SubchannelState) (k : ProgramTrace) (shows : Bool) → IsHeld s k → IsHeld (with_attention s shows) k
 attention-held s k true h =
@@ -282,4 +284,4 @@ pub nothing-done : (orb : Orb) → IsDone orb no_trace
 nothing-done orb = record { program = tt; whole = inl refl; moves = begins-all (places_of orb []); arrived = All-nil IsStored; arrives = begins-all (places_of orb []) }
 
 pub past-done : (orb : Orb) (p : CommandTrace) → IsDone orb p → IsDone orb (past_part p)
-past-done orb p d = record { program = d.program; whole = d.whole; moves = begins-all (places_of orb p.acts); arrived = All-nil IsStored; arrives = begins-all (places_of orb p.acts) }
+past-done orb p d = record { program = d.program; whole = d.whole; moves = d.moves; arrived = All-nil IsStored; arrives = begins-all (places_of orb p.acts) }

@@ -1,3 +1,5 @@
+mod MachineActs
+mod MachineTraces
 mod Vanishing
 mod Marks
 mod Sweeps
@@ -40,8 +42,12 @@ mod LinkMeets
 mod LinkFlows
 mod RunFlows
 mod Fetches
-mod Fetched
 mod Shows
-mod Counted
+mod Latest
+mod Goings
+mod Accepts
+mod Moves
+mod Chains
+mod Follows
 mod Told
 mod Example

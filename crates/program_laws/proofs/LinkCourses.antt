@@ -29,9 +29,10 @@ use Rattle.scsw_irb.specs.declared.status.DeviceStatus.{DeviceStatus}
 use Rattle.subchannel_model.specs.declared.state.ActiveProgram.{ActiveProgram}
 use Rattle.subchannel_model.specs.declared.state.SubchannelState.{SubchannelState}
 use Rattle.subchannel_model.specs.Sending.{carried, with_any_sent}
-use Rattle.program_laws.specs.CommandActs.{CommandTrace}
+use Rattle.program_laws.specs.Traces.{CommandTrace}
 use Rattle.program_laws.specs.DataAreas.{data_areas}
-use Rattle.program_laws.specs.Traces.{ProgramTrace, ends_alone, takes, taken_at, absorbs, reported}
+use Rattle.program_laws.specs.Traces.{ProgramTrace, takes, taken_at, absorbs, reported}
+use Rattle.program_laws.proofs.MachineTraces.{ends_alone}
 use Rattle.program_laws.specs.Claims.{AbsorbsInOrder, IsBeginning, IsFirstOf, places_of}
 use Rattle.program_laws.proofs.Ties.{AreLaws, Tied, spot-begins, with_moved-tied}
 use Rattle.program_laws.proofs.Holds.{HasWork, HeldBy}

@@ -18,8 +18,9 @@ use Rattle.subchannel_model.specs.declared.state.UpStep.{UpStep}
 use Rattle.subchannel_model.specs.Taking as taking
 use Rattle.subchannel_model.specs.Taking.{goes_ahead, takes_up}
 use Rattle.subchannel_model.specs.Losing.{has_any, is_offered_or_held, reset_with, reset_for}
-use Rattle.program_laws.specs.Traces as stories
-use Rattle.program_laws.specs.Traces.{ProgramTrace, trace_meets}
+use Rattle.program_laws.proofs.MachineTraces as stories
+use Rattle.program_laws.specs.Traces.{ProgramTrace}
+use Rattle.program_laws.proofs.MachineTraces.{trace_meets}
 use Rattle.program_laws.proofs.Caused.{clear-begun, attention-begun}
 use Rattle.program_laws.proofs.LinkSent.{IsOfHold, SendsHoldSignal, busy-mutters, left-mutters, back-mutters, released-mutters, cleared-mutters, attended-mutters}
 

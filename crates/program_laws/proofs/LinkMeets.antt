@@ -49,9 +49,12 @@ use Rattle.subchannel_model.specs.Taking.{goes_ahead, from_start, bytes_of_load,
 use Rattle.subchannel_model.specs.Sending.{with_any_sent}
 use Rattle.wires.specs.Queues.{taken}
 use Rattle.program_laws.specs.DataAreas.{data_areas}
-use Rattle.program_laws.specs.CommandActs.{CommandTrace, no_trace, with_acts, gives, takes_in, first_acts, next_acts}
-use Rattle.program_laws.specs.Traces as stories
-use Rattle.program_laws.specs.Traces.{ProgramTrace, trace_meets}
+use Rattle.program_laws.specs.Traces.{CommandTrace, no_trace}
+use Rattle.program_laws.proofs.MachineActs.{with_acts, gives, takes_in, first_acts, next_acts}
+use Rattle.program_laws.proofs.MachineTraces as stories
+use Rattle.program_laws.specs.Traces as traced
+use Rattle.program_laws.specs.Traces.{ProgramTrace}
+use Rattle.program_laws.proofs.MachineTraces.{trace_meets}
 use Rattle.program_laws.specs.Claims.{AbsorbsInOrder}
 use Rattle.program_laws.proofs.Ties.{AreLaws}
 use Rattle.program_laws.proofs.Accesses.{AreAccesses}
@@ -153,7 +156,7 @@ module _ (laws : AreLaws) (accesses : AreAccesses) (storage : Contents) (side : 
     where
       by : (b : Bool) → Goes (taking.begin_standing storage r p t (if b then Some st else None)) (if b then stories.begins_again storage st k else k)
       by true =
-          begins-goes r p t st (first_command storage st.walk).walk (first_command storage st.walk).came k.orb (length (commands k.orb k.now.acts)) (stories.past_part k.now) refl e n z
+          begins-goes r p t st (first_command storage st.walk).walk (first_command storage st.walk).came k.orb (length (commands k.orb k.now.acts)) (traced.past_part k.now) refl e n z
       by false = quiet r.begun None e tt
 
   standing-goes : (r : SubchannelState) (p t start : ℕ) (waiting : Option Program) (suspended : Option ProgramPosition) → r.begun ≡ s.begun → s.begun ≡ None → k.sent ≡ 0 →

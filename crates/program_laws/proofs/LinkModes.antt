@@ -21,8 +21,9 @@ use Rattle.transfer.specs.declared.Transfer.{Transfer}
 use Rattle.wires.specs.Queues.{queue, taken}
 use Rattle.subchannel_model.specs.declared.state.ActiveProgram.{ActiveProgram}
 use Rattle.subchannel_model.specs.Sending.{with_any_sent}
-use Rattle.program_laws.specs.CommandActs.{CommandTrace}
-use Rattle.program_laws.specs.Traces.{silent, silent_by, ProgramTrace, taken_at}
+use Rattle.program_laws.specs.Traces.{CommandTrace}
+use Rattle.program_laws.proofs.MachineTraces.{silent, silent_by}
+use Rattle.program_laws.specs.Traces.{ProgramTrace, taken_at}
 use Rattle.program_laws.specs.Claims.{AbsorbsInOrder, IsFirstOf}
 use Rattle.program_laws.proofs.UnitOrders.{IsNth, IsDown, IsOrdered, ends-same}
 use Rattle.program_laws.proofs.UnitGrowth.{codes_of}

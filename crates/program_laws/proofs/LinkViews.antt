@@ -18,8 +18,9 @@ use Rattle.transfer.specs.declared.CommandStart.TheVariants as came
 use Rattle.transfer.specs.declared.NextChunk.{NextChunk}
 use Rattle.transfer.specs.Commands.{transfer_of, command_begins, goes_to, located_transfer, with_located, with_room, begun_with_room, brings, has_stopped}
 use Rattle.transfer.specs.Chunks.{is_current, chains_data, chained_to, chained, with_moved, moved_on, with_answer, taken_by_device, next_chunk_of, given_from, next_given}
-use Rattle.program_laws.specs.CommandActs as doing
-use Rattle.program_laws.specs.CommandActs.{CommandTrace, with_acts, with_places, with_copy, copying, located_acts, chunk_of, chained_acts, trace_answered, gives}
+use Rattle.program_laws.proofs.MachineActs as doing
+use Rattle.program_laws.specs.Traces.{CommandTrace}
+use Rattle.program_laws.proofs.MachineActs.{with_acts, with_places, with_copy, copying, located_acts, chunk_of, chained_acts, trace_answered, gives}
 use Rattle.program_laws.proofs.Accesses.{AreAccesses, copied-room}
 use Rattle.program_laws.proofs.UnitFlows.{View, IsGood, AreCopied, IsLocated}
 

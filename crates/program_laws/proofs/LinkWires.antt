@@ -17,7 +17,7 @@ use Rattle.wires.specs.Queues.{queue, taken}
 use Rattle.subchannel_model.specs.Sending.{with_any_sent}
 use Rattle.program_laws.proofs.LinkSent.{IsOfHold}
 use Rattle.program_laws.proofs.UnitOrders.{AreOn, IsDown, IsNumbered, on-taken, on-sent, on-first, on-weaker}
-use Rattle.program_laws.specs.Traces.{silent}
+use Rattle.program_laws.proofs.MachineTraces.{silent}
 use Rattle.program_laws.proofs.UnitHands.{IsCalm, IsEasy, easy-calm, IsHeld, calm-held, select-held, StaysAnswered, took-held, TakesGive, give-held, command-held, IsQuiet, takes-quiet}
 use Rattle.program_laws.proofs.UnitActs.{IsGentle, StaysMarked, gentle-held}
 

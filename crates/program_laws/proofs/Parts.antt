@@ -23,8 +23,9 @@ use Rattle.transfer.specs.declared.CommandStart.TheVariants as came
 use Rattle.transfer.specs.Commands.{goes_to, located_transfer, with_located, begun_with_room, with_room, brings, has_stopped}
 use Rattle.transfer.specs.Chunks.{chains_data, chained_to, chained, with_moved, moved_on, with_answer, taken_by_device, given_bytes, next_chunk_of, given_from, next_given, brought_by, brought_in, brought, fitting}
 use Rattle.program_laws.specs.DataAreas.{data_areas}
-use Rattle.program_laws.specs.CommandActs as doing
-use Rattle.program_laws.specs.CommandActs.{CommandTrace, Arrival, with_acts, with_places, with_copy, located_acts, room_acts, goes_acts, chunk_of, chained_acts, trace_answered, trace_giving, gives, with_arrival, storing, arriving, takes_in}
+use Rattle.program_laws.proofs.MachineActs as doing
+use Rattle.program_laws.specs.Traces.{CommandTrace, Arrival}
+use Rattle.program_laws.proofs.MachineActs.{with_acts, with_places, with_copy, located_acts, room_acts, goes_acts, chunk_of, chained_acts, trace_answered, trace_giving, gives, with_arrival, storing, arriving, takes_in}
 use Rattle.program_laws.specs.Claims.{IsWhole, IsSuspended, IsStored, places_arrived, IsBeginning, places_of}
 use Rattle.program_laws.proofs.Lists.{length-each_below}
 use Rattle.program_laws.proofs.Accesses.{AreAccesses, IsStore, stored-bytes}
@@ -131,14 +132,14 @@ pub record IsDone (orb : Orb) (p : CommandTrace) : Type 0 where
   pub arrived : All IsStored p.arrived
   pub arrives : IsBeginning (places_arrived p.arrived) (places_of orb p.acts)
 
-room-left : (t : Transfer) (n : ℕ) → min n (room t.moving) ≤ t.moving.left
+pub room-left : (t : Transfer) (n : ℕ) → min n (room t.moving) ≤ t.moving.left
 room-left t n =
     let f : min n (room t.moving) ≤ room t.moving = min-le_right n (room t.moving) in
     let g : room t.moving ≤ t.moving.left = min-le_left t.moving.left 256 in
     omega (arith, f, g)
 
 -- bytes that are moved
-moved_on-parts : (storage : Contents) (t : Transfer) (n : ℕ) (p : CommandTrace) (b : Bool) →
+pub moved_on-parts : (storage : Contents) (t : Transfer) (n : ℕ) (p : CommandTrace) (b : Bool) →
     let q : CommandTrace = if b then with_acts (with_places p t.moving n) (chained_acts storage (with_moved t n)) else with_places p t.moving n in
     (_ : q.moved ≡ p.moved ++ each_below (next_place t.moving) n) × (q.arrived ≡ p.arrived)
 moved_on-parts storage t n p true = (refl, refl)
@@ -192,7 +193,7 @@ module _ (earlier : ℕ) where
     answer-by storage orb p t s count true k = moved_on-out storage orb p (with_answer t s count) (min count (room t.moving)) (room-left t count) (answer-tied orb p t s count k)
     answer-by storage orb p t s count false k = k
 
-    located-work : (storage : Contents) (orb : Orb) (p : CommandTrace) (t : Transfer) (d : Bool) → IsAtWork orb p t d →
+    pub located-work : (storage : Contents) (orb : Orb) (p : CommandTrace) (t : Transfer) (d : Bool) → IsAtWork orb p t d →
         IsAtWork orb (with_acts p (located_acts storage t)) (located_transfer storage t) d
     located-work storage orb p t true k = record { tied = located-tied earlier laws storage orb p.acts p.moved t k.tied; arrived = k.arrived }
     located-work storage orb p t false k = record { tied = located-tied earlier laws storage orb p.acts p.moved t k.tied; arrived = k.arrived }

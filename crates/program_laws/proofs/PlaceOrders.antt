@@ -25,7 +25,8 @@ use Rattle.machine_model.specs.UpSteps.{up_sub}
 use Rattle.machine_model.specs.ReportSteps.{with_any_up}
 use Rattle.machine_model.specs.Sharing.{owing}
 use Rattle.step_laws.specs.Walks.{Suits}
-use Rattle.program_laws.specs.Traces.{ProgramTrace, chosen_at, met_at, taken_at, reported_at}
+use Rattle.program_laws.specs.Traces.{ProgramTrace, chosen_at, taken_at, reported_at}
+use Rattle.program_laws.proofs.MachineTraces.{met_at}
 use Rattle.program_laws.proofs.Turns.{PlaceStep, Stays, Starts_with_orb, Is_tested, Is_resumed, Is_halted, Is_cleared, Is_cancelled, Is_modified, Is_chosen, Meets, Sinks, Is_reported, Other_sinks, Other_reported, Unit_acts, Is_swept}
 use Rattle.program_laws.proofs.Caused.{tested-kept, halted-kept}
 use Rattle.program_laws.proofs.UnitOrders.{hold-draws}

@@ -40,7 +40,8 @@ use Rattle.machine_model.specs.Steps.{Run, Opened, Stepped}
 use Rattle.machine_model.specs.Sharing.{owing}
 use Rattle.machine_model.specs.ReportSteps.{with_any_up}
 use Rattle.step_laws.specs.Walks.{Suits}
-use Rattle.program_laws.specs.Traces.{ProgramTrace, chosen_at, met_at, taken_at, reported_at, trace, trace_after}
+use Rattle.program_laws.specs.Traces.{ProgramTrace, chosen_at, taken_at, reported_at}
+use Rattle.program_laws.proofs.MachineTraces.{met_at, trace, trace_after}
 use Rattle.program_laws.specs.Claims.{AbsorbsInOrder, part_of}
 use Rattle.program_laws.proofs.Turns.{PlaceStep, Stays, Starts_with_orb, Is_tested, Is_resumed, Is_halted, Is_cleared, Is_cancelled, Is_modified, Is_chosen, Meets, Sinks, Is_reported, Other_sinks, Other_reported, Unit_acts, Is_swept, step-happens}
 use Rattle.program_laws.proofs.Ties.{AreLaws}

@@ -30,10 +30,10 @@ use Rattle.subchannel_model.specs.Ends.{has_status_modifier, chains_command, cha
 use Rattle.subchannel_model.specs.Causes.{scsw_joined, without_begun, fetch_fault_shown, pci_shown, suspension_shown, with_cause, with_row}
 use Rattle.subchannel_model.specs.Taking as taking
 use Rattle.subchannel_model.specs.Taking.{bytes_of_load, let_go, with_end, without_pci, standing_still, suspended_alone}
-use Rattle.program_laws.specs.CommandActs.{with_acts, next_acts}
+use Rattle.program_laws.proofs.MachineActs.{with_acts, next_acts}
 use Rattle.program_laws.specs.DataAreas.{data_areas, counts}
 use Rattle.program_laws.specs.Shows.{IsRest}
-use Rattle.program_laws.specs.Traces as stories
+use Rattle.program_laws.proofs.MachineTraces as stories
 use Rattle.program_laws.specs.Traces.{ProgramTrace}
 use Rattle.program_laws.proofs.Accesses.{AreAccesses}
 use Rattle.program_laws.proofs.Ties.{AreLaws, spot-counts}
@@ -67,7 +67,7 @@ rest-of : (b : ActiveProgram) (k : ProgramTrace) → HasWork (Some b) k → IsRe
 rest-of b k w = spot-counts k.orb (data_areas k.orb k.now.acts) b.transfer k.now.moved w.0.tied.spot
 
 -- an interruption by the program
-interrupted-shows : (s : SubchannelState) (b : ActiveProgram) (k : ProgramTrace) (x : Bool) →
+pub interrupted-shows : (s : SubchannelState) (b : ActiveProgram) (k : ProgramTrace) (x : Bool) →
     let after : SubchannelState = if x then with_cause (record s { begun = Some (without_pci b) }) (cause.Pci b.transfer.walk.tried (residual b.transfer.moving)) else s in
     IsHeld after k → ShowsRest s.serials.made after k
 interrupted-shows s b k true h =
@@ -108,11 +108,11 @@ data-shows storage s signal load k true h = begun-shows storage s s.begun signal
 data-shows storage s signal load k false h = unmade s.serials.made s k refl
 
 -- a command can't begin: what is fetched for it takes no control
-rest-stays : (k : ProgramTrace) (acts : List Act) (before : List Act) (n : ℕ) → data_areas k.orb (acts ++ k.now.acts) ≡ data_areas k.orb before →
+pub rest-stays : (k : ProgramTrace) (acts : List Act) (before : List Act) (n : ℕ) → data_areas k.orb (acts ++ k.now.acts) ≡ data_areas k.orb before →
     data_areas k.orb before ≡ data_areas k.orb k.now.acts → IsRest n k → IsRest n (record k { now = with_acts k.now acts })
 rest-stays k acts before n e f r = ap counts (e ∙ f) ∙ r
 
-suspended-shows : (s : SubchannelState) (program : Program) (walk : WalkPlace) (count : ℕ) (k : ProgramTrace) (x : Bool) → IsRest count k →
+pub suspended-shows : (s : SubchannelState) (program : Program) (walk : WalkPlace) (count : ℕ) (k : ProgramTrace) (x : Bool) → IsRest count k →
     ShowsRest s.serials.made (let_go (if x then record (standing_still s program walk count) { scsw = suspended_alone s.scsw }
     else with_cause (standing_still s program walk count) (cause.Suspension walk.tried count))).state k
 suspended-shows s program walk count k true r = λ l. absurd (omega (arith, l))
@@ -120,7 +120,7 @@ suspended-shows s program walk count k false r =
     λ l. counted (with_cause (standing_still s program walk count) (cause.Suspension walk.tried count)).scsw.count count k
     (status-count s.pmcw.enabled (scsw_joined s.pmcw.enabled s.scsw s.scsw) s.serials (suspension_shown walk.tried count) l) r
 
-fault-shows : (s : SubchannelState) (b : Option ActiveProgram) (tried : ℕ) (check : Check) (count : ℕ) (k : ProgramTrace) → IsRest count k →
+pub fault-shows : (s : SubchannelState) (b : Option ActiveProgram) (tried : ℕ) (check : Check) (count : ℕ) (k : ProgramTrace) → IsRest count k →
     ShowsRest s.serials.made
     (let_go (with_row s (record { shown = fetch_fault_shown tried check count; left = without_begun b s; joins = s.scsw }))).state k
 fault-shows s None tried check count k r =

@@ -54,7 +54,8 @@ use Rattle.machine_model.specs.declared.state.Sweep.{Sweep}
 use Rattle.machine_model.specs.PathSteps.{swept}
 use Rattle.step_laws.specs.Walks as walked
 use Rattle.step_laws.specs.Walks.{Walked, IsQuiet, Suits, OneSub, OneUnit, Function, effect_of}
-use Rattle.program_laws.specs.Traces.{ProgramTrace, is_place, chosen_at, met_at, taken_at, reported_at, trace_after}
+use Rattle.program_laws.specs.Traces.{ProgramTrace, is_place, chosen_at, taken_at, reported_at}
+use Rattle.program_laws.proofs.MachineTraces.{met_at, trace_after}
 use Rattle.step_laws.proofs.Places.{same-or-not, get-set, get-other, map-get}
 use Rattle.program_laws.proofs.UnitHands as hands
 use Rattle.program_laws.proofs.UnitActs.{IsGentle, IsActed, if-ok, act-acted, restart-gentle}

@@ -35,8 +35,10 @@ use Rattle.subchannel_model.specs.declared.state.ProgramPosition.{ProgramPositio
 use Rattle.subchannel_model.specs.declared.state.SubchannelState.{SubchannelState}
 use Rattle.subchannel_model.specs.Ends.{has_status_modifier, chains_command}
 use Rattle.subchannel_model.specs.Taking.{goes_ahead, bytes_of_load}
-use Rattle.program_laws.specs.CommandActs.{CommandTrace, no_trace, with_acts, with_places, trace_moved_on, trace_answered, with_copy, copying, trace_giving, gives, with_arrival, storing, arriving, takes_in, located_acts, chained_acts, chunk_of, first_acts, next_acts}
-use Rattle.program_laws.specs.Traces.{ProgramTrace, past_part, trace_goes_on, trace_begins, begins_anew, begins_again, again_as, begins_as, accepted_at, trace_accepted, moves, answers, ends_alone, chains, trace_ends, trace_meets}
+use Rattle.program_laws.specs.Traces.{CommandTrace, no_trace}
+use Rattle.program_laws.proofs.MachineActs.{with_acts, with_places, trace_moved_on, trace_answered, with_copy, copying, trace_giving, gives, with_arrival, storing, arriving, takes_in, located_acts, chained_acts, chunk_of, first_acts, next_acts}
+use Rattle.program_laws.specs.Traces.{ProgramTrace, past_part}
+use Rattle.program_laws.proofs.MachineTraces.{trace_goes_on, trace_begins, begins_anew, begins_again, again_as, begins_as, accepted_at, trace_accepted, moves, answers, ends_alone, chains, trace_ends, trace_meets}
 
 -- the codes of the commands after the earlier ones, the latest first
 abbrev pub later_codes : ℕ → List ℕ → List ℕ

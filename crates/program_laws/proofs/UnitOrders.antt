@@ -22,7 +22,7 @@ use Rattle.chan_model.specs.Sides.{same_side}
 use Rattle.chan_model.specs.UnitTable.{resets, UnitStep, came_of, changes, sends, new_command, side_of, with_side, owns, is_owner, freed, held, raised, selected, without_side, reset_side, telling, unit_works, unit_takes, unit_after}
 use Rattle.wires.specs.Queues.{queue, taken}
 use Rattle.subchannel_model.specs.Sending.{with_any_sent}
-use Rattle.program_laws.specs.Traces.{silent}
+use Rattle.program_laws.proofs.MachineTraces.{silent}
 use Rattle.program_laws.proofs.UnitSides.{same-sides, side-own, IsStill, IsMild, mild-still}
 
 -- the n-th of the codes, of which the latest stands first

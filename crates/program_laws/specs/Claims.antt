@@ -1,7 +1,6 @@
 -- What is claimed of the program that a subchannel offered last (SA22-7832, chapter 15).
 use Rattle.std.specs.Prelude.{◌≡◌, ◌⊎◌, ℕ, ◌==◌, Option, None, Some, List, [], ◌∷◌, ◌++◌, length, map, reverse, take, drop, slice_get, if◌then◌else◌, All, Contains}
 use Rattle.std.specs.List.{flat_map}
-use Rattle.chan_events.specs.declared.reply.Entry.{Entry}
 use Rattle.orb_block.specs.declared.Orb.{Orb}
 use Rattle.channel_program.specs.declared.Reading.TheVariants.{Suspends}
 use Rattle.channel_program.specs.Acts.{Act, Block, PlacedBytes}
@@ -10,12 +9,8 @@ use Rattle.channel_program.specs.Programs.{IsProgram, role_of, next, commands, c
 use Rattle.idaw.specs.Lists.{kind_of, block}
 use Rattle.idaw.specs.Places.{places_of_bytes}
 use Rattle.data_move.specs.Accesses.{bytes_at}
-use Rattle.subchannel_model.specs.declared.state.Subchannel.{Subchannel}
-use Rattle.machine_model.specs.State.{State}
-use Rattle.machine_model.specs.Steps.{Run}
 use Rattle.program_laws.specs.DataAreas.{data_areas}
-use Rattle.program_laws.specs.CommandActs.{Arrival, CommandTrace}
-use Rattle.program_laws.specs.Traces.{ProgramTrace, trace}
+use Rattle.program_laws.specs.Traces.{Arrival, CommandTrace, ProgramTrace}
 
 abbrev pub IsBeginning : {A : Type 0} → List A → List A → Type 0
 IsBeginning {A} xs ys = (rest : List A) × (xs ++ rest ≡ ys)
@@ -87,8 +82,3 @@ pub record TraceCorrect (k : ProgramTrace) : Type 0 where
   pub absorbs : AbsorbsInOrder k.orb (part_of k) k.absorbed
   pub arrived : All IsStored k.now.arrived
   pub arrives : IsBeginning (places_arrived k.now.arrived) (places_of k.orb k.now.acts)
-
--- after a run this holds of each subchannel
-abbrev pub AllTold : (opening : State) (h : List Entry) (s : State) → Run opening h s → Type 0
-AllTold opening h s run = (place : ℕ) (sub : Subchannel) (k : ProgramTrace) → slice_get s.subs place ≡ Some sub → trace place opening h s run ≡ Some k →
-    TraceCorrect k

@@ -15,9 +15,7 @@ use Rattle.machine_model.specs.Steps.{HasRun, Run, Opened, Step, Stepped}
 use Rattle.path_laws.specs.Engines.{IsOnePath}
 use Rattle.path_laws.specs.Returns.{OffersOnDedicated, ReturnsByFirst}
 use Rattle.path_laws.specs.Shown.{AreShown}
-use Rattle.program_laws.specs.Claims.{AllTold}
-use Rattle.program_laws.specs.Fetches.{FetchesFromStorage}
-use Rattle.program_laws.specs.Shows.{ShowsCount}
+use Rattle.program_laws.specs.Tells.{AllTold}
 
 -- of each state
 pub record HoldsAfter (opening : State) (h : List Entry) (s : State) (run : Run opening h s) : Type 0 where
@@ -29,7 +27,7 @@ pub record HoldsAfter (opening : State) (h : List Entry) (s : State) (run : Run 
   pub pending : All IsPendingUncleared s.subs
   -- the path-available masks are the states of the paths, and nothing waits on a path that is down
   pub shown : AreShown s
-  -- of the program that each subchannel offered last: its blocks, commands and bytes
+  -- what is done for the program that each subchannel offered last: its blocks, commands, bytes and counts
   pub told : AllTold opening h s run
 
 -- of each step, from the state that a run led to
@@ -47,10 +45,6 @@ pub record HoldsIn (opening : State) (h : List Entry) (old : State) (run : Run o
   pub offers : OffersOnDedicated old e r
   -- in single-path mode a program comes back by the path of its first Accept
   pub returns : ReturnsByFirst opening h old run e r
-  -- status that a program makes shows the count of its command less the bytes that were moved
-  pub counts : ShowsCount opening h old run e r new step
-  -- each block and indirect word of a program is what storage held as it was fetched
-  pub fetched : FetchesFromStorage opening h old run e r new step
 
 -- throughout a run
 abbrev pub HoldsThroughout : (opening : State) (h : List Entry) (s : State) → Run opening h s → Type 0

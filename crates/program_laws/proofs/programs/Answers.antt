@@ -1,8 +1,6 @@
 use Rattle.program_laws.proofs.Ties.{AreLaws}
 use Rattle.program_laws.proofs.Accesses.{AreAccesses}
 use Rattle.program_laws.proofs.Told.{run-told}
-use Rattle.program_laws.proofs.Fetched.{run-fetched}
-use Rattle.program_laws.proofs.Counted.{run-shown}
 use Rattle.program_laws.proofs.programs.Goals as goal
 
 pub returns : goal.returns
@@ -26,4 +24,4 @@ returns c =
       before = c.put_bytes.ensures.before;
       after = c.put_bytes.ensures.after;
     } in
-    record { told = run-told laws accesses; fetched = run-fetched laws accesses; shown = run-shown laws accesses }
+    record { told = run-told laws accesses }

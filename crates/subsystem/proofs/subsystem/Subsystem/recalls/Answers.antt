@@ -41,7 +41,5 @@ returns-clause-headline g c =
       codes = c.codes.ensures.table old e r new step;
       offers = c.offers.ensures.dedicated old e r new step;
       returns = c.returns.ensures.first setup h old run e r new lawful step;
-      counts = c.programs.ensures.shown setup lawful h old run e r new step;
-      fetched = c.programs.ensures.fetched setup lawful h old run e r new step;
     })
     c.self.inside.history.items c.self.inside.machine c.self.invariant.0)

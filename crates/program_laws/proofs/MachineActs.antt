@@ -1,6 +1,6 @@
 -- What is done for a program, act by act, as the subsystem begins its commands and moves their bytes (SA22-7832, chapter
 -- 15). The acts of a list stand the latest first.
-use Rattle.std.specs.Prelude.{ℕ, ◌+◌, ◌==◌, Bool, true, min, if◌then◌else◌, Option, is_some, List, [], ◌∷◌, ◌++◌, length, Result, Ok, Err}
+use Rattle.std.specs.Prelude.{ℕ, ◌+◌, ◌==◌, Bool, true, min, if◌then◌else◌, is_some, List, [], ◌∷◌, ◌++◌, length, Result, Ok, Err}
 use Rattle.ccw_codec.specs.Command.{class_of}
 use Rattle.storage_keys.specs.Storage.{Contents}
 use Rattle.channel_program.specs.declared.check.Check.{Check}
@@ -10,6 +10,7 @@ use Rattle.channel_program.specs.Walks.{WalkPlace, after_used_up, walk_after_end
 use Rattle.idaw.specs.Places.{each_below}
 use Rattle.data_move.specs.Moving.{Moving, needs_word, next_place, room}
 use Rattle.data_move.specs.Accesses as access
+use Rattle.program_laws.specs.Traces.{CommandTrace}
 use Rattle.transfer.specs.declared.Transfer.{Transfer}
 use Rattle.transfer.specs.declared.CommandStart.{CommandStart}
 use Rattle.transfer.specs.declared.CommandStart.TheVariants.{Begins, Suspends, Stops}
@@ -47,23 +48,6 @@ next_acts storage t modifier =
 -- data is chained
 abbrev pub chained_acts : Contents → Transfer → List Act
 chained_acts storage t = advance_acts storage (after_used_up t.walk) ++ Used_up ∷ []
-
--- bytes that were stored, and storage as it stood before
-pub record Arrival : Type 0 where
-  pub former : List ℕ
-  pub chunk : PlacedBytes
-
--- what was done for the program as far as one of its commands, and for this command: the chunks that were copied for the
--- device and the bytes of a read that were stored, each list with the latest first; and the places of the bytes that
--- were moved, in order
-pub record CommandTrace : Type 0 where
-  pub acts : List Act
-  pub copied : List PlacedBytes
-  pub arrived : List Arrival
-  pub moved : List (Option ℕ)
-
-abbrev pub no_trace : CommandTrace
-no_trace = record { acts = []; copied = []; arrived = []; moved = [] }
 
 abbrev pub with_acts : CommandTrace → List Act → CommandTrace
 with_acts k acts = record k { acts = acts ++ k.acts }

@@ -1,0 +1,184 @@
+-- What a subchannel does for its program with an Accept is what is seen of it.
+use Rattle.std.proofs.Common.{◌≡◌, refl, sym, ◌∙◌, ap, subst, arith, ℕ, ◌+◌, ◌==◌, Bool, true, false, List, ◌++◌, length, Option, Some, None, ◌⊎◌, inl, inr}
+use Rattle.std.specs.Prelude.{if◌then◌else◌, is_some, not, ◌&&◌}
+use Rattle.std.proofs.lemmas.Bool.{eq-eqb}
+use Rattle.storage_keys.specs.Storage.{Contents}
+use Rattle.chan_model.specs.declared.hold_state.HoldPhase.{HoldPhase}
+use Rattle.chan_model.specs.declared.hold_state.HoldPhase.TheVariants as hold
+use Rattle.chan_model.specs.declared.signal.Up.TheVariants as up
+use Rattle.chan_model.specs.HoldTable as hold_table
+use Rattle.chan_model.specs.HoldTable.{HoldStep, came_of}
+use Rattle.channel_program.specs.Acts.{Act}
+use Rattle.channel_program.specs.Programs.{IsProgram, role_of, commands}
+use Rattle.channel_program.specs.Walks.{WalkPlace, walk_place}
+use Rattle.transfer.specs.declared.CommandStart.{CommandStart}
+use Rattle.transfer.specs.declared.CommandStart.TheVariants as came
+use Rattle.transfer.specs.Commands.{first_command, begun_with_room}
+use Rattle.subchannel_model.specs.declared.state.ActiveProgram.{ActiveProgram}
+use Rattle.subchannel_model.specs.declared.state.Program.{Program}
+use Rattle.subchannel_model.specs.declared.state.ProgramPosition.{ProgramPosition}
+use Rattle.subchannel_model.specs.declared.state.SubchannelState.{SubchannelState}
+use Rattle.subchannel_model.specs.declared.state.UpStep.{UpStep}
+use Rattle.subchannel_model.specs.Taking as taking
+use Rattle.subchannel_model.specs.Taking.{goes_ahead, path_used, from_start, suspended_as, standing_as, standing}
+use Rattle.program_laws.specs.Traces.{ProgramTrace}
+use Rattle.program_laws.specs.Tells.{GoesOn, beginning, IsOver, Accepted, Meets}
+use Rattle.program_laws.specs.Shows.{IsRest}
+use Rattle.program_laws.proofs.MachineActs.{with_acts, first_acts}
+use Rattle.program_laws.proofs.MachineTraces as stories
+use Rattle.program_laws.proofs.Ties.{AreLaws}
+use Rattle.program_laws.proofs.Parts.{WentOn, goes-on}
+use Rattle.program_laws.proofs.Shows.{ShowsRest, interrupted-shows, rest-stays, suspended-shows, fault-shows}
+use Rattle.program_laws.proofs.Holds.{IsPhase, IsStanding, IsHeld, done-held}
+use Rattle.program_laws.proofs.Fetches.{goes-fetched}
+use Rattle.program_laws.proofs.Goings.{begins-goes}
+
+-- the signal is taken
+starts-taken : (storage : Contents) (s : SubchannelState) (p t : ℕ) (st : ProgramPosition) (walk : WalkPlace) (c : CommandStart) →
+    (taking.beginning storage s p t st walk c).came.taken ≡ true
+starts-taken storage s p t st walk (came.Begins transfer) = refl
+starts-taken storage s p t st walk came.Suspends = refl
+starts-taken storage s p t st walk (came.Stops check) = refl
+
+standing-taken : (storage : Contents) (s : SubchannelState) (p t : ℕ) (o : Option ProgramPosition) → (taking.begin_standing storage s p t o).came.taken ≡ true
+standing-taken storage s p t None = refl
+standing-taken storage s p t (Some st) = starts-taken storage s p t st (first_command storage st.walk).walk (first_command storage st.walk).came
+
+-- where the program does not go ahead it is over, or a halt is pending
+over-by : (pending : Bool) (w : Option Program) (st : Option ProgramPosition) (start : ℕ) → (is_some (standing_as w st start) && not pending) ≡ false →
+    (pending ≡ true)
+    ⊎ (((program : Program) → w ≡ Some program → program.start ≡ start → ⊥) × ((position : ProgramPosition) → st ≡ Some position → position.program.start ≡ start → ⊥))
+over-by true w st start e = inl refl
+over-by false w st start e = inr (waits w e, stays w st e)
+  where
+    found : (x : Program) → x.start ≡ start → (x.start == start) ≡ true
+    found x f = eq-eqb x.start start f
+
+    again : (position : ProgramPosition) → position.program.start ≡ start → is_some (suspended_as (Some position) start) ≡ true
+    again position f = ap (λ (b : Bool). is_some (if b then Some position else None)) (found position.program f)
+
+    waits : (w : Option Program) → (is_some (standing_as w st start) && true) ≡ false → (program : Program) → w ≡ Some program → program.start ≡ start → ⊥
+    waits None e program f g = cc f
+    waits (Some x) e program f g =
+        let same : x ≡ program = cc f in
+        let there : (x.start == start) ≡ true = found x (ap (λ (y : Program). y.start) same ∙ g) in
+        cc (sym (ap (λ (b : Bool). is_some (if b then Some (from_start x) else suspended_as st start) && true) there) ∙ e)
+
+    stays : (w : Option Program) (st : Option ProgramPosition) → (is_some (standing_as w st start) && true) ≡ false → (position : ProgramPosition) → st ≡ Some position →
+        position.program.start ≡ start → ⊥
+    stays None st e position f g =
+        cc (sym (ap (λ (o : Option ProgramPosition). is_some (suspended_as o start) && true) f ∙ ap (λ (b : Bool). b && true) (again position g)) ∙ e)
+    stays (Some x) st e position f g = either (x.start == start) e
+      where
+        either : (b : Bool) → (is_some (if b then Some (from_start x) else suspended_as st start) && true) ≡ false → ⊥
+        either true e = cc e
+        either false e =
+            cc (sym (ap (λ (o : Option ProgramPosition). is_some (suspended_as o start) && true) f ∙ ap (λ (b : Bool). b && true) (again position g)) ∙ e)
+
+pub over : (s : SubchannelState) → goes_ahead s ≡ false → IsOver s
+over s e = over-by s.scsw.activity.halt_pending s.waiting s.suspended s.offered e
+
+module _ (laws : AreLaws) where
+  -- a program goes on from where it stands, and what status shows then is its count
+  abbrev Starts : Contents → ℕ → UpStep → ProgramTrace → ProgramTrace → Type 0
+  Starts storage made x k after = IsHeld x.state after → GoesOn storage x.came.sent k.now.acts k after × ShowsRest made x.state after
+
+  starts-shows : (storage : Contents) (s : SubchannelState) (p t : ℕ) (st : ProgramPosition) (walk : WalkPlace) (k : ProgramTrace) (c : CommandStart) (acts : List Act) (n : ℕ) →
+      WentOn k.earlier laws storage k.orb k.now.acts (acts ++ k.now.acts) n walk c → IsRest st.count k →
+      IsHeld (taking.beginning storage s p t st walk c).state (stories.trace_goes_on c acts k) →
+      ShowsRest s.serials.made (taking.beginning storage s p t st walk c).state (stories.trace_goes_on c acts k)
+  starts-shows storage s p t st walk k (came.Begins transfer) acts n w r h =
+      let u = (begun_with_room storage transfer).transfer in
+      interrupted-shows (taking.taking_over s st.program u) (record { program = st.program; primary_shown = false; transfer = u })
+      (stories.trace_goes_on (came.Begins transfer) acts k) u.pci_pending h
+  starts-shows storage s p t st walk k came.Suspends acts n w r h =
+      suspended-shows s st.program walk st.count (record k { now = with_acts k.now acts }) st.program.orb.suppress_suspended (rest-stays k acts k.now.acts st.count w.1 refl r)
+  starts-shows storage s p t st walk k (came.Stops check) acts n w r h =
+      fault-shows s s.begun walk.tried check st.count (record k { now = with_acts k.now acts }) (rest-stays k acts k.now.acts st.count w.1 refl r)
+
+  starts-on : (storage : Contents) (s : SubchannelState) (p t : ℕ) (st : ProgramPosition) (k : ProgramTrace) → st.walk ≡ walk_place k.orb k.now.acts →
+      (role_of k.orb k.now.acts).chained ≡ false → length (commands k.orb k.now.acts) ≡ k.earlier → IsProgram k.orb k.now.acts → t ≡ k.number → k.sent ≡ 0 → IsRest st.count k →
+      Starts storage s.serials.made (taking.begin_standing storage s p t (Some st)) k (stories.trace_begins storage st.walk k)
+  starts-on storage s p t st k w c l p' f z r =
+      let old : WalkPlace = walk_place k.orb k.now.acts in
+      let many : length (commands k.orb k.now.acts) + 1 ≡ k.earlier + 1 = ap (λ (n : ℕ). n + 1) l in
+      let went = goes-on k.earlier laws storage k.orb k.now.acts 1 c many p' in
+      subst
+      (λ (x : WalkPlace). Starts storage s.serials.made (taking.beginning storage s p t st (first_command storage x).walk (first_command storage x).came) k
+      (stories.trace_begins storage x k))
+      (sym w)
+      (λ h. (
+        (
+          first_acts storage old ++ k.now.acts,
+          (first_acts storage old, refl, goes-fetched k.earlier laws storage k.orb k.now.acts 1 c many p'),
+          begins-goes laws storage s p t st (first_command storage old).walk k (first_command storage old).came (first_acts storage old) 1 went f
+              (let n : 1 ≡ k.sent + 1 = omega (arith, z) in n),
+        ),
+        starts-shows storage s p t st (first_command storage old).walk k (first_command storage old).came (first_acts storage old) 1 went r h,
+      ))
+
+  again-on : (storage : Contents) (s : SubchannelState) (p t : ℕ) (st : ProgramPosition) (k : ProgramTrace) (x : Bool) → is_some (if x then Some st else None) ≡ true →
+      st.walk ≡ walk_place k.orb k.now.acts → (role_of k.orb k.now.acts).chained ≡ false → IsProgram k.orb k.now.acts → t ≡ k.number → k.sent ≡ 0 → IsRest st.count k →
+      Starts storage s.serials.made (taking.begin_standing storage s p t (if x then Some st else None)) (beginning None k) (if x then stories.begins_again storage st k else k)
+  again-on storage s p t st k true e w c p' f z r = starts-on storage s p t st (beginning None k) w c refl p' f z r
+  again-on storage s p t st k false e w c p' f z r = absurd (cc e)
+
+  suspended-on : (storage : Contents) (s : SubchannelState) (p t : ℕ) (b : Option ActiveProgram) (st : Option ProgramPosition) (start : ℕ) (k : ProgramTrace) →
+      is_some (suspended_as st start) ≡ true → IsStanding None b st k → IsProgram k.orb k.now.acts → t ≡ k.number → k.sent ≡ 0 →
+      Starts storage s.serials.made (taking.begin_standing storage s p t (suspended_as st start)) (beginning None k) (stories.again_as storage st start k)
+  suspended-on storage s p t b None start k e x p' f z = absurd (cc e)
+  suspended-on storage s p t b (Some st) start k e x p' f z = again-on storage s p t st k (st.program.start == start) e x.2 x.3 p' f z x.4
+
+  anew-on : (storage : Contents) (s : SubchannelState) (p t : ℕ) (program : Program) (b : Option ActiveProgram) (st : Option ProgramPosition) (start : ℕ) (k : ProgramTrace) (x : Bool) →
+      is_some (if x then Some (from_start program) else suspended_as st start) ≡ true → IsStanding (Some program) b st k → t ≡ k.number → k.sent ≡ 0 →
+      Starts storage s.serials.made (taking.begin_standing storage s p t (if x then Some (from_start program) else suspended_as st start)) (beginning (Some program) k)
+      (if x then stories.begins_anew storage program k else stories.again_as storage st start k)
+  anew-on storage s p t program b st start k true e x f z = starts-on storage s p t (from_start program) (beginning (Some program) k) refl refl refl tt f z refl
+  anew-on storage s p t program b None start k false e x f z = absurd (cc e)
+  anew-on storage s p t program b (Some st) start k false e x f z = absurd (cc x.0)
+
+  standing-on : (storage : Contents) (s : SubchannelState) (p t : ℕ) (w : Option Program) (b : Option ActiveProgram) (st : Option ProgramPosition) (start : ℕ) (k : ProgramTrace) →
+      is_some (standing_as w st start) ≡ true → IsStanding w b st k → IsProgram k.orb k.now.acts → t ≡ k.number → k.sent ≡ 0 →
+      Starts storage s.serials.made (taking.begin_standing storage s p t (standing_as w st start)) (beginning w k) (stories.begins_as storage w st start k)
+  standing-on storage s p t None b st start k e x p' f z = suspended-on storage s p t b st start k e x p' f z
+  standing-on storage s p t (Some program) b st start k e x p' f z = anew-on storage s p t program b st start k (program.start == start) e x f z
+
+  -- an Accept
+  abbrev AcceptsBy : Contents → SubchannelState → ℕ → Option HoldStep → ProgramTrace → Type 0
+  AcceptsBy storage s u step k =
+      let x : UpStep = taking.accept storage s step in
+      let after : ProgramTrace = stories.trace_accepted storage s step k in
+      IsHeld x.state after → Meets storage storage s x.state (up.Accept u) x.came.taken x.came.sent k after
+
+  taken-meets : (storage : Contents) (s : SubchannelState) (u : ℕ) (x : UpStep) (k after : ProgramTrace) → x.came.taken ≡ true → Accepted storage s x.state x.came.sent k after →
+      Meets storage storage s x.state (up.Accept u) x.came.taken x.came.sent k after
+  taken-meets storage s u x k after e a = subst (λ (b : Bool). Meets storage storage s x.state (up.Accept u) b x.came.sent k after) (sym e) a
+
+  and-true : (a b : Bool) → (a && b) ≡ true → a ≡ true
+  and-true true b e = refl
+  and-true false b e = absurd (cc e)
+
+  begun-meets : (storage : Contents) (s : SubchannelState) (k : ProgramTrace) (u t q : ℕ) (may : Bool) → goes_ahead s ≡ may → IsHeld s k → t ≡ k.number → k.sent ≡ 0 →
+      AcceptsBy storage s u (Some (hold_table.program_begun s.hold t q may)) k
+  begun-meets storage s k u t q true e h f z g =
+      let on : SubchannelState = record s { hold = record s.hold { phase = hold.On t q 0; seen = 0; first_path = Some q }; pmcw = path_used s.pmcw q } in
+      let x : UpStep = taking.begin_standing storage on q t (standing s) in
+      taken-meets storage s u x k (stories.begins_as storage s.waiting s.suspended s.offered k) (standing-taken storage on q t (standing s))
+      (inr (standing-on storage on q t s.waiting s.begun s.suspended s.offered k (and-true (is_some (standing s)) (not s.scsw.activity.halt_pending) e) h.standing (done-held s k h).program f z g))
+  begun-meets storage s k u t q false e h f z g = inl (over s e, refl, refl)
+
+  offer-meets : (storage : Contents) (s : SubchannelState) (k : ProgramTrace) (u t q : ℕ) (x : Bool) → IsHeld s k → t ≡ k.number → k.sent ≡ 0 →
+      AcceptsBy storage s u (if x then Some (hold_table.program_begun s.hold t q (goes_ahead s)) else None) k
+  offer-meets storage s k u t q true h f z g = begun-meets storage s k u t q (goes_ahead s) refl h f z g
+  offer-meets storage s k u t q false h f z g = refl
+
+  pub accept-meets : (storage : Contents) (s : SubchannelState) (k : ProgramTrace) (u : ℕ) (phase : HoldPhase) → s.hold.phase ≡ phase → IsHeld s k →
+      AcceptsBy storage s u (hold_table.offer_accepted s.hold phase u (goes_ahead s)) k
+  accept-meets storage s k u hold.Free e h g = refl
+  accept-meets storage s k u (hold.Offer t q) e h g =
+      let f : IsPhase (hold.Offer t q) k.number s.begun k.sent = subst (λ (x : HoldPhase). IsPhase x k.number s.begun k.sent) e h.phase in
+      offer-meets storage s k u t q (u == t) h f.0 f.2 g
+  accept-meets storage s k u (hold.On t p c) e h g = refl
+  accept-meets storage s k u (hold.Away t) e h g = refl
+  accept-meets storage s k u (hold.Letting t p) e h g = refl
+  accept-meets storage s k u (hold.Reset r) e h g = refl

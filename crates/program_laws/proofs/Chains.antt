@@ -1,0 +1,148 @@
+-- What a subchannel does for its program with an End is what is seen of it.
+use Rattle.std.proofs.Common.{◌≡◌, refl, sym, ◌∙◌, ap, subst, arith, ℕ, ◌+◌, ◌<◌, ◌==◌, Bool, true, false, List, ◌∷◌, ◌++◌, Option, Some, None, inl, inr}
+use Rattle.std.specs.Prelude.{if◌then◌else◌}
+use Rattle.std.proofs.lemmas.Bool.{eqb-true}
+use Rattle.scsw_irb.specs.declared.status.DeviceStatus.{DeviceStatus}
+use Rattle.storage_keys.specs.Storage.{Contents}
+use Rattle.chan_model.specs.declared.signal.Up.TheVariants as up
+use Rattle.chan_model.specs.declared.hold_state.HoldPhase.{HoldPhase}
+use Rattle.chan_model.specs.declared.hold_state.HoldPhase.TheVariants as hold
+use Rattle.chan_model.specs.HoldTable.{is_on}
+use Rattle.chan_model.specs.UnitReports.{has_device_end, is_last_end}
+use Rattle.channel_program.specs.Acts.{Act, End}
+use Rattle.channel_program.specs.Walks.{WalkPlace}
+use Rattle.transfer.specs.declared.Beginning.{Beginning}
+use Rattle.transfer.specs.declared.CommandStart.{CommandStart}
+use Rattle.transfer.specs.declared.CommandStart.TheVariants as came
+use Rattle.transfer.specs.Commands.{next_command}
+use Rattle.scsw_irb.specs.declared.serials.Serials.{Serials}
+use Rattle.subchannel_model.specs.declared.signals.EndSignal.{EndSignal}
+use Rattle.subchannel_model.specs.declared.state.ActiveProgram.{ActiveProgram}
+use Rattle.subchannel_model.specs.declared.state.SubchannelState.{SubchannelState}
+use Rattle.subchannel_model.specs.declared.state.UpStep.{UpStep}
+use Rattle.subchannel_model.specs.declared.status.Shown.{Shown}
+use Rattle.subchannel_model.specs.Ends.{has_status_modifier, breaks_chain, chains_command, end_shown}
+use Rattle.subchannel_model.specs.Status.{serials_made}
+use Rattle.subchannel_model.specs.Taking as taking
+use Rattle.subchannel_model.specs.Taking.{let_go, with_end}
+use Rattle.program_laws.specs.Traces.{ProgramTrace}
+use Rattle.program_laws.specs.Shows.{IsCountShown}
+use Rattle.program_laws.specs.Tells.{IsChained, Chains, Meets}
+use Rattle.program_laws.proofs.Latest.{next-chains}
+use Rattle.program_laws.proofs.MachineActs.{next_acts}
+use Rattle.program_laws.proofs.MachineTraces as stories
+use Rattle.program_laws.proofs.Accesses.{AreAccesses}
+use Rattle.program_laws.proofs.Ties.{AreLaws}
+use Rattle.program_laws.proofs.Holds.{IsPhase, HasWork, IsHeld}
+use Rattle.program_laws.proofs.HoldMeets.{chains-facts, next-went, end-left}
+use Rattle.program_laws.proofs.Fetches.{next-adds}
+use Rattle.program_laws.proofs.Shows.{end-shows}
+use Rattle.program_laws.proofs.Goings.{let_go-silent, chains-goes}
+
+-- the signal is taken
+chaining-taken : (storage : Contents) (s : SubchannelState) (b : ActiveProgram) (signal : EndSignal) (walk : WalkPlace) (c : CommandStart) →
+    (taking.chaining storage s b signal walk c).came.taken ≡ true
+chaining-taken storage s b signal walk (came.Begins transfer) = refl
+chaining-taken storage s b signal walk came.Suspends = refl
+chaining-taken storage s b signal walk (came.Stops check) = refl
+
+-- status that is made is counted
+made-more : (enabled : Bool) (x : Serials) → enabled ≡ true → x.made < (serials_made enabled x).made
+made-more true x e = omega arith
+made-more false x e = absurd (cc e)
+
+module _ (laws : AreLaws) (accesses : AreAccesses) where
+  -- the command chains, or not
+  is-chained : (s : SubchannelState) (b : ActiveProgram) (k : ProgramTrace) (status : DeviceStatus) (more x : Bool) → s.begun ≡ Some b → HasWork (Some b) k →
+      chains_command s.scsw b status more ≡ x → IsChained x s status more k
+  is-chained s b k status more x e w c = (
+    b,
+    e,
+    next-chains k.earlier k.orb k.now.acts k.now.moved b.transfer (has_status_modifier status) b.transfer.unchained (breaks_chain s.scsw b status more) w.0.tied ∙ c,
+  )
+
+  abbrev EndBy : Contents → SubchannelState → EndSignal → UpStep → ProgramTrace → ProgramTrace → Type 0
+  EndBy storage s signal x k after =
+      (s.waiting ≡ None → IsCountShown s x.state after) →
+      Meets storage storage s x.state (up.End signal.number signal.command signal.status signal.more) x.came.taken x.came.sent k after
+
+  -- a next command
+  chains-on : (storage : Contents) (s : SubchannelState) (b : ActiveProgram) (k : ProgramTrace) (signal : EndSignal) → chains_command s.scsw b signal.status signal.more ≡ true →
+      has_device_end signal.status ≡ true → HasWork (Some b) k → signal.number ≡ k.number →
+      let next : Beginning = next_command storage b.transfer (has_status_modifier signal.status) in
+      let acts : List Act = next_acts storage b.transfer (has_status_modifier signal.status) in
+      Chains storage signal.status (taking.chain_with storage s (with_end b) signal next).came.sent k (stories.trace_goes_on next.came acts k)
+  chains-on storage s b k signal c d w m =
+      let modifier : Bool = has_status_modifier signal.status in
+      let f = chains-facts laws accesses s.scsw b signal.status signal.more c in
+      let next : Beginning = next_command storage b.transfer modifier in
+      let acts : List Act = next_acts storage b.transfer modifier in
+      let adds = next-adds k.earlier laws storage k.orb k.now.acts k.now.moved b.transfer modifier f.0 f.1 w.0.tied in
+      inl (
+        d,
+        (
+          acts ++ k.now.acts,
+          adds,
+          chains-goes laws storage s (with_end b) signal next.walk k next.came acts
+              (End (record { goes_on = true; modifier = modifier }) ∷ k.now.acts) (b.transfer.command + 1)
+              (next-went laws accesses k.earlier storage k.orb k.now b.transfer modifier w.0.tied f.0 f.1) refl m (ap (λ (n : ℕ). n + 1) w.1),
+        ),
+      )
+
+  -- none
+  stops-meets : (storage : Contents) (s : SubchannelState) (b : ActiveProgram) (k : ProgramTrace) (signal : EndSignal) (shown : Shown) (last : Bool) →
+      IsChained false s signal.status signal.more k →
+      EndBy storage s signal (if last then let_go (end-left laws accesses s b signal shown last) else taking.quietly (end-left laws accesses s b signal shown last)) k
+      (stories.ends_alone signal.status k)
+  stops-meets storage s b k signal shown true c r = (inl (c, (refl, let_go-silent (end-left laws accesses s b signal shown true), made-more s.pmcw.enabled s.serials)), r)
+  stops-meets storage s b k signal shown false c r = (inl (c, (refl, refl, made-more s.pmcw.enabled s.serials)), r)
+
+  goes-meets : (storage : Contents) (s : SubchannelState) (b : ActiveProgram) (k : ProgramTrace) (signal : EndSignal) (x y : Bool) → chains_command s.scsw b signal.status signal.more ≡ x →
+      has_device_end signal.status ≡ y → s.begun ≡ Some b → HasWork (Some b) k → signal.number ≡ k.number →
+      EndBy storage s signal
+      (if x then (if y then taking.chain_with storage s (with_end b) signal (next_command storage (with_end b).transfer (has_status_modifier signal.status))
+      else taking.quietly (record (taking.end_taken s signal) { begun = Some (with_end b) }))
+      else taking.stops_at s b signal) k
+      (if x then (if y then stories.trace_goes_on (next_command storage b.transfer (has_status_modifier signal.status)).came (next_acts storage b.transfer (has_status_modifier signal.status)) k else k)
+      else stories.ends_alone signal.status k)
+  goes-meets storage s b k signal true true c d e w m r =
+      let next : Beginning = next_command storage b.transfer (has_status_modifier signal.status) in
+      let x : UpStep = taking.chain_with storage s (with_end b) signal next in
+      let after : ProgramTrace = stories.trace_goes_on next.came (next_acts storage b.transfer (has_status_modifier signal.status)) k in
+      subst (λ (t : Bool). Meets storage storage s x.state (up.End signal.number signal.command signal.status signal.more) t x.came.sent k after)
+      (sym (chaining-taken storage s (with_end b) signal next.walk next.came)) (inr (is-chained s b k signal.status signal.more true e w c, chains-on storage s b k signal c d w m), r)
+  goes-meets storage s b k signal true false c d e w m r = (inr (is-chained s b k signal.status signal.more true e w c, inr (d, refl, refl)), r)
+  goes-meets storage s b k signal false y c d e w m r =
+      stops-meets storage s b k signal (end_shown s b signal.status signal.more) (is_last_end signal.status) (is-chained s b k signal.status signal.more false e w c) r
+
+  command-meets : (storage : Contents) (s : SubchannelState) (b : ActiveProgram) (k : ProgramTrace) (signal : EndSignal) (x : Bool) → s.begun ≡ Some b → HasWork (Some b) k → signal.number ≡ k.number →
+      EndBy storage s signal (if x then taking.command_ended storage s b signal else taking.ignoring s) k (if x then stories.chains storage s b signal.status signal.more k else k)
+  command-meets storage s b k signal true e w m r = goes-meets storage s b k signal (chains_command s.scsw b signal.status signal.more) (has_device_end signal.status) refl refl e w m r
+  command-meets storage s b k signal false e w m r = refl
+
+  work-ends : (storage : Contents) (s : SubchannelState) (b : Option ActiveProgram) (k : ProgramTrace) (signal : EndSignal) → s.begun ≡ b → HasWork b k → signal.number ≡ k.number →
+      EndBy storage s signal (taking.end_of storage s b signal) k (stories.trace_ends storage s b signal.command signal.status signal.more k)
+  work-ends storage s None k signal e w m r = refl
+  work-ends storage s (Some b) k signal e w m r = command-meets storage s b k signal (signal.command == b.transfer.command) e w m r
+
+  -- the program is connected under its number
+  on-number : (phase : HoldPhase) (u n sent : ℕ) (b : Option ActiveProgram) → is_on phase u ≡ true → IsPhase phase n b sent → u ≡ n
+  on-number (hold.On t p c) u n sent b e k = eqb-true u t e ∙ k
+  on-number hold.Free u n sent b e k = absurd (cc e)
+  on-number (hold.Offer t p) u n sent b e k = absurd (cc e)
+  on-number (hold.Away t) u n sent b e k = absurd (cc e)
+  on-number (hold.Letting t p) u n sent b e k = absurd (cc e)
+  on-number (hold.Reset r) u n sent b e k = absurd (cc e)
+
+  end-by : (storage : Contents) (s : SubchannelState) (k : ProgramTrace) (signal : EndSignal) (x : Bool) → is_on s.hold.phase signal.number ≡ x → IsHeld s k →
+      EndBy storage s signal (if x then taking.end_of storage s s.begun signal else taking.ignoring s) k
+      (if x then stories.trace_ends storage s s.begun signal.command signal.status signal.more k else k)
+  end-by storage s k signal true e h r = work-ends storage s s.begun k signal refl h.work (on-number s.hold.phase signal.number k.number k.sent s.begun e h.phase) r
+  end-by storage s k signal false e h r = refl
+
+  pub end-meets : (storage : Contents) (s : SubchannelState) (k : ProgramTrace) (signal : EndSignal) (x : Bool) → is_on s.hold.phase signal.number ≡ x → IsHeld s k →
+      let met : UpStep = if x then taking.end_of storage s s.begun signal else taking.ignoring s in
+      let after : ProgramTrace = if x then stories.trace_ends storage s s.begun signal.command signal.status signal.more k else k in
+      IsHeld met.state after →
+      Meets storage storage s met.state (up.End signal.number signal.command signal.status signal.more) met.came.taken met.came.sent k after
+  end-meets storage s k signal x e h g = end-by storage s k signal x e h (λ w. end-shows laws accesses storage s k signal x w h g)

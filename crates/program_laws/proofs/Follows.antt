@@ -1,0 +1,167 @@
+-- What is told of the program of a place goes on in each step by what is seen.
+use Rattle.std.proofs.Common.{◌≡◌, refl, sym, ◌∙◌, ap, subst, ℕ, Bool, length, Option, Some, None, Result, Ok, Err}
+use Rattle.std.specs.Prelude.{if◌then◌else◌, nat_lt, slice_get, slice_set, IfOk}
+use Rattle.std.proofs.lemmas.Bool.{eqb-true}
+use Rattle.storage_keys.specs.Storage.{Contents}
+use Rattle.chan_model.specs.declared.fault.Fault.{Fault}
+use Rattle.chan_model.specs.declared.fault.Fault.TheVariants as fault
+use Rattle.chan_model.specs.declared.signal.Down.{Down}
+use Rattle.chan_model.specs.declared.signal.OnPath.{OnPath}
+use Rattle.chan_model.specs.declared.signal.Up.{Up}
+use Rattle.chan_model.specs.declared.signal.Up.TheVariants as up
+use Rattle.chan_model.specs.HoldTable.{is_connected, is_on}
+use Rattle.chan_events.specs.declared.event.Event.{Event}
+use Rattle.chan_events.specs.declared.event.Event.TheVariants as event
+use Rattle.chan_events.specs.declared.reply.Reply.{Reply}
+use Rattle.chan_events.specs.declared.reply.Reply.TheVariants as reply
+use Rattle.wires.specs.Queues.{queue}
+use Rattle.subchannel_model.specs.declared.state.Subchannel.{Subchannel}
+use Rattle.subchannel_model.specs.declared.state.SubchannelState.{SubchannelState}
+use Rattle.subchannel_model.specs.Places.{found_with, found_at}
+use Rattle.subchannel_model.specs.Sending.{carried_by, finds_full}
+use Rattle.subchannel_model.specs.Taking.{Met, takes_up}
+use Rattle.machine_model.specs.Requests.{requests_settled, settled}
+use Rattle.machine_model.specs.State.{State, place_of, with_sub}
+use Rattle.machine_model.specs.Steps.{Step}
+use Rattle.machine_model.specs.Turns.{Turn, UpTurn, Outcome, at_storage, does}
+use Rattle.machine_model.specs.UpSteps.{returns_at, up_front, up_sub, up_at}
+use Rattle.step_laws.proofs.Places.{get-set}
+use Rattle.program_laws.specs.Traces.{ProgramTrace, is_place}
+use Rattle.program_laws.specs.Tells.{Meets, OfBoth, GoesBy}
+use Rattle.program_laws.proofs.MachineTraces.{met_with, met_at, trace_meets, trace_after}
+use Rattle.program_laws.proofs.Accesses.{AreAccesses}
+use Rattle.program_laws.proofs.Ties.{AreLaws}
+use Rattle.program_laws.proofs.Holds.{IsHeld, HeldBy}
+use Rattle.program_laws.proofs.HoldMeets.{signal-held}
+use Rattle.program_laws.proofs.Accepts.{accept-meets}
+use Rattle.program_laws.proofs.Moves.{data-meets}
+use Rattle.program_laws.proofs.Chains.{end-meets}
+use Rattle.program_laws.proofs.UnitActs.{if-ok}
+
+module _ (laws : AreLaws) (accesses : AreAccesses) where
+  -- a signal
+  abbrev MeetsBy : Contents → SubchannelState → Up → Met → ProgramTrace → ProgramTrace → Type 0
+  MeetsBy storage s signal x k after = Meets storage x.storage s x.step.state signal x.step.came.taken x.step.came.sent k after
+
+  signal-meets : (returns : Bool) (storage : Contents) (s : SubchannelState) (p : ℕ) (signal : Up) (k : ProgramTrace) → IsHeld s k →
+      MeetsBy storage s signal (takes_up returns storage s p signal) k (trace_meets storage s p signal k)
+  signal-meets returns storage s p (up.Accept t) k h =
+      accept-meets laws storage s k t s.hold.phase refl h (signal-held laws accesses returns storage s p (up.Accept t) k h)
+  signal-meets returns storage s p (up.Data t c n seq load) k h =
+      data-meets laws accesses storage s k (record { path = p; number = t; connection = c; command = n; sequence = seq }) load (is_connected s.hold.phase p t c) h
+      (signal-held laws accesses returns storage s p (up.Data t c n seq load) k h)
+  signal-meets returns storage s p (up.End t n status more) k h =
+      end-meets laws accesses storage s k (record { path = p; number = t; command = n; status = status; more = more }) (is_on s.hold.phase t) refl h
+      (signal-held laws accesses returns storage s p (up.End t n status more) k h)
+  signal-meets returns storage s p (up.Busy t) k h = refl
+  signal-meets returns storage s p (up.Leave t c) k h = refl
+  signal-meets returns storage s p (up.Back t c) k h = refl
+  signal-meets returns storage s p (up.Released t) k h = refl
+  signal-meets returns storage s p (up.Cleared r) k h = refl
+  signal-meets returns storage s p (up.Notice b) k h = refl
+  signal-meets returns storage s p (up.Attn a status) k h = refl
+
+  -- of a program that there is, where its subchannel agrees with it
+  abbrev TurnMeets : Contents → Subchannel → UpTurn → Option ProgramTrace → Option ProgramTrace → Type 0
+  TurnMeets storage sub t k after =
+      (signal : Up) × (taken : Bool) × (sent : Option (OnPath Down)) × (t.reply ≡ reply.Up signal taken sent)
+      × (HeldBy sub.state k → OfBoth (Meets storage t.storage sub.state t.sub.state signal taken sent) k after)
+
+  any-meets : (returns : Bool) (storage : Contents) (s : SubchannelState) (p : ℕ) (signal : Up) (k : Option ProgramTrace) → HeldBy s k →
+      let x : Met = takes_up returns storage s p signal in
+      OfBoth (Meets storage x.storage s x.step.state signal x.step.came.taken x.step.came.sent) k (met_with storage s p (Some signal) k)
+  any-meets returns storage s p signal None h = tt
+  any-meets returns storage s p signal (Some k) h = signal-meets returns storage s p signal k h
+
+  front-meets : (returns : Bool) (storage : Contents) (sub : Subchannel) (path : ℕ) (front : Option Up) (k : Option ProgramTrace) →
+      IfOk (up_front returns storage sub path front) (λ t. TurnMeets storage sub t k (met_with storage sub.state path front k))
+  front-meets returns storage sub path None k = tt
+  front-meets returns storage sub path (Some signal) k =
+      let x : Met = takes_up returns storage sub.state path signal in
+      if-ok (λ t. TurnMeets storage sub t k (met_with storage sub.state path (Some signal) k)) (finds_full sub.wires.down (carried_by sub x.step.came.sent)) (Err fault.WireFull) _ tt
+      (signal, x.step.came.taken, x.step.came.sent, refl, any-meets returns storage sub.state path signal k)
+
+  up-meets : (returns : Bool) (storage : Contents) (sub : Subchannel) (path : ℕ) (k : Option ProgramTrace) →
+      IfOk (up_sub returns storage sub path) (λ t. TurnMeets storage sub t k (met_at storage (Some sub) path k))
+  up-meets returns storage sub path k =
+      if-ok (λ t. TurnMeets storage sub t k (met_at storage (Some sub) path k)) (nat_lt path (length sub.setup.paths))
+      (up_front returns storage sub path (slice_get (queue sub.wires.up path) 0)) (Err fault.NoSuchPath)
+      (front-meets returns storage sub path (slice_get (queue sub.wires.up path) 0) k) tt
+
+  module _ (s : State) (place : ℕ) (k : Option ProgramTrace) (held : (sub : Subchannel) → slice_get s.subs place ≡ Some sub → HeldBy sub.state k) where
+    abbrev Goes : Event → Reply → State → Type 0
+    Goes e r new = GoesBy place s e r new k (trace_after place s e r k)
+
+    -- where a signal comes up
+    abbrev UpGoes : ℕ → ℕ → Turn → Type 0
+    UpGoes word path t =
+        (signal : Up) × (taken : Bool) × (sent : Option (OnPath Down)) × (t.reply ≡ reply.Up signal taken sent) × Goes (event.Up word path) (reply.Up signal taken sent) t.state
+
+    turn-goes : (word path at : ℕ) (sub : Subchannel) (t : UpTurn) → place_of s word ≡ Some at → slice_get s.subs at ≡ Some sub →
+        TurnMeets s.storage sub t k (met_at s.storage (Some sub) path k) →
+        UpGoes word path (record { reply = t.reply; state = with_sub (record s { storage = t.storage }) at t.sub })
+    turn-goes word path at sub t named there m =
+        let P : Subchannel → Subchannel → Option ProgramTrace → Type 0 = λ x y z. OfBoth (Meets s.storage t.storage x.state y.state m.0 m.1 m.2) k z in (
+          m.0,
+          m.1,
+          m.2,
+          m.3,
+          (
+            (λ e. ap (λ (b : Bool). if b then met_at s.storage (slice_get s.subs place) path k else k) e),
+            (λ e x next f g.
+                let here : at ≡ place = eqb-true at place (sym (ap (λ (o : Option ℕ). is_place o place) named) ∙ e) in
+                let found : slice_get s.subs place ≡ Some sub = subst (λ (i : ℕ). slice_get s.subs i ≡ Some sub) here there in
+                let old : sub ≡ x = cc (sym found ∙ f) in
+                let left : slice_get (slice_set s.subs at t.sub) place ≡ Some t.sub =
+                subst (λ (i : ℕ). slice_get (slice_set s.subs at t.sub) i ≡ Some t.sub) here (get-set s.subs at sub t.sub there) in
+                let new : t.sub ≡ next = cc (sym left ∙ g) in
+                let told : trace_after place s (event.Up word path) (reply.Up m.0 m.1 m.2) k ≡ met_at s.storage (Some sub) path k =
+                ap (λ (b : Bool). if b then met_at s.storage (slice_get s.subs place) path k else k) e ∙ ap (λ (o : Option Subchannel). met_at s.storage o path k) found in
+                subst (λ (z : Option ProgramTrace). P x next z) (sym told)
+                (subst (λ (y : Subchannel). P y next (met_at s.storage (Some sub) path k)) old
+                (subst (λ (y : Subchannel). P sub y (met_at s.storage (Some sub) path k)) new (m.4 (held sub found))))),
+          ),
+        )
+
+    at_storage-goes : (word path at : ℕ) (sub : Subchannel) (r : Result UpTurn Fault) → place_of s word ≡ Some at → slice_get s.subs at ≡ Some sub →
+        IfOk r (λ t. TurnMeets s.storage sub t k (met_at s.storage (Some sub) path k)) → IfOk (at_storage s at r) (UpGoes word path)
+    at_storage-goes word path at sub (Ok t) named there m = turn-goes word path at sub t named there m
+    at_storage-goes word path at sub (Err f) named there m = tt
+
+    found-goes : (word path at : ℕ) (o : Option Subchannel) → place_of s word ≡ Some at → slice_get s.subs at ≡ o → IfOk (up_at s (found_with at o) path) (UpGoes word path)
+    found-goes word path at None named there = tt
+    found-goes word path at (Some sub) named there =
+        at_storage-goes word path at sub (up_sub (returns_at s.subs sub path) s.storage sub path) named there (up-meets (returns_at s.subs sub path) s.storage sub path k)
+
+    named-goes : (word path : ℕ) (p : Option ℕ) → place_of s word ≡ p → IfOk (up_at s (found_at s.subs p) path) (UpGoes word path)
+    named-goes word path None named = tt
+    named-goes word path (Some at) named = found-goes word path at (slice_get s.subs at) named refl
+
+    -- requests for interruptions that are settled change nothing of it
+    settled-goes : (word path : ℕ) (r : Reply) (new : State) (o : Outcome) → IfOk o (UpGoes word path) → does r new ≡ settled s (event.Up word path) o → Goes (event.Up word path) r new
+    settled-goes word path r new (Ok t) g n =
+        let same : record { reply = r; state = new } ≡ record t { state = record t.state { requests = requests_settled s (event.Up word path) t } } = cc n in
+        let is : r ≡ reply.Up g.0 g.1 g.2 = ap (λ (x : Turn). x.reply) same ∙ g.3 in
+        subst (λ (x : Reply). Goes (event.Up word path) x new) (sym is)
+        (subst (λ (x : Turn). Goes (event.Up word path) (reply.Up g.0 g.1 g.2) x.state) (sym same) g.4)
+    settled-goes word path r new (Err f) g n = absurd (cc n)
+
+    pub step-goes : (e : Event) (r : Reply) (new : State) → Step s e r new → Goes e r new
+    step-goes (event.Up word path) r new (o, w, n) =
+        settled-goes word path r new o
+        (subst (λ (x : Outcome). IfOk x (UpGoes word path)) (sym w) (named-goes word path (place_of s word) refl)) n
+    step-goes (event.Put address bytes) r new step = refl
+    step-goes (event.SetKey address key) r new step = refl
+    step-goes (event.SetPrefix cpu address) r new step = refl
+    step-goes (event.Show address count) r new step = refl
+    step-goes (event.Execute cpu i) r new step = refl
+    step-goes (event.ExecuteOther cpu i) r new step = refl
+    step-goes (event.Choose word) r new step = refl
+    step-goes (event.Down word path) r new step = refl
+    step-goes (event.Report at report) r new step = refl
+    step-goes (event.Act at what) r new step = refl
+    step-goes (event.Restart at) r new step = refl
+    step-goes (event.PathDown chpid) r new step = refl
+    step-goes (event.PathUp chpid) r new step = refl
+    step-goes (event.PathReset chpid) r new step = refl
+    step-goes event.SystemReset r new step = refl

@@ -1,0 +1,244 @@
+-- What a subchannel does for its program with a Data is what is seen of it.
+use Rattle.std.proofs.Common.{◌≡◌, refl, sym, ◌∙◌, ap, subst, arith, ℕ, ◌+◌, ◌≤◌, ◌==◌, Bool, true, false, List, [], ◌∷◌, ◌++◌, length, map, take, Option, Some, None, Result, Ok, Err, inl, inr, append-nil, min}
+use Rattle.std.proofs.Math.Nat.{min-le_left}
+use Rattle.std.specs.Prelude.{if◌then◌else◌, is_some}
+use Rattle.orb_block.specs.declared.Orb.{Orb}
+use Rattle.storage_keys.specs.Storage.{Contents}
+use Rattle.chan_model.specs.declared.signal.Load.{Load}
+use Rattle.chan_model.specs.declared.signal.Up.TheVariants as up
+use Rattle.chan_model.specs.Loads.{load_length}
+use Rattle.chan_model.specs.UnitReports.{is_outward}
+use Rattle.channel_program.specs.declared.check.Check.{Check}
+use Rattle.channel_program.specs.Acts.{Act}
+use Rattle.channel_program.specs.Programs.{commands, code}
+use Rattle.idaw.specs.Places.{each_below}
+use Rattle.data_move.specs.Accesses as access
+use Rattle.data_move.specs.Moving.{next_place, room}
+use Rattle.transfer.specs.declared.Transfer.{Transfer}
+use Rattle.transfer.specs.Commands.{located_transfer, has_stopped}
+use Rattle.transfer.specs.Chunks.{Brought, with_moved, chains_data, with_answer, taken_by_device, given_bytes, next_chunk_of, next_given, fitting, brought_by, brought_in, brought, is_answered}
+use Rattle.subchannel_model.specs.declared.signals.DataSignal.{DataSignal}
+use Rattle.subchannel_model.specs.declared.state.ActiveProgram.{ActiveProgram}
+use Rattle.subchannel_model.specs.declared.state.SubchannelState.{SubchannelState}
+use Rattle.subchannel_model.specs.Taking as taking
+use Rattle.subchannel_model.specs.Taking.{Met, bytes_of_load}
+use Rattle.program_laws.specs.Traces.{CommandTrace, ProgramTrace}
+use Rattle.program_laws.specs.DataAreas.{data_areas}
+use Rattle.program_laws.specs.Fetches.{AddsFetched}
+use Rattle.program_laws.specs.Tells.{IsGiven, Gives, Stores, Moves, Meets}
+use Rattle.program_laws.proofs.MachineActs.{with_acts, with_places, chained_acts, located_acts, chunk_of, with_copy, copying, trace_moved_on, trace_answered, gives, with_arrival, storing, takes_in}
+use Rattle.program_laws.proofs.MachineTraces as stories
+use Rattle.program_laws.proofs.Lists.{length-each_below}
+use Rattle.program_laws.proofs.Accesses.{AreAccesses, copied-room}
+use Rattle.program_laws.proofs.Ties.{AreLaws, spot-begins, with_moved-tied}
+use Rattle.program_laws.proofs.Parts.{IsSame, IsAtWork, absorbed-same, next_given-same, located-same, brought-same, moved_on-parts, answer-by, gives-work, takes_in-work, located-work}
+use Rattle.program_laws.proofs.Holds.{HasWork, IsHeld}
+use Rattle.program_laws.proofs.Fetches.{gives-adds, takes_in-adds}
+use Rattle.program_laws.proofs.Shows.{ShowsRest, data-shows}
+use Rattle.program_laws.proofs.Goings.{same-codes}
+
+-- the same command is at work: none came to the program
+module _ (earlier : ℕ) where
+  pub work-codes : (storage : Contents) (orb : Orb) (p q : CommandTrace) (t u : Transfer) (d e : Bool) → IsSame t u → IsAtWork earlier orb p t d → IsAtWork earlier orb q u e →
+      AddsFetched storage orb p.acts q.acts → map code (commands orb q.acts) ≡ map code (commands orb p.acts)
+  work-codes storage orb p q t u d e same k l a =
+      let was : length (commands orb p.acts) ≡ earlier + t.command = k.tied.number in
+      let is : length (commands orb q.acts) ≡ earlier + u.command = l.tied.number in
+      let many : length (commands orb q.acts) ≡ length (commands orb p.acts) = let n : u.command ≡ t.command = same.1 in omega (arith, was, is, n) in
+      ap (λ (acts : List Act). map code (commands orb acts)) a.1
+      ∙ same-codes orb a.0 p.acts (ap (λ (acts : List Act). length (commands orb acts)) (sym a.1) ∙ many)
+
+  module _ (laws : AreLaws) (accesses : AreAccesses) where
+    -- a write
+    copied-given : (storage : Contents) (orb : Orb) (p : CommandTrace) (t : Transfer) (r : Result (List ℕ) Check) → access.copied storage t.walk.orb.key t.moving ≡ r →
+        IsAtWork earlier orb p t true → IsGiven storage orb (next_chunk_of t r).bytes p (with_copy storage t r p)
+    copied-given storage orb p t (Ok bytes) e k =
+        let n : ℕ = length bytes in
+        let most : n ≤ room t.moving = copied-room accesses storage t.walk.orb.key t.moving bytes e in
+        let within : room t.moving ≤ t.moving.left = min-le_left t.moving.left 256 in
+        inr (
+          each_below (next_place t.moving) n,
+          refl,
+          spot-begins orb (data_areas orb p.acts) (with_moved t n) (p.moved ++ each_below (next_place t.moving) n)
+              (with_moved-tied earlier laws orb p.acts p.moved t n (omega (arith, most, within)) k.tied).spot,
+        )
+    copied-given storage orb p t (Err check) e k = inl (refl, refl)
+
+    copy-given : (storage : Contents) (orb : Orb) (p : CommandTrace) (t : Transfer) (b : Bool) → IsAtWork earlier orb p t true →
+        IsGiven storage orb (if b then given_bytes t [] else next_chunk_of t (access.copied storage t.walk.orb.key t.moving)).bytes p
+        (if b then p else with_copy storage t (access.copied storage t.walk.orb.key t.moving) p)
+    copy-given storage orb p t true k = inl (refl, refl)
+    copy-given storage orb p t false k = copied-given storage orb p t (access.copied storage t.walk.orb.key t.moving) refl k
+
+    -- what is copied changes nothing else
+    copied-moved : (storage : Contents) (t : Transfer) (p : CommandTrace) (b : Bool) (r : Result (List ℕ) Check) →
+        ((if b then p else with_copy storage t r p).moved ≡ p.moved) × ((if b then p else with_copy storage t r p).arrived ≡ p.arrived)
+    copied-moved storage t p true r = (refl, refl)
+    copied-moved storage t p false (Ok bytes) = (refl, refl)
+    copied-moved storage t p false (Err check) = (refl, refl)
+
+    -- what the device absorbed is moved
+    abbrev IsAnswered : ℕ → CommandTrace → CommandTrace → Type 0
+    IsAnswered count p q =
+        (absorbed : List (Option ℕ)) × (length absorbed ≤ count) × (q.moved ≡ p.moved ++ absorbed) × (q.arrived ≡ p.arrived) × (q.copied ≡ p.copied)
+
+    moved_on-copied : (storage : Contents) (t : Transfer) (n : ℕ) (p : CommandTrace) (b : Bool) →
+        (if b then with_acts (with_places p t.moving n) (chained_acts storage (with_moved t n)) else with_places p t.moving n).copied ≡ p.copied
+    moved_on-copied storage t n p true = refl
+    moved_on-copied storage t n p false = refl
+
+    answered : (storage : Contents) (t : Transfer) (s count : ℕ) (p : CommandTrace) (b : Bool) →
+        IsAnswered count p (if b then trace_moved_on storage (with_answer t s count) (min count (room t.moving)) p else p)
+    answered storage t s count p true =
+        let u : Transfer = with_answer t s count in
+        let n : ℕ = min count (room t.moving) in
+        let parts = moved_on-parts storage u n p (chains_data (with_moved u n) n) in (
+          each_below (next_place t.moving) n,
+          let long : length (each_below (next_place t.moving) n) ≡ n = length-each_below (next_place t.moving) n in
+              let few : n ≤ count = min-le_left count (room t.moving) in
+              omega (arith, long, few),
+          parts.0,
+          parts.1,
+          moved_on-copied storage u n p (chains_data (with_moved u n) n),
+        )
+    answered storage t s count p false = ([], omega arith, sym (append-nil p.moved), refl, refl)
+
+    given-from : (storage : Contents) (orb : Orb) (bytes : List ℕ) (p q now : CommandTrace) → q.copied ≡ p.copied → now.moved ≡ q.moved → IsGiven storage orb bytes q now →
+        IsGiven storage orb bytes p now
+    given-from storage orb bytes p q now e m (inl x) = inl (x.0, x.1 ∙ e)
+    given-from storage orb bytes p q now e m (inr x) =
+        inr (x.0, x.1 ∙ ap (λ cs. record { storage = storage.bytes; places = x.0; bytes = bytes } ∷ cs) e, x.2)
+
+    gives-told : (storage : Contents) (orb : Orb) (p : CommandTrace) (t : Transfer) (s count : ℕ) → IsAtWork earlier orb p t true →
+        Gives storage orb count (next_given storage (taken_by_device storage t s count)).bytes p (gives storage t s count p)
+    gives-told storage orb p t s count k =
+        let a : Transfer = taken_by_device storage t s count in
+        let q : CommandTrace = trace_answered storage t s count p in
+        let u : Transfer = located_transfer storage a in
+        let r : CommandTrace = with_acts q (located_acts storage a) in
+        let x : IsAnswered count p q = answered storage t s count p (s == t.sequence + 1) in
+        let w : IsAtWork earlier orb q a true = answer-by earlier laws storage orb p t s count (s == t.sequence + 1) k in
+        let c = copied-moved storage u r (has_stopped u) (access.copied storage u.walk.orb.key u.moving) in
+        record {
+          absorbed = x.0;
+          most = x.1;
+          moved = c.0 ∙ x.2;
+          given =
+              given-from storage orb (next_given storage a).bytes p r (copying storage u r) x.4 c.0
+              (copy-given storage orb r u (has_stopped u) (located-work earlier laws storage orb q a true w));
+          arrived = c.1 ∙ x.3;
+        }
+
+    -- a read
+    arrival-told : (storage : Contents) (t : Transfer) (bytes : List ℕ) (n : ℕ) (r : Result Contents Check) (p : CommandTrace) →
+        Stores storage (brought_by storage t (length (take n bytes)) r).storage bytes p (with_arrival storage t (take n bytes) r p)
+        × ((with_arrival storage t (take n bytes) r p).copied ≡ p.copied)
+    arrival-told storage t bytes n (Ok after) p =
+        let some : List ℕ = take n bytes in
+        let q : CommandTrace = record p { arrived = record { former = storage.bytes; chunk = chunk_of after t.moving some } ∷ p.arrived } in
+        let parts = moved_on-parts after t (length some) q (chains_data (with_moved t (length some)) (length some)) in (
+          inr (each_below (next_place t.moving) (length some), n, parts.1, parts.0),
+          moved_on-copied after t (length some) q (chains_data (with_moved t (length some)) (length some)),
+        )
+    arrival-told storage t bytes n (Err check) p = (inl (refl, refl, refl), refl)
+
+    stored-told : (storage : Contents) (t : Transfer) (bytes : List ℕ) (n : ℕ) (r : Result Contents Check) (p : CommandTrace) (b : Bool) →
+        Stores storage (if b then record { transfer = t; storage = storage } else brought_by storage t (length (take n bytes)) r).storage bytes p
+        (if b then p else with_arrival storage t (take n bytes) r p)
+        × ((if b then p else with_arrival storage t (take n bytes) r p).copied ≡ p.copied)
+    stored-told storage t bytes n r p true = (inl (refl, refl, refl), refl)
+    stored-told storage t bytes n r p false = arrival-told storage t bytes n r p
+
+    brought-told : (storage : Contents) (t : Transfer) (s : ℕ) (bytes : List ℕ) (p : CommandTrace) (b : Bool) →
+        Stores storage (if b then brought_in storage (record t { sequence = s }) (fitting t bytes) else record { transfer = t; storage = storage }).storage bytes p
+        (if b then storing storage (record t { sequence = s }) (fitting t bytes) p else p)
+        × ((if b then storing storage (record t { sequence = s }) (fitting t bytes) p else p).copied ≡ p.copied)
+    brought-told storage t s bytes p true =
+        stored-told storage (record t { sequence = s }) bytes (room t.moving) (access.stored_or_skipped storage t.walk.orb.key t.moving (fitting t bytes)) p (is_some t.fault)
+    brought-told storage t s bytes p false = (inl (refl, refl, refl), refl)
+
+module _ (laws : AreLaws) (accesses : AreAccesses) where
+  abbrev MovesOf : Contents → Met → Load → ProgramTrace → ProgramTrace → Type 0
+  MovesOf storage x load k after = Moves storage x.storage load x.step.came.sent k after
+
+  out-told : (storage : Contents) (s : SubchannelState) (b : ActiveProgram) (k : ProgramTrace) (signal : DataSignal) (load : Load) →
+      IsAtWork k.earlier k.orb k.now b.transfer true →
+      MovesOf storage (taking.meets storage (taking.give_next storage s b signal (load_length load))) load k (record k { now = gives storage b.transfer signal.sequence (load_length load) k.now })
+  out-told storage s b k signal load w =
+      let t : Transfer = b.transfer in
+      let count : ℕ = load_length load in
+      let a : Transfer = taken_by_device storage t signal.sequence count in
+      let f : IsSame t a = absorbed-same storage t signal.sequence count in
+      let g : IsSame a (next_given storage a).transfer = next_given-same storage a in
+      let now : CommandTrace = gives storage t signal.sequence count k.now in
+      let adds : AddsFetched storage k.orb k.now.acts now.acts = gives-adds k.earlier laws storage k.orb k.now t signal.sequence count w in (
+        now,
+        refl,
+        adds,
+        work-codes k.earlier storage k.orb k.now now t (next_given storage a).transfer true true (g.0 ∙ f.0, g.1 ∙ f.1) w
+            (gives-work k.earlier laws storage k.orb k.now t signal.sequence count w) adds,
+        gives-told k.earlier laws accesses storage k.orb k.now t signal.sequence count w,
+      )
+
+  in-told : (storage : Contents) (s : SubchannelState) (b : ActiveProgram) (k : ProgramTrace) (signal : DataSignal) (load : Load) →
+      IsAtWork k.earlier k.orb k.now b.transfer false →
+      MovesOf storage (taking.take_in s b signal (brought storage b.transfer signal.sequence (bytes_of_load load))) load k
+      (record k { now = takes_in storage b.transfer signal.sequence (bytes_of_load load) k.now })
+  in-told storage s b k signal load w =
+      let t : Transfer = b.transfer in
+      let bytes : List ℕ = bytes_of_load load in
+      let a : Brought = brought storage t signal.sequence bytes in
+      let f : IsSame t a.transfer = brought-same storage t signal.sequence bytes in
+      let g : IsSame a.transfer (located_transfer a.storage a.transfer) = located-same a.storage a.transfer in
+      let now : CommandTrace = takes_in storage t signal.sequence bytes k.now in
+      let adds : AddsFetched a.storage k.orb k.now.acts now.acts = takes_in-adds k.earlier laws accesses storage k.orb k.now t signal.sequence bytes w in (
+        now,
+        refl,
+        adds,
+        work-codes k.earlier a.storage k.orb k.now now t (located_transfer a.storage a.transfer) false false (g.0 ∙ f.0, g.1 ∙ f.1) w
+            (takes_in-work k.earlier laws accesses storage k.orb k.now t signal.sequence bytes w) adds,
+        brought-told k.earlier laws accesses storage t signal.sequence bytes k.now (signal.sequence == t.sequence + 1),
+      )
+
+  -- a Data
+  abbrev DataBy : Contents → SubchannelState → DataSignal → Load → Met → ProgramTrace → ProgramTrace → Type 0
+  DataBy storage s signal load x k after =
+      ShowsRest s.serials.made x.step.state after →
+      Meets storage x.storage s x.step.state (up.Data signal.number signal.connection signal.command signal.sequence load) x.step.came.taken x.step.came.sent k after
+
+  moves-meets : (storage : Contents) (s : SubchannelState) (b : ActiveProgram) (k : ProgramTrace) (signal : DataSignal) (load : Load) (x : Bool) → is_outward b.transfer.code ≡ x →
+      IsAtWork k.earlier k.orb k.now b.transfer (is_outward b.transfer.code) →
+      DataBy storage s signal load (if x then taking.meets storage (taking.give_next storage s b signal (load_length load))
+      else taking.take_in s b signal (brought storage b.transfer signal.sequence (bytes_of_load load))) k
+      (if x then record k { now = gives storage b.transfer signal.sequence (load_length load) k.now } else record k { now = takes_in storage b.transfer signal.sequence (bytes_of_load load) k.now })
+  moves-meets storage s b k signal load true d w r =
+      (out-told storage s b k signal load (subst (λ (y : Bool). IsAtWork k.earlier k.orb k.now b.transfer y) d w), r)
+  moves-meets storage s b k signal load false d w r =
+      (in-told storage s b k signal load (subst (λ (y : Bool). IsAtWork k.earlier k.orb k.now b.transfer y) d w), r)
+
+  answers-meets : (storage : Contents) (s : SubchannelState) (b : ActiveProgram) (k : ProgramTrace) (signal : DataSignal) (load : Load) (x : Bool) →
+      IsAtWork k.earlier k.orb k.now b.transfer (is_outward b.transfer.code) →
+      DataBy storage s signal load (if x then taking.move_bytes storage s b signal load else taking.meets storage (taking.ignoring s)) k
+      (if x then stories.moves storage b.transfer signal.sequence load k else k)
+  answers-meets storage s b k signal load true w r = moves-meets storage s b k signal load (is_outward b.transfer.code) refl w r
+  answers-meets storage s b k signal load false w r = refl
+
+  work-meets : (storage : Contents) (s : SubchannelState) (b : Option ActiveProgram) (k : ProgramTrace) (signal : DataSignal) (load : Load) → HasWork b k →
+      DataBy storage s signal load (taking.move_data storage s b signal load) k (stories.answers storage b signal.command signal.sequence load k)
+  work-meets storage s None k signal load w r = refl
+  work-meets storage s (Some b) k signal load w r = answers-meets storage s b k signal load (is_answered b.transfer signal.command signal.sequence) w.0 r
+
+  data-by : (storage : Contents) (s : SubchannelState) (k : ProgramTrace) (signal : DataSignal) (load : Load) (x : Bool) → IsHeld s k →
+      DataBy storage s signal load (if x then taking.move_data storage s s.begun signal load else taking.meets storage (taking.ignoring s)) k
+      (if x then stories.answers storage s.begun signal.command signal.sequence load k else k)
+  data-by storage s k signal load true h r = work-meets storage s s.begun k signal load h.work r
+  data-by storage s k signal load false h r = refl
+
+  pub data-meets : (storage : Contents) (s : SubchannelState) (k : ProgramTrace) (signal : DataSignal) (load : Load) (x : Bool) → IsHeld s k →
+      let met : Met = if x then taking.move_data storage s s.begun signal load else taking.meets storage (taking.ignoring s) in
+      let after : ProgramTrace = if x then stories.answers storage s.begun signal.command signal.sequence load k else k in
+      IsHeld met.step.state after →
+      Meets storage met.storage s met.step.state (up.Data signal.number signal.connection signal.command signal.sequence load) met.step.came.taken met.step.came.sent k after
+  data-meets storage s k signal load x h g =
+      data-by storage s k signal load x h
+      (data-shows storage s signal load (if x then stories.answers storage s.begun signal.command signal.sequence load k else k) x g)

@@ -1,0 +1,172 @@
+-- How what was done for a program goes on with each event, told by what is seen: the signals that are taken and sent, and what
+-- storage holds in that step (SA22-7832, chapter 15).
+use Rattle.std.specs.Prelude.{◌≡◌, ◌⊎◌, ◌&&◌, ◌||◌, not, ℕ, ◌+◌, ◌<◌, ◌≤◌, Bool, true, false, is_some, Option, None, Some, List, [], ◌∷◌, ◌++◌, length, map, take, slice_get, IfSome}
+use Rattle.orb_block.specs.declared.Orb.{Orb}
+use Rattle.scsw_irb.specs.declared.status.DeviceStatus.{DeviceStatus}
+use Rattle.storage_keys.specs.Storage.{Contents}
+use Rattle.chan_model.specs.declared.signal.Down.{Down}
+use Rattle.chan_model.specs.declared.signal.Down.TheVariants as down
+use Rattle.chan_model.specs.declared.signal.Load.{Load}
+use Rattle.chan_model.specs.declared.signal.OnPath.{OnPath}
+use Rattle.chan_model.specs.declared.signal.Up.{Up}
+use Rattle.chan_model.specs.declared.signal.Up.TheVariants as up
+use Rattle.chan_model.specs.Loads.{load_length}
+use Rattle.chan_model.specs.UnitReports.{has_device_end}
+use Rattle.chan_events.specs.declared.event.Event.{Event}
+use Rattle.chan_events.specs.declared.event.Event.TheVariants as event
+use Rattle.chan_events.specs.declared.reply.Entry.{Entry}
+use Rattle.chan_events.specs.declared.reply.Reply.{Reply}
+use Rattle.chan_events.specs.declared.reply.Reply.TheVariants as reply
+use Rattle.channel_program.specs.Acts.{Act, End}
+use Rattle.channel_program.specs.Programs.{next, commands, code}
+use Rattle.subchannel_model.specs.declared.state.ActiveProgram.{ActiveProgram}
+use Rattle.subchannel_model.specs.declared.state.Program.{Program}
+use Rattle.subchannel_model.specs.declared.state.ProgramPosition.{ProgramPosition}
+use Rattle.subchannel_model.specs.declared.state.Subchannel.{Subchannel}
+use Rattle.subchannel_model.specs.declared.state.SubchannelState.{SubchannelState}
+use Rattle.subchannel_model.specs.Ends.{has_status_modifier, breaks_chain}
+use Rattle.subchannel_model.specs.Taking.{bytes_of_load}
+use Rattle.machine_model.specs.State.{State, place_of}
+use Rattle.machine_model.specs.Steps.{Run, Opened, Stepped}
+use Rattle.program_laws.specs.Traces.{CommandTrace, no_trace, ProgramTrace, past_part, is_place, told_after}
+use Rattle.program_laws.specs.Fetches.{AddsFetched}
+use Rattle.program_laws.specs.Claims.{IsBeginning, places_of, TraceCorrect}
+use Rattle.program_laws.specs.Shows.{IsCountShown}
+
+-- a command that was sent: the number of its program, which of the commands under that number it is, and its code
+pub record SentCommand : Type 0 where
+  pub number : ℕ
+  pub command : ℕ
+  pub sent_code : ℕ
+
+abbrev pub command_of : Down → Option SentCommand
+command_of (down.Command t n code room) = Some (record { number = t; command = n; sent_code = code })
+command_of signal = None
+
+abbrev pub command_sent : Option (OnPath Down) → Option SentCommand
+command_sent None = None
+command_sent (Some sent) = command_of sent.signal
+
+-- a program goes as far as these acts: the command that is sent is the one that came to it with them, or none is sent and none
+-- came
+abbrev pub GoesTo : Option SentCommand → List Act → ProgramTrace → ProgramTrace → Type 0
+GoesTo (Some c) acts k after =
+    (c.number ≡ k.number) × (c.command ≡ k.sent + 1) × (map code (commands k.orb acts) ≡ c.sent_code ∷ map code (commands k.orb k.now.acts))
+    × (after ≡ record k { sent = k.sent + 1; now = record no_trace { acts = acts }; before = k.now })
+GoesTo None acts k after =
+    (map code (commands k.orb acts) ≡ map code (commands k.orb k.now.acts)) × (after ≡ record k { now = record k.now { acts = acts } })
+
+-- from some acts on it is fetched from storage
+abbrev pub GoesOn : Contents → Option (OnPath Down) → List Act → ProgramTrace → ProgramTrace → Type 0
+GoesOn storage sent before k after = (acts : List Act) × AddsFetched storage k.orb before acts × GoesTo (command_sent sent) acts k after
+
+-- Accept: the program that waits begins, or else one that was suspended goes on
+abbrev pub beginning : Option Program → ProgramTrace → ProgramTrace
+beginning None k = record k { earlier = length (commands k.orb k.now.acts); now = past_part k.now }
+beginning (Some program) k = record k { orb = program.orb; earlier = 0; now = no_trace }
+
+-- the start that was offered neither waits any more nor is suspended, or a halt is pending
+abbrev pub IsOver : SubchannelState → Type 0
+IsOver s =
+    (s.scsw.activity.halt_pending ≡ true)
+    ⊎ (((program : Program) → s.waiting ≡ Some program → program.start ≡ s.offered → ⊥)
+    × ((position : ProgramPosition) → s.suspended ≡ Some position → position.program.start ≡ s.offered → ⊥))
+
+abbrev pub Accepted : Contents → SubchannelState → SubchannelState → Option (OnPath Down) → ProgramTrace → ProgramTrace → Type 0
+Accepted storage s next sent k after =
+    (IsOver s × (command_sent sent ≡ None) × (after ≡ k))
+    ⊎ (GoesOn storage sent (beginning s.waiting k).now.acts (beginning s.waiting k) after × IsCountShown s next after)
+
+-- Data of a write: what the device absorbed of a chunk, no more than it says, is moved; and the next chunk that is given is
+-- copied from the next places. How many were moved, those places and the count that is shown tell
+abbrev pub IsGiven : Contents → Orb → List ℕ → CommandTrace → CommandTrace → Type 0
+IsGiven storage orb bytes k now =
+    ((bytes ≡ []) × (now.copied ≡ k.copied))
+    ⊎ ((places : List (Option ℕ)) × (now.copied ≡ record { storage = storage.bytes; places = places; bytes = bytes } ∷ k.copied)
+    × IsBeginning (now.moved ++ places) (places_of orb now.acts))
+
+pub record Gives (storage : Contents) (orb : Orb) (count : ℕ) (bytes : List ℕ) (k now : CommandTrace) : Type 0 where
+  pub absorbed : List (Option ℕ)
+  pub most : length absorbed ≤ count
+  pub moved : now.moved ≡ k.moved ++ absorbed
+  pub given : IsGiven storage orb bytes k now
+  pub arrived : now.arrived ≡ k.arrived
+
+-- Data of a read: some of its bytes are stored, or none, and then storage stays
+abbrev pub Stores : Contents → Contents → List ℕ → CommandTrace → CommandTrace → Type 0
+Stores former storage bytes k now =
+    ((storage ≡ former) × (now.arrived ≡ k.arrived) × (now.moved ≡ k.moved))
+    ⊎ ((places : List (Option ℕ)) × (n : ℕ)
+    × (now.arrived ≡ record { former = former.bytes; chunk = record { storage = storage.bytes; places = places; bytes = take n bytes } } ∷ k.arrived)
+    × (now.moved ≡ k.moved ++ places))
+
+-- a Data is answered by what it is answered with
+abbrev pub MovesBy : Contents → Contents → Orb → Load → Down → CommandTrace → CommandTrace → Type 0
+MovesBy former storage orb load (down.Give t c n s bytes) k now = Gives storage orb (load_length load) bytes k now
+MovesBy former storage orb load (down.Took t n s room) k now = Stores former storage (bytes_of_load load) k now × (now.copied ≡ k.copied)
+MovesBy former storage orb load signal k now = ⊥
+
+abbrev pub Moves : Contents → Contents → Load → Option (OnPath Down) → ProgramTrace → ProgramTrace → Type 0
+Moves former storage load None k after = ⊥
+Moves former storage load (Some sent) k after =
+    (now : CommandTrace) × (after ≡ record k { now = now }) × AddsFetched storage k.orb k.now.acts now.acts
+    × (map code (commands k.orb now.acts) ≡ map code (commands k.orb k.now.acts)) × MovesBy former storage k.orb load sent.signal k.now now
+
+-- End: a command is chained to where one is next by the program, nothing breaks the chain (chapter 16), and no earlier End of
+-- the command was shown
+abbrev pub ended : Bool → DeviceStatus → Act
+ended goes_on status = End (record { goes_on = goes_on; modifier = has_status_modifier status })
+
+abbrev pub IsChained : Bool → SubchannelState → DeviceStatus → Bool → ProgramTrace → Type 0
+IsChained chains s status more k = (b : ActiveProgram) × (s.begun ≡ Some b)
+    × ((is_some (next k.orb (ended true status ∷ k.now.acts)) && not (b.transfer.unchained || breaks_chain s.scsw b status more)) ≡ chains)
+
+-- none is, and status is made
+abbrev pub EndsAlone : SubchannelState → SubchannelState → DeviceStatus → Option (OnPath Down) → ProgramTrace → ProgramTrace → Type 0
+EndsAlone s next status sent k after =
+    (after ≡ record k { now = record k.now { acts = ended false status ∷ k.now.acts } })
+    × (command_sent sent ≡ None) × (s.pmcw.enabled ≡ true → s.serials.made < next.serials.made)
+
+-- the program goes on as device end comes; until then the command has not ended
+abbrev pub Chains : Contents → DeviceStatus → Option (OnPath Down) → ProgramTrace → ProgramTrace → Type 0
+Chains storage status sent k after =
+    ((has_device_end status ≡ true) × GoesOn storage sent (ended true status ∷ k.now.acts) k after)
+    ⊎ ((has_device_end status ≡ false) × (sent ≡ None) × (after ≡ k))
+
+abbrev pub Ends : Contents → SubchannelState → SubchannelState → DeviceStatus → Bool → Option (OnPath Down) → ProgramTrace → ProgramTrace → Type 0
+Ends storage s next status more sent k after =
+    (IsChained false s status more k × EndsAlone s next status sent k after)
+    ⊎ (IsChained true s status more k × Chains storage status sent k after)
+
+-- what a signal that is taken tells, and the count that its status shows; of an End where no start waits
+abbrev pub Meets : Contents → Contents → SubchannelState → SubchannelState → Up → Bool → Option (OnPath Down) → ProgramTrace → ProgramTrace → Type 0
+Meets former storage s next (up.Accept t) true sent k after = Accepted storage s next sent k after
+Meets former storage s next (up.Data t c n seq load) true sent k after = Moves former storage load sent k after × IsCountShown s next after
+Meets former storage s next (up.End t n status more) true sent k after =
+    Ends storage s next status more sent k after × (s.waiting ≡ None → IsCountShown s next after)
+Meets former storage s next signal taken sent k after = after ≡ k
+
+-- of programs that there are
+abbrev pub OfBoth : (ProgramTrace → ProgramTrace → Type 0) → Option ProgramTrace → Option ProgramTrace → Type 0
+OfBoth P None None = Unit {0}
+OfBoth P (Some k) (Some after) = P k after
+OfBoth P None (Some after) = ⊥
+OfBoth P (Some k) None = ⊥
+
+-- each event: a signal that comes up is of the subchannel that meets it
+abbrev pub GoesBy : ℕ → State → Event → Reply → State → Option ProgramTrace → Option ProgramTrace → Type 0
+GoesBy place s (event.Up word path) (reply.Up signal taken sent) new k after =
+    (is_place (place_of s word) place ≡ false → after ≡ k)
+    × (is_place (place_of s word) place ≡ true → (sub next : Subchannel) → slice_get s.subs place ≡ Some sub → slice_get new.subs place ≡ Some next →
+    OfBoth (Meets s.storage new.storage sub.state next.state signal taken sent) k after)
+GoesBy place s e r new k after = after ≡ told_after place s e r k
+
+-- what is done for the program of a place, throughout a run: none at first, and in each step it goes on by what is seen, and is correct
+abbrev pub IsTold : ℕ → (opening : State) (h : List Entry) (s : State) → Run opening h s → Option ProgramTrace → Type 0
+IsTold place opening _ _ Opened k = k ≡ None
+IsTold place opening _ _ (Stepped h old e r new run step) k =
+    (before : Option ProgramTrace) × IsTold place opening h old run before × GoesBy place old e r new before k × IfSome k TraceCorrect
+
+-- so it can be told of each subchannel
+abbrev pub AllTold : (opening : State) (h : List Entry) (s : State) → Run opening h s → Type 0
+AllTold opening h s run = (place : ℕ) (sub : Subchannel) → slice_get s.subs place ≡ Some sub → (k : Option ProgramTrace) × IsTold place opening h s run k
