@@ -1,5 +1,5 @@
 -- A clock, and what each call of it answers and leaves (own).
-use Rattle.std.specs.Prelude.{ℕ, ◌==◌, Bool, false, not, if◌then◌else◌, List, [], ◌∷◌, length, take, drop}
+use Rattle.std.specs.Prelude.{ℕ, ◌==◌, not, if◌then◌else◌, List, [], ◌∷◌, length, take, drop}
 use Rattle.zbits.specs.Words.{bytes_of_words}
 use Rattle.chan_model.specs.declared.report.Call.{Call}
 use Rattle.chan_model.specs.declared.report.Call.TheVariants as call
