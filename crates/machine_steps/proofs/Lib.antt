@@ -8,3 +8,4 @@ mod Cycles
 mod Turning
 mod Acting
 mod Sweeping
+mod Choosable

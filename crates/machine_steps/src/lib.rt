@@ -7,8 +7,10 @@
 #![tactic(auto)]
 
 mod acts;
+pub mod law;
 pub mod machine;
 pub mod opening;
+mod path_turns;
 mod paths;
 mod posting;
 mod sending;

@@ -1,11 +1,12 @@
 //! A channel subsystem without its history: what each event does to the whole.
 
-ghost use Rattle.std.specs.Prelude.{◌≡◌, ◌<◌, All, Err, None, Some, IfSome, length};
+ghost use Rattle.std.specs.Prelude.{◌≡◌, ◌<◌, All, Err, None, Some, IfSome, length, slice_get};
 ghost use Rattle.subchannel_model.specs.declared.state.Subchannel.{Subchannel};
 ghost use Rattle.machine_model.specs.State as state_spec;
 ghost use Rattle.machine_model.specs.Ruled.{GoesByRule};
 ghost use Rattle.machine_model.specs.InstructionSteps as instruction_steps;
 ghost use Rattle.machine_steps.specs.Giving as giving_spec;
+ghost use Rattle.machine_steps.specs.PathTurns as turn_spec;
 ghost use Rattle.machine_model.specs.StorageSteps as storage_spec;
 ghost use Rattle.machine_model.specs.Steps as spec;
 ghost use Rattle.machine_model.specs.Bounds.{IsRoomy, IsUnitRoomy};
@@ -14,6 +15,7 @@ ghost use Rattle.chan_events.specs.declared.event.Event.TheVariants as event_spe
 ghost use Rattle.finding.specs.Tables.{Fits};
 
 use crate::acts::{act_sub, not_held, side_of_act};
+use crate::path_turns::turn_at;
 use crate::posting::post;
 use crate::sharing::restart;
 use crate::tables::engaged_for;
@@ -98,8 +100,15 @@ impl Model for Machine {
 }
 
 impl Machine {
+    /// How many subchannels there are.
+    pub fn count(&self) -> usize
+        ensures { result ≡ length self.now.subs }
+    {
+        self.subs.len()
+    }
+
     /// The place of the subchannel that a subsystem-identification word names.
-    fn place_of(&self, places: &Places, word: u32) -> Option<usize>
+    pub fn place_of(&self, places: &Places, word: u32) -> Option<usize>
         requires fits { Fits places.now self.now.subs }
         ensures place { result ≡ state_spec.place_of self.now word }
         ensures bound { IfSome result (λ place. place < length self.now.subs) }
@@ -119,6 +128,23 @@ impl Machine {
             None => None,
             Some(place) => Some(self.subs[place].state.serials),
         }
+    }
+
+    /// The serials of the subchannel at a place.
+    pub fn serials_at(&self, place: usize) -> Option<Serials>
+        ensures { result ≡ state_spec.serials_in (slice_get self.now.subs place) }
+    {
+        Some(self.subs.get(place)?.state.serials)
+    }
+
+    /// The event of a path worker's turn for the subchannel that a word names, on the channel path of this identifier.
+    pub fn path_turn(&self, places: &Places, word: u32, chpid: u8) -> Option<Event>
+        requires fits { Fits places.now self.now.subs }
+        ensures { result ≡ turn_spec.path_turn_of self.now word chpid }
+    {
+        let place = self.place_of(places, word)?;
+        let counted = Counted::of(self.subs.as_slice(), &self.engines);
+        turn_at(&counted, &self.subs[place], word, chpid)
     }
 
     /// What a unit is to do next.

@@ -80,7 +80,7 @@ fn taken_from(places: &Places, unit: usize, side: Side, subs: &[Subchannel]) -> 
 }
 
 /// The first of the paths, in cyclic order of 8 from this one.
-fn cyclic_path(paths: &PathSet, from: u64) -> Option<u32>
+pub fn cyclic_path(paths: &PathSet, from: u64) -> Option<u32>
     ensures { result ≡ state_spec.cyclic_path paths.now 8 from }
 {
     let mut next = (from % 8) as u32;

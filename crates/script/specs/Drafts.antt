@@ -1,11 +1,11 @@
 -- What stands after the first lines of a script, as the code keeps it.
-use Rattle.std.specs.Prelude.{◌≡◌, ℕ, ◌||◌, List, ◌++◌, take, Result}
+use Rattle.std.specs.Prelude.{◌≡◌, ℕ, Bool, ◌||◌, List, ◌++◌, take, Result}
 use Rattle.std.specs.List.{list_any, flat_map}
 use Rattle.channel_config.specs.Setup.{no_setup}
 use Rattle.script.specs.declared.said.Said.{Said}
 use Rattle.script.specs.declared.draft.Draft.{Draft}
 use Rattle.script.specs.Saying.{said, has_words}
-use Rattle.script.specs.Scripts.{Context, setting_of, action_of, is_action, set_up, actions_from, AreClean}
+use Rattle.script.specs.Scripts.{Context, setting_of, action_of, race_of, is_action, set_up, actions_from, latest, race_from, AreClean}
 
 abbrev pub context : Draft → Context
 context d = record { begun = d.begun; acted = d.acted; setup = d.config }
@@ -16,17 +16,20 @@ pub record Hears (old : Draft) (number : ℕ) (what : Result Said ℕ) (new : Dr
   pub acted : new.acted ≡ (old.acted || is_action what)
   pub setup : new.config ≡ set_up old.config (setting_of what)
   pub lines : new.lines.items ≡ old.lines.items ++ action_of number what
+  pub race : new.race ≡ latest old.race (race_of number what)
 
 pub record IsNext (old : Draft) (number : ℕ) (line : List ℕ) (new : Draft) : Type 0 where
   pub begun : new.begun ≡ (old.begun || has_words line)
   pub acted : new.acted ≡ (old.acted || is_action (said line))
   pub setup : new.config ≡ set_up old.config (setting_of (said line))
   pub lines : new.lines.items ≡ old.lines.items ++ action_of number (said line)
+  pub race : new.race ≡ latest old.race (race_of number (said line))
 
 -- the first i of the lines of a text, all clean, made this
-pub record IsDraftOf (text : List (List ℕ)) (i : ℕ) (d : Draft) : Type 0 where
-  pub clean : AreClean text i
+pub record IsDraftOf (races : Bool) (text : List (List ℕ)) (i : ℕ) (d : Draft) : Type 0 where
+  pub clean : AreClean races text i
   pub begun : d.begun ≡ list_any has_words (take i text)
   pub acted : d.acted ≡ list_any (λ line. is_action (said line)) (take i text)
   pub setup : d.config ≡ set_up no_setup (flat_map (λ line. setting_of (said line)) (take i text))
   pub lines : d.lines.items ≡ actions_from 1 (take i text)
+  pub race : d.race ≡ race_from 1 (take i text)

@@ -3,17 +3,27 @@ use Rattle.std.specs.Prelude.{ℕ, ◌==◌, Bool, false, not, ◌||◌, nat_lt,
 use Rattle.std.specs.Str.{is_utf8, bytes_eq}
 use Rattle.script_rows.specs.declared.settings.Setting.{Setting}
 use Rattle.script_rows.specs.declared.Action.{Action}
+use Rattle.script_rows.specs.declared.race.Race.{Race}
 use Rattle.script.specs.declared.said.Said.{Said}
-use Rattle.script.specs.declared.said.Said.TheVariants.{Nothing, Sets, Does}
+use Rattle.script.specs.declared.said.Said.TheVariants.{Nothing, Sets, Does, Races}
 use Rattle.script.specs.Pieces.{words_between_blanks}
 use Rattle.script_rows.specs.Settings.{setting_row}
 use Rattle.script_rows.specs.Actions.{action_row}
+use Rattle.script_rows.specs.Races.{race_row}
 
 -- rule 1: the first word is unknown
 abbrev pub action_said : Option (Result Action ℕ) → Result Said ℕ
 action_said None = Err 1
 action_said (Some (Ok action)) = Ok (Does action)
 action_said (Some (Err rule)) = Err rule
+
+abbrev pub race_said : Result Race ℕ → Result Said ℕ
+race_said (Ok race) = Ok (Races race)
+race_said (Err rule) = Err rule
+
+-- a line that drives a machine
+abbrev pub drive_said : List ℕ → List (List ℕ) → Result Said ℕ
+drive_said w ws = if bytes_eq w (codes "race") then race_said (race_row ws) else action_said (action_row w ws)
 
 abbrev pub setting_said : Option (Result Setting ℕ) → Result Said ℕ → Result Said ℕ
 setting_said None other = other
@@ -22,7 +32,7 @@ setting_said (Some (Err rule)) other = Err rule
 
 abbrev pub words_say : List (List ℕ) → Result Said ℕ
 words_say [] = Err 1
-words_say (w ∷ ws) = setting_said (setting_row w ws) (action_said (action_row w ws))
+words_say (w ∷ ws) = setting_said (setting_row w ws) (drive_said w ws)
 
 -- a line that is neither empty nor a comment
 abbrev pub has_words : List ℕ → Bool

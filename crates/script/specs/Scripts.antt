@@ -1,11 +1,12 @@
 -- What a script is, and where it is bad (own).
-use Rattle.std.specs.Prelude.{◌≡◌, ℕ, ◌+◌, ◌<◌, Bool, true, false, not, ◌&&◌, List, [], ◌∷◌, ◌++◌, length, take, slice_index_or, Option, Some, None, Result, Ok, Err, ◌⊎◌, if◌then◌else◌}
+use Rattle.std.specs.Prelude.{◌≡◌, ℕ, ◌+◌, ◌<◌, Bool, true, false, not, ◌&&◌, List, [], ◌∷◌, ◌++◌, length, take, drop, slice_index_or, Option, Some, None, Result, Ok, Err, ◌⊎◌, if◌then◌else◌}
 use Rattle.std.specs.List.{list_any, flat_map}
 use Rattle.channel_config.specs.Setup.{Setup, no_setup}
 use Rattle.script_rows.specs.declared.settings.Setting.{Setting}
 use Rattle.script.specs.declared.said.Said.{Said}
-use Rattle.script.specs.declared.said.Said.TheVariants.{Nothing, Sets, Does}
+use Rattle.script.specs.declared.said.Said.TheVariants.{Nothing, Sets, Does, Races}
 use Rattle.script.specs.declared.Line.{Line}
+use Rattle.script.specs.declared.RaceLine.{RaceLine}
 use Rattle.script.specs.Pieces.{words_between_blanks}
 use Rattle.script_rows.specs.Settings.{configured}
 use Rattle.script.specs.Saying.{has_words, said, first_is_storage}
@@ -15,6 +16,7 @@ abbrev pub setting_of : Result Said ℕ → List Setting
 setting_of (Ok Nothing) = []
 setting_of (Ok (Sets setting)) = setting ∷ []
 setting_of (Ok (Does action)) = []
+setting_of (Ok (Races race)) = []
 setting_of (Err rule) = []
 
 -- the actions of a line, none or one, under its number
@@ -22,12 +24,23 @@ abbrev pub action_of : ℕ → Result Said ℕ → List Line
 action_of n (Ok Nothing) = []
 action_of n (Ok (Sets setting)) = []
 action_of n (Ok (Does action)) = record { number = n; action = action } ∷ []
+action_of n (Ok (Races race)) = []
 action_of n (Err rule) = []
 
+-- the race of a line, under its number
+abbrev pub race_of : ℕ → Result Said ℕ → Option RaceLine
+race_of n (Ok Nothing) = None
+race_of n (Ok (Sets setting)) = None
+race_of n (Ok (Does action)) = None
+race_of n (Ok (Races race)) = Some (record { number = n; race = race })
+race_of n (Err rule) = None
+
+-- a line that drives the machine
 abbrev pub is_action : Result Said ℕ → Bool
 is_action (Ok Nothing) = false
 is_action (Ok (Sets setting)) = false
 is_action (Ok (Does action)) = true
+is_action (Ok (Races race)) = true
 is_action (Err rule) = false
 
 -- the set-up as these settings make it one by one
@@ -43,6 +56,15 @@ set_up s (x ∷ xs) = set_up (setup_kept s (configured s x)) xs
 abbrev pub actions_from : ℕ → List (List ℕ) → List Line
 actions_from n [] = []
 actions_from n (line ∷ lines) = action_of n (said line) ++ actions_from (n + 1) lines
+
+-- the race of the lines, the first of which has the number n; a later one counts, where there were several
+abbrev pub latest : Option RaceLine → Option RaceLine → Option RaceLine
+latest earlier None = earlier
+latest earlier (Some race) = Some race
+
+abbrev pub race_from : ℕ → List (List ℕ) → Option RaceLine
+race_from n [] = None
+race_from n (line ∷ lines) = latest (race_of n (said line)) (race_from (n + 1) lines)
 
 -- what the lines before a line decide about it: whether some had words, whether some drove the machine, and the set-up
 pub record Context : Type 0 where
@@ -62,49 +84,62 @@ abbrev pub refused_setting : Result Setup ℕ → Option ℕ
 refused_setting (Ok s) = None
 refused_setting (Err rule) = Some 5
 
-abbrev pub broken_by : Context → Result Said ℕ → Option ℕ
-broken_by c (Err rule) = Some rule
-broken_by c (Ok Nothing) = None
-broken_by c (Ok (Sets setting)) = if c.acted then Some 4 else refused_setting (configured c.setup setting)
-broken_by c (Ok (Does action)) = None
+-- 7: a race where none may be
+abbrev pub refused_race : Bool → Option ℕ
+refused_race true = None
+refused_race false = Some 7
 
--- the first rule, in the order 6, 1 to 5, that a line breaks after these lines; 6: the first line with words is no `storage` line
-abbrev pub fault : Context → List ℕ → Option ℕ
-fault c line = if has_words line && (not c.begun && not (first_is_storage (words_between_blanks line))) then Some 6 else broken_by c (said line)
+-- a race may be where the command lets it, in the last line that has words
+abbrev pub may_race : Bool → List (List ℕ) → Bool
+may_race races later = races && not (list_any has_words later)
+
+abbrev pub broken_by : Context → Bool → Result Said ℕ → Option ℕ
+broken_by c may (Err rule) = Some rule
+broken_by c may (Ok Nothing) = None
+broken_by c may (Ok (Sets setting)) = if c.acted then Some 4 else refused_setting (configured c.setup setting)
+broken_by c may (Ok (Does action)) = None
+broken_by c may (Ok (Races race)) = refused_race may
+
+-- the first rule, in the order 6, 1 to 5, 7, that a line breaks after these lines; 6: the first line with words is no `storage` line
+abbrev pub fault : Context → Bool → List ℕ → Option ℕ
+fault c may line = if has_words line && (not c.begun && not (first_is_storage (words_between_blanks line))) then Some 6 else broken_by c may (said line)
 
 -- the same of the line with n lines before it
-abbrev pub fault_at : List (List ℕ) → ℕ → Option ℕ
-fault_at lines n = fault (context_of (take n lines)) (slice_index_or lines n [])
+abbrev pub fault_at : Bool → List (List ℕ) → ℕ → Option ℕ
+fault_at races lines n = fault (context_of (take n lines)) (may_race races (drop (n + 1) lines)) (slice_index_or lines n [])
 
 -- the first n lines break no rule
-abbrev pub AreClean : List (List ℕ) → ℕ → Type 0
-AreClean lines n = (k : ℕ) → k < n → fault_at lines k ≡ None
+abbrev pub AreClean : Bool → List (List ℕ) → ℕ → Type 0
+AreClean races lines n = (k : ℕ) → k < n → fault_at races lines k ≡ None
 
 -- a script as it is read
 pub record ScriptContents : Type 0 where
   pub setup : Setup
   pub lines : List Line
+  pub race : Option RaceLine
 
--- the script that lines are
-pub record IsScript (text : List (List ℕ)) (s : ScriptContents) : Type 0 where
+-- the script that lines are; `races` says that the command lets the last line race
+pub record IsScript (races : Bool) (text : List (List ℕ)) (s : ScriptContents) : Type 0 where
   -- no line breaks a rule
-  pub clean : AreClean text (length text)
+  pub clean : AreClean races text (length text)
   -- some line has words, so `storage` comes first
   pub begun : list_any has_words text ≡ true
   -- the settings in order make the set-up, and the actions stand in order under the numbers of their lines
   pub setup : s.setup ≡ set_up no_setup (flat_map (λ line. setting_of (said line)) text)
   pub lines : s.lines ≡ actions_from 1 text
+  -- the race, where there is one, stands in the last line
+  pub race : s.race ≡ race_from 1 text
 
 -- the line (from 1) is the first that breaks a rule, and the rule the first that it breaks
-pub record IsFirstBad (text : List (List ℕ)) (line rule : ℕ) : Type 0 where
+pub record IsFirstBad (races : Bool) (text : List (List ℕ)) (line rule : ℕ) : Type 0 where
   pub before : ℕ
   pub number : line ≡ before + 1
   pub within : before < length text
-  pub clean : AreClean text before
-  pub broken : fault_at text before ≡ Some rule
+  pub clean : AreClean races text before
+  pub broken : fault_at races text before ≡ Some rule
 
 -- where no line has words, line 1 breaks rule 6
-abbrev pub IsBad : List (List ℕ) → ℕ → ℕ → Type 0
-IsBad text line rule =
-    ((list_any has_words text ≡ true) × IsFirstBad text line rule)
+abbrev pub IsBad : Bool → List (List ℕ) → ℕ → ℕ → Type 0
+IsBad races text line rule =
+    ((list_any has_words text ≡ true) × IsFirstBad races text line rule)
     ⊎ ((list_any has_words text ≡ false) × (line ≡ 1) × (rule ≡ 6))

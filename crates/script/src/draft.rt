@@ -5,11 +5,11 @@ ghost use Rattle.script.specs.Pieces.{words_between_blanks};
 ghost use Rattle.script.specs.Saying.{first_is_storage};
 ghost use Rattle.script.specs.Scripts as spec;
 ghost use Rattle.script.specs.Drafts.{context, Hears, IsNext, IsDraftOf};
-ghost use Rattle.script.specs.Reading.{BreaksRule, BadIn};
+ghost use Rattle.script.specs.Reading.{BreaksRule, BadIn, bad_by};
 
 use crate::pieces::pieces;
 use crate::said::{Said, has_words, say};
-use crate::{Line, ScriptBad};
+use crate::{Line, RaceLine, ScriptBad, some_have_words};
 use channel_config::config::{Config, ConfigFault};
 use script_rows::settings::configure;
 use script_rows::words::LineFault;
@@ -23,6 +23,7 @@ pub struct Draft {
     pub begun: bool,
     pub acted: bool,
     pub lines: Vec<Line>,
+    pub race: Option<RaceLine>,
 }
 
 /// Whether the line's first word is `storage`.
@@ -41,16 +42,25 @@ fn begins<S: Supply>(alloc: Global, supply: &mut S, line: &[u8]) -> Result<bool,
     }
 }
 
-/// Takes what a line says.
+/// Whether a race may be, before these lines; `races` says that the command lets it.
+fn may_race(races: bool, later: &[&[u8]]) -> bool
+    ensures { result ≡ spec.may_race races (map (λ l. l.now) later.now) }
+{
+    races && !some_have_words(later)
+}
+
+/// Takes what a line says, before these lines.
 fn hear<S: Supply>(
     supply: &mut S,
     draft: &mut Draft,
     number: u64,
     said: Said,
+    races: bool,
+    later: &[&[u8]],
 ) -> Result<(), LineFault>
-    ensures ok { OnOk result ((spec.broken_by (context draft.old) (Ok said) ≡ None) ×
+    ensures ok { OnOk result ((spec.broken_by (context draft.old) (spec.may_race races (map (λ l. l.now) later.now)) (Ok said) ≡ None) ×
         Hears draft.old number (Ok said) draft.new) }
-    ensures err { IfErr result (λ f. BreaksRule f (spec.broken_by (context draft.old) (Ok said))) }
+    ensures err { IfErr result (λ f. BreaksRule f (spec.broken_by (context draft.old) (spec.may_race races (map (λ l. l.now) later.now)) (Ok said))) }
     ensures given { OnOk result (S.refused supply.new ≡ S.refused supply.old) }
     ensures memory { result ≡ Err LineFault.NoMemory → S.refused supply.new ≡ true }
 {
@@ -72,6 +82,14 @@ fn hear<S: Supply>(
             draft.acted = true;
             Ok(())
         }
+        Said::Races(race) => {
+            if !may_race(races, later) {
+                return Err(LineFault::Rule(7));
+            }
+            draft.race = Some(RaceLine { number, race });
+            draft.acted = true;
+            Ok(())
+        }
     }
 }
 
@@ -83,17 +101,19 @@ fn add_line(lines: &mut Vec<Line>, line: Line)
     lines.push_reserved(line);
 }
 
-/// Takes one line.
+/// Takes one line, before these lines.
 fn take_line<S: Supply>(
     alloc: Global,
     supply: &mut S,
     draft: &mut Draft,
     number: u64,
     line: &[u8],
+    races: bool,
+    later: &[&[u8]],
 ) -> Result<(), LineFault>
-    ensures ok { OnOk result ((spec.fault (context draft.old) line.now ≡ None) ×
+    ensures ok { OnOk result ((spec.fault (context draft.old) (spec.may_race races (map (λ l. l.now) later.now)) line.now ≡ None) ×
         IsNext draft.old number line.now draft.new) }
-    ensures err { IfErr result (λ f. BreaksRule f (spec.fault (context draft.old) line.now)) }
+    ensures err { IfErr result (λ f. BreaksRule f (spec.fault (context draft.old) (spec.may_race races (map (λ l. l.now) later.now)) line.now)) }
     ensures given { OnOk result (S.refused supply.new ≡ S.refused supply.old) }
     ensures memory { result ≡ Err LineFault.NoMemory → S.refused supply.new ≡ true }
 {
@@ -102,19 +122,31 @@ fn take_line<S: Supply>(
         return Err(LineFault::Rule(6));
     }
     let said = say(alloc, supply, line)?;
-    hear(supply, draft, number, said)?;
+    hear(supply, draft, number, said, races, later)?;
     draft.begun = draft.begun | worded;
     Ok(())
+}
+
+/// What is bad in the line of this number.
+fn bad_line(number: u64, fault: LineFault) -> ScriptBad
+    ensures bad { result ≡ bad_by number fault }
+    ensures memory { result ≡ ScriptBad.NoMemory → fault ≡ LineFault.NoMemory }
+{
+    match fault {
+        LineFault::NoMemory => ScriptBad::NoMemory,
+        LineFault::Rule(rule) => ScriptBad::Bad { line: number, rule },
+    }
 }
 
 /// Takes all lines, or answers the first bad one.
 pub fn draft_of<S: Supply>(
     alloc: Global,
     supply: &mut S,
+    races: bool,
     lines: &[&[u8]],
 ) -> Result<Draft, ScriptBad>
-    ensures good { IfOk result (λ d. IsDraftOf (map (λ l. l.now) lines.now) (length lines.now) d) }
-    ensures bad { IfErr result (λ b. BadIn b (map (λ l. l.now) lines.now)) }
+    ensures good { IfOk result (λ d. IsDraftOf races (map (λ l. l.now) lines.now) (length lines.now) d) }
+    ensures bad { IfErr result (λ b. BadIn b races (map (λ l. l.now) lines.now)) }
     ensures given { OnOk result (S.refused supply.new ≡ S.refused supply.old) }
     ensures memory { result ≡ Err ScriptBad.NoMemory → S.refused supply.new ≡ true }
 {
@@ -123,13 +155,14 @@ pub fn draft_of<S: Supply>(
         begun: false,
         acted: false,
         lines: Vec::new(alloc),
+        race: None,
     };
     for (i, line) in lines.iter().enumerate() {
         let number = i as u64 + 1;
-        match take_line(alloc, supply, &mut draft, number, line) {
+        let later = &lines[i + 1..];
+        match take_line(alloc, supply, &mut draft, number, line, races, later) {
             Ok(()) => {}
-            Err(LineFault::NoMemory) => return Err(ScriptBad::NoMemory),
-            Err(LineFault::Rule(rule)) => return Err(ScriptBad::Bad { line: number, rule }),
+            Err(fault) => return Err(bad_line(number, fault)),
         }
     }
     Ok(draft)

@@ -17,6 +17,7 @@ use crate::pieces::pieces;
 use crate::said::has_words;
 use channel_config::config::Config;
 use script_rows::Action;
+use script_rows::race::Race;
 use std::alloc::Global;
 use std::marker::Model;
 use supply::{Given, Supply};
@@ -26,6 +27,13 @@ use supply::{Given, Supply};
 pub struct Line {
     pub number: u64,
     pub action: Action,
+}
+
+/// The race that the last line asks for, and the number of that line.
+#[derive(Clone, Copy, Debug)]
+pub struct RaceLine {
+    pub number: u64,
+    pub race: Race,
 }
 
 /// Why there is no script.
@@ -42,6 +50,7 @@ pub enum ScriptBad {
 pub struct Script {
     config: Config,
     lines: Vec<Line>,
+    race: Option<RaceLine>,
 }
 
 impl Model for Script {
@@ -49,39 +58,40 @@ impl Model for Script {
 
     ghost Value = { ScriptContents };
 
-    ghost view = { λ s. record { setup = s.config; lines = s.lines.items } };
+    ghost view = { λ s. record { setup = s.config; lines = s.lines.items; race = s.race } };
 }
 
 impl Script {
     /// The script that a text is, as `read_with` reads it, in what room the allocator has.
-    pub fn read(alloc: Global, text: &[u8]) -> Result<Script, ScriptBad>
-        ensures good { IfOk result (λ s. IsScript (lines_of text.now) s) }
-        ensures bad { IfErr result (λ b. BadAt b (lines_of text.now)) }
+    pub fn read(alloc: Global, races: bool, text: &[u8]) -> Result<Script, ScriptBad>
+        ensures good { IfOk result (λ s. IsScript races (lines_of text.now) s) }
+        ensures bad { IfErr result (λ b. BadAt b races (lines_of text.now)) }
     {
-        Script::read_with(alloc, &mut Given { refused: false }, text)
+        Script::read_with(alloc, &mut Given { refused: false }, races, text)
     }
 
     /// The script that a text is, else the first line that breaks a rule and the first rule that it breaks. There is no
-    /// memory only where the supply refused a growth.
+    /// memory only where the supply refused a growth. `races`: the last line may ask for a race.
     ///
     /// Rule 1: the first word is unknown. 2: a wrong number of words. 3: a bad number or other word, or a line of more
     /// than 1,024 bytes or not of UTF-8. 4: a configuration line after an action. 5: a rule of configurations is
     /// broken. 6, before all others of its line: the first line with words is no `storage` line; line 1 where no line
-    /// has words.
+    /// has words. 7: a race where none is allowed, or with words in a later line.
     pub fn read_with<S: Supply>(
         alloc: Global,
         supply: &mut S,
+        races: bool,
         text: &[u8],
     ) -> Result<Script, ScriptBad>
-        ensures good { IfOk result (λ s. IsScript (lines_of text.now) s) }
-        ensures bad { IfErr result (λ b. BadAt b (lines_of text.now)) }
+        ensures good { IfOk result (λ s. IsScript races (lines_of text.now) s) }
+        ensures bad { IfErr result (λ b. BadAt b races (lines_of text.now)) }
         ensures given { OnOk result (S.refused supply.new ≡ S.refused supply.old) }
         ensures memory { result ≡ Err ScriptBad.NoMemory → S.refused supply.new ≡ true }
     {
         let Ok(lines) = pieces(alloc, supply, text, b'\n') else {
             return Err(ScriptBad::NoMemory);
         };
-        script_of(alloc, supply, lines.as_slice())
+        script_of(alloc, supply, races, lines.as_slice())
     }
 
     /// The configuration.
@@ -98,6 +108,13 @@ impl Script {
         self.lines.as_slice()
     }
 
+    /// The race of the last line, where it asks for one.
+    pub fn race(&self) -> Option<RaceLine>
+        ensures { result ≡ self.now.race }
+    {
+        self.race
+    }
+
     /// The configuration and the actions apart.
     pub fn into_parts(self) -> (Config, Vec<Line>)
         ensures config { result.0 ≡ self.setup }
@@ -108,24 +125,30 @@ impl Script {
 }
 
 /// The script that these lines are.
-fn script_of<S: Supply>(alloc: Global, supply: &mut S, lines: &[&[u8]]) -> Result<Script, ScriptBad>
-    ensures good { IfOk result (λ s. IsScript (map (λ l. l.now) lines.now) s) }
-    ensures bad { IfErr result (λ b. BadAt b (map (λ l. l.now) lines.now)) }
+fn script_of<S: Supply>(
+    alloc: Global,
+    supply: &mut S,
+    races: bool,
+    lines: &[&[u8]],
+) -> Result<Script, ScriptBad>
+    ensures good { IfOk result (λ s. IsScript races (map (λ l. l.now) lines.now) s) }
+    ensures bad { IfErr result (λ b. BadAt b races (map (λ l. l.now) lines.now)) }
     ensures given { OnOk result (S.refused supply.new ≡ S.refused supply.old) }
     ensures memory { result ≡ Err ScriptBad.NoMemory → S.refused supply.new ≡ true }
 {
     if !some_have_words(lines) {
         return Err(ScriptBad::Bad { line: 1, rule: 6 });
     }
-    let draft = draft_of(alloc, supply, lines)?;
+    let draft = draft_of(alloc, supply, races, lines)?;
     Ok(Script {
         config: draft.config,
         lines: draft.lines,
+        race: draft.race,
     })
 }
 
 /// Whether some line has words.
-fn some_have_words(lines: &[&[u8]]) -> bool
+pub(crate) fn some_have_words(lines: &[&[u8]]) -> bool
     ensures { result ≡ list_any (λ l. words_stand l.now) lines.now }
 {
     lines.iter().any(|line| has_words(line))

@@ -8,6 +8,7 @@ ghost use Rattle.script_rows.specs.Faults.{FaultOf};
 use crate::pieces::pieces;
 use script_rows::Action;
 use script_rows::actions::action_row;
+use script_rows::race::{Race, race_row};
 use script_rows::settings::{Setting, setting_row};
 use script_rows::words::LineFault;
 use std::alloc::Global;
@@ -23,6 +24,21 @@ pub enum Said {
     Nothing,
     Sets(Setting),
     Does(Action),
+    Races(Race),
+}
+
+/// What the words of a line say that drives the machine, or the rule that they break.
+fn drive_said(word: &[u8], words: &[&[u8]]) -> Result<Said, u8>
+    ensures { result ≡ spec.drive_said word.now (map (λ w. w.now) words.now) }
+{
+    if word == b"race".as_slice() {
+        return Ok(Said::Races(race_row(words)?));
+    }
+    match action_row(word, words) {
+        Some(Ok(action)) => Ok(Said::Does(action)),
+        Some(Err(rule)) => Err(rule),
+        None => Err(1),
+    }
 }
 
 /// What the words of a line say: by the first of them.
@@ -38,11 +54,7 @@ fn words_say<S: Supply>(alloc: Global, supply: &mut S, words: &[&[u8]]) -> Resul
     match setting_row(alloc, supply, first, others) {
         Some(Ok(setting)) => Ok(Said::Sets(setting)),
         Some(Err(fault)) => Err(fault),
-        None => match action_row(first, others) {
-            Some(Ok(action)) => Ok(Said::Does(action)),
-            Some(Err(rule)) => Err(LineFault::Rule(rule)),
-            None => Err(LineFault::Rule(1)),
-        },
+        None => drive_said(first, others).map_err(LineFault::Rule),
     }
 }
 

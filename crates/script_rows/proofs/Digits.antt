@@ -15,6 +15,17 @@ digit_fits (suc (suc (suc (suc (suc (suc zero)))))) v d l h k = omega arith
 digit_fits (suc (suc (suc (suc (suc (suc (suc zero))))))) v d l h k = omega arith
 digit_fits (suc (suc (suc (suc (suc (suc (suc (suc i)))))))) v d l h k = absurd (omega arith)
 
+pub decimal_fits : (i v d : ℕ) → i < 8 → v < 10 ^ i → d < 10 → v * 10 + d < 2 ^ 32
+decimal_fits zero v d l h k = omega arith
+decimal_fits (suc zero) v d l h k = omega arith
+decimal_fits (suc (suc zero)) v d l h k = omega arith
+decimal_fits (suc (suc (suc zero))) v d l h k = omega arith
+decimal_fits (suc (suc (suc (suc zero)))) v d l h k = omega arith
+decimal_fits (suc (suc (suc (suc (suc zero))))) v d l h k = omega arith
+decimal_fits (suc (suc (suc (suc (suc (suc zero)))))) v d l h k = omega arith
+decimal_fits (suc (suc (suc (suc (suc (suc (suc zero))))))) v d l h k = omega arith
+decimal_fits (suc (suc (suc (suc (suc (suc (suc (suc i)))))))) v d l h k = absurd (omega arith)
+
 glued : (r : Option (List ℕ)) (front : List ℕ) (x : ℕ)
     → and_then (and_then r (λ bs. Some (x ∷ bs))) (λ bs. Some (front ++ bs)) ≡ and_then r (λ bs. Some ((front ++ x ∷ []) ++ bs))
 glued None front x = refl

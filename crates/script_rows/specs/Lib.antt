@@ -2,3 +2,4 @@ pub mod Words
 pub mod Settings
 pub mod Actions
 pub mod Faults
+pub mod Races

@@ -23,6 +23,21 @@ number word = if nat_lt 0 (length word) && nat_le (length word) 8 then hex_from 
 abbrev pub number_up_to : ℕ → List ℕ → Option ℕ
 number_up_to most word = and_then (number word) (λ n. if nat_le n most then Some n else None)
 
+-- a number of 1 to 8 decimal digits
+abbrev pub decimal_value : ℕ → Option ℕ
+decimal_value b = if nat_le 48 b && nat_le b 57 then Some (b - 48) else None
+
+abbrev pub decimal_from : ℕ → List ℕ → Option ℕ
+decimal_from high [] = Some high
+decimal_from high (b ∷ bs) = and_then (decimal_value b) (λ d. decimal_from (high * 10 + d) bs)
+
+abbrev pub decimal_number : List ℕ → Option ℕ
+decimal_number word = if nat_lt 0 (length word) && nat_le (length word) 8 then decimal_from 0 word else None
+
+-- how often, from once to so many times, in decimal
+abbrev pub times_up_to : ℕ → List ℕ → Option ℕ
+times_up_to most word = and_then (decimal_number word) (λ n. if nat_le 1 n && nat_le n most then Some n else None)
+
 -- each word is a number
 abbrev pub numbers_of : List (List ℕ) → Option (List ℕ)
 numbers_of [] = Some []
@@ -74,6 +89,14 @@ three_of (a ∷ b ∷ []) = None
 three_of (a ∷ b ∷ c ∷ []) = Some (a, b, c)
 three_of (a ∷ b ∷ c ∷ d ∷ rest) = None
 
+abbrev pub four_of : List (List ℕ) → Option (List ℕ × List ℕ × List ℕ × List ℕ)
+four_of [] = None
+four_of (a ∷ []) = None
+four_of (a ∷ b ∷ []) = None
+four_of (a ∷ b ∷ c ∷ []) = None
+four_of (a ∷ b ∷ c ∷ d ∷ []) = Some (a, b, c, d)
+four_of (a ∷ b ∷ c ∷ d ∷ e ∷ rest) = None
+
 -- rows of so many words, which say what they say where each word is what it should be
 abbrev pub with_one : {A : Type 0} → (List ℕ → Option A) → List (List ℕ) → Result A ℕ
 with_one says words = or_rule_2 (one_of words) (λ a. or_rule_3 (says a))
@@ -83,3 +106,6 @@ with_two says words = or_rule_2 (two_of words) (λ p. or_rule_3 (says p.0 p.1))
 
 abbrev pub with_three : {A : Type 0} → (List ℕ → List ℕ → List ℕ → Option A) → List (List ℕ) → Result A ℕ
 with_three says words = or_rule_2 (three_of words) (λ p. or_rule_3 (says p.0 p.1 p.2))
+
+abbrev pub with_four : {A : Type 0} → (List ℕ → List ℕ → List ℕ → List ℕ → Option A) → List (List ℕ) → Result A ℕ
+with_four says words = or_rule_2 (four_of words) (λ p. or_rule_3 (says p.0 p.1 p.2 p.3))

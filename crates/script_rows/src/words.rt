@@ -121,6 +121,50 @@ pub(crate) fn number_up_to(most: u32, word: &[u8]) -> Option<u32>
     }
 }
 
+fn decimal_value(byte: u8) -> Option<u8>
+    ensures value { result ≡ spec.decimal_value byte }
+    ensures small { IfSome result (λ d. d < 10) }
+{
+    match byte {
+        b'0'..=b'9' => Some(byte - b'0'),
+        _ => None,
+    }
+}
+
+fn decimal_from(word: &[u8]) -> Option<u32>
+    requires { length word.now ≤ 8 }
+    ensures { result ≡ spec.decimal_from 0 word.now }
+{
+    let mut value = 0;
+    for byte in word {
+        match decimal_value(*byte) {
+            Some(digit) => value = value * 10 + u32::from(digit),
+            None => return None,
+        }
+    }
+    Some(value)
+}
+
+/// A number of 1 to 8 decimal digits.
+fn decimal_number(word: &[u8]) -> Option<u32>
+    ensures { result ≡ spec.decimal_number word.now }
+{
+    if word.is_empty() || word.len() > 8 {
+        return None;
+    }
+    decimal_from(word)
+}
+
+/// How often: a decimal number from 1 to `most`.
+pub(crate) fn times_up_to(most: u32, word: &[u8]) -> Option<u32>
+    ensures { result ≡ spec.times_up_to most word.now }
+{
+    match decimal_number(word) {
+        Some(n) if 1 <= n && n <= most => Some(n),
+        _ => None,
+    }
+}
+
 /// The numbers of all these words, or rule 3.
 pub(crate) fn numbers_of<S: Supply>(
     alloc: Global,
@@ -227,5 +271,20 @@ pub(crate) fn three<'a>(words: &[&'a [u8]]) -> Option<(&'a [u8], &'a [u8], &'a [
         [_, _] => None,
         [first, second, third] => Some((*first, *second, *third)),
         [_, _, _, _, ..] => None,
+    }
+}
+
+/// The only four words.
+pub(crate) fn four<'a>(words: &[&'a [u8]]) -> Option<(&'a [u8], &'a [u8], &'a [u8], &'a [u8])>
+    ensures { MatchOption result (spec.four_of (map (λ w. w.now) words.now) ≡ None)
+        (λ p. spec.four_of (map (λ w. w.now) words.now) ≡ Some (p.0.now, p.1.now, p.2.now, p.3.now)) }
+{
+    match words {
+        [] => None,
+        [_] => None,
+        [_, _] => None,
+        [_, _, _] => None,
+        [first, second, third, fourth] => Some((*first, *second, *third, *fourth)),
+        [_, _, _, _, _, ..] => None,
     }
 }

@@ -25,6 +25,7 @@ use Rattle.chan_events.specs.declared.reply.Reply.TheVariants as reply
 use Rattle.chan_model.specs.declared.fault.Fault.{Fault}
 use Rattle.chan_model.specs.declared.fault.Fault.TheVariants as fault
 use Rattle.script_text.specs.declared.ActionResult.{ActionResult}
+use Rattle.script_text.specs.declared.race.RaceCount.{RaceCount}
 use Rattle.script_text.specs.declared.ActionResult.TheVariants as told
 
 -- 0 to 9 and A to F
@@ -154,9 +155,22 @@ refusal_text fault.Operand = codes "refused 11"
 abbrev pub serials_text : Serials → List ℕ
 serials_text serials = codes "made " ++ decimal serials.made ++ codes " cleared " ++ decimal serials.cleared
 
+-- a race: how many instructions answered each condition code, how many entries the history has of it, and the audit
+abbrev pub race_codes_text : RaceCount → List ℕ
+race_codes_text race =
+    codes "race cc0 " ++ decimal race.zero ++ codes " cc1 " ++ decimal race.one
+    ++ (codes " cc2 " ++ decimal race.two ++ codes " cc3 " ++ decimal race.three)
+
+abbrev pub audit_text : Bool → List ℕ
+audit_text audited = if audited then codes " audit ok" else codes " audit failed"
+
+abbrev pub race_text : RaceCount → List ℕ
+race_text race = race_codes_text race ++ (codes " entries " ++ decimal race.entries ++ audit_text race.audited)
+
 abbrev pub told_text : ActionResult → List ℕ
 told_text (told.Reply it) = reply_text it
 told_text (told.Serials it) = serials_text it
+told_text (told.Race it) = race_text it
 
 abbrev pub outcome_text : Result ActionResult Fault → List ℕ
 outcome_text (Ok it) = told_text it

@@ -11,8 +11,12 @@ ghost use Rattle.script_text.specs.Text as spec;
 ghost use Rattle.streams.specs.Sinks.{Puts};
 
 pub mod held;
+mod race;
+
+pub use race::RaceCount;
 
 use crate::held::Held;
+use crate::race::put_race;
 use chan_events::reply::{PATH_STATUS_BYTES, Reply, report_word};
 use chan_model::answer::{Answer, ConditionCode};
 use chan_model::fault::Fault;
@@ -33,6 +37,8 @@ pub enum ActionResult {
     Reply(Reply),
     /// How many statuses a subchannel made, and how many of these are cleared.
     Serials(Serials),
+    /// What a race came to.
+    Race(RaceCount),
 }
 
 /// How many identifiers of channel paths there are.
@@ -357,7 +363,7 @@ pub fn put_refusal<S: Sink>(sink: &mut S, refusal: &Fault) -> bool
 
 /// A name, its number, and another name.
 #[tactic(auto, using(streams::proofs::Sinking::takes_then, streams::proofs::Sinking::fails_then))]
-fn put_between<S: Sink>(sink: &mut S, first: &[u8], number: u64, second: &[u8]) -> bool
+pub(crate) fn put_between<S: Sink>(sink: &mut S, first: &[u8], number: u64, second: &[u8]) -> bool
     ensures { Puts (S.seen sink.old) (first.now ++ decimal number ++ second.now) (S.seen sink.new) result }
 {
     put_named(sink, first, number) && sink.put(second)
@@ -365,7 +371,7 @@ fn put_between<S: Sink>(sink: &mut S, first: &[u8], number: u64, second: &[u8]) 
 
 /// Two names, each with its number.
 #[tactic(auto, using(streams::proofs::Sinking::takes_then, streams::proofs::Sinking::fails_then))]
-fn put_numbers<S: Sink>(sink: &mut S, first: &[u8], a: u64, second: &[u8], b: u64) -> bool
+pub(crate) fn put_numbers<S: Sink>(sink: &mut S, first: &[u8], a: u64, second: &[u8], b: u64) -> bool
     ensures { Puts (S.seen sink.old) (first.now ++ decimal a ++ second.now ++ decimal b) (S.seen sink.new) result }
 {
     put_between(sink, first, a, second) && put_decimal(sink, b)
@@ -384,6 +390,7 @@ fn put_told<S: Sink>(sink: &mut S, told: &ActionResult) -> bool
     match told {
         ActionResult::Reply(reply) => put_reply(sink, reply),
         ActionResult::Serials(serials) => put_serials(sink, *serials),
+        ActionResult::Race(race) => put_race(sink, race),
     }
 }
 

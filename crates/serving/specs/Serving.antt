@@ -55,29 +55,30 @@ abbrev pub IsBadLineOutput : ℕ → ℕ → Seen → Seen → Ending → Type 0
 IsBadLineOutput line rule held now (Bad whole) = Puts held (bad_text line rule) now whole
 IsBadLineOutput line rule held now other = ⊥
 
-abbrev pub TellsBad : List ℕ → Seen → Seen → Bool → Type 0
-TellsBad text held now whole = (line : ℕ) × (rule : ℕ) × IsBad (lines_of text) line rule × Puts held (bad_text line rule) now whole
+abbrev pub TellsBad : Bool → List ℕ → Seen → Seen → Bool → Type 0
+TellsBad races text held now whole = (line : ℕ) × (rule : ℕ) × IsBad races (lines_of text) line rule × Puts held (bad_text line rule) now whole
 
--- there is no script: the text was not read, there was no memory for it, or it is bad
-abbrev pub HasNoScript : Option (List ℕ) → Seen → Seen → Ending → Type 0
-HasNoScript input held now NotRead = now ≡ held
-HasNoScript input held now (NoMemory whole) = TellsNoMemory held now whole
-HasNoScript input held now (Bad whole) = IfSome input (λ text. TellsBad text held now whole)
-HasNoScript input held now (Done refused) = ⊥
-HasNoScript input held now (Stopped refused) = ⊥
+-- there is no script: the text was not read, there was no memory for it, or it is bad; `races` says that its last line may race
+abbrev pub HasNoScript : Bool → Option (List ℕ) → Seen → Seen → Ending → Type 0
+HasNoScript races input held now NotRead = now ≡ held
+HasNoScript races input held now (NoMemory whole) = TellsNoMemory held now whole
+HasNoScript races input held now (Bad whole) = IfSome input (λ text. TellsBad races text held now whole)
+HasNoScript races input held now (Done refused) = ⊥
+HasNoScript races input held now (Stopped refused) = ⊥
 
 -- there is none, or memory came to want after it was read; or this was done with the script
-abbrev pub DoesWith : (ScriptContents → Seen → Seen → Ending → Type 0) → Option (List ℕ) → Seen → Seen → Ending → Type 0
-DoesWith does input held now NotRead = HasNoScript input held now NotRead
-DoesWith does input held now (NoMemory whole) = HasNoScript input held now (NoMemory whole)
-DoesWith does input held now (Bad whole) = HasNoScript input held now (Bad whole)
-DoesWith does input held now (Done refused) = IfSome input (λ text. (s : ScriptContents) × IsScript (lines_of text) s × does s held now (Done refused))
-DoesWith does input held now (Stopped refused) = IfSome input (λ text. (s : ScriptContents) × IsScript (lines_of text) s × does s held now (Stopped refused))
+abbrev pub DoesWith : Bool → (ScriptContents → Seen → Seen → Ending → Type 0) → Option (List ℕ) → Seen → Seen → Ending → Type 0
+DoesWith races does input held now NotRead = HasNoScript races input held now NotRead
+DoesWith races does input held now (NoMemory whole) = HasNoScript races input held now (NoMemory whole)
+DoesWith races does input held now (Bad whole) = HasNoScript races input held now (Bad whole)
+DoesWith races does input held now (Done refused) = IfSome input (λ text. (s : ScriptContents) × IsScript races (lines_of text) s × does s held now (Done refused))
+DoesWith races does input held now (Stopped refused) =
+    IfSome input (λ text. (s : ScriptContents) × IsScript races (lines_of text) s × does s held now (Stopped refused))
 
 -- the command `run`
 abbrev pub Serves : Option (List ℕ) → Seen → Seen → Ending → Type 0
-Serves input held now ending = DoesWith IsRun input held now ending
+Serves input held now ending = DoesWith false IsRun input held now ending
 
 -- the command `check`
 abbrev pub Checks : Option (List ℕ) → Seen → Seen → Ending → Type 0
-Checks input held now ending = DoesWith (λ s. IsApproved) input held now ending
+Checks input held now ending = DoesWith false (λ s. IsApproved) input held now ending

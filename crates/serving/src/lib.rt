@@ -1,7 +1,7 @@
 //! Serving a script: its actions are performed at a channel subsystem with devices, and what each prints is written.
 #![tactic(auto)]
 
-ghost use Rattle.std.specs.Prelude.{◌≡◌, true, IfOk, OnOk, IfErr, IfSome};
+ghost use Rattle.std.specs.Prelude.{◌≡◌, true, false, IfOk, OnOk, IfErr, IfSome};
 ghost use Rattle.script.specs.Pieces.{lines_of};
 ghost use Rattle.script.specs.Scripts.{IsScript};
 ghost use Rattle.serving.specs.declared.Ending.TheVariants as ending;
@@ -106,9 +106,9 @@ fn read_script<M: Supply, R: Source, S: Sink>(
     reader: &mut R,
     sink: &mut S,
 ) -> Result<Script, Ending>
-    ensures script { IfOk result (λ s. IfSome (R.left reader.old) (λ text. IsScript (lines_of text) s)) }
+    ensures script { IfOk result (λ s. IfSome (R.left reader.old) (λ text. IsScript false (lines_of text) s)) }
     ensures unwritten { OnOk result (S.seen sink.new ≡ S.seen sink.old) }
-    ensures none { IfErr result (λ e. HasNoScript (R.left reader.old) (S.seen sink.old) (S.seen sink.new) e) }
+    ensures none { IfErr result (λ e. HasNoScript false (R.left reader.old) (S.seen sink.old) (S.seen sink.new) e) }
     ensures read { IfErr result (λ e. e ≡ ending.NotRead → R.broken reader.new ≡ true) }
     ensures memory { IfErr result (λ e. IsForMemory e → M.refused supply.new ≡ true) }
 {
@@ -117,7 +117,7 @@ fn read_script<M: Supply, R: Source, S: Sink>(
         Err(NoText::ReadFailed) => return Err(Ending::NotRead),
         Err(NoText::OutOfMemory) => return Err(no_memory(sink)),
     };
-    match Script::read_with(alloc, supply, text.as_slice()) {
+    match Script::read_with(alloc, supply, false, text.as_slice()) {
         Ok(script) => Ok(script),
         Err(ScriptBad::NoMemory) => Err(no_memory(sink)),
         Err(ScriptBad::Bad { line, rule }) => Err(tell_bad(line, rule, sink)),

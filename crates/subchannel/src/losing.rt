@@ -52,7 +52,7 @@ pub fn reset_for(state: &mut SubchannelState)
 }
 
 /// Which path of these is the channel path of this identifier. None where none is.
-fn path_index(chpid: u8, paths: &[u8]) -> Option<Path>
+pub fn path_index(chpid: u8, paths: &[u8]) -> Option<Path>
     requires { length paths.now ≤ 8 }
     ensures { result ≡ spec.path_index chpid paths.now }
 {

@@ -1,4 +1,5 @@
 mod Pasts
+mod Rising
 mod Answering
 mod Never
 mod Headlines

@@ -1,6 +1,6 @@
 //! The channel subsystem: its machine, and the history that led there.
 
-ghost use Rattle.std.specs.Prelude.{◌≡◌, ◌≢◌, ◌⊎◌, ◌+◌, ◌<◌, ◌≤◌, Err, ◌++◌, ◌∷◌, [], IfOk, IfErr, OnErr, OnOk, length, true, vec_len, vec_capacity};
+ghost use Rattle.std.specs.Prelude.{◌≡◌, ◌≢◌, ◌⊎◌, ◌+◌, ◌<◌, ◌≤◌, All, Err, ◌++◌, ◌∷◌, [], IfOk, IfErr, IfSome, OnErr, OnOk, length, slice_get, true, vec_len, vec_capacity};
 ghost use Rattle.chan_model.specs.declared.fault.Fault.TheVariants as fault_spec;
 ghost use Rattle.machine_model.specs.State as state_spec;
 ghost use Rattle.machine_model.specs.Ruled.{GoesByRule};
@@ -10,9 +10,10 @@ ghost use Rattle.machine_model.specs.Steps.{Step, IsRefused, HasRun};
 ghost use Rattle.machine_model.specs.Answering.{HasAnswered, HasBegun};
 ghost use Rattle.std.specs.Bool.{OnTrue, OnFalse};
 ghost use Rattle.finding.specs.Tables.{Fits};
+ghost use Rattle.machine_steps.specs.PathTurns as path_spec;
 ghost use Rattle.machine_laws.specs.Agreeing.{AllAgree};
 ghost use Rattle.subsystem.specs.Headline.{HasHeld};
-ghost use Rattle.subsystem.specs.Keeping.{StaysSetUp};
+ghost use Rattle.subsystem.specs.Keeping.{BringsOrdered, IsOrdered, Rises, StaysSetUp, all_serials};
 ghost use Rattle.machine_laws.specs.Claims.{IsClearedOnce};
 ghost use Rattle.machine_laws.specs.Beginnings.{IsBegunOnce};
 
@@ -21,8 +22,9 @@ use chan_events::event::Event;
 use chan_events::reply::{Entry, Reply};
 use chan_model::fault::Fault;
 use channel_config::config::Config;
+use event_laws::codes;
 use finding::tables::Places;
-use machine_laws::{agreements, beginnings, numbers, serials, setups};
+use machine_laws::{agreements, beginnings, numbers, serials, setups, steps};
 use machine_model::state::UnitTurn;
 use machine_steps::machine::Machine;
 use machine_steps::opening::opened_machine;
@@ -116,9 +118,14 @@ impl<P: PathChoice + Drop> Subsystem<P> {
         ensures refused { OnErr result (IsAsBefore self.old self.new) }
         ensures refusal { IfErr result (λ f. (f ≡ fault_spec.NoMemory) ⊎ IsRefused self.old.state event.now f) }
         ensures spent { result ≡ Err fault_spec.NoMemory → LacksRoom self.old self.new }
+        // Whatever the outcome, no subchannel comes or goes, and no serial falls.
+        ensures rises { Rises (all_serials self.old.state) (all_serials self.new.state) }
+        ensures ordered { IfOk result (λ reply. BringsOrdered event.now reply) }
     {
         numbers();
         setups();
+        steps();
+        codes();
         if self.history.len() >= (1 << 62) - 1 {
             return Err(Fault::NoMemory);
         }
@@ -224,7 +231,7 @@ impl<P: PathChoice + Drop> Subsystem<P> {
         path_laws::path_states();
         path_laws::offers();
         path_laws::returns();
-        event_laws::codes();
+        codes();
         event_laws::clearings();
         event_laws::resets();
         programs();
@@ -244,11 +251,45 @@ impl<P: PathChoice + Drop> Subsystem<P> {
         History::of(self.history.as_slice())
     }
 
+    /// How many subchannels there are.
+    pub fn count(&self) -> usize
+        ensures { result ≡ length (all_serials self.now.state) }
+    {
+        self.machine.count()
+    }
+
+    /// The place of the subchannel that a subsystem-identification word names, in the order of the configuration, from 0;
+    /// None where it is not configured.
+    pub fn place(&self, subchannel: u32) -> Option<usize>
+        ensures place { result ≡ state_spec.place_of self.now.state subchannel }
+        ensures bound { IfSome result (λ place. place < length (all_serials self.now.state)) }
+    {
+        self.machine.place_of(&self.places, subchannel)
+    }
+
+    /// The serials of the subchannel at a place; None where there is none.
+    pub fn serials_at(&self, place: usize) -> Option<Serials>
+        ensures serials { result ≡ slice_get (all_serials self.now.state) place }
+        ensures ordered { All IsOrdered (all_serials self.now.state) }
+    {
+        numbers();
+        self.machine.serials_at(place)
+    }
+
     /// The serials of the subchannel that a subsystem-identification word names; None where it is not configured.
     pub fn serials(&self, subchannel: u32) -> Option<Serials>
         ensures { result ≡ state_spec.serials_in (state_spec.sub_of self.now.state subchannel) }
     {
         self.machine.serials(&self.places, subchannel)
+    }
+
+    /// The event of a turn of a channel path's worker, for a subchannel: the signal that waits longest on the wire up of the
+    /// path of this identifier comes up, or else the subsystem does what it has to do of itself (own). None where there is
+    /// nothing to do, and for a subchannel that is not configured or doesn't have the path.
+    pub fn path_turn(&self, subchannel: u32, chpid: u8) -> Option<Event>
+        ensures { result ≡ path_spec.path_turn_of self.now.state subchannel chpid }
+    {
+        self.machine.path_turn(&self.places, subchannel, chpid)
     }
 
     /// What a unit is to do next; None where it is not configured.

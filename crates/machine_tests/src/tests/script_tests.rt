@@ -18,7 +18,7 @@ fn shown(action: &Action) -> (&[u8], u32) {
 
 #[test]
 fn a_right_script_is_read(rt: HostRuntime) {
-    let script = match Script::read(rt.alloc(), RIGHT) {
+    let script = match Script::read(rt.alloc(), false, RIGHT) {
         Ok(script) => script,
         Err(bad) => {
             assert!(rt; bad == ScriptBad::NoMemory);

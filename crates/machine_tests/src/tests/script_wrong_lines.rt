@@ -56,10 +56,61 @@ const WRONG: [(&[u8], u64, u8); 38] = [
 #[test]
 fn wrong_lines_are_named(rt: HostRuntime) {
     for (text, line, rule) in WRONG {
-        match Script::read(rt.alloc(), text) {
+        match Script::read(rt.alloc(), false, text) {
             Ok(_) => assert!(rt; false, "line {line} rule {rule}"),
             Err(bad) => assert!(rt; bad == ScriptBad::Bad { line, rule }),
         }
+    }
+}
+
+/// Lines that race CPUs, where the command lets them, each with the line that breaks a rule.
+const RACING: [(&[u8], u64, u8); 13] = [
+    (b"storage 10\ncpu 1 race 4 100 tsch 0\n", 2, 1),
+    (b"storage 10\nrace 4 100 tsch\n", 2, 2),
+    (b"storage 10\nrace 4 100 tsch 0 600\n", 2, 2),
+    (b"storage 10\nrace 0 100 tsch 0\n", 2, 3),
+    (b"storage 10\nrace 17 100 tsch 0\n", 2, 3),
+    (b"storage 10\nrace A 100 tsch 0\n", 2, 3),
+    (b"storage 10\nrace 4 0 tsch 0\n", 2, 3),
+    (b"storage 10\nrace 4 10001 tsch 0\n", 2, 3),
+    (b"storage 10\nrace 4 000000100 tsch 0\n", 2, 3),
+    (b"storage 10\nrace 4 100 csch 0\n", 2, 3),
+    (b"storage 10\nrace 4 100 tsch x\n", 2, 3),
+    (b"storage 10\nrace 4 100 tsch 0\ndev 0\n", 2, 7),
+    (b"storage 10\nrace 4 100 tsch 0\nrace 4 100 tsch 0\n", 2, 7),
+];
+
+#[test]
+fn wrong_races_are_named(rt: HostRuntime) {
+    for (text, line, rule) in RACING {
+        match Script::read(rt.alloc(), true, text) {
+            Ok(_) => assert!(rt; false, "line {line} rule {rule}"),
+            Err(bad) => assert!(rt; bad == ScriptBad::Bad { line, rule }),
+        }
+    }
+}
+
+#[test]
+fn a_race_is_in_the_last_line_with_words(rt: HostRuntime) {
+    let text = b"storage 10\ndev 0\n\nrace 16 0010000 tsch 20003\n\n# the end\n";
+    match Script::read(rt.alloc(), true, text.as_slice()) {
+        Ok(script) => {
+            assert!(rt; script.lines().len() == 1);
+            match script.race() {
+                Some(line) => {
+                    assert!(rt; line.number == 4);
+                    assert!(rt; line.race.cpus == 16);
+                    assert!(rt; line.race.times == 10_000);
+                    assert!(rt; line.race.subchannel == 0x2_0003);
+                }
+                None => assert!(rt; false, "it asks for a race"),
+            }
+        }
+        Err(_) => assert!(rt; false, "the text is right"),
+    }
+    match Script::read(rt.alloc(), false, text.as_slice()) {
+        Ok(_) => assert!(rt; false, "no race is let"),
+        Err(bad) => assert!(rt; bad == ScriptBad::Bad { line: 4, rule: 7 }),
     }
 }
 
@@ -72,7 +123,7 @@ fn a_line_is_at_most_1024_bytes(rt: HostRuntime) -> Result<(), AllocError> {
             text.push(b'#')?;
         }
         text.extend_from_slice(b"\ndev 0\n")?;
-        match Script::read(rt.alloc(), text.as_slice()) {
+        match Script::read(rt.alloc(), false, text.as_slice()) {
             Ok(script) => {
                 assert!(rt; is_right);
                 assert!(rt; script.lines().len() == 1);
@@ -96,7 +147,7 @@ fn each_growth_is_refused_in_turn(rt: HostRuntime) {
         left: 1_000,
         refused: false,
     };
-    assert!(rt; Script::read_with(rt.alloc(), &mut counted, GROWING).is_ok());
+    assert!(rt; Script::read_with(rt.alloc(), &mut counted, false, GROWING).is_ok());
     let growths = 1_000u64.wrapping_sub(counted.left);
     assert!(rt; growths > 20);
     for left in 0..=growths {
@@ -104,7 +155,7 @@ fn each_growth_is_refused_in_turn(rt: HostRuntime) {
             left,
             refused: false,
         };
-        match Script::read_with(rt.alloc(), &mut supply, GROWING) {
+        match Script::read_with(rt.alloc(), &mut supply, false, GROWING) {
             Ok(_) => assert!(rt; left == growths && !supply.refused),
             Err(bad) => {
                 assert!(rt; left < growths && supply.refused);
@@ -112,7 +163,7 @@ fn each_growth_is_refused_in_turn(rt: HostRuntime) {
             }
         }
         let mut supply = Given { refused: false };
-        match Script::read_with(rt.alloc(), &mut supply, GROWING) {
+        match Script::read_with(rt.alloc(), &mut supply, false, GROWING) {
             Ok(script) => assert!(rt; script.lines().len() == 2),
             Err(_) => assert!(rt; false, "the allocator has room"),
         }
@@ -127,7 +178,7 @@ fn a_script_of_many_lines_is_read(rt: HostRuntime) -> Result<(), AllocError> {
         text.push(b'\n')?;
     }
     text.extend_from_slice(b"dev 0\n")?;
-    match Script::read(rt.alloc(), text.as_slice()) {
+    match Script::read(rt.alloc(), false, text.as_slice()) {
         Ok(script) => {
             let lines = script.lines();
             assert!(rt; lines.len() == 1);

@@ -1,4 +1,4 @@
-use Rattle.std.proofs.Common.{◌≡◌, ◌<◌, ◌∙◌, ap, sym, subst, refl, ℕ, Some, length, slice_index_or, arith, List}
+use Rattle.std.proofs.Common.{◌<◌, ◌∙◌, ap, sym, subst, refl, ℕ, Some, slice_index_or, arith, List}
 use Rattle.std.specs.Prelude.{All}
 use Rattle.control_units.proofs.MapInPlace.{one_more}
 use Rattle.finding.proofs.Changing.{counts-changed, counts-some}

@@ -1,4 +1,4 @@
-use Rattle.std.proofs.Common.{◌≡◌, sym, ◌∙◌, ap, subst, ℕ, true, false, nat_lt, Some, Ok, length}
+use Rattle.std.proofs.Common.{◌≡◌, sym, ◌∙◌, ap, subst, ℕ, false, nat_lt, Some, length}
 use Rattle.chan_model.specs.declared.signal.Down.{Down}
 use Rattle.chan_model.specs.UnitTable.{came_of, unit_takes}
 use Rattle.wires.specs.Queues.{Queues}

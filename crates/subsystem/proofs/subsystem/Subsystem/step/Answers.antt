@@ -8,8 +8,10 @@ use Rattle.machine_model.specs.Setups.{IsSetUp}
 use Rattle.machine_model.specs.State.{Past}
 use Rattle.machine_model.specs.Steps.{Performs}
 use Rattle.finding.proofs.Keeping.{fits-kept}
+use Rattle.subsystem.specs.Keeping.{Rises, all_serials}
 use Rattle.subsystem.proofs.Never.{never}
 use Rattle.subsystem.proofs.Pasts.{past-more, past-postable, past-requests, past-roomy, performed-set_up}
+use Rattle.subsystem.proofs.Rising.{performed-brings, performed-rises}
 use Rattle.subsystem.proofs.subsystem.Subsystem.step.Goals as goal
 
 pub invariant_of-self-2 : goal.invariant_of-self-2
@@ -51,3 +53,14 @@ returns-clause-set_up g c = λ setup k.
 pub returns-clause-ruled : goal.returns-clause-ruled
 returns-clause-ruled g c = λ other.
     subst (λ (p : Past). GoesByRule g.P.PathChoice.picks p.state c.args.event.now c.perform-answer.result c.perform-answer.new.self) c.self.view_is c.perform-answer.ensures.ruled
+
+pub returns-clause-rises : goal.returns-clause-rises
+returns-clause-rises g c =
+    subst (λ (p : Past). Rises (all_serials p.state) (all_serials c.perform-answer.new.self)) c.self.view_is
+    (performed-rises c.steps.ensures.subs c.self.inside.history.items c.self.inside.machine c.args.event.now c.perform-answer.result c.perform-answer.new.self
+    c.self.invariant.0 c.perform-answer.ensures.performs)
+
+pub returns-clause-ordered : goal.returns-clause-ordered
+returns-clause-ordered g c =
+    performed-brings c.numbers.ensures.pending c.codes.ensures.table c.self.inside.history.items c.self.inside.machine c.args.event.now c.perform-answer.result
+    c.perform-answer.new.self c.self.invariant.0 c.perform-answer.ensures.performs
