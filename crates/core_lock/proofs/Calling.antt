@@ -1,0 +1,44 @@
+-- What a call of a device leaves of a seat, and a turn with the call that it left owed.
+use Rattle.std.proofs.Common.{◌≡◌, ◌⊎◌, ℕ, Bool, true, false, List, Option, None, Some, refl, sym, ap, ◌∙◌, subst, inl, inr}
+use Rattle.std.specs.Prelude.{is_some}
+use Rattle.chan_model.specs.declared.report.DeviceAnswer.{DeviceAnswer}
+use Rattle.chan_events.specs.declared.reply.Entry.{Entry}
+use Rattle.core_lock.specs.declared.turns.OwedCall.{OwedCall}
+use Rattle.core_lock.specs.declared.turns.KeptReport.{KeptReport}
+use Rattle.core_lock.specs.Seats.{Seated}
+use Rattle.core_lock.specs.Turns.{Grew, IsAnswered, IsCalled, IsKeptFrom, IsOfWorker, IsOwedBy, WorksUnit, one_call_more, report_of}
+
+none_owed : (o : Option OwedCall) → is_some o ≡ false → o ≡ None
+none_owed None is = refl
+none_owed (Some owed) is = absurd (cc)
+
+pub not_called : (seat : Seated) → is_some seat.owed ≡ false → IsCalled seat seat
+not_called seat is =
+    let none = none_owed seat.owed is in
+    record {
+      number = refl;
+      log = refl;
+      turns = refl;
+      owed = none;
+      kept = subst (λ (o : Option OwedCall). IsAnswered o seat.kept seat.kept) (sym none) refl;
+    }
+
+pub called : (old new : Seated) (owed : OwedCall) (answer : DeviceAnswer) → old.owed ≡ Some owed → new ≡ record old { calls = one_call_more old.calls; owed = None; kept = Some (report_of owed answer) } → IsCalled old new
+called old new owed answer was is = record {
+  number = ap (λ (s : Seated). s.number) is;
+  log = ap (λ (s : Seated). s.log) is;
+  turns = ap (λ (s : Seated). s.turns) is;
+  owed = ap (λ (s : Seated). s.owed) is;
+  kept = subst (λ (o : Option OwedCall). IsAnswered o old.kept new.kept) (sym was) (answer, ap (λ (s : Seated). s.kept) is);
+}
+
+kept_called : (at : ℕ) (first old new : Option KeptReport) (o : Option OwedCall) → IsOwedBy at o → IsAnswered o old new → IsKeptFrom at first old → IsKeptFrom at first new
+kept_called at first old new None by is from = subst (IsKeptFrom at first) (sym is) from
+kept_called at first old new (Some owed) by (answer, is) from = subst (IsKeptFrom at first) (sym is) (inl by)
+
+pub works_called : (at : ℕ) (a b c : Seated) (n : ℕ) → WorksUnit at a b n → IsOwedBy at b.owed → IsCalled b c → WorksUnit at a c n
+works_called at a b c n works by called = record {
+  number = called.number ∙ works.number;
+  kept = kept_called at a.kept b.kept c.kept b.owed by called.kept works.kept;
+  log = subst (λ (l : List Entry). Grew (IsOfWorker at a.kept) a.log l n) (sym called.log) works.log;
+}

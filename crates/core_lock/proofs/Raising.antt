@@ -1,0 +1,100 @@
+-- Pairs that are raised stay in order.
+use Rattle.std.proofs.Common.{◌≡◌, ℕ, zero, suc, ◌≤◌, ◌<◌, max, List, [], ◌∷◌, length, get_or, set, Option, None, Some, refl, arith}
+use Rattle.std.specs.Prelude.{All, IfSome, slice_get}
+use Rattle.std.proofs.lemmas.List.{length-set}
+use Rattle.std.proofs.lemmas.List.Elements.{All-set}
+use Rattle.scsw_irb.specs.declared.serials.Serials.{Serials}
+use Rattle.chan_events.specs.declared.event.Event.{Event}
+use Rattle.chan_events.specs.declared.event.Event.TheVariants as event
+use Rattle.chan_events.specs.declared.event.Instruction.{Instruction}
+use Rattle.chan_events.specs.declared.event.Instruction.TheVariants as instruction
+use Rattle.chan_events.specs.declared.reply.Reply.{Reply}
+use Rattle.event_laws.specs.Codes.{answer_in}
+use Rattle.subsystem.specs.Keeping.{BringsOrdered, IsOrdered, serials_brought}
+use Rattle.core_lock.specs.Directory.{Directory, place_named}
+use Rattle.core_lock.specs.Seats.{greater, raised_among, raised_at, raised_by}
+
+pub get_ordered : (pairs : List Serials) (k : ℕ) (s : Serials) → All IsOrdered pairs → IsOrdered s → IsOrdered (get_or pairs k s)
+get_ordered [] k s all one = one
+get_ordered (p ∷ pairs) zero s all one = all 0 s (omega arith)
+get_ordered (p ∷ pairs) (suc k) s all one = get_ordered pairs k s (λ j d lt. all (suc j) d (omega arith)) one
+
+pub greater_ordered : (one other : Serials) → IsOrdered one → IsOrdered other → IsOrdered (greater one other)
+greater_ordered one other p q = omega arith
+
+pub set_ordered : (pairs : List Serials) (k : ℕ) (s : Serials) → All IsOrdered pairs → IsOrdered s → All IsOrdered (set pairs k s)
+set_ordered pairs k s all one = All-set IsOrdered pairs k s one all
+
+at_ordered : (pairs : List Serials) (place : Option ℕ) (s : Serials) → All IsOrdered pairs → IsOrdered s → All IsOrdered (raised_at pairs place s)
+at_ordered pairs None s all one = all
+at_ordered pairs (Some k) s all one = set_ordered pairs k _ all (greater_ordered (get_or pairs k s) s (get_ordered pairs k s all one) one)
+
+by_ordered : (pairs : List Serials) (place : Option ℕ) (o : Option Serials) → All IsOrdered pairs → IfSome o IsOrdered → All IsOrdered (raised_by pairs place o)
+by_ordered pairs place None all one = all
+by_ordered pairs place (Some s) all one = at_ordered pairs place s all one
+
+instruction_ordered : (pairs : List Serials) (d : Directory) (cpu : ℕ) (i : Instruction) (r : Reply) → All IsOrdered pairs → IfSome (serials_brought (answer_in r)) IsOrdered → All IsOrdered (raised_among pairs d (event.Execute cpu i) r)
+instruction_ordered pairs d cpu (instruction.Tsch word address) r all one = by_ordered pairs (place_named d word) (serials_brought (answer_in r)) all one
+instruction_ordered pairs d cpu (instruction.Ssch word address) r all one = all
+instruction_ordered pairs d cpu (instruction.Stsch word address) r all one = all
+instruction_ordered pairs d cpu (instruction.Msch word address) r all one = all
+instruction_ordered pairs d cpu (instruction.Rsch word) r all one = all
+instruction_ordered pairs d cpu (instruction.Hsch word) r all one = all
+instruction_ordered pairs d cpu (instruction.Csch word) r all one = all
+instruction_ordered pairs d cpu (instruction.Xsch word) r all one = all
+instruction_ordered pairs d cpu (instruction.Enable word subclass multipath) r all one = all
+
+pub raised_ordered : (pairs : List Serials) (d : Directory) (e : Event) (r : Reply) → BringsOrdered e r → All IsOrdered pairs → All IsOrdered (raised_among pairs d e r)
+raised_ordered pairs d (event.Execute cpu i) r one all = instruction_ordered pairs d cpu i r all one
+raised_ordered pairs d (event.Put address bytes) r one all = all
+raised_ordered pairs d (event.SetKey address key) r one all = all
+raised_ordered pairs d (event.SetPrefix cpu address) r one all = all
+raised_ordered pairs d (event.Show address count) r one all = all
+raised_ordered pairs d (event.ExecuteOther cpu i) r one all = all
+raised_ordered pairs d (event.Choose word) r one all = all
+raised_ordered pairs d (event.Up word path) r one all = all
+raised_ordered pairs d (event.Down word path) r one all = all
+raised_ordered pairs d (event.Report at report) r one all = all
+raised_ordered pairs d (event.Act at act) r one all = all
+raised_ordered pairs d (event.Restart at) r one all = all
+raised_ordered pairs d (event.PathDown chpid) r one all = all
+raised_ordered pairs d (event.PathUp chpid) r one all = all
+raised_ordered pairs d (event.PathReset chpid) r one all = all
+raised_ordered pairs d event.SystemReset r one all = all
+
+at_length : (pairs : List Serials) (place : Option ℕ) (s : Serials) → length (raised_at pairs place s) ≡ length pairs
+at_length pairs None s = refl
+at_length pairs (Some k) s = length-set pairs k _
+
+by_length : (pairs : List Serials) (place : Option ℕ) (o : Option Serials) → length (raised_by pairs place o) ≡ length pairs
+by_length pairs place None = refl
+by_length pairs place (Some s) = at_length pairs place s
+
+instruction_length : (pairs : List Serials) (d : Directory) (cpu : ℕ) (i : Instruction) (r : Reply) → length (raised_among pairs d (event.Execute cpu i) r) ≡ length pairs
+instruction_length pairs d cpu (instruction.Tsch word address) r = by_length pairs (place_named d word) (serials_brought (answer_in r))
+instruction_length pairs d cpu (instruction.Ssch word address) r = refl
+instruction_length pairs d cpu (instruction.Stsch word address) r = refl
+instruction_length pairs d cpu (instruction.Msch word address) r = refl
+instruction_length pairs d cpu (instruction.Rsch word) r = refl
+instruction_length pairs d cpu (instruction.Hsch word) r = refl
+instruction_length pairs d cpu (instruction.Csch word) r = refl
+instruction_length pairs d cpu (instruction.Xsch word) r = refl
+instruction_length pairs d cpu (instruction.Enable word subclass multipath) r = refl
+
+pub raised_length : (pairs : List Serials) (d : Directory) (e : Event) (r : Reply) → length (raised_among pairs d e r) ≡ length pairs
+raised_length pairs d (event.Execute cpu i) r = instruction_length pairs d cpu i r
+raised_length pairs d (event.Put address bytes) r = refl
+raised_length pairs d (event.SetKey address key) r = refl
+raised_length pairs d (event.SetPrefix cpu address) r = refl
+raised_length pairs d (event.Show address count) r = refl
+raised_length pairs d (event.ExecuteOther cpu i) r = refl
+raised_length pairs d (event.Choose word) r = refl
+raised_length pairs d (event.Up word path) r = refl
+raised_length pairs d (event.Down word path) r = refl
+raised_length pairs d (event.Report at report) r = refl
+raised_length pairs d (event.Act at act) r = refl
+raised_length pairs d (event.Restart at) r = refl
+raised_length pairs d (event.PathDown chpid) r = refl
+raised_length pairs d (event.PathUp chpid) r = refl
+raised_length pairs d (event.PathReset chpid) r = refl
+raised_length pairs d event.SystemReset r = refl

@@ -1,0 +1,60 @@
+use Rattle.std.proofs.Common.{◌≡◌, ◌<◌, length, set, Some, refl, arith, sym, ap, ◌∙◌, subst}
+use Rattle.std.specs.Prelude.{slice_get}
+use Rattle.std.proofs.lemmas.List.{length-set}
+use Rattle.std.proofs.lemmas.Option.{slice_get_read}
+use Rattle.std.proofs.Math.Seq.{map-set_same}
+use Rattle.subsystem.specs.Keeping.{IsOrdered}
+use Rattle.core_lock.specs.Directory.{Directory, place_named}
+use Rattle.core_lock.specs.Entering.{Glances}
+use Rattle.core_lock.specs.Named.{cell_of, serials}
+use Rattle.core_lock.specs.Seats.{Seated, greater}
+use Rattle.core_lock.proofs.Raising.{set_ordered, greater_ordered}
+use Rattle.core_lock.proofs.locked.Seat.glance.Goals as goal
+
+pub invariant_of-self : goal.invariant_of-self
+invariant_of-self g c =
+    let i = c.self.invariant in
+    let k = c.in-Some.place in
+    let pairs = c.self.inside.pairs.items in
+    let readers = c.self.inside.readers.items in
+    let pair = c.index-pair.result.now in
+    let now = c.greater-found.result in
+    let found = serials c.load-loaded.result.made c.load-loaded.result.cleared in
+    let lt : k < length pairs = omega (arith, c.in-Some.ensures.bound, ap (λ (d : Directory). length d.names) c.deref.ensures, i.names, i.beside) in
+    let le = greater_ordered pair found (subst IsOrdered (sym c.index-pair.ensures) (i.ordered k pair lt)) c.load-loaded.ensures.ordered in
+    record {
+      share = i.share;
+      turns = i.turns;
+      entries = i.entries;
+      beside = length-set pairs k now ∙ i.beside ∙ sym (length-set readers k c.load-loaded.new.self);
+      ordered = set_ordered pairs k now i.ordered (subst IsOrdered (sym c.greater-found.ensures) le);
+      cells = map-set_same cell_of readers k c.load-loaded.new.self c.index_mut-reader.result.now (c.load-loaded.ensures.cell ∙ ap cell_of c.index_mut-reader.ensures.value) ∙ i.cells;
+      names = i.names ∙ sym (length-set readers k c.load-loaded.new.self);
+      directory = i.directory;
+    }
+
+pub returns-clause-found : goal.returns-clause-found
+returns-clause-found g c =
+    let i = c.self.invariant in
+    let k = c.in-Some.place in
+    let pairs = c.self.inside.pairs.items in
+    let readers = c.self.inside.readers.items in
+    let pair = c.index-pair.result.now in
+    let w = c.load-loaded.new.self in
+    let was = c.index_mut-reader.result.now in
+    let v = c.load-loaded.ensures.value in
+    let lt : k < length pairs = omega (arith, c.in-Some.ensures.bound, ap (λ (d : Directory). length d.names) c.deref.ensures, i.names, i.beside) in
+    let is = c.self.view_is in
+    record {
+      place = k;
+      pair = pair;
+      before = was;
+      words = w;
+      named = ap (λ (s : Seated). place_named s.directory c.args.subchannel) (sym is) ∙ ap (λ (d : Directory). place_named d c.args.subchannel) (sym c.deref.ensures) ∙ sym c.in-Some.ensures.place;
+      saw = ap (λ (s : Seated). slice_get s.pairs k) (sym is) ∙ slice_get_read pairs (length pairs) k pair refl lt c.index-pair.ensures;
+      had = ap (λ (s : Seated). slice_get s.loaded k) (sym is) ∙ slice_get_read readers (length readers) k was refl (omega (arith, lt, i.beside)) c.index_mut-reader.ensures.value;
+      cell = c.load-loaded.ensures.cell;
+      loads = c.load-loaded.ensures.loads;
+      found_is = c.greater-found.ensures ∙ (λ j. greater pair (serials (v.0 j) (v.1 j)));
+      leaves = ap (λ (s : Seated). record s { pairs = set s.pairs k c.greater-found.result; loaded = set s.loaded k w }) is;
+    }

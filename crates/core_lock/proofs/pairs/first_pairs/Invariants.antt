@@ -1,0 +1,6 @@
+use Rattle.std.proofs.Common.{◌≡◌, take}
+use Rattle.subsystem.specs.Keeping.{all_serials}
+use Rattle.core_lock.proofs.pairs.first_pairs.Given as goal
+
+abbrev pub invariant-loop-place : goal.invariant-loop-place
+invariant-loop-place g l = l.pairs.items ≡ take l.place (all_serials l.subsystem.state)

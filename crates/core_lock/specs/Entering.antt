@@ -1,0 +1,54 @@
+-- What entering an event leaves, and what a look finds (own).
+use Rattle.std.specs.Prelude.{◌≡◌, ◌⊎◌, ℕ, ◌+◌, List, [], ◌∷◌, ◌++◌, Option, Some, slice_get, slice_set}
+use Rattle.scsw_irb.specs.declared.serials.Serials.{Serials}
+use Rattle.chan_model.specs.declared.fault.Fault.{Fault}
+use Rattle.chan_model.specs.declared.fault.Fault.TheVariants as fault
+use Rattle.chan_model.specs.declared.names.Cpu.{Cpu}
+use Rattle.chan_events.specs.declared.event.Event.{Event}
+use Rattle.chan_events.specs.declared.event.Event.TheVariants as event
+use Rattle.chan_events.specs.declared.reply.Reply.{Reply}
+use Rattle.glance_cell.specs.Shown.{Words}
+use Rattle.machine_model.specs.State.{State}
+use Rattle.machine_model.specs.Steps.{Step, IsRefused}
+use Rattle.core_lock.specs.declared.machine.CpuInstruction.{CpuInstruction}
+use Rattle.core_lock.specs.declared.machine.CpuInstruction.TheVariants as cpu_instruction
+use Rattle.core_lock.specs.Directory.{place_named}
+use Rattle.core_lock.specs.Named.{counts_of}
+use Rattle.core_lock.specs.Seats.{Locked, Seated, entry, greater, raised}
+
+-- a seat after an event that it entered: its log has the entry
+abbrev pub entered : Seated → Event → Reply → Seated
+entered seat e r = record seat { log = seat.log ++ entry e r ∷ []; pairs = raised seat e r }
+
+-- one step, one entry of the history with the number of its seat beside it, and the same in the log of the seat
+abbrev pub Enters : Locked → Seated → Event → Reply → Locked → Seated → Type 0
+Enters old seat e r new after =
+    Step old.state e r new.state
+    × (new.history ≡ old.history ++ entry e r ∷ [])
+    × (new.by ≡ old.by ++ seat.number ∷ [])
+    × (new.seats ≡ old.seats)
+    × (after ≡ entered seat e r)
+
+-- an event may be refused so
+abbrev pub MayRefuse : State → Event → Fault → Type 0
+MayRefuse s e f = (f ≡ fault.NoMemory) ⊎ IsRefused s e f
+
+-- the event of an instruction
+abbrev pub event_of : ℕ → CpuInstruction → Event
+event_of cpu (cpu_instruction.OnSubchannel i) = event.Execute cpu i
+event_of cpu (cpu_instruction.OfSubsystem i) = event.ExecuteOther cpu i
+
+-- a look at a subchannel: its reader loads once, and what is found is part by part the greater of the words loaded and the pair,
+-- which becomes the pair
+pub record Glances (old : Seated) (word : ℕ) (found : Serials) (new : Seated) : Type 0 where
+  pub place : ℕ
+  pub pair : Serials
+  pub before : Words
+  pub words : Words
+  pub named : place_named old.directory word ≡ Some place
+  pub saw : slice_get old.pairs place ≡ Some pair
+  pub had : slice_get old.loaded place ≡ Some before
+  pub cell : words.cell ≡ before.cell
+  pub loads : words.loads ≡ before.loads + 1
+  pub found_is : found ≡ greater pair (counts_of words)
+  pub leaves : new ≡ record old { pairs = slice_set old.pairs place found; loaded = slice_set old.loaded place words }

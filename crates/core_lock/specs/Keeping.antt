@@ -1,0 +1,56 @@
+-- What a locked machine and a seat keep, whenever no call is at work on them (own).
+use Rattle.std.specs.Prelude.{◌≡◌, ◌≤◌, ℕ, ◌+◌, All, List, length, map}
+use Rattle.scsw_irb.specs.declared.serials.Serials.{Serials}
+use Rattle.chan_events.specs.declared.reply.Entry.{Entry}
+use Rattle.channel_config.specs.declared.names.SubchannelId.{SubchannelId}
+use Rattle.channel_config.specs.declared.parts.SubchannelSetup.{SubchannelSetup}
+use Rattle.channel_config.specs.Setup.{Setup, set_count}
+use Rattle.glance_cell.specs.Shown.{Words}
+use Rattle.machine_model.specs.State.{Past, State}
+use Rattle.machine_model.specs.Setups.{IsSetUp}
+use Rattle.subsystem.specs.Keeping.{IsOrdered, all_serials}
+use Rattle.core_lock.specs.Directory.{Directory}
+use Rattle.core_lock.specs.Named.{MachineName, cells_of, shown}
+
+abbrev pub id_of : SubchannelSetup → SubchannelId
+id_of setup = setup.id
+
+abbrev pub directory_by : Setup → Directory
+directory_by setup = record { sets = set_count setup; names = map id_of setup.subchannels }
+
+-- a set-up that the machine has gives its subchannels these names
+abbrev pub IsNamedBy : Directory → State → Type 0
+IsNamedBy directory s = (setup : Setup) × IsSetUp setup s × (directory_by setup ≡ directory)
+
+-- how many parts of a ledger, and how much of what it counts, a share has
+pub record Part : Type 0 where
+  pub parts : ℕ
+  pub amount : ℕ
+
+-- what a seat has of a ledger that is cut into 1,025 parts: one of them; the machine has the rest, and none of what is counted
+abbrev pub IsRest : Part → ℕ → Type 0
+IsRest rest seats = (rest.parts + seats ≡ 1025) × (rest.amount ≡ 0)
+
+-- a machine under its lock, whose past and cells are these: each entry has its seat, and the ledger counts the entries; each
+-- writer's view is the counts of its subchannel
+pub record IsCore (past : Past) (by : List ℕ) (seats counted : ℕ) (left turns_left : Part) (writers : List Words) (held : Directory) (name : MachineName) : Type 0 where
+  pub beside : length by ≡ length past.history
+  pub entries : counted ≡ length past.history
+  pub most : seats ≤ 1024
+  pub rest : IsRest left seats
+  pub turns : IsRest turns_left seats
+  pub shown : shown writers ≡ all_serials past.state
+  pub cells : cells_of writers ≡ name.cells
+  pub directory : held ≡ name.directory
+  pub named : IsNamedBy name.directory past.state
+
+-- a seat: its share is the length of its log; it has a pair, in order, and a reader for each subchannel
+pub record IsSeat (counted : Part) (turn_parts : ℕ) (log : List Entry) (pairs : List Serials) (readers : List Words) (held : Directory) (name : MachineName) : Type 0 where
+  pub share : counted.parts ≡ 1
+  pub turns : turn_parts ≡ 1
+  pub entries : counted.amount ≡ length log
+  pub beside : length pairs ≡ length readers
+  pub ordered : All IsOrdered pairs
+  pub cells : cells_of readers ≡ name.cells
+  pub names : length held.names ≡ length readers
+  pub directory : held ≡ name.directory

@@ -1,0 +1,7 @@
+pub mod Directory
+pub mod Named
+pub mod Seats
+pub mod Entering
+pub mod Turns
+pub mod Keeping
+pub mod Touching

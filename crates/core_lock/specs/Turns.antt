@@ -1,0 +1,223 @@
+-- The turns of workers (own).
+use Rattle.std.specs.Prelude.{◌≡◌, ◌≢◌, ◌⊎◌, ℕ, ◌+◌, ◌==◌, ◌&&◌, not, Bool, true, false, All, List, [], ◌∷◌, ◌++◌, length, map, Option, None, Some, Result, Ok, Err, min, if◌then◌else◌}
+use Rattle.chan_model.specs.declared.fault.Fault.{Fault}
+use Rattle.chan_model.specs.declared.fault.Fault.TheVariants as fault
+use Rattle.chan_model.specs.declared.report.Call.{Call}
+use Rattle.chan_model.specs.declared.report.DeviceAnswer.{DeviceAnswer}
+use Rattle.chan_model.specs.declared.report.Work.{Work}
+use Rattle.chan_model.specs.declared.report.Work.TheVariants as work
+use Rattle.chan_model.specs.Sides.{same_side}
+use Rattle.chan_events.specs.declared.event.Event.{Event}
+use Rattle.chan_events.specs.declared.event.Event.TheVariants as event
+use Rattle.chan_events.specs.declared.event.UnitAct.TheVariants as act
+use Rattle.chan_events.specs.declared.reply.Entry.{Entry}
+use Rattle.chan_events.specs.declared.reply.Reply.{Reply}
+use Rattle.channel_config.specs.declared.names.SubchannelId.{SubchannelId}
+use Rattle.machine_model.specs.declared.state.UnitTurn.{UnitTurn}
+use Rattle.machine_model.specs.declared.state.UnitTurn.TheVariants as unit_turn
+use Rattle.machine_model.specs.State.{State, unit_turn_of}
+use Rattle.machine_steps.specs.PathTurns.{path_turn_of}
+use Rattle.core_lock.specs.declared.turns.OwedCall.{OwedCall}
+use Rattle.core_lock.specs.declared.turns.KeptReport.{KeptReport}
+use Rattle.core_lock.specs.declared.turns.TakenCommand.{TakenCommand}
+use Rattle.core_lock.specs.declared.turns.Turn.{Turn}
+use Rattle.core_lock.specs.declared.turns.Turn.TheVariants.{Enters, Leaves, Owes, Rests}
+use Rattle.core_lock.specs.Directory.{Directory, directory_of, word_of}
+use Rattle.core_lock.specs.Seats.{Locked, Seated}
+use Rattle.core_lock.specs.Entering as entering
+use Rattle.core_lock.specs.Entering.{MayRefuse}
+
+-- a seat with one turn more
+abbrev pub turned : Seated → Seated
+turned seat = record seat { turns = seat.turns + 1 }
+
+abbrev pub with_kept : Seated → Option KeptReport → Seated
+with_kept seat kept = record seat { kept = kept }
+
+abbrev pub with_owed : Seated → Option OwedCall → Seated
+with_owed seat owed = record seat { owed = owed }
+
+abbrev pub with_left : Seated → Option TakenCommand → Seated
+with_left seat left = record seat { left = left }
+
+-- the command that a unit has at hand
+abbrev pub taken_command : ℕ → Work → TakenCommand
+taken_command at (work.Call side number command sequence call) = record { «unit» = at; side = side; number = number; command = command }
+taken_command at (work.Report report) = record { «unit» = at; side = report.side; number = report.number; command = report.command }
+
+abbrev pub is_command : TakenCommand → TakenCommand → Bool
+is_command one other = (one.«unit» == other.«unit») && (same_side one.side other.side && ((one.number == other.number) && (one.command == other.command)))
+
+abbrev pub has_left : Option TakenCommand → TakenCommand → Bool
+has_left None command = false
+has_left (Some left) command = is_command left command
+
+-- a call of the device is owed, a report that needs none is entered
+abbrev pub turn_of_work : ℕ → Work → Turn
+turn_of_work at (work.Call side number command sequence call) =
+    Owes (record { «unit» = at; side = side; number = number; command = command; sequence = sequence; call = call })
+turn_of_work at (work.Report report) = Enters (event.Report at report)
+
+-- a unit that roams leaves its path first, once after each command, and asks for one again
+abbrev pub turn_at_work : Bool → Option TakenCommand → ℕ → Work → Turn
+turn_at_work roam left at w = if roam && not (has_left left (taken_command at w)) then Leaves (taken_command at w) else turn_of_work at w
+
+abbrev pub turn_away : Bool → ℕ → Option ℕ → Turn
+turn_away true at (Some path) = Enters (event.Act at (act.Ask path))
+turn_away true at None = Rests
+turn_away false at path = Rests
+
+abbrev pub turn_by : Bool → Option TakenCommand → ℕ → Option UnitTurn → Turn
+turn_by roam left at None = Rests
+turn_by roam left at (Some (unit_turn.Takes id path)) = Enters (event.Down (word_of id) path)
+turn_by roam left at (Some (unit_turn.Works w)) = turn_at_work roam left at w
+turn_by roam left at (Some (unit_turn.Away path)) = turn_away roam at path
+turn_by roam left at (Some unit_turn.Rests) = Rests
+
+-- what a turn of a unit's worker is for
+abbrev pub turn_of : Bool → Option TakenCommand → ℕ → State → Turn
+turn_of roam left at s = turn_by roam left at (unit_turn_of s at)
+
+-- an event is tried: it is entered, and the seat is left as the last one with the entry; or it is refused, and all is left as it was
+abbrev pub Tries : Locked → Seated → Seated → Event → Result Bool Fault → Locked → Seated → Type 0
+Tries old seat last e (Ok true) new after = (r : Reply) × entering.Enters old last e r new after
+Tries old seat last e (Ok false) new after = ⊥
+Tries old seat last e (Err f) new after = MayRefuse old.state e f × (new ≡ old) × (after ≡ seat)
+
+-- nothing is entered
+abbrev pub Passes : Locked → Seated → Result Bool Fault → Locked → Seated → Type 0
+Passes old seat result new after = (result ≡ Ok false) × (new ≡ old) × (after ≡ seat)
+
+-- a report that is kept is handed in. A stale one is dropped; for want of memory or of room on a wire it stays kept
+abbrev pub report_event : KeptReport → Event
+report_event kept = event.Report kept.«unit» kept.report
+
+abbrev pub kept_after : KeptReport → Fault → Option KeptReport
+kept_after kept fault.NoMemory = Some kept
+kept_after kept fault.WireFull = Some kept
+kept_after kept f = None
+
+abbrev pub refusal_of : Fault → Result Bool Fault
+refusal_of fault.NotNow = Ok false
+refusal_of f = Err f
+
+abbrev pub HandsIn : Locked → Seated → KeptReport → Result Bool Fault → Locked → Seated → Type 0
+HandsIn old seat kept (Ok true) new after = (r : Reply) × entering.Enters old seat (report_event kept) r new after
+HandsIn old seat kept (Ok false) new after = MayRefuse old.state (report_event kept) fault.NotNow × (new ≡ old) × (after ≡ with_kept seat None)
+HandsIn old seat kept (Err f) new after =
+    (f ≢ fault.NotNow) × MayRefuse old.state (report_event kept) f × (new ≡ old) × (after ≡ with_kept seat (kept_after kept f))
+
+abbrev pub TakesTurn : Locked → Seated → Turn → Result Bool Fault → Locked → Seated → Type 0
+TakesTurn old seat (Enters e) result new after = Tries old seat seat e result new after
+TakesTurn old seat (Leaves command) result new after =
+    Tries old seat (with_left seat (Some command)) (event.Act command.«unit» act.Leave) result new after
+TakesTurn old seat (Owes call) result new after = Passes old (with_owed seat (Some call)) result new after
+TakesTurn old seat Rests result new after = Passes old seat result new after
+
+abbrev pub leaves : TakenCommand → Turn
+leaves command = Leaves command
+
+-- a turn of a unit's worker, by a seat with one turn more
+abbrev pub TakesUnitTurn : Locked → Seated → Option KeptReport → ℕ → Bool → Result Bool Fault → Locked → Seated → Type 0
+TakesUnitTurn old seat (Some kept) at roam result new after = HandsIn old (with_kept seat None) kept result new after
+TakesUnitTurn old seat None at roam result new after = TakesTurn old seat (turn_of roam seat.left at old.state) result new after
+
+-- a turn of a channel path's worker: the first event that there is for a subchannel
+abbrev pub or_turn : Option Event → Option Event → Option Event
+or_turn None later = later
+or_turn (Some e) later = Some e
+
+abbrev pub path_turn_at : State → ℕ → Option SubchannelId → Option Event
+path_turn_at s chpid None = None
+path_turn_at s chpid (Some id) = path_turn_of s (word_of id) chpid
+
+abbrev pub path_turn_among : State → ℕ → List SubchannelId → Option Event
+path_turn_among s chpid [] = None
+path_turn_among s chpid (id ∷ ids) = or_turn (path_turn_at s chpid (Some id)) (path_turn_among s chpid ids)
+
+abbrev pub TakesPathTurn : Locked → Seated → Option Event → Result Bool Fault → Locked → Seated → Type 0
+TakesPathTurn old seat None result new after = Passes old seat result new after
+TakesPathTurn old seat (Some e) result new after = Tries old seat seat e result new after
+
+-- the report of what a device answered to a call
+abbrev pub report_of : OwedCall → DeviceAnswer → KeptReport
+report_of owed answer = record {
+  «unit» = owed.«unit»;
+  report = record { side = owed.side; number = owed.number; command = owed.command; sequence = owed.sequence; answer = answer };
+}
+
+-- one call more, of which the greatest number of 64 bits stays
+abbrev pub one_call_more : ℕ → ℕ
+one_call_more calls = min (calls + 1) 0xFFFFFFFFFFFFFFFF
+
+-- the call that is owed is made: by the relation of the device, between the device before it, the call, its answer and the device
+-- after it; the answer is kept as a report, and nothing is owed
+abbrev pub Calls : {D : Type 0} → (D → Call → DeviceAnswer → D → Type 0) → Seated → D → Seated → D → Type 0
+Calls answers old device new after =
+    (owed : OwedCall) × (answer : DeviceAnswer) × (old.owed ≡ Some owed) × answers device owed.call answer after
+    × (new ≡ record old { calls = one_call_more old.calls; owed = None; kept = Some (report_of owed answer) })
+
+-- up and choose events are those of a path's worker
+abbrev pub IsOfPaths : Event → Type 0
+IsOfPaths (event.Up word path) = Unit {0}
+IsOfPaths (event.Choose word) = Unit {0}
+IsOfPaths e = ⊥
+
+-- down events, acts and reports of a unit are those of its worker, and a report that its seat kept before
+abbrev pub IsOfUnit : ℕ → Event → Type 0
+IsOfUnit at (event.Down word path) = Unit {0}
+IsOfUnit at (event.Act at2 what) = at2 ≡ at
+IsOfUnit at (event.Report at2 report) = at2 ≡ at
+IsOfUnit at e = ⊥
+
+abbrev pub IsKept : Option KeptReport → Event → Type 0
+IsKept None e = ⊥
+IsKept (Some kept) e = e ≡ report_event kept
+
+abbrev pub IsOfWorker : ℕ → Option KeptReport → Event → Type 0
+IsOfWorker at kept e = IsOfUnit at e ⊎ IsKept kept e
+
+-- the log grew by so many entries, whose events are such
+abbrev pub Grew : (Event → Type 0) → List Entry → List Entry → ℕ → Type 0
+Grew P old new count = (more : List Entry) × (new ≡ old ++ more) × (length more ≡ count) × All (λ (e : Entry). P e.event) more
+
+-- a report that is kept in the end was kept before, or is the unit's; a call that is owed is the unit's
+abbrev pub IsKeptFrom : ℕ → Option KeptReport → Option KeptReport → Type 0
+IsKeptFrom at old None = Unit {0}
+IsKeptFrom at old (Some kept) = (kept.«unit» ≡ at) ⊎ (old ≡ Some kept)
+
+abbrev pub IsOwedBy : ℕ → Option OwedCall → Type 0
+IsOwedBy at None = Unit {0}
+IsOwedBy at (Some owed) = owed.«unit» ≡ at
+
+-- what turns of a path's worker leave of its seat, and turns of a unit's worker
+pub record WorksPaths (old new : Seated) (count : ℕ) : Type 0 where
+  pub number : new.number ≡ old.number
+  pub owed : new.owed ≡ old.owed
+  pub log : Grew IsOfPaths old.log new.log count
+
+pub record WorksUnit (at : ℕ) (old new : Seated) (count : ℕ) : Type 0 where
+  pub number : new.number ≡ old.number
+  pub kept : IsKeptFrom at old.kept new.kept
+  pub log : Grew (IsOfWorker at old.kept) old.log new.log count
+
+-- what a call that is made leaves, where one is owed: a report of it
+abbrev pub IsAnswered : Option OwedCall → Option KeptReport → Option KeptReport → Type 0
+IsAnswered None old new = new ≡ old
+IsAnswered (Some owed) old new = (answer : DeviceAnswer) × (new ≡ Some (report_of owed answer))
+
+pub record IsCalled (old new : Seated) : Type 0 where
+  pub number : new.number ≡ old.number
+  pub log : new.log ≡ old.log
+  pub turns : new.turns ≡ old.turns
+  pub owed : new.owed ≡ None
+  pub kept : IsAnswered old.owed old.kept new.kept
+
+-- how many entries a turn made
+abbrev pub count_of : Bool → ℕ
+count_of true = 1
+count_of false = 0
+
+abbrev pub count_in : Result Bool Fault → ℕ
+count_in (Ok entered) = count_of entered
+count_in (Err f) = 0

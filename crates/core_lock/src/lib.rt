@@ -1,0 +1,19 @@
+//! A channel subsystem under one lock, with seats from which CPUs and workers enter its events (own).
+//!
+//! Used alone, this crate promises: each accepted call is one step of the subsystem with its reply, one entry of the history
+//! and the same in the log of the seat that it was entered from; a refusal leaves the subsystem, the glance cells and the seat
+//! as they were. Whenever the lock is free the history replays to the state, what the subsystem promises of every history holds
+//! of it, and each glance cell has the serials of its subchannel. `audit` says exactly whether each seat's log is what the
+//! history has of it, `Core::close` exactly whether all seats came back. A look at serials takes no lock, no memory, and never
+//! falls behind what its seat saw. That a call which takes the lock returns is not promised, nor any order between seats.
+#![tactic(auto)]
+
+pub mod directory;
+pub mod gate;
+pub mod locked;
+pub mod machine;
+pub mod naming;
+mod pairs;
+pub mod parts;
+mod touching;
+pub mod turns;

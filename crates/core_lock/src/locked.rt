@@ -1,0 +1,562 @@
+//! The subsystem under its lock, and its seats. This module alone writes the log of a seat.
+
+ghost use Rattle.std.specs.Prelude.{◌≡◌, ◌≢◌, ◌⊎◌, ◌+◌, ◌↔◌, ℕ, [], ◌∷◌, ◌++◌, length, vec_len, sum_by, All, Err, IsTrue, IfOk, IfErr, IfSome, IfNone, IsSome, OnErr, None, Some, Ok, is_some, slice_get, ◌≤◌};
+ghost use Rattle.chan_model.specs.declared.fault.Fault.TheVariants as fault_spec;
+ghost use Rattle.machine_laws.specs.Agreeing.{AllAgree};
+ghost use Rattle.machine_laws.specs.Beginnings.{IsBegunOnce};
+ghost use Rattle.machine_laws.specs.Claims.{IsClearedOnce};
+ghost use Rattle.machine_model.specs.Ruled.{GoesByRule};
+ghost use Rattle.machine_model.specs.State.{place_of};
+ghost use Rattle.machine_model.specs.Steps.{HasRun, Step};
+ghost use Rattle.subsystem.specs.Headline.{HasHeld};
+ghost use Rattle.subsystem.specs.Keeping.{all_serials};
+ghost use Rattle.core_lock.specs.Directory.{directory_of, place_named};
+ghost use Rattle.core_lock.specs.Entering.{Glances, MayRefuse, entered};
+ghost use Rattle.core_lock.specs.Named.{shown, serials};
+ghost use Rattle.core_lock.specs.Seats as seat_spec;
+ghost use Rattle.core_lock.specs.Seats.{entries_by, entry};
+ghost use Rattle.core_lock.specs.Turns as turn_spec;
+
+use crate::directory::Directory;
+use crate::gate::Gate;
+use crate::naming::{Entries, Naming, Turns};
+use crate::pairs::{first_pairs, greater, publish, raise_at, serials_brought, watch};
+use crate::parts::Parts;
+use crate::touching::{touched_by, touches};
+use crate::turns::{
+    KeptReport, OwedCall, TakenCommand, Turn, kept_after, path_turn_of, refusal_of, turn_of,
+};
+use chan_events::event::{Event, Instruction, UnitAct};
+use chan_events::reply::{Entry, Reply};
+use chan_model::fault::Fault;
+use chan_model::report::Report;
+use device_law::Device;
+use device_law::answering::answer;
+use glance_cell::cell::{Reader, Writer};
+use glance_cell::words::Glance;
+use path_select::PathChoice;
+use same_entries::same;
+use scsw_irb::serials::Serials;
+use std::alloc::Global;
+use std::marker::Model;
+use std::sync::Arc;
+use std::sync::ledger::{Book, Share};
+use subsystem::history::History;
+use subsystem::subsystem::Subsystem;
+
+/// The most seats of one machine.
+pub const MOST_SEATS: u16 = 1024;
+
+/// A subsystem that is to be locked, with the seat of each entry of its history, and the glance cells of its subchannels.
+#[derive(Drop)]
+pub struct Core<J: Naming, P: PathChoice + Drop> {
+    alloc: Global,
+    subsystem: Subsystem<P>,
+    by: Vec<u16>,
+    seats: u16,
+    writers: Vec<Writer>,
+    directory: Arc<Directory>,
+    entries: Book<Entries<J>>,
+    rest: Share<Entries<J>>,
+    turns: Book<Turns<J>>,
+    turns_left: Share<Turns<J>>,
+}
+
+impl<J: Naming, P: PathChoice + Drop> Model for Core<J, P> {
+    ghost use Rattle.std.specs.Arc.{arc_value};
+    ghost use Rattle.core_lock.specs.Seats.{Locked};
+    ghost use Rattle.core_lock.specs.Keeping.{IsCore};
+
+    ghost Value = { Locked };
+
+    ghost view = { λ c. record { state = c.subsystem.state; history = c.subsystem.history; by = c.by.items; seats = c.seats } };
+
+    ghost invariant = { λ c. IsCore c.subsystem c.by.items c.seats c.entries.total (record { parts = c.rest.parts; amount = c.rest.amount }) (record { parts = c.turns_left.parts; amount = c.turns_left.amount }) c.writers.items (arc_value c.directory) J.name };
+}
+
+/// There was no memory for a core: what it was to be made of.
+#[derive(Drop)]
+pub struct NotMade<P: PathChoice + Drop> {
+    pub subsystem: Subsystem<P>,
+    pub parts: Parts,
+}
+
+/// A place at a machine, with the log of what was entered from it, and what it saw of the serials of each subchannel.
+#[derive(Drop)]
+pub struct Seat<J: Naming> {
+    number: u16,
+    log: Vec<Entry>,
+    directory: Arc<Directory>,
+    pairs: Vec<Serials>,
+    readers: Vec<Reader>,
+    share: Share<Entries<J>>,
+    turns: Share<Turns<J>>,
+    calls: u64,
+    owed: Option<OwedCall>,
+    kept: Option<KeptReport>,
+    left: Option<TakenCommand>,
+}
+
+impl<J: Naming> Model for Seat<J> {
+    ghost use Rattle.std.specs.Arc.{arc_value};
+    ghost use Rattle.core_lock.specs.Seats.{Seated};
+    ghost use Rattle.core_lock.specs.Keeping.{IsSeat};
+
+    ghost Value = { Seated };
+
+    ghost view = { λ s. record {
+      number = s.number;
+      log = s.log.items;
+      directory = arc_value s.directory;
+      pairs = s.pairs.items;
+      loaded = s.readers.items;
+      turns = s.turns.amount;
+      calls = s.calls;
+      owed = s.owed;
+      kept = s.kept;
+      left = s.left;
+    } };
+
+    ghost invariant = { λ s. IsSeat (record { parts = s.share.parts; amount = s.share.amount }) s.turns.parts s.log.items s.pairs.items s.readers.items (arc_value s.directory) J.name };
+}
+
+impl<J: Naming, P: PathChoice + Drop> Core<J, P> {
+    /// A subsystem to which nothing happened yet, with the parts of its configuration. Where no memory is left, both are
+    /// handed back.
+    pub fn new(alloc: Global, subsystem: Subsystem<P>, parts: Parts) -> Result<Self, NotMade<P>>
+        requires fresh { subsystem.history ≡ [] }
+        requires named { parts.name ≡ J.name }
+        requires directory { parts.name.directory ≡ directory_of subsystem.state }
+        requires serials { parts.serials ≡ all_serials subsystem.state }
+        ensures made { IfOk result (λ core. core ≡ record { state = subsystem.state; history = []; by = []; seats = 0 }) }
+        ensures subsystem { IfErr result (λ given. given.subsystem ≡ subsystem) }
+        ensures parts { IfErr result (λ given. given.parts ≡ parts) }
+    {
+        let mut by = Vec::new(alloc);
+        if by.reserve(1).is_err() {
+            return Err(NotMade { subsystem, parts });
+        }
+        let _ = subsystem.history();
+        let Parts {
+            entries,
+            turns,
+            writers,
+            directory,
+        } = parts;
+        let (entries, rest) = entries.open::<Entries<J>>();
+        let (turns, turns_left) = turns.open::<Turns<J>>();
+        Ok(Core {
+            alloc,
+            subsystem,
+            by,
+            seats: 0,
+            writers,
+            directory,
+            entries,
+            rest,
+            turns,
+            turns_left,
+        })
+    }
+
+    /// The subsystem, to look at. Whoever holds the core, under its lock or not, has what every run of a subsystem keeps.
+    pub fn subsystem(&self) -> &Subsystem<P>
+        ensures state { result.now.state ≡ self.now.state }
+        ensures history { result.now.history ≡ self.now.history }
+        ensures replays { HasRun self.now.history self.now.state }
+        ensures cleared_once { IsClearedOnce self.now.state.sets self.now.history }
+        ensures begun_once { IsBegunOnce self.now.state.sets self.now.history }
+        ensures agree { AllAgree self.now.state }
+        ensures headline { HasHeld self.now.history self.now.state }
+        ensures beside { length self.now.by ≡ length self.now.history }
+    {
+        let _ = self.subsystem.history();
+        &self.subsystem
+    }
+
+    /// One more seat. It is refused NotNow where 1,024 were made, and otherwise only where no memory is left.
+    pub fn seat(&mut self) -> Result<Seat<J>, Fault>
+        ensures seat { IfOk result (λ s. s ≡ record {
+          number = self.old.seats;
+          log = [];
+          directory = directory_of self.old.state;
+          pairs = all_serials self.old.state;
+          loaded = s.loaded;
+          turns = 0;
+          calls = 0;
+          owed = None;
+          kept = None;
+          left = None;
+        }) }
+        ensures loaded { IfOk result (λ s. shown s.loaded ≡ all_serials self.old.state) }
+        // A seat finds a subchannel where the subsystem has it.
+        ensures places { IfOk result (λ s. (word : ℕ) → place_named s.directory word ≡ place_of self.old.state word) }
+        ensures core { IfOk result (λ _. self.new ≡ record self.old { seats = self.old.seats + 1 }) }
+        ensures refused { IfErr result (λ f. (f ≡ fault_spec.NoMemory) ⊎ ((f ≡ fault_spec.NotNow) × (self.old.seats ≡ 1024))) }
+        ensures err { OnErr result (self.new ≡ self.old) }
+    {
+        if self.seats >= MOST_SEATS {
+            return Err(Fault::NotNow);
+        }
+        let alloc = self.alloc;
+        let Ok(directory) = Arc::try_clone(&self.directory) else {
+            return Err(Fault::NoMemory);
+        };
+        let Ok(readers) = watch(alloc, &mut self.writers) else {
+            return Err(Fault::NoMemory);
+        };
+        let Ok(pairs) = first_pairs(alloc, &self.subsystem) else {
+            return Err(Fault::NoMemory);
+        };
+        let share = self.rest.split_off(1, 0);
+        let turns = self.turns_left.split_off(1, 0);
+        let number = self.seats;
+        self.seats += 1;
+        Ok(Seat {
+            number,
+            log: Vec::new(alloc),
+            directory,
+            pairs,
+            readers,
+            share,
+            turns,
+            calls: 0,
+            owed: None,
+            kept: None,
+            left: None,
+        })
+    }
+
+    /// How many entries the history has, where all seats that were made are given. Core and seats are given up either way.
+    pub fn close(self, seats: Vec<Seat<J>>) -> Option<u64>
+        ensures all { IfSome result (λ _. vec_len seats ≡ self.seats) }
+        ensures entries { IfSome result (λ count. count ≡ length self.history) }
+        ensures logs { IfSome result (λ count. count ≡ sum_by (λ s. length s.log) seats.items) }
+        ensures none { IfNone result (vec_len seats ≢ self.seats) }
+    {
+        let Core {
+            alloc: _,
+            subsystem: _,
+            by,
+            seats: made,
+            writers: _,
+            directory: _,
+            mut entries,
+            mut rest,
+            turns: _,
+            turns_left: _,
+        } = self;
+        if seats.len() != usize::from(made) {
+            return None;
+        }
+        let mut seats = seats;
+        while let Some(seat) = seats.pop() {
+            rest.merge(seat.into_share());
+        }
+        entries.audit(&mut rest);
+        Some(by.len() as u64)
+    }
+
+    /// One step, entered from a seat: its reply, with the entry in the history and in the seat's log. Where it is refused all
+    /// is as before; it is refused `NoMemory` only where the history, the seats beside it or the log can't grow, or the steps
+    /// are used up.
+    pub fn enter(&mut self, seat: &mut Seat<J>, event: Event) -> Result<Reply, Fault>
+        ensures step { IfOk result (λ reply. Step self.old.state event reply self.new.state) }
+        ensures history { IfOk result (λ reply. self.new.history ≡ self.old.history ++ entry event reply ∷ []) }
+        ensures by { IfOk result (λ reply. self.new.by ≡ self.old.by ++ seat.old.number ∷ []) }
+        ensures seats { self.new.seats ≡ self.old.seats }
+        ensures logged { IfOk result (λ reply. seat.new ≡ entered seat.old event reply) }
+        ensures ruled { result ≢ Err fault_spec.NoMemory → GoesByRule P.picks self.old.state event result self.new.state }
+        ensures refusal { IfErr result (λ f. MayRefuse self.old.state event f) }
+        ensures core { OnErr result (self.new ≡ self.old) }
+        ensures seat { OnErr result (seat.new ≡ seat.old) }
+    {
+        if self.by.reserve(1).is_err() || seat.log.reserve(1).is_err() {
+            return Err(Fault::NoMemory);
+        }
+        touches();
+        let touched = touched_by(&self.subsystem, &event);
+        let reply = self.subsystem.step(&event)?;
+        publish(&mut self.writers, &self.subsystem, touched);
+        self.entries.add(&mut seat.share, 1);
+        self.by.push_reserved(seat.number);
+        raise(&mut seat.pairs, &seat.directory, &event, &reply);
+        seat.log.push_reserved(Entry {
+            event,
+            reply: reply.copy(),
+        });
+        Ok(reply)
+    }
+
+    /// One turn of the worker of a channel path: the first event that there is for a subchannel of that path is entered. False
+    /// where there is none. Refused, all but the number of turns is as before.
+    pub fn path_step(&mut self, seat: &mut Seat<J>, chpid: u8) -> Result<bool, Fault>
+        ensures turns { seat.new.turns ≡ seat.old.turns + 1 }
+        ensures turn { turn_spec.TakesPathTurn self.old (turn_spec.turned seat.old)
+            (turn_spec.path_turn_among self.old.state chpid (directory_of self.old.state).names) result self.new seat.new }
+        ensures works { turn_spec.WorksPaths seat.old seat.new (turn_spec.count_in result) }
+    {
+        self.count_turn(seat);
+        let turn = self.path_event(chpid);
+        self.take_path_turn(seat, turn)
+    }
+
+    /// The first event that there is for a subchannel of a channel path.
+    fn path_event(&self, chpid: u8) -> Option<Event>
+        ensures { result ≡ turn_spec.path_turn_among self.now.state chpid (directory_of self.now.state).names }
+    {
+        path_turn_of(&self.subsystem, &self.directory, chpid)
+    }
+
+    /// Takes a turn of the worker of a channel path.
+    fn take_path_turn(&mut self, seat: &mut Seat<J>, turn: Option<Event>) -> Result<bool, Fault>
+        ensures { turn_spec.TakesPathTurn self.old seat.old turn result self.new seat.new }
+    {
+        match turn {
+            Some(event) => self.try_enter(seat, event),
+            None => Ok(false),
+        }
+    }
+
+    /// One turn of the worker of a unit. A report that the seat keeps is handed in first: a stale one is dropped, and one that
+    /// is refused `NoMemory` or `WireFull` stays kept. Else an event is entered, or a call of the device becomes owed. A unit that
+    /// roams leaves its path first, once after each command, and asks for one again. Whether an event was entered.
+    pub fn unit_step(&mut self, seat: &mut Seat<J>, unit: u32, roam: bool) -> Result<bool, Fault>
+        requires { seat.old.owed ≡ None }
+        ensures turns { seat.new.turns ≡ seat.old.turns + 1 }
+        ensures turn { turn_spec.TakesUnitTurn self.old (turn_spec.turned seat.old) seat.old.kept «unit» roam result self.new seat.new }
+        ensures works { turn_spec.WorksUnit «unit» seat.old seat.new (turn_spec.count_in result) }
+        ensures owes { turn_spec.IsOwedBy «unit» seat.new.owed }
+    {
+        self.count_turn(seat);
+        self.unit_turn(seat, unit, roam)
+    }
+
+    /// Takes the turn of a unit's worker that there is.
+    fn unit_turn(&mut self, seat: &mut Seat<J>, unit: u32, roam: bool) -> Result<bool, Fault>
+        requires { seat.old.owed ≡ None }
+        ensures { turn_spec.TakesUnitTurn self.old seat.old seat.old.kept «unit» roam result self.new seat.new }
+    {
+        match &seat.kept {
+            Some(kept) => {
+                let kept = kept.copy();
+                seat.kept = None;
+                self.hand_in(seat, kept)
+            }
+            None => {
+                let turn = turn_of(&self.subsystem, seat.left, unit, roam);
+                self.take_turn(seat, turn)
+            }
+        }
+    }
+
+    /// Counts one turn, in the ledger alone.
+    fn count_turn(&mut self, seat: &mut Seat<J>)
+        ensures core { self.new ≡ self.old }
+        ensures seat { seat.new ≡ turn_spec.turned seat.old }
+    {
+        self.turns.add(&mut seat.turns, 1);
+    }
+
+    /// Tries to enter an event.
+    fn try_enter(&mut self, seat: &mut Seat<J>, event: Event) -> Result<bool, Fault>
+        ensures { turn_spec.Tries self.old seat.old seat.old event result self.new seat.new }
+    {
+        self.enter(seat, event)?;
+        Ok(true)
+    }
+
+    /// Hands in a report that was kept.
+    fn hand_in(&mut self, seat: &mut Seat<J>, kept: KeptReport) -> Result<bool, Fault>
+        ensures { turn_spec.HandsIn self.old seat.old kept result self.new seat.new }
+    {
+        let came = self.try_enter(seat, kept.event());
+        match came {
+            Ok(entered) => Ok(entered),
+            Err(fault) => seat.keep(kept, fault),
+        }
+    }
+
+    /// Takes a turn of a unit's worker.
+    fn take_turn(&mut self, seat: &mut Seat<J>, turn: Turn) -> Result<bool, Fault>
+        requires { seat.old.owed ≡ None }
+        ensures { turn_spec.TakesTurn self.old seat.old turn result self.new seat.new }
+    {
+        match turn {
+            Turn::Enters(event) => self.try_enter(seat, event),
+            Turn::Leaves(command) => self.leave(seat, command),
+            Turn::Owes(call) => {
+                seat.owed = Some(call);
+                Ok(false)
+            }
+            Turn::Rests => Ok(false),
+        }
+    }
+
+    /// The unit leaves its path, for this command once.
+    fn leave(&mut self, seat: &mut Seat<J>, command: TakenCommand) -> Result<bool, Fault>
+        ensures { turn_spec.TakesTurn self.old seat.old (turn_spec.leaves command) result self.new seat.new }
+    {
+        let event = Event::Act {
+            unit: command.unit,
+            act: UnitAct::Leave,
+        };
+        self.enter(seat, event)?;
+        seat.left = Some(command);
+        Ok(true)
+    }
+}
+
+impl<J: Naming> Seat<J> {
+    /// What the ledger has of it.
+    fn into_share(self) -> Share<Entries<J>>
+        ensures { (result.parts ≡ 1) × (result.amount ≡ length self.log) }
+    {
+        let Seat {
+            number: _,
+            log: _,
+            directory: _,
+            pairs: _,
+            readers: _,
+            share,
+            turns: _,
+            calls: _,
+            owed: _,
+            kept: _,
+            left: _,
+        } = self;
+        share
+    }
+
+    /// Keeps a report that was refused, where it is to be kept. A stale one is no refusal.
+    fn keep(&mut self, kept: KeptReport, fault: Fault) -> Result<bool, Fault>
+        ensures result { result ≡ turn_spec.refusal_of fault }
+        ensures seat { self.new ≡ turn_spec.with_kept self.old (turn_spec.kept_after kept fault) }
+    {
+        self.kept = kept_after(kept, fault);
+        refusal_of(fault)
+    }
+
+    /// Whether a call of a device is owed.
+    pub fn owes(&self) -> bool
+        ensures { result ≡ is_some self.now.owed }
+    {
+        self.owed.is_some()
+    }
+
+    /// Passes the gate, makes the call that is owed, and keeps the device's answer as a report. It takes no lock and no memory.
+    pub fn call<D: Device, G: Gate>(&mut self, device: &mut D, gate: &G)
+        requires { IsSome self.old.owed }
+        ensures { turn_spec.Calls D.answers self.old device.old self.new device.new }
+    {
+        let Some(owed) = self.owed.take() else {
+            unreachable!()
+        };
+        self.calls = self.calls.saturating_add(1);
+        gate.pass(owed.unit, self.calls);
+        self.kept = Some(KeptReport {
+            unit: owed.unit,
+            report: Report {
+                side: owed.side,
+                number: owed.number,
+                command: owed.command,
+                sequence: owed.sequence,
+                answer: answer(device, &owed.call),
+            },
+        });
+    }
+
+    /// The serials of a subchannel: part by part the greater of what is loaded and of what the seat saw. It takes no lock and
+    /// no memory, and is refused only where the subchannel is not configured.
+    pub fn glance(&mut self, subchannel: u32) -> Result<Glance, Fault>
+        ensures found { IfOk result (λ g. Glances self.old subchannel (serials g.made g.cleared) self.new) }
+        ensures ordered { IfOk result (λ g. g.cleared ≤ g.made) }
+        ensures refused { IfErr result (λ f. (f ≡ fault_spec.NoSuchSubchannel) × (place_named self.old.directory subchannel ≡ None)) }
+        ensures same { OnErr result (self.new ≡ self.old) }
+    {
+        let Some(place) = self.directory.place(subchannel) else {
+            return Err(Fault::NoSuchSubchannel);
+        };
+        let reader = &mut self.readers[place];
+        let loaded = reader.load();
+        let pair = self.pairs[place];
+        let found = greater(
+            pair,
+            Serials {
+                made: loaded.made,
+                cleared: loaded.cleared,
+            },
+        );
+        self.pairs[place] = found;
+        Ok(Glance {
+            made: found.made,
+            cleared: found.cleared,
+        })
+    }
+}
+
+/// TEST SUBCHANNEL with code 0 or 1 ends by raising the pair of its subchannel.
+fn raise(pairs: &mut Vec<Serials>, directory: &Directory, event: &Event, reply: &Reply)
+    ensures { pairs.new.items ≡ seat_spec.raised_among pairs.old.items directory.now event.now reply.now }
+{
+    let Event::Execute {
+        instruction: Instruction::Tsch { subchannel, .. },
+        ..
+    } = event
+    else {
+        return;
+    };
+    if let Some(found) = serials_brought(reply) {
+        raise_at(pairs, directory.place(*subchannel), found);
+    }
+}
+
+/// Whether the log of each seat is what the history has of it, in order.
+pub fn audit<J: Naming, P: PathChoice + Drop>(core: &Core<J, P>, seats: &[Seat<J>]) -> bool
+    ensures { IsTrue result ↔ All (λ s. entries_by s.number core.now.by core.now.history ≡ s.log) seats.now }
+{
+    for seat in seats {
+        if !has_log(core.by.as_slice(), &core.subsystem.history(), seat) {
+            return false;
+        }
+    }
+    true
+}
+
+/// Whether the log of a seat is what the history has of it.
+fn has_log<J: Naming>(by: &[u16], history: &History, seat: &Seat<J>) -> bool
+    requires { length by.now ≡ length history.now }
+    ensures { IsTrue result ↔ (entries_by seat.now.number by.now history.now ≡ seat.now.log) }
+{
+    is_log(seat.number, by, history, seat.log.as_slice())
+}
+
+fn is_log(number: u16, by: &[u16], history: &History, log: &[Entry]) -> bool
+    requires { length by.now ≡ length history.now }
+    ensures { IsTrue result ↔ (entries_by number by.now history.now ≡ log.now) }
+{
+    let mut next = 0;
+    for place in 0..by.len() {
+        if by[place] != number {
+            continue;
+        }
+        if next >= log.len() {
+            return false;
+        }
+        if !has_entry(history, place, &log[next]) {
+            return false;
+        }
+        next += 1;
+    }
+    next == log.len()
+}
+
+/// Whether this is the entry of a history at a place.
+fn has_entry(history: &History, place: usize, entry: &Entry) -> bool
+    ensures { IsTrue result ↔ (slice_get history.now place ≡ Some entry.now) }
+{
+    match history.get(place) {
+        Some(other) => same(other, entry),
+        None => false,
+    }
+}
