@@ -10,7 +10,6 @@ use Rattle.chan_model.specs.declared.answer.ConditionCode.{ConditionCode}
 use Rattle.chan_model.specs.declared.answer.ConditionCode.TheVariants as code
 use Rattle.chan_model.specs.declared.fault.Fault.{Fault}
 use Rattle.chan_model.specs.declared.fault.Fault.TheVariants as fault
-use Rattle.chan_model.specs.declared.report.Report.{Report}
 use Rattle.chan_model.specs.declared.signal.Down.{Down}
 use Rattle.chan_model.specs.declared.unit_state.UnitState.{UnitState}
 use Rattle.chan_model.specs.UnitTable as unit_table
@@ -21,7 +20,6 @@ use Rattle.chan_events.specs.declared.event.Instruction.TheVariants as instructi
 use Rattle.chan_events.specs.declared.event.UnitAct.{UnitAct}
 use Rattle.chan_events.specs.declared.reply.Reply.{Reply}
 use Rattle.subchannel_model.specs.declared.state.Subchannel.{Subchannel}
-use Rattle.subchannel_model.specs.declared.state.SubchannelState.{SubchannelState}
 use Rattle.subchannel_model.specs.Modify.{modified_state}
 use Rattle.machine_model.specs.InstructionSteps.{function_sub, subchannel_word}
 use Rattle.machine_model.specs.State.{State, place_of}
@@ -36,7 +34,7 @@ use Rattle.chan_events.specs.declared.reply.Reply.TheVariants as reply
 use Rattle.machine_model.specs.ActSteps.{act_sub, has_path_of_act, acts}
 use Rattle.machine_model.specs.declared.state.Sweep.{Sweep}
 use Rattle.machine_model.specs.declared.state.Sweep.TheVariants as sweep
-use Rattle.step_laws.specs.Walks.{Function, Resumes, Halts, Clears, Cancels, OneSub, OneUnit, Walked, Stays, Started, Tested, Modified, Performed, Chosen, Met, Sunk, Reported, Acted, Restarted, Swept, instruction_of, sweep_event}
+use Rattle.step_laws.specs.Walks.{Function, Resumes, Halts, Clears, Cancels, OneSub, Walked, Stays, Started, Tested, Modified, Performed, Chosen, Met, Sunk, Reported, Acted, Restarted, Swept, instruction_of, sweep_event}
 use Rattle.subsystem.specs.Keeping.{all_serials}
 use Rattle.core_lock.specs.declared.touching.Touched.{Touched}
 use Rattle.core_lock.specs.declared.touching.Touched.TheVariants.{Nothing, Place, All}

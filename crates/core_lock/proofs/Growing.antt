@@ -1,5 +1,5 @@
 -- Logs that grow by what workers enter.
-use Rattle.std.proofs.Common.{◌≡◌, ◌≢◌, ◌⊎◌, ℕ, zero, suc, ◌+◌, ◌<◌, arith, Bool, true, false, List, [], ◌∷◌, ◌++◌, length, Option, None, Some, Result, Ok, Err, refl, sym, ap, ◌∙◌, subst, append_assoc, append-nil, length-append, inl, inr, ⊎_elim}
+use Rattle.std.proofs.Common.{◌≡◌, ℕ, zero, suc, ◌+◌, arith, Bool, true, false, List, [], ◌∷◌, ◌++◌, Option, None, Some, Result, Ok, Err, refl, sym, ap, ◌∙◌, subst, append_assoc, append-nil, length-append, inl, inr}
 use Rattle.std.specs.Prelude.{All, ◌&&◌, not, if◌then◌else◌}
 use Rattle.std.proofs.lemmas.List.Elements.{All-append, All-weaker}
 use Rattle.chan_model.specs.declared.fault.Fault.{Fault}
@@ -18,7 +18,6 @@ use Rattle.machine_model.specs.declared.state.UnitTurn.{UnitTurn}
 use Rattle.machine_model.specs.declared.state.UnitTurn.TheVariants as unit_turn
 use Rattle.machine_model.specs.State.{State, sub_of, unit_turn_of}
 use Rattle.machine_steps.specs.PathTurns as path_turns
-use Rattle.core_lock.specs.declared.turns.OwedCall.{OwedCall}
 use Rattle.core_lock.specs.declared.turns.KeptReport.{KeptReport}
 use Rattle.core_lock.specs.declared.turns.TakenCommand.{TakenCommand}
 use Rattle.core_lock.specs.declared.turns.Turn.{Turn}
@@ -26,7 +25,7 @@ use Rattle.core_lock.specs.declared.turns.Turn.TheVariants.{Enters, Leaves, Owes
 use Rattle.core_lock.specs.Directory.{word_of}
 use Rattle.core_lock.specs.Seats.{Locked, Seated, entry}
 use Rattle.core_lock.specs.Entering.{entered}
-use Rattle.core_lock.specs.Turns.{turned, with_kept, with_left, with_owed, taken_command, has_left, turn_of_work, turn_at_work, turn_away, turn_by, turn_of, Tries, Passes, report_event, kept_after, HandsIn, TakesTurn, TakesUnitTurn, or_turn, path_turn_at, path_turn_among, TakesPathTurn, IsOfPaths, IsOfUnit, IsKept, IsOfWorker, Grew, IsKeptFrom, IsOwedBy, WorksPaths, WorksUnit, count_of, count_in}
+use Rattle.core_lock.specs.Turns.{turned, with_kept, with_left, with_owed, taken_command, has_left, turn_of_work, turn_away, turn_by, turn_of, Tries, Passes, report_event, kept_after, HandsIn, TakesTurn, TakesUnitTurn, or_turn, path_turn_at, path_turn_among, TakesPathTurn, IsOfPaths, IsOfUnit, IsKept, IsOfWorker, Grew, IsKeptFrom, IsOwedBy, WorksPaths, WorksUnit, count_in}
 
 all_none : (P : Entry → Type 0) → All P []
 all_none P k d lt = absurd (omega arith)

@@ -1,11 +1,11 @@
 -- The words of all cells, rewritten one after another.
-use Rattle.std.proofs.Common.{◌≡◌, ℕ, zero, suc, ◌+◌, ◌<◌, ◌≤◌, List, [], ◌∷◌, ◌++◌, map, length, get_or, set, take, add-one, Some, None, refl, sym, ap, ◌∙◌, subst, arith}
-use Rattle.std.specs.Prelude.{slice_get, slice_set}
+use Rattle.std.proofs.Common.{◌≡◌, ℕ, zero, suc, ◌+◌, ◌<◌, ◌≤◌, List, [], ◌∷◌, length, get_or, set, add-one, Some, refl, sym, ap, ◌∙◌, arith}
+use Rattle.std.specs.Prelude.{slice_get}
 use Rattle.std.proofs.lemmas.List.{length-map}
 use Rattle.scsw_irb.specs.declared.serials.Serials.{Serials}
 use Rattle.subsystem.specs.Keeping.{Rises}
 use Rattle.glance_cell.specs.Shown.{Words}
-use Rattle.core_lock.specs.Named.{cell_of, cells_of, counts_of, serials, shown}
+use Rattle.core_lock.specs.Named.{cell_of, cells_of, counts_of, shown}
 
 module _ {A : Type 0} where
   -- the first i of new, and then old

@@ -1,5 +1,5 @@
 -- The turns of workers (own).
-use Rattle.std.specs.Prelude.{◌≡◌, ◌≢◌, ◌⊎◌, ℕ, ◌+◌, ◌==◌, ◌&&◌, not, Bool, true, false, All, List, [], ◌∷◌, ◌++◌, length, map, Option, None, Some, Result, Ok, Err, min, if◌then◌else◌}
+use Rattle.std.specs.Prelude.{◌≡◌, ◌≢◌, ◌⊎◌, ℕ, ◌+◌, ◌==◌, ◌&&◌, not, Bool, true, false, All, List, [], ◌∷◌, ◌++◌, length, Option, None, Some, Result, Ok, Err, min, if◌then◌else◌}
 use Rattle.chan_model.specs.declared.fault.Fault.{Fault}
 use Rattle.chan_model.specs.declared.fault.Fault.TheVariants as fault
 use Rattle.chan_model.specs.declared.report.Call.{Call}
@@ -22,7 +22,7 @@ use Rattle.core_lock.specs.declared.turns.KeptReport.{KeptReport}
 use Rattle.core_lock.specs.declared.turns.TakenCommand.{TakenCommand}
 use Rattle.core_lock.specs.declared.turns.Turn.{Turn}
 use Rattle.core_lock.specs.declared.turns.Turn.TheVariants.{Enters, Leaves, Owes, Rests}
-use Rattle.core_lock.specs.Directory.{Directory, directory_of, word_of}
+use Rattle.core_lock.specs.Directory.{word_of}
 use Rattle.core_lock.specs.Seats.{Locked, Seated}
 use Rattle.core_lock.specs.Entering as entering
 use Rattle.core_lock.specs.Entering.{MayRefuse}

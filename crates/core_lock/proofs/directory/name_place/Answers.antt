@@ -1,4 +1,4 @@
-use Rattle.std.proofs.Common.{◌≡◌, sym, ◌∙◌}
+use Rattle.std.proofs.Common.{sym, ◌∙◌}
 use Rattle.core_lock.proofs.Finding.{place_at, place_more}
 use Rattle.core_lock.proofs.directory.name_place.Goals as goal
 

@@ -1,5 +1,5 @@
-use Rattle.std.proofs.Common.{◌≡◌, ◌≢◌, ◌<◌, ◌≤◌, length, get_or, true, false, true≢false, rules, refl, arith, sym, ap, ◌∙◌, subst}
-use Rattle.core_lock.proofs.Auditing.{Fits, any_entry, skips, goes_on_with, ends_early, differs_from, whole, short, no_true}
+use Rattle.std.proofs.Common.{true≢false, rules, sym, ◌∙◌}
+use Rattle.core_lock.proofs.Auditing.{any_entry, skips, goes_on_with, ends_early, differs_from, whole, short, no_true}
 use Rattle.core_lock.proofs.locked.is_log.Goals as goal
 
 pub loop-place-preserved-then-by-place : goal.loop-place-preserved-then-by-place

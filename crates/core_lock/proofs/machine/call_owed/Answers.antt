@@ -1,4 +1,4 @@
-use Rattle.std.proofs.Common.{◌≡◌, sym, ◌∙◌}
+use Rattle.std.proofs.Common.{sym, ◌∙◌}
 use Rattle.core_lock.proofs.Calling.{called, not_called}
 use Rattle.core_lock.proofs.machine.call_owed.Goals as goal
 

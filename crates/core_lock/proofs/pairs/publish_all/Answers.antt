@@ -1,4 +1,4 @@
-use Rattle.std.proofs.Common.{◌≡◌, ◌<◌, arith, length, sym, ap, ◌∙◌}
+use Rattle.std.proofs.Common.{arith, ◌∙◌}
 use Rattle.subsystem.specs.Keeping.{all_serials}
 use Rattle.core_lock.specs.Named.{shown}
 use Rattle.core_lock.proofs.Rewriting.{rises_at, mixes_on, mix_end, same_cells, shown_length}

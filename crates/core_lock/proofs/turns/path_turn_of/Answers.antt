@@ -1,4 +1,4 @@
-use Rattle.std.proofs.Common.{◌≡◌, ◌<◌, arith, sym, ◌∙◌}
+use Rattle.std.proofs.Common.{arith, sym, ◌∙◌}
 use Rattle.core_lock.proofs.Finding.{among_found, among_more}
 use Rattle.core_lock.proofs.turns.path_turn_of.Goals as goal
 

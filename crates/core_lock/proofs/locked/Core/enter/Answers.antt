@@ -1,16 +1,11 @@
-use Rattle.std.proofs.Common.{◌≡◌, ◌+◌, [], ◌∷◌, ◌++◌, ℕ, List, length, rules, refl, sym, ap, ◌∙◌, subst}
+use Rattle.std.proofs.Common.{◌+◌, [], ◌∷◌, ◌++◌, ℕ, List, length, rules, sym, ap, ◌∙◌, subst}
 use Rattle.std.specs.Prelude.{All}
-use Rattle.std.specs.Arc.{arc_value}
 use Rattle.scsw_irb.specs.declared.serials.Serials.{Serials}
-use Rattle.chan_events.specs.declared.reply.Entry.{Entry}
-use Rattle.chan_events.specs.declared.reply.Reply.{Reply}
 use Rattle.machine_model.specs.Steps.{Step}
 use Rattle.subsystem.specs.Keeping.{IsOrdered, all_serials}
 use Rattle.core_lock.specs.declared.touching.Touched.{Touched}
-use Rattle.core_lock.specs.Directory.{Directory}
-use Rattle.core_lock.specs.Entering.{Enters}
 use Rattle.core_lock.specs.Named.{shown}
-use Rattle.core_lock.specs.Seats.{Locked, Seated, entry, raised_among}
+use Rattle.core_lock.specs.Seats.{Locked, entry}
 use Rattle.core_lock.specs.Touching.{Changes, touched}
 use Rattle.core_lock.proofs.Directories.{stays_named}
 use Rattle.core_lock.proofs.Lengthening.{longer}

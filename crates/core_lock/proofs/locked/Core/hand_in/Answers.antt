@@ -1,4 +1,4 @@
-use Rattle.std.proofs.Common.{◌≡◌, Bool, Result, sym, subst}
+use Rattle.std.proofs.Common.{Bool, Result, sym, subst}
 use Rattle.chan_model.specs.declared.fault.Fault.{Fault}
 use Rattle.core_lock.specs.Turns.{HandsIn}
 use Rattle.core_lock.proofs.Handing.{handed_ok, handed_err}

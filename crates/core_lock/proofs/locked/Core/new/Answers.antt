@@ -1,5 +1,4 @@
-use Rattle.std.proofs.Common.{◌≡◌, ◌≤◌, length, rules, arith, refl, sym, ap, ◌∙◌}
-use Rattle.chan_events.specs.declared.reply.Entry.{Entry}
+use Rattle.std.proofs.Common.{length, rules, arith, sym, ap, ◌∙◌}
 use Rattle.core_lock.specs.Named.{MachineName, MachineParts}
 use Rattle.core_lock.proofs.Directories.{run_named}
 use Rattle.core_lock.proofs.locked.Core.new.Goals as goal

@@ -1,4 +1,4 @@
-use Rattle.std.proofs.Common.{◌≡◌, List, sym, ap, ◌∙◌}
+use Rattle.std.proofs.Common.{sym, ap, ◌∙◌}
 use Rattle.core_lock.specs.Directory.{Directory, directory_of}
 use Rattle.core_lock.specs.Seats.{Locked}
 use Rattle.core_lock.specs.Turns.{path_turn_among}

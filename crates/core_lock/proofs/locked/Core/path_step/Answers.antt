@@ -1,4 +1,4 @@
-use Rattle.std.proofs.Common.{◌≡◌, Option, sym, ap, ◌∙◌, subst}
+use Rattle.std.proofs.Common.{Option, ap, ◌∙◌, subst}
 use Rattle.chan_events.specs.declared.event.Event.{Event}
 use Rattle.core_lock.specs.Directory.{directory_of}
 use Rattle.core_lock.specs.Seats.{Locked, Seated}

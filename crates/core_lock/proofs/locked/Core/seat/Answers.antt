@@ -1,4 +1,4 @@
-use Rattle.std.proofs.Common.{◌≡◌, ℕ, [], None, refl, sym, ap, ◌∙◌}
+use Rattle.std.proofs.Common.{None, sym, ap, ◌∙◌}
 use Rattle.subsystem.specs.Keeping.{all_serials}
 use Rattle.core_lock.specs.Directory.{Directory, directory_of, place_named}
 use Rattle.core_lock.specs.Seats.{Locked}

@@ -1,4 +1,4 @@
-use Rattle.std.proofs.Common.{◌≡◌, subst}
+use Rattle.std.proofs.Common.{subst}
 use Rattle.machine_laws.specs.Agreeing.{AllAgree}
 use Rattle.subsystem.specs.Headline.{HasHeld}
 use Rattle.core_lock.specs.Seats.{Locked}

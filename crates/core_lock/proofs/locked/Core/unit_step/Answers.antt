@@ -1,6 +1,6 @@
-use Rattle.std.proofs.Common.{◌≡◌, sym, ap, ◌∙◌, subst}
+use Rattle.std.proofs.Common.{subst}
 use Rattle.core_lock.specs.Seats.{Locked, Seated}
-use Rattle.core_lock.specs.Turns.{TakesUnitTurn, turned}
+use Rattle.core_lock.specs.Turns.{TakesUnitTurn}
 use Rattle.core_lock.proofs.Growing.{unit_works, unit_owed}
 use Rattle.core_lock.proofs.locked.Core.unit_step.Goals as goal
 

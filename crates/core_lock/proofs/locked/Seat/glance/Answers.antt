@@ -1,11 +1,10 @@
-use Rattle.std.proofs.Common.{◌≡◌, ◌<◌, length, set, Some, refl, arith, sym, ap, ◌∙◌, subst}
+use Rattle.std.proofs.Common.{◌<◌, length, set, refl, arith, sym, ap, ◌∙◌, subst}
 use Rattle.std.specs.Prelude.{slice_get}
 use Rattle.std.proofs.lemmas.List.{length-set}
 use Rattle.std.proofs.lemmas.Option.{slice_get_read}
 use Rattle.std.proofs.Math.Seq.{map-set_same}
 use Rattle.subsystem.specs.Keeping.{IsOrdered}
 use Rattle.core_lock.specs.Directory.{Directory, place_named}
-use Rattle.core_lock.specs.Entering.{Glances}
 use Rattle.core_lock.specs.Named.{cell_of, serials}
 use Rattle.core_lock.specs.Seats.{Seated, greater}
 use Rattle.core_lock.proofs.Raising.{set_ordered, greater_ordered}

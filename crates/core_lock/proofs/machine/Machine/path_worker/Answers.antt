@@ -1,4 +1,4 @@
-use Rattle.std.proofs.Common.{◌≡◌, ◌+◌, ◌≤◌, ℕ, arith, sym, subst}
+use Rattle.std.proofs.Common.{◌+◌, ℕ, arith, sym, subst}
 use Rattle.core_lock.specs.Turns as turn_spec
 use Rattle.core_lock.specs.Turns.{WorksPaths}
 use Rattle.core_lock.proofs.Growing.{paths_more}

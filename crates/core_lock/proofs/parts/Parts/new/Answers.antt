@@ -1,4 +1,4 @@
-use Rattle.std.proofs.Common.{◌≡◌, length, ap, ◌∙◌}
+use Rattle.std.proofs.Common.{length, ap, ◌∙◌}
 use Rattle.std.specs.Prelude.{replicate}
 use Rattle.core_lock.specs.Named.{serials}
 use Rattle.core_lock.proofs.Directories.{opening_directory, opening_serials}
