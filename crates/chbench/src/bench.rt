@@ -1,0 +1,210 @@
+//! A channel subsystem of which the last subchannel is measured, with its device.
+
+use crate::cycle::{Beat, IRB, Kind, ORB};
+use chan_events::event::{Event, Instruction, UnitAct};
+use chan_model::chunk::Chunk;
+use chan_model::names::Cpu;
+use chan_model::report::{Report, Work};
+use channel_config::config::Config;
+use channel_config::parts::UnitKind;
+use device_law::answering::answer;
+use device_models::any_device::AnyDevice;
+use machine_model::state::UnitTurn;
+use path_select::Rotating;
+use std::alloc::{AllocError, Global};
+use subsystem::subsystem::Subsystem;
+
+/// The channel paths of each subchannel, the first of them or all.
+const CHPIDS: [u32; 8] = [0x10, 0x11, 0x12, 0x13, 0x14, 0x15, 0x16, 0x17];
+
+/// The most subchannels that there are: 256 in each of four sets.
+pub const MOST_SUBCHANNELS: u32 = 0x400;
+
+/// A channel subsystem, the subchannel that is measured, and the device of its unit.
+#[derive(Drop)]
+pub struct Bench {
+    subsystem: Subsystem<Rotating>,
+    device: AnyDevice,
+    cpu: Cpu,
+    subchannel: u32,
+    unit: u32,
+}
+
+/// What came of the cycles.
+#[derive(Clone, Copy)]
+pub struct Count {
+    /// How many events were accepted.
+    pub accepted: u64,
+    /// How many were refused.
+    pub refused: u64,
+    /// How many statuses were made and cleared.
+    pub cleared: u64,
+}
+
+/// The subsystem-identification word of the subchannel of this place.
+fn word_of(place: u32) -> u32 {
+    0x0001_0000 | ((place >> 8) << 17) | (place & 0xFF)
+}
+
+/// So many subchannels with so many paths, each with a unit of its own.
+fn config_of(alloc: Global, subchannels: u32, paths: usize) -> Config {
+    let mut config = Config::new(alloc);
+    let _ = config.storage(0x10);
+    let _ = config.sets(4);
+    let chpids = &CHPIDS[..paths.min(8)];
+    for chpid in chpids {
+        let _ = config.path(*chpid);
+    }
+    for place in 0..subchannels {
+        let _ = config.unit(place, UnitKind::Block);
+        let _ = config.subchannel(word_of(place), place & 0xFFFF, place, chpids);
+    }
+    config
+}
+
+impl Bench {
+    /// The last of so many subchannels, 1 to 1,024, is enabled, and a program of this kind lies in storage. None where there
+    /// are not so many, or no memory.
+    pub fn new(alloc: Global, kind: Kind, subchannels: u32) -> Option<Bench> {
+        let cpu = Cpu::new(0)?;
+        let last = subchannels.checked_sub(1)?;
+        if last >= MOST_SUBCHANNELS {
+            return None;
+        }
+        let config = config_of(alloc, subchannels, kind.paths());
+        let subsystem = Subsystem::new(alloc, config, Rotating).ok()?;
+        let mut bench = Bench {
+            subsystem,
+            device: AnyDevice::of(UnitKind::Block),
+            cpu,
+            subchannel: word_of(last),
+            unit: last,
+        };
+        let enabling = bench.execute(Instruction::Enable {
+            subchannel: bench.subchannel,
+            subclass: 0,
+            multipath: true,
+        });
+        let loads = kind.loads(alloc).ok()?;
+        for load in loads.iter() {
+            if bench.subsystem.step(load).is_err() {
+                return None;
+            }
+        }
+        if bench.subsystem.step(&enabling).is_err() {
+            return None;
+        }
+        Some(bench)
+    }
+
+    fn execute(&self, instruction: Instruction) -> Event {
+        Event::Execute {
+            cpu: self.cpu,
+            instruction,
+        }
+    }
+
+    /// The report of the unit's next work, its device having been called where the work is a call.
+    fn report(&mut self) -> Option<Event> {
+        let UnitTurn::Works(work) = self.subsystem.unit_turn(self.unit)? else {
+            return None;
+        };
+        let report = match work {
+            Work::Report(report) => report,
+            Work::Call {
+                side,
+                number,
+                command,
+                sequence,
+                call,
+            } => Report {
+                side,
+                number,
+                command,
+                sequence,
+                answer: answer(&mut self.device, &call),
+            },
+        };
+        Some(Event::Report {
+            unit: self.unit,
+            report,
+        })
+    }
+
+    /// The event of a beat; None where the unit has no work.
+    fn event(&mut self, beat: Beat) -> Option<Event> {
+        let subchannel = self.subchannel;
+        let unit = self.unit;
+        match beat {
+            Beat::Start => Some(self.execute(Instruction::Ssch {
+                subchannel,
+                address: ORB,
+            })),
+            Beat::Choose => Some(Event::Choose { subchannel }),
+            Beat::Down(path) => Some(Event::Down { subchannel, path }),
+            Beat::Up(path) => Some(Event::Up { subchannel, path }),
+            Beat::Device => self.report(),
+            Beat::Leave => Some(Event::Act {
+                unit,
+                act: UnitAct::Leave,
+            }),
+            Beat::Ask(path) => Some(Event::Act {
+                unit,
+                act: UnitAct::Ask { path },
+            }),
+            Beat::Test => Some(self.execute(Instruction::Tsch {
+                subchannel,
+                address: IRB,
+            })),
+        }
+    }
+
+    /// Whether the event of a beat is accepted.
+    fn perform(&mut self, beat: Beat) -> bool {
+        match self.event(beat) {
+            Some(event) => self.subsystem.step(&event).is_ok(),
+            None => false,
+        }
+    }
+
+    /// One cycle: how many of its events were refused.
+    fn cycle(&mut self, beats: &[Beat]) -> u64 {
+        let mut refused = 0u64;
+        for beat in beats {
+            if !self.perform(*beat) {
+                refused = refused.saturating_add(1);
+            }
+        }
+        refused
+    }
+
+    /// So many cycles.
+    fn cycles(&mut self, beats: &[Beat], cycles: u64) -> u64 {
+        let mut refused = 0u64;
+        for _ in 0..cycles {
+            refused = refused.saturating_add(self.cycle(beats));
+        }
+        refused
+    }
+
+    /// How many entries the history has.
+    fn entries(&self) -> u64 {
+        self.subsystem.history().len() as u64
+    }
+
+    /// Performs so many cycles of this kind.
+    pub fn measure(&mut self, alloc: Global, kind: Kind, cycles: u64) -> Result<Count, AllocError> {
+        let beats = kind.beats(alloc)?;
+        let before = self.entries();
+        let refused = self.cycles(beats.as_slice(), cycles);
+        let cleared = match self.subsystem.serials(self.subchannel) {
+            Some(serials) => serials.cleared,
+            None => 0,
+        };
+        Ok(Count {
+            accepted: self.entries().saturating_sub(before),
+            refused,
+            cleared,
+        })
+    }
+}
