@@ -1,0 +1,5 @@
+//! A module for each kind of test.
+
+mod machines;
+mod seats_tests;
+mod workers_tests;
