@@ -1,4 +1,4 @@
 use Rattle.core_tests.proofs.tests.seats_tests.goes.Given as goal
 
 abbrev pub ghosts-tell : goal.ghosts-tell
-ghosts-tell g a = record { name = a.parts.name }
+ghosts-tell a = record { name = a.parts.name }
