@@ -13,8 +13,6 @@ ghost use Rattle.streams.specs.Sinks.{Puts};
 pub mod held;
 mod race;
 
-pub use race::RaceCount;
-
 use crate::held::Held;
 use crate::race::put_race;
 use chan_events::reply::{PATH_STATUS_BYTES, Reply, report_word};
@@ -22,6 +20,7 @@ use chan_model::answer::{Answer, ConditionCode};
 use chan_model::fault::Fault;
 use chan_model::signal::{Down, Up};
 use itoa::Buffer;
+pub use race::RaceCount;
 use scsw_irb::code::IntCode;
 use scsw_irb::crw::Crw;
 use scsw_irb::scsw::Scsw;
@@ -371,7 +370,13 @@ pub(crate) fn put_between<S: Sink>(sink: &mut S, first: &[u8], number: u64, seco
 
 /// Two names, each with its number.
 #[tactic(auto, using(streams::proofs::Sinking::takes_then, streams::proofs::Sinking::fails_then))]
-pub(crate) fn put_numbers<S: Sink>(sink: &mut S, first: &[u8], a: u64, second: &[u8], b: u64) -> bool
+pub(crate) fn put_numbers<S: Sink>(
+    sink: &mut S,
+    first: &[u8],
+    a: u64,
+    second: &[u8],
+    b: u64,
+) -> bool
     ensures { Puts (S.seen sink.old) (first.now ++ decimal a ++ second.now ++ decimal b) (S.seen sink.new) result }
 {
     put_between(sink, first, a, second) && put_decimal(sink, b)

@@ -30,13 +30,16 @@ fn put_codes<S: Sink>(sink: &mut S, race: &RaceCount) -> bool
 fn audit_text(audited: bool) -> &'static [u8]
     ensures { result.now ≡ spec.audit_text audited }
 {
-    if audited { b" audit ok" } else { b" audit failed" }
+    if audited {
+        b" audit ok"
+    } else {
+        b" audit failed"
+    }
 }
 
 /// What came of a race.
 pub(crate) fn put_race<S: Sink>(sink: &mut S, race: &RaceCount) -> bool
     ensures { Puts (S.seen sink.old) (spec.race_text race.now) (S.seen sink.new) result }
 {
-    put_codes(sink, race)
-        && put_between(sink, b" entries ", race.entries, audit_text(race.audited))
+    put_codes(sink, race) && put_between(sink, b" entries ", race.entries, audit_text(race.audited))
 }
