@@ -118,7 +118,10 @@ const RACING: [(&[u8], u64, u8); 13] = [
 #[test]
 fn wrong_races_are_named(rt: HostRuntime) {
     for (text, line, rule) in RACING {
-        assert!(rt; is_named(&rt, true, text, line, rule), "line {line} rule {rule}");
+        assert!(rt;
+            is_named(&rt, true, text, line, rule),
+            "line {line} rule {rule}"
+        );
     }
 }
 
@@ -158,7 +161,10 @@ fn a_race_is_in_the_last_line_with_words(rt: HostRuntime) -> Result<(), AllocErr
 #[test]
 fn wrong_lines_are_named(rt: HostRuntime) -> Result<(), AllocError> {
     for (text, line, rule) in WRONG {
-        assert!(rt; is_named(&rt, false, text, line, rule), "line {line} rule {rule}");
+        assert!(rt;
+            is_named(&rt, false, text, line, rule),
+            "line {line} rule {rule}"
+        );
     }
     for (lines, line, rule) in WRONG_LATER {
         let text = text_of(rt.alloc(), lines)?;
