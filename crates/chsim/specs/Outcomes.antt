@@ -24,6 +24,7 @@ complaint_of_ending (ending.Bad whole) = unwritten whole
 complaint_of_ending (ending.NoMemory whole) = unwritten whole
 complaint_of_ending (ending.Done refused) = None
 complaint_of_ending (ending.Stopped refused) = unwritten false
+complaint_of_ending (ending.AuditFailed whole) = unwritten whole
 
 -- there is a line just where standard output cannot tell how the program ended
 abbrev pub complaint_of : Outcome → Option (List ℕ)

@@ -5,9 +5,9 @@ use Rattle.std.specs.String.{string_bytes}
 use Rattle.command_words.specs.declared.Refused.{Refused}
 use Rattle.command_words.specs.declared.Refused.TheVariants as refused
 use Rattle.command_words.specs.declared.Wanted.{Wanted}
-use Rattle.command_words.specs.declared.Wanted.TheVariants.{Run, Check}
+use Rattle.command_words.specs.declared.Wanted.TheVariants.{Run, Race, Check}
 use Rattle.command_words.specs.Plain.{plain}
-use Rattle.serving.specs.Serving.{Serves, Checks}
+use Rattle.serving.specs.Serving.{Serves, ServesRace, Checks}
 use Rattle.serving.specs.declared.Ending.{Ending}
 use Rattle.chsim.specs.declared.outcome.Outcome.{Outcome}
 use Rattle.chsim.specs.declared.outcome.Outcome.TheVariants.{Ended, NoCommand, NoMemory}
@@ -15,6 +15,7 @@ use Rattle.chsim.specs.declared.outcome.Outcome.TheVariants.{Ended, NoCommand, N
 -- a command ends in one way
 abbrev pub Does : Wanted → Option (List ℕ) → Seen → Seen → Ending → Type 0
 Does Run input held now ending = Serves input held now ending
+Does Race input held now ending = ServesRace input held now ending
 Does Check input held now ending = Checks input held now ending
 
 -- words that name no command: their text is written, or the sink failed within it; or there was no memory for the text, and nothing is

@@ -11,16 +11,19 @@ mod tests;
 
 use crate::outcome::Outcome;
 use command_words::{Refused, Wanted, command_of};
-use serving::{check_script, serve_script};
+use serving::{check_script, race_script, serve_script};
 use std::alloc::Global;
 use std::io::ErrorKind;
 use std::process::ExitCode;
+use std::sync::Wait;
+use std::thread::Threads;
 use std::{env, io};
 use streams::{Heard, Sink, Source, Watched};
 
 /// Serves the program's words, its own name being the first of them, and answers how it ended. Words that name no command
 /// write a text, which is help where they ask for it, before anything is read; none where there is no memory for it.
-pub fn serve<'a, R: Source, S: Sink>(
+pub fn serve<'a, T: Threads + Wait + Sync, R: Source, S: Sink>(
+    rt: &T,
     alloc: Global,
     words: &'a [&'a str],
     reader: &mut R,
@@ -31,6 +34,7 @@ pub fn serve<'a, R: Source, S: Sink>(
 {
     match command_of(alloc, words) {
         Ok(Wanted::Run) => Outcome::Ended(serve_script(alloc, reader, sink)),
+        Ok(Wanted::Race) => Outcome::Ended(race_script(rt, alloc, reader, sink)),
         Ok(Wanted::Check) => Outcome::Ended(check_script(alloc, reader, sink)),
         Err(refused) => show(refused, sink),
     }
@@ -66,8 +70,8 @@ fn without_words(error: io::Error) -> Outcome {
     }
 }
 
-/// Serves the program's words over standard input and standard output.
-fn run(rt: &HostRuntime) -> Result<Outcome, Outcome> {
+/// Serves the program's words over standard input and standard output, with threads for a race.
+fn run<T: Threads + Wait + Sync>(threads: &T, rt: &HostRuntime) -> Result<Outcome, Outcome> {
     let owned = words_of(rt)?;
     let mut words = Vec::new(rt.alloc());
     for word in owned.iter() {
@@ -75,11 +79,17 @@ fn run(rt: &HostRuntime) -> Result<Outcome, Outcome> {
     }
     let mut reader = Heard::new(rt.reader());
     let mut sink = Watched::new(io::writer(rt));
-    Ok(serve(rt.alloc(), words.as_slice(), &mut reader, &mut sink))
+    Ok(serve(
+        threads,
+        rt.alloc(),
+        words.as_slice(),
+        &mut reader,
+        &mut sink,
+    ))
 }
 
 fn main(rt: HostRuntime) -> ExitCode {
-    let outcome = match run(&rt) {
+    let outcome = match run(&rt, &rt) {
         Ok(outcome) | Err(outcome) => outcome,
     };
     if let Some(line) = outcome.complaint() {

@@ -50,7 +50,9 @@ fn ending_complaint(ending: Ending) -> Option<&'static str>
 {
     match ending {
         Ending::NotRead => Some("chsim: standard input could not be read"),
-        Ending::Bad { whole } | Ending::NoMemory { whole } => unwritten(whole),
+        Ending::Bad { whole } | Ending::NoMemory { whole } | Ending::AuditFailed { whole } => {
+            unwritten(whole)
+        }
         Ending::Done { .. } => None,
         Ending::Stopped { .. } => unwritten(false),
     }

@@ -11,14 +11,20 @@ use crate::serve;
 use crate::tests::memory::{Short, Slow};
 use crate::tests::scenes::Scene;
 use serving::{Ending, serve_script_with};
+use std::sync::Wait;
+use std::thread::Threads;
 use streams::{Heard, Watched};
 use supply::Refusing;
 
 /// The output and the exit status of a command over a text.
-pub fn served(rt: &HostRuntime, word: &str, text: &[u8]) -> (Vec<u8>, u8) {
+pub fn served<R: Threads + Wait + Sync + AllocGlobal>(
+    rt: &R,
+    word: &str,
+    text: &[u8],
+) -> (Vec<u8>, u8) {
     let mut reader = Heard::new(text);
     let mut sink = Watched::new(Vec::new(rt.alloc()));
-    let outcome = serve(rt.alloc(), &["chsim", word], &mut reader, &mut sink);
+    let outcome = serve(rt, rt.alloc(), &["chsim", word], &mut reader, &mut sink);
     (sink.writer, outcome.status())
 }
 
@@ -28,6 +34,21 @@ fn a_good_script_is_run_or_approved(rt: HostRuntime) {
     assert!(rt; write.is_right(&rt));
     let (out, status) = served(&rt, "check", write.text());
     assert!(rt; out.as_slice() == b"script ok\n".as_slice());
+    assert!(rt; status == 0);
+}
+
+#[test]
+fn a_race_is_told(rt: HostRuntime) {
+    let mut scene = Scene::with_one_path(&rt);
+    scene.says(b"pathdown 10", b"done");
+    scene.says(b"csch 0", b"cc 0");
+    scene.says(b"choose 0", b"status");
+    scene.says(
+        b"race 4 100 tsch 0",
+        b"cc0 1 cc1 399 cc2 0 cc3 0 entries 400 audit ok",
+    );
+    let (out, status) = served(&rt, "race", scene.text());
+    assert!(rt; out.as_slice() == scene.printed());
     assert!(rt; status == 0);
 }
 
@@ -65,7 +86,7 @@ fn a_text_that_is_not_read_is_not_served(rt: HostRuntime) {
             fails_at,
         });
         let mut sink = Watched::new(Vec::new(rt.alloc()));
-        let outcome = serve(rt.alloc(), &["chsim", "run"], &mut reader, &mut sink);
+        let outcome = serve(&rt, rt.alloc(), &["chsim", "run"], &mut reader, &mut sink);
         let out = sink.writer;
         if fails_at == 0 || fails_at > reader.reader.calls {
             assert!(rt; out.as_slice() == write.printed());
@@ -88,7 +109,7 @@ fn nothing_is_performed_after_a_write_fails(rt: HostRuntime) {
             calls: 0,
             fails_at,
         });
-        let outcome = serve(rt.alloc(), &["chsim", "run"], &mut reader, &mut sink);
+        let outcome = serve(&rt, rt.alloc(), &["chsim", "run"], &mut reader, &mut sink);
         let out = sink.writer;
         assert!(rt; write.printed().starts_with(out.text.as_slice()));
         if fails_at == 0 || fails_at > out.calls {
@@ -146,7 +167,7 @@ fn other_words_show_a_text(rt: HostRuntime) {
     for (words, begins) in rows {
         let mut reader = Heard::new(GOOD);
         let mut sink = Watched::new(Vec::new(rt.alloc()));
-        let outcome = serve(rt.alloc(), words, &mut reader, &mut sink);
+        let outcome = serve(&rt, rt.alloc(), words, &mut reader, &mut sink);
         let out = sink.writer;
         assert!(rt; out.as_slice().starts_with(begins.as_bytes()), "{begins}");
         assert!(rt; ends(outcome, 2, None));
@@ -170,7 +191,7 @@ fn what_is_not_written_is_told(rt: HostRuntime) {
             calls: 0,
             fails_at: 1,
         });
-        let outcome = serve(rt.alloc(), words, &mut reader, &mut sink);
+        let outcome = serve(&rt, rt.alloc(), words, &mut reader, &mut sink);
         assert!(rt; sink.writer.text.len() == 0);
         assert!(rt; ends(outcome, status, Some(UNWRITTEN)));
     }

@@ -14,6 +14,8 @@ use std::alloc::{AllocError, Global};
 pub enum Wanted {
     /// Perform a script's events.
     Run,
+    /// Perform a script's events, and the race of its last line.
+    Race,
     /// Read a script alone.
     Check,
 }
@@ -28,9 +30,9 @@ pub enum Refused {
     NoMemory,
 }
 
-/// Which command the words name, the program's own name being the first of them. They name `run`
-/// or `check` where that is the second word and there is no third; all other words, `--help` among
-/// them, are refused with a text.
+/// Which command the words name, the program's own name being the first of them. They name `run`,
+/// `race` or `check` where that is the second word and there is no third; all other words, `--help`
+/// among them, are refused with a text.
 pub fn command_of<'a>(alloc: Global, words: &'a [&'a str]) -> Result<Wanted, Refused>
     ensures named { (wanted : Wanted) → spec.plain (map (λ word. word.now) words.now) ≡ Some wanted → result ≡ Ok wanted }
     ensures alone { IfOk result (λ wanted. spec.plain (map (λ word. word.now) words.now) ≡ Some wanted) }
@@ -61,6 +63,9 @@ fn named(word: &str) -> Option<Wanted>
     if word == "run" {
         return Some(Wanted::Run);
     }
+    if word == "race" {
+        return Some(Wanted::Race);
+    }
     if word == "check" {
         return Some(Wanted::Check);
     }
@@ -87,5 +92,8 @@ fn the_command<'a>(alloc: Global) -> Result<Command<'a>, AllocError> {
         .about("Simulates a channel subsystem by a script on standard input")
         .subcommand_required(true)
         .subcommand(Command::new(alloc, "run").about("Performs a script's events"))?
+        .subcommand(Command::new(alloc, "race").about(
+            "Performs a script's events, and the race of its last line",
+        ))?
         .subcommand(Command::new(alloc, "check").about("Reads a script alone"))
 }

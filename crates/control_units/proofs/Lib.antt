@@ -1,2 +1,3 @@
 pub mod Serving
 pub mod MapInPlace
+pub mod Keeping

@@ -6,6 +6,7 @@
 //! fail only for want of it, the latter only where its supply refused; nothing else refuses.
 #![tactic(auto)]
 
+mod groups;
 pub mod sharing;
 
 ghost use Rattle.std.specs.Prelude.{◌≡◌, ◌≤◌, List, length, true, false};

@@ -1,9 +1,11 @@
 //! Groups of units of which one is served at a time.
 
-ghost use Rattle.std.specs.Prelude.{◌≡◌, ◌<◌, ◌≤◌, IfOk, OnOk, OnErr, length, map, slice_get, true, false};
+ghost use Rattle.std.specs.Prelude.{◌≡◌, ◌<◌, ◌≤◌, IfOk, OnOk, OnErr, Some, length, map, slice_get, true, false};
 ghost use Rattle.std.specs.List.{list_any};
+ghost use Rattle.control_units.specs.Groups.{AreGroupsOf, begun_as};
 ghost use Rattle.control_units.specs.Units as spec;
 
+use crate::groups::{Group, change_begun, idle_groups, set_refused};
 use crate::{ControlUnit, Member};
 use std::alloc::{AllocError, Global};
 use std::marker::Model;
@@ -13,15 +15,20 @@ use supply::{Given, Supply, push};
 #[derive(Drop)]
 pub struct Sharing {
     members: Vec<Member>,
+    /// What is kept of each group, by its number. A group of a number beyond them is searched for among the members.
+    groups: Vec<Group>,
 }
 
 impl Model for Sharing {
     ghost use Rattle.std.specs.Prelude.{List};
     ghost use Rattle.control_units.specs.declared.Member.{Member};
+    ghost use Rattle.control_units.specs.Groups.{AreGroupsOf};
 
     ghost Value = { List Member };
 
     ghost view = { λ s. s.members.items };
+
+    ghost invariant = { λ s. AreGroupsOf s.members.items s.groups.items };
 }
 
 impl Sharing {
@@ -45,6 +52,7 @@ impl Sharing {
     {
         Ok(Sharing {
             members: idle_members(alloc, supply, groups)?,
+            groups: idle_groups(alloc, supply, groups.len())?,
         })
     }
 }
@@ -59,41 +67,53 @@ impl ControlUnit for Sharing {
         ensures asked { self.new ≡ spec.asked self.old «unit» result }
         ensures serves { result ≡ spec.may_serve self.old «unit» }
     {
-        let may = may_serve(&self.members, usize::from(unit));
+        let may = may_serve(&self.members, &self.groups, usize::from(unit));
         if !may {
-            refuse(&mut self.members, unit);
+            refuse(&mut self.members, &mut self.groups, unit);
         }
         may
     }
 
     fn begin(&mut self, unit: u16) {
-        if let Some(member) = self.members.get_mut(usize::from(unit)) {
-            member.begun = true;
-        }
+        set_begun(&mut self.members, &mut self.groups, unit, true);
     }
 
     fn over(&mut self, unit: u16) -> bool {
-        end(&mut self.members, unit)
+        end(&mut self.members, &mut self.groups, unit)
     }
 }
 
 /// Whether no other unit of the group of the unit at this place is begun.
-fn may_serve(members: &[Member], place: usize) -> bool
+fn may_serve(members: &[Member], groups: &[Group], place: usize) -> bool
+    requires { AreGroupsOf members.now groups.now }
     ensures serves { result ≡ spec.may_serve_at members.now place (slice_get members.now place) }
     ensures law { spec.any_other spec.is_begun members.now place ≡ false → result ≡ true }
     ensures known { length members.now ≤ place → result ≡ true }
 {
     match members.get(place) {
-        Some(member) => !has_other_begun(members, place, member.group),
+        Some(member) => !has_other_begun(members, groups, place, *member),
         None => true,
     }
 }
 
-/// Whether a unit of the group at another place is begun.
-fn has_other_begun(members: &[Member], place: usize, group: u16) -> bool
+/// Whether another unit of the group of this unit, whose place is given, is begun.
+fn has_other_begun(members: &[Member], groups: &[Group], place: usize, member: Member) -> bool
+    requires within { place < length members.now }
+    requires here { slice_get members.now place ≡ Some member }
+    requires groups { AreGroupsOf members.now groups.now }
+    ensures begun { result ≡ spec.any_other (spec.is_begun_in member.group) members.now place }
+    ensures law { spec.any_other spec.is_begun members.now place ≡ false → result ≡ false }
+{
+    match groups.get(usize::from(member.group)) {
+        Some(group) => group.begun != usize::from(member.begun),
+        None => finds_other_begun(members, place, member.group),
+    }
+}
+
+/// Whether a unit of the group at another place is begun, by a search.
+fn finds_other_begun(members: &[Member], place: usize, group: u16) -> bool
     requires { place < length members.now }
     ensures begun { result ≡ spec.any_other (spec.is_begun_in group) members.now place }
-    ensures law { spec.any_other spec.is_begun members.now place ≡ false → result ≡ false }
 {
     has_begun(&members[..place], group) || has_begun(&members[place + 1..], group)
 }
@@ -116,8 +136,32 @@ fn has_refused(members: &[Member], group: u16) -> bool
         .any(|member| member.refused && member.group == group)
 }
 
+/// Whether a unit of the group was refused; its entry says so, where there is one.
+fn was_refused(members: &[Member], groups: &[Group], group: u16) -> bool
+    requires { AreGroupsOf members.now groups.now }
+    ensures { result ≡ list_any (spec.is_refused_in group) members.now }
+{
+    match groups.get(usize::from(group)) {
+        Some(kept) => kept.refused,
+        None => has_refused(members, group),
+    }
+}
+
 /// Notes that the unit was refused.
-fn refuse(members: &mut Vec<Member>, unit: u16)
+fn refuse(members: &mut Vec<Member>, groups: &mut Vec<Group>, unit: u16)
+    requires { AreGroupsOf members.old.items groups.old.items }
+    ensures refused { members.new.items ≡ spec.asked members.old.items «unit» false }
+    ensures groups { AreGroupsOf members.new.items groups.new.items }
+{
+    let Some(member) = members.get(usize::from(unit)) else {
+        return;
+    };
+    set_refused(groups, member.group, true);
+    mark_refused(members, unit);
+}
+
+/// The unit was refused.
+fn mark_refused(members: &mut Vec<Member>, unit: u16)
     ensures { members.new.items ≡ spec.asked members.old.items «unit» false }
 {
     if let Some(member) = members.get_mut(usize::from(unit)) {
@@ -125,28 +169,56 @@ fn refuse(members: &mut Vec<Member>, unit: u16)
     }
 }
 
+/// The unit is begun, or it is not any more.
+fn set_begun(members: &mut Vec<Member>, groups: &mut Vec<Group>, unit: u16, begun: bool)
+    requires { AreGroupsOf members.old.items groups.old.items }
+    ensures begun { members.new.items ≡ begun_as begun members.old.items «unit» (slice_get members.old.items «unit») }
+    ensures groups { AreGroupsOf members.new.items groups.new.items }
+{
+    let Some(member) = members.get(usize::from(unit)) else {
+        return;
+    };
+    change_begun(groups, member.group, member.begun, begun);
+    mark_begun(members, unit, begun);
+}
+
+/// The unit is begun, or it is not.
+fn mark_begun(members: &mut Vec<Member>, unit: u16, begun: bool)
+    ensures { members.new.items ≡ begun_as begun members.old.items «unit» (slice_get members.old.items «unit») }
+{
+    if let Some(member) = members.get_mut(usize::from(unit)) {
+        member.begun = begun;
+    }
+}
+
 /// The unit is over. Answers whether some unit of its group was refused.
-fn end(members: &mut Vec<Member>, unit: u16) -> bool
+fn end(members: &mut Vec<Member>, groups: &mut Vec<Group>, unit: u16) -> bool
+    requires { AreGroupsOf members.old.items groups.old.items }
     ensures owed { result ≡ spec.is_owed_at members.old.items (slice_get members.old.items «unit») }
     ensures over { members.new.items ≡ spec.over_at members.old.items «unit» (slice_get members.old.items «unit») }
+    ensures groups { AreGroupsOf members.new.items groups.new.items }
 {
     let Some(member) = members.get(usize::from(unit)) else {
         return false;
     };
     let group = member.group;
-    let owed = has_refused(members, group);
-    put_down(members, unit);
-    tell_all(members, group);
-    owed
+    set_begun(members, groups, unit, false);
+    tell_group(members, groups, group)
 }
 
-/// The unit is not begun any more.
-fn put_down(members: &mut Vec<Member>, unit: u16)
-    ensures { members.new.items ≡ spec.ended_at members.old.items «unit» (slice_get members.old.items «unit») }
+/// No unit of the group is refused any more. Answers whether one was.
+fn tell_group(members: &mut Vec<Member>, groups: &mut Vec<Group>, group: u16) -> bool
+    requires { AreGroupsOf members.old.items groups.old.items }
+    ensures owed { result ≡ list_any (spec.is_refused_in group) members.old.items }
+    ensures told { members.new.items ≡ map (spec.member_told group) members.old.items }
+    ensures groups { AreGroupsOf members.new.items groups.new.items }
 {
-    if let Some(member) = members.get_mut(usize::from(unit)) {
-        member.begun = false;
+    if !was_refused(members, groups, group) {
+        return false;
     }
+    tell_all(members, group);
+    set_refused(groups, group, false);
+    true
 }
 
 /// No unit of the group is refused any more.

@@ -247,6 +247,23 @@ unit_turn_owed old seat (Some kept) at roam result new after none t =
 pub unit_owed : (old : Locked) (seat : Seated) (at : ℕ) (roam : Bool) (result : Result Bool Fault) (new : Locked) (after : Seated) → seat.owed ≡ None → TakesUnitTurn old (turned seat) seat.kept at roam result new after → IsOwedBy at after.owed
 unit_owed old seat at roam result new after none t = unit_turn_owed old (turned seat) seat.kept at roam result new after none t
 
+-- a turn is counted by itself: what it is for adds none
+takes_turns : (old : Locked) (seat : Seated) (t : Turn) (result : Result Bool Fault) (new : Locked) (after : Seated) → TakesTurn old seat t result new after → after.turns ≡ seat.turns
+takes_turns old seat (Enters e) result new after t = tries_same (λ (s : Seated). s.turns) (λ s x r. refl) old seat seat e result new after refl t
+takes_turns old seat (Leaves command) result new after t =
+    tries_same (λ (s : Seated). s.turns) (λ s x r. refl) old seat (with_left seat (Some command)) (event.Act command.«unit» act.Leave) result new after refl t
+takes_turns old seat (Owes owed) result new after t = ap (λ (s : Seated). s.turns) t.2
+takes_turns old seat Rests result new after t = ap (λ (s : Seated). s.turns) t.2
+
+hands_turns : (old : Locked) (seat : Seated) (kept : KeptReport) (result : Result Bool Fault) (new : Locked) (after : Seated) → HandsIn old seat kept result new after → after.turns ≡ seat.turns
+hands_turns old seat kept (Ok true) new after (r, enters) = ap (λ (s : Seated). s.turns) enters.4
+hands_turns old seat kept (Ok false) new after (may, core, is) = ap (λ (s : Seated). s.turns) is
+hands_turns old seat kept (Err f) new after (other, may, core, is) = ap (λ (s : Seated). s.turns) is
+
+pub unit_turns : (old : Locked) (seat : Seated) (k : Option KeptReport) (at : ℕ) (roam : Bool) (result : Result Bool Fault) (new : Locked) (after : Seated) → TakesUnitTurn old seat k at roam result new after → after.turns ≡ seat.turns
+unit_turns old seat None at roam result new after t = takes_turns old seat (turn_of roam seat.left at old.state) result new after t
+unit_turns old seat (Some kept) at roam result new after t = hands_turns old (with_kept seat None) kept result new after t
+
 -- turn after turn
 kept_on : (at : ℕ) (a b c : Option KeptReport) → IsKeptFrom at a b → IsKeptFrom at b c → IsKeptFrom at a c
 kept_on at a b None p q = tt

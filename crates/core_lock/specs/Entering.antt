@@ -1,5 +1,5 @@
 -- What entering an event leaves, and what a look finds (own).
-use Rattle.std.specs.Prelude.{◌≡◌, ◌⊎◌, ℕ, ◌+◌, [], ◌∷◌, ◌++◌, Some, slice_get, slice_set}
+use Rattle.std.specs.Prelude.{◌≡◌, ◌≤◌, ◌^◌, ◌⊎◌, ℕ, ◌+◌, [], ◌∷◌, ◌++◌, length, min, Some, slice_get, slice_set}
 use Rattle.scsw_irb.specs.declared.serials.Serials.{Serials}
 use Rattle.chan_model.specs.declared.fault.Fault.{Fault}
 use Rattle.chan_model.specs.declared.fault.Fault.TheVariants as fault
@@ -13,7 +13,7 @@ use Rattle.core_lock.specs.declared.machine.CpuInstruction.{CpuInstruction}
 use Rattle.core_lock.specs.declared.machine.CpuInstruction.TheVariants as cpu_instruction
 use Rattle.core_lock.specs.Directory.{place_named}
 use Rattle.core_lock.specs.Named.{counts_of}
-use Rattle.core_lock.specs.Seats.{Locked, Seated, entry, greater, raised}
+use Rattle.core_lock.specs.Seats.{HeldSeat, Locked, LockedCore, Seated, entry, greater, raised}
 
 -- a seat after an event that it entered: its log has the entry
 abbrev pub entered : Seated → Event → Reply → Seated
@@ -31,6 +31,10 @@ Enters old seat e r new after =
 -- an event may be refused so
 abbrev pub MayRefuse : State → Event → Fault → Type 0
 MayRefuse s e f = (f ≡ fault.NoMemory) ⊎ IsRefused s e f
+
+-- there is no room for another entry, in the history, beside it or in the log of the seat, or no number for it is left
+abbrev pub HasNoRoom : LockedCore → HeldSeat → Type 0
+HasNoRoom core seat = (min core.room seat.room ≡ 0) ⊎ (2 ^ 62 ≤ length core.value.history + 1)
 
 -- the event of an instruction
 abbrev pub event_of : ℕ → CpuInstruction → Event

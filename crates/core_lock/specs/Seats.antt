@@ -38,6 +38,16 @@ pub record Seated : Type 0 where
   pub kept : Option KeptReport
   pub left : Option TakenCommand
 
+-- a machine under its lock, and for how many more entries there is room, in its history and beside it
+pub record LockedCore : Type 0 where
+  pub value : Locked
+  pub room : ℕ
+
+-- a seat, and for how many more entries its log has room
+pub record HeldSeat : Type 0 where
+  pub value : Seated
+  pub room : ℕ
+
 abbrev pub entry : Event → Reply → Entry
 entry e r = record { event = e; reply = r }
 

@@ -1,6 +1,6 @@
 //! The subchannels of a machine by their names, for those who look without the lock.
 
-ghost use Rattle.std.specs.Prelude.{◌≡◌, ◌<◌, IfOk, IfSome, length, map, slice_get};
+ghost use Rattle.std.specs.Prelude.{◌≡◌, ◌<◌, true, IfOk, IfSome, OnErr, OnOk, length, map, slice_get};
 ghost use Rattle.core_lock.specs.Directory as spec;
 ghost use Rattle.core_lock.specs.Keeping.{directory_by, id_of};
 
@@ -9,6 +9,7 @@ use channel_config::names::{SubchannelId, subchannel_named};
 use channel_config::parts::SubchannelSetup;
 use std::alloc::{AllocError, Global};
 use std::marker::Model;
+use supply::{Supply, push};
 
 /// The subchannels of a machine by their names, in the order of the configuration.
 #[derive(Drop)]
@@ -26,13 +27,19 @@ impl Model for Directory {
 }
 
 impl Directory {
-    /// The subchannels of a configuration.
-    pub fn new(alloc: Global, config: &Config) -> Result<Directory, AllocError>
-        ensures { IfOk result (λ d. d ≡ directory_by config.now) }
+    /// The subchannels of a configuration, in what room a supply has.
+    pub fn new_with<S: Supply>(
+        alloc: Global,
+        supply: &mut S,
+        config: &Config,
+    ) -> Result<Directory, AllocError>
+        ensures made { IfOk result (λ d. d ≡ directory_by config.now) }
+        ensures given { OnOk result (S.refused supply.new ≡ S.refused supply.old) }
+        ensures memory { OnErr result (S.refused supply.new ≡ true) }
     {
         Ok(Directory {
             sets: config.set_count(),
-            names: names_of(alloc, config.subchannels())?,
+            names: names_of(alloc, supply, config.subchannels())?,
         })
     }
 
@@ -61,12 +68,18 @@ impl Directory {
 }
 
 /// The names of these subchannels.
-fn names_of(alloc: Global, setups: &[SubchannelSetup]) -> Result<Vec<SubchannelId>, AllocError>
-    ensures { IfOk result (λ names. names.items ≡ map id_of setups.now) }
+fn names_of<S: Supply>(
+    alloc: Global,
+    supply: &mut S,
+    setups: &[SubchannelSetup],
+) -> Result<Vec<SubchannelId>, AllocError>
+    ensures names { IfOk result (λ names. names.items ≡ map id_of setups.now) }
+    ensures given { OnOk result (S.refused supply.new ≡ S.refused supply.old) }
+    ensures memory { OnErr result (S.refused supply.new ≡ true) }
 {
     let mut names = Vec::new(alloc);
     for setup in setups {
-        names.push(setup.id)?;
+        push(supply, &mut names, setup.id)?;
     }
     Ok(names)
 }

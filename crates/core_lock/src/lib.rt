@@ -15,5 +15,6 @@ pub mod machine;
 pub mod naming;
 mod pairs;
 pub mod parts;
+pub mod supplies;
 mod touching;
 pub mod turns;

@@ -1,6 +1,6 @@
 //! The subsystem under its lock, and its seats. This module alone writes the log of a seat.
 
-ghost use Rattle.std.specs.Prelude.{◌≡◌, ◌≢◌, ◌⊎◌, ◌+◌, ◌↔◌, ℕ, [], ◌∷◌, ◌++◌, length, vec_len, sum_by, All, Err, IsTrue, IfOk, IfErr, IfSome, IfNone, IsSome, OnErr, None, Some, Ok, is_some, slice_get, ◌≤◌};
+ghost use Rattle.std.specs.Prelude.{◌≡◌, ◌≢◌, ◌⊎◌, ◌+◌, ◌↔◌, ℕ, [], ◌∷◌, ◌++◌, length, vec_len, sum_by, All, Err, true, IsTrue, IfOk, IfErr, IfSome, IfNone, IsSome, OnErr, OnOk, None, Some, Ok, is_some, slice_get, ◌≤◌};
 ghost use Rattle.chan_model.specs.declared.fault.Fault.TheVariants as fault_spec;
 ghost use Rattle.machine_laws.specs.Agreeing.{AllAgree};
 ghost use Rattle.machine_laws.specs.Beginnings.{IsBegunOnce};
@@ -11,7 +11,7 @@ ghost use Rattle.machine_model.specs.Steps.{HasRun, Step};
 ghost use Rattle.subsystem.specs.Headline.{HasHeld};
 ghost use Rattle.subsystem.specs.Keeping.{all_serials};
 ghost use Rattle.core_lock.specs.Directory.{directory_of, place_named};
-ghost use Rattle.core_lock.specs.Entering.{Glances, MayRefuse, entered};
+ghost use Rattle.core_lock.specs.Entering.{Glances, HasNoRoom, MayRefuse, entered};
 ghost use Rattle.core_lock.specs.Named.{shown, serials};
 ghost use Rattle.core_lock.specs.Seats as seat_spec;
 ghost use Rattle.core_lock.specs.Seats.{entries_by, entry};
@@ -22,6 +22,7 @@ use crate::gate::Gate;
 use crate::naming::{Entries, Naming, Turns};
 use crate::pairs::{first_pairs, greater, publish, raise_at, serials_brought, watch};
 use crate::parts::Parts;
+use crate::supplies::CoreSupply;
 use crate::touching::{touched_by, touches};
 use crate::turns::{
     KeptReport, OwedCall, TakenCommand, Turn, kept_after, path_turn_of, refusal_of, turn_of,
@@ -32,6 +33,7 @@ use chan_model::fault::Fault;
 use chan_model::report::Report;
 use device_law::Device;
 use device_law::answering::answer;
+use event_log::history::History;
 use glance_cell::cell::{Reader, Writer};
 use glance_cell::words::Glance;
 use path_select::PathChoice;
@@ -41,8 +43,8 @@ use std::alloc::Global;
 use std::marker::Model;
 use std::sync::Arc;
 use std::sync::ledger::{Book, Share};
-use subsystem::history::History;
 use subsystem::subsystem::Subsystem;
+use supply::Given;
 
 /// The most seats of one machine.
 pub const MOST_SEATS: u16 = 1024;
@@ -64,12 +66,16 @@ pub struct Core<J: Naming, P: PathChoice + Drop> {
 
 impl<J: Naming, P: PathChoice + Drop> Model for Core<J, P> {
     ghost use Rattle.std.specs.Arc.{arc_value};
-    ghost use Rattle.core_lock.specs.Seats.{Locked};
+    ghost use Rattle.std.specs.Prelude.{◌-◌, min, vec_len, vec_capacity};
+    ghost use Rattle.core_lock.specs.Seats.{LockedCore};
     ghost use Rattle.core_lock.specs.Keeping.{IsCore};
 
-    ghost Value = { Locked };
+    ghost Value = { LockedCore };
 
-    ghost view = { λ c. record { state = c.subsystem.state; history = c.subsystem.history; by = c.by.items; seats = c.seats } };
+    ghost view = { λ c. record {
+      value = record { state = c.subsystem.state; history = c.subsystem.history; by = c.by.items; seats = c.seats };
+      room = min c.subsystem.room (vec_capacity c.by - vec_len c.by);
+    } };
 
     ghost invariant = { λ c. IsCore c.subsystem c.by.items c.seats c.entries.total (record { parts = c.rest.parts; amount = c.rest.amount }) (record { parts = c.turns_left.parts; amount = c.turns_left.amount }) c.writers.items (arc_value c.directory) J.name };
 }
@@ -99,22 +105,26 @@ pub struct Seat<J: Naming> {
 
 impl<J: Naming> Model for Seat<J> {
     ghost use Rattle.std.specs.Arc.{arc_value};
-    ghost use Rattle.core_lock.specs.Seats.{Seated};
+    ghost use Rattle.std.specs.Prelude.{◌-◌, vec_len, vec_capacity};
+    ghost use Rattle.core_lock.specs.Seats.{HeldSeat};
     ghost use Rattle.core_lock.specs.Keeping.{IsSeat};
 
-    ghost Value = { Seated };
+    ghost Value = { HeldSeat };
 
     ghost view = { λ s. record {
-      number = s.number;
-      log = s.log.items;
-      directory = arc_value s.directory;
-      pairs = s.pairs.items;
-      loaded = s.readers.items;
-      turns = s.turns.amount;
-      calls = s.calls;
-      owed = s.owed;
-      kept = s.kept;
-      left = s.left;
+      value = record {
+        number = s.number;
+        log = s.log.items;
+        directory = arc_value s.directory;
+        pairs = s.pairs.items;
+        loaded = s.readers.items;
+        turns = s.turns.amount;
+        calls = s.calls;
+        owed = s.owed;
+        kept = s.kept;
+        left = s.left;
+      };
+      room = vec_capacity s.log - vec_len s.log;
     } };
 
     ghost invariant = { λ s. IsSeat (record { parts = s.share.parts; amount = s.share.amount }) s.turns.parts s.log.items s.pairs.items s.readers.items (arc_value s.directory) J.name };
@@ -128,12 +138,33 @@ impl<J: Naming, P: PathChoice + Drop> Core<J, P> {
         requires named { parts.name ≡ J.name }
         requires directory { parts.name.directory ≡ directory_of subsystem.state }
         requires serials { parts.serials ≡ all_serials subsystem.state }
-        ensures made { IfOk result (λ core. core ≡ record { state = subsystem.state; history = []; by = []; seats = 0 }) }
+        ensures made { IfOk result (λ core. core.value ≡ record { state = subsystem.state; history = []; by = []; seats = 0 }) }
         ensures subsystem { IfErr result (λ given. given.subsystem ≡ subsystem) }
         ensures parts { IfErr result (λ given. given.parts ≡ parts) }
     {
+        Core::new_with(alloc, &mut Given { refused: false }, subsystem, parts)
+    }
+
+    /// A subsystem to which nothing happened yet, with the parts of its configuration, in what room a supply has.
+    /// Where the supply refuses it, and only there, both are handed back.
+    pub fn new_with<S: CoreSupply>(
+        alloc: Global,
+        supply: &mut S,
+        subsystem: Subsystem<P>,
+        parts: Parts,
+    ) -> Result<Self, NotMade<P>>
+        requires fresh { subsystem.history ≡ [] }
+        requires named { parts.name ≡ J.name }
+        requires directory { parts.name.directory ≡ directory_of subsystem.state }
+        requires serials { parts.serials ≡ all_serials subsystem.state }
+        ensures made { IfOk result (λ core. core.value ≡ record { state = subsystem.state; history = []; by = []; seats = 0 }) }
+        ensures subsystem { IfErr result (λ given. given.subsystem ≡ subsystem) }
+        ensures parts { IfErr result (λ given. given.parts ≡ parts) }
+        ensures given { OnOk result (S.refused supply.new ≡ S.refused supply.old) }
+        ensures memory { OnErr result (S.refused supply.new ≡ true) }
+    {
         let mut by = Vec::new(alloc);
-        if by.reserve(1).is_err() {
+        if supply.reserve(&mut by, 1).is_err() {
             return Err(NotMade { subsystem, parts });
         }
         let _ = subsystem.history();
@@ -161,14 +192,14 @@ impl<J: Naming, P: PathChoice + Drop> Core<J, P> {
 
     /// The subsystem, to look at. Whoever holds the core, under its lock or not, has what every run of a subsystem keeps.
     pub fn subsystem(&self) -> &Subsystem<P>
-        ensures state { result.now.state ≡ self.now.state }
-        ensures history { result.now.history ≡ self.now.history }
-        ensures replays { HasRun self.now.history self.now.state }
-        ensures cleared_once { IsClearedOnce self.now.state.sets self.now.history }
-        ensures begun_once { IsBegunOnce self.now.state.sets self.now.history }
-        ensures agree { AllAgree self.now.state }
-        ensures headline { HasHeld self.now.history self.now.state }
-        ensures beside { length self.now.by ≡ length self.now.history }
+        ensures state { result.now.state ≡ self.now.value.state }
+        ensures history { result.now.history ≡ self.now.value.history }
+        ensures replays { HasRun self.now.value.history self.now.value.state }
+        ensures cleared_once { IsClearedOnce self.now.value.state.sets self.now.value.history }
+        ensures begun_once { IsBegunOnce self.now.value.state.sets self.now.value.history }
+        ensures agree { AllAgree self.now.value.state }
+        ensures headline { HasHeld self.now.value.history self.now.value.state }
+        ensures beside { length self.now.value.by ≡ length self.now.value.history }
     {
         let _ = self.subsystem.history();
         &self.subsystem
@@ -177,35 +208,68 @@ impl<J: Naming, P: PathChoice + Drop> Core<J, P> {
     /// One more seat. It is refused NotNow where 1,024 were made, and otherwise only where no memory is left.
     pub fn seat(&mut self) -> Result<Seat<J>, Fault>
         ensures seat { IfOk result (λ s. s ≡ record {
-          number = self.old.seats;
-          log = [];
-          directory = directory_of self.old.state;
-          pairs = all_serials self.old.state;
-          loaded = s.loaded;
-          turns = 0;
-          calls = 0;
-          owed = None;
-          kept = None;
-          left = None;
+          value = record {
+            number = self.old.value.seats;
+            log = [];
+            directory = directory_of self.old.value.state;
+            pairs = all_serials self.old.value.state;
+            loaded = s.value.loaded;
+            turns = 0;
+            calls = 0;
+            owed = None;
+            kept = None;
+            left = None;
+          };
+          room = 0;
         }) }
-        ensures loaded { IfOk result (λ s. shown s.loaded ≡ all_serials self.old.state) }
+        ensures loaded { IfOk result (λ s. shown s.value.loaded ≡ all_serials self.old.value.state) }
         // A seat finds a subchannel where the subsystem has it.
-        ensures places { IfOk result (λ s. (word : ℕ) → place_named s.directory word ≡ place_of self.old.state word) }
-        ensures core { IfOk result (λ _. self.new ≡ record self.old { seats = self.old.seats + 1 }) }
-        ensures refused { IfErr result (λ f. (f ≡ fault_spec.NoMemory) ⊎ ((f ≡ fault_spec.NotNow) × (self.old.seats ≡ 1024))) }
+        ensures places { IfOk result (λ s. (word : ℕ) → place_named s.value.directory word ≡ place_of self.old.value.state word) }
+        ensures core { IfOk result (λ _. self.new ≡ record self.old { value = record self.old.value { seats = self.old.value.seats + 1 } }) }
+        ensures refused { IfErr result (λ f. (f ≡ fault_spec.NoMemory) ⊎ ((f ≡ fault_spec.NotNow) × (self.old.value.seats ≡ 1024))) }
         ensures err { OnErr result (self.new ≡ self.old) }
+    {
+        self.seat_with(&mut Given { refused: false })
+    }
+
+    /// One more seat, in what memory a supply has. It is refused NotNow where 1,024 were made, and otherwise only where the
+    /// supply refuses some.
+    pub fn seat_with<S: CoreSupply>(&mut self, supply: &mut S) -> Result<Seat<J>, Fault>
+        ensures seat { IfOk result (λ s. s ≡ record {
+          value = record {
+            number = self.old.value.seats;
+            log = [];
+            directory = directory_of self.old.value.state;
+            pairs = all_serials self.old.value.state;
+            loaded = s.value.loaded;
+            turns = 0;
+            calls = 0;
+            owed = None;
+            kept = None;
+            left = None;
+          };
+          room = 0;
+        }) }
+        ensures loaded { IfOk result (λ s. shown s.value.loaded ≡ all_serials self.old.value.state) }
+        // A seat finds a subchannel where the subsystem has it.
+        ensures places { IfOk result (λ s. (word : ℕ) → place_named s.value.directory word ≡ place_of self.old.value.state word) }
+        ensures core { IfOk result (λ _. self.new ≡ record self.old { value = record self.old.value { seats = self.old.value.seats + 1 } }) }
+        ensures refused { IfErr result (λ f. (f ≡ fault_spec.NoMemory) ⊎ ((f ≡ fault_spec.NotNow) × (self.old.value.seats ≡ 1024))) }
+        ensures err { OnErr result (self.new ≡ self.old) }
+        ensures given { OnOk result (S.refused supply.new ≡ S.refused supply.old) }
+        ensures memory { result ≡ Err fault_spec.NoMemory → S.refused supply.new ≡ true }
     {
         if self.seats >= MOST_SEATS {
             return Err(Fault::NotNow);
         }
         let alloc = self.alloc;
-        let Ok(directory) = Arc::try_clone(&self.directory) else {
+        let Ok(directory) = supply.share_again(&self.directory) else {
             return Err(Fault::NoMemory);
         };
-        let Ok(readers) = watch(alloc, &mut self.writers) else {
+        let Ok(readers) = watch(alloc, supply, &mut self.writers) else {
             return Err(Fault::NoMemory);
         };
-        let Ok(pairs) = first_pairs(alloc, &self.subsystem) else {
+        let Ok(pairs) = first_pairs(alloc, supply, &self.subsystem) else {
             return Err(Fault::NoMemory);
         };
         let share = self.rest.split_off(1, 0);
@@ -229,10 +293,10 @@ impl<J: Naming, P: PathChoice + Drop> Core<J, P> {
 
     /// How many entries the history has, where all seats that were made are given. Core and seats are given up either way.
     pub fn close(self, seats: Vec<Seat<J>>) -> Option<u64>
-        ensures all { IfSome result (λ _. vec_len seats ≡ self.seats) }
-        ensures entries { IfSome result (λ count. count ≡ length self.history) }
-        ensures logs { IfSome result (λ count. count ≡ sum_by (λ s. length s.log) seats.items) }
-        ensures none { IfNone result (vec_len seats ≢ self.seats) }
+        ensures all { IfSome result (λ _. vec_len seats ≡ self.value.seats) }
+        ensures entries { IfSome result (λ count. count ≡ length self.value.history) }
+        ensures logs { IfSome result (λ count. count ≡ sum_by (λ s. length s.value.log) seats.items) }
+        ensures none { IfNone result (vec_len seats ≢ self.value.seats) }
     {
         let Core {
             alloc: _,
@@ -261,15 +325,21 @@ impl<J: Naming, P: PathChoice + Drop> Core<J, P> {
     /// is as before; it is refused `NoMemory` only where the history, the seats beside it or the log can't grow, or the steps
     /// are used up.
     pub fn enter(&mut self, seat: &mut Seat<J>, event: Event) -> Result<Reply, Fault>
-        ensures step { IfOk result (λ reply. Step self.old.state event reply self.new.state) }
-        ensures history { IfOk result (λ reply. self.new.history ≡ self.old.history ++ entry event reply ∷ []) }
-        ensures by { IfOk result (λ reply. self.new.by ≡ self.old.by ++ seat.old.number ∷ []) }
-        ensures seats { self.new.seats ≡ self.old.seats }
-        ensures logged { IfOk result (λ reply. seat.new ≡ entered seat.old event reply) }
-        ensures ruled { result ≢ Err fault_spec.NoMemory → GoesByRule P.picks self.old.state event result self.new.state }
-        ensures refusal { IfErr result (λ f. MayRefuse self.old.state event f) }
-        ensures core { OnErr result (self.new ≡ self.old) }
-        ensures seat { OnErr result (seat.new ≡ seat.old) }
+        ensures step { IfOk result (λ reply. Step self.old.value.state event reply self.new.value.state) }
+        ensures history { IfOk result (λ reply. self.new.value.history ≡ self.old.value.history ++ entry event reply ∷ []) }
+        ensures by { IfOk result (λ reply. self.new.value.by ≡ self.old.value.by ++ seat.old.value.number ∷ []) }
+        ensures seats { self.new.value.seats ≡ self.old.value.seats }
+        ensures logged { IfOk result (λ reply. seat.new.value ≡ entered seat.old.value event reply) }
+        ensures ruled { result ≢ Err fault_spec.NoMemory →
+            GoesByRule P.picks self.old.value.state event result self.new.value.state }
+        ensures refusal { IfErr result (λ f. MayRefuse self.old.value.state event f) }
+        ensures spent { result ≡ Err fault_spec.NoMemory → HasNoRoom self.old seat.old }
+        ensures core { OnErr result (self.new.value ≡ self.old.value) }
+        ensures seat { OnErr result (seat.new.value ≡ seat.old.value) }
+        ensures room { self.old.room ≤ self.new.room + 1 }
+        ensures seat_room { seat.old.room ≤ seat.new.room + 1 }
+        // Where it is refused no room is lost.
+        ensures kept { OnErr result ((self.old.room ≤ self.new.room) × (seat.old.room ≤ seat.new.room)) }
     {
         if self.by.reserve(1).is_err() || seat.log.reserve(1).is_err() {
             return Err(Fault::NoMemory);
@@ -291,10 +361,10 @@ impl<J: Naming, P: PathChoice + Drop> Core<J, P> {
     /// One turn of the worker of a channel path: the first event that there is for a subchannel of that path is entered. False
     /// where there is none. Refused, all but the number of turns is as before.
     pub fn path_step(&mut self, seat: &mut Seat<J>, chpid: u8) -> Result<bool, Fault>
-        ensures turns { seat.new.turns ≡ seat.old.turns + 1 }
-        ensures turn { turn_spec.TakesPathTurn self.old (turn_spec.turned seat.old)
-            (turn_spec.path_turn_among self.old.state chpid (directory_of self.old.state).names) result self.new seat.new }
-        ensures works { turn_spec.WorksPaths seat.old seat.new (turn_spec.count_in result) }
+        ensures turns { seat.new.value.turns ≡ seat.old.value.turns + 1 }
+        ensures turn { turn_spec.TakesPathTurn self.old.value (turn_spec.turned seat.old.value)
+            (turn_spec.path_turn_among self.old.value.state chpid (directory_of self.old.value.state).names) result self.new.value seat.new.value }
+        ensures works { turn_spec.WorksPaths seat.old.value seat.new.value (turn_spec.count_in result) }
     {
         self.count_turn(seat);
         let turn = self.path_event(chpid);
@@ -303,14 +373,14 @@ impl<J: Naming, P: PathChoice + Drop> Core<J, P> {
 
     /// The first event that there is for a subchannel of a channel path.
     fn path_event(&self, chpid: u8) -> Option<Event>
-        ensures { result ≡ turn_spec.path_turn_among self.now.state chpid (directory_of self.now.state).names }
+        ensures { result ≡ turn_spec.path_turn_among self.now.value.state chpid (directory_of self.now.value.state).names }
     {
         path_turn_of(&self.subsystem, &self.directory, chpid)
     }
 
     /// Takes a turn of the worker of a channel path.
     fn take_path_turn(&mut self, seat: &mut Seat<J>, turn: Option<Event>) -> Result<bool, Fault>
-        ensures { turn_spec.TakesPathTurn self.old seat.old turn result self.new seat.new }
+        ensures { turn_spec.TakesPathTurn self.old.value seat.old.value turn result self.new.value seat.new.value }
     {
         match turn {
             Some(event) => self.try_enter(seat, event),
@@ -322,11 +392,11 @@ impl<J: Naming, P: PathChoice + Drop> Core<J, P> {
     /// is refused `NoMemory` or `WireFull` stays kept. Else an event is entered, or a call of the device becomes owed. A unit that
     /// roams leaves its path first, once after each command, and asks for one again. Whether an event was entered.
     pub fn unit_step(&mut self, seat: &mut Seat<J>, unit: u32, roam: bool) -> Result<bool, Fault>
-        requires { seat.old.owed ≡ None }
-        ensures turns { seat.new.turns ≡ seat.old.turns + 1 }
-        ensures turn { turn_spec.TakesUnitTurn self.old (turn_spec.turned seat.old) seat.old.kept «unit» roam result self.new seat.new }
-        ensures works { turn_spec.WorksUnit «unit» seat.old seat.new (turn_spec.count_in result) }
-        ensures owes { turn_spec.IsOwedBy «unit» seat.new.owed }
+        requires { seat.old.value.owed ≡ None }
+        ensures turns { seat.new.value.turns ≡ seat.old.value.turns + 1 }
+        ensures turn { turn_spec.TakesUnitTurn self.old.value (turn_spec.turned seat.old.value) seat.old.value.kept «unit» roam result self.new.value seat.new.value }
+        ensures works { turn_spec.WorksUnit «unit» seat.old.value seat.new.value (turn_spec.count_in result) }
+        ensures owes { turn_spec.IsOwedBy «unit» seat.new.value.owed }
     {
         self.count_turn(seat);
         self.unit_turn(seat, unit, roam)
@@ -334,8 +404,8 @@ impl<J: Naming, P: PathChoice + Drop> Core<J, P> {
 
     /// Takes the turn of a unit's worker that there is.
     fn unit_turn(&mut self, seat: &mut Seat<J>, unit: u32, roam: bool) -> Result<bool, Fault>
-        requires { seat.old.owed ≡ None }
-        ensures { turn_spec.TakesUnitTurn self.old seat.old seat.old.kept «unit» roam result self.new seat.new }
+        requires { seat.old.value.owed ≡ None }
+        ensures { turn_spec.TakesUnitTurn self.old.value seat.old.value seat.old.value.kept «unit» roam result self.new.value seat.new.value }
     {
         match &seat.kept {
             Some(kept) => {
@@ -353,14 +423,15 @@ impl<J: Naming, P: PathChoice + Drop> Core<J, P> {
     /// Counts one turn, in the ledger alone.
     fn count_turn(&mut self, seat: &mut Seat<J>)
         ensures core { self.new ≡ self.old }
-        ensures seat { seat.new ≡ turn_spec.turned seat.old }
+        ensures seat { seat.new.value ≡ turn_spec.turned seat.old.value }
+        ensures room { seat.new.room ≡ seat.old.room }
     {
         self.turns.add(&mut seat.turns, 1);
     }
 
     /// Tries to enter an event.
     fn try_enter(&mut self, seat: &mut Seat<J>, event: Event) -> Result<bool, Fault>
-        ensures { turn_spec.Tries self.old seat.old seat.old event result self.new seat.new }
+        ensures { turn_spec.Tries self.old.value seat.old.value seat.old.value event result self.new.value seat.new.value }
     {
         self.enter(seat, event)?;
         Ok(true)
@@ -368,7 +439,7 @@ impl<J: Naming, P: PathChoice + Drop> Core<J, P> {
 
     /// Hands in a report that was kept.
     fn hand_in(&mut self, seat: &mut Seat<J>, kept: KeptReport) -> Result<bool, Fault>
-        ensures { turn_spec.HandsIn self.old seat.old kept result self.new seat.new }
+        ensures { turn_spec.HandsIn self.old.value seat.old.value kept result self.new.value seat.new.value }
     {
         let came = self.try_enter(seat, kept.event());
         match came {
@@ -379,8 +450,8 @@ impl<J: Naming, P: PathChoice + Drop> Core<J, P> {
 
     /// Takes a turn of a unit's worker.
     fn take_turn(&mut self, seat: &mut Seat<J>, turn: Turn) -> Result<bool, Fault>
-        requires { seat.old.owed ≡ None }
-        ensures { turn_spec.TakesTurn self.old seat.old turn result self.new seat.new }
+        requires { seat.old.value.owed ≡ None }
+        ensures { turn_spec.TakesTurn self.old.value seat.old.value turn result self.new.value seat.new.value }
     {
         match turn {
             Turn::Enters(event) => self.try_enter(seat, event),
@@ -395,7 +466,7 @@ impl<J: Naming, P: PathChoice + Drop> Core<J, P> {
 
     /// The unit leaves its path, for this command once.
     fn leave(&mut self, seat: &mut Seat<J>, command: TakenCommand) -> Result<bool, Fault>
-        ensures { turn_spec.TakesTurn self.old seat.old (turn_spec.leaves command) result self.new seat.new }
+        ensures { turn_spec.TakesTurn self.old.value seat.old.value (turn_spec.leaves command) result self.new.value seat.new.value }
     {
         let event = Event::Act {
             unit: command.unit,
@@ -410,7 +481,7 @@ impl<J: Naming, P: PathChoice + Drop> Core<J, P> {
 impl<J: Naming> Seat<J> {
     /// What the ledger has of it.
     fn into_share(self) -> Share<Entries<J>>
-        ensures { (result.parts ≡ 1) × (result.amount ≡ length self.log) }
+        ensures { (result.parts ≡ 1) × (result.amount ≡ length self.value.log) }
     {
         let Seat {
             number: _,
@@ -431,7 +502,8 @@ impl<J: Naming> Seat<J> {
     /// Keeps a report that was refused, where it is to be kept. A stale one is no refusal.
     fn keep(&mut self, kept: KeptReport, fault: Fault) -> Result<bool, Fault>
         ensures result { result ≡ turn_spec.refusal_of fault }
-        ensures seat { self.new ≡ turn_spec.with_kept self.old (turn_spec.kept_after kept fault) }
+        ensures seat { self.new.value ≡ turn_spec.with_kept self.old.value (turn_spec.kept_after kept fault) }
+        ensures room { self.new.room ≡ self.old.room }
     {
         self.kept = kept_after(kept, fault);
         refusal_of(fault)
@@ -439,15 +511,16 @@ impl<J: Naming> Seat<J> {
 
     /// Whether a call of a device is owed.
     pub fn owes(&self) -> bool
-        ensures { result ≡ is_some self.now.owed }
+        ensures { result ≡ is_some self.now.value.owed }
     {
         self.owed.is_some()
     }
 
     /// Passes the gate, makes the call that is owed, and keeps the device's answer as a report. It takes no lock and no memory.
     pub fn call<D: Device, G: Gate>(&mut self, device: &mut D, gate: &G)
-        requires { IsSome self.old.owed }
-        ensures { turn_spec.Calls D.answers self.old device.old self.new device.new }
+        requires { IsSome self.old.value.owed }
+        ensures calls { turn_spec.Calls D.answers self.old.value device.old self.new.value device.new }
+        ensures room { self.new.room ≡ self.old.room }
     {
         let Some(owed) = self.owed.take() else {
             unreachable!()
@@ -469,10 +542,11 @@ impl<J: Naming> Seat<J> {
     /// The serials of a subchannel: part by part the greater of what is loaded and of what the seat saw. It takes no lock and
     /// no memory, and is refused only where the subchannel is not configured.
     pub fn glance(&mut self, subchannel: u32) -> Result<Glance, Fault>
-        ensures found { IfOk result (λ g. Glances self.old subchannel (serials g.made g.cleared) self.new) }
+        ensures found { IfOk result (λ g. Glances self.old.value subchannel (serials g.made g.cleared) self.new.value) }
         ensures ordered { IfOk result (λ g. g.cleared ≤ g.made) }
-        ensures refused { IfErr result (λ f. (f ≡ fault_spec.NoSuchSubchannel) × (place_named self.old.directory subchannel ≡ None)) }
+        ensures refused { IfErr result (λ f. (f ≡ fault_spec.NoSuchSubchannel) × (place_named self.old.value.directory subchannel ≡ None)) }
         ensures same { OnErr result (self.new ≡ self.old) }
+        ensures room { self.new.room ≡ self.old.room }
     {
         let Some(place) = self.directory.place(subchannel) else {
             return Err(Fault::NoSuchSubchannel);
@@ -513,7 +587,7 @@ fn raise(pairs: &mut Vec<Serials>, directory: &Directory, event: &Event, reply: 
 
 /// Whether the log of each seat is what the history has of it, in order.
 pub fn audit<J: Naming, P: PathChoice + Drop>(core: &Core<J, P>, seats: &[Seat<J>]) -> bool
-    ensures { IsTrue result ↔ All (λ s. entries_by s.number core.now.by core.now.history ≡ s.log) seats.now }
+    ensures { IsTrue result ↔ All (λ s. entries_by s.value.number core.now.value.by core.now.value.history ≡ s.value.log) seats.now }
 {
     for seat in seats {
         if !has_log(core.by.as_slice(), &core.subsystem.history(), seat) {
@@ -526,7 +600,7 @@ pub fn audit<J: Naming, P: PathChoice + Drop>(core: &Core<J, P>, seats: &[Seat<J
 /// Whether the log of a seat is what the history has of it.
 fn has_log<J: Naming>(by: &[u16], history: &History, seat: &Seat<J>) -> bool
     requires { length by.now ≡ length history.now }
-    ensures { IsTrue result ↔ (entries_by seat.now.number by.now history.now ≡ seat.now.log) }
+    ensures { IsTrue result ↔ (entries_by seat.now.value.number by.now history.now ≡ seat.now.value.log) }
 {
     is_log(seat.number, by, history, seat.log.as_slice())
 }
@@ -556,7 +630,7 @@ fn has_entry(history: &History, place: usize, entry: &Entry) -> bool
     ensures { IsTrue result ↔ (slice_get history.now place ≡ Some entry.now) }
 {
     match history.get(place) {
-        Some(other) => same(other, entry),
+        Some(other) => same(&other, entry),
         None => false,
     }
 }

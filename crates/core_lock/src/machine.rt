@@ -55,19 +55,19 @@ impl<J: Naming, P: PathChoice + Drop> Machine<J, P> {
         cpu: Cpu,
         instruction: CpuInstruction,
     ) -> Result<Reply, Fault>
-        ensures { MatchResult result (λ reply. seat.new ≡ entered seat.old (spec.event_of cpu instruction) reply) (λ _. seat.new ≡ seat.old) }
+        ensures { MatchResult result (λ reply. seat.new.value ≡ entered seat.old.value (spec.event_of cpu instruction) reply) (λ _. seat.new.value ≡ seat.old.value) }
     {
         self.lock.lock(rt).enter(seat, event_of(cpu, instruction))
     }
 
     /// So many turns of the worker of a channel path, each under the lock. How many entries they added.
     pub fn path_worker<R: Wait>(&self, rt: &R, seat: &mut Seat<J>, chpid: u8, turns: u64) -> u64
-        requires { seat.old.owed ≡ None }
-        ensures turns { seat.new.turns ≡ seat.old.turns + turns }
-        ensures owes { seat.new.owed ≡ None }
-        ensures number { seat.new.number ≡ seat.old.number }
+        requires { seat.old.value.owed ≡ None }
+        ensures turns { seat.new.value.turns ≡ seat.old.value.turns + turns }
+        ensures owes { seat.new.value.owed ≡ None }
+        ensures number { seat.new.value.number ≡ seat.old.value.number }
         ensures most { result ≤ turns }
-        ensures log { Grew IsOfPaths seat.old.log seat.new.log result }
+        ensures log { Grew IsOfPaths seat.old.value.log seat.new.value.log result }
     {
         let mut added = 0;
         for _turn in 0..turns {
@@ -89,12 +89,12 @@ impl<J: Naming, P: PathChoice + Drop> Machine<J, P> {
         roam: bool,
         turns: u64,
     ) -> u64
-        requires { seat.old.owed ≡ None }
-        ensures turns { seat.new.turns ≡ seat.old.turns + turns }
-        ensures owes { seat.new.owed ≡ None }
-        ensures number { seat.new.number ≡ seat.old.number }
+        requires { seat.old.value.owed ≡ None }
+        ensures turns { seat.new.value.turns ≡ seat.old.value.turns + turns }
+        ensures owes { seat.new.value.owed ≡ None }
+        ensures number { seat.new.value.number ≡ seat.old.value.number }
         ensures most { result ≤ turns }
-        ensures log { Grew (IsOfWorker «unit» seat.old.kept) seat.old.log seat.new.log result }
+        ensures log { Grew (IsOfWorker «unit» seat.old.value.kept) seat.old.value.log seat.new.value.log result }
     {
         let mut added = 0;
         for _turn in 0..turns {
@@ -106,8 +106,8 @@ impl<J: Naming, P: PathChoice + Drop> Machine<J, P> {
 
     /// One turn of the worker of a channel path. Whether it entered something.
     fn path_turn<R: Wait>(&self, rt: &R, seat: &mut Seat<J>, chpid: u8) -> bool
-        ensures turns { seat.new.turns ≡ seat.old.turns + 1 }
-        ensures works { WorksPaths seat.old seat.new (turn_spec.count_of result) }
+        ensures turns { seat.new.value.turns ≡ seat.old.value.turns + 1 }
+        ensures works { WorksPaths seat.old.value seat.new.value (turn_spec.count_of result) }
     {
         let stepped = self.lock.lock(rt).path_step(seat, chpid);
         match stepped {
@@ -126,10 +126,10 @@ impl<J: Naming, P: PathChoice + Drop> Machine<J, P> {
         gate: &G,
         roam: bool,
     ) -> bool
-        requires { seat.old.owed ≡ None }
-        ensures turns { seat.new.turns ≡ seat.old.turns + 1 }
-        ensures owes { seat.new.owed ≡ None }
-        ensures works { WorksUnit «unit» seat.old seat.new (turn_spec.count_of result) }
+        requires { seat.old.value.owed ≡ None }
+        ensures turns { seat.new.value.turns ≡ seat.old.value.turns + 1 }
+        ensures owes { seat.new.value.owed ≡ None }
+        ensures works { WorksUnit «unit» seat.old.value seat.new.value (turn_spec.count_of result) }
     {
         let entered = self.locked_turn(rt, seat, unit, roam);
         call_owed(seat, device, gate);
@@ -138,10 +138,10 @@ impl<J: Naming, P: PathChoice + Drop> Machine<J, P> {
 
     /// One turn of the worker of a unit, under the lock. Whether it entered something.
     fn locked_turn<R: Wait>(&self, rt: &R, seat: &mut Seat<J>, unit: u32, roam: bool) -> bool
-        requires { seat.old.owed ≡ None }
-        ensures turns { seat.new.turns ≡ seat.old.turns + 1 }
-        ensures owes { IsOwedBy «unit» seat.new.owed }
-        ensures works { WorksUnit «unit» seat.old seat.new (turn_spec.count_of result) }
+        requires { seat.old.value.owed ≡ None }
+        ensures turns { seat.new.value.turns ≡ seat.old.value.turns + 1 }
+        ensures owes { IsOwedBy «unit» seat.new.value.owed }
+        ensures works { WorksUnit «unit» seat.old.value seat.new.value (turn_spec.count_of result) }
     {
         let stepped = self.lock.lock(rt).unit_step(seat, unit, roam);
         match stepped {
@@ -161,7 +161,7 @@ fn count_of(entered: bool) -> u64
 
 /// The call of a device that is owed, if any.
 fn call_owed<J: Naming, D: Device, G: Gate>(seat: &mut Seat<J>, device: &mut D, gate: &G)
-    ensures { IsCalled seat.old seat.new }
+    ensures { IsCalled seat.old.value seat.new.value }
 {
     if !seat.owes() {
         return;

@@ -1,6 +1,6 @@
 //! Work on the glance cells and the pairs of all subchannels.
 
-ghost use Rattle.std.specs.Prelude.{◌≡◌, ◌<◌, ◌≤◌, ℕ, All, IfOk, Some, length, slice_get, slice_set, vec_len};
+ghost use Rattle.std.specs.Prelude.{◌≡◌, ◌<◌, ◌≤◌, ℕ, true, All, IfOk, OnErr, OnOk, Some, length, slice_get, slice_set, vec_len};
 ghost use Rattle.scsw_irb.specs.declared.serials.Serials.{Serials};
 ghost use Rattle.event_laws.specs.Codes.{answer_in};
 ghost use Rattle.subsystem.specs.Keeping as keeping;
@@ -13,10 +13,12 @@ use crate::touching::Touched;
 use chan_events::reply::Reply;
 use chan_model::answer::Answer;
 use glance_cell::cell::{Reader, Writer};
+use glance_cell::supplies::CellSupply;
 use path_select::PathChoice;
 use scsw_irb::serials::Serials;
 use std::alloc::{AllocError, Global};
 use subsystem::subsystem::Subsystem;
+use supply::{Supply, push};
 
 /// Stores the serials that an event may have changed.
 pub(crate) fn publish<P: PathChoice + Drop>(
@@ -72,31 +74,40 @@ fn publish_one(writers: &mut Vec<Writer>, place: usize, now: Serials)
     writer.store(now.made, now.cleared);
 }
 
-/// A reader of each cell. Where no memory is left there are none.
-pub(crate) fn watch(alloc: Global, writers: &mut Vec<Writer>) -> Result<Vec<Reader>, AllocError>
+/// A reader of each cell. Where a supply refuses memory there are none.
+pub(crate) fn watch<S: CellSupply>(
+    alloc: Global,
+    supply: &mut S,
+    writers: &mut Vec<Writer>,
+) -> Result<Vec<Reader>, AllocError>
     ensures same { writers.new.items ≡ writers.old.items }
     ensures seen { IfOk result (λ readers. readers.items ≡ writers.old.items) }
+    ensures given { OnOk result (S.refused supply.new ≡ S.refused supply.old) }
+    ensures memory { OnErr result (S.refused supply.new ≡ true) }
 {
     let mut readers = Vec::new(alloc);
     for place in 0..writers.len() {
-        let writer = &mut writers[place];
-        readers.push(writer.reader()?)?;
+        let reader = supply.reader(&mut writers[place])?;
+        push(supply, &mut readers, reader)?;
     }
     Ok(readers)
 }
 
 /// The pairs that a new seat begins with.
-pub(crate) fn first_pairs<P: PathChoice + Drop>(
+pub(crate) fn first_pairs<S: Supply, P: PathChoice + Drop>(
     alloc: Global,
+    supply: &mut S,
     subsystem: &Subsystem<P>,
 ) -> Result<Vec<Serials>, AllocError>
     ensures value { IfOk result (λ pairs. pairs.items ≡ all_serials subsystem.now.state) }
     ensures ordered { IfOk result (λ pairs. All IsOrdered pairs.items) }
+    ensures given { OnOk result (S.refused supply.new ≡ S.refused supply.old) }
+    ensures memory { OnErr result (S.refused supply.new ≡ true) }
 {
     let _first = subsystem.serials_at(0);
     let mut pairs = Vec::new(alloc);
     for place in 0..subsystem.count() {
-        pairs.push(serials_at(subsystem, place))?;
+        push(supply, &mut pairs, serials_at(subsystem, place))?;
     }
     Ok(pairs)
 }

@@ -1,18 +1,21 @@
 //! What a machine is made of beforehand, so that its name can be given to it.
 
-ghost use Rattle.std.specs.Prelude.{◌≡◌, IfOk, replicate};
+ghost use Rattle.std.specs.Prelude.{◌≡◌, true, IfOk, OnErr, OnOk, replicate};
 ghost use Rattle.machine_model.specs.State.{opening_of};
 ghost use Rattle.subsystem.specs.Keeping.{all_serials};
 ghost use Rattle.core_lock.specs.Directory.{directory_of};
 ghost use Rattle.core_lock.specs.Named.{shown, serials};
 
 use crate::directory::Directory;
+use crate::supplies::CoreSupply;
 use channel_config::config::Config;
 use glance_cell::cell::Writer;
+use glance_cell::supplies::CellSupply;
 use std::alloc::{AllocError, Global};
 use std::marker::Model;
 use std::sync::Arc;
 use std::sync::ledger::Blank;
+use supply::{Given, push};
 
 /// The ledgers, the glance cells and the directory of a machine that is not made yet.
 #[derive(Drop)]
@@ -44,23 +47,46 @@ impl Parts {
         ensures directory { IfOk result (λ p. p.name.directory ≡ directory_of (opening_of config.now)) }
         ensures serials { IfOk result (λ p. p.serials ≡ all_serials (opening_of config.now)) }
     {
-        let directory = Directory::new(alloc, config)?;
+        Parts::new_with(alloc, &mut Given { refused: false }, config)
+    }
+
+    /// The parts of a machine of this configuration, in what memory a supply has. Where the supply refuses some, and only
+    /// there, there are none.
+    pub fn new_with<S: CoreSupply>(
+        alloc: Global,
+        supply: &mut S,
+        config: &Config,
+    ) -> Result<Parts, AllocError>
+        ensures directory { IfOk result (λ p. p.name.directory ≡ directory_of (opening_of config.now)) }
+        ensures serials { IfOk result (λ p. p.serials ≡ all_serials (opening_of config.now)) }
+        ensures given { OnOk result (S.refused supply.new ≡ S.refused supply.old) }
+        ensures memory { OnErr result (S.refused supply.new ≡ true) }
+    {
+        let directory = Directory::new_with(alloc, supply, config)?;
+        let writers = writers_of(alloc, supply, config.subchannels().len())?;
         Ok(Parts {
             entries: Blank::new(1025),
             turns: Blank::new(1025),
-            writers: writers_of(alloc, config.subchannels().len())?,
-            directory: Arc::new(alloc, directory)?,
+            writers,
+            directory: supply.share(alloc, directory)?,
         })
     }
 }
 
 /// So many cells, of which nothing was made or cleared, by their writers.
-fn writers_of(alloc: Global, count: usize) -> Result<Vec<Writer>, AllocError>
-    ensures { IfOk result (λ writers. shown writers.items ≡ replicate count (serials 0 0)) }
+fn writers_of<S: CellSupply>(
+    alloc: Global,
+    supply: &mut S,
+    count: usize,
+) -> Result<Vec<Writer>, AllocError>
+    ensures shown { IfOk result (λ writers. shown writers.items ≡ replicate count (serials 0 0)) }
+    ensures given { OnOk result (S.refused supply.new ≡ S.refused supply.old) }
+    ensures memory { OnErr result (S.refused supply.new ≡ true) }
 {
     let mut writers = Vec::new(alloc);
     for _place in 0..count {
-        writers.push(Writer::new(alloc)?)?;
+        let writer = supply.cell(alloc)?;
+        push(supply, &mut writers, writer)?;
     }
     Ok(writers)
 }

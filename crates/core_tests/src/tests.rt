@@ -1,5 +1,12 @@
 //! A module for each kind of test.
 
+mod crowd_tests;
+mod crowds;
+mod gate_tests;
+mod hands;
+mod looking_tests;
 mod machines;
+mod replaying;
 mod seats_tests;
+mod stories;
 mod workers_tests;

@@ -1,5 +1,5 @@
 -- What a host has, what its calls do to its machine, and what a refusal means to a CPU.
-use Rattle.std.specs.Prelude.{◌≡◌, ◌≤◌, ◌⊎◌, ℕ, List, [], ◌∷◌, ◌++◌, length, Option, None, Some, Result, Ok, Err}
+use Rattle.std.specs.Prelude.{◌≡◌, ◌≤◌, ℕ, List, [], ◌∷◌, ◌++◌, length, Option, None, Some, Result, Ok, Err}
 use Rattle.storage_keys.specs.declared.StorageFault.TheVariants.{Addressing, Protection, Specification}
 use Rattle.chan_model.specs.declared.fault.Fault.{Fault}
 use Rattle.chan_model.specs.declared.fault.Fault.TheVariants.{NoMemory, Storage, Operand}
@@ -9,7 +9,7 @@ use Rattle.chan_events.specs.declared.event.Event.TheVariants as event
 use Rattle.chan_events.specs.declared.reply.Entry.{Entry}
 use Rattle.chan_events.specs.declared.reply.Reply.{Reply}
 use Rattle.chan_events.specs.declared.reply.Reply.TheVariants as reply
-use Rattle.machine_model.specs.State.{State, Past, IsAsBefore}
+use Rattle.machine_model.specs.State.{State, Past, IsAsBefore, IsSpent}
 use Rattle.machine_model.specs.Steps.{Step, IsRefused}
 use Rattle.embedding.specs.Clocks.{Clocks}
 use Rattle.embedding.specs.declared.host.Turn.{Turn}
@@ -21,10 +21,15 @@ pub record Hosted : Type 0 where
   pub clock : Clocks
   pub kept : Option Report
 
+-- an event is refused for want of memory only where the history has no room, or no number is left, and else as the machine refuses it
+abbrev pub MayRefuse : Past → Event → Fault → Type 0
+MayRefuse old e NoMemory = IsSpent old
+MayRefuse old e f = IsRefused old.state e f
+
 -- an event was accepted, and the history keeps it with its reply; or it was refused, and nothing changed
 abbrev pub Enters : Past → Event → Result Reply Fault → Past → Type 0
 Enters old e (Ok r) new = Step old.state e r new.state × (new.history ≡ old.history ++ record { event = e; reply = r } ∷ [])
-Enters old e (Err f) new = IsAsBefore old new × ((f ≡ NoMemory) ⊎ IsRefused old.state e f)
+Enters old e (Err f) new = IsAsBefore old new × MayRefuse old e f
 
 -- these entries, each a step, lead from one state to another
 abbrev pub Leads : State → List Entry → State → Type 0

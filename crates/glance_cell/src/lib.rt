@@ -7,4 +7,5 @@
 #![tactic(auto)]
 
 pub mod cell;
+pub mod supplies;
 pub mod words;

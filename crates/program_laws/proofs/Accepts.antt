@@ -20,7 +20,7 @@ use Rattle.subchannel_model.specs.declared.state.ProgramPosition.{ProgramPositio
 use Rattle.subchannel_model.specs.declared.state.SubchannelState.{SubchannelState}
 use Rattle.subchannel_model.specs.declared.state.UpStep.{UpStep}
 use Rattle.subchannel_model.specs.Taking as taking
-use Rattle.subchannel_model.specs.Taking.{goes_ahead, path_used, from_start, suspended_as, standing_as, standing}
+use Rattle.subchannel_model.specs.Taking.{goes_ahead, halt_done, path_used, from_start, suspended_as, standing_as, standing}
 use Rattle.program_laws.specs.Traces.{ProgramTrace}
 use Rattle.program_laws.specs.Tells.{GoesOn, beginning, IsOver, Accepted, Meets}
 use Rattle.program_laws.specs.Shows.{IsRest}
@@ -29,6 +29,7 @@ use Rattle.program_laws.proofs.MachineTraces as stories
 use Rattle.program_laws.proofs.Ties.{AreLaws}
 use Rattle.program_laws.proofs.Parts.{WentOn, goes-on}
 use Rattle.program_laws.proofs.Shows.{ShowsRest, interrupted-shows, rest-stays, suspended-shows, fault-shows}
+use Rattle.program_laws.proofs.StatusCounts.{none-counted, of-program, halt-shows}
 use Rattle.program_laws.proofs.Holds.{IsPhase, IsStanding, IsHeld, done-held}
 use Rattle.program_laws.proofs.Fetches.{goes-fetched}
 use Rattle.program_laws.proofs.Goings.{begins-goes}
@@ -165,20 +166,22 @@ module _ (laws : AreLaws) where
       let x : UpStep = taking.begin_standing storage on q t (standing s) in
       taken-meets storage s u x k (stories.begins_as storage s.waiting s.suspended s.offered k) (standing-taken storage on q t (standing s))
       (inr (standing-on storage on q t s.waiting s.begun s.suspended s.offered k (and-true (is_some (standing s)) (not s.scsw.activity.halt_pending) e) h.standing (done-held s k h).program f z g))
-  begun-meets storage s k u t q false e h f z g = inl (over s e, refl, refl)
+  begun-meets storage s k u t q false e h f z g =
+      let letting : SubchannelState = record s { hold = record s.hold { phase = hold.Letting t q; seen = 0; first_path = Some q }; pmcw = path_used s.pmcw q } in
+      inl (over s e, refl, refl, of-program s (halt_done letting) (Some k) h (halt-shows letting))
 
   offer-meets : (storage : Contents) (s : SubchannelState) (k : ProgramTrace) (u t q : ℕ) (x : Bool) → IsHeld s k → t ≡ k.number → k.sent ≡ 0 →
       AcceptsBy storage s u (if x then Some (hold_table.program_begun s.hold t q (goes_ahead s)) else None) k
   offer-meets storage s k u t q true h f z g = begun-meets storage s k u t q (goes_ahead s) refl h f z g
-  offer-meets storage s k u t q false h f z g = refl
+  offer-meets storage s k u t q false h f z g = (refl, none-counted s s k refl)
 
   pub accept-meets : (storage : Contents) (s : SubchannelState) (k : ProgramTrace) (u : ℕ) (phase : HoldPhase) → s.hold.phase ≡ phase → IsHeld s k →
       AcceptsBy storage s u (hold_table.offer_accepted s.hold phase u (goes_ahead s)) k
-  accept-meets storage s k u hold.Free e h g = refl
+  accept-meets storage s k u hold.Free e h g = (refl, none-counted s s k refl)
   accept-meets storage s k u (hold.Offer t q) e h g =
       let f : IsPhase (hold.Offer t q) k.number s.begun k.sent = subst (λ (x : HoldPhase). IsPhase x k.number s.begun k.sent) e h.phase in
       offer-meets storage s k u t q (u == t) h f.0 f.2 g
-  accept-meets storage s k u (hold.On t p c) e h g = refl
-  accept-meets storage s k u (hold.Away t) e h g = refl
-  accept-meets storage s k u (hold.Letting t p) e h g = refl
-  accept-meets storage s k u (hold.Reset r) e h g = refl
+  accept-meets storage s k u (hold.On t p c) e h g = (refl, none-counted s s k refl)
+  accept-meets storage s k u (hold.Away t) e h g = (refl, none-counted s s k refl)
+  accept-meets storage s k u (hold.Letting t p) e h g = (refl, none-counted s s k refl)
+  accept-meets storage s k u (hold.Reset r) e h g = (refl, none-counted s s k refl)

@@ -1,6 +1,6 @@
 -- What a subchannel does for its program with an End is what is seen of it.
 use Rattle.std.proofs.Common.{◌≡◌, refl, sym, ◌∙◌, ap, subst, arith, ℕ, ◌+◌, ◌<◌, ◌==◌, Bool, true, false, List, ◌∷◌, ◌++◌, Option, Some, None, inl, inr}
-use Rattle.std.specs.Prelude.{if◌then◌else◌}
+use Rattle.std.specs.Prelude.{if◌then◌else◌, ◌||◌, not, is_none}
 use Rattle.std.proofs.lemmas.Bool.{eqb-true}
 use Rattle.scsw_irb.specs.declared.status.DeviceStatus.{DeviceStatus}
 use Rattle.storage_keys.specs.Storage.{Contents}
@@ -26,7 +26,7 @@ use Rattle.subchannel_model.specs.Status.{serials_made}
 use Rattle.subchannel_model.specs.Taking as taking
 use Rattle.subchannel_model.specs.Taking.{let_go, with_end}
 use Rattle.program_laws.specs.Traces.{ProgramTrace}
-use Rattle.program_laws.specs.Shows.{IsCountShown}
+use Rattle.program_laws.specs.Shows.{IsCountBy}
 use Rattle.program_laws.specs.Tells.{IsChained, Chains, Meets}
 use Rattle.program_laws.proofs.Latest.{next-chains}
 use Rattle.program_laws.proofs.MachineActs.{next_acts}
@@ -36,7 +36,8 @@ use Rattle.program_laws.proofs.Ties.{AreLaws}
 use Rattle.program_laws.proofs.Holds.{IsPhase, HasWork, IsHeld}
 use Rattle.program_laws.proofs.HoldMeets.{chains-facts, next-went, end-left}
 use Rattle.program_laws.proofs.Fetches.{next-adds}
-use Rattle.program_laws.proofs.Shows.{end-shows}
+use Rattle.program_laws.proofs.Shows.{unmade, stops-shows, next-shows}
+use Rattle.program_laws.proofs.StatusCounts.{none-counted}
 use Rattle.program_laws.proofs.Goings.{let_go-silent, chains-goes}
 
 -- the signal is taken
@@ -63,7 +64,7 @@ module _ (laws : AreLaws) (accesses : AreAccesses) where
 
   abbrev EndBy : Contents → SubchannelState → EndSignal → UpStep → ProgramTrace → ProgramTrace → Type 0
   EndBy storage s signal x k after =
-      (s.waiting ≡ None → IsCountShown s x.state after) →
+      IsHeld x.state after →
       Meets storage storage s x.state (up.End signal.number signal.command signal.status signal.more) x.came.taken x.came.sent k after
 
   -- a next command
@@ -92,10 +93,12 @@ module _ (laws : AreLaws) (accesses : AreAccesses) where
   -- none
   stops-meets : (storage : Contents) (s : SubchannelState) (b : ActiveProgram) (k : ProgramTrace) (signal : EndSignal) (shown : Shown) (last : Bool) →
       IsChained false s signal.status signal.more k →
-      EndBy storage s signal (if last then let_go (end-left laws accesses s b signal shown last) else taking.quietly (end-left laws accesses s b signal shown last)) k
-      (stories.ends_alone signal.status k)
-  stops-meets storage s b k signal shown true c r = (inl (c, (refl, let_go-silent (end-left laws accesses s b signal shown true), made-more s.pmcw.enabled s.serials)), r)
-  stops-meets storage s b k signal shown false c r = (inl (c, (refl, refl, made-more s.pmcw.enabled s.serials)), r)
+      let x : UpStep = if last then let_go (end-left laws accesses s b signal shown last) else taking.quietly (end-left laws accesses s b signal shown last) in
+      let after : ProgramTrace = stories.ends_alone signal.status k in
+      IsCountBy (is_none s.waiting || not (is_last_end signal.status)) s x.state after →
+      Meets storage storage s x.state (up.End signal.number signal.command signal.status signal.more) x.came.taken x.came.sent k after
+  stops-meets storage s b k signal shown true c r = inl (c, (refl, let_go-silent (end-left laws accesses s b signal shown true), made-more s.pmcw.enabled s.serials, r))
+  stops-meets storage s b k signal shown false c r = inl (c, (refl, refl, made-more s.pmcw.enabled s.serials, r))
 
   goes-meets : (storage : Contents) (s : SubchannelState) (b : ActiveProgram) (k : ProgramTrace) (signal : EndSignal) (x y : Bool) → chains_command s.scsw b signal.status signal.more ≡ x →
       has_device_end signal.status ≡ y → s.begun ≡ Some b → HasWork (Some b) k → signal.number ≡ k.number →
@@ -110,19 +113,21 @@ module _ (laws : AreLaws) (accesses : AreAccesses) where
       let x : UpStep = taking.chain_with storage s (with_end b) signal next in
       let after : ProgramTrace = stories.trace_goes_on next.came (next_acts storage b.transfer (has_status_modifier signal.status)) k in
       subst (λ (t : Bool). Meets storage storage s x.state (up.End signal.number signal.command signal.status signal.more) t x.came.sent k after)
-      (sym (chaining-taken storage s (with_end b) signal next.walk next.came)) (inr (is-chained s b k signal.status signal.more true e w c, chains-on storage s b k signal c d w m), r)
-  goes-meets storage s b k signal true false c d e w m r = (inr (is-chained s b k signal.status signal.more true e w c, inr (d, refl, refl)), r)
+      (sym (chaining-taken storage s (with_end b) signal next.walk next.came)) (inr (is-chained s b k signal.status signal.more true e w c, chains-on storage s b k signal c d w m, next-shows laws accesses storage s b k signal c w r))
+  goes-meets storage s b k signal true false c d e w m r =
+      inr (is-chained s b k signal.status signal.more true e w c, inr (d, refl, refl), unmade s.serials.made (record (taking.end_taken s signal) { begun = Some (with_end b) }) k refl)
   goes-meets storage s b k signal false y c d e w m r =
-      stops-meets storage s b k signal (end_shown s b signal.status signal.more) (is_last_end signal.status) (is-chained s b k signal.status signal.more false e w c) r
+      stops-meets storage s b k signal (end_shown s b signal.status signal.more) (is_last_end signal.status) (is-chained s b k signal.status signal.more false e w c)
+      (stops-shows laws accesses s b k signal w)
 
   command-meets : (storage : Contents) (s : SubchannelState) (b : ActiveProgram) (k : ProgramTrace) (signal : EndSignal) (x : Bool) → s.begun ≡ Some b → HasWork (Some b) k → signal.number ≡ k.number →
       EndBy storage s signal (if x then taking.command_ended storage s b signal else taking.ignoring s) k (if x then stories.chains storage s b signal.status signal.more k else k)
   command-meets storage s b k signal true e w m r = goes-meets storage s b k signal (chains_command s.scsw b signal.status signal.more) (has_device_end signal.status) refl refl e w m r
-  command-meets storage s b k signal false e w m r = refl
+  command-meets storage s b k signal false e w m r = (refl, none-counted s s k refl)
 
   work-ends : (storage : Contents) (s : SubchannelState) (b : Option ActiveProgram) (k : ProgramTrace) (signal : EndSignal) → s.begun ≡ b → HasWork b k → signal.number ≡ k.number →
       EndBy storage s signal (taking.end_of storage s b signal) k (stories.trace_ends storage s b signal.command signal.status signal.more k)
-  work-ends storage s None k signal e w m r = refl
+  work-ends storage s None k signal e w m r = (refl, none-counted s s k refl)
   work-ends storage s (Some b) k signal e w m r = command-meets storage s b k signal (signal.command == b.transfer.command) e w m r
 
   -- the program is connected under its number
@@ -138,11 +143,11 @@ module _ (laws : AreLaws) (accesses : AreAccesses) where
       EndBy storage s signal (if x then taking.end_of storage s s.begun signal else taking.ignoring s) k
       (if x then stories.trace_ends storage s s.begun signal.command signal.status signal.more k else k)
   end-by storage s k signal true e h r = work-ends storage s s.begun k signal refl h.work (on-number s.hold.phase signal.number k.number k.sent s.begun e h.phase) r
-  end-by storage s k signal false e h r = refl
+  end-by storage s k signal false e h r = (refl, none-counted s s k refl)
 
   pub end-meets : (storage : Contents) (s : SubchannelState) (k : ProgramTrace) (signal : EndSignal) (x : Bool) → is_on s.hold.phase signal.number ≡ x → IsHeld s k →
       let met : UpStep = if x then taking.end_of storage s s.begun signal else taking.ignoring s in
       let after : ProgramTrace = if x then stories.trace_ends storage s s.begun signal.command signal.status signal.more k else k in
       IsHeld met.state after →
       Meets storage storage s met.state (up.End signal.number signal.command signal.status signal.more) met.came.taken met.came.sent k after
-  end-meets storage s k signal x e h g = end-by storage s k signal x e h (λ w. end-shows laws accesses storage s k signal x w h g)
+  end-meets storage s k signal x e h g = end-by storage s k signal x e h g

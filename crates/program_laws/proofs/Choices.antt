@@ -306,14 +306,13 @@ noticed-untold s c true u =
     reset-untold (taking.with_known s c) (is_offered_or_held s.hold.phase && has_any s.waiting s.begun s.suspended) (record { phase = u.phase; begun = u.begun; suspended = u.suspended })
 noticed-untold s c false u = u
 
-unheld-by : (s : SubchannelState) (f : HoldPhase → SubchannelState) (phase : HoldPhase) → IsUnheld phase s.drawn → IsUntold (f hold.Free) →
-    ((r : ℕ) → IsUntold (f (hold.Reset r))) → IsUntold (f phase)
-unheld-by s f hold.Free u x y = x
-unheld-by s f (hold.Offer t p) u x y = absurd u
-unheld-by s f (hold.On t p c) u x y = absurd u
-unheld-by s f (hold.Away t) u x y = absurd u
-unheld-by s f (hold.Letting t p) u x y = absurd u
-unheld-by s f (hold.Reset r) u x y = y r
+pub unheld-by : (P : HoldPhase → Type 0) (phase : HoldPhase) (drawn : ℕ) → IsUnheld phase drawn → P hold.Free → ((r : ℕ) → P (hold.Reset r)) → P phase
+unheld-by P hold.Free drawn u x y = x
+unheld-by P (hold.Offer t p) drawn u x y = absurd u
+unheld-by P (hold.On t p c) drawn u x y = absurd u
+unheld-by P (hold.Away t) drawn u x y = absurd u
+unheld-by P (hold.Letting t p) drawn u x y = absurd u
+unheld-by P (hold.Reset r) drawn u x y = y r
 
 freed-if : (s : SubchannelState) (b : Bool) → IsUntold s → IsUntold (if b then with_cause s cause.ClearDone else s)
 freed-if s true u = record { phase = u.phase; begun = u.begun; suspended = u.suspended }
@@ -338,7 +337,7 @@ attended-untold s p a status false u = u
 module _ (laws : AreLaws) (accesses : AreAccesses) where
   -- nothing changes, where the hold is free or to be reset
   abbrev unmet : (s : SubchannelState) (f : HoldPhase → SubchannelState) → IsUntold s → IsUntold (f hold.Free) → ((r : ℕ) → IsUntold (f (hold.Reset r))) → IsUntold (f s.hold.phase)
-  unmet s f u x y = unheld-by s f s.hold.phase u.phase x y
+  unmet s f u x y = unheld-by (λ phase. IsUntold (f phase)) s.hold.phase s.drawn u.phase x y
 
   pub untold-met : (returns : Bool) → (storage : Contents) (s : SubchannelState) (p : ℕ) (signal : Up) → IsUntold s → IsUntold (takes_up returns storage s p signal).step.state
   untold-met returns storage s p (up.Accept t) u = unmet s (λ x. (taking.accept storage s (hold_table.offer_accepted s.hold x t (goes_ahead s))).state) u u (λ r. u)

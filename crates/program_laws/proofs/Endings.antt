@@ -37,15 +37,16 @@ ended-tied earlier orb acts ps t modifier k = record {
   number = k.number;
 }
 
-arrived-ended : (k : ProgramTrace) (status : DeviceStatus) (d : Bool) → HasArrived k.now d → HasArrived (ends_alone status k).now d
-arrived-ended k status true a = a
-arrived-ended k status false a = a
+arrived-ended : (k : ProgramTrace) (status : DeviceStatus) (t : Transfer) (d : Bool) → HasArrived k.now t.fault t.sequence d →
+    HasArrived (ends_alone status k).now t.fault t.sequence d
+arrived-ended k status t true a = a
+arrived-ended k status t false a = a
 
 pub ended-work : (k : ProgramTrace) (status : DeviceStatus) (t : Transfer) (d : Bool) → IsAtWork k.earlier k.orb k.now t d →
     IsAtWork k.earlier k.orb (ends_alone status k).now t d
 ended-work k status t d w = record {
   tied = ended-tied k.earlier k.orb k.now.acts k.now.moved t (has_status_modifier status) w.tied;
-  arrived = arrived-ended k status d w.arrived;
+  arrived = arrived-ended k status t d w.arrived;
 }
 
 pub ended-held : (s : SubchannelState) (b : ActiveProgram) (k : ProgramTrace) (status : DeviceStatus) → s.begun ≡ Some b → HasWork (Some b) k → IsHeld s k → IsHeld s (ends_alone status k)

@@ -231,6 +231,6 @@ module _ (earlier : ℕ) where
     takes_in-adds accesses storage orb p t s bytes k =
         let q : CommandTrace = arriving storage t s bytes p in
         let x = brought storage t s bytes in
-        let w : IsAtWork earlier orb q x.transfer false = bring-by earlier laws accesses storage orb p t s bytes (s == t.sequence + 1) k in
+        let w : IsAtWork earlier orb q x.transfer false = bring-by earlier laws accesses storage orb p t s bytes (s == t.sequence + 1) refl k in
         adds-more x.storage orb p.acts q.acts (located_acts x.storage x.transfer) (bring-if storage orb p t s bytes (s == t.sequence + 1) k.tied.walk)
         (located-fetched x.storage orb q.acts q.moved x.transfer w.tied)

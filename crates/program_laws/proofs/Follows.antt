@@ -1,7 +1,7 @@
 -- What is told of the program of a place goes on in each step by what is seen.
-use Rattle.std.proofs.Common.{◌≡◌, refl, sym, ◌∙◌, ap, subst, ℕ, Bool, length, Option, Some, None, Result, Ok, Err}
+use Rattle.std.proofs.Common.{◌≡◌, refl, sym, ◌∙◌, ap, subst, ℕ, Bool, false, length, Option, Some, None, Result, Ok, Err}
 use Rattle.std.specs.Prelude.{if◌then◌else◌, nat_lt, slice_get, slice_set, IfOk}
-use Rattle.std.proofs.lemmas.Bool.{eqb-true}
+use Rattle.std.proofs.lemmas.Bool.{eqb-true, eqb-false}
 use Rattle.storage_keys.specs.Storage.{Contents}
 use Rattle.chan_model.specs.declared.fault.Fault.{Fault}
 use Rattle.chan_model.specs.declared.fault.Fault.TheVariants as fault
@@ -9,7 +9,7 @@ use Rattle.chan_model.specs.declared.signal.Down.{Down}
 use Rattle.chan_model.specs.declared.signal.OnPath.{OnPath}
 use Rattle.chan_model.specs.declared.signal.Up.{Up}
 use Rattle.chan_model.specs.declared.signal.Up.TheVariants as up
-use Rattle.chan_model.specs.HoldTable.{is_connected, is_on}
+use Rattle.chan_model.specs.HoldTable.{offer_accepted, is_connected, is_on}
 use Rattle.chan_events.specs.declared.event.Event.{Event}
 use Rattle.chan_events.specs.declared.event.Event.TheVariants as event
 use Rattle.chan_events.specs.declared.reply.Reply.{Reply}
@@ -19,23 +19,27 @@ use Rattle.subchannel_model.specs.declared.state.Subchannel.{Subchannel}
 use Rattle.subchannel_model.specs.declared.state.SubchannelState.{SubchannelState}
 use Rattle.subchannel_model.specs.Places.{found_with, found_at}
 use Rattle.subchannel_model.specs.Sending.{carried_by, finds_full}
-use Rattle.subchannel_model.specs.Taking.{Met, takes_up}
+use Rattle.subchannel_model.specs.Taking.{Met, meets, ignoring, goes_ahead, accept, move_data, end_of, takes_up}
 use Rattle.machine_model.specs.Requests.{requests_settled, settled}
 use Rattle.machine_model.specs.State.{State, place_of, with_sub}
 use Rattle.machine_model.specs.Steps.{Step}
 use Rattle.machine_model.specs.Turns.{Turn, UpTurn, Outcome, at_storage, does}
 use Rattle.machine_model.specs.UpSteps.{returns_at, up_front, up_sub, up_at}
-use Rattle.step_laws.proofs.Places.{get-set}
+use Rattle.step_laws.proofs.Places.{get-set, get-other}
 use Rattle.program_laws.specs.Traces.{ProgramTrace, is_place}
-use Rattle.program_laws.specs.Tells.{Meets, OfBoth, GoesBy}
+use Rattle.program_laws.specs.Shows.{IsCountLeft}
+use Rattle.program_laws.specs.Tells.{Meets, MeetsNone, OfBoth, ShowsBy, AtPlace, GoesBy}
 use Rattle.program_laws.proofs.MachineTraces.{met_with, met_at, trace_meets, trace_after}
 use Rattle.program_laws.proofs.Accesses.{AreAccesses}
 use Rattle.program_laws.proofs.Ties.{AreLaws}
-use Rattle.program_laws.proofs.Holds.{IsHeld, HeldBy}
+use Rattle.program_laws.proofs.Holds.{IsHeld, IsUntold, HeldBy}
 use Rattle.program_laws.proofs.HoldMeets.{signal-held}
 use Rattle.program_laws.proofs.Accepts.{accept-meets}
 use Rattle.program_laws.proofs.Moves.{data-meets}
 use Rattle.program_laws.proofs.Chains.{end-meets}
+use Rattle.program_laws.proofs.Choices.{unheld-by}
+use Rattle.program_laws.proofs.StatusCounts.{none-counted, none-left, of-program, cleared-zero, noticed-shows, attended-left}
+use Rattle.program_laws.proofs.StepCounts.{walk-shows}
 use Rattle.program_laws.proofs.UnitActs.{if-ok}
 
 module _ (laws : AreLaws) (accesses : AreAccesses) where
@@ -53,24 +57,45 @@ module _ (laws : AreLaws) (accesses : AreAccesses) where
   signal-meets returns storage s p (up.End t n status more) k h =
       end-meets laws accesses storage s k (record { path = p; number = t; command = n; status = status; more = more }) (is_on s.hold.phase t) refl h
       (signal-held laws accesses returns storage s p (up.End t n status more) k h)
-  signal-meets returns storage s p (up.Busy t) k h = refl
-  signal-meets returns storage s p (up.Leave t c) k h = refl
-  signal-meets returns storage s p (up.Back t c) k h = refl
-  signal-meets returns storage s p (up.Released t) k h = refl
-  signal-meets returns storage s p (up.Cleared r) k h = refl
-  signal-meets returns storage s p (up.Notice b) k h = refl
-  signal-meets returns storage s p (up.Attn a status) k h = refl
+  signal-meets returns storage s p (up.Busy t) k h = (refl, none-counted s (takes_up returns storage s p (up.Busy t)).step.state k refl)
+  signal-meets returns storage s p (up.Leave t c) k h = (refl, none-counted s (takes_up returns storage s p (up.Leave t c)).step.state k refl)
+  signal-meets returns storage s p (up.Back t c) k h = (refl, none-counted s (takes_up returns storage s p (up.Back t c)).step.state k refl)
+  signal-meets returns storage s p (up.Released t) k h = (refl, none-counted s (takes_up returns storage s p (up.Released t)).step.state k refl)
+  signal-meets returns storage s p (up.Cleared r) k h = (refl, cleared-zero s s.hold.phase r)
+  signal-meets returns storage s p (up.Notice b) k h =
+      (refl, of-program s (takes_up returns storage s p (up.Notice b)).step.state (Some k) h (noticed-shows s b (nat_lt s.hold.known b)))
+  signal-meets returns storage s p (up.Attn a status) k h = (refl, attended-left s p a status)
+
+  -- where nothing was offered
+  unoffered : (returns : Bool) (storage : Contents) (s : SubchannelState) (p : ℕ) (signal : Up) → IsUntold s → MeetsNone s (takes_up returns storage s p signal).step.state signal
+  unoffered returns storage s p (up.Accept t) u =
+      unheld-by (λ x. IsCountLeft s (accept storage s (offer_accepted s.hold x t (goes_ahead s))).state) s.hold.phase s.drawn u.phase (none-left s s refl) (λ r. none-left s s refl)
+  unoffered returns storage s p (up.Data t c n seq load) u =
+      unheld-by
+      (λ x. IsCountLeft s (if is_connected x p t c then move_data storage s s.begun (record { path = p; number = t; connection = c; command = n; sequence = seq }) load
+      else meets storage (ignoring s)).step.state) s.hold.phase s.drawn u.phase (none-left s s refl) (λ r. none-left s s refl)
+  unoffered returns storage s p (up.End t n status more) u =
+      unheld-by
+      (λ x. IsCountLeft s (if is_on x t then end_of storage s s.begun (record { path = p; number = t; command = n; status = status; more = more }) else ignoring s).state)
+      s.hold.phase s.drawn u.phase (none-left s s refl) (λ r. none-left s s refl)
+  unoffered returns storage s p (up.Busy t) u = none-left s (takes_up returns storage s p (up.Busy t)).step.state refl
+  unoffered returns storage s p (up.Leave t c) u = none-left s (takes_up returns storage s p (up.Leave t c)).step.state refl
+  unoffered returns storage s p (up.Back t c) u = none-left s (takes_up returns storage s p (up.Back t c)).step.state refl
+  unoffered returns storage s p (up.Released t) u = none-left s (takes_up returns storage s p (up.Released t)).step.state refl
+  unoffered returns storage s p (up.Cleared r) u = cleared-zero s s.hold.phase r
+  unoffered returns storage s p (up.Notice b) u = of-program s (takes_up returns storage s p (up.Notice b)).step.state None u (noticed-shows s b (nat_lt s.hold.known b))
+  unoffered returns storage s p (up.Attn a status) u = attended-left s p a status
 
   -- of a program that there is, where its subchannel agrees with it
   abbrev TurnMeets : Contents → Subchannel → UpTurn → Option ProgramTrace → Option ProgramTrace → Type 0
   TurnMeets storage sub t k after =
       (signal : Up) × (taken : Bool) × (sent : Option (OnPath Down)) × (t.reply ≡ reply.Up signal taken sent)
-      × (HeldBy sub.state k → OfBoth (Meets storage t.storage sub.state t.sub.state signal taken sent) k after)
+      × (HeldBy sub.state k → OfBoth (MeetsNone sub.state t.sub.state signal) (Meets storage t.storage sub.state t.sub.state signal taken sent) k after)
 
   any-meets : (returns : Bool) (storage : Contents) (s : SubchannelState) (p : ℕ) (signal : Up) (k : Option ProgramTrace) → HeldBy s k →
       let x : Met = takes_up returns storage s p signal in
-      OfBoth (Meets storage x.storage s x.step.state signal x.step.came.taken x.step.came.sent) k (met_with storage s p (Some signal) k)
-  any-meets returns storage s p signal None h = tt
+      OfBoth (MeetsNone s x.step.state signal) (Meets storage x.storage s x.step.state signal x.step.came.taken x.step.came.sent) k (met_with storage s p (Some signal) k)
+  any-meets returns storage s p signal None h = unoffered returns storage s p signal h
   any-meets returns storage s p signal (Some k) h = signal-meets returns storage s p signal k h
 
   front-meets : (returns : Bool) (storage : Contents) (sub : Subchannel) (path : ℕ) (front : Option Up) (k : Option ProgramTrace) →
@@ -92,6 +117,14 @@ module _ (laws : AreLaws) (accesses : AreAccesses) where
     abbrev Goes : Event → Reply → State → Type 0
     Goes e r new = GoesBy place s e r new k (trace_after place s e r k)
 
+    -- at another place no status is made
+    elsewhere-made : (word at : ℕ) (sub after : Subchannel) → place_of s word ≡ Some at → is_place (place_of s word) place ≡ false → (x next : Subchannel) →
+        slice_get s.subs place ≡ Some x → slice_get (slice_set s.subs at after) place ≡ Some next → next.state.serials.made ≡ x.state.serials.made
+    elsewhere-made word at sub after named e x next f g =
+        let apart : place ≡ at → ⊥ = λ i. eqb-false at place (sym (ap (λ (o : Option ℕ). is_place o place) named) ∙ e) (sym i) in
+        let same : x ≡ next = cc (sym f ∙ sym (get-other s.subs at after place apart) ∙ g) in
+        ap (λ (y : Subchannel). y.state.serials.made) (sym same)
+
     -- where a signal comes up
     abbrev UpGoes : ℕ → ℕ → Turn → Type 0
     UpGoes word path t =
@@ -101,13 +134,16 @@ module _ (laws : AreLaws) (accesses : AreAccesses) where
         TurnMeets s.storage sub t k (met_at s.storage (Some sub) path k) →
         UpGoes word path (record { reply = t.reply; state = with_sub (record s { storage = t.storage }) at t.sub })
     turn-goes word path at sub t named there m =
-        let P : Subchannel → Subchannel → Option ProgramTrace → Type 0 = λ x y z. OfBoth (Meets s.storage t.storage x.state y.state m.0 m.1 m.2) k z in (
+        let P : Subchannel → Subchannel → Option ProgramTrace → Type 0 = λ x y z. OfBoth (MeetsNone x.state y.state m.0) (Meets s.storage t.storage x.state y.state m.0 m.1 m.2) k z in (
           m.0,
           m.1,
           m.2,
           m.3,
           (
-            (λ e. ap (λ (b : Bool). if b then met_at s.storage (slice_get s.subs place) path k else k) e),
+            (λ e. (
+              ap (λ (b : Bool). if b then met_at s.storage (slice_get s.subs place) path k else k) e,
+              elsewhere-made word at sub t.sub named e,
+            )),
             (λ e x next f g.
                 let here : at ≡ place = eqb-true at place (sym (ap (λ (o : Option ℕ). is_place o place) named) ∙ e) in
                 let found : slice_get s.subs place ≡ Some sub = subst (λ (i : ℕ). slice_get s.subs i ≡ Some sub) here there in
@@ -146,22 +182,25 @@ module _ (laws : AreLaws) (accesses : AreAccesses) where
         (subst (λ (x : Turn). Goes (event.Up word path) (reply.Up g.0 g.1 g.2) x.state) (sym same) g.4)
     settled-goes word path r new (Err f) g n = absurd (cc n)
 
+    other-goes : (e : Event) (r : Reply) (new : State) → Step s e r new → ((word path : ℕ) → e ≡ event.Up word path → ⊥) → AtPlace place s new (λ x y. ShowsBy e x y k)
+    other-goes e r new step n = walk-shows s place k held e r new (laws.walks s e r new step) n
+
     pub step-goes : (e : Event) (r : Reply) (new : State) → Step s e r new → Goes e r new
     step-goes (event.Up word path) r new (o, w, n) =
         settled-goes word path r new o
         (subst (λ (x : Outcome). IfOk x (UpGoes word path)) (sym w) (named-goes word path (place_of s word) refl)) n
-    step-goes (event.Put address bytes) r new step = refl
-    step-goes (event.SetKey address key) r new step = refl
-    step-goes (event.SetPrefix cpu address) r new step = refl
-    step-goes (event.Show address count) r new step = refl
-    step-goes (event.Execute cpu i) r new step = refl
-    step-goes (event.ExecuteOther cpu i) r new step = refl
-    step-goes (event.Choose word) r new step = refl
-    step-goes (event.Down word path) r new step = refl
-    step-goes (event.Report at report) r new step = refl
-    step-goes (event.Act at what) r new step = refl
-    step-goes (event.Restart at) r new step = refl
-    step-goes (event.PathDown chpid) r new step = refl
-    step-goes (event.PathUp chpid) r new step = refl
-    step-goes (event.PathReset chpid) r new step = refl
-    step-goes event.SystemReset r new step = refl
+    step-goes (event.Put address bytes) r new step = (refl, other-goes (event.Put address bytes) r new step (λ w p e. cc e))
+    step-goes (event.SetKey address key) r new step = (refl, other-goes (event.SetKey address key) r new step (λ w p e. cc e))
+    step-goes (event.SetPrefix cpu address) r new step = (refl, other-goes (event.SetPrefix cpu address) r new step (λ w p e. cc e))
+    step-goes (event.Show address count) r new step = (refl, other-goes (event.Show address count) r new step (λ w p e. cc e))
+    step-goes (event.Execute cpu i) r new step = (refl, other-goes (event.Execute cpu i) r new step (λ w p e. cc e))
+    step-goes (event.ExecuteOther cpu i) r new step = (refl, other-goes (event.ExecuteOther cpu i) r new step (λ w p e. cc e))
+    step-goes (event.Choose word) r new step = (refl, other-goes (event.Choose word) r new step (λ w p e. cc e))
+    step-goes (event.Down word path) r new step = (refl, other-goes (event.Down word path) r new step (λ w p e. cc e))
+    step-goes (event.Report at report) r new step = (refl, other-goes (event.Report at report) r new step (λ w p e. cc e))
+    step-goes (event.Act at what) r new step = (refl, other-goes (event.Act at what) r new step (λ w p e. cc e))
+    step-goes (event.Restart at) r new step = (refl, other-goes (event.Restart at) r new step (λ w p e. cc e))
+    step-goes (event.PathDown chpid) r new step = (refl, other-goes (event.PathDown chpid) r new step (λ w p e. cc e))
+    step-goes (event.PathUp chpid) r new step = (refl, other-goes (event.PathUp chpid) r new step (λ w p e. cc e))
+    step-goes (event.PathReset chpid) r new step = (refl, other-goes (event.PathReset chpid) r new step (λ w p e. cc e))
+    step-goes event.SystemReset r new step = (refl, other-goes event.SystemReset r new step (λ w p e. cc e))

@@ -53,7 +53,7 @@ use Rattle.program_laws.specs.DataAreas.{data_areas, counts}
 use Rattle.program_laws.specs.Shows.{IsRest}
 use Rattle.program_laws.proofs.Accesses.{AreAccesses}
 use Rattle.program_laws.proofs.Ties.{AreLaws, Tied, changed, spot-counts}
-use Rattle.program_laws.proofs.Parts.{IsDone, IsAtWork, done-of, arrived-none, gives-work, takes_in-work, WentOn, goes-on, IsSame, absorbed-same, next_given-same, located-same, brought-same, room-same}
+use Rattle.program_laws.proofs.Parts.{IsDone, IsAtWork, HasArrived, done-of, arrived-none, gives-work, takes_in-work, WentOn, goes-on, IsSame, absorbed-same, next_given-same, located-same, brought-same, room-same}
 use Rattle.subchannel_model.specs.Losing.{has_any, is_offered_or_held, reset_with, reset_for}
 use Rattle.program_laws.proofs.Holds.{IsPhase, IsDrawn, HasWork, IsStanding, IsHeld, IsHold, done-held, phase-some, phase-none, busy-phase, left-phase, back-phase, released-phase, attended-phase, by_hold-held, back-held, attention-held, let_go-held, standing-some, none-stands, halt_done-held, reset_taken-held, nothing-done, past-done}
 use Rattle.program_laws.proofs.Endings.{ended-held, ended-work}
@@ -141,7 +141,7 @@ module _ (laws : AreLaws) (accesses : AreAccesses) where
         phase = x.0;
         drawn = x.1;
         work = (
-          record { tied = w.0; arrived = arrived-none (record no_trace { acts = acts ++ k.now.acts }) (is_outward b.transfer.code) refl refl },
+          record { tied = w.0; arrived = arrived-none (record no_trace { acts = acts ++ k.now.acts }) b.transfer.fault b.transfer.sequence (is_outward b.transfer.code) refl refl w.2.3 },
           (room-same storage transfer).1 ∙ w.1 ∙ (let y : 1 ≡ k.sent + 1 = omega (arith, none) in y),
           omega arith,
         );
@@ -332,7 +332,7 @@ module _ (laws : AreLaws) (accesses : AreAccesses) where
         phase = phase-some s.hold.phase k.number b next k.sent (k.sent + 1) (subst (λ (x : Option ActiveProgram). IsPhase s.hold.phase k.number x k.sent) e h.phase);
         drawn = h.drawn;
         work = (
-          record { tied = w.0; arrived = arrived-none (record no_trace { acts = acts ++ k.now.acts }) (is_outward u.code) refl refl },
+          record { tied = w.0; arrived = arrived-none (record no_trace { acts = acts ++ k.now.acts }) u.fault u.sequence (is_outward u.code) refl refl w.2.3 },
           (room-same storage transfer).1 ∙ w.1 ∙ m,
           omega arith,
         );
@@ -351,15 +351,17 @@ module _ (laws : AreLaws) (accesses : AreAccesses) where
   shown-held : (s : SubchannelState) (b c : ActiveProgram) (k : ProgramTrace) (u : SubchannelState) → s.begun ≡ Some b → IsHeld s k →
       IsAtWork k.earlier k.orb k.now b.transfer (is_outward b.transfer.code) → (b.transfer.command ≡ k.sent) × (1 ≤ k.sent) → u.begun ≡ Some c → u.hold ≡ s.hold → u.drawn ≡ s.drawn →
       u.suspended ≡ s.suspended → c.transfer.walk ≡ b.transfer.walk → c.transfer.moving ≡ b.transfer.moving → c.transfer.code ≡ b.transfer.code →
-      c.transfer.command ≡ b.transfer.command → c.transfer.fault ≡ b.transfer.fault → IsHeld u k
-  shown-held s b c k u e h w m f g n v walk moving code command f2 =
+      c.transfer.command ≡ b.transfer.command → c.transfer.fault ≡ b.transfer.fault → c.transfer.sequence ≡ b.transfer.sequence → IsHeld u k
+  shown-held s b c k u e h w m f g n v walk moving code command f2 last =
       let t : Transfer = b.transfer in
       let z : Transfer = c.transfer in
       let work : IsAtWork k.earlier k.orb k.now z (is_outward z.code) =
       subst (λ (x : ℕ). IsAtWork k.earlier k.orb k.now z (is_outward x)) (sym code)
       (record {
         tied = changed k.earlier k.orb k.now.acts k.now.moved t z walk moving code command (λ y. ap (λ x. is_some x) (sym f2) ∙ y) (λ y. ap (λ x. is_some x) f2 ∙ y) w.tied;
-        arrived = w.arrived;
+        arrived =
+            subst (λ (x : ℕ). HasArrived k.now z.fault x (is_outward t.code)) (sym last)
+            (subst (λ (x : Option Check). HasArrived k.now x t.sequence (is_outward t.code)) (sym f2) w.arrived);
       }) in
       record {
         number = subst (λ (x : ℕ). k.number ≤ x) (sym n) h.number;
@@ -385,7 +387,7 @@ module _ (laws : AreLaws) (accesses : AreAccesses) where
       let_go-held (end-left s b signal shown true) k h.number (phase-none s.hold.phase k.number s.begun k.sent h.phase, h.drawn) refl
       (done-of k.earlier k.orb k.now b.transfer (is_outward b.transfer.code) w) tt
   stops-held s b k signal shown false e h w m =
-      shown-held s b (has_shown b) k (end-left s b signal shown false) e h w m refl refl refl refl refl refl refl refl refl
+      shown-held s b (has_shown b) k (end-left s b signal shown false) e h w m refl refl refl refl refl refl refl refl refl refl
 
   goes-held : (storage : Contents) (s : SubchannelState) (b : ActiveProgram) (k : ProgramTrace) (signal : EndSignal) (x y : Bool) → chains_command s.scsw b signal.status signal.more ≡ x →
       s.begun ≡ Some b → IsHeld s k → IsAtWork k.earlier k.orb k.now b.transfer (is_outward b.transfer.code) → (b.transfer.command ≡ k.sent) × (1 ≤ k.sent) →
@@ -402,7 +404,7 @@ module _ (laws : AreLaws) (accesses : AreAccesses) where
       (done-of k.earlier k.orb k.now b.transfer (is_outward b.transfer.code) w) (next-went k.earlier storage k.orb k.now b.transfer modifier w.tied f.0 f.1) refl
       (ap (λ (n : ℕ). n + 1) m.0)
   goes-held storage s b k signal true false c e h w m =
-      shown-held s b (with_end b) k (record (taking.end_taken s signal) { begun = Some (with_end b) }) e h w m refl refl refl refl refl refl refl refl refl
+      shown-held s b (with_end b) k (record (taking.end_taken s signal) { begun = Some (with_end b) }) e h w m refl refl refl refl refl refl refl refl refl refl
   goes-held storage s b k signal false y c e h w m =
       stops-held s b (stories.ends_alone signal.status k) signal (end_shown s b signal.status signal.more) (is_last_end signal.status) e
       (ended-held s b k signal.status e (w, m.0, m.1) h) (ended-work k signal.status b.transfer (is_outward b.transfer.code) w) m

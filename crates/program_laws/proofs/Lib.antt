@@ -7,6 +7,8 @@ mod Turns
 mod Lists
 mod Advances
 mod Standing
+mod StatusCounts
+mod StepCounts
 mod Ties
 mod Chainings
 mod Accesses

@@ -58,7 +58,7 @@ use Rattle.program_laws.proofs.MachineTraces.{trace_meets}
 use Rattle.program_laws.specs.Claims.{AbsorbsInOrder}
 use Rattle.program_laws.proofs.Ties.{AreLaws}
 use Rattle.program_laws.proofs.Accesses.{AreAccesses}
-use Rattle.program_laws.proofs.Parts.{IsSame, absorbed-same, next_given-same, located-same, brought-same, WentOn}
+use Rattle.program_laws.proofs.Parts.{IsSame, absorbed-same, next_given-same, located-same, brought-same, room-seq, WentOn}
 use Rattle.program_laws.proofs.Holds.{IsPhase, IsHeld, HasWork}
 use Rattle.program_laws.proofs.HoldMeets.{chains-facts, next-went}
 use Rattle.program_laws.proofs.Caused.{IsUninterrupted, suspending-workless, fault-begun, halt-begun, clear-begun, attention-begun}
@@ -67,7 +67,7 @@ use Rattle.program_laws.proofs.UnitFlows as flows
 use Rattle.program_laws.proofs.UnitGrowth.{codes_of}
 use Rattle.program_laws.proofs.LinkSent.{IsOfHold, SendsHoldSignal, busy-mutters, left-mutters, back-mutters, released-mutters, cleared-mutters, attended-mutters, letting-mutters}
 use Rattle.program_laws.proofs.LinkNeeds.{IsLast, on-number, connected-number, held-needs}
-use Rattle.program_laws.proofs.LinkViews.{view_of, answers-view, repeats-view, goes-new, room-seq, current-facts}
+use Rattle.program_laws.proofs.LinkViews.{view_of, answers-view, repeats-view, goes-new, current-facts}
 use Rattle.program_laws.proofs.LinkWires.{HandClosed, IsClosed, IsGiving, IsTelling, IsWired, wired-holds, sent-hold}
 use Rattle.program_laws.proofs.LinkCourses.{mode-marked, mode-ended, interrupted-mode, flow-absorbs, absorbs-on}
 use Rattle.program_laws.proofs.LinkModes.{AnyGive, NoGive, AnyData, HandPlain, HandFlow, Mode, Waits, Over, Reads, Writes, mode-carried, absorbs-none}

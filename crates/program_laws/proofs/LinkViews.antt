@@ -3,7 +3,6 @@ use Rattle.std.proofs.Common.{◌≡◌, refl, sym, ◌∙◌, ap, subst, ℕ, z
 use Rattle.std.specs.Prelude.{◌⊎◌, min, nat_lt, is_some, if◌then◌else◌, Contains}
 use Rattle.std.proofs.lemmas.Bool.{eqb-true, and_parts}
 use Rattle.std.proofs.Math.Nat.{min-le_left}
-use Rattle.ccw_codec.specs.Command.{class_of}
 use Rattle.storage_keys.specs.Storage.{Contents}
 use Rattle.channel_program.specs.declared.check.Check.{Check}
 use Rattle.channel_program.specs.declared.Advance.{Advance}
@@ -16,7 +15,7 @@ use Rattle.data_move.specs.Accesses as access
 use Rattle.transfer.specs.declared.Transfer.{Transfer}
 use Rattle.transfer.specs.declared.CommandStart.TheVariants as came
 use Rattle.transfer.specs.declared.NextChunk.{NextChunk}
-use Rattle.transfer.specs.Commands.{transfer_of, command_begins, goes_to, located_transfer, with_located, with_room, begun_with_room, brings, has_stopped}
+use Rattle.transfer.specs.Commands.{transfer_of, command_begins, goes_to, located_transfer, with_located, has_stopped}
 use Rattle.transfer.specs.Chunks.{is_current, chains_data, chained_to, chained, with_moved, moved_on, with_answer, taken_by_device, next_chunk_of, given_from, next_given}
 use Rattle.program_laws.proofs.MachineActs as doing
 use Rattle.program_laws.specs.Traces.{CommandTrace}
@@ -196,21 +195,6 @@ begins-new walk n None t e = absurd (cc e)
 
 pub goes-new : (storage : Contents) (n : ℕ) (old : WalkPlace) (t : Transfer) → (goes_to storage n old).came ≡ came.Begins t → t.sequence ≡ 0
 goes-new storage n old t e = begins-new (after_acts old (advance_acts storage old)) n (advance_of old (advance_acts storage old)) t e
-
-with_located-seq : (t : Transfer) (r : Result Moving Check) → (with_located t r).sequence ≡ t.sequence
-with_located-seq t (Ok m) = refl
-with_located-seq t (Err check) = refl
-
-located-if : (t : Transfer) (r : Result Moving Check) (b : Bool) → (if b then t else with_located t r).sequence ≡ t.sequence
-located-if t r true = refl
-located-if t r false = with_located-seq t r
-
-room-if : (storage : Contents) (t : Transfer) (b : Bool) → (if b then with_room storage t else record { transfer = t; room = 0 }).transfer.sequence ≡ t.sequence
-room-if storage t true = located-if t (access.located storage t.walk.orb.key t.moving) (is_some t.fault)
-room-if storage t false = refl
-
-pub room-seq : (storage : Contents) (t : Transfer) → (begun_with_room storage t).transfer.sequence ≡ t.sequence
-room-seq storage t = room-if storage t (brings (class_of t.code))
 
 -- a Data that is answered is of the command at work, of its last chunk or the next
 pub current-facts : (t : Transfer) (n seq : ℕ) (x : Bool) → (is_current t n seq && x) ≡ true → (n ≡ t.command) × ((seq ≡ t.sequence) ⊎ (seq ≡ t.sequence + 1))

@@ -1,5 +1,6 @@
 -- What a subchannel does for its program with a Data is what is seen of it.
 use Rattle.std.proofs.Common.{◌≡◌, refl, sym, ◌∙◌, ap, subst, arith, ℕ, ◌+◌, ◌≤◌, ◌==◌, Bool, true, false, List, [], ◌∷◌, ◌++◌, length, map, take, Option, Some, None, Result, Ok, Err, inl, inr, append-nil, min}
+use Rattle.std.proofs.lemmas.Bool.{eqb-true}
 use Rattle.std.proofs.Math.Nat.{min-le_left}
 use Rattle.std.specs.Prelude.{if◌then◌else◌, is_some}
 use Rattle.orb_block.specs.declared.Orb.{Orb}
@@ -35,6 +36,7 @@ use Rattle.program_laws.proofs.Parts.{IsSame, IsAtWork, absorbed-same, next_give
 use Rattle.program_laws.proofs.Holds.{HasWork, IsHeld}
 use Rattle.program_laws.proofs.Fetches.{gives-adds, takes_in-adds}
 use Rattle.program_laws.proofs.Shows.{ShowsRest, data-shows}
+use Rattle.program_laws.proofs.StatusCounts.{none-counted}
 use Rattle.program_laws.proofs.Goings.{same-codes}
 
 -- the same command is at work: none came to the program
@@ -130,40 +132,42 @@ module _ (earlier : ℕ) where
         }
 
     -- a read
-    arrival-told : (storage : Contents) (t : Transfer) (bytes : List ℕ) (n : ℕ) (r : Result Contents Check) (p : CommandTrace) →
-        Stores storage (brought_by storage t (length (take n bytes)) r).storage bytes p (with_arrival storage t (take n bytes) r p)
+    arrival-told : (storage : Contents) (t : Transfer) (bytes : List ℕ) (n : ℕ) (r : Result Contents Check) (p : CommandTrace) → t.sequence ≡ length p.arrived + 1 →
+        Stores storage (brought_by storage t (length (take n bytes)) r).storage t.sequence bytes p (with_arrival storage t (take n bytes) r p)
         × ((with_arrival storage t (take n bytes) r p).copied ≡ p.copied)
-    arrival-told storage t bytes n (Ok after) p =
+    arrival-told storage t bytes n (Ok after) p next =
         let some : List ℕ = take n bytes in
         let q : CommandTrace = record p { arrived = record { former = storage.bytes; chunk = chunk_of after t.moving some } ∷ p.arrived } in
         let parts = moved_on-parts after t (length some) q (chains_data (with_moved t (length some)) (length some)) in (
-          inr (each_below (next_place t.moving) (length some), n, parts.1, parts.0),
+          inr (next, each_below (next_place t.moving) (length some), n, parts.1, parts.0),
           moved_on-copied after t (length some) q (chains_data (with_moved t (length some)) (length some)),
         )
-    arrival-told storage t bytes n (Err check) p = (inl (refl, refl, refl), refl)
+    arrival-told storage t bytes n (Err check) p next = (inl (refl, refl, refl), refl)
 
-    stored-told : (storage : Contents) (t : Transfer) (bytes : List ℕ) (n : ℕ) (r : Result Contents Check) (p : CommandTrace) (b : Bool) →
-        Stores storage (if b then record { transfer = t; storage = storage } else brought_by storage t (length (take n bytes)) r).storage bytes p
+    stored-told : (storage : Contents) (t : Transfer) (bytes : List ℕ) (n : ℕ) (r : Result Contents Check) (p : CommandTrace) (fault : Option Check) →
+        (fault ≡ None → t.sequence ≡ length p.arrived + 1) → let b : Bool = is_some fault in
+        Stores storage (if b then record { transfer = t; storage = storage } else brought_by storage t (length (take n bytes)) r).storage t.sequence bytes p
         (if b then p else with_arrival storage t (take n bytes) r p)
         × ((if b then p else with_arrival storage t (take n bytes) r p).copied ≡ p.copied)
-    stored-told storage t bytes n r p true = (inl (refl, refl, refl), refl)
-    stored-told storage t bytes n r p false = arrival-told storage t bytes n r p
+    stored-told storage t bytes n r p (Some check) next = (inl (refl, refl, refl), refl)
+    stored-told storage t bytes n r p None next = arrival-told storage t bytes n r p (next refl)
 
-    brought-told : (storage : Contents) (t : Transfer) (s : ℕ) (bytes : List ℕ) (p : CommandTrace) (b : Bool) →
-        Stores storage (if b then brought_in storage (record t { sequence = s }) (fitting t bytes) else record { transfer = t; storage = storage }).storage bytes p
+    brought-told : (storage : Contents) (orb : Orb) (t : Transfer) (s : ℕ) (bytes : List ℕ) (p : CommandTrace) (b : Bool) → (s == t.sequence + 1) ≡ b → IsAtWork earlier orb p t false →
+        Stores storage (if b then brought_in storage (record t { sequence = s }) (fitting t bytes) else record { transfer = t; storage = storage }).storage s bytes p
         (if b then storing storage (record t { sequence = s }) (fitting t bytes) p else p)
         × ((if b then storing storage (record t { sequence = s }) (fitting t bytes) p else p).copied ≡ p.copied)
-    brought-told storage t s bytes p true =
-        stored-told storage (record t { sequence = s }) bytes (room t.moving) (access.stored_or_skipped storage t.walk.orb.key t.moving (fitting t bytes)) p (is_some t.fault)
-    brought-told storage t s bytes p false = (inl (refl, refl, refl), refl)
+    brought-told storage orb t s bytes p true is k =
+        stored-told storage (record t { sequence = s }) bytes (room t.moving) (access.stored_or_skipped storage t.walk.orb.key t.moving (fitting t bytes)) p t.fault
+        (λ e. eqb-true s (t.sequence + 1) is ∙ ap (λ (n : ℕ). n + 1) (k.arrived.2 e))
+    brought-told storage orb t s bytes p false is k = (inl (refl, refl, refl), refl)
 
 module _ (laws : AreLaws) (accesses : AreAccesses) where
-  abbrev MovesOf : Contents → Met → Load → ProgramTrace → ProgramTrace → Type 0
-  MovesOf storage x load k after = Moves storage x.storage load x.step.came.sent k after
+  abbrev MovesOf : Contents → Met → ℕ → Load → ProgramTrace → ProgramTrace → Type 0
+  MovesOf storage x s load k after = Moves storage x.storage s load x.step.came.sent k after
 
   out-told : (storage : Contents) (s : SubchannelState) (b : ActiveProgram) (k : ProgramTrace) (signal : DataSignal) (load : Load) →
       IsAtWork k.earlier k.orb k.now b.transfer true →
-      MovesOf storage (taking.meets storage (taking.give_next storage s b signal (load_length load))) load k (record k { now = gives storage b.transfer signal.sequence (load_length load) k.now })
+      MovesOf storage (taking.meets storage (taking.give_next storage s b signal (load_length load))) signal.sequence load k (record k { now = gives storage b.transfer signal.sequence (load_length load) k.now })
   out-told storage s b k signal load w =
       let t : Transfer = b.transfer in
       let count : ℕ = load_length load in
@@ -182,7 +186,7 @@ module _ (laws : AreLaws) (accesses : AreAccesses) where
 
   in-told : (storage : Contents) (s : SubchannelState) (b : ActiveProgram) (k : ProgramTrace) (signal : DataSignal) (load : Load) →
       IsAtWork k.earlier k.orb k.now b.transfer false →
-      MovesOf storage (taking.take_in s b signal (brought storage b.transfer signal.sequence (bytes_of_load load))) load k
+      MovesOf storage (taking.take_in s b signal (brought storage b.transfer signal.sequence (bytes_of_load load))) signal.sequence load k
       (record k { now = takes_in storage b.transfer signal.sequence (bytes_of_load load) k.now })
   in-told storage s b k signal load w =
       let t : Transfer = b.transfer in
@@ -197,7 +201,7 @@ module _ (laws : AreLaws) (accesses : AreAccesses) where
         adds,
         work-codes k.earlier a.storage k.orb k.now now t (located_transfer a.storage a.transfer) false false (g.0 ∙ f.0, g.1 ∙ f.1) w
             (takes_in-work k.earlier laws accesses storage k.orb k.now t signal.sequence bytes w) adds,
-        brought-told k.earlier laws accesses storage t signal.sequence bytes k.now (signal.sequence == t.sequence + 1),
+        brought-told k.earlier laws accesses storage k.orb t signal.sequence bytes k.now (signal.sequence == t.sequence + 1) refl w,
       )
 
   -- a Data
@@ -221,18 +225,18 @@ module _ (laws : AreLaws) (accesses : AreAccesses) where
       DataBy storage s signal load (if x then taking.move_bytes storage s b signal load else taking.meets storage (taking.ignoring s)) k
       (if x then stories.moves storage b.transfer signal.sequence load k else k)
   answers-meets storage s b k signal load true w r = moves-meets storage s b k signal load (is_outward b.transfer.code) refl w r
-  answers-meets storage s b k signal load false w r = refl
+  answers-meets storage s b k signal load false w r = (refl, none-counted s s k refl)
 
   work-meets : (storage : Contents) (s : SubchannelState) (b : Option ActiveProgram) (k : ProgramTrace) (signal : DataSignal) (load : Load) → HasWork b k →
       DataBy storage s signal load (taking.move_data storage s b signal load) k (stories.answers storage b signal.command signal.sequence load k)
-  work-meets storage s None k signal load w r = refl
+  work-meets storage s None k signal load w r = (refl, none-counted s s k refl)
   work-meets storage s (Some b) k signal load w r = answers-meets storage s b k signal load (is_answered b.transfer signal.command signal.sequence) w.0 r
 
   data-by : (storage : Contents) (s : SubchannelState) (k : ProgramTrace) (signal : DataSignal) (load : Load) (x : Bool) → IsHeld s k →
       DataBy storage s signal load (if x then taking.move_data storage s s.begun signal load else taking.meets storage (taking.ignoring s)) k
       (if x then stories.answers storage s.begun signal.command signal.sequence load k else k)
   data-by storage s k signal load true h r = work-meets storage s s.begun k signal load h.work r
-  data-by storage s k signal load false h r = refl
+  data-by storage s k signal load false h r = (refl, none-counted s s k refl)
 
   pub data-meets : (storage : Contents) (s : SubchannelState) (k : ProgramTrace) (signal : DataSignal) (load : Load) (x : Bool) → IsHeld s k →
       let met : Met = if x then taking.move_data storage s s.begun signal load else taking.meets storage (taking.ignoring s) in

@@ -1,6 +1,7 @@
 -- What is done for a program with each signal, and what is kept of its transfer.
-use Rattle.std.proofs.Common.{◌≡◌, refl, ap, sym, ◌∙◌, subst, ℕ, ◌+◌, ◌≤◌, Bool, true, false, List, [], ◌∷◌, ◌++◌, length, Option, Some, None, Result, Ok, Err, inl, inr, arith, append_assoc}
+use Rattle.std.proofs.Common.{◌≡◌, refl, ap, sym, ◌∙◌, subst, ℕ, suc, ◌+◌, ◌≤◌, Bool, true, false, List, [], ◌∷◌, ◌++◌, length, Option, Some, None, Result, Ok, Err, inl, inr, arith, append_assoc}
 use Rattle.std.specs.Prelude.{◌==◌, min, is_some, if◌then◌else◌, All, take}
+use Rattle.std.proofs.lemmas.Bool.{eqb-true}
 use Rattle.std.proofs.lemmas.List.{length-take}
 use Rattle.std.proofs.lemmas.List.Elements.{All-nil, All-cons}
 use Rattle.std.proofs.Math.Nat.{min-le_left, min-le_right}
@@ -115,14 +116,43 @@ brought-if storage t s bytes false = (refl, refl)
 pub brought-same : (storage : Contents) (t : Transfer) (s : ℕ) (bytes : List ℕ) → IsSame t (brought storage t s bytes).transfer
 brought-same storage t s bytes = brought-if storage t s bytes (s == t.sequence + 1)
 
--- what arrived, by the direction of the command
-abbrev pub HasArrived : CommandTrace → Bool → Type 0
-HasArrived p true = p.arrived ≡ []
-HasArrived p false = All IsStored p.arrived × (places_arrived p.arrived ≡ p.moved)
+-- a fault stays, and so does the place of the Data that came last
+abbrev pub IsThrough : Transfer → Transfer → Type 0
+IsThrough t u = (u.sequence ≡ t.sequence) × (u.fault ≡ None → t.fault ≡ None)
 
-pub arrived-none : (p : CommandTrace) (d : Bool) → p.arrived ≡ [] → p.moved ≡ [] → HasArrived p d
-arrived-none p true e f = e
-arrived-none p false e f = (subst (λ (xs : List Arrival). All IsStored xs) (sym e) (All-nil IsStored), ap places_arrived e ∙ sym f)
+chained_to-through : (t : Transfer) (walk : WalkPlace) (a : Option Advance) → IsThrough t (chained_to t walk a)
+chained_to-through t walk (Some (advance.Takes ccw)) = (refl, λ e. e)
+chained_to-through t walk (Some advance.Suspends) = (refl, λ e. absurd (cc e))
+chained_to-through t walk (Some (advance.Stops check)) = (refl, λ e. absurd (cc e))
+chained_to-through t walk None = (refl, λ e. e)
+
+moved_on-through : (storage : Contents) (t : Transfer) (n : ℕ) (b : Bool) → IsThrough t (if b then chained storage (with_moved t n) else with_moved t n)
+moved_on-through storage t n true =
+    let old : WalkPlace = after_used_up t.walk in
+    chained_to-through (with_moved t n) (after_acts old (advance_acts storage old)) (advance_of old (advance_acts storage old))
+moved_on-through storage t n false = (refl, λ e. e)
+
+located-through : (t : Transfer) (r : Result Moving Check) (b : Bool) → IsThrough t (if b then t else with_located t r)
+located-through t r true = (refl, λ e. e)
+located-through t (Ok m) false = (refl, λ e. e)
+located-through t (Err check) false = (refl, λ e. absurd (cc e))
+
+room-through : (storage : Contents) (t : Transfer) (b : Bool) → IsThrough t (if b then with_room storage t else record { transfer = t; room = 0 }).transfer
+room-through storage t true = located-through t (access.located storage t.walk.orb.key t.moving) (is_some t.fault)
+room-through storage t false = (refl, λ e. e)
+
+pub room-seq : (storage : Contents) (t : Transfer) → (begun_with_room storage t).transfer.sequence ≡ t.sequence
+room-seq storage t = (room-through storage t (brings (class_of t.code))).0
+
+-- what arrived, by the direction of the command: without a fault each Data of a read as far as the last that came
+abbrev pub HasArrived : CommandTrace → Option Check → ℕ → Bool → Type 0
+HasArrived p fault last true = p.arrived ≡ []
+HasArrived p fault last false = All IsStored p.arrived × (places_arrived p.arrived ≡ p.moved) × (fault ≡ None → last ≡ length p.arrived)
+
+pub arrived-none : (p : CommandTrace) (fault : Option Check) (last : ℕ) (d : Bool) → p.arrived ≡ [] → p.moved ≡ [] → last ≡ 0 → HasArrived p fault last d
+arrived-none p fault last true e f z = e
+arrived-none p fault last false e f z =
+    (subst (λ (xs : List Arrival). All IsStored xs) (sym e) (All-nil IsStored), ap places_arrived e ∙ sym f, λ n. z ∙ sym (ap length e))
 
 -- what holds of a program, at work or over
 pub record IsDone (orb : Orb) (p : CommandTrace) : Type 0 where
@@ -150,7 +180,14 @@ module _ (earlier : ℕ) where
   -- what is done, and what is kept of the transfer
   pub record IsAtWork (orb : Orb) (p : CommandTrace) (t : Transfer) (d : Bool) : Type 0 where
     pub tied : Tied earlier orb p.acts p.moved t
-    pub arrived : HasArrived p d
+    pub arrived : HasArrived p t.fault t.sequence d
+
+  -- the next Data of a read came, and none of it is stored yet
+  record IsNext (orb : Orb) (p : CommandTrace) (t : Transfer) : Type 0 where
+    pub tied : Tied earlier orb p.acts p.moved t
+    pub stored : All IsStored p.arrived
+    pub places : places_arrived p.arrived ≡ p.moved
+    pub next : t.fault ≡ None → t.sequence ≡ length p.arrived + 1
 
   pub done-of : (orb : Orb) (p : CommandTrace) (t : Transfer) (d : Bool) → IsAtWork orb p t d → IsDone orb p
   done-of orb p t true k =
@@ -196,7 +233,12 @@ module _ (earlier : ℕ) where
     pub located-work : (storage : Contents) (orb : Orb) (p : CommandTrace) (t : Transfer) (d : Bool) → IsAtWork orb p t d →
         IsAtWork orb (with_acts p (located_acts storage t)) (located_transfer storage t) d
     located-work storage orb p t true k = record { tied = located-tied earlier laws storage orb p.acts p.moved t k.tied; arrived = k.arrived }
-    located-work storage orb p t false k = record { tied = located-tied earlier laws storage orb p.acts p.moved t k.tied; arrived = k.arrived }
+    located-work storage orb p t false k =
+        let x : IsThrough t (located_transfer storage t) = located-through t (access.located storage t.walk.orb.key t.moving) (is_some t.fault) in
+        record {
+          tied = located-tied earlier laws storage orb p.acts p.moved t k.tied;
+          arrived = (k.arrived.0, k.arrived.1, λ e. x.0 ∙ k.arrived.2 (x.1 e));
+        }
 
     given-by : (storage : Contents) (orb : Orb) (p : CommandTrace) (t : Transfer) (r : Result (List ℕ) Check) → IsAtWork orb p t true →
         IsAtWork orb (with_copy storage t r p) (next_chunk_of t r).transfer true
@@ -236,7 +278,7 @@ module _ (earlier : ℕ) where
           record { whole = length-each_below (next_place t.moving) (length bytes); stands = k.stands; others = k.others }
 
       arrival-by : (storage : Contents) (orb : Orb) (p : CommandTrace) (t : Transfer) (bytes : List ℕ) (r : Result Contents Check) → access.stored_or_skipped storage t.walk.orb.key t.moving bytes ≡ r →
-          length bytes ≤ t.moving.left → IsAtWork orb p t false →
+          length bytes ≤ t.moving.left → IsNext orb p t →
           IsAtWork orb (with_arrival storage t bytes r p) (brought_by storage t (length bytes) r).transfer false
       arrival-by storage orb p t bytes (Ok after) e l k =
           let a : Arrival = record { former = storage.bytes; chunk = chunk_of after t.moving bytes } in
@@ -244,23 +286,26 @@ module _ (earlier : ℕ) where
           let parts : (_ : (doing.trace_moved_on after t (length bytes) q).moved ≡ p.moved ++ each_below (next_place t.moving) (length bytes))
           × ((doing.trace_moved_on after t (length bytes) q).arrived ≡ a ∷ p.arrived) =
           moved_on-parts after t (length bytes) q (chains_data (with_moved t (length bytes)) (length bytes)) in
+          let x : IsThrough t (moved_on after t (length bytes)) = moved_on-through after t (length bytes) (chains_data (with_moved t (length bytes)) (length bytes)) in
           record {
             tied = moved_on-tied laws earlier after orb q t (length bytes) l k.tied;
             arrived = (
-              subst (λ (xs : List Arrival). All IsStored xs) (sym parts.1) (All-cons IsStored a p.arrived (arrival-stored storage after t bytes e) k.arrived.0),
-              ap places_arrived parts.1 ∙ ap (λ (xs : List (Option ℕ)). xs ++ each_below (next_place t.moving) (length bytes)) k.arrived.1 ∙ sym parts.0,
+              subst (λ (xs : List Arrival). All IsStored xs) (sym parts.1) (All-cons IsStored a p.arrived (arrival-stored storage after t bytes e) k.stored),
+              ap places_arrived parts.1 ∙ ap (λ (xs : List (Option ℕ)). xs ++ each_below (next_place t.moving) (length bytes)) k.places ∙ sym parts.0,
+              λ z. x.0 ∙ k.next (x.1 z) ∙ (let n : length p.arrived + 1 ≡ suc (length p.arrived) = omega arith in n) ∙ sym (ap length parts.1),
             );
           }
       arrival-by storage orb p t bytes (Err check) e l k = record {
         tied = changed earlier orb p.acts p.moved t (record t { fault = Some check }) refl refl refl refl (λ z. absurd (cc z)) (λ z. refl) k.tied;
-        arrived = k.arrived;
+        arrived = (k.stored, k.places, λ z. absurd (cc z));
       }
 
-      store-by : (storage : Contents) (orb : Orb) (p : CommandTrace) (t : Transfer) (bytes : List ℕ) (b : Bool) → length bytes ≤ t.moving.left → IsAtWork orb p t false →
+      store-by : (storage : Contents) (orb : Orb) (p : CommandTrace) (t : Transfer) (bytes : List ℕ) (b : Bool) → is_some t.fault ≡ b → length bytes ≤ t.moving.left → IsNext orb p t →
           IsAtWork orb (if b then p else with_arrival storage t bytes (access.stored_or_skipped storage t.walk.orb.key t.moving bytes) p)
           (if b then record { transfer = t; storage = storage } else brought_by storage t (length bytes) (access.stored_or_skipped storage t.walk.orb.key t.moving bytes)).transfer false
-      store-by storage orb p t bytes true l k = k
-      store-by storage orb p t bytes false l k = arrival-by storage orb p t bytes (access.stored_or_skipped storage t.walk.orb.key t.moving bytes) refl l k
+      store-by storage orb p t bytes true f l k =
+          record { tied = k.tied; arrived = (k.stored, k.places, λ z. absurd (cc (sym (ap (λ (x : Option Check). is_some x) z) ∙ f))) }
+      store-by storage orb p t bytes false f l k = arrival-by storage orb p t bytes (access.stored_or_skipped storage t.walk.orb.key t.moving bytes) refl l k
 
       fitting-left : (t : Transfer) (bytes : List ℕ) → length (fitting t bytes) ≤ t.moving.left
       fitting-left t bytes =
@@ -269,24 +314,29 @@ module _ (earlier : ℕ) where
           let g : room t.moving ≤ t.moving.left = min-le_left t.moving.left 256 in
           omega (arith, e, f, g)
 
-      pub bring-by : (storage : Contents) (orb : Orb) (p : CommandTrace) (t : Transfer) (s : ℕ) (bytes : List ℕ) (b : Bool) → IsAtWork orb p t false →
+      pub bring-by : (storage : Contents) (orb : Orb) (p : CommandTrace) (t : Transfer) (s : ℕ) (bytes : List ℕ) (b : Bool) → (s == t.sequence + 1) ≡ b → IsAtWork orb p t false →
           IsAtWork orb (if b then storing storage (record t { sequence = s }) (fitting t bytes) p else p)
           (if b then brought_in storage (record t { sequence = s }) (fitting t bytes) else record { transfer = t; storage = storage }).transfer false
-      bring-by storage orb p t s bytes true k =
-          store-by storage orb p (record t { sequence = s }) (fitting t bytes) (is_some t.fault) (fitting-left t bytes)
-          (record { tied = changed earlier orb p.acts p.moved t (record t { sequence = s }) refl refl refl refl (λ e. e) (λ e. e) k.tied; arrived = k.arrived })
-      bring-by storage orb p t s bytes false k = k
+      bring-by storage orb p t s bytes true is k =
+          store-by storage orb p (record t { sequence = s }) (fitting t bytes) (is_some t.fault) refl (fitting-left t bytes)
+          (record {
+            tied = changed earlier orb p.acts p.moved t (record t { sequence = s }) refl refl refl refl (λ e. e) (λ e. e) k.tied;
+            stored = k.arrived.0;
+            places = k.arrived.1;
+            next = λ e. eqb-true s (t.sequence + 1) is ∙ ap (λ (n : ℕ). n + 1) (k.arrived.2 e);
+          })
+      bring-by storage orb p t s bytes false is k = k
 
       pub takes_in-work : (storage : Contents) (orb : Orb) (p : CommandTrace) (t : Transfer) (s : ℕ) (bytes : List ℕ) → IsAtWork orb p t false →
           IsAtWork orb (takes_in storage t s bytes p) (with_room (brought storage t s bytes).storage (brought storage t s bytes).transfer).transfer false
       takes_in-work storage orb p t s bytes k =
           located-work (brought storage t s bytes).storage orb (arriving storage t s bytes p) (brought storage t s bytes).transfer false
-          (bring-by storage orb p t s bytes (s == t.sequence + 1) k)
+          (bring-by storage orb p t s bytes (s == t.sequence + 1) refl k)
 
     -- a command begins from these acts, or can't, or the program is suspended
     abbrev pub WentOn : Contents → Orb → List Act → List Act → ℕ → WalkPlace → CommandStart → Type 0
     WentOn storage orb before acts n walk (came.Begins t) =
-        Tied earlier orb acts [] (begun_with_room storage t).transfer × (t.command ≡ n) × ((c : Command) × (commands orb acts ≡ c ∷ commands orb before) × (code c ≡ t.code))
+        Tied earlier orb acts [] (begun_with_room storage t).transfer × (t.command ≡ n) × ((c : Command) × (commands orb acts ≡ c ∷ commands orb before) × (code c ≡ t.code) × ((begun_with_room storage t).transfer.sequence ≡ 0))
     WentOn storage orb before acts n walk came.Suspends =
         IsProgram orb acts × (data_areas orb acts ≡ data_areas orb before) × (commands orb acts ≡ commands orb before) × ((role_of orb acts).chained ≡ false) × (walk ≡ walk_place orb acts) × IsSuspended orb acts
     WentOn storage orb before acts n walk (came.Stops check) =
@@ -308,7 +358,7 @@ module _ (earlier : ℕ) where
     went-by : (storage : Contents) (orb : Orb) (before acts : List Act) (n : ℕ) (walk : WalkPlace) (c : CommandStart) → walk ≡ walk_place orb acts → Begins earlier laws orb before acts n c →
         WentOn storage orb before (room_acts storage c ++ acts) n walk c
     went-by storage orb before acts n walk (came.Begins t) w k =
-        (room-tied earlier laws storage orb acts t k.0, k.1, (k.2.0, room-commands storage orb acts t (brings (class_of t.code)) ∙ k.2.1, k.2.2))
+        (room-tied earlier laws storage orb acts t k.0, k.1, (k.2.0, room-commands storage orb acts t (brings (class_of t.code)) ∙ k.2.1, k.2.2, room-seq storage t ∙ k.2.3))
     went-by storage orb before acts n walk came.Suspends w k = (k.0, k.1, k.2, k.3, w, k.4)
     went-by storage orb before acts n walk (came.Stops check) w k = k
 

@@ -1,6 +1,7 @@
--- Status that a Data or an End makes shows the count of the command less the bytes that were moved.
+-- Status that a Data or an End makes shows the count of the command less the bytes that were moved, but that the last End of a
+-- program while a start waits leaves the count of that start.
 use Rattle.std.proofs.Common.{◌≡◌, refl, sym, ◌∙◌, ap, subst, arith, ℕ, ◌+◌, ◌<◌, Bool, true, false, List, ◌∷◌, ◌++◌, Option, Some, None}
-use Rattle.std.specs.Prelude.{if◌then◌else◌, ◌==◌, is_some}
+use Rattle.std.specs.Prelude.{if◌then◌else◌, ◌||◌, not, is_none, is_some}
 use Rattle.scsw_irb.specs.declared.scsw.Scsw.{Scsw}
 use Rattle.scsw_irb.specs.declared.serials.Serials.{Serials}
 use Rattle.scsw_irb.specs.declared.status.DeviceStatus.{DeviceStatus}
@@ -8,7 +9,7 @@ use Rattle.scsw_irb.specs.Empty.{no_status}
 use Rattle.storage_keys.specs.Storage.{Contents}
 use Rattle.chan_model.specs.declared.signal.Load.{Load}
 use Rattle.chan_model.specs.Loads.{load_length}
-use Rattle.chan_model.specs.UnitReports.{is_outward, is_last_end, has_device_end}
+use Rattle.chan_model.specs.UnitReports.{is_outward, is_last_end}
 use Rattle.channel_program.specs.declared.check.Check.{Check}
 use Rattle.channel_program.specs.Acts.{Act, End}
 use Rattle.channel_program.specs.Walks.{WalkPlace}
@@ -32,7 +33,7 @@ use Rattle.subchannel_model.specs.Taking as taking
 use Rattle.subchannel_model.specs.Taking.{bytes_of_load, let_go, with_end, without_pci, standing_still, suspended_alone}
 use Rattle.program_laws.proofs.MachineActs.{with_acts, next_acts}
 use Rattle.program_laws.specs.DataAreas.{data_areas, counts}
-use Rattle.program_laws.specs.Shows.{IsRest}
+use Rattle.program_laws.specs.Shows.{IsRest, IsCountBy}
 use Rattle.program_laws.proofs.MachineTraces as stories
 use Rattle.program_laws.specs.Traces.{ProgramTrace}
 use Rattle.program_laws.proofs.Accesses.{AreAccesses}
@@ -48,7 +49,7 @@ joined-count : (b : Bool) (scsw : Scsw) (shown : Shown) →
 joined-count true scsw shown = refl
 joined-count false scsw shown = refl
 
-status-count : (enabled : Bool) (scsw : Scsw) (x : Serials) (shown : Shown) → x.made < (serials_made enabled x).made → (scsw_made enabled scsw shown).count ≡ shown.count
+pub status-count : (enabled : Bool) (scsw : Scsw) (x : Serials) (shown : Shown) → x.made < (serials_made enabled x).made → (scsw_made enabled scsw shown).count ≡ shown.count
 status-count true scsw x shown l = joined-count scsw.status.pending scsw shown
 status-count false scsw x shown l = absurd (omega (arith, l))
 
@@ -56,14 +57,14 @@ status-count false scsw x shown l = absurd (omega (arith, l))
 abbrev pub ShowsRest : ℕ → SubchannelState → ProgramTrace → Type 0
 ShowsRest made s k = made < s.serials.made → IsRest s.scsw.count k
 
-unmade : (made : ℕ) (s : SubchannelState) (k : ProgramTrace) → s.serials.made ≡ made → ShowsRest made s k
+pub unmade : (made : ℕ) (s : SubchannelState) (k : ProgramTrace) → s.serials.made ≡ made → ShowsRest made s k
 unmade made s k e = λ l. absurd (omega (arith, e, l))
 
-counted : (n m : ℕ) (k : ProgramTrace) → n ≡ m → IsRest m k → IsRest n k
+pub counted : (n m : ℕ) (k : ProgramTrace) → n ≡ m → IsRest m k → IsRest n k
 counted n m k e r = subst (λ (x : ℕ). IsRest x k) (sym e) r
 
 -- of a command at work
-rest-of : (b : ActiveProgram) (k : ProgramTrace) → HasWork (Some b) k → IsRest (residual b.transfer.moving) k
+pub rest-of : (b : ActiveProgram) (k : ProgramTrace) → HasWork (Some b) k → IsRest (residual b.transfer.moving) k
 rest-of b k w = spot-counts k.orb (data_areas k.orb k.now.acts) b.transfer k.now.moved w.0.tied.spot
 
 -- an interruption by the program
@@ -128,20 +129,27 @@ fault-shows s None tried check count k r =
 fault-shows s (Some b) tried check count k r =
     λ l. counted _ count k (status-count s.pmcw.enabled (scsw_joined s.pmcw.enabled s.scsw s.scsw) s.serials (fetch_fault_shown tried check count) l) r
 
--- an End after which nothing is chained, where no start waits
-end-count : (s : SubchannelState) (b : ActiveProgram) (status : DeviceStatus) (more x : Bool) (w : Option Program) → w ≡ None →
-    (if x then last_shown s.scsw b w status more else channel_end_shown s.scsw b status more).count ≡ residual b.transfer.moving
-end-count s b status more true None e = refl
-end-count s b status more true (Some program) e = absurd (cc e)
-end-count s b status more false w e = refl
+-- an End after which nothing is chained
+last-count : (s next : SubchannelState) (b : ActiveProgram) (k : ProgramTrace) (status : DeviceStatus) (more last : Bool) (w : Option Program) →
+    (s.serials.made < next.serials.made → next.scsw.count ≡ (if last then last_shown s.scsw b w status more else channel_end_shown s.scsw b status more).count) →
+    IsRest (residual b.transfer.moving) k → IsCountBy (is_none w || not last) s next k
+last-count s next b k status more true None f r = λ l. counted next.scsw.count (residual b.transfer.moving) k (f l) r
+last-count s next b k status more true (Some program) f r = f
+last-count s next b k status more false None f r = λ l. counted next.scsw.count (residual b.transfer.moving) k (f l) r
+last-count s next b k status more false (Some program) f r = λ l. counted next.scsw.count (residual b.transfer.moving) k (f l) r
 
 module _ (laws : AreLaws) (accesses : AreAccesses) where
-  stops-shows : (s : SubchannelState) (b : ActiveProgram) (k : ProgramTrace) (signal : EndSignal) (shown : Shown) (last : Bool) → IsRest shown.count k →
-      ShowsRest s.serials.made (if last then let_go (end-left laws accesses s b signal shown last) else taking.quietly (end-left laws accesses s b signal shown last)).state k
-  stops-shows s b k signal shown true r =
-      λ l. counted _ shown.count k (status-count s.pmcw.enabled (scsw_joined s.pmcw.enabled s.scsw s.scsw) s.serials shown l) r
-  stops-shows s b k signal shown false r =
-      λ l. counted _ shown.count k (status-count s.pmcw.enabled (scsw_joined s.pmcw.enabled s.scsw s.scsw) s.serials shown l) r
+  stops-count : (s : SubchannelState) (b : ActiveProgram) (signal : EndSignal) (shown : Shown) (last : Bool) →
+      let after : SubchannelState = (if last then let_go (end-left laws accesses s b signal shown last) else taking.quietly (end-left laws accesses s b signal shown last)).state in
+      s.serials.made < after.serials.made → after.scsw.count ≡ shown.count
+  stops-count s b signal shown true l = status-count s.pmcw.enabled (scsw_joined s.pmcw.enabled s.scsw s.scsw) s.serials shown l
+  stops-count s b signal shown false l = status-count s.pmcw.enabled (scsw_joined s.pmcw.enabled s.scsw s.scsw) s.serials shown l
+
+  pub stops-shows : (s : SubchannelState) (b : ActiveProgram) (k : ProgramTrace) (signal : EndSignal) → HasWork (Some b) k →
+      IsCountBy (is_none s.waiting || not (is_last_end signal.status)) s (taking.stops_at s b signal).state (stories.ends_alone signal.status k)
+  stops-shows s b k signal w =
+      last-count s (taking.stops_at s b signal).state b (stories.ends_alone signal.status k) signal.status signal.more (is_last_end signal.status) s.waiting
+      (stops-count s b signal (end_shown s b signal.status signal.more) (is_last_end signal.status)) (rest-of b k w)
 
   chains-shows : (storage : Contents) (s : SubchannelState) (b : ActiveProgram) (k : ProgramTrace) (signal : EndSignal) (walk : WalkPlace) (c : CommandStart) (acts before : List Act) (n : ℕ) →
       WentOn k.earlier laws storage k.orb before (acts ++ k.now.acts) n walk c → data_areas k.orb before ≡ data_areas k.orb k.now.acts →
@@ -157,44 +165,15 @@ module _ (laws : AreLaws) (accesses : AreAccesses) where
       fault-shows (taking.end_taken s signal) s.begun walk.tried check (residual b.transfer.moving) (record k { now = with_acts k.now acts })
       (rest-stays k acts before (residual b.transfer.moving) w.1 e r)
 
-  goes-shows : (storage : Contents) (s : SubchannelState) (b : ActiveProgram) (k : ProgramTrace) (signal : EndSignal) (x y : Bool) → chains_command s.scsw b signal.status signal.more ≡ x →
-      s.waiting ≡ None → HasWork (Some b) k →
-      let after : SubchannelState =
-      (if x then (if y then taking.chain_with storage s (with_end b) signal (next_command storage (with_end b).transfer (has_status_modifier signal.status))
-      else taking.quietly (record (taking.end_taken s signal) { begun = Some (with_end b) }))
-      else taking.stops_at s b signal).state in
-      let now : ProgramTrace =
-      if x then (if y then stories.trace_goes_on (next_command storage b.transfer (has_status_modifier signal.status)).came (next_acts storage b.transfer (has_status_modifier signal.status)) k else k) else stories.ends_alone signal.status k in
+  pub next-shows : (storage : Contents) (s : SubchannelState) (b : ActiveProgram) (k : ProgramTrace) (signal : EndSignal) → chains_command s.scsw b signal.status signal.more ≡ true →
+      HasWork (Some b) k →
+      let next : Beginning = next_command storage b.transfer (has_status_modifier signal.status) in
+      let after : SubchannelState = (taking.chain_with storage s (with_end b) signal next).state in
+      let now : ProgramTrace = stories.trace_goes_on next.came (next_acts storage b.transfer (has_status_modifier signal.status)) k in
       IsHeld after now → ShowsRest s.serials.made after now
-  goes-shows storage s b k signal true true c e w h =
+  next-shows storage s b k signal c w h =
       let f : (_ : b.transfer.moving.ccw.chain_data ≡ false) × (is_some b.transfer.fault ≡ false) = chains-facts laws accesses s.scsw b signal.status signal.more c in
       let modifier : Bool = has_status_modifier signal.status in
       let next : Beginning = next_command storage b.transfer modifier in
       chains-shows storage s b k signal next.walk next.came (next_acts storage b.transfer modifier) (End (ending laws accesses modifier) ∷ k.now.acts) (b.transfer.command + 1)
       (next-went laws accesses k.earlier storage k.orb k.now b.transfer modifier w.0.tied f.0 f.1) refl (rest-of b k w) h
-  goes-shows storage s b k signal true false c e w h = unmade s.serials.made (record (taking.end_taken s signal) { begun = Some (with_end b) }) k refl
-  goes-shows storage s b k signal false y c e w h =
-      stops-shows s b (stories.ends_alone signal.status k) signal (end_shown s b signal.status signal.more) (is_last_end signal.status)
-      (counted (end_shown s b signal.status signal.more).count (residual b.transfer.moving) k
-      (end-count s b signal.status signal.more (is_last_end signal.status) s.waiting e) (rest-of b k w))
-
-  command-shows : (storage : Contents) (s : SubchannelState) (b : ActiveProgram) (k : ProgramTrace) (signal : EndSignal) (x : Bool) → s.waiting ≡ None → HasWork (Some b) k →
-      let after : SubchannelState = (if x then taking.command_ended storage s b signal else taking.ignoring s).state in
-      let now : ProgramTrace = if x then stories.chains storage s b signal.status signal.more k else k in
-      IsHeld after now → ShowsRest s.serials.made after now
-  command-shows storage s b k signal true e w h = goes-shows storage s b k signal (chains_command s.scsw b signal.status signal.more) (has_device_end signal.status) refl e w h
-  command-shows storage s b k signal false e w h = unmade s.serials.made s k refl
-
-  ended-shows : (storage : Contents) (s : SubchannelState) (b : Option ActiveProgram) (k : ProgramTrace) (signal : EndSignal) → s.waiting ≡ None → HasWork b k →
-      let after : SubchannelState = (taking.end_of storage s b signal).state in
-      let now : ProgramTrace = stories.trace_ends storage s b signal.command signal.status signal.more k in
-      IsHeld after now → ShowsRest s.serials.made after now
-  ended-shows storage s None k signal e w h = unmade s.serials.made s k refl
-  ended-shows storage s (Some b) k signal e w h = command-shows storage s b k signal (signal.command == b.transfer.command) e w h
-
-  pub end-shows : (storage : Contents) (s : SubchannelState) (k : ProgramTrace) (signal : EndSignal) (x : Bool) → s.waiting ≡ None → IsHeld s k →
-      let after : SubchannelState = (if x then taking.end_of storage s s.begun signal else taking.ignoring s).state in
-      let now : ProgramTrace = if x then stories.trace_ends storage s s.begun signal.command signal.status signal.more k else k in
-      IsHeld after now → ShowsRest s.serials.made after now
-  end-shows storage s k signal true e g h = ended-shows storage s s.begun k signal e g.work h
-  end-shows storage s k signal false e g h = unmade s.serials.made s k refl

@@ -171,7 +171,7 @@ module _ (earlier : ℕ) where
     -- a command begins, or can't, or the program is suspended where one may begin
     abbrev pub Begins : Orb → List Act → List Act → ℕ → CommandStart → Type 0
     Begins orb before acts n (came.Begins t) =
-        Tied orb acts [] t × (t.command ≡ n) × ((c : Command) × (commands orb acts ≡ c ∷ commands orb before) × (code c ≡ t.code))
+        Tied orb acts [] t × (t.command ≡ n) × ((c : Command) × (commands orb acts ≡ c ∷ commands orb before) × (code c ≡ t.code) × (t.sequence ≡ 0))
     Begins orb before acts n came.Suspends =
         IsProgram orb acts × (data_areas orb acts ≡ data_areas orb before) × (commands orb acts ≡ commands orb before) × ((role_of orb acts).chained ≡ false) × IsSuspended orb acts
     Begins orb before acts n (came.Stops check) =
@@ -201,7 +201,7 @@ module _ (earlier : ℕ) where
             number = ap length commanded ∙ (let z : suc (length cs) ≡ length cs + 1 = omega arith in z) ∙ l;
           },
           refl,
-          (record { first = ccw; more = [] }, commanded, refl),
+          (record { first = ccw; more = [] }, commanded, refl, refl),
         )
 
     advance-begins : (orb : Orb) (before acts : List Act) (walk : WalkPlace) (n : ℕ) (a : Option Advance) → walk ≡ walk_place orb acts → (role_of orb before).chained ≡ false →

@@ -125,17 +125,24 @@ up_front-setup returns storage sub path (Some signal) =
 up-setup : (returns : Bool) → (storage : Contents) (sub : Subchannel) (path : ℕ) → IfOk (up_sub returns storage sub path) (λ t. t.sub.setup ≡ sub.setup)
 up-setup returns storage sub path = if-ok (λ t. t.sub.setup ≡ sub.setup) (nat_lt path (length sub.setup.paths)) (up_front returns storage sub path (slice_get (queue sub.wires.up path) 0)) (Err fault.NoSuchPath) (up_front-setup returns storage sub path (slice_get (queue sub.wires.up path) 0)) tt
 
-down_front-setup : (may : Bool) → (sub : Subchannel) (path : ℕ) (u : UnitState) (front : Option Down) → IfOk (down_front may sub path u front) (λ t. t.sub.setup ≡ sub.setup)
-down_front-setup may sub path u None = tt
-down_front-setup may sub path u (Some signal) =
-    if-ok (λ t. t.sub.setup ≡ sub.setup) (finds_full sub.wires.up (carried_by sub (unit_table.came_of (unit_takes u sub.setup.side path signal may)).sent)) _ _ tt refl
+-- nor what a subchannel is, but for its wires
+abbrev pub IsSameSub : Subchannel → Subchannel → Type 0
+IsSameSub sub x = (x.setup ≡ sub.setup) × (x.state ≡ sub.state)
 
-down-setup : (may : Bool) → (sub : Subchannel) (path : ℕ) (u : UnitState) → IfOk (down_sub may sub path u) (λ t. t.sub.setup ≡ sub.setup)
-down-setup may sub path u = if-ok (λ t. t.sub.setup ≡ sub.setup) (nat_lt path (length sub.setup.paths)) (down_front may sub path u (slice_get (queue sub.wires.down path) 0)) (Err fault.NoSuchPath) (down_front-setup may sub path u (slice_get (queue sub.wires.down path) 0)) tt
+down_front-same : (may : Bool) → (sub : Subchannel) (path : ℕ) (u : UnitState) (front : Option Down) → IfOk (down_front may sub path u front) (λ t. IsSameSub sub t.sub)
+down_front-same may sub path u None = tt
+down_front-same may sub path u (Some signal) =
+    if-ok (λ t. IsSameSub sub t.sub) (finds_full sub.wires.up (carried_by sub (unit_table.came_of (unit_takes u sub.setup.side path signal may)).sent)) _ _ tt (refl, refl)
 
-report-setup : (sub : Subchannel) (step : Option UnitStep) → IfOk (report_taken sub step) (λ t. t.sub.setup ≡ sub.setup)
-report-setup sub None = tt
-report-setup sub (Some step) = if-ok (λ t. t.sub.setup ≡ sub.setup) (finds_full sub.wires.up (carried_by sub step.sent)) _ _ tt refl
+pub down-same : (may : Bool) → (sub : Subchannel) (path : ℕ) (u : UnitState) → IfOk (down_sub may sub path u) (λ t. IsSameSub sub t.sub)
+down-same may sub path u = if-ok (λ t. IsSameSub sub t.sub) (nat_lt path (length sub.setup.paths)) (down_front may sub path u (slice_get (queue sub.wires.down path) 0)) (Err fault.NoSuchPath) (down_front-same may sub path u (slice_get (queue sub.wires.down path) 0)) tt
+
+report_taken-same : (sub : Subchannel) (step : Option UnitStep) → IfOk (report_taken sub step) (λ t. IsSameSub sub t.sub)
+report_taken-same sub None = tt
+report_taken-same sub (Some step) = if-ok (λ t. IsSameSub sub t.sub) (finds_full sub.wires.up (carried_by sub step.sent)) _ _ tt (refl, refl)
+
+pub report-same : (sub : Subchannel) (u : UnitState) (report : Report) → IfOk (report_sub sub u report) (λ t. IsSameSub sub t.sub)
+report-same sub u report = report_taken-same sub (unit_reports u report)
 
 -- an event that tells nothing
 quiet-story : (place : ℕ) (s : State) (e : Event) (r : Reply) → IsQuiet e r → (k : Option ProgramTrace) → trace_after place s e r k ≡ k
@@ -331,7 +338,7 @@ module _ (s : State) (one : IsOneSided s) (place : ℕ) where
       (λ k. here (place_of s word) at (met_at s.storage (slice_get s.subs place) path) n w k ∙ ap (λ q. met_at s.storage q path k) there))
       (λ w. elsewhere (place_of s word) at (met_at s.storage (slice_get s.subs place) path) n w)
   step-turns _ _ _ (walked.Sunk word path may owed at sub u t new n h o) =
-      unit-turns new at sub.setup.«unit» sub t.sub u (owing owed t.«unit») _ o refl (subst (λ (o : Result DownTurn Fault). IfOk o (λ t. t.sub.setup ≡ sub.setup)) h (down-setup may sub path u))
+      unit-turns new at sub.setup.«unit» sub t.sub u (owing owed t.«unit») _ o refl (subst (λ (o : Result DownTurn Fault). IfOk o (λ t. IsSameSub sub t.sub)) h (down-same may sub path u)).0
       (λ w. Sinks path may owed u t refl h refl refl (here (place_of s word) at (taken_at t.reply) n w))
       (λ x side w. Other_sinks sub path may owed u t side refl h refl refl (elsewhere (place_of s word) at (taken_at t.reply) n w))
       (λ w. elsewhere (place_of s word) at (taken_at t.reply) n w)
@@ -339,7 +346,7 @@ module _ (s : State) (one : IsOneSided s) (place : ℕ) where
       let both : ((sub.setup.«unit» == i) ≡ true) × (same_side sub.setup.side report.side ≡ true) = and_parts (sub.setup.«unit» == i) (same_side sub.setup.side report.side) reached in
       let g = reported_at (slice_get s.units i) report in
       unit-turns new at i sub t.sub u t.«unit» _ o (sym (eqb-true sub.setup.«unit» i both.0))
-      (subst (λ (o : Result DownTurn Fault). IfOk o (λ t. t.sub.setup ≡ sub.setup)) h (report-setup sub (unit_reports u report)))
+      (subst (λ (o : Result DownTurn Fault). IfOk o (λ t. IsSameSub sub t.sub)) h (report-same sub u report)).0
       (λ w. Is_reported report u t refl both.1 h refl refl
       (λ k. here (reached_in i report.side s.subs) at g n w k ∙ ap (λ q. reported_at q report k) o.found))
       (λ x side w. Other_reported sub report u t side refl both.1 h refl refl (elsewhere (reached_in i report.side s.subs) at g n w))

@@ -1,6 +1,6 @@
 -- How what was done for a program goes on with each event, told by what is seen: the signals that are taken and sent, and what
 -- storage holds in that step (SA22-7832, chapter 15).
-use Rattle.std.specs.Prelude.{◌≡◌, ◌⊎◌, ◌&&◌, ◌||◌, not, ℕ, ◌+◌, ◌<◌, ◌≤◌, Bool, true, false, is_some, Option, None, Some, List, [], ◌∷◌, ◌++◌, length, map, take, slice_get, IfSome}
+use Rattle.std.specs.Prelude.{◌≡◌, ◌⊎◌, ◌&&◌, ◌||◌, not, ℕ, ◌+◌, ◌<◌, ◌≤◌, Bool, true, false, is_none, is_some, Option, None, Some, List, [], ◌∷◌, ◌++◌, length, map, take, slice_get, IfSome}
 use Rattle.orb_block.specs.declared.Orb.{Orb}
 use Rattle.scsw_irb.specs.declared.status.DeviceStatus.{DeviceStatus}
 use Rattle.storage_keys.specs.Storage.{Contents}
@@ -11,7 +11,7 @@ use Rattle.chan_model.specs.declared.signal.OnPath.{OnPath}
 use Rattle.chan_model.specs.declared.signal.Up.{Up}
 use Rattle.chan_model.specs.declared.signal.Up.TheVariants as up
 use Rattle.chan_model.specs.Loads.{load_length}
-use Rattle.chan_model.specs.UnitReports.{has_device_end}
+use Rattle.chan_model.specs.UnitReports.{has_device_end, is_last_end}
 use Rattle.chan_events.specs.declared.event.Event.{Event}
 use Rattle.chan_events.specs.declared.event.Event.TheVariants as event
 use Rattle.chan_events.specs.declared.reply.Entry.{Entry}
@@ -31,7 +31,7 @@ use Rattle.machine_model.specs.Steps.{Run, Opened, Stepped}
 use Rattle.program_laws.specs.Traces.{CommandTrace, no_trace, ProgramTrace, past_part, is_place, told_after}
 use Rattle.program_laws.specs.Fetches.{AddsFetched}
 use Rattle.program_laws.specs.Claims.{IsBeginning, places_of, TraceCorrect}
-use Rattle.program_laws.specs.Shows.{IsCountShown}
+use Rattle.program_laws.specs.Shows.{IsCountShown, IsCountLeft, IsCountZero, IsCountBy, IsCountOf}
 
 -- a command that was sent: the number of its program, which of the commands under that number it is, and its code
 pub record SentCommand : Type 0 where
@@ -74,7 +74,7 @@ IsOver s =
 
 abbrev pub Accepted : Contents → SubchannelState → SubchannelState → Option (OnPath Down) → ProgramTrace → ProgramTrace → Type 0
 Accepted storage s next sent k after =
-    (IsOver s × (command_sent sent ≡ None) × (after ≡ k))
+    (IsOver s × (command_sent sent ≡ None) × (after ≡ k) × IsCountOf s next (Some k))
     ⊎ (GoesOn storage sent (beginning s.waiting k).now.acts (beginning s.waiting k) after × IsCountShown s next after)
 
 -- Data of a write: what the device absorbed of a chunk, no more than it says, is moved; and the next chunk that is given is
@@ -92,25 +92,26 @@ pub record Gives (storage : Contents) (orb : Orb) (count : ℕ) (bytes : List �
   pub given : IsGiven storage orb bytes k now
   pub arrived : now.arrived ≡ k.arrived
 
--- Data of a read: some of its bytes are stored, or none, and then storage stays
-abbrev pub Stores : Contents → Contents → List ℕ → CommandTrace → CommandTrace → Type 0
-Stores former storage bytes k now =
+-- Data of a read: some of its bytes are stored where it is the next that is, so that none is stored twice; or none are, and then
+-- storage stays
+abbrev pub Stores : Contents → Contents → ℕ → List ℕ → CommandTrace → CommandTrace → Type 0
+Stores former storage s bytes k now =
     ((storage ≡ former) × (now.arrived ≡ k.arrived) × (now.moved ≡ k.moved))
-    ⊎ ((places : List (Option ℕ)) × (n : ℕ)
+    ⊎ ((s ≡ length k.arrived + 1) × (places : List (Option ℕ)) × (n : ℕ)
     × (now.arrived ≡ record { former = former.bytes; chunk = record { storage = storage.bytes; places = places; bytes = take n bytes } } ∷ k.arrived)
     × (now.moved ≡ k.moved ++ places))
 
 -- a Data is answered by what it is answered with
-abbrev pub MovesBy : Contents → Contents → Orb → Load → Down → CommandTrace → CommandTrace → Type 0
-MovesBy former storage orb load (down.Give t c n s bytes) k now = Gives storage orb (load_length load) bytes k now
-MovesBy former storage orb load (down.Took t n s room) k now = Stores former storage (bytes_of_load load) k now × (now.copied ≡ k.copied)
-MovesBy former storage orb load signal k now = ⊥
+abbrev pub MovesBy : Contents → Contents → Orb → ℕ → Load → Down → CommandTrace → CommandTrace → Type 0
+MovesBy former storage orb s load (down.Give t c n next bytes) k now = Gives storage orb (load_length load) bytes k now
+MovesBy former storage orb s load (down.Took t n last room) k now = Stores former storage s (bytes_of_load load) k now × (now.copied ≡ k.copied)
+MovesBy former storage orb s load signal k now = ⊥
 
-abbrev pub Moves : Contents → Contents → Load → Option (OnPath Down) → ProgramTrace → ProgramTrace → Type 0
-Moves former storage load None k after = ⊥
-Moves former storage load (Some sent) k after =
+abbrev pub Moves : Contents → Contents → ℕ → Load → Option (OnPath Down) → ProgramTrace → ProgramTrace → Type 0
+Moves former storage s load None k after = ⊥
+Moves former storage s load (Some sent) k after =
     (now : CommandTrace) × (after ≡ record k { now = now }) × AddsFetched storage k.orb k.now.acts now.acts
-    × (map code (commands k.orb now.acts) ≡ map code (commands k.orb k.now.acts)) × MovesBy former storage k.orb load sent.signal k.now now
+    × (map code (commands k.orb now.acts) ≡ map code (commands k.orb k.now.acts)) × MovesBy former storage k.orb s load sent.signal k.now now
 
 -- End: a command is chained to where one is next by the program, nothing breaks the chain (chapter 16), and no earlier End of
 -- the command was shown
@@ -121,11 +122,12 @@ abbrev pub IsChained : Bool → SubchannelState → DeviceStatus → Bool → Pr
 IsChained chains s status more k = (b : ActiveProgram) × (s.begun ≡ Some b)
     × ((is_some (next k.orb (ended true status ∷ k.now.acts)) && not (b.transfer.unchained || breaks_chain s.scsw b status more)) ≡ chains)
 
--- none is, and status is made
+-- none is, and status is made; the last End of a program while a start waits leaves the count of that start
 abbrev pub EndsAlone : SubchannelState → SubchannelState → DeviceStatus → Option (OnPath Down) → ProgramTrace → ProgramTrace → Type 0
 EndsAlone s next status sent k after =
     (after ≡ record k { now = record k.now { acts = ended false status ∷ k.now.acts } })
     × (command_sent sent ≡ None) × (s.pmcw.enabled ≡ true → s.serials.made < next.serials.made)
+    × IsCountBy (is_none s.waiting || not (is_last_end status)) s next after
 
 -- the program goes on as device end comes; until then the command has not ended
 abbrev pub Chains : Contents → DeviceStatus → Option (OnPath Down) → ProgramTrace → ProgramTrace → Type 0
@@ -136,30 +138,44 @@ Chains storage status sent k after =
 abbrev pub Ends : Contents → SubchannelState → SubchannelState → DeviceStatus → Bool → Option (OnPath Down) → ProgramTrace → ProgramTrace → Type 0
 Ends storage s next status more sent k after =
     (IsChained false s status more k × EndsAlone s next status sent k after)
-    ⊎ (IsChained true s status more k × Chains storage status sent k after)
+    ⊎ (IsChained true s status more k × Chains storage status sent k after × IsCountShown s next after)
 
--- what a signal that is taken tells, and the count that its status shows; of an End where no start waits
+-- what a signal that is taken tells, and the count of the status that it makes
 abbrev pub Meets : Contents → Contents → SubchannelState → SubchannelState → Up → Bool → Option (OnPath Down) → ProgramTrace → ProgramTrace → Type 0
 Meets former storage s next (up.Accept t) true sent k after = Accepted storage s next sent k after
-Meets former storage s next (up.Data t c n seq load) true sent k after = Moves former storage load sent k after × IsCountShown s next after
-Meets former storage s next (up.End t n status more) true sent k after =
-    Ends storage s next status more sent k after × (s.waiting ≡ None → IsCountShown s next after)
-Meets former storage s next signal taken sent k after = after ≡ k
+Meets former storage s next (up.Data t c n seq load) true sent k after = Moves former storage seq load sent k after × IsCountShown s next after
+Meets former storage s next (up.End t n status more) true sent k after = Ends storage s next status more sent k after
+Meets former storage s next (up.Cleared r) taken sent k after = (after ≡ k) × IsCountZero s next
+Meets former storage s next (up.Attn a status) taken sent k after = (after ≡ k) × IsCountLeft s next
+Meets former storage s next signal taken sent k after = (after ≡ k) × IsCountOf s next (Some k)
 
--- of programs that there are
-abbrev pub OfBoth : (ProgramTrace → ProgramTrace → Type 0) → Option ProgramTrace → Option ProgramTrace → Type 0
-OfBoth P None None = Unit {0}
-OfBoth P (Some k) (Some after) = P k after
-OfBoth P None (Some after) = ⊥
-OfBoth P (Some k) None = ⊥
+-- and where there is no program
+abbrev pub MeetsNone : SubchannelState → SubchannelState → Up → Type 0
+MeetsNone s next (up.Cleared r) = IsCountZero s next
+MeetsNone s next signal = IsCountLeft s next
 
--- each event: a signal that comes up is of the subchannel that meets it
+abbrev pub OfBoth : Type 0 → (ProgramTrace → ProgramTrace → Type 0) → Option ProgramTrace → Option ProgramTrace → Type 0
+OfBoth N P None None = N
+OfBoth N P (Some k) (Some after) = P k after
+OfBoth N P None (Some after) = ⊥
+OfBoth N P (Some k) None = ⊥
+
+-- the count of the status that another event makes; Choose may perform a clear that is pending
+abbrev pub ShowsBy : Event → SubchannelState → SubchannelState → Option ProgramTrace → Type 0
+ShowsBy (event.Choose word) s next k = ((s.scsw.activity.clear_pending ≡ true) × IsCountZero s next) ⊎ IsCountOf s next k
+ShowsBy e s next k = IsCountOf s next k
+
+-- of the subchannel at a place, before a step and after it
+abbrev pub AtPlace : ℕ → State → State → (SubchannelState → SubchannelState → Type 0) → Type 0
+AtPlace place s new P = (sub next : Subchannel) → slice_get s.subs place ≡ Some sub → slice_get new.subs place ≡ Some next → P sub.state next.state
+
+-- each event: a signal that comes up is of the subchannel that meets it, and makes no status at another
 abbrev pub GoesBy : ℕ → State → Event → Reply → State → Option ProgramTrace → Option ProgramTrace → Type 0
 GoesBy place s (event.Up word path) (reply.Up signal taken sent) new k after =
-    (is_place (place_of s word) place ≡ false → after ≡ k)
-    × (is_place (place_of s word) place ≡ true → (sub next : Subchannel) → slice_get s.subs place ≡ Some sub → slice_get new.subs place ≡ Some next →
-    OfBoth (Meets s.storage new.storage sub.state next.state signal taken sent) k after)
-GoesBy place s e r new k after = after ≡ told_after place s e r k
+    (is_place (place_of s word) place ≡ false → (after ≡ k) × AtPlace place s new (λ sub next. next.serials.made ≡ sub.serials.made))
+    × (is_place (place_of s word) place ≡ true →
+    AtPlace place s new (λ sub next. OfBoth (MeetsNone sub next signal) (Meets s.storage new.storage sub next signal taken sent) k after))
+GoesBy place s e r new k after = (after ≡ told_after place s e r k) × AtPlace place s new (λ sub next. ShowsBy e sub next k)
 
 -- what is done for the program of a place, throughout a run: none at first, and in each step it goes on by what is seen, and is correct
 abbrev pub IsTold : ℕ → (opening : State) (h : List Entry) (s : State) → Run opening h s → Option ProgramTrace → Type 0

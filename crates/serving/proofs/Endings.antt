@@ -1,12 +1,21 @@
 -- How the program ends where a script was read.
-use Rattle.std.proofs.Common.{ℕ, Bool, false, Option, None, Some, List}
-use Rattle.std.specs.Prelude.{IfSome}
-use Rattle.streams.specs.Sinks.{Seen}
+use Rattle.std.proofs.Common.{◌≡◌, ℕ, Bool, true, false, ◌||◌, Option, None, Some, Ok, List, inl, inr, refl, sym, subst}
+use Rattle.std.specs.Prelude.{IfSome, IsTrue, ◌↔◌}
+use Rattle.streams.specs.Sinks.{Seen, Puts}
+use Rattle.channel_config.specs.Setup.{Setup}
+use Rattle.script.specs.declared.Line.{Line}
+use Rattle.script.specs.declared.RaceLine.{RaceLine}
 use Rattle.script.specs.Pieces.{lines_of}
 use Rattle.script.specs.Scripts.{ScriptContents, IsScript}
+use Rattle.script_text.specs.Text.{event_line}
+use Rattle.script_text.specs.declared.ActionResult.TheVariants as told
+use Rattle.script_text.specs.declared.race.RaceCount.{RaceCount}
 use Rattle.serving.specs.declared.Ending.{Ending}
-use Rattle.serving.specs.declared.Ending.TheVariants.{NotRead, Bad, NoMemory, Done, Stopped}
-use Rattle.serving.specs.Serving.{Serves, IsRun}
+use Rattle.serving.specs.declared.Ending.TheVariants.{NotRead, Bad, NoMemory, Done, Stopped, AuditFailed}
+use Rattle.serving.specs.Acting.{Installed, IsAudited}
+use Rattle.serving.specs.Performing.{HasPerformed, HasStopped, PerformsTo}
+use Rattle.serving.specs.Racing.{IsRaced}
+use Rattle.serving.specs.Serving.{EndsBy, FailsAudit, PerformsAll, Races, RacesAfter, TellsAudit, ending_of, IsRunOf, IsRaceOf, RunsOrRaces, IsRun, IsRunOrRaced, Serves, ServesRace, DoesWith}
 
 -- what is so of the script that was read is so of a script of the text, where the text is known
 of_script : (races : Bool) (input : Option (List ℕ)) (s : ScriptContents) (P : ScriptContents → Type 0) → IfSome input (λ text. IsScript races (lines_of text) s) → P s →
@@ -21,3 +30,90 @@ serves_script input s held now (NoMemory whole) is h = h
 serves_script input s held now (Bad whole) is h = absurd h
 serves_script input s held now (Done refused) is h = of_script false input s (λ t. IsRun t held now (Done refused)) is h
 serves_script input s held now (Stopped refused) is h = of_script false input s (λ t. IsRun t held now (Stopped refused)) is h
+serves_script input s held now (AuditFailed whole) is h = of_script false input s (λ t. IsRun t held now (AuditFailed whole)) is h
+
+-- there was a race or none: some endings do not come, and want of memory is told alike
+not_read : (race : Option RaceLine) (setup : Setup) (lines : List Line) (held now : Seen) → RunsOrRaces race setup lines held now NotRead → ⊥
+not_read None setup lines held now h = h
+not_read (Some line) setup lines held now h = h
+
+not_bad : (race : Option RaceLine) (setup : Setup) (lines : List Line) (held now : Seen) (whole : Bool) → RunsOrRaces race setup lines held now (Bad whole) → ⊥
+not_bad None setup lines held now whole h = h
+not_bad (Some line) setup lines held now whole h = h
+
+no_room : (input : Option (List ℕ)) (race : Option RaceLine) (setup : Setup) (lines : List Line) (held now : Seen) (whole : Bool) →
+    RunsOrRaces race setup lines held now (NoMemory whole) → ServesRace input held now (NoMemory whole)
+no_room input None setup lines held now whole h = h
+no_room input (Some line) setup lines held now whole h = h
+
+pub serves_race : (input : Option (List ℕ)) (s : ScriptContents) (held now : Seen) (e : Ending) → IfSome input (λ text. IsScript true (lines_of text) s) →
+    IsRunOrRaced s held now e → ServesRace input held now e
+serves_race input s held now NotRead is h = absurd (not_read s.race s.setup s.lines held now h)
+serves_race input s held now (NoMemory whole) is h = no_room input s.race s.setup s.lines held now whole h
+serves_race input s held now (Bad whole) is h = absurd (not_bad s.race s.setup s.lines held now whole h)
+serves_race input s held now (Done refused) is h = of_script true input s (λ t. IsRunOrRaced t held now (Done refused)) is h
+serves_race input s held now (Stopped refused) is h = of_script true input s (λ t. IsRunOrRaced t held now (Stopped refused)) is h
+serves_race input s held now (AuditFailed whole) is h = of_script true input s (λ t. IsRunOrRaced t held now (AuditFailed whole)) is h
+
+-- the audit failed, and the line that says so was written or not
+fails : (old last : Installed) (lines : List Line) (held now : Seen) (whole : Bool) → TellsAudit old lines held now whole last → FailsAudit old lines held now whole last
+fails old last lines held now true h = h
+fails old last lines held now false h = inl h
+
+unaudited : (audited : Bool) (A : Type 0) → audited ≡ false → (IsTrue audited ↔ A) → A → ⊥
+unaudited audited A is both a = absurd (cc (both.1 a) is)
+
+pub ends_all : (old last : Installed) (lines : List Line) (held between now : Seen) (whole refused audited : Bool) (e : Ending)
+    → PerformsTo whole old lines held between refused last → (IsTrue audited ↔ IsAudited last) → EndsBy audited whole refused between now e
+    → PerformsAll old lines held now e
+ends_all old last lines held between now true refused true e p both h =
+    subst (λ (x : Ending). PerformsAll old lines held now x) (sym h.1)
+    (last, subst (λ (n : Seen). HasPerformed old lines held n refused last) (sym h.0) p, both.0 refl)
+ends_all old last lines held between now false refused true e p both h =
+    subst (λ (x : Ending). PerformsAll old lines held now x) (sym h.1)
+    (last, subst (λ (n : Seen). HasStopped old lines held n refused last) (sym h.0) p, both.0 refl)
+ends_all old last lines held between now true refused false e p both h =
+    subst (λ (x : Ending). PerformsAll old lines held now x) (sym h.1)
+    (last, fails old last lines held now h.0 (record { refused = refused; between = between; performed = p; told = h.2 }), unaudited false (IsAudited last) refl both)
+ends_all old last lines held between now false refused false e p both h =
+    subst (λ (x : Ending). PerformsAll old lines held now x) (sym h.1)
+    (last, inr (refused, subst (λ (n : Seen). HasStopped old lines held n refused last) (sym h.0) p), unaudited false (IsAudited last) refl both)
+
+-- the sink failed before the race
+pub stops_before : (old last : Installed) (lines : List Line) (line : RaceLine) (held between now : Seen) (refused audited : Bool) (e : Ending)
+    → HasStopped old lines held between refused last → (IsTrue audited ↔ IsAudited last) → EndsBy audited false refused between now e
+    → Races old lines line held now e
+stops_before old last lines line held between now refused true e p both h =
+    subst (λ (x : Ending). Races old lines line held now x) (sym h.1)
+    (inr (last, subst (λ (n : Seen). HasStopped old lines held n refused last) (sym h.0) p, both.0 refl))
+stops_before old last lines line held between now refused false e p both h =
+    subst (λ (x : Ending). Races old lines line held now x) (sym h.1)
+    (inr (last, refused, subst (λ (n : Seen). HasStopped old lines held n refused last) (sym h.0) p, unaudited false (IsAudited last) refl both))
+
+-- or the race was told
+raced_to : (old : Installed) (lines : List Line) (line : RaceLine) (held now : Seen) (audited whole refused : Bool)
+    → RacesAfter old lines line held now whole audited refused → Races old lines line held now (ending_of audited whole refused)
+raced_to old lines line held now true true refused h = h
+raced_to old lines line held now true false refused h = inl h
+raced_to old lines line held now false true refused h = (refused, h)
+raced_to old lines line held now false false refused h = inl (refused, h)
+
+pub ends_race : (old middle : Installed) (lines : List Line) (line : RaceLine) (held between now : Seen) (earlier later whole : Bool) (count : RaceCount) (e : Ending)
+    → HasPerformed old lines held between earlier middle → IsRaced line.race middle count later
+    → Puts between (event_line line.number (Ok (told.Race count))) now whole → e ≡ ending_of count.audited whole (earlier || later)
+    → Races old lines line held now e
+ends_race old middle lines line held between now earlier later whole count e p raced puts is =
+    subst (λ (x : Ending). Races old lines line held now x) (sym is)
+    (raced_to old lines line held now count.audited whole (earlier || later)
+    (record {
+      middle = middle;
+      between = between;
+      earlier = earlier;
+      count = count;
+      later = later;
+      performed = p;
+      raced = raced;
+      prints = puts;
+      audited_is = refl;
+      refused_is = refl;
+    }))

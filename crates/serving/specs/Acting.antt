@@ -1,10 +1,11 @@
 -- What the actions of a script come to at a channel subsystem with its devices.
-use Rattle.std.specs.Prelude.{◌≡◌, ◌≤◌, ◌+◌, ℕ, List, [], ◌∷◌, ◌++◌, length, map, replicate, slice_get, slice_set, Option, None, Some, Result, Ok, Err}
+use Rattle.std.specs.Prelude.{◌≡◌, ◌≤◌, ◌+◌, ◌==◌, ◌&&◌, ℕ, Bool, true, false, min, List, [], ◌∷◌, ◌++◌, length, map, replicate, slice_get, slice_set, Option, None, Some, Result, Ok, Err}
 use Rattle.chan_events.specs.declared.event.Event.{Event}
 use Rattle.chan_events.specs.declared.event.Event.TheVariants as event
 use Rattle.chan_model.specs.declared.fault.Fault.{Fault}
 use Rattle.chan_model.specs.declared.fault.Fault.TheVariants as fault
 use Rattle.chan_model.specs.declared.names.Side.{Side}
+use Rattle.chan_events.specs.declared.reply.Entry.{Entry}
 use Rattle.chan_events.specs.declared.reply.Reply.{Reply}
 use Rattle.chan_model.specs.declared.report.Call.{Call}
 use Rattle.chan_model.specs.declared.report.DeviceAnswer.{DeviceAnswer}
@@ -12,11 +13,12 @@ use Rattle.chan_model.specs.declared.report.Report.{Report}
 use Rattle.chan_model.specs.declared.report.Work.{Work}
 use Rattle.chan_model.specs.declared.report.Work.TheVariants as work
 use Rattle.channel_config.specs.Setup.{Setup}
+use Rattle.core_lock.specs.Seats.{LockedCore, HeldSeat, entry, entries_by}
 use Rattle.device_models.specs.AnyDevices.{device_of, device_opening, answer_of, after}
 use Rattle.device_models.specs.declared.any_device.AnyDevice.{AnyDevice}
 use Rattle.machine_model.specs.Ruled.{GoesByRule}
 use Rattle.path_select.specs.Choice.{TakesNext}
-use Rattle.machine_model.specs.State.{Past, IsAsBefore, LacksRoom, opening_of, unit_turn_of, sub_of, serials_in}
+use Rattle.machine_model.specs.State.{Past, IsAsBefore, IsSpent, opening_of, unit_turn_of, sub_of, serials_in}
 use Rattle.machine_model.specs.Steps.{Step, IsRefused}
 use Rattle.machine_model.specs.declared.state.UnitTurn.{UnitTurn}
 use Rattle.machine_model.specs.declared.state.UnitTurn.TheVariants.{Takes, Works, Away, Rests}
@@ -34,26 +36,56 @@ abbrev pub told_of : Result Reply Fault → ActionOutcome
 told_of (Ok r) = Ok (told.Reply r)
 told_of (Err f) = Err f
 
--- a machine, and by unit its device and the report that is still to be handed in
+-- what an audit compares: the number of the seat from which events are entered, the seat of each entry of the history, and
+-- the seat's log; and whether each look at serials showed what the machine had
+pub record Books : Type 0 where
+  pub number : ℕ
+  pub by : List ℕ
+  pub log : List Entry
+  pub agrees : Bool
+
+-- a machine, its books, and by unit its device and the report that is still to be handed in
 pub record Installed : Type 0 where
   pub past : Past
+  pub books : Books
   pub devices : List AnyDevice
   pub kept : List (Option Report)
+
+-- a machine that no lock guards and its one seat, as a past and its books
+abbrev pub past_of : LockedCore → HeldSeat → Past
+past_of core seat = record { state = core.value.state; history = core.value.history; room = min core.room seat.room }
+
+abbrev pub books_of : LockedCore → HeldSeat → Bool → Books
+books_of core seat agrees = record { number = seat.value.number; by = core.value.by; log = seat.value.log; agrees = agrees }
+
+abbrev pub opening_books : Books
+opening_books = record { number = 0; by = []; log = []; agrees = true }
 
 abbrev pub opening_installed : Setup → Installed
 opening_installed setup = record {
   past = record { state = opening_of setup; history = []; room = 0 };
+  books = opening_books;
   devices = map device_of setup.units;
   kept = replicate (length setup.units) None;
 }
 
+-- an audit finds what it should: each look showed what the machine had, and the entries of the history that have the number of
+-- the seat are its log, in order
+abbrev pub IsAudited : Installed → Type 0
+IsAudited i = (i.books.agrees ≡ true) × (entries_by i.books.number i.books.by i.past.history ≡ i.books.log)
+
+-- the books after an event: an entry, with the number of the seat, where it was accepted
+abbrev pub booked : Books → Event → Result Reply Fault → Books
+booked books e (Ok r) = record books { by = books.by ++ books.number ∷ []; log = books.log ++ entry e r ∷ [] }
+booked books e (Err f) = books
+
 -- an event: a step by the path that follows the last one, which the history keeps with its reply; or a refusal, after which
--- all is as before. Want of memory comes only where the history had no room, or no number was left.
+-- all is as before. Want of memory comes only where the history or the books had no room, or no number was left.
 abbrev pub Enters : Past → Event → Result Reply Fault → Past → Type 0
 Enters old e (Ok r) new =
     Step old.state e r new.state × GoesByRule TakesNext old.state e (Ok r) new.state
     × (new.history ≡ old.history ++ record { event = e; reply = r } ∷ []) × (old.room ≤ new.room + 1)
-Enters old e (Err fault.NoMemory) new = LacksRoom old new
+Enters old e (Err fault.NoMemory) new = IsAsBefore old new × IsSpent old
 Enters old e (Err f) new = IsRefused old.state e f × GoesByRule TakesNext old.state e (Err f) new.state × IsAsBefore old new
 
 -- A turn of a device: the report that is to be handed in, or why there is none; and the devices, of which one may be called.
@@ -119,6 +151,7 @@ kept_after report (Err f) = kept_of_fault report f
 abbrev pub HandsIn : Installed → ℕ → Report → Result Reply Fault → Installed → Type 0
 HandsIn old place report r new =
     Enters old.past (event.Report place report) r new.past
+    × (new.books ≡ booked old.books (event.Report place report) r)
     × (new.devices ≡ old.devices)
     × (new.kept ≡ slice_set old.kept place (kept_after report r))
 
@@ -135,6 +168,21 @@ abbrev pub glanced : Option Serials → ActionOutcome
 glanced None = Err fault.NoSuchSubchannel
 glanced (Some serials) = Ok (told.Serials serials)
 
+-- whether the seat found what the machine has
+abbrev pub same_serials : Option Serials → Option Serials → Bool
+same_serials None None = true
+same_serials None (Some own) = false
+same_serials (Some found) None = false
+same_serials (Some found) (Some own) = (found.made == own.made) && (found.cleared == own.cleared)
+
+-- the seat looked, and found these serials where the machine has those
+abbrev pub looked : Installed → Option Serials → Option Serials → Installed
+looked old found own = record old { books = record old.books { agrees = old.books.agrees && same_serials found own } }
+
+-- what the machine has is shown, whatever the seat found
+abbrev pub Looks : Installed → Option Serials → ActionOutcome → Installed → Type 0
+Looks old own r new = (r ≡ glanced own) × ((found : Option Serials) × (new ≡ looked old found own))
+
 -- where a restart of a unit was accepted its device is put back to its opening; a report that is kept for it is kept on
 abbrev pub put_back : List AnyDevice → ℕ → Option AnyDevice → List AnyDevice
 put_back devices place None = devices
@@ -149,13 +197,17 @@ devices_left devices e (Ok r) = devices_restarted devices e
 devices_left devices e (Err f) = devices
 
 abbrev pub Happens : Installed → Event → Result Reply Fault → Installed → Type 0
-Happens old e r new = Enters old.past e r new.past × (new.devices ≡ devices_left old.devices e r) × (new.kept ≡ old.kept)
+Happens old e r new =
+    Enters old.past e r new.past
+    × (new.books ≡ booked old.books e r)
+    × (new.devices ≡ devices_left old.devices e r)
+    × (new.kept ≡ old.kept)
 
 abbrev pub PerformsAction : Installed → Action → ActionOutcome → Installed → Type 0
 PerformsAction old (action.Event e) r new =
     (came : Result Reply Fault) × (r ≡ told_of came) × Happens old e came new
 PerformsAction old (action.Dev place) r new = (came : Result Reply Fault) × (r ≡ told_of came) × TakesTurn old place came new
-PerformsAction old (action.Glance word) r new = (r ≡ glanced (serials_in (sub_of old.past.state word))) × (new ≡ old)
+PerformsAction old (action.Glance word) r new = Looks old (serials_in (sub_of old.past.state word)) r new
 
 -- the actions in order come to these outcomes
 abbrev pub Runs : Installed → List Action → List ActionOutcome → Installed → Type 0

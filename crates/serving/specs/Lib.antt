@@ -1,3 +1,4 @@
 pub mod Acting
 pub mod Performing
+pub mod Racing
 pub mod Serving

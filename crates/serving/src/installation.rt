@@ -1,73 +1,106 @@
-//! A channel subsystem with a device for each of its units.
+//! A channel subsystem with a device for each of its units, a seat from which its events are entered, and seats of CPUs that
+//! are to race.
 
-ghost use Rattle.std.specs.Prelude.{◌≡◌, IfOk, None, OnErr, OnOk, map, replicate, slice_get, true};
+ghost use Rattle.std.specs.Prelude.{◌≡◌, ◌+◌, [], Bool, IsTrue, IfOk, None, OnErr, OnOk, map, replicate, slice_get, true, ◌↔◌};
 ghost use Rattle.serving.specs.Acting as spec;
-ghost use Rattle.serving.specs.Acting.{PerformsAction, Happens, TakesTurn, HandsIn, kept_after, opening_installed, glanced};
-ghost use Rattle.machine_model.specs.State.{sub_of, serials_in};
+ghost use Rattle.serving.specs.Racing.{AreMade, HasLogs, IsRaced};
+ghost use Rattle.serving.specs.Acting.{books_of, past_of, PerformsAction, Happens, IsAudited, Looks, TakesTurn, HandsIn, kept_after, opening_installed};
+ghost use Rattle.machine_model.specs.State.{opening_of, sub_of, serials_in};
+ghost use Rattle.subsystem.specs.Keeping.{all_serials};
+ghost use Rattle.core_lock.specs.Directory.{directory_of};
+ghost use Rattle.core_lock.specs.Seats.{entries_by};
 ghost use Rattle.device_models.specs.AnyDevices.{device_of};
 
+use crate::racing::{Racers, one_seat};
 use chan_events::event::Event;
 use chan_events::reply::Reply;
 use chan_model::fault::Fault;
 use chan_model::report::{Call, DeviceAnswer, Report, Work};
 use channel_config::config::Config;
 use channel_config::parts::UnitKind;
+use core_lock::locked::{Core, Seat, audit};
+use core_lock::naming::Naming;
+use core_lock::parts::Parts;
+use core_lock::supplies::CoreSupply;
 use device_law::Device;
 use device_law::answering::answer;
 use device_models::any_device::AnyDevice;
+use glance_cell::words::Glance;
 use machine_model::state::UnitTurn;
 use path_select::Rotating;
 use script_rows::Action;
-use script_text::ActionResult;
+use script_rows::race::Race;
+use script_text::{ActionResult, RaceCount};
+use scsw_irb::serials::Serials;
 use std::alloc::{AllocError, Global};
 use std::marker::Model;
+use std::sync::Wait;
+use std::thread::Threads;
 use subsystem::subsystem::Subsystem;
 use supply::{Supply, push};
 
-/// A channel subsystem, with a device for each unit, and by unit the report that is still to be handed in: one for
-/// which there was no memory or no room on a wire.
+/// A channel subsystem that no lock guards, with the seat from which its events are entered, a device for each unit, and by
+/// unit the report that is still to be handed in: one for which there was no memory or no room on a wire.
 #[derive(Drop)]
-pub struct Installation {
-    subsystem: Subsystem<Rotating>,
+pub struct Installation<J: Naming> {
+    core: Core<J, Rotating>,
+    seat: Seat<J>,
+    agrees: bool,
     devices: Vec<AnyDevice>,
     kept: Vec<Option<Report>>,
 }
 
-impl Model for Installation {
-    ghost use Rattle.serving.specs.Acting.{Installed};
+impl<J: Naming> Model for Installation<J> {
+    ghost use Rattle.serving.specs.Acting.{Installed, books_of, past_of};
 
     ghost Value = { Installed };
 
-    ghost view = { λ i. record { past = i.subsystem; devices = i.devices.items; kept = i.kept.items } };
+    ghost view = { λ i. record {
+      past = past_of i.core i.seat;
+      books = books_of i.core i.seat i.agrees;
+      devices = i.devices.items;
+      kept = i.kept.items;
+    } };
 }
 
-impl Installation {
-    /// An installation at its opening. It is not made only where the supply refused a growth.
-    pub fn new<S: Supply>(
+impl<J: Naming> Installation<J> {
+    /// An installation at its opening, with as many CPUs beside it that are to race. It is not made only where the supply
+    /// refused a growth.
+    pub fn new<S: CoreSupply>(
         alloc: Global,
         supply: &mut S,
         config: Config,
-    ) -> Result<Installation, AllocError>
-        ensures made { IfOk result (λ i. i ≡ opening_installed config) }
+        parts: Parts,
+        cpus: u32,
+    ) -> Result<(Installation<J>, Racers<J>), AllocError>
+        requires named { parts.name ≡ J.name }
+        requires directory { parts.name.directory ≡ directory_of (opening_of config) }
+        requires serials { parts.serials ≡ all_serials (opening_of config) }
+        ensures made { IfOk result (λ both. both.0 ≡ opening_installed config) }
+        ensures racers { IfOk result (λ both. AreMade cpus both.1) }
         ensures given { OnOk result (S.refused supply.new ≡ S.refused supply.old) }
         ensures memory { OnErr result (S.refused supply.new ≡ true) }
     {
         let devices = opening_devices(alloc, supply, config.units())?;
         let kept = no_reports(alloc, supply, config.units().len())?;
-        match Subsystem::new_with(alloc, supply, config, Rotating) {
-            Ok(subsystem) => Ok(Installation {
-                subsystem,
-                devices,
-                kept,
-            }),
-            Err(_) => Err(AllocError),
-        }
+        let mut core = opening_core(alloc, supply, config, parts)?;
+        let seat = one_seat(supply, &mut core)?;
+        let racers = Racers::new(alloc, supply, &mut core, cpus)?;
+        let installation = Installation {
+            core,
+            seat,
+            agrees: true,
+            devices,
+            kept,
+        };
+        Ok((installation, racers))
     }
 
     /// Performs an action. An event that restarts a unit, where it is accepted, puts the unit's device back to its
     /// opening; a report that is kept for the unit stays, and is refused NotNow by the unit's next turn. A turn of a device hands in the report that is kept for its unit, else the one of the unit's
     /// next work. It is refused NoSuchUnit where the unit is not configured, and NotNow where no report is kept and a
-    /// signal waits for the unit, its program may ask for a path, or it has nothing to do. A look at serials is refused
+    /// signal waits for the unit, its program may ask for a path, or it has nothing to do. A look at serials goes by the seat;
+    /// what the subsystem has is told, and where the seat found anything else the audit will fail. It is refused
     /// NoSuchSubchannel where the subchannel is not configured.
     pub fn act(&mut self, action: &Action) -> Result<ActionResult, Fault>
         ensures { PerformsAction self.old action.now result self.new }
@@ -75,29 +108,69 @@ impl Installation {
         match action {
             Action::Event(event) => told_of(self.enter(event)),
             Action::Dev(unit) => told_of(self.take_turn(*unit)),
-            Action::Glance(subchannel) => self.glance(*subchannel),
+            Action::Glance(subchannel) => self.look(*subchannel),
         }
+    }
+
+    /// Whether each look showed what the subsystem had, and the seat's log is what the history has of it.
+    pub fn audited(self) -> bool
+        ensures { IsTrue result ↔ IsAudited self }
+    {
+        let Installation {
+            core,
+            seat,
+            agrees,
+            devices: _,
+            kept: _,
+        } = self;
+        agrees && has_its_log(&core, seat)
+    }
+
+    /// CPUs race at it, and it is given up: what is told of the race, and whether an instruction was refused. The audit is of all
+    /// seats, and counts those as missing that are not given.
+    pub fn race<R: Threads + Wait + Sync>(
+        self,
+        rt: &R,
+        race: Race,
+        racers: Racers<J>,
+    ) -> (RaceCount, bool)
+    where
+        J: Send + Sync,
+        requires { AreMade race.cpus racers }
+        ensures { IsRaced race self result.0 result.1 }
+    {
+        let Installation {
+            core,
+            seat,
+            agrees,
+            devices: _,
+            kept: _,
+        } = self;
+        let before = core.subsystem().history().len() as u64;
+        let (core, seats, total) = racers.race(rt, core, seat, race);
+        let audited = agrees && is_settled(core, seats, before, total.entries);
+        (total.told(audited), total.refused)
     }
 
     /// Performs an event.
     fn enter(&mut self, event: &Event) -> Result<Reply, Fault>
         ensures { Happens self.old event.now result self.new }
     {
-        let came = self.subsystem.step(event);
+        let came = enter_from(&mut self.core, &mut self.seat, event.copy());
         if came.is_ok() {
             restart_device(&mut self.devices, event);
         }
         came
     }
 
-    /// The serials of the subchannel that a word names.
-    fn glance(&self, subchannel: u32) -> Result<ActionResult, Fault>
-        ensures { result ≡ glanced (serials_in (sub_of self.now.past.state subchannel)) }
+    /// Looks from the seat at the serials of the subchannel that a word names, and shows those that the subsystem has.
+    fn look(&mut self, subchannel: u32) -> Result<ActionResult, Fault>
+        ensures { Looks self.old (serials_in (sub_of self.old.past.state subchannel)) result self.new }
     {
-        match self.subsystem.serials(subchannel) {
-            Some(serials) => Ok(ActionResult::Serials(serials)),
-            None => Err(Fault::NoSuchSubchannel),
-        }
+        let own = self.core.subsystem().serials(subchannel);
+        let found = found_by(&mut self.seat, subchannel);
+        self.agrees = self.agrees && same_serials(found, own);
+        glanced(own)
     }
 
     fn take_turn(&mut self, unit: u32) -> Result<Reply, Fault>
@@ -115,7 +188,7 @@ impl Installation {
         let Some(kept) = self.kept.get(unit as usize) else {
             return Err(Fault::NoSuchUnit);
         };
-        let Some(turn) = self.subsystem.unit_turn(unit) else {
+        let Some(turn) = self.core.subsystem().unit_turn(unit) else {
             return Err(Fault::NoSuchUnit);
         };
         if let Some(report) = kept {
@@ -135,11 +208,105 @@ impl Installation {
             unit,
             report: report.copy(),
         };
-        let outcome = self.subsystem.step(&event);
+        let outcome = enter_from(&mut self.core, &mut self.seat, event);
         if let Some(kept) = self.kept.get_mut(unit as usize) {
             *kept = kept_of(&report, &outcome);
         }
         outcome
+    }
+}
+
+/// Whether the log of a machine's one seat is what the history has of it.
+fn has_its_log<J: Naming>(core: &Core<J, Rotating>, seat: Seat<J>) -> bool
+    ensures { IsTrue result ↔ (entries_by seat.value.number core.now.value.by core.now.value.history ≡ seat.value.log) }
+{
+    let seats = [seat];
+    audit(core, &seats)
+}
+
+/// An event is entered from a seat.
+fn enter_from<J: Naming>(
+    core: &mut Core<J, Rotating>,
+    seat: &mut Seat<J>,
+    event: Event,
+) -> Result<Reply, Fault>
+    ensures past { spec.Enters (past_of core.old seat.old) event result (past_of core.new seat.new) }
+    ensures books { (agrees : Bool) → books_of core.new seat.new agrees ≡ spec.booked (books_of core.old seat.old agrees) event result }
+{
+    core.enter(seat, event)
+}
+
+/// Whether the history has the log of each seat, all seats are given, and the history grew by so many entries.
+fn is_settled<J: Naming>(
+    core: Core<J, Rotating>,
+    seats: Vec<Seat<J>>,
+    before: u64,
+    entries: u64,
+) -> bool
+    ensures { IsTrue result ↔ HasLogs core.value seats.items (before + entries) }
+{
+    if !audit(&core, seats.as_slice()) {
+        return false;
+    }
+    match core.close(seats) {
+        Some(count) => count >= before && count - before == entries,
+        None => false,
+    }
+}
+
+/// A core at the opening of a configuration, of which no seat was made.
+fn opening_core<J: Naming, S: CoreSupply>(
+    alloc: Global,
+    supply: &mut S,
+    config: Config,
+    parts: Parts,
+) -> Result<Core<J, Rotating>, AllocError>
+    requires named { parts.name ≡ J.name }
+    requires directory { parts.name.directory ≡ directory_of (opening_of config) }
+    requires serials { parts.serials ≡ all_serials (opening_of config) }
+    ensures made { IfOk result (λ core. core.value ≡ record { state = opening_of config; history = []; by = []; seats = 0 }) }
+    ensures given { OnOk result (S.refused supply.new ≡ S.refused supply.old) }
+    ensures memory { OnErr result (S.refused supply.new ≡ true) }
+{
+    let Ok(subsystem) = Subsystem::new_with(alloc, supply, config, Rotating) else {
+        return Err(AllocError);
+    };
+    match Core::new_with(alloc, supply, subsystem, parts) {
+        Ok(core) => Ok(core),
+        Err(_) => Err(AllocError),
+    }
+}
+
+/// What a seat sees of the serials of the subchannel that a word names; None where it knows none of that name.
+fn found_by<J: Naming>(seat: &mut Seat<J>, subchannel: u32) -> Option<Serials>
+    ensures number { seat.new.value.number ≡ seat.old.value.number }
+    ensures log { seat.new.value.log ≡ seat.old.value.log }
+    ensures room { seat.new.room ≡ seat.old.room }
+{
+    match seat.glance(subchannel) {
+        Ok(Glance { made, cleared }) => Some(Serials { made, cleared }),
+        Err(_) => None,
+    }
+}
+
+/// Whether a seat found what the subsystem has.
+fn same_serials(found: Option<Serials>, own: Option<Serials>) -> bool
+    ensures { result ≡ spec.same_serials found own }
+{
+    match (found, own) {
+        (None, None) => true,
+        (Some(found), Some(own)) => found.made == own.made && found.cleared == own.cleared,
+        (None, Some(_)) | (Some(_), None) => false,
+    }
+}
+
+/// What a look comes to, as an action.
+fn glanced(own: Option<Serials>) -> Result<ActionResult, Fault>
+    ensures { result ≡ spec.glanced own }
+{
+    match own {
+        Some(serials) => Ok(ActionResult::Serials(serials)),
+        None => Err(Fault::NoSuchSubchannel),
     }
 }
 

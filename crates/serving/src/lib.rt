@@ -1,21 +1,26 @@
 //! Serving a script: its actions are performed at a channel subsystem with devices, and what each prints is written.
+//! CPUs may race at its end; then the books are audited.
 #![tactic(auto)]
 
 ghost use Rattle.std.specs.Prelude.{◌≡◌, true, false, IfOk, OnOk, IfErr, IfSome};
 ghost use Rattle.script.specs.Pieces.{lines_of};
 ghost use Rattle.script.specs.Scripts.{IsScript};
 ghost use Rattle.serving.specs.declared.Ending.TheVariants as ending;
-ghost use Rattle.serving.specs.Serving.{Serves, Checks, HasNoScript, IsForMemory, IsRun, IsApproved, IsBadLineOutput};
-ghost use Rattle.serving.specs.Serving.{TellsNoMemoryBy, status_of};
+ghost use Rattle.serving.specs.Serving.{Serves, ServesRace, Checks, HasNoScript, IsForMemory, IsApproved};
+ghost use Rattle.serving.specs.Serving.{IsBadLineOutput, TellsNoMemoryBy, status_of};
 
 pub mod installation;
 pub mod performing;
+pub mod racing;
+mod running;
+pub mod tally;
 
-use crate::installation::Installation;
-use crate::performing::{PerformedLines, perform};
+use core_lock::supplies::CoreSupply;
 use script::{Script, ScriptBad};
 use script_text::put_bad_line;
 use std::alloc::Global;
+use std::sync::Wait;
+use std::thread::Threads;
 use streams::{NoText, Sink, Source};
 use supply::{Given, Supply};
 
@@ -32,6 +37,9 @@ pub enum Ending {
     Done { refused: bool },
     /// The sink failed, within the print of the last action that was performed.
     Stopped { refused: bool },
+    /// The audit found other books than the history has; `whole` says that all was written, its last line being the one that tells
+    /// so, or else the sink failed.
+    AuditFailed { whole: bool },
 }
 
 impl Ending {
@@ -42,6 +50,7 @@ impl Ending {
         match self {
             Ending::NotRead | Ending::Bad { .. } => 2,
             Ending::Done { refused: false } => 0,
+            Ending::AuditFailed { .. } => 3,
             Ending::NoMemory { .. } | Ending::Done { refused: true } | Ending::Stopped { .. } => 1,
         }
     }
@@ -55,9 +64,11 @@ pub fn serve_script<R: Source, S: Sink>(alloc: Global, reader: &mut R, sink: &mu
     serve_script_with(alloc, &mut Given { refused: false }, reader, sink)
 }
 
-/// Reads a script and performs its actions, each of which prints one line. Where there is no memory before the first
-/// event, and only where the supply refused a growth, `refused 1` is written alone, without a line's number.
-pub fn serve_script_with<M: Supply, R: Source, S: Sink>(
+/// Reads a script and performs its actions from one seat, each of which prints one line. Where there is no memory before the first
+/// event, and only where the supply refused a growth, `refused 1` is written alone, without a line's number. At the end the seat's
+/// log is compared with the history: where it is another, or a `glance` line saw other serials than it printed, `audit failed` is
+/// written.
+pub fn serve_script_with<M: CoreSupply, R: Source, S: Sink>(
     alloc: Global,
     supply: &mut M,
     reader: &mut R,
@@ -67,8 +78,41 @@ pub fn serve_script_with<M: Supply, R: Source, S: Sink>(
     ensures read { result ≡ ending.NotRead → R.broken reader.new ≡ true }
     ensures memory { IsForMemory result → M.refused supply.new ≡ true }
 {
-    match read_script(alloc, supply, reader, sink) {
-        Ok(script) => run_script(alloc, supply, script, sink),
+    match read_script(alloc, supply, false, reader, sink) {
+        Ok(script) => running::run_script(alloc, supply, script, sink),
+        Err(ending) => ending,
+    }
+}
+
+/// Reads a script whose last line may be a race and performs it, as `race_script_with` does, in what room the allocator has.
+pub fn race_script<T: Threads + Wait + Sync, R: Source, S: Sink>(
+    rt: &T,
+    alloc: Global,
+    reader: &mut R,
+    sink: &mut S,
+) -> Ending
+    ensures ends { ServesRace (R.left reader.old) (S.seen sink.old) (S.seen sink.new) result }
+    ensures read { result ≡ ending.NotRead → R.broken reader.new ≡ true }
+{
+    race_script_with(rt, alloc, &mut Given { refused: false }, reader, sink)
+}
+
+/// Reads a script and performs its actions as `serve_script_with` does. Where the last line is a race, the subsystem is then put
+/// under its lock, as many CPUs execute TEST SUBCHANNEL as often as that line says, each on a thread and from a seat of its own,
+/// and the audit is of all seats; its line is the last.
+pub fn race_script_with<T: Threads + Wait + Sync, M: CoreSupply, R: Source, S: Sink>(
+    rt: &T,
+    alloc: Global,
+    supply: &mut M,
+    reader: &mut R,
+    sink: &mut S,
+) -> Ending
+    ensures ends { ServesRace (R.left reader.old) (S.seen sink.old) (S.seen sink.new) result }
+    ensures read { result ≡ ending.NotRead → R.broken reader.new ≡ true }
+    ensures memory { IsForMemory result → M.refused supply.new ≡ true }
+{
+    match read_script(alloc, supply, true, reader, sink) {
+        Ok(script) => running::race_script(rt, alloc, supply, script, sink),
         Err(ending) => ending,
     }
 }
@@ -93,22 +137,23 @@ pub fn check_script_with<M: Supply, R: Source, S: Sink>(
     ensures read { result ≡ ending.NotRead → R.broken reader.new ≡ true }
     ensures memory { IsForMemory result → M.refused supply.new ≡ true }
 {
-    match read_script(alloc, supply, reader, sink) {
+    match read_script(alloc, supply, false, reader, sink) {
         Ok(_) => approve(sink),
         Err(ending) => ending,
     }
 }
 
-/// Reads a script. Where there is none, what tells so is written, and the program ends.
+/// Reads a script; `races`: its last line may be a race. Where there is none, what tells so is written, and the program ends.
 fn read_script<M: Supply, R: Source, S: Sink>(
     alloc: Global,
     supply: &mut M,
+    races: bool,
     reader: &mut R,
     sink: &mut S,
 ) -> Result<Script, Ending>
-    ensures script { IfOk result (λ s. IfSome (R.left reader.old) (λ text. IsScript false (lines_of text) s)) }
+    ensures script { IfOk result (λ s. IfSome (R.left reader.old) (λ text. IsScript races (lines_of text) s)) }
     ensures unwritten { OnOk result (S.seen sink.new ≡ S.seen sink.old) }
-    ensures none { IfErr result (λ e. HasNoScript false (R.left reader.old) (S.seen sink.old) (S.seen sink.new) e) }
+    ensures none { IfErr result (λ e. HasNoScript races (R.left reader.old) (S.seen sink.old) (S.seen sink.new) e) }
     ensures read { IfErr result (λ e. e ≡ ending.NotRead → R.broken reader.new ≡ true) }
     ensures memory { IfErr result (λ e. IsForMemory e → M.refused supply.new ≡ true) }
 {
@@ -117,32 +162,10 @@ fn read_script<M: Supply, R: Source, S: Sink>(
         Err(NoText::ReadFailed) => return Err(Ending::NotRead),
         Err(NoText::OutOfMemory) => return Err(no_memory(sink)),
     };
-    match Script::read_with(alloc, supply, false, text.as_slice()) {
+    match Script::read_with(alloc, supply, races, text.as_slice()) {
         Ok(script) => Ok(script),
         Err(ScriptBad::NoMemory) => Err(no_memory(sink)),
         Err(ScriptBad::Bad { line, rule }) => Err(tell_bad(line, rule, sink)),
-    }
-}
-
-/// Performs a good script.
-fn run_script<M: Supply, S: Sink>(
-    alloc: Global,
-    supply: &mut M,
-    script: Script,
-    sink: &mut S,
-) -> Ending
-    ensures ends { IsRun script (S.seen sink.old) (S.seen sink.new) result }
-    ensures memory { IsForMemory result → M.refused supply.new ≡ true }
-{
-    let (config, lines) = script.into_parts();
-    let Ok(mut installation) = Installation::new(alloc, supply, config) else {
-        return no_memory(sink);
-    };
-    let PerformedLines { whole, refused } = perform(&mut installation, lines.as_slice(), sink);
-    if whole {
-        Ending::Done { refused }
-    } else {
-        Ending::Stopped { refused }
     }
 }
 
@@ -166,7 +189,7 @@ fn tell_bad<S: Sink>(line: u64, rule: u8, sink: &mut S) -> Ending
 }
 
 /// Writes that there is no memory.
-fn no_memory<S: Sink>(sink: &mut S) -> Ending
+pub(crate) fn no_memory<S: Sink>(sink: &mut S) -> Ending
     ensures { TellsNoMemoryBy (S.seen sink.old) (S.seen sink.new) result }
 {
     let whole = sink.put(b"refused 1\n");

@@ -3,6 +3,7 @@
 ghost use Rattle.serving.specs.Performing.{IsDone, PerformsLines};
 
 use crate::installation::Installation;
+use core_lock::naming::Naming;
 use script::Line;
 use script_text::held::Held;
 use script_text::put_event_line_at_once;
@@ -28,8 +29,8 @@ pub struct PerformedLines {
 }
 
 /// Performs one line and writes what it prints, through a place of its own.
-fn perform_one<S: Sink>(
-    installation: &mut Installation,
+fn perform_one<J: Naming, S: Sink>(
+    installation: &mut Installation<J>,
     line: &Line,
     held: &mut Held,
     sink: &mut S,
@@ -43,8 +44,8 @@ fn perform_one<S: Sink>(
 }
 
 /// Performs the lines in order, up to the first whose print is not written whole.
-pub fn perform<S: Sink>(
-    installation: &mut Installation,
+pub fn perform<J: Naming, S: Sink>(
+    installation: &mut Installation<J>,
     lines: &[Line],
     sink: &mut S,
 ) -> PerformedLines

@@ -1,5 +1,4 @@
 //! A channel subsystem of many subchannels: one event at a time, with the history of all that was accepted.
 #![tactic(auto)]
 
-pub mod history;
 pub mod subsystem;

@@ -17,12 +17,13 @@ ghost use Rattle.subsystem.specs.Keeping.{BringsOrdered, IsOrdered, Rises, Stays
 ghost use Rattle.machine_laws.specs.Claims.{IsClearedOnce};
 ghost use Rattle.machine_laws.specs.Beginnings.{IsBegunOnce};
 
-use crate::history::History;
 use chan_events::event::Event;
-use chan_events::reply::{Entry, Reply};
+use chan_events::reply::Reply;
 use chan_model::fault::Fault;
 use channel_config::config::Config;
 use event_laws::codes;
+use event_log::history::History;
+use event_log::logs::Log;
 use finding::tables::Places;
 use machine_laws::{agreements, beginnings, numbers, serials, setups, steps};
 use machine_model::state::UnitTurn;
@@ -41,11 +42,10 @@ pub struct Subsystem<P: Drop> {
     choice: P,
     places: Places,
     machine: Machine,
-    history: Vec<Entry>,
+    history: Log,
 }
 
 impl<P: Drop> Model for Subsystem<P> {
-    ghost use Rattle.std.specs.Prelude.{◌-◌, vec_len, vec_capacity};
     ghost use Rattle.machine_model.specs.State.{Past};
     ghost use Rattle.machine_model.specs.Steps.{HasRun};
     ghost use Rattle.finding.specs.Tables.{Fits};
@@ -54,11 +54,11 @@ impl<P: Drop> Model for Subsystem<P> {
 
     ghost view = { λ s. record {
       state = s.machine;
-      history = s.history.items;
-      room = vec_capacity s.history - vec_len s.history;
+      history = s.history.entries;
+      room = s.history.room;
     } };
 
-    ghost invariant = { λ s. HasRun s.history.items s.machine × Fits s.places s.machine.subs };
+    ghost invariant = { λ s. HasRun s.history.entries s.machine × Fits s.places s.machine.subs };
 }
 
 /// There was no memory for a subsystem: what it was to be made of.
@@ -99,7 +99,7 @@ impl<P: PathChoice + Drop> Subsystem<P> {
                 choice,
                 places,
                 machine,
-                history: Vec::new(alloc),
+                history: Log::new(alloc),
             }),
             Err(_) => Err(NotMade { config, choice }),
         }
@@ -129,20 +129,14 @@ impl<P: PathChoice + Drop> Subsystem<P> {
         if self.history.len() >= (1 << 62) - 1 {
             return Err(Fault::NoMemory);
         }
-        if self.history.reserve(1).is_err() {
+        if self.history.make_room().is_err() {
             return Err(Fault::NoMemory);
         }
         let answer = self.machine.perform(&self.places, &self.choice, event);
         let Ok(reply) = &answer else {
             return answer;
         };
-        append(
-            &mut self.history,
-            Entry {
-                event: event.copy(),
-                reply: reply.copy(),
-            },
-        );
+        self.history.append(event, reply);
         answer
     }
 
@@ -248,7 +242,7 @@ impl<P: PathChoice + Drop> Subsystem<P> {
         ensures headline { HasHeld self.now.history self.now.state }
     {
         self.recalls();
-        History::of(self.history.as_slice())
+        self.history.history()
     }
 
     /// How many subchannels there are.
@@ -318,14 +312,4 @@ fn add(answers: &mut Vec<Result<Reply, Fault>>, answer: Result<Reply, Fault>)
     ensures capacity { vec_capacity answers.old ≤ vec_capacity answers.new }
 {
     answers.push_reserved(answer);
-}
-
-/// Adds an entry, for which there is room.
-fn append(history: &mut Vec<Entry>, entry: Entry)
-    requires { vec_len history.old < vec_capacity history.old }
-    ensures items { history.new.items ≡ history.old.items ++ entry ∷ [] }
-    ensures len { vec_len history.new ≡ vec_len history.old + 1 }
-    ensures capacity { vec_capacity history.old ≤ vec_capacity history.new }
-{
-    history.push_reserved(entry);
 }

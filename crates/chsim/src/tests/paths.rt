@@ -1,6 +1,8 @@
 //! A channel path that goes down after each event of a write, and the order in which paths are chosen.
 
 use crate::tests::scenes::Scene;
+use std::sync::Wait;
+use std::thread::Threads;
 
 /// The lines of configuration of a subchannel with two paths.
 const TWO_PATHS: [&[u8]; 5] = [
@@ -68,7 +70,11 @@ const AGAIN: [(&[u8], &[u8]); 17] = [
 ];
 
 /// The path goes down after so many events of a write; the status is this, and the write is done again by the other path.
-fn is_lost_after(rt: &HostRuntime, events: u64, status: &[u8]) -> bool {
+fn is_lost_after<R: Threads + Wait + Sync + AllocGlobal>(
+    rt: &R,
+    events: u64,
+    status: &[u8],
+) -> bool {
     let mut scene = Scene::with(rt, &TWO_PATHS);
     scene.says(b"ssch 0 500", b"cc 0");
     scene.writes(events);

@@ -1,6 +1,8 @@
 //! Scripts that are made line by line, each line with what it prints.
 
 use crate::tests::served;
+use std::sync::Wait;
+use std::thread::Threads;
 
 /// The lines of configuration of a subchannel with one path.
 const ONE_PATH: [&[u8]; 4] = [
@@ -66,12 +68,12 @@ fn push_number(printed: &mut Vec<u8>, number: u64) {
 
 impl Scene {
     /// A subchannel with one path, which is enabled, and a program in storage.
-    pub fn with_one_path(rt: &HostRuntime) -> Self {
+    pub fn with_one_path<R: AllocGlobal>(rt: &R) -> Self {
         Scene::with(rt, &ONE_PATH)
     }
 
     /// The same with these lines of configuration.
-    pub fn with(rt: &HostRuntime, config: &[&[u8]]) -> Self {
+    pub fn with<R: AllocGlobal>(rt: &R, config: &[&[u8]]) -> Self {
         let mut scene = Scene {
             text: Vec::new(rt.alloc()),
             printed: Vec::new(rt.alloc()),
@@ -87,7 +89,7 @@ impl Scene {
     }
 
     /// A write, from its start to its cleared status.
-    pub fn of_a_write(rt: &HostRuntime) -> Self {
+    pub fn of_a_write<R: AllocGlobal>(rt: &R) -> Self {
         let mut scene = Scene::with_one_path(rt);
         scene.says(b"ssch 0 500", b"cc 0");
         scene.writes(12);
@@ -131,7 +133,7 @@ impl Scene {
     }
 
     /// The script prints what it should, and nothing is refused.
-    pub fn is_right(&self, rt: &HostRuntime) -> bool {
+    pub fn is_right<R: Threads + Wait + Sync + AllocGlobal>(&self, rt: &R) -> bool {
         let (out, status) = served(rt, "run", self.text());
         out.as_slice() == self.printed() && status == 0
     }

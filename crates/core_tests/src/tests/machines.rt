@@ -1,4 +1,4 @@
-//! A machine of one subchannel with one path, and its events.
+//! Machines of alike subchannels, and their events.
 
 use chan_events::event::{Event, Instruction};
 use chan_model::chunk::Chunk;
@@ -10,23 +10,47 @@ use core_lock::naming::Naming;
 use path_select::Rotating;
 use std::alloc::Global;
 
-/// The subsystem-identification word of the subchannel.
+/// The subsystem-identification word of subchannel 0.
 pub const WORD: u32 = 0x0001_0000;
 
-/// Storage of 10 blocks (hexadecimal), and subchannel 0 with unit 0, a store of blocks, on these channel paths.
-pub fn with_paths(alloc: Global, chpids: &[u32]) -> Config {
+/// Where the ORB lies that `loads` puts.
+pub const ORB: u32 = 0x500;
+
+/// The subsystem-identification word of a subchannel.
+pub fn word_of(subchannel: u32) -> u32 {
+    WORD | (subchannel & 0xFFFF)
+}
+
+/// Storage of 10 blocks (hexadecimal), and so many subchannels, each with the unit of its number, a store of blocks, on these
+/// channel paths.
+pub fn config_of(alloc: Global, subchannels: u32, chpids: &[u32]) -> Config {
     let mut config = Config::new(alloc);
     let _ = config.storage(0x10);
     for chpid in chpids {
         let _ = config.path(*chpid);
     }
-    let _ = config.unit(0, UnitKind::Block);
-    let _ = config.subchannel(WORD, 0x100, 0, chpids);
+    for number in 0..subchannels {
+        let _ = config.unit(number, UnitKind::Block);
+        let _ = config.subchannel(word_of(number), number & 0xFFFF, number, chpids);
+    }
+    config
+}
+
+/// The same, each subchannel on a channel path of its own, from 10 (hexadecimal) on.
+pub fn apart(alloc: Global, subchannels: u32) -> Config {
+    let mut config = Config::new(alloc);
+    let _ = config.storage(0x10);
+    for number in 0..subchannels.min(0x80) {
+        let chpid = 0x10 + number;
+        let _ = config.path(chpid);
+        let _ = config.unit(number, UnitKind::Block);
+        let _ = config.subchannel(word_of(number), number, number, &[chpid]);
+    }
     config
 }
 
 /// Bytes are put into storage.
-pub fn put(address: u32, bytes: &[u8]) -> Event {
+fn put(address: u32, bytes: &[u8]) -> Event {
     let mut chunk = Chunk::new();
     for byte in bytes {
         if chunk.len() < 256 {
@@ -39,19 +63,36 @@ pub fn put(address: u32, bytes: &[u8]) -> Event {
     }
 }
 
+/// A channel program that writes four bytes is put into storage, with its ORB: format 1, all paths.
+pub fn loads() -> [Event; 3] {
+    [
+        put(ORB, &[0, 0, 0, 0, 0, 0x80, 0xFF, 0, 0, 0, 0x10, 0]),
+        put(0x1000, &[1, 0x20, 0, 4, 0, 0, 0x20, 0]),
+        put(0x2000, &[0xC1, 0xC2, 0xC3, 0xC4]),
+    ]
+}
+
 /// The subchannel is enabled.
-pub fn enable(multipath: bool) -> Instruction {
+pub fn enable(subchannel: u32, multipath: bool) -> Instruction {
     Instruction::Enable {
-        subchannel: WORD,
+        subchannel,
         subclass: 0,
         multipath,
     }
 }
 
-/// TEST SUBCHANNEL of the subchannel.
-pub fn tsch() -> Instruction {
+/// START SUBCHANNEL with the program that `loads` puts.
+pub fn ssch(subchannel: u32) -> Instruction {
+    Instruction::Ssch {
+        subchannel,
+        address: ORB,
+    }
+}
+
+/// TEST SUBCHANNEL.
+pub fn tsch(subchannel: u32) -> Instruction {
     Instruction::Tsch {
-        subchannel: WORD,
+        subchannel,
         address: 0x600,
     }
 }

@@ -1,21 +1,14 @@
 //! Seats: how many there are, what they see, and that all of them are given back.
 
-ghost use Rattle.std.specs.Prelude.{◌≡◌, []};
-ghost use Rattle.machine_model.specs.State.{opening_of};
-ghost use Rattle.subsystem.specs.Keeping.{all_serials};
-ghost use Rattle.core_lock.specs.Directory.{directory_of};
-
-use crate::tests::machines::{WORD, accepts, accepts_all, enable, tsch, with_paths};
+use crate::tests::machines::{WORD, accepts, accepts_all, enable, tsch};
+use crate::tests::stories::{Story, goes};
 use chan_events::event::{Event, Instruction};
 use chan_model::fault::Fault;
 use chan_model::names::Cpu;
 use core_lock::locked::{Core, MOST_SEATS, Seat, audit};
 use core_lock::naming::Naming;
-use core_lock::parts::Parts;
 use path_select::Rotating;
 use std::alloc::Global;
-use std::marker::Brand;
-use subsystem::subsystem::Subsystem;
 
 /// Makes a status and clears it from one seat.
 fn makes_and_clears<J: Naming>(core: &mut Core<J, Rotating>, seat: &mut Seat<J>) -> bool {
@@ -23,52 +16,21 @@ fn makes_and_clears<J: Naming>(core: &mut Core<J, Rotating>, seat: &mut Seat<J>)
         return false;
     };
     let csch = Instruction::Csch { subchannel: WORD };
-    accepts(core, seat, cpu, &[enable(false)])
+    accepts(core, seat, cpu, &[enable(WORD, false)])
         && accepts_all(core, seat, &[Event::PathDown { chpid: 0x10 }])
         && accepts(core, seat, cpu, &[csch])
         && accepts_all(core, seat, &[Event::Choose { subchannel: WORD }])
-        && accepts(core, seat, cpu, &[tsch()])
+        && accepts(core, seat, cpu, &[tsch(WORD)])
 }
 
 /// What a seat sees of the subchannel.
-fn seen<J: Naming>(seat: &mut Seat<J>) -> Option<(u64, u64)> {
+pub fn seen<J: Naming>(seat: &mut Seat<J>) -> Option<(u64, u64)> {
     let glance = seat.glance(WORD).ok()?;
     Some((glance.made, glance.cleared))
 }
 
-/// What one test does with a machine that nothing happened to.
-#[derive(Clone, Copy, Debug)]
-enum Story {
-    /// A seat sees what another made and cleared.
-    Sees,
-    /// A seat is left out at the end.
-    LeavesOut,
-    /// There are as many seats as there can be.
-    Fills,
-}
-
-fn tell<J: Naming>(
-    alloc: Global,
-    subsystem: Subsystem<Rotating>,
-    parts: Parts,
-    story: Story,
-) -> bool
-    requires fresh { subsystem.history ≡ [] }
-    requires named { parts.name ≡ J.name }
-    requires directory { parts.name.directory ≡ directory_of subsystem.state }
-    requires serials { parts.serials ≡ all_serials subsystem.state }
-{
-    let Ok(core) = Core::<J, Rotating>::new(alloc, subsystem, parts) else {
-        return false;
-    };
-    match story {
-        Story::Sees => sees(alloc, core),
-        Story::LeavesOut => leaves_out(alloc, core),
-        Story::Fills => fills(alloc, core),
-    }
-}
-
-fn sees<J: Naming>(alloc: Global, core: Core<J, Rotating>) -> bool {
+/// A seat sees what another made and cleared.
+pub fn sees<J: Naming>(alloc: Global, core: Core<J, Rotating>) -> bool {
     let mut core = core;
     let (Ok(mut first), Ok(mut second)) = (core.seat(), core.seat()) else {
         return false;
@@ -90,7 +52,8 @@ fn sees<J: Naming>(alloc: Global, core: Core<J, Rotating>) -> bool {
         && core.close(seats) == Some(5)
 }
 
-fn leaves_out<J: Naming>(alloc: Global, core: Core<J, Rotating>) -> bool {
+/// A seat is left out at the end.
+pub fn leaves_out<J: Naming>(alloc: Global, core: Core<J, Rotating>) -> bool {
     let mut core = core;
     let (Ok(first), Ok(second)) = (core.seat(), core.seat()) else {
         return false;
@@ -103,7 +66,8 @@ fn leaves_out<J: Naming>(alloc: Global, core: Core<J, Rotating>) -> bool {
     core.close(seats).is_none()
 }
 
-fn fills<J: Naming>(alloc: Global, core: Core<J, Rotating>) -> bool {
+/// As many seats are made as there can be, and one more is refused.
+pub fn fills<J: Naming>(alloc: Global, core: Core<J, Rotating>) -> bool {
     let mut core = core;
     let mut seats = Vec::new(alloc);
     for _ in 0..MOST_SEATS {
@@ -117,29 +81,17 @@ fn fills<J: Naming>(alloc: Global, core: Core<J, Rotating>) -> bool {
     matches!(core.seat(), Err(Fault::NotNow)) && core.close(seats) == Some(0)
 }
 
-/// Whether a story goes as it is told.
-fn goes(alloc: Global, story: Story) -> bool {
-    let config = with_paths(alloc, &[0x10]);
-    let Ok(parts) = Parts::new(alloc, &config) else {
-        return false;
-    };
-    let Ok(subsystem) = Subsystem::new(alloc, config, Rotating) else {
-        return false;
-    };
-    tell::<Brand>(alloc, subsystem, parts, story)
-}
-
 #[test]
 fn one_seat_sees_what_another_made_and_cleared(rt: HostRuntime) {
-    assert!(rt; goes(rt.alloc(), Story::Sees));
+    assert!(rt; goes(&rt, rt.alloc(), Story::Sees));
 }
 
 #[test]
 fn a_seat_left_out_is_told(rt: HostRuntime) {
-    assert!(rt; goes(rt.alloc(), Story::LeavesOut));
+    assert!(rt; goes(&rt, rt.alloc(), Story::LeavesOut));
 }
 
 #[test]
 fn no_seat_follows_the_1024th(rt: HostRuntime) {
-    assert!(rt; goes(rt.alloc(), Story::Fills));
+    assert!(rt; goes(&rt, rt.alloc(), Story::Fills));
 }

@@ -1,130 +1,160 @@
-//! Workers of paths and of a unit bring a program to its end, on threads of their own.
+//! Workers of eight channel paths and of a unit that roams bring a program to its end, on threads of their own.
 
-ghost use Rattle.std.specs.Prelude.{◌≡◌, [], None};
-ghost use Rattle.subsystem.specs.Keeping.{all_serials};
-ghost use Rattle.core_lock.specs.Directory.{directory_of};
-
-use crate::tests::machines::{WORD, accepts, accepts_all, enable, put, tsch, with_paths};
-use chan_events::event::Instruction;
+use crate::tests::hands::{Hand, Task, add_hand, closed, seats_of, stores};
+use crate::tests::machines::{WORD, accepts, accepts_all, enable, loads, ssch, tsch};
+use crate::tests::stories::{Story, goes};
+use chan_events::event::{Event, UnitAct};
 use chan_events::reply::Reply;
 use chan_model::answer::Answer;
 use chan_model::names::Cpu;
-use channel_config::parts::UnitKind;
 use core_lock::gate::Open;
-use core_lock::locked::{Core, Seat, audit};
+use core_lock::locked::{Core, Seat};
 use core_lock::machine::{CpuInstruction, Machine};
 use core_lock::naming::Naming;
-use core_lock::parts::Parts;
-use device_models::any_device::AnyDevice;
+use event_log::history::History;
 use path_select::Rotating;
+use scsw_irb::scsw::Scsw;
 use std::alloc::Global;
-use std::marker::Brand;
 use std::sync::Wait;
-use std::thread::{Threads, join};
-use subsystem::subsystem::Subsystem;
+use std::thread;
+use std::thread::Threads;
 
 /// How many turns a worker takes in a round, and how many rounds there are at most.
 const TURNS: u64 = 20;
 
 const ROUNDS: u64 = 1_000;
 
-/// A write command of four bytes is started.
+/// The status that is due: key 0, format 1, start function; primary and secondary status pending; the address after the
+/// command; channel end and device end; no byte left.
+const STATUS: [u32; 3] = [0x0080_4007, 0x0000_1008, 0x0C00_0000];
+
+/// A write command of four bytes is started, in multipath mode.
 fn starts<J: Naming>(core: &mut Core<J, Rotating>, seat: &mut Seat<J>, cpu: Cpu) -> bool {
-    let events = [
-        put(0x500, &[0, 0, 0, 0, 0, 0x80, 0xFF, 0, 0, 0, 0x10, 0]),
-        put(0x1000, &[1, 0x20, 0, 4, 0, 0, 0x20, 0]),
-        put(0x2000, &[0xC1, 0xC2, 0xC3, 0xC4]),
-    ];
-    let ssch = Instruction::Ssch {
-        subchannel: WORD,
-        address: 0x500,
-    };
-    accepts_all(core, seat, &events) && accepts(core, seat, cpu, &[enable(true), ssch])
+    accepts_all(core, seat, &loads()) && accepts(core, seat, cpu, &[enable(WORD, true), ssch(WORD)])
 }
 
+/// The hands of the eight paths and of the unit.
+fn all_hands<J: Naming>(alloc: Global, core: &mut Core<J, Rotating>) -> Option<Vec<Hand<J>>> {
+    let mut hands = Vec::new(alloc);
+    for path in 0..8u8 {
+        if !add_hand(core, &mut hands, Task::Path(0x10 + path)) {
+            return None;
+        }
+    }
+    let task = Task::Units {
+        first: 0,
+        devices: stores(alloc, 1).ok()?,
+    };
+    if !add_hand(core, &mut hands, task) {
+        return None;
+    }
+    Some(hands)
+}
+
+/// Whether a status is the one that is due.
+fn is_due(scsw: &Scsw) -> bool {
+    let words = scsw.words();
+    words == STATUS
+}
+
+/// Whether the status that TEST SUBCHANNEL clears is the one that is due; None where it answers another code.
+fn cleared<J: Naming, R: Wait>(
+    rt: &R,
+    machine: &Machine<J, Rotating>,
+    program: &mut Seat<J>,
+    cpu: Cpu,
+) -> Option<bool> {
+    let tested = machine.instruct(rt, program, cpu, CpuInstruction::OnSubchannel(tsch(WORD)));
+    match tested {
+        Ok(
+            Reply::Status {
+                answer: Answer::Zero(_),
+                scsw,
+            },
+        ) => Some(is_due(&scsw)),
+        _ => None,
+    }
+}
+
+/// A round of all hands, each on a thread of its own.
+fn round<J: Naming + Send + Sync, R: Threads + Wait + Sync>(
+    rt: &R,
+    machine: &Machine<J, Rotating>,
+    hands: Vec<Hand<J>>,
+) -> Option<Vec<Hand<J>>> {
+    let worked = thread::map_vec(
+        rt,
+        hands,
+        &|hand: Hand<J>| {
+            let mut hand = hand;
+            let _ = hand.turns(rt, machine, &Open, true, TURNS);
+            hand
+        },
+    );
+    worked.ok()
+}
+
+/// Rounds until the program has ended: whether its status is the one that is due, and the hands.
 fn works<J: Naming + Send + Sync, R: Threads + Wait + Sync>(
     rt: &R,
+    machine: &Machine<J, Rotating>,
+    program: &mut Seat<J>,
+    cpu: Cpu,
+    hands: Vec<Hand<J>>,
+) -> Option<(bool, Vec<Hand<J>>)> {
+    let mut hands = hands;
+    for _round in 0..ROUNDS {
+        hands = round(rt, machine, hands)?;
+        if let Some(due) = cleared(rt, machine, program, cpu) {
+            return Some((due, hands));
+        }
+    }
+    None
+}
+
+/// Whether the unit left its path and asked for one.
+fn has_roamed(history: &History<'_>) -> bool {
+    let mut left = false;
+    for number in 0..history.len() {
+        let Some(entry) = history.get(number) else {
+            return false;
+        };
+        match &entry.event {
+            Event::Act {
+                act: UnitAct::Leave,
+                ..
+            } => left = true,
+            Event::Act {
+                act: UnitAct::Ask { .. },
+                ..
+            } => return left,
+            _ => {}
+        }
+    }
+    false
+}
+
+/// A program is started, and brought to its end.
+pub fn roams<J: Naming + Send + Sync, R: Threads + Wait + Sync>(
+    rt: &R,
     alloc: Global,
-    subsystem: Subsystem<Rotating>,
-    parts: Parts,
-) -> bool
-    requires fresh { subsystem.history ≡ [] }
-    requires named { parts.name ≡ J.name }
-    requires directory { parts.name.directory ≡ directory_of subsystem.state }
-    requires serials { parts.serials ≡ all_serials subsystem.state }
-{
-    let (Ok(mut core), Some(cpu)) = (
-        Core::<J, Rotating>::new(alloc, subsystem, parts),
-        Cpu::new(0),
-    ) else {
+    core: Core<J, Rotating>,
+) -> bool {
+    let mut core = core;
+    let (Ok(mut program), Some(cpu)) = (core.seat(), Cpu::new(0)) else {
         return false;
     };
-    let (Ok(mut program), Ok(mut path), Ok(mut device)) = (core.seat(), core.seat(), core.seat())
-    else {
+    let Some(hands) = all_hands(alloc, &mut core) else {
         return false;
     };
     if !starts(&mut core, &mut program, cpu) {
         return false;
     }
     let machine = Machine::new(core);
-    for _round in 0..ROUNDS {
-        let (back, after) = round(rt, &machine, path, device);
-        path = back;
-        device = after;
-        if has_ended(rt, &machine, &mut program, cpu) {
-            return ends(alloc, machine.into_core(), program, path, device);
-        }
-    }
-    false
-}
-
-/// Some turns of both workers, on threads of their own.
-fn round<J: Naming + Send + Sync, R: Threads + Wait + Sync>(
-    rt: &R,
-    machine: &Machine<J, Rotating>,
-    path: Seat<J>,
-    device: Seat<J>,
-) -> (Seat<J>, Seat<J>)
-    requires { (path.owed ≡ None) × (device.owed ≡ None) }
-    ensures { (result.0.owed ≡ None) × (result.1.owed ≡ None) }
-{
-    let mut path = path;
-    let mut device = device;
-    join(
-        rt,
-        move || -> Seat<J>
-            requires { path.owed ≡ None }
-            ensures { result.owed ≡ None }
-        {
-            let _ = machine.path_worker(rt, &mut path, 0x10, TURNS);
-            path
-        },
-        move || -> Seat<J>
-            requires { device.owed ≡ None }
-            ensures { result.owed ≡ None }
-        {
-            let mut model = AnyDevice::of(UnitKind::Block);
-            let _ = machine.device_worker(rt, &mut device, 0, &mut model, &Open, true, TURNS);
-            device
-        },
-    )
-}
-
-/// Whether the program has ended: TEST SUBCHANNEL answers 0.
-fn has_ended<J: Naming, R: Wait>(
-    rt: &R,
-    machine: &Machine<J, Rotating>,
-    program: &mut Seat<J>,
-    cpu: Cpu,
-) -> bool {
-    let tested = machine.instruct(rt, program, cpu, CpuInstruction::OnSubchannel(tsch()));
-    matches!(
-        tested,
-        Ok(Reply::Status {
-            answer: Answer::Zero(_),
-            ..
-        })
-    )
+    let Some((due, hands)) = works(rt, &machine, &mut program, cpu, hands) else {
+        return false;
+    };
+    due && ends(alloc, machine.into_core(), program, hands)
 }
 
 /// Whether all entries are in the logs, as the history has them.
@@ -132,25 +162,16 @@ fn ends<J: Naming>(
     alloc: Global,
     core: Core<J, Rotating>,
     program: Seat<J>,
-    path: Seat<J>,
-    device: Seat<J>,
+    hands: Vec<Hand<J>>,
 ) -> bool {
-    let mut seats = Vec::new(alloc);
-    if seats.push(program).is_err() || seats.push(path).is_err() || seats.push(device).is_err() {
+    let roamed = has_roamed(&core.subsystem().history());
+    let Ok(mut seats) = seats_of(alloc, hands) else {
         return false;
-    }
-    audit(&core, seats.as_slice()) && core.close(seats).is_some()
+    };
+    roamed && seats.push(program).is_ok() && closed(core, seats).is_some()
 }
 
 #[test]
 fn workers_bring_a_program_to_its_end(rt: HostRuntime) {
-    let alloc = rt.alloc();
-    let config = with_paths(alloc, &[0x10]);
-    let Ok(parts) = Parts::new(alloc, &config) else {
-        return assert!(rt; false, "there is memory");
-    };
-    let Ok(subsystem) = Subsystem::new(alloc, config, Rotating) else {
-        return assert!(rt; false, "there is memory");
-    };
-    assert!(rt; works::<Brand, HostRuntime>(&rt, alloc, subsystem, parts));
+    assert!(rt; goes(&rt, rt.alloc(), Story::Roams));
 }

@@ -8,6 +8,9 @@ use supply::{Given, Refusing};
 /// The groups of five units.
 const GROUPS: [u16; 5] = [0, 1, 0, 1, 4];
 
+/// How many requests the room of five units takes: one for each, and one for what is kept of groups.
+const REQUESTS: u64 = 6;
+
 /// Units 0 and 2 share, 1 and 3 share, and unit 4 is alone.
 fn sharing(alloc: Global) -> Option<Sharing> {
     Sharing::new(alloc, &GROUPS).ok()
@@ -44,14 +47,14 @@ fn one_unit_of_a_group_is_served(rt: HostRuntime) {
 
 #[test]
 fn each_request_for_room_is_refused_in_turn(rt: HostRuntime) {
-    for left in 0..=5 {
+    for left in 0..=REQUESTS {
         let mut supply = Refusing {
             left,
             refused: false,
         };
         let made = Sharing::new_with(rt.alloc(), &mut supply, &GROUPS);
-        assert!(rt; made.is_err() == (left < 5));
-        assert!(rt; supply.refused == (left < 5));
+        assert!(rt; made.is_err() == (left < REQUESTS));
+        assert!(rt; supply.refused == (left < REQUESTS));
         let mut supply = Given { refused: false };
         match Sharing::new_with(rt.alloc(), &mut supply, &GROUPS) {
             Ok(mut sharing) => assert!(rt; served(&mut sharing) == [true; 6]),

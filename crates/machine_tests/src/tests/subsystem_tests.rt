@@ -418,9 +418,9 @@ fn a_unit_takes_the_lowest_path_of_its_first_side(rt: HostRuntime) {
 }
 
 /// The requests for room as a subsystem of one unit and one subchannel is made: one for each of both, three for the tables of
-/// places, two for storage, one for the identifiers of the channel paths, two for what control units keep, and one for the
-/// requests for interruptions.
-const REQUESTS: u64 = 11;
+/// places, two for storage, one for the identifiers of the channel paths, three for what control units keep, and one for
+/// the requests for interruptions.
+const REQUESTS: u64 = 12;
 
 #[test]
 fn each_request_of_an_opening_is_refused_in_turn(rt: HostRuntime) {

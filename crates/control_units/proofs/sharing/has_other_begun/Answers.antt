@@ -1,20 +1,16 @@
-use Rattle.std.proofs.Common.{◌∙◌, ◌+◌, ap, sym, ℕ, take, drop}
-use Rattle.std.proofs.Math.Seq.{take-length}
-use Rattle.std.proofs.lemmas.List.{length-drop}
-use Rattle.std.specs.List.{list_any}
-use Rattle.control_units.specs.Units.{is_begun_in}
-use Rattle.control_units.proofs.Serving.{or-left, or-right, none-other}
+use Rattle.std.proofs.Common.{refl, ◌∙◌, ◌==◌, ap, not, ℕ}
+use Rattle.control_units.proofs.Serving.{none-other}
+use Rattle.control_units.proofs.Keeping.{as-count, entry-other, seen-at}
 use Rattle.control_units.proofs.sharing.has_other_begun.Goals as goal
 
-pub returns-then-has_begun-clause-law : goal.returns-then-has_begun-clause-law
-returns-then-has_begun-clause-law c = λ h. c.has_begun.ensures ∙ or-left _ _ (none-other c.args.group c.args.members.now c.args.place h)
+pub returns-in-Some-clause-begun : goal.returns-in-Some-clause-begun
+returns-in-Some-clause-begun c =
+    let at = seen-at c.args.groups.now c.args.groups.now c.from.result c.args.member.group c.in-Some.group.now refl c.from.ensures c.in-Some.ensures.lookup.3.0 c.in-Some.ensures.lookup.1 in
+    ap (λ (n : ℕ). not (c.in-Some.group.now.begun == n)) (c.from-in-Some.ensures ∙ as-count c.args.member.begun)
+    ∙ entry-other c.args.members.now c.args.groups.now c.args.place c.args.member c.in-Some.group.now c.requires.here c.requires.groups at
 
-pub returns-else-has_begun-clause-law : goal.returns-else-has_begun-clause-law
-returns-else-has_begun-clause-law c =
-    let is_in = is_begun_in c.args.group in
-    let ms = c.args.members.now in
-    let rest = drop (c.args.place + 1) ms in
-    λ h. c.has_begun-else-has_begun.ensures
-    ∙ (ap (λ (n : ℕ). list_any is_in (take n rest)) (sym (length-drop (c.args.place + 1) ms))
-    ∙ (ap (list_any is_in) (take-length rest)
-    ∙ or-right (list_any is_in (take c.args.place ms)) (list_any is_in rest) (none-other c.args.group ms c.args.place h)))
+pub returns-in-Some-clause-law : goal.returns-in-Some-clause-law
+returns-in-Some-clause-law c = λ h. returns-in-Some-clause-begun c ∙ none-other c.args.member.group c.args.members.now c.args.place h
+
+pub returns-in-None-clause-law : goal.returns-in-None-clause-law
+returns-in-None-clause-law c = λ h. c.finds_other_begun.ensures.begun ∙ none-other c.args.member.group c.args.members.now c.args.place h

@@ -9,5 +9,8 @@ loop-place-preserved g c =
     let all = all_serials c.args.subsystem.now.state in
     let k = c.loop-place.place in
     let x = c.serials_at.result in
-    let before : c.loop-place.pairs.items ≡ take k all = c.loop-place.invariant in
-    c.in_ok-push.ensures.items ∙ ap (λ l. l ++ x ∷ []) before ∙ sym (take_more all k x (omega arith) ∙ ap (λ y. take k all ++ y ∷ []) (get_or_from_slice_get all k x x c.serials_at.ensures.value))
+    let before : c.loop-place.pairs.items ≡ take k all = c.loop-place.invariant.pairs in
+    record {
+      pairs = c.in_ok-push.ensures.pushed ∙ ap (λ l. l ++ x ∷ []) before ∙ sym (take_more all k x (omega arith) ∙ ap (λ y. take k all ++ y ∷ []) (get_or_from_slice_get all k x x c.serials_at.ensures.value));
+      given = c.in_ok-push.ensures.given ∙ c.loop-place.invariant.given;
+    }

@@ -5,7 +5,7 @@ use Rattle.machine_model.specs.Steps.{Step}
 use Rattle.subsystem.specs.Keeping.{IsOrdered, all_serials}
 use Rattle.core_lock.specs.declared.touching.Touched.{Touched}
 use Rattle.core_lock.specs.Named.{shown}
-use Rattle.core_lock.specs.Seats.{Locked, entry}
+use Rattle.core_lock.specs.Seats.{LockedCore, entry}
 use Rattle.core_lock.specs.Touching.{Changes, touched}
 use Rattle.core_lock.proofs.Directories.{stays_named}
 use Rattle.core_lock.proofs.Lengthening.{longer}
@@ -58,4 +58,4 @@ invariant_of-seat-2 g c =
     }
 
 pub returns-clause-step : goal.returns-clause-step
-returns-clause-step g c = subst (λ (l : Locked). Step l.state c.args.event c.in_ok-reply.reply c.step.new.self.state) c.self.view_is c.in_ok-reply.ensures.step
+returns-clause-step g c = subst (λ (l : LockedCore). Step l.value.state c.args.event c.in_ok-reply.reply c.step.new.self.state) c.self.view_is c.in_ok-reply.ensures.step

@@ -1,6 +1,6 @@
 use Rattle.std.proofs.Common.{sym, ap, ◌∙◌}
 use Rattle.core_lock.specs.Directory.{Directory, directory_of}
-use Rattle.core_lock.specs.Seats.{Locked}
+use Rattle.core_lock.specs.Seats.{LockedCore}
 use Rattle.core_lock.specs.Turns.{path_turn_among}
 use Rattle.core_lock.proofs.Directories.{is_named}
 use Rattle.core_lock.proofs.locked.Core.path_event.Goals as goal
@@ -10,4 +10,4 @@ returns g c =
     let i = c.self.invariant in
     let state = c.self.inside.subsystem.state in
     let directory = c.deref.ensures ∙ i.directory ∙ sym (is_named state g.J.Naming.name.directory i.named) in
-    c.path_turn_of.ensures ∙ ap (λ (d : Directory). path_turn_among state c.args.chpid d.names) directory ∙ ap (λ (l : Locked). path_turn_among l.state c.args.chpid (directory_of l.state).names) c.self.view_is
+    c.path_turn_of.ensures ∙ ap (λ (d : Directory). path_turn_among state c.args.chpid d.names) directory ∙ ap (λ (l : LockedCore). path_turn_among l.value.state c.args.chpid (directory_of l.value.state).names) c.self.view_is

@@ -1,11 +1,11 @@
 use Rattle.std.proofs.Common.{subst}
 use Rattle.machine_laws.specs.Agreeing.{AllAgree}
 use Rattle.subsystem.specs.Headline.{HasHeld}
-use Rattle.core_lock.specs.Seats.{Locked}
+use Rattle.core_lock.specs.Seats.{LockedCore}
 use Rattle.core_lock.proofs.locked.Core.subsystem.Goals as goal
 
 pub returns-clause-agree : goal.returns-clause-agree
-returns-clause-agree g c = subst (λ (l : Locked). AllAgree l.state) c.self.view_is c.history.ensures.agree
+returns-clause-agree g c = subst (λ (l : LockedCore). AllAgree l.value.state) c.self.view_is c.history.ensures.agree
 
 pub returns-clause-headline : goal.returns-clause-headline
-returns-clause-headline g c = subst (λ (l : Locked). HasHeld l.history l.state) c.self.view_is c.history.ensures.headline
+returns-clause-headline g c = subst (λ (l : LockedCore). HasHeld l.value.history l.value.state) c.self.view_is c.history.ensures.headline

@@ -6,7 +6,7 @@ use Rattle.std.proofs.Math.Seq.{map-set_same}
 use Rattle.subsystem.specs.Keeping.{IsOrdered}
 use Rattle.core_lock.specs.Directory.{Directory, place_named}
 use Rattle.core_lock.specs.Named.{cell_of, serials}
-use Rattle.core_lock.specs.Seats.{Seated, greater}
+use Rattle.core_lock.specs.Seats.{HeldSeat, greater}
 use Rattle.core_lock.proofs.Raising.{set_ordered, greater_ordered}
 use Rattle.core_lock.proofs.locked.Seat.glance.Goals as goal
 
@@ -49,11 +49,11 @@ returns-clause-found g c =
       pair = pair;
       before = was;
       words = w;
-      named = ap (λ (s : Seated). place_named s.directory c.args.subchannel) (sym is) ∙ ap (λ (d : Directory). place_named d c.args.subchannel) (sym c.deref.ensures) ∙ sym c.in-Some.ensures.place;
-      saw = ap (λ (s : Seated). slice_get s.pairs k) (sym is) ∙ slice_get_read pairs (length pairs) k pair refl lt c.index-pair.ensures;
-      had = ap (λ (s : Seated). slice_get s.loaded k) (sym is) ∙ slice_get_read readers (length readers) k was refl (omega (arith, lt, i.beside)) c.index_mut-reader.ensures.value;
+      named = ap (λ (s : HeldSeat). place_named s.value.directory c.args.subchannel) (sym is) ∙ ap (λ (d : Directory). place_named d c.args.subchannel) (sym c.deref.ensures) ∙ sym c.in-Some.ensures.place;
+      saw = ap (λ (s : HeldSeat). slice_get s.value.pairs k) (sym is) ∙ slice_get_read pairs (length pairs) k pair refl lt c.index-pair.ensures;
+      had = ap (λ (s : HeldSeat). slice_get s.value.loaded k) (sym is) ∙ slice_get_read readers (length readers) k was refl (omega (arith, lt, i.beside)) c.index_mut-reader.ensures.value;
       cell = c.load-loaded.ensures.cell;
       loads = c.load-loaded.ensures.loads;
       found_is = c.greater-found.ensures ∙ (λ j. greater pair (serials (v.0 j) (v.1 j)));
-      leaves = ap (λ (s : Seated). record s { pairs = set s.pairs k c.greater-found.result; loaded = set s.loaded k w }) is;
+      leaves = ap (λ (s : HeldSeat). record s.value { pairs = set s.value.pairs k c.greater-found.result; loaded = set s.value.loaded k w }) is;
     }

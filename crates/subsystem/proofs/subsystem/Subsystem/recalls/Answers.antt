@@ -11,16 +11,16 @@ use Rattle.subsystem.proofs.subsystem.Subsystem.recalls.Goals as goal
 pub returns-clause-cleared_once : goal.returns-clause-cleared_once
 returns-clause-cleared_once g c =
     subst (λ (x : Past). IsClearedOnce x.state.sets x.history) c.self.view_is
-    (past-cleared c.serials.ensures.rises c.self.inside.history.items c.self.inside.machine c.self.invariant.0)
+    (past-cleared c.serials.ensures.rises c.self.inside.history.entries c.self.inside.machine c.self.invariant.0)
 
 pub returns-clause-begun_once : goal.returns-clause-begun_once
 returns-clause-begun_once g c =
     subst (λ (x : Past). IsBegunOnce x.state.sets x.history) c.self.view_is
-    (past-begun c.beginnings.ensures.once c.self.inside.history.items c.self.inside.machine c.self.invariant.0)
+    (past-begun c.beginnings.ensures.once c.self.inside.history.entries c.self.inside.machine c.self.invariant.0)
 
 pub returns-clause-agree : goal.returns-clause-agree
 returns-clause-agree g c =
-    subst (λ (x : Past). AllAgree x.state) c.self.view_is (past-agrees c.agreements.ensures.agree c.self.inside.history.items c.self.inside.machine c.self.invariant.0)
+    subst (λ (x : Past). AllAgree x.state) c.self.view_is (past-agrees c.agreements.ensures.agree c.self.inside.history.entries c.self.inside.machine c.self.invariant.0)
 
 pub returns-clause-headline : goal.returns-clause-headline
 returns-clause-headline g c =
@@ -42,4 +42,4 @@ returns-clause-headline g c =
       offers = c.offers.ensures.dedicated old e r new step;
       returns = c.returns.ensures.first setup h old run e r new lawful step;
     })
-    c.self.inside.history.items c.self.inside.machine c.self.invariant.0)
+    c.self.inside.history.entries c.self.inside.machine c.self.invariant.0)

@@ -1,5 +1,4 @@
 use Rattle.std.proofs.Common.{◌∙◌, ap, sym, subst, arith, Result, Ok, List, [], ◌∷◌, ◌++◌}
-use Rattle.chan_events.specs.declared.event.Event.{Event}
 use Rattle.chan_events.specs.declared.reply.Entry.{Entry}
 use Rattle.chan_events.specs.declared.reply.Reply.{Reply}
 use Rattle.chan_model.specs.declared.fault.Fault.{Fault}
@@ -20,11 +19,9 @@ invariant_of-self-2 g c =
     let next = c.perform-answer.new.self in
     let stepped : Performs machine c.args.event.now (Ok c.in-Ok.reply) next =
     subst (λ (r : Result Reply Fault). Performs machine c.args.event.now r next) c.in-Ok.is c.perform-answer.ensures.performs in (
-      past-more c.setups.ensures.set_up c.self.inside.history.items c.append.new.history.items machine next c.args.event.now c.in-Ok.reply c.self.invariant.0 stepped
-          (c.append.ensures.items
-          ∙ (ap (λ (e : Event). c.reserve.new.self.items ++ record { event = e; reply = c.copy-2.result } ∷ []) c.copy.ensures
-          ∙ (ap (λ (r : Reply). c.reserve.new.self.items ++ record { event = c.args.event.now; reply = r } ∷ []) c.copy-2.ensures
-          ∙ ap (λ (h : List Entry). h ++ record { event = c.args.event.now; reply = c.in-Ok.reply } ∷ []) c.reserve.ensures.items))),
+      past-more c.setups.ensures.set_up c.self.inside.history.entries c.append.new.self.entries machine next c.args.event.now c.in-Ok.reply c.self.invariant.0 stepped
+          (c.append.ensures.entries
+          ∙ ap (λ (h : List Entry). h ++ record { event = c.args.event.now; reply = c.in-Ok.reply } ∷ []) c.make_room.ensures.entries),
       fits-kept c.self.inside.places machine.subs next.subs
           (c.setups.ensures.stay machine c.args.event.now c.in-Ok.reply next stepped) c.self.invariant.1,
     )
@@ -37,13 +34,13 @@ returns-in_default-clause-spent g c = λ e.
 
 pub perform-answer-requires-clause-units : goal.perform-answer-requires-clause-units
 perform-answer-requires-clause-units g c =
-    past-roomy c.numbers.ensures.units c.self.inside.history.items c.self.inside.machine c.self.invariant.0 (omega (arith, c.if-len.false, c.len.ensures))
+    past-roomy c.numbers.ensures.units c.self.inside.history.entries c.self.inside.machine c.self.invariant.0 (omega (arith, c.if-len.false, c.len.ensures))
 
 pub perform-answer-requires-clause-postable : goal.perform-answer-requires-clause-postable
-perform-answer-requires-clause-postable g c = past-postable c.self.inside.history.items c.self.inside.machine c.self.invariant.0
+perform-answer-requires-clause-postable g c = past-postable c.self.inside.history.entries c.self.inside.machine c.self.invariant.0
 
 pub perform-answer-requires-clause-requests : goal.perform-answer-requires-clause-requests
-perform-answer-requires-clause-requests g c = past-requests c.self.inside.history.items c.self.inside.machine c.self.invariant.0
+perform-answer-requires-clause-requests g c = past-requests c.self.inside.history.entries c.self.inside.machine c.self.invariant.0
 
 pub returns-clause-set_up : goal.returns-clause-set_up
 returns-clause-set_up g c = λ setup k.
@@ -57,10 +54,10 @@ returns-clause-ruled g c = λ other.
 pub returns-clause-rises : goal.returns-clause-rises
 returns-clause-rises g c =
     subst (λ (p : Past). Rises (all_serials p.state) (all_serials c.perform-answer.new.self)) c.self.view_is
-    (performed-rises c.steps.ensures.subs c.self.inside.history.items c.self.inside.machine c.args.event.now c.perform-answer.result c.perform-answer.new.self
+    (performed-rises c.steps.ensures.subs c.self.inside.history.entries c.self.inside.machine c.args.event.now c.perform-answer.result c.perform-answer.new.self
     c.self.invariant.0 c.perform-answer.ensures.performs)
 
 pub returns-clause-ordered : goal.returns-clause-ordered
 returns-clause-ordered g c =
-    performed-brings c.numbers.ensures.pending c.codes.ensures.table c.self.inside.history.items c.self.inside.machine c.args.event.now c.perform-answer.result
+    performed-brings c.numbers.ensures.pending c.codes.ensures.table c.self.inside.history.entries c.self.inside.machine c.args.event.now c.perform-answer.result
     c.perform-answer.new.self c.self.invariant.0 c.perform-answer.ensures.performs

@@ -1,0 +1,194 @@
+//! Many threads enter many events, and nothing is lost.
+
+use crate::tests::crowds::instruction_of;
+use crate::tests::hands::{Hand, Task, add_hand, closed, seats_of, stores};
+use crate::tests::machines::{accepts, accepts_all, enable, loads, word_of};
+use crate::tests::replaying::replays;
+use crate::tests::stories::{Story, goes, setting};
+use chan_model::names::Cpu;
+use core_lock::gate::Open;
+use core_lock::locked::{Core, Seat};
+use core_lock::machine::Machine;
+use core_lock::naming::Naming;
+use path_select::Rotating;
+use std::alloc::Global;
+use std::sync::Wait;
+use std::sync::atomic::{AtomicU64, Ordering};
+use std::thread;
+use std::thread::Threads;
+
+/// How many entries there are to be, at least.
+const ENTRIES: u64 = 100_000;
+
+/// How many rounds a thread has at most.
+const ROUNDS: u64 = 10_000_000;
+
+/// How many turns a worker takes in a round.
+const TURNS: u64 = 4;
+
+const CPUS: u32 = 16;
+
+const PATHS: u8 = 4;
+
+const WORKERS: u32 = 4;
+
+const UNITS_EACH: u32 = 16;
+
+impl<J: Naming> Hand<J> {
+    /// What it does in a round: how many entries were answered.
+    fn round<R: Wait>(&mut self, rt: &R, machine: &Machine<J, Rotating>, round: u64) -> u64 {
+        match &self.task {
+            Task::Program(cpu) => {
+                let instruction = instruction_of(*cpu, round);
+                match machine.instruct(rt, &mut self.seat, *cpu, instruction) {
+                    Ok(_) => 1,
+                    Err(_) => 0,
+                }
+            }
+            _ => self.turns(rt, machine, &Open, false, TURNS),
+        }
+    }
+
+    /// A round, whose entries are counted.
+    fn counted<R: Wait>(
+        &mut self,
+        rt: &R,
+        machine: &Machine<J, Rotating>,
+        round: u64,
+        entries: &AtomicU64,
+    ) {
+        let more = self.round(rt, machine, round);
+        self.answered = self.answered.saturating_add(more);
+        entries.fetch_add(more, Ordering::SeqCst);
+    }
+
+    /// Works until there are entries enough.
+    fn works<R: Wait>(&mut self, rt: &R, machine: &Machine<J, Rotating>, entries: &AtomicU64) {
+        for round in 0..ROUNDS {
+            if entries.load(Ordering::SeqCst) >= ENTRIES {
+                return;
+            }
+            self.counted(rt, machine, round, entries);
+        }
+    }
+}
+
+/// The hands of all CPUs, of the workers of all channel paths and of all units.
+fn all_hands<J: Naming>(alloc: Global, core: &mut Core<J, Rotating>) -> Option<Vec<Hand<J>>> {
+    let mut hands = Vec::new(alloc);
+    for number in 0..CPUS {
+        let task = Task::Program(Cpu::new(number)?);
+        if !add_hand(core, &mut hands, task) {
+            return None;
+        }
+    }
+    for path in 0..PATHS {
+        if !add_hand(core, &mut hands, Task::Path(0x10 + path)) {
+            return None;
+        }
+    }
+    for worker in 0..WORKERS {
+        let task = Task::Units {
+            first: UNITS_EACH * worker,
+            devices: stores(alloc, UNITS_EACH as usize).ok()?,
+        };
+        if !add_hand(core, &mut hands, task) {
+            return None;
+        }
+    }
+    Some(hands)
+}
+
+/// All subchannels are enabled, and a program lies in storage: how many entries that made.
+fn begins<J: Naming>(core: &mut Core<J, Rotating>, seat: &mut Seat<J>) -> Option<u64> {
+    let cpu = Cpu::new(0)?;
+    if !accepts_all(core, seat, &loads()) {
+        return None;
+    }
+    for number in 0..WORKERS * UNITS_EACH {
+        if !accepts(core, seat, cpu, &[enable(word_of(number), false)]) {
+            return None;
+        }
+    }
+    Some(3 + u64::from(WORKERS * UNITS_EACH))
+}
+
+/// How many entries were answered to these hands; None where one of them has none.
+fn answered<J: Naming>(hands: &[Hand<J>]) -> Option<u64> {
+    let mut sum = 0u64;
+    for hand in hands {
+        if hand.answered == 0 {
+            return None;
+        }
+        sum = sum.checked_add(hand.answered)?;
+    }
+    Some(sum)
+}
+
+/// All hands work at once until there are entries enough. Then each log is what the history has of it, all entries are counted,
+/// none is lost, and a fresh subsystem answers them in the same way.
+pub fn crowds<J: Naming + Send + Sync, R: Threads + Wait + Sync>(
+    rt: &R,
+    alloc: Global,
+    core: Core<J, Rotating>,
+) -> bool {
+    let mut core = core;
+    let Ok(mut first) = core.seat() else {
+        return false;
+    };
+    let (Some(before), Some(hands)) = (begins(&mut core, &mut first), all_hands(alloc, &mut core))
+    else {
+        return false;
+    };
+    let machine = Machine::new(core);
+    let entries = AtomicU64::new(0);
+    let worked = thread::map_vec(
+        rt,
+        hands,
+        &|hand: Hand<J>| {
+            let mut hand = hand;
+            hand.works(rt, &machine, &entries);
+            hand
+        },
+    );
+    let Ok(hands) = worked else {
+        return false;
+    };
+    let Some(after) = answered(hands.as_slice()) else {
+        return false;
+    };
+    ends(
+        alloc,
+        machine.into_core(),
+        first,
+        hands,
+        before.saturating_add(after),
+    )
+}
+
+/// Whether all is there in the end.
+fn ends<J: Naming>(
+    alloc: Global,
+    core: Core<J, Rotating>,
+    first: Seat<J>,
+    hands: Vec<Hand<J>>,
+    entries: u64,
+) -> bool {
+    let replayed = replays(
+        alloc,
+        setting(alloc, Story::Crowds),
+        &core.subsystem().history(),
+    );
+    let Ok(mut seats) = seats_of(alloc, hands) else {
+        return false;
+    };
+    if seats.push(first).is_err() {
+        return false;
+    }
+    replayed && entries >= ENTRIES && closed(core, seats) == Some(entries)
+}
+
+#[test]
+fn nothing_is_lost_in_a_crowd(rt: HostRuntime) {
+    assert!(rt; goes(&rt, rt.alloc(), Story::Crowds));
+}

@@ -1,0 +1,56 @@
+-- Entries over an arena that grows.
+use Rattle.std.proofs.Common.{◌≡◌, ◌≤◌, ◌<◌, ℕ, ◌+◌, ◌∙◌, sym, ap, ap₂, List, [], ◌∷◌, ◌++◌, arith, length, take, drop, get_or, length-append, length-drop}
+use Rattle.std.proofs.Math.Seq.{drop-append_seam, take-length}
+use Rattle.std.proofs.lemmas.List.{same_lists, take-append-le, drop-append-le, append-nil, get_or-map, length-map, map_push}
+use Rattle.std.proofs.lemmas.List.Elements.{All-push}
+use Rattle.chan_events.specs.declared.reply.Entry.{Entry}
+use Rattle.kept_events.specs.declared.entries.KeptEntry.{KeptEntry}
+use Rattle.kept_events.specs.declared.events.KeptEvent.TheVariants as kept_event
+use Rattle.kept_events.specs.declared.replies.KeptReply.TheVariants as kept_reply
+use Rattle.kept_events.specs.Entries.{entry_in, entry_length, entry_bytes}
+use Rattle.event_log.specs.Logs.{entry_at, entries_at, Fits, AllFit}
+
+-- a piece that lies in an arena is the same in a longer one
+cut-append : (arena more : List ℕ) (start count : ℕ) → start + count ≤ length arena →
+    take count (drop start (arena ++ more)) ≡ take count (drop start arena)
+cut-append arena more start count within =
+    ap (take count) (drop-append-le start arena more (omega (arith, within)))
+    ∙ take-append-le count (drop start arena) more (omega (arith, within, length-drop start arena))
+
+entry-append : (arena more : List ℕ) (k : KeptEntry) → Fits (length arena) k → entry_at (arena ++ more) k ≡ entry_at arena k
+entry-append arena more k fits = ap (entry_in k) (cut-append arena more k.start (entry_length k) fits)
+
+-- any entry, for a place that a list does not have
+blank : KeptEntry
+blank = record { start = 0; event = kept_event.SystemReset; reply = kept_reply.Done }
+
+entries-append : (arena more : List ℕ) (ks : List KeptEntry) → AllFit arena ks → entries_at (arena ++ more) ks ≡ entries_at arena ks
+entries-append arena more ks fit =
+    same_lists _ _ (length-map ks (entry_at (arena ++ more)) ∙ sym (length-map ks (entry_at arena))) (λ i d below.
+    let within : i < length ks = omega (arith, below, length-map ks (entry_at (arena ++ more))) in
+    get_or-map (entry_at (arena ++ more)) ks i blank d within
+    ∙ entry-append arena more (get_or ks i blank) (fit i blank within)
+    ∙ sym (get_or-map (entry_at arena) ks i blank d within))
+
+-- what is known of an entry that is kept with its bytes at the end
+pub record IsAdded (arena : List ℕ) (e : Entry) (k : KeptEntry) : Type 0 where
+  pub start : k.start ≡ length arena
+  pub kept : (rest : List ℕ) → entry_in k (entry_bytes e ++ rest) ≡ e
+  pub long : entry_length k ≡ length (entry_bytes e)
+
+entry-added : (arena : List ℕ) (e : Entry) (k : KeptEntry) → IsAdded arena e k → entry_at (arena ++ entry_bytes e) k ≡ e
+entry-added arena e k is =
+    let after = ap (λ s. drop s (arena ++ entry_bytes e)) is.start ∙ drop-append_seam arena (entry_bytes e) in
+    ap (entry_in k) (ap₂ take is.long after ∙ take-length (entry_bytes e) ∙ sym (append-nil (entry_bytes e))) ∙ is.kept []
+
+pub entries-added : (arena : List ℕ) (ks : List KeptEntry) (e : Entry) (k : KeptEntry) → AllFit arena ks → IsAdded arena e k →
+    entries_at (arena ++ entry_bytes e) (ks ++ k ∷ []) ≡ entries_at arena ks ++ e ∷ []
+entries-added arena ks e k fit is =
+    map_push (entry_at (arena ++ entry_bytes e)) ks k
+    ∙ ap₂ (λ (h : List Entry) (x : Entry). h ++ x ∷ []) (entries-append arena (entry_bytes e) ks fit) (entry-added arena e k is)
+
+pub fit-added : (arena : List ℕ) (ks : List KeptEntry) (e : Entry) (k : KeptEntry) → AllFit arena ks → IsAdded arena e k →
+    AllFit (arena ++ entry_bytes e) (ks ++ k ∷ [])
+fit-added arena ks e k fit is =
+    let size = length-append arena (entry_bytes e) in
+    All-push (Fits (length (arena ++ entry_bytes e))) ks k (λ i d within. omega (arith, fit i d within, size)) (omega (arith, is.start, is.long, size))

@@ -1,0 +1,101 @@
+//! A log that grows at its end.
+
+ghost use Rattle.std.specs.Prelude.{◌≡◌, ◌≤◌, ◌<◌, ◌+◌, ◌++◌, ◌∷◌, [], OnOk, OnErr, length, vec_len, vec_capacity};
+
+use crate::arena::add_entry;
+use crate::history::History;
+use chan_events::event::Event;
+use chan_events::reply::Reply;
+use kept_events::entries::KeptEntry;
+use kept_events::events::KeptEvent;
+use kept_events::replies::KeptReply;
+use std::alloc::{AllocError, Global};
+use std::marker::Model;
+
+/// As many bytes as an entry may have: a chunk of its event and two of its reply.
+pub const ENTRY_BYTES: usize = 768;
+
+/// Entries, the oldest first, with the bytes of all.
+#[derive(Drop)]
+pub struct Log {
+    entries: Vec<KeptEntry>,
+    bytes: Vec<u8>,
+}
+
+impl Model for Log {
+    ghost use Rattle.std.specs.Prelude.{◌-◌, vec_len, vec_capacity};
+    ghost use Rattle.event_log.specs.Logs.{Logged, AllFit, entries_at, room_of};
+
+    ghost Value = { Logged };
+
+    ghost view = { λ l. record {
+      entries = entries_at l.bytes.items l.entries.items;
+      room = room_of (vec_capacity l.entries - vec_len l.entries) (vec_capacity l.bytes - vec_len l.bytes);
+    } };
+
+    ghost invariant = { λ l. AllFit l.bytes.items l.entries.items };
+}
+
+impl Log {
+    /// No entries.
+    pub fn new(alloc: Global) -> Self
+        ensures entries { result.entries ≡ [] }
+        ensures room { result.room ≡ 0 }
+    {
+        Log {
+            entries: Vec::new(alloc),
+            bytes: Vec::new(alloc),
+        }
+    }
+
+    /// How many entries there are.
+    pub fn len(&self) -> usize
+        ensures { result ≡ length self.now.entries }
+    {
+        self.entries.len()
+    }
+
+    /// Makes room for one entry. It is refused only where there was none and a growth was refused, and changes nothing then.
+    pub fn make_room(&mut self) -> Result<(), AllocError>
+        ensures entries { self.new.entries ≡ self.old.entries }
+        ensures kept { self.old.room ≤ self.new.room }
+        ensures made { OnOk result (1 ≤ self.new.room) }
+        ensures refused { OnErr result (self.new ≡ self.old) }
+        ensures spent { OnErr result (self.old.room ≡ 0) }
+    {
+        self.entries.reserve(1)?;
+        self.bytes.reserve(ENTRY_BYTES)
+    }
+
+    /// Adds an event with its reply, for which there is room.
+    pub fn append(&mut self, event: &Event, reply: &Reply)
+        requires { 1 ≤ self.old.room }
+        ensures entries { self.new.entries ≡ self.old.entries ++ record { event = event.now; reply = reply.now } ∷ [] }
+        ensures room { self.old.room ≤ self.new.room + 1 }
+    {
+        let entry = KeptEntry::of(self.bytes.len(), event, reply);
+        add_entry(&mut self.bytes, event, reply);
+        push(&mut self.entries, entry.start, entry.event, entry.reply);
+    }
+
+    /// The entries.
+    pub fn history(&self) -> History<'_>
+        ensures { result ≡ self.now.entries }
+    {
+        History::of(self.entries.as_slice(), self.bytes.as_slice())
+    }
+}
+
+/// Adds an entry of these parts, for which there is room.
+fn push(entries: &mut Vec<KeptEntry>, start: usize, event: KeptEvent, reply: KeptReply)
+    requires { vec_len entries.old < vec_capacity entries.old }
+    ensures items { entries.new.items ≡ entries.old.items ++ record { start = start; event = event; reply = reply } ∷ [] }
+    ensures len { vec_len entries.new ≡ vec_len entries.old + 1 }
+    ensures capacity { vec_capacity entries.old ≤ vec_capacity entries.new }
+{
+    entries.push_reserved(KeptEntry {
+        start,
+        event,
+        reply,
+    });
+}

@@ -1,0 +1,40 @@
+# Lesson 4, question 2: a resumed program whose block still has S one.
+# Look at its last lines: what stands before them is the script of the lesson.
+storage 10
+path 10
+unit 0 block
+sub 0 0100 0 10
+put 500 0000CAFE0880FF0000001000
+put 1000 0160000400002000
+put 1008 0222000400003000
+put 2000 C1C2C3C4
+enable 0 0 0
+ssch 0 500
+choose 0
+down 0 0
+up 0 0
+down 0 0
+dev 0
+up 0 0
+down 0 0
+dev 0
+up 0 0
+down 0 0
+dev 0
+up 0 0
+stsch 0 700
+rsch 0
+tsch 0 600
+stsch 0 700
+# S stays one.
+rsch 0
+stsch 0 700
+rsch 0
+choose 0
+down 0 0
+up 0 0
+choose 0
+down 0 0
+up 0 0
+stsch 0 700
+down 0 0

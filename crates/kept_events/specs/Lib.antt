@@ -1,0 +1,4 @@
+pub mod Signals
+pub mod Events
+pub mod Replies
+pub mod Entries

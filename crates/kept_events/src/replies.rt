@@ -1,0 +1,241 @@
+//! Replies as they are kept.
+
+ghost use Rattle.std.specs.Prelude.{◌≡◌, ◌≤◌, ◌++◌, ℕ, List, length};
+ghost use Rattle.kept_events.specs.Replies as spec;
+
+use crate::lengths::{Length, chunk_of, length_of};
+use crate::signals::{KeptDown, KeptUp};
+use chan_events::reply::{PATH_STATUS_BYTES, Reply};
+use chan_model::answer::{Answer, ConditionCode};
+use chan_model::names::Path;
+use chan_model::signal::OnPath;
+use scsw_irb::code::IntCode;
+use scsw_irb::crw::Crw;
+use scsw_irb::scsw::Scsw;
+
+/// A reply whose bytes stand elsewhere; where a signal was sent for one that was met, `path` is where to.
+#[derive(Clone, Copy)]
+pub enum KeptReply {
+    Done,
+    Shown {
+        length: Length,
+    },
+    Code(Answer),
+    Status {
+        answer: Answer,
+        scsw: Scsw,
+    },
+    Interruption(Option<IntCode>),
+    PathReset(ConditionCode),
+    ChannelReport(Option<Crw>),
+    Paths {
+        engaged: [u8; PATH_STATUS_BYTES],
+    },
+    Offered {
+        path: Path,
+        resumed: bool,
+        number: u64,
+    },
+    ResetSent {
+        path: Path,
+        number: u64,
+    },
+    HaltSent {
+        path: Path,
+        number: u64,
+    },
+    Pending,
+    Idle,
+    Up {
+        taken: bool,
+        signal: KeptUp,
+    },
+    UpSent {
+        taken: bool,
+        path: Path,
+        signal: KeptUp,
+        sent: KeptDown,
+    },
+    Down {
+        taken: bool,
+        signal: KeptDown,
+    },
+    DownSent {
+        taken: bool,
+        path: Path,
+        signal: KeptDown,
+        sent: KeptUp,
+    },
+}
+
+impl KeptReply {
+    /// The numbers of a reply.
+    pub fn of(reply: &Reply) -> Self
+        ensures kept { (rest : List ℕ) → spec.reply_in result (spec.reply_bytes reply.now ++ rest) ≡ reply.now }
+        ensures length { spec.reply_length result ≡ length (spec.reply_bytes reply.now) }
+        ensures bound { length (spec.reply_bytes reply.now) ≤ 512 }
+    {
+        match reply {
+            Reply::Done => KeptReply::Done,
+            Reply::Shown { bytes } => KeptReply::Shown {
+                length: length_of(bytes),
+            },
+            Reply::Code(answer) => KeptReply::Code(*answer),
+            Reply::Status { answer, scsw } => KeptReply::Status {
+                answer: *answer,
+                scsw: *scsw,
+            },
+            Reply::Interruption(code) => KeptReply::Interruption(*code),
+            Reply::PathReset(code) => KeptReply::PathReset(*code),
+            Reply::ChannelReport(report) => KeptReply::ChannelReport(*report),
+            Reply::Paths { engaged } => KeptReply::Paths { engaged: *engaged },
+            Reply::Offered {
+                number,
+                path,
+                resumed,
+            } => KeptReply::Offered {
+                path: *path,
+                resumed: *resumed,
+                number: *number,
+            },
+            Reply::ResetSent { number, path } => KeptReply::ResetSent {
+                path: *path,
+                number: *number,
+            },
+            Reply::HaltSent { number, path } => KeptReply::HaltSent {
+                path: *path,
+                number: *number,
+            },
+            Reply::Pending => KeptReply::Pending,
+            Reply::Idle => KeptReply::Idle,
+            Reply::Up {
+                signal,
+                taken,
+                sent: None,
+            } => KeptReply::Up {
+                taken: *taken,
+                signal: KeptUp::of(signal),
+            },
+            Reply::Up {
+                signal,
+                taken,
+                sent: Some(sent),
+            } => KeptReply::UpSent {
+                taken: *taken,
+                path: sent.path,
+                signal: KeptUp::of(signal),
+                sent: KeptDown::of(&sent.signal),
+            },
+            Reply::Down {
+                signal,
+                taken,
+                sent: None,
+            } => KeptReply::Down {
+                taken: *taken,
+                signal: KeptDown::of(signal),
+            },
+            Reply::Down {
+                signal,
+                taken,
+                sent: Some(sent),
+            } => KeptReply::DownSent {
+                taken: *taken,
+                path: sent.path,
+                signal: KeptDown::of(signal),
+                sent: KeptUp::of(&sent.signal),
+            },
+        }
+    }
+
+    /// How many bytes it has.
+    pub fn length(&self) -> usize
+        ensures value { result ≡ spec.reply_length self.now }
+        ensures bound { result ≤ 512 }
+    {
+        match self {
+            KeptReply::Shown { length } => length.get(),
+            KeptReply::Up { signal, .. } => signal.length(),
+            KeptReply::UpSent { signal, sent, .. } => signal.length() + sent.length(),
+            KeptReply::Down { signal, .. } => signal.length(),
+            KeptReply::DownSent { signal, sent, .. } => signal.length() + sent.length(),
+            _ => 0,
+        }
+    }
+
+    /// The reply with the first of these bytes.
+    pub fn with(&self, bytes: &[u8]) -> Reply
+        requires { spec.reply_length self.now ≤ length bytes.now }
+        ensures { result ≡ spec.reply_in self.now bytes.now }
+    {
+        match self {
+            KeptReply::Done => Reply::Done,
+            KeptReply::Shown { length } => Reply::Shown {
+                bytes: chunk_of(*length, bytes),
+            },
+            KeptReply::Code(answer) => Reply::Code(*answer),
+            KeptReply::Status { answer, scsw } => Reply::Status {
+                answer: *answer,
+                scsw: *scsw,
+            },
+            KeptReply::Interruption(code) => Reply::Interruption(*code),
+            KeptReply::PathReset(code) => Reply::PathReset(*code),
+            KeptReply::ChannelReport(report) => Reply::ChannelReport(*report),
+            KeptReply::Paths { engaged } => Reply::Paths { engaged: *engaged },
+            KeptReply::Offered {
+                path,
+                resumed,
+                number,
+            } => Reply::Offered {
+                number: *number,
+                path: *path,
+                resumed: *resumed,
+            },
+            KeptReply::ResetSent { path, number } => Reply::ResetSent {
+                number: *number,
+                path: *path,
+            },
+            KeptReply::HaltSent { path, number } => Reply::HaltSent {
+                number: *number,
+                path: *path,
+            },
+            KeptReply::Pending => Reply::Pending,
+            KeptReply::Idle => Reply::Idle,
+            KeptReply::Up { taken, signal } => Reply::Up {
+                signal: signal.with(bytes),
+                taken: *taken,
+                sent: None,
+            },
+            KeptReply::UpSent {
+                taken,
+                path,
+                signal,
+                sent,
+            } => Reply::Up {
+                signal: signal.with(bytes),
+                taken: *taken,
+                sent: Some(OnPath {
+                    path: *path,
+                    signal: sent.with(&bytes[signal.length()..]),
+                }),
+            },
+            KeptReply::Down { taken, signal } => Reply::Down {
+                signal: signal.with(bytes),
+                taken: *taken,
+                sent: None,
+            },
+            KeptReply::DownSent {
+                taken,
+                path,
+                signal,
+                sent,
+            } => Reply::Down {
+                signal: signal.with(bytes),
+                taken: *taken,
+                sent: Some(OnPath {
+                    path: *path,
+                    signal: sent.with(&bytes[signal.length()..]),
+                }),
+            },
+        }
+    }
+}

@@ -1,0 +1,258 @@
+-- The counts of status that the program's device does not bring: of a halt and a clear that are performed, of attention, of an
+-- interface-control check, and of a program that finds no path.
+use Rattle.std.proofs.Common.{◌≡◌, refl, ◌∙◌, subst, arith, ℕ, ◌+◌, ◌<◌, Bool, true, false, List, ◌∷◌, Option, None, Some, Result, Ok, inl, inr}
+use Rattle.std.specs.Prelude.{◌⊎◌, if◌then◌else◌, ◌&&◌, ◌||◌, ◌==◌, not, is_none, is_some, unwrap_or, IfOk, IfSome}
+use Rattle.allegiance.specs.PathUse.{is_any, reachable_paths}
+use Rattle.chan_model.specs.declared.fault.Fault.{Fault}
+use Rattle.chan_model.specs.declared.hold_state.HoldPhase.{HoldPhase}
+use Rattle.chan_model.specs.declared.hold_state.HoldPhase.TheVariants as hold
+use Rattle.chan_model.specs.declared.signal.Down.TheVariants as down
+use Rattle.chan_model.specs.HoldTable as hold_table
+use Rattle.chan_model.specs.HoldTable.{HoldStep}
+use Rattle.chan_events.specs.declared.reply.Reply.TheVariants as reply
+use Rattle.data_move.specs.Moving.{residual}
+use Rattle.scsw_irb.specs.declared.status.DeviceStatus.{DeviceStatus}
+use Rattle.subchannel_model.specs.declared.cause.StatusCause.TheVariants as cause
+use Rattle.subchannel_model.specs.declared.state.ActiveProgram.{ActiveProgram}
+use Rattle.subchannel_model.specs.declared.state.Candidate.{Candidate}
+use Rattle.subchannel_model.specs.declared.state.Chosen.{Chosen}
+use Rattle.subchannel_model.specs.declared.state.Chosen.TheVariants.{Idle, Resets, PerformsClear, Halts, PerformsHalt, FindsNoPath, Offers}
+use Rattle.subchannel_model.specs.declared.state.Program.{Program}
+use Rattle.subchannel_model.specs.declared.state.ProgramPosition.{ProgramPosition}
+use Rattle.subchannel_model.specs.declared.state.Subchannel.{Subchannel}
+use Rattle.subchannel_model.specs.declared.state.SubchannelState.{SubchannelState}
+use Rattle.subchannel_model.specs.Causes.{
+  attention_shown,
+  clear_scsw,
+  count_by,
+  count_shown,
+  interface_shown,
+  no_path_shown,
+  plain_shown,
+  program_shown,
+  scsw_joined,
+  with_cause,
+  with_row,
+  without_intermediate,
+  without_waiting,
+}
+use Rattle.subchannel_model.specs.Choosing.{
+  candidate,
+  chosen,
+  clear_chosen,
+  first_some,
+  halt_chosen,
+  halt_sent,
+  marked_sub,
+  offer_chosen,
+  offered,
+  over_unless,
+  path_use,
+  reset_chosen,
+  reset_sent,
+  unsent_reset,
+}
+use Rattle.subchannel_model.specs.Losing.{is_offered_or_held, has_any, reset_drawn, reset_with, reset_for}
+use Rattle.subchannel_model.specs.Taking as taking
+use Rattle.subchannel_model.specs.Taking.{clear_done, halt_done, reset_taken, with_attention, with_known}
+use Rattle.subchannel_model.specs.SystemReset.{state_reset}
+use Rattle.machine_model.specs.ChooseSteps.{choose_sub}
+use Rattle.machine_model.specs.Turns.{SubTurn}
+use Rattle.machine_model.specs.declared.state.Sweep.{Sweep}
+use Rattle.machine_model.specs.PathSteps.{swept}
+use Rattle.program_laws.specs.Shows.{IsCountLeft, IsCountZero, IsCountBy, is_of_program, IsCountOf}
+use Rattle.program_laws.specs.Traces.{ProgramTrace}
+use Rattle.program_laws.proofs.Holds.{HasWork, IsStanding, HeldBy}
+use Rattle.program_laws.proofs.Shows.{status-count, counted, rest-of}
+use Rattle.program_laws.proofs.Sweeps.{swept-kept}
+use Rattle.program_laws.proofs.Vanishing.{send-ok}
+
+-- no status is made
+pub none-left : (s next : SubchannelState) → next.serials.made ≡ s.serials.made → IsCountLeft s next
+none-left s next e = λ l. absurd (omega (arith, e, l))
+
+none-by : (x : Bool) (s next : SubchannelState) (k : ProgramTrace) → next.serials.made ≡ s.serials.made → IsCountBy x s next k
+none-by true s next k e = λ l. absurd (omega (arith, e, l))
+none-by false s next k e = none-left s next e
+
+pub none-counted : (s next : SubchannelState) (k : ProgramTrace) → next.serials.made ≡ s.serials.made → IsCountOf s next (Some k)
+none-counted s next k e = none-by (is_of_program s) s next k e
+
+-- where a status was made, its count is that of the program of which it speaks
+abbrev pub ShowsCount : SubchannelState → SubchannelState → Type 0
+ShowsCount s next = s.serials.made < next.serials.made → next.scsw.count ≡ count_shown s
+
+pub none-made : (s next : SubchannelState) → next.serials.made ≡ s.serials.made → ShowsCount s next
+none-made s next e = λ l. absurd (omega (arith, e, l))
+
+-- so it is the rest of the program at work, or of the suspended one; or it stands
+count-of : (s next : SubchannelState) (w : Option Program) (b : Option ActiveProgram) (st : Option ProgramPosition) (k : ProgramTrace) → HasWork b k → IsStanding w b st k →
+    (s.serials.made < next.serials.made → next.scsw.count ≡ count_by s.scsw.count w b st) → IsCountBy (is_none w && (is_some b || is_some st)) s next k
+count-of s next (Some program) b st k h x f = f
+count-of s next None (Some b) st k h x f = λ l. counted next.scsw.count (residual b.transfer.moving) k (f l) (rest-of b k h)
+count-of s next None None (Some st) k h x f = λ l. counted next.scsw.count st.count k (f l) x.4
+count-of s next None None None k h x f = f
+
+count-stands : (count : ℕ) (w : Option Program) (b : Option ActiveProgram) (st : Option ProgramPosition) → b ≡ None → st ≡ None → count_by count w b st ≡ count
+count-stands count (Some program) b st e f = refl
+count-stands count None None None e f = refl
+count-stands count None None (Some st) e f = absurd (cc f)
+count-stands count None (Some b) st e f = absurd (cc e)
+
+pub of-program : (s next : SubchannelState) (k : Option ProgramTrace) → HeldBy s k → ShowsCount s next → IsCountOf s next k
+of-program s next None h f = λ l. f l ∙ count-stands s.scsw.count s.waiting s.begun s.suspended h.begun h.suspended
+of-program s next (Some k) h f = count-of s next s.waiting s.begun s.suspended k h.work h.standing f
+
+-- a halt that is performed
+halt-count : (s : SubchannelState) → ShowsCount s (with_cause s cause.HaltDone)
+halt-count s l = status-count s.pmcw.enabled (scsw_joined s.pmcw.enabled s.scsw (without_intermediate s.scsw)) s.serials (program_shown s) l
+
+pub halt-shows : (s : SubchannelState) → ShowsCount s (halt_done s)
+halt-shows s = by s.scsw.activity.halt_pending
+  where
+    by : (b : Bool) → ShowsCount s (if b then with_cause s cause.HaltDone else s)
+    by true = halt-count s
+    by false = none-made s s refl
+
+-- a clear that is performed
+clear-count : (s : SubchannelState) → IsCountZero s (with_cause s cause.ClearDone)
+clear-count s l = status-count s.pmcw.enabled (scsw_joined s.pmcw.enabled s.scsw clear_scsw) s.serials (plain_shown 0 0) l
+
+clear-zero : (s : SubchannelState) (b : Bool) → IsCountZero s (if b then with_cause s cause.ClearDone else s)
+clear-zero s true = clear-count s
+clear-zero s false = λ l. absurd (omega (arith, l))
+
+pub cleared-zero : (s : SubchannelState) (phase : HoldPhase) (u : ℕ) → IsCountZero s (reset_taken s (hold_table.reset_cleared s.hold phase u)).state
+cleared-zero s hold.Free u = λ l. absurd (omega (arith, l))
+cleared-zero s (hold.Offer t p) u = λ l. absurd (omega (arith, l))
+cleared-zero s (hold.On t p c) u = λ l. absurd (omega (arith, l))
+cleared-zero s (hold.Away t) u = λ l. absurd (omega (arith, l))
+cleared-zero s (hold.Letting t p) u = λ l. absurd (omega (arith, l))
+cleared-zero s (hold.Reset r) u = by (u == r)
+  where
+    by : (x : Bool) → IsCountZero s (reset_taken s (if x then Some (hold_table.hold_quietly (record s.hold { phase = hold.Free; reset_path = None })) else None)).state
+    by true = clear-zero (record s { hold = record s.hold { phase = hold.Free; reset_path = None } }) s.scsw.activity.clear_pending
+    by false = λ l. absurd (omega (arith, l))
+
+-- attention
+attention-left : (s : SubchannelState) (shows : Bool) → IsCountLeft s (with_attention s shows)
+attention-left s true = λ l. status-count s.pmcw.enabled (scsw_joined s.pmcw.enabled s.scsw s.scsw) s.serials (attention_shown s) l
+attention-left s false = none-left s s refl
+
+pub attended-left : (s : SubchannelState) (p a : ℕ) (status : DeviceStatus) →
+    IsCountLeft s (taking.attend s status (hold_table.attended s.hold s.hold.phase p a (taking.may_attend s))).state
+attended-left s p a status =
+    let step : Option HoldStep = hold_table.attended s.hold s.hold.phase p a (taking.may_attend s) in
+    attention-left (record s { hold = hold_table.hold_after s.hold step }) ((hold_table.came_of step).taken && not (status.0 == 0x20))
+
+-- the hold is to be reset as a path is lost, or as the unit was restarted
+reset-shows : (s : SubchannelState) (shows : Bool) → ShowsCount s (reset_with s shows)
+reset-shows s true = λ l. status-count s.pmcw.enabled (scsw_joined s.pmcw.enabled s.scsw s.scsw) s.serials (interface_shown (reset_drawn s)) l
+reset-shows s false = none-made s (reset_with s false) refl
+
+lost-shows : (s : SubchannelState) → ShowsCount s (reset_for s)
+lost-shows s = reset-shows s (is_offered_or_held s.hold.phase && has_any s.waiting s.begun s.suspended)
+
+pub noticed-shows : (s : SubchannelState) (b : ℕ) (more : Bool) → ShowsCount s (if more then taking.quietly (reset_for (with_known s b)) else taking.ignoring s).state
+noticed-shows s b true = lost-shows (with_known s b)
+noticed-shows s b false = none-made s s refl
+
+pub swept-shows : (what : Sweep) (x : Subchannel) → ShowsCount x.state (swept what x).state
+swept-shows what x =
+    swept-kept x (λ y. ShowsCount x.state y.state) (λ y path up f. f) (λ path f. f) (λ wires f. lost-shows x.state)
+    (λ f. none-made x.state (state_reset x.state) refl) what (none-made x.state x.state refl)
+
+-- what is chosen: a clear that is performed is pending
+abbrev IfClear : SubchannelState → Chosen → Type 0
+IfClear s PerformsClear = s.scsw.activity.clear_pending ≡ true
+IfClear s c = Unit {0}
+
+first-clear : (s : SubchannelState) (a : Option Chosen) (later : List (Option Chosen)) → IfSome a (IfClear s) → IfSome (first_some later) (IfClear s) →
+    IfSome (first_some (a ∷ later)) (IfClear s)
+first-clear s None later here after = after
+first-clear s (Some c) later here after = here
+
+chosen-by : (s : SubchannelState) (o : Option Chosen) → IfSome o (IfClear s) → IfClear s (unwrap_or o Idle)
+chosen-by s None h = tt
+chosen-by s (Some c) h = h
+
+reset-clear : (s : SubchannelState) (unsent choice : Option ℕ) → IfSome (reset_chosen unsent choice) (IfClear s)
+reset-clear s None choice = tt
+reset-clear s (Some r) None = tt
+reset-clear s (Some r) (Some path) = tt
+
+clear-clear : (s : SubchannelState) (unsent : Option ℕ) (pending : Bool) → s.scsw.activity.clear_pending ≡ pending → IfSome (clear_chosen unsent pending) (IfClear s)
+clear-clear s None pending e = tt
+clear-clear s (Some r) true e = e
+clear-clear s (Some r) false e = tt
+
+halt-clear : (s : SubchannelState) (pending : Bool) (phase : HoldPhase) (choice : Option ℕ) → IfSome (halt_chosen pending phase choice) (IfClear s)
+halt-clear s false phase choice = tt
+halt-clear s true hold.Free choice = tt
+halt-clear s true (hold.Offer t p) choice = tt
+halt-clear s true (hold.On t p c) choice = tt
+halt-clear s true (hold.Away t) None = tt
+halt-clear s true (hold.Away t) (Some path) = tt
+halt-clear s true (hold.Letting t p) choice = tt
+halt-clear s true (hold.Reset r) choice = tt
+
+over-clear : (s : SubchannelState) (reachable : Bool) → IfSome (over_unless reachable) (IfClear s)
+over-clear s true = tt
+over-clear s false = tt
+
+offer-clear : (s : SubchannelState) (phase : HoldPhase) (c : Option Candidate) (reachable : Bool) (choice : Option ℕ) → IfSome (offer_chosen phase c reachable choice) (IfClear s)
+offer-clear s phase None reachable choice = tt
+offer-clear s hold.Free (Some c) reachable None = over-clear s reachable
+offer-clear s hold.Free (Some c) reachable (Some path) = tt
+offer-clear s (hold.Offer t p) (Some c) reachable choice = tt
+offer-clear s (hold.On t p d) (Some c) reachable choice = tt
+offer-clear s (hold.Away t) (Some c) reachable choice = tt
+offer-clear s (hold.Letting t p) (Some c) reachable choice = tt
+offer-clear s (hold.Reset r) (Some c) reachable choice = over-clear s reachable
+
+chosen-clear : (sub : Subchannel) (choice : Option ℕ) → IfClear sub.state (chosen sub choice)
+chosen-clear sub choice =
+    let s : SubchannelState = sub.state in
+    let reachable : Bool = is_any (reachable_paths (path_use sub)) in
+    chosen-by s _
+    (first-clear s (reset_chosen (unsent_reset s.hold) choice) _ (reset-clear s (unsent_reset s.hold) choice)
+    (first-clear s (clear_chosen (unsent_reset s.hold) s.scsw.activity.clear_pending) _ (clear-clear s (unsent_reset s.hold) s.scsw.activity.clear_pending refl)
+    (first-clear s (halt_chosen s.scsw.activity.halt_pending s.hold.phase choice) _ (halt-clear s s.scsw.activity.halt_pending s.hold.phase choice)
+    (first-clear s (offer_chosen s.hold.phase (candidate s) reachable choice) _ (offer-clear s s.hold.phase (candidate s) reachable choice) tt))))
+
+-- and its count is zero; otherwise the status speaks of the program
+abbrev pub ChooseShows : SubchannelState → SubchannelState → Type 0
+ChooseShows s next = ((s.scsw.activity.clear_pending ≡ true) × IsCountZero s next) ⊎ ShowsCount s next
+
+path-shows : (s : SubchannelState) (w : Option Program) → ShowsCount s (with_row s (record { shown = no_path_shown s; left = without_waiting w s; joins = s.scsw }))
+path-shows s None = λ l. status-count s.pmcw.enabled (scsw_joined s.pmcw.enabled s.scsw s.scsw) s.serials (no_path_shown s) l
+path-shows s (Some program) = λ l. status-count s.pmcw.enabled (scsw_joined s.pmcw.enabled s.scsw s.scsw) s.serials (no_path_shown s) l
+
+choose-shows : (sub : Subchannel) (c : Chosen) → IfClear sub.state c → IfOk (choose_sub sub c) (λ t. ChooseShows sub.state t.sub.state)
+choose-shows sub Idle i = inr (none-made sub.state sub.state refl)
+choose-shows sub (Resets r path) i =
+    send-ok (λ t. ChooseShows sub.state t.sub.state) sub (reset_sent sub.state path) path (down.Reset r sub.state.hold.known) (reply.ResetSent r path)
+    (inr (none-made sub.state (reset_sent sub.state path) refl))
+choose-shows sub PerformsClear i = inl (i, clear-count sub.state)
+choose-shows sub (Halts t path) i =
+    send-ok (λ t. ChooseShows sub.state t.sub.state) sub (halt_sent sub.state) path (down.Halt t) (reply.HaltSent t path)
+    (inr (none-made sub.state (halt_sent sub.state) refl))
+choose-shows sub PerformsHalt i = inr (halt-count sub.state)
+choose-shows sub FindsNoPath i = inr (path-shows sub.state sub.state.waiting)
+choose-shows sub (Offers c path) i =
+    send-ok (λ t. ChooseShows sub.state t.sub.state) sub (offered sub.state c.program path) path (down.Select (sub.state.drawn + 1))
+    (reply.Offered (sub.state.drawn + 1) path c.resumes) (inr (none-made sub.state (offered sub.state c.program path) refl))
+
+pub chosen-shows : (sub : Subchannel) (choice : Option ℕ) (t : SubTurn) → choose_sub (marked_sub sub choice) (chosen sub choice) ≡ Ok t → ChooseShows sub.state t.sub.state
+chosen-shows sub choice t e =
+    subst (λ (r : Result SubTurn Fault). IfOk r (λ t. ChooseShows sub.state t.sub.state)) e
+    (choose-shows (marked_sub sub choice) (chosen sub choice) (still (chosen sub choice) (chosen-clear sub choice)))
+  where
+    still : (c : Chosen) → IfClear sub.state c → IfClear (marked_sub sub choice).state c
+    still Idle i = tt
+    still (Resets r path) i = tt
+    still PerformsClear i = i
+    still (Halts t path) i = tt
+    still PerformsHalt i = tt
+    still FindsNoPath i = tt
+    still (Offers c path) i = tt

@@ -1,0 +1,174 @@
+//! Running a script that was read, and racing CPUs at its end.
+
+ghost use Rattle.std.specs.Prelude.{◌≡◌, true};
+ghost use Rattle.machine_model.specs.State.{opening_of};
+ghost use Rattle.subsystem.specs.Keeping.{all_serials};
+ghost use Rattle.core_lock.specs.Directory.{directory_of};
+ghost use Rattle.serving.specs.Racing.{AreMade};
+ghost use Rattle.serving.specs.Serving as spec;
+ghost use Rattle.serving.specs.Serving.{EndsBy, IsForMemory, IsRun, IsRunOf, IsRunOrRaced, IsRaceOf, PerformsAll, Races};
+
+use crate::installation::Installation;
+use crate::performing::{PerformedLines, perform};
+use crate::racing::Racers;
+use crate::{Ending, no_memory};
+use channel_config::config::Config;
+use core_lock::naming::Naming;
+use core_lock::parts::Parts;
+use core_lock::supplies::CoreSupply;
+use script::{Line, RaceLine, Script};
+use script_text::{ActionResult, put_event_line};
+use std::alloc::Global;
+use std::marker::Brand;
+use std::sync::Wait;
+use std::thread::Threads;
+use streams::Sink;
+
+/// Performs a good script.
+pub fn run_script<M: CoreSupply, S: Sink>(
+    alloc: Global,
+    supply: &mut M,
+    script: Script,
+    sink: &mut S,
+) -> Ending
+    ensures ends { IsRun script (S.seen sink.old) (S.seen sink.new) result }
+    ensures memory { IsForMemory result → M.refused supply.new ≡ true }
+{
+    let (config, lines) = script.into_parts();
+    let Ok(parts) = Parts::new_with(alloc, supply, &config) else {
+        return no_memory(sink);
+    };
+    run_named::<Brand, M, S>(alloc, supply, config, parts, lines.as_slice(), sink)
+}
+
+/// Performs a good script, with the race of its last line where it asks for one.
+pub fn race_script<T: Threads + Wait + Sync, M: CoreSupply, S: Sink>(
+    rt: &T,
+    alloc: Global,
+    supply: &mut M,
+    script: Script,
+    sink: &mut S,
+) -> Ending
+    ensures ends { IsRunOrRaced script (S.seen sink.old) (S.seen sink.new) result }
+    ensures memory { IsForMemory result → M.refused supply.new ≡ true }
+{
+    let race = script.race();
+    let (config, lines) = script.into_parts();
+    let Ok(parts) = Parts::new_with(alloc, supply, &config) else {
+        return no_memory(sink);
+    };
+    match race {
+        Some(line) => race_named::<Brand, T, M, S>(
+            rt,
+            alloc,
+            supply,
+            config,
+            parts,
+            lines.as_slice(),
+            line,
+            sink,
+        ),
+        None => run_named::<Brand, M, S>(alloc, supply, config, parts, lines.as_slice(), sink),
+    }
+}
+
+/// Performs lines at a machine of this name.
+fn run_named<J: Naming, M: CoreSupply, S: Sink>(
+    alloc: Global,
+    supply: &mut M,
+    config: Config,
+    parts: Parts,
+    lines: &[Line],
+    sink: &mut S,
+) -> Ending
+    requires named { parts.name ≡ J.name }
+    requires directory { parts.name.directory ≡ directory_of (opening_of config) }
+    requires serials { parts.serials ≡ all_serials (opening_of config) }
+    ensures ends { IsRunOf config lines.now (S.seen sink.old) (S.seen sink.new) result }
+    ensures memory { IsForMemory result → M.refused supply.new ≡ true }
+{
+    match Installation::<J>::new(alloc, supply, config, parts, 0) {
+        Ok((installation, _)) => perform_all(installation, lines, sink),
+        Err(_) => no_memory(sink),
+    }
+}
+
+/// Performs lines at a machine of this name, and then a race.
+fn race_named<J: Naming + Send + Sync, T: Threads + Wait + Sync, M: CoreSupply, S: Sink>(
+    rt: &T,
+    alloc: Global,
+    supply: &mut M,
+    config: Config,
+    parts: Parts,
+    lines: &[Line],
+    race: RaceLine,
+    sink: &mut S,
+) -> Ending
+    requires named { parts.name ≡ J.name }
+    requires directory { parts.name.directory ≡ directory_of (opening_of config) }
+    requires serials { parts.serials ≡ all_serials (opening_of config) }
+    ensures ends { IsRaceOf config lines.now race (S.seen sink.old) (S.seen sink.new) result }
+    ensures memory { IsForMemory result → M.refused supply.new ≡ true }
+{
+    match Installation::<J>::new(alloc, supply, config, parts, race.race.cpus) {
+        Ok((installation, racers)) => perform_race(rt, installation, racers, lines, race, sink),
+        Err(_) => no_memory(sink),
+    }
+}
+
+/// Performs lines, and audits.
+fn perform_all<J: Naming, S: Sink>(
+    installation: Installation<J>,
+    lines: &[Line],
+    sink: &mut S,
+) -> Ending
+    ensures { PerformsAll installation lines.now (S.seen sink.old) (S.seen sink.new) result }
+{
+    let mut installation = installation;
+    let done = perform(&mut installation, lines, sink);
+    end(installation.audited(), done, sink)
+}
+
+/// Performs lines, and then a race; audits.
+fn perform_race<J: Naming + Send + Sync, T: Threads + Wait + Sync, S: Sink>(
+    rt: &T,
+    installation: Installation<J>,
+    racers: Racers<J>,
+    lines: &[Line],
+    line: RaceLine,
+    sink: &mut S,
+) -> Ending
+    requires { AreMade line.race.cpus racers }
+    ensures { Races installation lines.now line (S.seen sink.old) (S.seen sink.new) result }
+{
+    let mut installation = installation;
+    let done = perform(&mut installation, lines, sink);
+    if !done.whole {
+        return end(installation.audited(), done, sink);
+    }
+    let (count, refused) = installation.race(rt, line.race, racers);
+    let whole = put_event_line(sink, line.number, &Ok(ActionResult::Race(count)));
+    ending_of(count.audited, whole, done.refused | refused)
+}
+
+/// How the program ends where these lines were performed. Where the audit failed, that is written after the last of them.
+fn end<S: Sink>(audited: bool, done: PerformedLines, sink: &mut S) -> Ending
+    ensures { EndsBy audited done.whole done.refused (S.seen sink.old) (S.seen sink.new) result }
+{
+    if audited || !done.whole {
+        return ending_of(audited, done.whole, done.refused);
+    }
+    let whole = sink.put(b"audit failed\n");
+    Ending::AuditFailed { whole }
+}
+
+/// How the program ends where all was written, or where the sink failed.
+fn ending_of(audited: bool, whole: bool, refused: bool) -> Ending
+    ensures { result ≡ spec.ending_of audited whole refused }
+{
+    match (audited, whole) {
+        (false, _) => Ending::AuditFailed { whole },
+        (true, true) => Ending::Done { refused },
+        (true, false) => Ending::Stopped { refused },
+    }
+}
