@@ -45,7 +45,7 @@ fn a_race_is_told(rt: HostRuntime) {
     scene.says(b"choose 0", b"status");
     scene.says(
         b"race 4 100 tsch 0",
-        b"cc0 1 cc1 399 cc2 0 cc3 0 entries 400 audit ok",
+        b"race cc0 1 cc1 399 cc2 0 cc3 0 entries 400 audit ok",
     );
     let (out, status) = served(&rt, "race", scene.text());
     assert!(rt; out.as_slice() == scene.printed());
