@@ -34,6 +34,7 @@ use chan_model::report::Report;
 use device_law::Device;
 use device_law::answering::answer;
 use event_log::history::History;
+use event_log::logs::Log;
 use glance_cell::cell::{Reader, Writer};
 use glance_cell::words::Glance;
 use path_select::PathChoice;
@@ -91,7 +92,7 @@ pub struct NotMade<P: PathChoice + Drop> {
 #[derive(Drop)]
 pub struct Seat<J: Naming> {
     number: u16,
-    log: Vec<Entry>,
+    log: Log,
     directory: Arc<Directory>,
     pairs: Vec<Serials>,
     readers: Vec<Reader>,
@@ -105,7 +106,6 @@ pub struct Seat<J: Naming> {
 
 impl<J: Naming> Model for Seat<J> {
     ghost use Rattle.std.specs.Arc.{arc_value};
-    ghost use Rattle.std.specs.Prelude.{◌-◌, vec_len, vec_capacity};
     ghost use Rattle.core_lock.specs.Seats.{HeldSeat};
     ghost use Rattle.core_lock.specs.Keeping.{IsSeat};
 
@@ -114,7 +114,7 @@ impl<J: Naming> Model for Seat<J> {
     ghost view = { λ s. record {
       value = record {
         number = s.number;
-        log = s.log.items;
+        log = s.log.entries;
         directory = arc_value s.directory;
         pairs = s.pairs.items;
         loaded = s.readers.items;
@@ -124,10 +124,10 @@ impl<J: Naming> Model for Seat<J> {
         kept = s.kept;
         left = s.left;
       };
-      room = vec_capacity s.log - vec_len s.log;
+      room = s.log.room;
     } };
 
-    ghost invariant = { λ s. IsSeat (record { parts = s.share.parts; amount = s.share.amount }) s.turns.parts s.log.items s.pairs.items s.readers.items (arc_value s.directory) J.name };
+    ghost invariant = { λ s. IsSeat (record { parts = s.share.parts; amount = s.share.amount }) s.turns.parts s.log.entries s.pairs.items s.readers.items (arc_value s.directory) J.name };
 }
 
 impl<J: Naming, P: PathChoice + Drop> Core<J, P> {
@@ -278,7 +278,7 @@ impl<J: Naming, P: PathChoice + Drop> Core<J, P> {
         self.seats += 1;
         Ok(Seat {
             number,
-            log: Vec::new(alloc),
+            log: Log::new(alloc),
             directory,
             pairs,
             readers,
@@ -341,7 +341,7 @@ impl<J: Naming, P: PathChoice + Drop> Core<J, P> {
         // Where it is refused no room is lost.
         ensures kept { OnErr result ((self.old.room ≤ self.new.room) × (seat.old.room ≤ seat.new.room)) }
     {
-        if self.by.reserve(1).is_err() || seat.log.reserve(1).is_err() {
+        if self.by.reserve(1).is_err() || seat.log.make_room().is_err() {
             return Err(Fault::NoMemory);
         }
         touches();
@@ -351,10 +351,7 @@ impl<J: Naming, P: PathChoice + Drop> Core<J, P> {
         self.entries.add(&mut seat.share, 1);
         self.by.push_reserved(seat.number);
         raise(&mut seat.pairs, &seat.directory, &event, &reply);
-        seat.log.push_reserved(Entry {
-            event,
-            reply: reply.copy(),
-        });
+        seat.log.append(&event, &reply);
         Ok(reply)
     }
 
@@ -602,10 +599,10 @@ fn has_log<J: Naming>(by: &[u16], history: &History, seat: &Seat<J>) -> bool
     requires { length by.now ≡ length history.now }
     ensures { IsTrue result ↔ (entries_by seat.now.value.number by.now history.now ≡ seat.now.value.log) }
 {
-    is_log(seat.number, by, history, seat.log.as_slice())
+    is_log(seat.number, by, history, &seat.log.history())
 }
 
-fn is_log(number: u16, by: &[u16], history: &History, log: &[Entry]) -> bool
+fn is_log(number: u16, by: &[u16], history: &History, log: &History) -> bool
     requires { length by.now ≡ length history.now }
     ensures { IsTrue result ↔ (entries_by number by.now history.now ≡ log.now) }
 {
@@ -614,10 +611,10 @@ fn is_log(number: u16, by: &[u16], history: &History, log: &[Entry]) -> bool
         if by[place] != number {
             continue;
         }
-        if next >= log.len() {
+        let Some(entry) = log.get(next) else {
             return false;
-        }
-        if !has_entry(history, place, &log[next]) {
+        };
+        if !has_entry(history, place, &entry) {
             return false;
         }
         next += 1;

@@ -1,5 +1,6 @@
-use Rattle.std.proofs.Common.{◌+◌, [], ◌∷◌, ◌++◌, ℕ, List, length, rules, sym, ap, ◌∙◌, subst}
+use Rattle.std.proofs.Common.{◌+◌, [], ◌∷◌, ◌++◌, ℕ, List, length, sym, ap, ◌∙◌, subst}
 use Rattle.std.specs.Prelude.{All}
+use Rattle.chan_events.specs.declared.reply.Entry.{Entry}
 use Rattle.scsw_irb.specs.declared.serials.Serials.{Serials}
 use Rattle.machine_model.specs.Steps.{Step}
 use Rattle.subsystem.specs.Keeping.{IsOrdered, all_serials}
@@ -49,7 +50,7 @@ invariant_of-seat-2 g c =
     record {
       share = c.add.ensures.parts ∙ i.share;
       turns = i.turns;
-      entries = search rules;
+      entries = c.add.ensures.amount ∙ ap (λ (n : ℕ). n + 1) i.entries ∙ sym (longer c.seat.inside.log.entries c.append.new.self.entries (entry e reply) (c.append.ensures.entries ∙ ap (λ (l : List Entry). l ++ entry e reply ∷ []) c.make_room.ensures.entries));
       beside = ap length r ∙ raised_length pairs d e reply ∙ i.beside;
       ordered = subst (All IsOrdered) (sym r) (raised_ordered pairs d e reply c.in_ok-reply.ensures.ordered i.ordered);
       cells = i.cells;

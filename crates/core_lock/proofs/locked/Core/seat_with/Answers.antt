@@ -1,4 +1,4 @@
-use Rattle.std.proofs.Common.{◌-◌, None, sym, ap, ◌∙◌}
+use Rattle.std.proofs.Common.{None, sym, ap, ◌∙◌}
 use Rattle.subsystem.specs.Keeping.{all_serials}
 use Rattle.core_lock.specs.Directory.{Directory, directory_of, place_named}
 use Rattle.core_lock.specs.Seats.{LockedCore}
@@ -12,7 +12,7 @@ returns-clause-seat g c =
     let state = c.self.inside.subsystem.state in
     let directory = c.in-Ok.ensures.same ∙ i.directory ∙ sym (is_named state g.J.Naming.name.directory i.named) ∙ ap (λ (l : LockedCore). directory_of l.value.state) is in
     let number = ap (λ (l : LockedCore). l.value.seats) is in
-    let log = c.new.ensures.items in
+    let log = c.new.ensures.entries in
     let pairs = c.in-Ok-first_pairs.ensures.value ∙ ap (λ (l : LockedCore). all_serials l.value.state) is in
     let turns = c.split_off-turns.ensures.amount in
     λ j. record {
@@ -28,7 +28,7 @@ returns-clause-seat g c =
         kept = None;
         left = None;
       };
-      room = c.new.ensures.capacity j - c.new.ensures.len j;
+      room = c.new.ensures.room j;
     }
 
 pub returns-clause-places : goal.returns-clause-places
