@@ -128,3 +128,10 @@ pub tested_once : (race : Race) (cpu n : ℕ) (old : List Entry) (seat after : S
 tested_once race cpu n old seat after t (Ok reply) h is =
     tested_more race cpu n old seat.log after.log t (entry (tested race cpu) reply) h refl (ap (λ (s : Seated). s.log) is)
 tested_once race cpu n old seat after t (Err f) h is = tested_refused race cpu n old seat.log after.log t h (ap (λ (s : Seated). s.log) is)
+
+-- few instructions are counted
+pub few : (n m : ℕ) (t : Tally) → IsBelow (n + 1) t → n < m → IsBelow m t
+few n m t h lt = (h.0, below t.entries n m h.1 lt)
+  where
+    below : (a n m : ℕ) → a < n + 1 → n < m → a < m
+    below a n m x y = omega arith

@@ -1,6 +1,6 @@
 -- How the program ends where a script was read.
-use Rattle.std.proofs.Common.{◌≡◌, ℕ, Bool, true, false, ◌||◌, Option, None, Some, Ok, List, inl, inr, refl, sym, subst}
-use Rattle.std.specs.Prelude.{IfSome, IsTrue, ◌↔◌}
+use Rattle.std.proofs.Common.{◌≡◌, ℕ, Bool, true, false, ◌||◌, Option, None, Some, Ok, List, inl, inr, refl, sym, subst, ◌∙◌, true≢false}
+use Rattle.std.specs.Prelude.{IfSome, IsTrue, ◌↔◌, not}
 use Rattle.streams.specs.Sinks.{Seen, Puts}
 use Rattle.channel_config.specs.Setup.{Setup}
 use Rattle.script.specs.declared.Line.{Line}
@@ -61,7 +61,7 @@ fails old last lines held now true h = h
 fails old last lines held now false h = inl h
 
 unaudited : (audited : Bool) (A : Type 0) → audited ≡ false → (IsTrue audited ↔ A) → A → ⊥
-unaudited audited A is both a = absurd (cc (both.1 a) is)
+unaudited audited A is both a = true≢false (sym (both.1 a) ∙ is)
 
 pub ends_all : (old last : Installed) (lines : List Line) (held between now : Seen) (whole refused audited : Bool) (e : Ending)
     → PerformsTo whole old lines held between refused last → (IsTrue audited ↔ IsAudited last) → EndsBy audited whole refused between now e
@@ -117,3 +117,12 @@ ends_race old middle lines line held between now earlier later whole count e p r
       audited_is = refl;
       refused_is = refl;
     }))
+
+-- a negated test
+pub not_true : (b : Bool) → not b ≡ true → b ≡ false
+not_true true is = absurd (true≢false (sym is))
+not_true false is = refl
+
+pub not_false : (b : Bool) → not b ≡ false → b ≡ true
+not_false true is = refl
+not_false false is = absurd (true≢false is)

@@ -5,7 +5,7 @@ use Rattle.core_lock.specs.Seats.{HeldSeat, Locked}
 use Rattle.serving.specs.declared.tally.Tally.{Tally}
 use Rattle.serving.specs.Racing.{no_tally, plus, IsBelow, IsSeatedIn, Runner, AreReady, AreMade, total_after, total_of, seats_of}
 
-pub ready_more : (n : ℕ) (rs : List Runner) (r : Runner) → AreReady n rs → r.cpu ≡ n + length rs → r.seat.value.log ≡ [] → AreReady n (rs ++ r ∷ [])
+ready_more : (n : ℕ) (rs : List Runner) (r : Runner) → AreReady n rs → r.cpu ≡ n + length rs → r.seat.value.log ≡ [] → AreReady n (rs ++ r ∷ [])
 ready_more n [] r h is none =
     let sum : n + 0 ≡ n = omega arith in
     (is ∙ sum, none, tt)
@@ -40,3 +40,26 @@ seats_taken seats after all rs old r is grown h =
     ∙ ap (λ (l : List HeldSeat). seats ++ l) (sym (seats-last rs r))
     ∙ ap (λ (l : List Runner). seats ++ seats_of l) (sym is)
     ∙ h
+
+-- what a CPU counted is added
+pub codes_added : (t u v : Tally) (limit : ℕ) → v ≡ plus t u → t.zero + t.one + t.two + t.three ≤ t.entries → IsBelow limit u → v.zero + v.one + v.two + v.three ≤ v.entries
+codes_added t u v limit is h below = subst (λ (x : Tally). x.zero + x.one + x.two + x.three ≤ x.entries) (sym is) (omega arith)
+
+pub entries_added : (t u v : Tally) (n m : ℕ) → v ≡ plus t u → t.entries + 4294967296 * n ≤ 68719476736 → n ≡ m + 1 → IsBelow 4294967296 u → v.entries + 4294967296 * m ≤ 68719476736
+entries_added t u v n m is h one below =
+    subst (λ (x : Tally). x.entries + 4294967296 * m ≤ 68719476736) (sym is) (fits t.entries u.entries m n h one below.1)
+  where
+    fits : (e f m n : ℕ) → e + 4294967296 * n ≤ 68719476736 → n ≡ m + 1 → f < 4294967296 → e + f + 4294967296 * m ≤ 68719476736
+    fits e f m n x y z = omega arith
+
+pub seated_more : (old middle new : Locked) (n : ℕ) → middle ≡ record old { seats = old.seats + n } → new ≡ record middle { seats = middle.seats + 1 } → new ≡ record old { seats = old.seats + (n + 1) }
+seated_more old middle new n is more =
+    more ∙ ap (λ (l : Locked). record l { seats = l.seats + 1 }) is ∙ ap (λ (k : ℕ). record old { seats = k }) (sum old.seats n)
+  where
+    sum : (a b : ℕ) → a + b + 1 ≡ a + (b + 1)
+    sum a b = omega arith
+
+pub ready_next : (rs all : List Runner) (r : Runner) (n : ℕ) → AreReady 0 rs → length rs ≡ n → r.cpu ≡ n → r.seat.value.log ≡ [] → all ≡ rs ++ r ∷ [] → AreReady 0 all
+ready_next rs all r n h len is none grown =
+    let zero : n ≡ 0 + n = omega arith in
+    subst (AreReady 0) (sym grown) (ready_more 0 rs r h (is ∙ zero ∙ ap (λ (k : ℕ). 0 + k) (sym len)) none)

@@ -1,0 +1,27 @@
+-- What an audit after a race tells.
+use Rattle.std.proofs.Common.{◌≡◌, ℕ, Bool, true, false, List, sym, ap, subst, ◌∙◌, true≢false}
+use Rattle.std.specs.Prelude.{IsTrue, ◌↔◌}
+use Rattle.core_lock.specs.Seats.{HeldSeat, Locked}
+use Rattle.script_text.specs.declared.race.RaceCount.{RaceCount}
+use Rattle.serving.specs.declared.tally.Tally.{Tally}
+use Rattle.serving.specs.Racing.{HasLogs, count_of}
+
+pub told_of : (r : RaceCount) (t total : Tally) (audited : Bool) → r ≡ count_of t audited → t ≡ total → r ≡ count_of total r.audited
+told_of r t total audited is same =
+    is ∙ ap (λ (x : Tally). count_of x audited) same ∙ ap (λ (b : Bool). count_of total b) (sym (ap (λ (x : RaceCount). x.audited) is))
+
+pub told_audited : (A : Type 0) (r : RaceCount) (t : Tally) (audited : Bool) → r ≡ count_of t audited → IsTrue audited ↔ A → IsTrue r.audited ↔ A
+told_audited A r t audited is h = subst (λ (b : Bool). IsTrue b ↔ A) (sym (ap (λ (x : RaceCount). x.audited) is)) h
+
+-- each look had shown what the machine had: the logs decide
+pub settled : (audited found agrees inside : Bool) (after : Locked) (seats all : List HeldSeat) (n m : ℕ) → audited ≡ found → agrees ≡ inside → inside ≡ true → seats ≡ all → n ≡ m
+    → IsTrue found ↔ HasLogs after seats n → IsTrue audited ↔ ((agrees ≡ true) × HasLogs after all m)
+settled audited found agrees inside after seats all n m is view agreed gathered count h =
+    let there = subst (λ (l : List HeldSeat). IsTrue found ↔ HasLogs after l n) gathered h in
+    let moved = subst (λ (k : ℕ). IsTrue found ↔ HasLogs after all k) count there in
+    subst (λ (b : Bool). IsTrue b ↔ ((agrees ≡ true) × HasLogs after all m)) (sym is) ((λ t. (view ∙ agreed, moved.0 t)), (λ both. moved.1 both.1))
+
+-- a look had not
+pub unsettled : (audited agrees inside : Bool) (A : Type 0) → audited ≡ false → agrees ≡ inside → inside ≡ false → IsTrue audited ↔ ((agrees ≡ true) × A)
+unsettled audited agrees inside A is view differed =
+    subst (λ (b : Bool). IsTrue b ↔ ((agrees ≡ true) × A)) (sym is) ((λ t. absurd (true≢false (sym t))), (λ both. absurd (true≢false (sym both.0 ∙ view ∙ differed))))
