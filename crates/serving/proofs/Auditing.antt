@@ -1,8 +1,9 @@
--- What an audit after a race tells.
+-- What an audit tells, by itself and after a race.
 use Rattle.std.proofs.Common.{◌≡◌, ℕ, Bool, true, false, List, sym, ap, subst, ◌∙◌, true≢false}
 use Rattle.std.specs.Prelude.{IsTrue, ◌↔◌}
-use Rattle.core_lock.specs.Seats.{HeldSeat, Locked}
+use Rattle.core_lock.specs.Seats.{HeldSeat, Locked, entries_by}
 use Rattle.script_text.specs.declared.race.RaceCount.{RaceCount}
+use Rattle.serving.specs.Acting.{Installed, IsAudited}
 use Rattle.serving.specs.declared.tally.Tally.{Tally}
 use Rattle.serving.specs.Racing.{HasLogs, count_of}
 
@@ -25,3 +26,15 @@ settled audited found agrees inside after seats all n m is view agreed gathered 
 pub unsettled : (audited agrees inside : Bool) (A : Type 0) → audited ≡ false → agrees ≡ inside → inside ≡ false → IsTrue audited ↔ ((agrees ≡ true) × A)
 unsettled audited agrees inside A is view differed =
     subst (λ (b : Bool). IsTrue b ↔ ((agrees ≡ true) × A)) (sym is) ((λ t. absurd (true≢false (sym t))), (λ both. absurd (true≢false (sym both.0 ∙ view ∙ differed))))
+
+-- the log of the one seat decides, where each look had shown what the machine had
+pub alone : (audited found : Bool) (view i : Installed) → audited ≡ found → view ≡ i → view.books.agrees ≡ true
+    → IsTrue found ↔ (entries_by view.books.number view.books.by view.past.history ≡ view.books.log) → IsTrue audited ↔ IsAudited i
+alone audited found view i is same agreed h =
+    subst (λ (x : Installed). IsTrue audited ↔ IsAudited x) same
+    (subst (λ (b : Bool). IsTrue b ↔ IsAudited view) (sym is) ((λ t. (agreed, h.0 t)), (λ both. h.1 both.1)))
+
+pub differed : (audited : Bool) (view i : Installed) → audited ≡ false → view ≡ i → view.books.agrees ≡ false → IsTrue audited ↔ IsAudited i
+differed audited view i is same saw =
+    subst (λ (x : Installed). IsTrue audited ↔ IsAudited x) same
+    (subst (λ (b : Bool). IsTrue b ↔ IsAudited view) (sym is) ((λ t. absurd (true≢false (sym t))), (λ both. absurd (true≢false (sym both.0 ∙ saw)))))
