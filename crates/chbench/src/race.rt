@@ -54,31 +54,43 @@ struct Runner<J: Naming> {
 impl<J: Naming> Runner<J> {
     /// Does so many times what it is for.
     fn run<R: Wait>(&mut self, rt: &R, machine: &Machine<J, Rotating>, times: u64) {
-        match self.task {
-            Task::Tests(cpu) => self.tests(rt, machine, cpu, times),
-            Task::Looks => self.looks(times.saturating_mul(LOOKS)),
-        }
+        self.answered = match &self.task {
+            Task::Tests(cpu) => tests(rt, machine, &mut self.seat, *cpu, times),
+            Task::Looks => looks(&mut self.seat, times.saturating_mul(LOOKS)),
+        };
     }
+}
 
-    fn tests<R: Wait>(&mut self, rt: &R, machine: &Machine<J, Rotating>, cpu: Cpu, times: u64) {
-        let test = CpuInstruction::OnSubchannel(Instruction::Tsch {
-            subchannel: word_of(0),
-            address: IRB,
-        });
-        for _ in 0..times {
-            if machine.instruct(rt, &mut self.seat, cpu, test).is_ok() {
-                self.answered = self.answered.saturating_add(1);
-            }
+/// A CPU executes TEST SUBCHANNEL so many times: how many were answered.
+fn tests<J: Naming, R: Wait>(
+    rt: &R,
+    machine: &Machine<J, Rotating>,
+    seat: &mut Seat<J>,
+    cpu: Cpu,
+    times: u64,
+) -> u64 {
+    let test = CpuInstruction::OnSubchannel(Instruction::Tsch {
+        subchannel: word_of(0),
+        address: IRB,
+    });
+    let mut answered = 0u64;
+    for _ in 0..times {
+        if machine.instruct(rt, seat, cpu, test).is_ok() {
+            answered = answered.saturating_add(1);
         }
     }
+    answered
+}
 
-    fn looks(&mut self, times: u64) {
-        for _ in 0..times {
-            if self.seat.glance(word_of(0)).is_ok() {
-                self.answered = self.answered.saturating_add(1);
-            }
+/// So many looks at the serials of the subchannel: how many were answered.
+fn looks<J: Naming>(seat: &mut Seat<J>, times: u64) -> u64 {
+    let mut answered = 0u64;
+    for _ in 0..times {
+        if seat.glance(word_of(0)).is_ok() {
+            answered = answered.saturating_add(1);
         }
     }
+    answered
 }
 
 /// One more runner; false where there is no seat or no memory.
