@@ -1,6 +1,7 @@
 //! A channel subsystem of which the last subchannel is measured, with its device.
 
 use crate::cycle::{Beat, IRB, Kind, ORB};
+use crate::floor::Floor;
 use chan_events::event::{Event, Instruction, UnitAct};
 use chan_model::chunk::Chunk;
 use chan_model::names::Cpu;
@@ -10,20 +11,18 @@ use channel_config::parts::UnitKind;
 use device_law::answering::answer;
 use device_models::any_device::AnyDevice;
 use machine_model::state::UnitTurn;
-use path_select::Rotating;
 use std::alloc::{AllocError, Global};
-use subsystem::subsystem::Subsystem;
 
 /// The channel paths of each subchannel, the first of them or all.
 const CHPIDS: [u32; 8] = [0x10, 0x11, 0x12, 0x13, 0x14, 0x15, 0x16, 0x17];
 
 /// The most subchannels that there are: 256 in each of four sets.
-pub const MOST_SUBCHANNELS: u32 = 0x400;
+const MOST_SUBCHANNELS: u32 = 0x400;
 
-/// A channel subsystem, the subchannel that is measured, and the device of its unit.
+/// What events are performed at, the subchannel that is measured, and the device of its unit.
 #[derive(Drop)]
-pub struct Bench {
-    subsystem: Subsystem<Rotating>,
+pub struct Bench<F: Floor + Drop> {
+    floor: F,
     device: AnyDevice,
     cpu: Cpu,
     subchannel: u32,
@@ -42,12 +41,15 @@ pub struct Count {
 }
 
 /// The subsystem-identification word of the subchannel of this place.
-fn word_of(place: u32) -> u32 {
+pub fn word_of(place: u32) -> u32 {
     0x0001_0000 | ((place >> 8) << 17) | (place & 0xFF)
 }
 
-/// So many subchannels with so many paths, each with a unit of its own.
-fn config_of(alloc: Global, subchannels: u32, paths: usize) -> Config {
+/// So many subchannels, 1 to 1,024, with so many paths, each with a unit of its own. None where there are not so many.
+pub fn config_of(alloc: Global, subchannels: u32, paths: usize) -> Option<Config> {
+    if subchannels == 0 || subchannels > MOST_SUBCHANNELS {
+        return None;
+    }
     let mut config = Config::new(alloc);
     let _ = config.storage(0x10);
     let _ = config.sets(4);
@@ -59,42 +61,57 @@ fn config_of(alloc: Global, subchannels: u32, paths: usize) -> Config {
         let _ = config.unit(place, UnitKind::Block);
         let _ = config.subchannel(word_of(place), place & 0xFFFF, place, chpids);
     }
-    config
+    Some(config)
 }
 
-impl Bench {
-    /// The last of so many subchannels, 1 to 1,024, is enabled, and a program of this kind lies in storage. None where there
-    /// are not so many, or no memory.
-    pub fn new(alloc: Global, kind: Kind, subchannels: u32) -> Option<Bench> {
+impl<F: Floor + Drop> Bench<F> {
+    /// The last of so many subchannels is enabled, and a program of this kind lies in storage. None where that is refused, or
+    /// no memory is left.
+    pub fn at(alloc: Global, floor: F, kind: Kind, subchannels: u32) -> Option<Bench<F>> {
         let cpu = Cpu::new(0)?;
         let last = subchannels.checked_sub(1)?;
-        if last >= MOST_SUBCHANNELS {
-            return None;
-        }
-        let config = config_of(alloc, subchannels, kind.paths());
-        let subsystem = Subsystem::new(alloc, config, Rotating).ok()?;
         let mut bench = Bench {
-            subsystem,
+            floor,
             device: AnyDevice::of(UnitKind::Block),
             cpu,
             subchannel: word_of(last),
             unit: last,
         };
-        let enabling = bench.execute(Instruction::Enable {
-            subchannel: bench.subchannel,
+        if bench.begins(alloc, kind) {
+            Some(bench)
+        } else {
+            None
+        }
+    }
+
+    /// The program is put into storage, and the subchannel enabled.
+    fn begins(&mut self, alloc: Global, kind: Kind) -> bool {
+        let Ok(loads) = kind.loads(alloc) else {
+            return false;
+        };
+        for load in loads {
+            if !self.floor.accepts(load) {
+                return false;
+            }
+        }
+        let enabling = self.execute(Instruction::Enable {
+            subchannel: self.subchannel,
             subclass: 0,
             multipath: true,
         });
-        let loads = kind.loads(alloc).ok()?;
-        for load in loads.iter() {
-            if bench.subsystem.step(load).is_err() {
-                return None;
-            }
-        }
-        if bench.subsystem.step(&enabling).is_err() {
-            return None;
-        }
-        Some(bench)
+        self.floor.accepts(enabling)
+    }
+
+    /// What its events were performed at.
+    pub fn into_floor(self) -> F {
+        let Bench {
+            floor,
+            device: _,
+            cpu: _,
+            subchannel: _,
+            unit: _,
+        } = self;
+        floor
     }
 
     fn execute(&self, instruction: Instruction) -> Event {
@@ -106,7 +123,7 @@ impl Bench {
 
     /// The report of the unit's next work, its device having been called where the work is a call.
     fn report(&mut self) -> Option<Event> {
-        let UnitTurn::Works(work) = self.subsystem.unit_turn(self.unit)? else {
+        let UnitTurn::Works(work) = self.floor.subsystem().unit_turn(self.unit)? else {
             return None;
         };
         let report = match work {
@@ -162,7 +179,7 @@ impl Bench {
     /// Whether the event of a beat is accepted.
     fn perform(&mut self, beat: Beat) -> bool {
         match self.event(beat) {
-            Some(event) => self.subsystem.step(&event).is_ok(),
+            Some(event) => self.floor.accepts(event),
             None => false,
         }
     }
@@ -189,7 +206,7 @@ impl Bench {
 
     /// How many entries the history has.
     fn entries(&self) -> u64 {
-        self.subsystem.history().len() as u64
+        self.floor.subsystem().history().len() as u64
     }
 
     /// Performs so many cycles of this kind.
@@ -197,7 +214,7 @@ impl Bench {
         let beats = kind.beats(alloc)?;
         let before = self.entries();
         let refused = self.cycles(beats.as_slice(), cycles);
-        let cleared = match self.subsystem.serials(self.subchannel) {
+        let cleared = match self.floor.subsystem().serials(self.subchannel) {
             Some(serials) => serials.cleared,
             None => 0,
         };

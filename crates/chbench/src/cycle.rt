@@ -40,6 +40,8 @@ pub enum Kind {
     Chain,
     /// One write of four bytes, whose unit leaves its path and comes back on the next one eight times.
     Reconnect,
+    /// No program: the TEST SUBCHANNEL alone.
+    Test,
 }
 
 /// One event of a cycle, at the subchannel that is measured and its unit.
@@ -74,6 +76,8 @@ impl Kind {
             Some(Kind::Chain)
         } else if name == "reconnect" {
             Some(Kind::Reconnect)
+        } else if name == "test" {
+            Some(Kind::Test)
         } else {
             None
         }
@@ -86,6 +90,7 @@ impl Kind {
             Kind::Read => "read",
             Kind::Chain => "chain",
             Kind::Reconnect => "reconnect",
+            Kind::Test => "test",
         }
     }
 
@@ -93,7 +98,7 @@ impl Kind {
     pub fn paths(self) -> usize {
         match self {
             Kind::Reconnect => 8,
-            Kind::Write | Kind::Read | Kind::Chain => 1,
+            Kind::Write | Kind::Read | Kind::Chain | Kind::Test => 1,
         }
     }
 
@@ -104,7 +109,7 @@ impl Kind {
         loads.push(put(ORB, &[0, 0, 0, 0, 0, 0x80, 0x80, 0, 0, 0, 0x10, 0]))?;
         loads.push(put(DATA, &[0xC1, 0xC2, 0xC3, 0xC4]))?;
         match self {
-            Kind::Write | Kind::Reconnect => loads.push(put(PROGRAM, &WRITE))?,
+            Kind::Write | Kind::Reconnect | Kind::Test => loads.push(put(PROGRAM, &WRITE))?,
             Kind::Read => loads.push(put(PROGRAM, &READ))?,
             Kind::Chain => {
                 loads.push(links(PROGRAM, CHAINED / 2 - 1, &WRITE_AND_CHAIN))?;
@@ -117,6 +122,10 @@ impl Kind {
     /// The events of one cycle.
     pub fn beats(self, alloc: Global) -> Result<Vec<Beat>, AllocError> {
         let mut beats = Vec::new(alloc);
+        if let Kind::Test = self {
+            beats.push(Beat::Test)?;
+            return Ok(beats);
+        }
         beats.extend_from_slice(&[Beat::Start, Beat::Choose, Beat::Down(0), Beat::Up(0)])?;
         match self {
             Kind::Write => add_write(&mut beats)?,
@@ -133,6 +142,7 @@ impl Kind {
                 }
                 add_transfer(&mut beats)?;
             }
+            Kind::Test => {}
         }
         beats.extend_from_slice(&[Beat::Test, Beat::Down(0), Beat::Up(0)])?;
         Ok(beats)

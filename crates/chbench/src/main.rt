@@ -1,56 +1,139 @@
 //! `chbench`: performs cycles of channel programs at a channel subsystem, without a script, so that what a cycle costs can be
 //! counted from outside, as the difference of two lengths.
 //!
-//! Its words are any number of triples `KIND SUBCHANNELS CYCLES`: the kind is `write`, `read`, `chain` or `reconnect`, the
-//! last of so many subchannels is used, and both numbers are decimal. For each triple it prints how many events were
-//! accepted and refused, and how many statuses were cleared.
+//! Its words are any number of groups of four, each performed at a machine of its own; all numbers are decimal:
+//!
+//! - `step KIND SUBCHANNELS CYCLES`: so many cycles by `Subsystem::step`, at the last of so many subchannels. The kind is
+//!   `write`, `read`, `chain`, `reconnect`, or `test`, which is one TEST SUBCHANNEL.
+//! - `enter KIND SUBCHANNELS CYCLES`: the same by `Core::enter`, from the first seat of a core that no lock guards.
+//! - `race CPUS LOOKERS TIMES`: so many CPUs, each on a thread of its own, execute TEST SUBCHANNEL under the lock, so many times
+//!   each, while so many lookers look at the serials of the same subchannel, 64 times as often.
+//!
+//! For each group it prints how many events were accepted and refused and how many statuses were cleared; of a race how many
+//! instructions and looks were answered, and whether the audit answers yes.
 #![tactic(auto)]
 
 mod bench;
 mod cycle;
+mod floor;
+mod race;
+mod seats;
 
-use crate::bench::{Bench, Count};
+use crate::bench::{Bench, Count, config_of};
 use crate::cycle::Kind;
+use crate::race::{Race, RaceCount};
+use crate::seats::{Outcome, Task};
+use path_select::Rotating;
 use std::alloc::Global;
 use std::process::ExitCode;
+use std::sync::Wait;
+use std::thread::Threads;
 use std::{env, io};
+use subsystem::subsystem::Subsystem;
 
-/// What a triple of words asks for.
+/// What a group of words asks for.
 #[derive(Clone, Copy)]
-struct Wanted {
-    kind: Kind,
-    subchannels: u32,
-    cycles: u64,
+enum Wanted {
+    /// Cycles at a subsystem by itself.
+    Step {
+        kind: Kind,
+        subchannels: u32,
+        cycles: u64,
+    },
+    /// A task at a core.
+    AtCore(Task),
+}
+
+fn number(word: &String) -> Option<u32> {
+    word.as_str().parse::<u32>().ok()
 }
 
 impl Wanted {
     /// What these words ask for; None where they are none of those above.
     fn of(words: &[String]) -> Option<Wanted> {
-        Some(Wanted {
-            kind: Kind::named(words.get(0)?.as_str())?,
-            subchannels: words.get(1)?.as_str().parse::<u32>().ok()?,
-            cycles: words.get(2)?.as_str().parse::<u64>().ok()?,
-        })
+        let name = words.get(0)?.as_str();
+        let second = words.get(1)?;
+        let third = number(words.get(2)?)?;
+        let times = words.get(3)?.as_str().parse::<u64>().ok()?;
+        if name == "step" {
+            Some(Wanted::Step {
+                kind: Kind::named(second.as_str())?,
+                subchannels: third,
+                cycles: times,
+            })
+        } else if name == "enter" {
+            Some(Wanted::AtCore(Task::Cycles {
+                kind: Kind::named(second.as_str())?,
+                subchannels: third,
+                cycles: times,
+            }))
+        } else if name == "race" {
+            Some(Wanted::AtCore(Task::Race(Race {
+                cpus: number(second)?,
+                lookers: third,
+                times,
+            })))
+        } else {
+            None
+        }
     }
 
-    /// Performs it on a subsystem of its own; None where there are not so many subchannels, or no memory.
-    fn perform(self, alloc: Global) -> Option<Count> {
-        let mut bench = Bench::new(alloc, self.kind, self.subchannels)?;
-        bench.measure(alloc, self.kind, self.cycles).ok()
+    /// Performs it at a machine of its own; None where there are not so many subchannels, CPUs or seats, or no memory.
+    fn perform<R: Threads + Wait + Sync>(self, rt: &R, alloc: Global) -> Option<Outcome> {
+        match self {
+            Wanted::Step {
+                kind,
+                subchannels,
+                cycles,
+            } => Some(Outcome::Count(stepped(alloc, kind, subchannels, cycles)?)),
+            Wanted::AtCore(task) => seats::perform(rt, alloc, task),
+        }
     }
 }
 
-/// Prints what came of the cycles.
-fn show(rt: &HostRuntime, wanted: Wanted, count: Count) -> io::Result<()> {
-    println!(rt;
-        "{} at the last of {}, {} cycles: {} events accepted, {} refused, {} statuses cleared",
-        wanted.kind.name(),
-        wanted.subchannels,
-        wanted.cycles,
-        count.accepted,
-        count.refused,
-        count.cleared
-    )
+/// Cycles at a subsystem by itself.
+fn stepped(alloc: Global, kind: Kind, subchannels: u32, cycles: u64) -> Option<Count> {
+    let config = config_of(alloc, subchannels, kind.paths())?;
+    let subsystem = Subsystem::new(alloc, config, Rotating).ok()?;
+    let mut bench = Bench::at(alloc, subsystem, kind, subchannels)?;
+    bench.measure(alloc, kind, cycles).ok()
+}
+
+/// Prints the words of a group.
+fn show_words(rt: &HostRuntime, words: &[String]) -> io::Result<()> {
+    for word in words {
+        print!(rt; "{} ", word.as_str())?;
+    }
+    Ok(())
+}
+
+/// Prints what came of a group.
+fn show(rt: &HostRuntime, outcome: Outcome) -> io::Result<()> {
+    match outcome {
+        Outcome::Count(
+            Count {
+                accepted,
+                refused,
+                cleared,
+            },
+        ) => println!(rt;
+            "- {} events accepted, {} refused, {} statuses cleared",
+            accepted, refused, cleared
+        ),
+        Outcome::Race(
+            RaceCount {
+                instructions,
+                looks,
+                audited,
+            },
+        ) => {
+            let audit = if audited { "yes" } else { "no" };
+            println!(rt;
+                "- {} instructions, {} looks, audit {}",
+                instructions, looks, audit
+            )
+        }
+    }
 }
 
 fn main(rt: HostRuntime) -> io::Result<ExitCode> {
@@ -60,16 +143,19 @@ fn main(rt: HostRuntime) -> io::Result<ExitCode> {
     for word in args {
         words.push(word)?;
     }
-    for triple in words.as_slice().chunks(3) {
-        let Some(wanted) = Wanted::of(triple) else {
-            println!(rt; "chbench: KIND SUBCHANNELS CYCLES ..")?;
+    for group in words.as_slice().chunks(4) {
+        let Some(wanted) = Wanted::of(group) else {
+            println!(rt;
+                "chbench: step|enter KIND SUBCHANNELS CYCLES | race CPUS LOOKERS TIMES .."
+            )?;
             return Ok(ExitCode::from(2));
         };
-        let Some(count) = wanted.perform(rt.alloc()) else {
-            println!(rt; "chbench: no such subchannel, or no memory")?;
+        let Some(outcome) = wanted.perform(&rt, rt.alloc()) else {
+            println!(rt; "chbench: no such subchannel, too many CPUs or seats, or no memory")?;
             return Ok(ExitCode::from(1));
         };
-        show(&rt, wanted, count)?;
+        show_words(&rt, group)?;
+        show(&rt, outcome)?;
     }
     Ok(ExitCode::SUCCESS)
 }

@@ -1,16 +1,32 @@
 //! Runs every stored script and compares what it prints with the file beside it, byte by byte.
 //!
 //! Its words are folders and lists. For each `NAME.chs` in a folder, in the order of their names, one line is printed: the folder,
-//! the name, the exit status, and how the run differs from `NAME.out` where it does. A list ends in `.txt` and has a script in each
+//! the name, the exit status, and how the run differs from `NAME.out` where it does. A script with a race is performed as
+//! `chsim race` does, any other as `chsim run` does. A list ends in `.txt` and has a script in each
 //! line: its lines parted by ` / `, then ` -> ` and what `check` must print of it. How many there are is printed, and those of which it
 //! prints something else.
 #![tactic(auto)]
 
-use serving::{check_script, serve_script};
+use serving::{check_script, race_script, serve_script};
 use std::alloc::{AllocError, Global};
 use std::rt::Files;
-use std::{env, fs, io};
+use std::sync::Wait;
+use std::thread::Threads;
+use std::{env, fs, io, str};
 use streams::{Heard, Watched};
+
+/// Whether a line of the script is a race.
+fn races(script: &[u8]) -> bool {
+    let Ok(text) = str::from_utf8(script) else {
+        return false;
+    };
+    for line in text.lines() {
+        if line.starts_with("race ") {
+            return true;
+        }
+    }
+    false
+}
 
 /// What a command printed over a script, and its exit status.
 #[derive(Drop)]
@@ -20,14 +36,18 @@ struct Served {
 }
 
 impl Served {
-    /// The script is performed.
-    fn by_run(alloc: Global, script: &[u8]) -> Served {
+    /// The script is performed, with its race where there is one.
+    fn by_run<R: Threads + Wait + Sync>(rt: &R, alloc: Global, script: &[u8]) -> Served {
         let mut reader = Heard::new(script);
         let mut sink = Watched::new(Vec::new(alloc));
-        let status = serve_script(alloc, &mut reader, &mut sink).status();
+        let ending = if races(script) {
+            race_script(rt, alloc, &mut reader, &mut sink)
+        } else {
+            serve_script(alloc, &mut reader, &mut sink)
+        };
         Served {
             printed: sink.writer,
-            status,
+            status: ending.status(),
         }
     }
 
@@ -42,9 +62,12 @@ impl Served {
         }
     }
 
-    /// `check` answers as it must beside this run: a bad line in the same words, and that any other script is good.
-    fn is_checked_by(&self, check: &Served) -> bool {
-        if self.status == 2 {
+    /// `check` answers as it must beside this run: a bad line in the same words, a race by rule 7, and that any other script is
+    /// good.
+    fn is_checked_by(&self, check: &Served, races: bool) -> bool {
+        if races {
+            check.status == 2 && check.printed.as_slice().ends_with(b" rule 7\n".as_slice())
+        } else if self.status == 2 {
             check.status == 2 && check.printed.as_slice() == self.printed.as_slice()
         } else {
             check.status == 0 && check.printed.as_slice() == b"script ok\n".as_slice()
@@ -83,8 +106,14 @@ fn names_in<R: Files + AllocGlobal + Clone + Drop>(
 }
 
 /// What is printed of a script, and of the text that it must print, where there is one.
-fn told(alloc: Global, name: &str, script: &[u8], wanted: Option<&[u8]>) -> io::Result<String> {
-    let run = Served::by_run(alloc, script);
+fn told<R: Threads + Wait + Sync>(
+    rt: &R,
+    alloc: Global,
+    name: &str,
+    script: &[u8],
+    wanted: Option<&[u8]>,
+) -> io::Result<String> {
+    let run = Served::by_run(rt, alloc, script);
     let status = run.status;
     let mut text = format!(in alloc; "{name} {status}")?;
     match wanted {
@@ -95,18 +124,22 @@ fn told(alloc: Global, name: &str, script: &[u8], wanted: Option<&[u8]>) -> io::
             text.push_str(format!(in alloc; ": what it prints differs in line {line}")?.as_str())?;
         }
     }
-    if !run.is_checked_by(&Served::by_check(alloc, script)) {
+    if !run.is_checked_by(&Served::by_check(alloc, script), races(script)) {
         text.push_str(": check answers otherwise")?;
     }
     Ok(text)
 }
 
 /// What is printed of the script of this path, which lacks its ending.
-fn told_of<R: Files + AllocGlobal>(rt: &R, path: &str) -> io::Result<String> {
+fn told_of<R: Files + AllocGlobal + Threads + Wait + Sync>(
+    rt: &R,
+    path: &str,
+) -> io::Result<String> {
     let alloc = rt.alloc();
     let script = fs::read(rt, format!(in alloc; "{path}.chs")?)?;
     let wanted = fs::read(rt, format!(in alloc; "{path}.out")?).ok();
     told(
+        rt,
         alloc,
         path,
         script.as_slice(),
@@ -115,7 +148,7 @@ fn told_of<R: Files + AllocGlobal>(rt: &R, path: &str) -> io::Result<String> {
 }
 
 /// What is printed of each script of a folder.
-fn tell_folder<R: Files + AllocGlobal + Print + Clone + Drop>(
+fn tell_folder<R: Files + AllocGlobal + Print + Threads + Wait + Sync + Clone + Drop>(
     rt: &R,
     folder: &str,
 ) -> io::Result<()> {

@@ -1,0 +1,24 @@
+# Four CPUs execute TEST SUBCHANNEL for the status of one write side by side, each a hundred times, on threads of their own.
+# Look at the last line: of four hundred one clears the status, whichever comes first, and all others find none; by chsim race.
+storage 10
+path 10
+unit 0 block
+sub 0 0100 0 10
+put 500 000000000080FF0000001000
+put 1000 0120000400002000
+put 2000 C1C2C3C4
+enable 0 0 0
+ssch 0 500
+choose 0
+down 0 0
+up 0 0
+down 0 0
+dev 0
+up 0 0
+down 0 0
+dev 0
+up 0 0
+down 0 0
+dev 0
+up 0 0
+race 4 100 tsch 0
