@@ -1,10 +1,8 @@
 //! A module for each crate that is tested.
 
-mod acts_tests;
 mod device_models_ends;
 mod device_models_tests;
 mod many_subchannels_tests;
-mod paths_tests;
 mod script_lines;
 mod script_rows_tests;
 mod script_tests;

@@ -6,7 +6,7 @@ use chan_model::answer::{Answer, ConditionCode};
 use chan_model::chunk::Chunk;
 use chan_model::fault::Fault;
 use chan_model::names::Path;
-use chan_model::signal::{Down, Load, Up};
+use chan_model::signal::{Down, Up};
 use script_text::{put_refusal, put_reply};
 use scsw_irb::code::IntCode;
 use scsw_irb::crw::{Crw, PathReport};
@@ -77,9 +77,7 @@ fn replies_are_shown(rt: HostRuntime) {
         made: 1,
         cleared: 0,
     };
-    let status = DeviceStatus::ATTENTION;
-    let rows: [(Reply, &[u8]); 30] = [
-        (Reply::Done, b"done"),
+    let rows: [(Reply, &[u8]); 5] = [
         (
             Reply::Shown {
                 bytes: Chunk::of(&[0xC1, 0x02, 0xAF]),
@@ -87,16 +85,6 @@ fn replies_are_shown(rt: HostRuntime) {
             b"C102AF",
         ),
         (Reply::Code(Answer::Zero(serials)), b"cc 0"),
-        (Reply::Code(Answer::One(serials)), b"cc 1"),
-        (Reply::Code(Answer::Two), b"cc 2"),
-        (Reply::Code(Answer::Three), b"cc 3"),
-        (
-            Reply::Status {
-                answer: Answer::Zero(serials),
-                scsw: ended(),
-            },
-            b"cc 0 00804007 00001008 0C2000AF",
-        ),
         (
             Reply::Status {
                 answer: Answer::One(serials),
@@ -104,106 +92,8 @@ fn replies_are_shown(rt: HostRuntime) {
             },
             b"cc 1 00804007 00001008 0C2000AF",
         ),
-        (Reply::Pending, b"status"),
-        (Reply::Idle, b"idle"),
-        (down(Down::Select { number: 1 }), b"ignored select"),
-        (
-            down(Down::Command {
-                number: 1,
-                command: 1,
-                code: 1,
-                room: 0,
-            }),
-            b"ignored command",
-        ),
-        (
-            down(Down::Grant {
-                number: 1,
-                connection: 0,
-            }),
-            b"ignored grant",
-        ),
-        (
-            down(Down::Refuse {
-                number: 1,
-                connection: 0,
-            }),
-            b"ignored refuse",
-        ),
-        (
-            down(Down::Took {
-                number: 1,
-                command: 1,
-                sequence: 1,
-                room: 0,
-            }),
-            b"ignored took",
-        ),
-        (
-            down(Down::Give {
-                number: 1,
-                connection: 0,
-                command: 1,
-                sequence: 1,
-                bytes: Chunk::new(),
-            }),
-            b"ignored give",
-        ),
-        (down(Down::Halt { number: 1 }), b"ignored halt"),
-        (down(Down::Release { number: 1 }), b"ignored release"),
-        (
-            down(Down::Reset {
-                number: 1,
-                restarts: 0,
-            }),
-            b"ignored reset",
-        ),
         (down(Down::Got { attention: 1 }), b"ignored got"),
-        (up(Up::Accept { number: 1 }), b"took accept"),
-        (up(Up::Busy { number: 1 }), b"took busy"),
-        (
-            up(Up::Leave {
-                number: 1,
-                connection: 0,
-            }),
-            b"took leave",
-        ),
-        (
-            up(Up::Back {
-                number: 1,
-                connection: 0,
-            }),
-            b"took back",
-        ),
-        (
-            up(Up::Data {
-                number: 1,
-                connection: 0,
-                command: 1,
-                sequence: 0,
-                load: Load::Absorbed(0),
-            }),
-            b"took data",
-        ),
-        (
-            up(Up::End {
-                number: 1,
-                command: 1,
-                status,
-                more: false,
-            }),
-            b"took end",
-        ),
-        (up(Up::Released { number: 1 }), b"took released"),
-        (up(Up::Cleared { number: 1 }), b"took cleared"),
         (up(Up::Notice { restarts: 1 }), b"took notice"),
-        (
-            up(Up::Attn {
-                attention: 1,
-                status,
-            }),
-            b"took attn",
-        ),
     ];
     for (reply, text) in &rows {
         let mut sink = Watched::new(Vec::new(rt.alloc()));

@@ -5,89 +5,14 @@ use script::{Script, ScriptBad};
 use std::alloc::AllocError;
 use supply::{Given, Refusing};
 
-const WRONG: [(&[u8], u64, u8); 32] = [
+const WRONG: [(&[u8], u64, u8); 7] = [
     (b"", 1, 6),
     (b"\n\n# nothing\n", 1, 6),
     (b"\n#\xFF\n", 1, 6),
-    (b"path 10\nstorage 10\n", 1, 6),
-    (b"race 1 1 tsch 0\n", 1, 6),
     (b"# first \xFF\npath 10\n", 1, 3),
-    (b"storage 10\nlook 0\n", 2, 1),
-    (b"storage 10\n\nStorage 10\n", 3, 1),
-    (b"storage 10\n path 10\n", 2, 1),
-    (b"storage\n", 1, 2),
-    (b"storage 10\nunit 0 block \n", 2, 2),
-    (b"storage 123456789\n", 1, 3),
-    (b"storage 10\nunit 0 block\nsub 0 0 0 10 1x\n", 3, 3),
     (b"storage 10\ndev 0\r\n", 2, 3),
-    (b"storage 10\nput 500 C1\npath 10\n", 3, 4),
-    (b"storage 10\nput 500 C1\nstorage 10\n", 3, 4),
-    (b"storage 10\nstorage 10\n", 2, 5),
-    (b"storage F\n", 1, 5),
-    (b"storage 10\nsets 5\n", 2, 5),
-    (b"storage 10\npath 100\n", 2, 5),
-    (b"storage 10\nunit 1 block\n", 2, 5),
-    (b"storage 10\nunit 0 block\nsub 20000 0 0 10\n", 3, 5),
-    (b"storage 10\nunit 0 block\nsub 0 0 0\n", 3, 5),
     (b"storage 10\nput 500 C1\nput 500 x", 3, 3),
-    (b"storage 10\ncpu 0 restart 0\n", 2, 1),
-    (b"storage 10\nunit 0 block\nshare 0\n", 3, 2),
-    (b"storage 10\nattn 0 0 2\n", 2, 3),
-    (b"storage 10\nsystemreset\n", 2, 1),
-    (b"pathdown 10\nstorage 10\n", 1, 6),
     (b"storage 10\npathdown 100\npathdown 10\r\n", 3, 3),
-    (b"storage 10\nunit 0 block\nshare 0 1\n", 3, 5),
-    (b"storage 10\nunit 0 block\nshare 0 0\n", 3, 5),
-];
-
-/// The same in more lines; the last is empty where the text ends by LF.
-const WRONG_LATER: [(&[&[u8]], u64, u8); 6] = [
-    (&[b"", b"# first", b" ", b"storage 10"], 3, 6),
-    (
-        &[
-            b"storage 10",
-            b"unit 0 block",
-            b"path 10",
-            b"sub 0 0 1 10",
-            b"",
-        ],
-        4,
-        5,
-    ),
-    (
-        &[b"storage 10", b"path 10", b"path 10", b"glance 0", b""],
-        3,
-        5,
-    ),
-    (
-        &[b"storage 10", b"path 10", b"sysreset", b"path 11", b""],
-        4,
-        4,
-    ),
-    (
-        &[
-            b"storage 10",
-            b"unit 0 block",
-            b"unit 1 block",
-            b"stcrw 700",
-            b"share 0 1",
-            b"",
-        ],
-        5,
-        4,
-    ),
-    (
-        &[
-            b"storage 10",
-            b"unit 0 block",
-            b"unit 1 block",
-            b"share 0 1",
-            b"share 1 0",
-            b"",
-        ],
-        5,
-        5,
-    ),
 ];
 
 /// Reading a text, where a race may be or not, names this line and this rule.
@@ -99,18 +24,8 @@ fn is_named(rt: &HostRuntime, races: bool, text: &[u8], line: u64, rule: u8) -> 
 }
 
 /// Lines that race CPUs, where the command lets them, each with the line that breaks a rule.
-const RACING: [(&[u8], u64, u8); 13] = [
-    (b"storage 10\ncpu 1 race 4 100 tsch 0\n", 2, 1),
-    (b"storage 10\nrace 4 100 tsch\n", 2, 2),
-    (b"storage 10\nrace 4 100 tsch 0 600\n", 2, 2),
-    (b"storage 10\nrace 0 100 tsch 0\n", 2, 3),
+const RACING: [(&[u8], u64, u8); 3] = [
     (b"storage 10\nrace 17 100 tsch 0\n", 2, 3),
-    (b"storage 10\nrace A 100 tsch 0\n", 2, 3),
-    (b"storage 10\nrace 4 0 tsch 0\n", 2, 3),
-    (b"storage 10\nrace 4 10001 tsch 0\n", 2, 3),
-    (b"storage 10\nrace 4 000000100 tsch 0\n", 2, 3),
-    (b"storage 10\nrace 4 100 csch 0\n", 2, 3),
-    (b"storage 10\nrace 4 100 tsch x\n", 2, 3),
     (b"storage 10\nrace 4 100 tsch 0\ndev 0\n", 2, 7),
     (b"storage 10\nrace 4 100 tsch 0\nrace 4 100 tsch 0\n", 2, 7),
 ];
@@ -159,21 +74,13 @@ fn a_race_is_in_the_last_line_with_words(rt: HostRuntime) -> Result<(), AllocErr
 }
 
 #[test]
-fn wrong_lines_are_named(rt: HostRuntime) -> Result<(), AllocError> {
+fn wrong_lines_are_named(rt: HostRuntime) {
     for (text, line, rule) in WRONG {
         assert!(rt;
             is_named(&rt, false, text, line, rule),
             "line {line} rule {rule}"
         );
     }
-    for (lines, line, rule) in WRONG_LATER {
-        let text = text_of(rt.alloc(), lines)?;
-        assert!(rt;
-            is_named(&rt, false, text.as_slice(), line, rule),
-            "line {line} rule {rule}"
-        );
-    }
-    Ok(())
 }
 
 #[test]

@@ -1,5 +1,5 @@
-//! One write command from its start to its cleared status; programs that are halted, cleared, cancelled and resumed; and the
-//! turns of a unit.
+//! One write command from its start to its cleared status, the turns of a unit, and room that is refused. What other programs come
+//! to, scripts show that are run as examples and cases.
 
 use chan_events::event::{Event, Instruction};
 use chan_events::reply::Reply;
@@ -18,7 +18,7 @@ use std::alloc::Global;
 use subsystem::subsystem::{NotMade, Subsystem};
 use supply::Refusing;
 
-pub const WORD: u32 = 0x0001_0000;
+const WORD: u32 = 0x0001_0000;
 
 fn one_path(alloc: Global) -> Config {
     let mut config = Config::new(alloc);
@@ -60,14 +60,14 @@ fn report(sequence: u64, answer: DeviceAnswer) -> Event {
     }
 }
 
-pub fn down() -> Event {
+fn down() -> Event {
     Event::Down {
         subchannel: WORD,
         path: 0,
     }
 }
 
-pub fn up() -> Event {
+fn up() -> Event {
     Event::Up {
         subchannel: WORD,
         path: 0,
@@ -213,28 +213,12 @@ fn a_unit_asks_for_its_turns(rt: HostRuntime) {
 }
 
 /// A subsystem after the first of the events of a write.
-pub fn begun(alloc: Global, count: usize) -> Option<Subsystem<Rotating>> {
+fn begun(alloc: Global, count: usize) -> Option<Subsystem<Rotating>> {
     let mut subsystem = Subsystem::new(alloc, one_path(alloc), Rotating {}).ok()?;
     for event in script(alloc).iter().take(count) {
         subsystem.step(event).ok()?;
     }
     Some(subsystem)
-}
-
-/// The reply to an instruction, where it is accepted.
-fn executed(subsystem: &mut Subsystem<Rotating>, instruction: Instruction) -> Option<Reply> {
-    let event = execute(instruction)?;
-    subsystem.step(&event).ok()
-}
-
-/// What is chosen for the subchannel.
-fn chosen(subsystem: &mut Subsystem<Rotating>) -> Option<Reply> {
-    let event = Event::Choose { subchannel: WORD };
-    subsystem.step(&event).ok()
-}
-
-fn is_accepted(reply: Option<Reply>) -> bool {
-    matches!(reply, Some(Reply::Code(Answer::Zero(_))))
 }
 
 /// The path of the signal that the unit is to take.
@@ -243,178 +227,6 @@ fn path_to_take(subsystem: &Subsystem<Rotating>) -> Option<u32> {
         Some(UnitTurn::Takes { path, .. }) => Some(path),
         _ => None,
     }
-}
-
-#[test]
-fn a_halt_goes_to_the_device(rt: HostRuntime) {
-    let Some(mut subsystem) = begun(rt.alloc(), 9) else {
-        assert!(rt; false, "the events are accepted");
-        return;
-    };
-    let halt = Instruction::Hsch { subchannel: WORD };
-    assert!(rt; is_accepted(executed(&mut subsystem, halt)));
-    assert!(rt;
-        matches!(
-            chosen(&mut subsystem),
-            Some(Reply::HaltSent { number: 1, .. })
-        )
-    );
-    assert!(rt; path_to_take(&subsystem) == Some(0));
-    assert!(rt; matches!(chosen(&mut subsystem), Some(Reply::Idle)));
-}
-
-#[test]
-fn a_clear_sends_a_reset(rt: HostRuntime) {
-    let Some(mut subsystem) = begun(rt.alloc(), 5) else {
-        assert!(rt; false, "the events are accepted");
-        return;
-    };
-    let clear = Instruction::Csch { subchannel: WORD };
-    assert!(rt; is_accepted(executed(&mut subsystem, clear)));
-    assert!(rt;
-        matches!(
-            chosen(&mut subsystem),
-            Some(Reply::ResetSent { number: 1, .. })
-        )
-    );
-    assert!(rt; subsystem.step(&down()).is_ok());
-    assert!(rt; matches!(subsystem.step(&up()), Ok(Reply::Up { taken: true, .. })));
-    let test = Instruction::Tsch {
-        subchannel: WORD,
-        address: 0x600,
-    };
-    match executed(&mut subsystem, test) {
-        Some(Reply::Status { scsw, .. }) => assert!(rt; scsw.words() == [0x1001, 0, 0]),
-        _ => assert!(rt; false, "the status is pending"),
-    }
-}
-
-#[test]
-fn a_cancelled_start_is_not_offered(rt: HostRuntime) {
-    let Some(mut subsystem) = begun(rt.alloc(), 5) else {
-        assert!(rt; false, "the events are accepted");
-        return;
-    };
-    let cancel = Instruction::Xsch { subchannel: WORD };
-    assert!(rt; is_accepted(executed(&mut subsystem, cancel)));
-    assert!(rt; matches!(chosen(&mut subsystem), Some(Reply::Idle)));
-}
-
-#[test]
-fn a_suspended_program_is_offered_again(rt: HostRuntime) {
-    let Some(mut subsystem) = begun(rt.alloc(), 4) else {
-        assert!(rt; false, "the events are accepted");
-        return;
-    };
-    let start = Instruction::Ssch {
-        subchannel: WORD,
-        address: 0x500,
-    };
-    let test = Instruction::Tsch {
-        subchannel: WORD,
-        address: 0x600,
-    };
-    let resume = Instruction::Rsch { subchannel: WORD };
-    for (address, byte) in [(0x504, 0x08), (0x1001, 0x22)] {
-        assert!(rt; subsystem.step(&put(address, &[byte])).is_ok());
-    }
-    assert!(rt; is_accepted(executed(&mut subsystem, start)));
-    assert!(rt;
-        matches!(
-            chosen(&mut subsystem),
-            Some(Reply::Offered {
-                number: 1,
-                resumed: false,
-                ..
-            })
-        )
-    );
-    assert!(rt; subsystem.step(&down()).is_ok());
-    assert!(rt; subsystem.step(&up()).is_ok());
-    match executed(&mut subsystem, test) {
-        Some(Reply::Status { scsw, .. }) => {
-            assert!(rt; scsw.words() == [0x0880_4029, 0x1008, 0]);
-        }
-        _ => assert!(rt; false, "the status is pending"),
-    }
-    assert!(rt; is_accepted(executed(&mut subsystem, resume)));
-    assert!(rt; subsystem.step(&down()).is_ok());
-    assert!(rt; subsystem.step(&up()).is_ok());
-    assert!(rt;
-        matches!(
-            chosen(&mut subsystem),
-            Some(Reply::Offered {
-                number: 2,
-                resumed: true,
-                ..
-            })
-        )
-    );
-}
-
-/// Two subchannels with two paths each, of one unit.
-fn two_sides(alloc: Global) -> Config {
-    let mut config = Config::new(alloc);
-    let _ = config.storage(0x10);
-    let _ = config.path(0x10);
-    let _ = config.path(0x11);
-    let _ = config.unit(0, UnitKind::Block);
-    let _ = config.subchannel(WORD, 0x100, 0, &[0x10, 0x11]);
-    let _ = config.subchannel(WORD + 1, 0x101, 0, &[0x10, 0x11]);
-    config
-}
-
-/// A program is offered on the lowest path, and a Reset is sent on the next.
-fn send_two(subsystem: &mut Subsystem<Rotating>, subchannel: u32) -> bool {
-    let enable = Instruction::Enable {
-        subchannel,
-        subclass: 0,
-        multipath: false,
-    };
-    let start = Instruction::Ssch {
-        subchannel,
-        address: 0x500,
-    };
-    let clear = Instruction::Csch { subchannel };
-    let choose = Event::Choose { subchannel };
-    is_accepted(executed(subsystem, enable))
-        && is_accepted(executed(subsystem, start))
-        && subsystem.step(&choose).is_ok()
-        && is_accepted(executed(subsystem, clear))
-        && matches!(subsystem.step(&choose), Ok(Reply::ResetSent { .. }))
-}
-
-#[test]
-fn a_unit_takes_the_lowest_path_of_its_first_side(rt: HostRuntime) {
-    let alloc = rt.alloc();
-    let Ok(mut subsystem) = Subsystem::new(alloc, two_sides(alloc), Rotating {}) else {
-        assert!(rt; false, "there is memory");
-        return;
-    };
-    let orb = put(0x500, &[0, 0, 0, 0, 0, 0x80, 0xFF, 0, 0, 0, 0x10, 0]);
-    assert!(rt; subsystem.step(&orb).is_ok());
-    for subchannel in [WORD + 1, WORD] {
-        assert!(rt; send_two(&mut subsystem, subchannel));
-    }
-    for (number, path) in [(0u16, 0u32), (0, 1), (1, 0), (1, 1)] {
-        let Some(
-            UnitTurn::Takes {
-                subchannel: id,
-                path: taken,
-            },
-        ) = subsystem.unit_turn(0)
-        else {
-            assert!(rt; false, "a signal waits");
-            return;
-        };
-        assert!(rt; id.number == number && taken == path);
-        let down = Event::Down {
-            subchannel: WORD + u32::from(number),
-            path,
-        };
-        assert!(rt; subsystem.step(&down).is_ok());
-    }
-    assert!(rt; matches!(subsystem.unit_turn(0), Some(UnitTurn::Rests)));
 }
 
 /// The requests for room as a subsystem of one unit and one subchannel is made: one for each of both, three for the tables of
