@@ -3,6 +3,7 @@
 mod crowd_tests;
 mod crowds;
 mod gate_tests;
+mod growths_tests;
 mod hands;
 mod looking_tests;
 mod machines;

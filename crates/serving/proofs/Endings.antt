@@ -15,7 +15,7 @@ use Rattle.serving.specs.declared.Ending.TheVariants.{NotRead, Bad, NoMemory, Do
 use Rattle.serving.specs.Acting.{Installed, IsAudited}
 use Rattle.serving.specs.Performing.{HasPerformed, HasStopped, PerformsTo}
 use Rattle.serving.specs.Racing.{IsRaced}
-use Rattle.serving.specs.Serving.{EndsBy, FailsAudit, PerformsAll, Races, RacesAfter, TellsAudit, ending_of, IsRunOf, IsRaceOf, RunsOrRaces, IsRun, IsRunOrRaced, Serves, ServesRace, DoesWith}
+use Rattle.serving.specs.Serving.{EndsBy, FailsAudit, PerformsAll, Races, RacesAfter, TellsAudit, ending_of, RunsOrRaces, IsRun, IsRunOrRaced, Serves, ServesRace}
 
 -- what is so of the script that was read is so of a script of the text, where the text is known
 of_script : (races : Bool) (input : Option (List ℕ)) (s : ScriptContents) (P : ScriptContents → Type 0) → IfSome input (λ text. IsScript races (lines_of text) s) → P s →

@@ -1,9 +1,9 @@
 -- CPUs that race, one after another.
-use Rattle.std.proofs.Common.{◌≡◌, ◌≤◌, ◌<◌, ℕ, ◌+◌, ◌*◌, ◌^◌, List, [], ◌∷◌, ◌++◌, Result, Ok, Err, length, refl, sym, ap, subst, ◌∙◌, append_assoc, length-append, arith}
+use Rattle.std.proofs.Common.{◌≡◌, ◌≤◌, ◌<◌, ℕ, ◌+◌, ◌*◌, List, [], ◌∷◌, ◌++◌, Result, Ok, Err, length, refl, sym, ap, subst, ◌∙◌, append_assoc, arith}
 use Rattle.std.specs.Prelude.{IfOk}
 use Rattle.core_lock.specs.Seats.{HeldSeat, Locked}
 use Rattle.serving.specs.declared.tally.Tally.{Tally}
-use Rattle.serving.specs.Racing.{no_tally, plus, IsBelow, IsSeatedIn, Runner, AreReady, AreMade, total_after, total_of, seats_of}
+use Rattle.serving.specs.Racing.{plus, IsBelow, IsSeatedIn, Runner, AreReady, AreMade, total_after, seats_of}
 
 ready_more : (n : ℕ) (rs : List Runner) (r : Runner) → AreReady n rs → r.cpu ≡ n + length rs → r.seat.value.log ≡ [] → AreReady n (rs ++ r ∷ [])
 ready_more n [] r h is none =

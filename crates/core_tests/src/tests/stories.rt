@@ -7,6 +7,7 @@ ghost use Rattle.core_lock.specs.Directory.{directory_of};
 
 use crate::tests::crowd_tests::crowds;
 use crate::tests::gate_tests::meets;
+use crate::tests::growths_tests::grows;
 use crate::tests::looking_tests::looks;
 use crate::tests::machines::{apart, config_of};
 use crate::tests::seats_tests::{fills, leaves_out, sees};
@@ -39,12 +40,14 @@ pub enum Story {
     Roams,
     /// Many threads enter many events.
     Crowds,
+    /// Requests for memory are refused.
+    Grows,
 }
 
 /// The machine of a story.
 pub fn setting(alloc: Global, story: Story) -> Config {
     match story {
-        Story::Sees | Story::LeavesOut | Story::Fills | Story::Looks => {
+        Story::Sees | Story::LeavesOut | Story::Fills | Story::Looks | Story::Grows => {
             config_of(alloc, 1, &[0x10])
         }
         Story::Meets => apart(alloc, 2),
@@ -65,6 +68,9 @@ fn tell<J: Naming + Send + Sync, R: Threads + Wait + Sync>(
     requires directory { parts.name.directory ≡ directory_of subsystem.state }
     requires serials { parts.serials ≡ all_serials subsystem.state }
 {
+    if let Story::Grows = story {
+        return grows::<J>(alloc, subsystem, parts);
+    }
     let Ok(core) = Core::<J, Rotating>::new(alloc, subsystem, parts) else {
         return false;
     };
@@ -76,6 +82,7 @@ fn tell<J: Naming + Send + Sync, R: Threads + Wait + Sync>(
         Story::Looks => looks(rt, alloc, core),
         Story::Roams => roams(rt, alloc, core),
         Story::Crowds => crowds(rt, alloc, core),
+        Story::Grows => false,
     }
 }
 

@@ -1,4 +1,4 @@
-use Rattle.std.proofs.Common.{Bool, true, false, refl, sym, subst, ◌≡◌, true≢false}
+use Rattle.std.proofs.Common.{Bool, subst}
 use Rattle.serving.specs.Performing.{PerformsTo}
 use Rattle.serving.specs.Serving.{EndsBy}
 use Rattle.serving.proofs.Endings.{ends_race, stops_before, not_true, not_false}
