@@ -1,8 +1,9 @@
 -- What each step does to what is cleared of a subchannel, and to the reset of its hold.
-use Rattle.std.proofs.Common.{◌≡◌, refl, sym, ◌∙◌, ap, subst, ℕ, suc, ◌+◌, ◌==◌, ◌&&◌, nat_lt, Bool, true, false, Option, None, Some, Result, List, [], ◌∷◌, map, inl, inr, length, arith}
+use Rattle.std.proofs.Common.{◌≡◌, refl, sym, ◌∙◌, ap, subst, ℕ, suc, ◌+◌, ◌==◌, ◌&&◌, nat_lt, not, Bool, true, false, Option, None, Some, Result, List, [], ◌∷◌, map, inl, inr, length, arith}
 use Rattle.std.specs.Prelude.{◌⊎◌, slice_get, slice_set, if◌then◌else◌, IfOk}
 use Rattle.std.proofs.lemmas.Bool.{eqb-true, ltb-true}
 use Rattle.schib_block.specs.declared.pmcw.Pmcw as block
+use Rattle.scsw_irb.specs.declared.scsw.Scsw.{Scsw}
 use Rattle.orb_block.specs.declared.Orb.{Orb}
 use Rattle.chan_model.specs.declared.answer.ConditionCode.{ConditionCode}
 use Rattle.chan_model.specs.declared.answer.ConditionCode.TheVariants as code
@@ -34,7 +35,7 @@ use Rattle.subchannel_model.specs.declared.state.PmcwState.{PmcwState}
 use Rattle.subchannel_model.specs.declared.state.Subchannel.{Subchannel}
 use Rattle.subchannel_model.specs.declared.state.SubchannelState.{SubchannelState}
 use Rattle.subchannel_model.specs.declared.state.UpStep.{UpStep}
-use Rattle.subchannel_model.specs.Choosing.{IsFitFor, chosen, marked_sub, halt_sent}
+use Rattle.subchannel_model.specs.Choosing.{IsFitFor, chosen, marked_sub, reset_sent, halt_sent, offered}
 use Rattle.subchannel_model.specs.Halt.{drops_status, status_dropped, halt_begun}
 use Rattle.subchannel_model.specs.Losing.{has_any, is_offered_or_held, reset_for, index_after, path_index, loses_at, loses, available_pmcw, shows_at}
 use Rattle.subchannel_model.specs.Modify.{modified_state}
@@ -42,7 +43,9 @@ use Rattle.subchannel_model.specs.Programs.{without_programs}
 use Rattle.subchannel_model.specs.Sending.{carried_by, finds_full}
 use Rattle.subchannel_model.specs.Start.{started}
 use Rattle.subchannel_model.specs.Taking.{ignoring, quietly, reset_taken, with_known, takes_up}
-use Rattle.subchannel_model.specs.Test.{ends_suspended, tested}
+use Rattle.subchannel_model.specs.Status.{intermediate_alone, without_status}
+use Rattle.subchannel_model.specs.SystemReset.{state_reset}
+use Rattle.subchannel_model.specs.Test.{ended_scsw, suspended_scsw, intermediate_cleared, ends_suspended, tested, tested_wholly}
 use Rattle.machine_model.specs.State.{State, place_of}
 use Rattle.machine_model.specs.declared.state.Sweep.{Sweep}
 use Rattle.machine_model.specs.declared.state.Sweep.TheVariants as sweep
@@ -59,7 +62,7 @@ use Rattle.step_laws.specs.Walks.{Walked, OneSub, OneUnit, Function, Resumes, Ha
 use Rattle.step_laws.proofs.Places.{set-get, map-get}
 use Rattle.event_laws.specs.Clearing.{IsClearing}
 use Rattle.event_laws.specs.Resets.{RestsOn, IsResetCause, IsCleared}
-use Rattle.event_laws.proofs.Calm.{IsAsReset, as-same, IsCalm, calm-same, cause-calm, clear_done-calm, reset-phase, reset-cleared, clear_done-phase}
+use Rattle.event_laws.proofs.Calm.{IsAsReset, as-same, Counts, counts-same, counts-zero, IsCalm, calm-same, cause-calm, clear_done-calm, reset-phase, reset-cleared, reset-counts, clear_done-phase}
 use Rattle.event_laws.proofs.Signals.{takes-calm}
 
 -- a hold that is to be reset is so still and no other is, or is reset for a cause under a fresh number, or its reset ends
@@ -72,6 +75,7 @@ pub data Change (C : Type 0) (D : ℕ → Type 0) (s x : SubchannelState) : Type
 pub record Follows (s : State) (e : Event) (r : Reply) (place : ℕ) (sub : Subchannel) (x : SubchannelState) : Type 0 where
   pub clears : (x.serials.cleared ≡ sub.state.serials.cleared) ⊎ IsClearing s e r place sub
   pub change : Change (IsResetCause s e r place sub) (IsCleared s e r place) sub.state x
+  pub counts : Counts sub.state x
 
 if-ok : {A : Type 0} (P : A → Type 0) (b : Bool) (x y : Result A Fault) → IfOk x P → IfOk y P → IfOk (if b then x else y) P
 if-ok P true x y e f = e
@@ -105,6 +109,31 @@ halted-phase : (s : SubchannelState) (drops : Bool) → (if drops then status_dr
 halted-phase s true = refl
 halted-phase s false = refl
 
+-- neither makes status, and both leave the count
+intermediate-count : (scsw : Scsw) (alone halt : Bool) →
+    (if alone then without_status scsw else (if halt then ended_scsw scsw else suspended_scsw scsw)).count ≡ scsw.count
+intermediate-count scsw true halt = refl
+intermediate-count scsw false true = refl
+intermediate-count scsw false false = refl
+
+test-count : (scsw : Scsw) (quiet alone : Bool) →
+    (if quiet then scsw else (if alone then intermediate_cleared scsw else ended_scsw scsw)).count ≡ scsw.count
+test-count scsw true alone = refl
+test-count scsw false true = intermediate-count scsw (not scsw.activity.suspended) scsw.functions.halt
+test-count scsw false false = refl
+
+tested-count : (s : SubchannelState) (ends : Bool) → (if ends then without_programs (tested s) else tested s).scsw.count ≡ s.scsw.count
+tested-count s true = test-count s.scsw (not s.scsw.status.pending) (intermediate_alone s.scsw.status)
+tested-count s false = test-count s.scsw (not s.scsw.status.pending) (intermediate_alone s.scsw.status)
+
+tested-made : (s : SubchannelState) (ends : Bool) → (if ends then without_programs (tested s) else tested s).serials.made ≡ s.serials.made
+tested-made s true = refl
+tested-made s false = refl
+
+halted-counts : (s : SubchannelState) (drops : Bool) → Counts s (if drops then status_dropped (halt_begun s) else halt_begun s)
+halted-counts s true = counts-same s (status_dropped (halt_begun s)) refl refl
+halted-counts s false = counts-same s (halt_begun s) refl refl
+
 halted-clears : (s : SubchannelState) (drops : Bool) → drops_status s.scsw ≡ drops →
     ((if drops then status_dropped (halt_begun s) else halt_begun s).serials.cleared ≡ s.serials.cleared) ⊎ (drops_status s.scsw ≡ true)
 halted-clears s true e = inr e
@@ -124,25 +153,29 @@ abbrev OkCalm : Subchannel → Result SubTurn Fault → Type 0
 OkCalm sub r = IfOk r (λ t. IsCalm sub.state t.sub.state)
 
 choose-calm : (sub : Subchannel) (c : Chosen) → IsFitFor c sub.state.hold → OkCalm sub (choose_sub sub c)
-choose-calm sub chosen_is.Idle fit = calm-same sub.state sub.state refl refl
+choose-calm sub chosen_is.Idle fit = calm-same sub.state sub.state refl refl refl refl
 choose-calm sub (chosen_is.Resets r path) fit =
     if-ok (λ t. IsCalm sub.state t.sub.state)
     (finds_full sub.wires.down (carried_by sub (Some (record { path = path; signal = down.Reset r sub.state.hold.known })))) _ _ tt
-    (record { cleared = refl; reset = sending-as sub.state.hold sub.state.hold.phase path refl })
+    (record { cleared = refl; reset = sending-as sub.state.hold sub.state.hold.phase path refl; counts = counts-same sub.state (reset_sent sub.state path) refl refl })
 choose-calm sub chosen_is.PerformsClear fit = cause-calm sub.state cause.ClearDone
 choose-calm sub (chosen_is.Halts t path) fit =
     if-ok (λ t. IsCalm sub.state t.sub.state)
     (finds_full sub.wires.down (carried_by sub (Some (record { path = path; signal = down.Halt t })))) _ _ tt
-    (calm-same sub.state (halt_sent sub.state) refl refl)
+    (calm-same sub.state (halt_sent sub.state) refl refl refl refl)
 choose-calm sub chosen_is.PerformsHalt fit = cause-calm sub.state cause.HaltDone
 choose-calm sub chosen_is.FindsNoPath fit = cause-calm sub.state cause.NoPath
 choose-calm sub (chosen_is.Offers c path) fit =
     if-ok (λ t. IsCalm sub.state t.sub.state)
     (finds_full sub.wires.down (carried_by sub (Some (record { path = path; signal = down.Select (sub.state.drawn + 1) })))) _ _ tt
-    (record { cleared = refl; reset = record { still = λ n k. absurd (cc (sym fit ∙ k)); was = λ n k. absurd (cc k) } })
+    (record {
+      cleared = refl;
+      reset = record { still = λ n k. absurd (cc (sym fit ∙ k)); was = λ n k. absurd (cc k) };
+      counts = counts-same sub.state (offered sub.state c.program path) refl refl;
+    })
 
 marked-calm : (sub : Subchannel) (choice : Option ℕ) (x : SubchannelState) → IsCalm (marked_sub sub choice).state x → IsCalm sub.state x
-marked-calm sub choice x k = record { cleared = k.cleared; reset = k.reset }
+marked-calm sub choice x k = record { cleared = k.cleared; reset = k.reset; counts = k.counts }
 
 -- the unit's side leaves the state
 abbrev OkSame : Subchannel → Result DownTurn Fault → Type 0
@@ -171,18 +204,19 @@ act-same sub u what =
 
 module _ (s : State) where
   calm-follows : (e : Event) (r : Reply) (place : ℕ) (sub : Subchannel) (x : SubchannelState) → IsCalm sub.state x → Follows s e r place sub x
-  calm-follows e r place sub x k = record { clears = inl k.cleared; change = Keeps k.reset }
+  calm-follows e r place sub x k = record { clears = inl k.cleared; change = Keeps k.reset; counts = k.counts }
 
   same-follows : (e : Event) (r : Reply) (place : ℕ) (sub : Subchannel) (x : SubchannelState) → x ≡ sub.state → Follows s e r place sub x
   same-follows e r place sub x k =
       calm-follows e r place sub x
-      (calm-same sub.state x (ap (λ (y : SubchannelState). y.serials.cleared) k) (ap (λ (y : SubchannelState). y.hold.phase) k))
+      (calm-same sub.state x (ap (λ (y : SubchannelState). y.serials.cleared) k) (ap (λ (y : SubchannelState). y.hold.phase) k)
+      (ap (λ (y : SubchannelState). y.serials.made) k) (ap (λ (y : SubchannelState). y.scsw.count) k))
 
   -- the instructions
   start-follows : (e : Event) (r : Reply) (place : ℕ) (sub : Subchannel) (orb : Orb) (c : ConditionCode) →
       Follows s e r place sub (function_sub sub c (started sub.state orb)).sub.state
   start-follows e r place sub orb code.Zero =
-      calm-follows e r place sub (started sub.state orb) (calm-same sub.state (started sub.state orb) refl refl)
+      calm-follows e r place sub (started sub.state orb) (record { cleared = refl; reset = as-same sub.state.hold.phase _ refl; counts = counts-zero sub.state (started sub.state orb) refl refl })
   start-follows e r place sub orb code.One = same-follows e r place sub sub.state refl
   start-follows e r place sub orb code.Two = same-follows e r place sub sub.state refl
   start-follows e r place sub orb code.Three = same-follows e r place sub sub.state refl
@@ -190,7 +224,11 @@ module _ (s : State) where
   test-follows : (cpu word address place : ℕ) (sub : Subchannel) (c : ConditionCode) → place_of s word ≡ Some place →
       Follows s (event.Execute cpu (instruction.Tsch word address)) (test_with sub c).reply place sub (test_with sub c).sub.state
   test-follows cpu word address place sub code.Zero at =
-      record { clears = inr at; change = Keeps (as-same sub.state.hold.phase _ (tested-phase sub.state (ends_suspended sub.state.scsw))) }
+      record {
+        clears = inr at;
+        change = Keeps (as-same sub.state.hold.phase _ (tested-phase sub.state (ends_suspended sub.state.scsw)));
+        counts = counts-same sub.state (tested_wholly sub.state) (tested-made sub.state (ends_suspended sub.state.scsw)) (tested-count sub.state (ends_suspended sub.state.scsw));
+      }
   test-follows cpu word address place sub code.One at = same-follows (event.Execute cpu (instruction.Tsch word address)) _ place sub sub.state refl
   test-follows cpu word address place sub code.Two at = same-follows (event.Execute cpu (instruction.Tsch word address)) _ place sub sub.state refl
   test-follows cpu word address place sub code.Three at = same-follows (event.Execute cpu (instruction.Tsch word address)) _ place sub sub.state refl
@@ -198,7 +236,7 @@ module _ (s : State) where
   modify-follows : (e : Event) (r : Reply) (place : ℕ) (sub : Subchannel) (given : block.Pmcw) (c : ConditionCode) →
       Follows s e r place sub (function_sub sub c (modified_state sub given)).sub.state
   modify-follows e r place sub given code.Zero =
-      calm-follows e r place sub (modified_state sub given) (calm-same sub.state (modified_state sub given) refl refl)
+      calm-follows e r place sub (modified_state sub given) (calm-same sub.state (modified_state sub given) refl refl refl refl)
   modify-follows e r place sub given code.One = same-follows e r place sub sub.state refl
   modify-follows e r place sub given code.Two = same-follows e r place sub sub.state refl
   modify-follows e r place sub given code.Three = same-follows e r place sub sub.state refl
@@ -208,7 +246,7 @@ module _ (s : State) where
       (effect_of f sub.state)
   effect-follows cpu word place sub Resumes at =
       calm-follows (event.Execute cpu (instruction.Rsch word)) _ place sub (effect_of Resumes sub.state)
-      (calm-same sub.state (effect_of Resumes sub.state) refl refl)
+      (calm-same sub.state (effect_of Resumes sub.state) refl refl refl refl)
   effect-follows cpu word place sub Halts at =
       record {
         clears = elim (halted-clears sub.state (drops_status sub.state.scsw) refl) [
@@ -216,11 +254,13 @@ module _ (s : State) where
           | inr k ↦ inr (at, k)
         ];
         change = Keeps (as-same sub.state.hold.phase _ (halted-phase sub.state (drops_status sub.state.scsw)));
+        counts = halted-counts sub.state (drops_status sub.state.scsw);
       }
-  effect-follows cpu word place sub Clears at = record { clears = inr at; change = Resets at refl }
+  effect-follows cpu word place sub Clears at =
+      record { clears = inr at; change = Resets at refl; counts = counts-zero sub.state (effect_of Clears sub.state) refl refl }
   effect-follows cpu word place sub Cancels at =
       calm-follows (event.Execute cpu (instruction.Xsch word)) _ place sub (effect_of Cancels sub.state)
-      (calm-same sub.state (effect_of Cancels sub.state) refl refl)
+      (calm-same sub.state (effect_of Cancels sub.state) refl refl refl refl)
 
   function-follows : (cpu word place : ℕ) (sub : Subchannel) (f : Function) (c : ConditionCode) → place_of s word ≡ Some place →
       Follows s (event.Execute cpu (instruction_of f word)) (function_sub sub c (effect_of f sub.state)).reply place sub
@@ -241,7 +281,7 @@ module _ (s : State) where
       (if same then Some (record { state = record sub.state.hold { phase = hold.Free; reset_path = None }; sent = None }) else None))
   clearing-follows word path place sub r n true at h e =
       let x : SubchannelState = record sub.state { hold = record sub.state.hold { phase = hold.Free; reset_path = None } } in
-      record { clears = inl (clear_done-calm x).cleared; change = Ends n (at, eqb-true r n e) h (clear_done-phase x) }
+      record { clears = inl (clear_done-calm x).cleared; change = Ends n (at, eqb-true r n e) h (clear_done-phase x); counts = (clear_done-calm x).counts }
   clearing-follows word path place sub r n false at h e =
       same-follows (event.Up word path) (reply.Up (up.Cleared r) false None) place sub sub.state refl
 
@@ -268,6 +308,7 @@ module _ (s : State) where
       record {
         clears = inl (reset-cleared (with_known sub.state b) shows);
         change = Resets (at, ltb-true sub.state.hold.known b e) (reset-phase (with_known sub.state b) shows);
+        counts = reset-counts (with_known sub.state b) shows;
       }
   notice-follows word path place sub b false at e = same-follows (event.Up word path) (reply.Up (up.Notice b) false None) place sub sub.state refl
 
@@ -317,7 +358,7 @@ module _ (s : State) where
       Follows s e r place sub (if rests then reset_for sub.state else sub.state)
   lost-follows e r place sub chpid p true f there k =
       let shows : Bool = is_offered_or_held sub.state.hold.phase && has_any sub.state.waiting sub.state.begun sub.state.suspended in
-      record { clears = inl (reset-cleared sub.state shows); change = Resets (f (p, there, k)) (reset-phase sub.state shows) }
+      record { clears = inl (reset-cleared sub.state shows); change = Resets (f (p, there, k)) (reset-phase sub.state shows); counts = reset-counts sub.state shows }
   lost-follows e r place sub chpid p false f there k = same-follows e r place sub sub.state refl
 
   loses-follows : (e : Event) (r : Reply) (place : ℕ) (sub : Subchannel) (chpid : ℕ) (q : Option ℕ) →
@@ -341,6 +382,7 @@ module _ (s : State) where
         clears = k.clears;
         change =
             change-shown (IsResetCause s e r place sub) (IsCleared s e r place) sub.state new.state (available_pmcw new.state.pmcw p up) k.change;
+        counts = k.counts;
       }
 
   swept-follows : (r : Reply) (what : Sweep) (place : ℕ) (sub : Subchannel) → Follows s (sweep_event what) r place sub (swept what sub).state
@@ -352,7 +394,8 @@ module _ (s : State) where
       (same-follows (event.PathUp chpid) r place sub sub.state refl)
   swept-follows r (sweep.PathReset chpid) place sub =
       loses-follows (event.PathReset chpid) r place sub chpid (path_index chpid sub.setup.paths) (λ k. k) refl
-  swept-follows r sweep.SystemReset place sub = record { clears = inr tt; change = Resets tt refl }
+  swept-follows r sweep.SystemReset place sub =
+      record { clears = inr tt; change = Resets tt refl; counts = counts-same sub.state (state_reset sub.state) refl refl }
 
   -- the subchannel of the place that was changed, or another
   abbrev Followed : Event → Reply → State → Type 0

@@ -4,3 +4,4 @@ mod Signals
 mod Following
 mod Reasons
 mod AllCleared
+mod Counting

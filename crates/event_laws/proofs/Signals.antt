@@ -27,7 +27,7 @@ use Rattle.subchannel_model.specs.declared.cause.StatusCause.TheVariants as caus
 use Rattle.subchannel_model.specs.Causes.{with_cause}
 use Rattle.subchannel_model.specs.Ends.{has_status_modifier, chains_command}
 use Rattle.subchannel_model.specs.Taking.{Met, meets, ignoring, quietly, let_go, by_hold, interrupted, path_used, taking_over, suspending, standing, goes_ahead, beginning, begin_standing, halt_done, accept, give_next, take_in, bytes_of_load, move_bytes, move_data, with_end, end_taken, chaining, chain_with, goes_on, end_shown_at, stops_at, command_ended, end_of, may_attend, with_attention, takes_up}
-use Rattle.event_laws.proofs.Calm.{IsAsReset, as-same, IsCalm, calm-same, calm-then, cause-calm, interrupted-calm, moving-calm, suspending-calm, halt_done-calm, attention-calm, let_go-calm}
+use Rattle.event_laws.proofs.Calm.{IsAsReset, as-same, IsCalm, calm-same, calm-then, counts-same, cause-calm, interrupted-calm, moving-calm, suspending-calm, halt_done-calm, attention-calm, let_go-calm}
 
 -- what the hold alone does with a signal
 abbrev LeavesAs : HoldState → HoldPhase → Option HoldStep → Type 0
@@ -106,14 +106,14 @@ if-meets s true x y e f = e
 if-meets s false x y e f = f
 
 stays : (s : SubchannelState) → IsCalm s s
-stays s = calm-same s s refl refl
+stays s = calm-same s s refl refl refl refl
 
 -- Accept
 beginning-calm : (storage : Contents) (s : SubchannelState) (p t : ℕ) (st : ProgramPosition) (walk : WalkPlace) (r : CommandStart) →
     Leaves s (beginning storage s p t st walk r)
 beginning-calm storage s p t st walk (came.Begins transfer) =
     let next : SubchannelState = taking_over s st.program (begun_with_room storage transfer).transfer in
-    calm-then s next (interrupted next next.begun) (calm-same s next refl refl) (interrupted-calm next next.begun)
+    calm-then s next (interrupted next next.begun) (calm-same s next refl refl refl refl) (interrupted-calm next next.begun)
 beginning-calm storage s p t st walk came.Suspends =
     let_go-calm s (suspending s st.program walk st.count) (suspending-calm s st.program walk st.count)
 beginning-calm storage s p t st walk (came.Stops check) =
@@ -130,13 +130,13 @@ begun-calm storage s t q true true e =
     let next : SubchannelState =
     record s { hold = record s.hold { phase = hold.On t q 0; seen = 0; first_path = Some q }; pmcw = path_used s.pmcw q } in
     calm-then s next (begin_standing storage next q t (standing s)).state
-    (record { cleared = refl; reset = record { still = λ n k. absurd (cc (sym e ∙ k)); was = λ n k. absurd (cc k) } })
+    (record { cleared = refl; reset = record { still = λ n k. absurd (cc (sym e ∙ k)); was = λ n k. absurd (cc k) }; counts = counts-same s next refl refl })
     (begin-calm storage next q t (standing s))
 begun-calm storage s t q false true e =
     let next : SubchannelState =
     record s { hold = record s.hold { phase = hold.Letting t q; seen = 0; first_path = Some q }; pmcw = path_used s.pmcw q } in
     calm-then s next (halt_done next)
-    (record { cleared = refl; reset = record { still = λ n k. absurd (cc (sym e ∙ k)); was = λ n k. absurd (cc k) } })
+    (record { cleared = refl; reset = record { still = λ n k. absurd (cc (sym e ∙ k)); was = λ n k. absurd (cc k) }; counts = counts-same s next refl refl })
     (halt_done-calm next)
 
 accept-calm : (storage : Contents) (s : SubchannelState) (phase : HoldPhase) (u : ℕ) (may : Bool) → s.hold.phase ≡ phase →
@@ -168,17 +168,17 @@ chaining-calm storage s b signal walk (came.Begins transfer) = moving-calm s b (
 chaining-calm storage s b signal walk came.Suspends =
     let x : SubchannelState = end_taken s signal in
     let y : SubchannelState = suspending x b.program walk (residual b.transfer.moving) in
-    let_go-calm s y (calm-then s x y (calm-same s x refl refl) (suspending-calm x b.program walk (residual b.transfer.moving)))
+    let_go-calm s y (calm-then s x y (calm-same s x refl refl refl refl) (suspending-calm x b.program walk (residual b.transfer.moving)))
 chaining-calm storage s b signal walk (came.Stops check) =
     let x : SubchannelState = end_taken s signal in
     let y : SubchannelState = with_cause x (cause.FetchFault walk.tried check (residual b.transfer.moving)) in
-    let_go-calm s y (calm-then s x y (calm-same s x refl refl) (cause-calm x (cause.FetchFault walk.tried check (residual b.transfer.moving))))
+    let_go-calm s y (calm-then s x y (calm-same s x refl refl refl refl) (cause-calm x (cause.FetchFault walk.tried check (residual b.transfer.moving))))
 
 stops-calm : (s : SubchannelState) (b : ActiveProgram) (signal : EndSignal) → Leaves s (stops_at s b signal)
 stops-calm s b signal =
     let k : IsCalm s (with_cause s (cause.End b signal.status signal.more)) = cause-calm s (cause.End b signal.status signal.more) in
     let x : SubchannelState = end_shown_at s b signal in
-    let same : IsCalm s x = record { cleared = k.cleared; reset = k.reset } in
+    let same : IsCalm s x = record { cleared = k.cleared; reset = k.reset; counts = k.counts } in
     if-leaves s (is_last_end signal.status) (let_go x) (quietly x) (let_go-calm s x same) same
 
 end_of-calm : (storage : Contents) (s : SubchannelState) (b : Option ActiveProgram) (signal : EndSignal) → Leaves s (end_of storage s b signal)
@@ -190,13 +190,13 @@ end_of-calm storage s (Some b) signal =
     (chain_with storage s (with_end b) signal (next_command storage (with_end b).transfer (has_status_modifier signal.status))) _
     (chaining-calm storage s (with_end b) signal (next_command storage (with_end b).transfer (has_status_modifier signal.status)).walk
     (next_command storage (with_end b).transfer (has_status_modifier signal.status)).came)
-    (calm-same s _ refl refl))
+    (calm-same s _ refl refl refl refl))
     (stops-calm s b signal))
     (stays s)
 
 -- Busy, Leave and Released
 by_hold-calm : (s : SubchannelState) (step : Option HoldStep) → LeavesAs s.hold s.hold.phase step → Leaves s (by_hold s step)
-by_hold-calm s step k = record { cleared = refl; reset = k }
+by_hold-calm s step k = record { cleared = refl; reset = k; counts = counts-same s (by_hold s step).state refl refl }
 
 -- the signals by which no hold is reset, and no reset ends
 abbrev pub IsCalmSignal : Up → Type 0
@@ -209,7 +209,12 @@ pub takes-calm : (returns : Bool) (storage : Contents) (s : SubchannelState) (p 
 takes-calm returns storage s p (up.Accept t) k = accept-calm storage s s.hold.phase t (goes_ahead s) refl
 takes-calm returns storage s p (up.Busy t) k = by_hold-calm s (found_busy s.hold s.hold.phase t) (busy-as s.hold s.hold.phase t refl)
 takes-calm returns storage s p (up.Leave t c) k = by_hold-calm s (left s.hold s.hold.phase t c) (left-as s.hold s.hold.phase t c refl)
-takes-calm returns storage s p (up.Back t c) k = record { cleared = refl; reset = back-as s.hold s.hold.phase p t c returns refl }
+takes-calm returns storage s p (up.Back t c) k =
+    record {
+      cleared = refl;
+      reset = back-as s.hold s.hold.phase p t c returns refl;
+      counts = counts-same s (takes_up returns storage s p (up.Back t c)).step.state refl refl;
+    }
 takes-calm returns storage s p (up.Data t c n seq load) k =
     let signal : DataSignal = record { path = p; number = t; connection = c; command = n; sequence = seq } in
     if-meets s (is_connected s.hold.phase p t c) (move_data storage s s.begun signal load) (meets storage (ignoring s))
@@ -224,5 +229,5 @@ takes-calm returns storage s p (up.Attn a status) k =
     let step : Option HoldStep = attended s.hold s.hold.phase p a (may_attend s) in
     let x : SubchannelState = record s { hold = hold_after s.hold step } in
     let shows : Bool = (came_of step).taken && not (status.0 == 0x20) in
-    calm-then s x (with_attention x shows) (record { cleared = refl; reset = attended-as s.hold s.hold.phase p a (may_attend s) refl })
+    calm-then s x (with_attention x shows) (record { cleared = refl; reset = attended-as s.hold s.hold.phase p a (may_attend s) refl; counts = counts-same s x refl refl })
     (attention-calm x shows)

@@ -1,3 +1,4 @@
 pub mod Codes
 pub mod Clearing
 pub mod Resets
+pub mod Counts

@@ -7,6 +7,7 @@ ghost use Rattle.machine_model.specs.State.{State};
 ghost use Rattle.machine_model.specs.Steps.{Step};
 ghost use Rattle.event_laws.specs.Clearing.{ClearsByCause};
 ghost use Rattle.event_laws.specs.Codes.{IsByTable};
+ghost use Rattle.event_laws.specs.Counts.{CountsByStatus};
 ghost use Rattle.event_laws.specs.Resets.{ResetsByCause, StaysReset};
 
 use step_laws::walks;
@@ -28,6 +29,14 @@ pub fn clearings()
 pub fn resets()
     ensures cause { (s : State) (e : Event) (r : Reply) (new : State) → Step s e r new → ResetsByCause s e r new }
     ensures stays { (s : State) (e : Event) (r : Reply) (new : State) → Step s e r new → StaysReset s e r new }
+{
+    walks();
+}
+
+/// The count of a subchannel moves as status is made, or to zero, as START SUBCHANNEL with code 0 leaves it (SA22-7832, chapter
+/// 16).
+pub fn counts()
+    ensures status { (s : State) (e : Event) (r : Reply) (new : State) → Step s e r new → CountsByStatus s e r new }
 {
     walks();
 }

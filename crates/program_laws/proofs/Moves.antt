@@ -1,6 +1,6 @@
 -- What a subchannel does for its program with a Data is what is seen of it.
 use Rattle.std.proofs.Common.{◌≡◌, refl, sym, ◌∙◌, ap, subst, arith, ℕ, ◌+◌, ◌≤◌, ◌==◌, Bool, true, false, List, [], ◌∷◌, ◌++◌, length, map, take, Option, Some, None, Result, Ok, Err, inl, inr, append-nil, min}
-use Rattle.std.proofs.lemmas.Bool.{eqb-true}
+use Rattle.std.proofs.lemmas.Bool.{eqb-true, eqb-false}
 use Rattle.std.proofs.Math.Nat.{min-le_left}
 use Rattle.std.specs.Prelude.{if◌then◌else◌, is_some}
 use Rattle.orb_block.specs.declared.Orb.{Orb}
@@ -14,19 +14,21 @@ use Rattle.channel_program.specs.Acts.{Act}
 use Rattle.channel_program.specs.Programs.{commands, code}
 use Rattle.idaw.specs.Places.{each_below}
 use Rattle.data_move.specs.Accesses as access
-use Rattle.data_move.specs.Moving.{next_place, room}
+use Rattle.data_move.specs.Moving.{next_place, residual, room}
 use Rattle.transfer.specs.declared.Transfer.{Transfer}
-use Rattle.transfer.specs.Commands.{located_transfer, has_stopped}
+use Rattle.transfer.specs.Commands.{with_located, located_transfer, has_stopped}
 use Rattle.transfer.specs.Chunks.{Brought, with_moved, chains_data, with_answer, taken_by_device, given_bytes, next_chunk_of, next_given, fitting, brought_by, brought_in, brought, is_answered}
 use Rattle.subchannel_model.specs.declared.signals.DataSignal.{DataSignal}
 use Rattle.subchannel_model.specs.declared.state.ActiveProgram.{ActiveProgram}
 use Rattle.subchannel_model.specs.declared.state.SubchannelState.{SubchannelState}
+use Rattle.subchannel_model.specs.declared.cause.StatusCause.TheVariants as cause
+use Rattle.subchannel_model.specs.Causes.{with_cause}
 use Rattle.subchannel_model.specs.Taking as taking
 use Rattle.subchannel_model.specs.Taking.{Met, bytes_of_load}
 use Rattle.program_laws.specs.Traces.{CommandTrace, ProgramTrace}
 use Rattle.program_laws.specs.DataAreas.{data_areas}
 use Rattle.program_laws.specs.Fetches.{AddsFetched}
-use Rattle.program_laws.specs.Tells.{IsGiven, Gives, Stores, Moves, Meets}
+use Rattle.program_laws.specs.Tells.{IsGiven, Gives, has_fault, Stores, Moves, Meets}
 use Rattle.program_laws.proofs.MachineActs.{with_acts, with_places, chained_acts, located_acts, chunk_of, with_copy, copying, trace_moved_on, trace_answered, gives, with_arrival, storing, takes_in}
 use Rattle.program_laws.proofs.MachineTraces as stories
 use Rattle.program_laws.proofs.Lists.{length-each_below}
@@ -132,8 +134,11 @@ module _ (earlier : ℕ) where
         }
 
     -- a read
+    abbrev StoresBy : Contents → Brought → ℕ → List ℕ → CommandTrace → CommandTrace → Type 0
+    StoresBy storage x s bytes p now = Stores storage x.storage (is_some x.transfer.fault) s bytes p now
+
     arrival-told : (storage : Contents) (t : Transfer) (bytes : List ℕ) (n : ℕ) (r : Result Contents Check) (p : CommandTrace) → t.sequence ≡ length p.arrived + 1 →
-        Stores storage (brought_by storage t (length (take n bytes)) r).storage t.sequence bytes p (with_arrival storage t (take n bytes) r p)
+        StoresBy storage (brought_by storage t (length (take n bytes)) r) t.sequence bytes p (with_arrival storage t (take n bytes) r p)
         × ((with_arrival storage t (take n bytes) r p).copied ≡ p.copied)
     arrival-told storage t bytes n (Ok after) p next =
         let some : List ℕ = take n bytes in
@@ -142,28 +147,53 @@ module _ (earlier : ℕ) where
           inr (next, each_below (next_place t.moving) (length some), n, parts.1, parts.0),
           moved_on-copied after t (length some) q (chains_data (with_moved t (length some)) (length some)),
         )
-    arrival-told storage t bytes n (Err check) p next = (inl (refl, refl, refl), refl)
+    arrival-told storage t bytes n (Err check) p next = (inl ((λ e. refl), refl, refl, refl), refl)
 
-    stored-told : (storage : Contents) (t : Transfer) (bytes : List ℕ) (n : ℕ) (r : Result Contents Check) (p : CommandTrace) (fault : Option Check) →
+    stored-told : (storage : Contents) (t : Transfer) (bytes : List ℕ) (n : ℕ) (r : Result Contents Check) (p : CommandTrace) (fault : Option Check) → t.fault ≡ fault →
         (fault ≡ None → t.sequence ≡ length p.arrived + 1) → let b : Bool = is_some fault in
-        Stores storage (if b then record { transfer = t; storage = storage } else brought_by storage t (length (take n bytes)) r).storage t.sequence bytes p
+        StoresBy storage (if b then record { transfer = t; storage = storage } else brought_by storage t (length (take n bytes)) r) t.sequence bytes p
         (if b then p else with_arrival storage t (take n bytes) r p)
         × ((if b then p else with_arrival storage t (take n bytes) r p).copied ≡ p.copied)
-    stored-told storage t bytes n r p (Some check) next = (inl (refl, refl, refl), refl)
-    stored-told storage t bytes n r p None next = arrival-told storage t bytes n r p (next refl)
+    stored-told storage t bytes n r p (Some check) f next = (inl ((λ e. ap (λ (o : Option Check). is_some o) f), refl, refl, refl), refl)
+    stored-told storage t bytes n r p None f next = arrival-told storage t bytes n r p (next refl)
+
+    -- where it is next and none are stored, a check stopped the transfer before
+    unstored : (fault : Option Check) (s n m : ℕ) → (s == n + 1) ≡ false → (fault ≡ None → n ≡ m) → s ≡ m + 1 → is_some fault ≡ true
+    unstored (Some check) s n m f g e = refl
+    unstored None s n m f g e = absurd (eqb-false s (n + 1) f (e ∙ sym (ap (λ (x : ℕ). x + 1) (g refl))))
 
     brought-told : (storage : Contents) (orb : Orb) (t : Transfer) (s : ℕ) (bytes : List ℕ) (p : CommandTrace) (b : Bool) → (s == t.sequence + 1) ≡ b → IsAtWork earlier orb p t false →
-        Stores storage (if b then brought_in storage (record t { sequence = s }) (fitting t bytes) else record { transfer = t; storage = storage }).storage s bytes p
+        StoresBy storage (if b then brought_in storage (record t { sequence = s }) (fitting t bytes) else record { transfer = t; storage = storage }) s bytes p
         (if b then storing storage (record t { sequence = s }) (fitting t bytes) p else p)
         × ((if b then storing storage (record t { sequence = s }) (fitting t bytes) p else p).copied ≡ p.copied)
     brought-told storage orb t s bytes p true is k =
-        stored-told storage (record t { sequence = s }) bytes (room t.moving) (access.stored_or_skipped storage t.walk.orb.key t.moving (fitting t bytes)) p t.fault
+        stored-told storage (record t { sequence = s }) bytes (room t.moving) (access.stored_or_skipped storage t.walk.orb.key t.moving (fitting t bytes)) p t.fault refl
         (λ e. eqb-true s (t.sequence + 1) is ∙ ap (λ (n : ℕ). n + 1) (k.arrived.2 e))
-    brought-told storage orb t s bytes p false is k = (inl (refl, refl, refl), refl)
+    brought-told storage orb t s bytes p false is k =
+        (inl ((λ e. unstored t.fault s t.sequence (length p.arrived) is k.arrived.2 e), refl, refl, refl), refl)
+
+-- a check that stopped the transfer is still there as the device is answered
+stores-by : (former storage : Contents) (x y : Bool) (s : ℕ) (bytes : List ℕ) (p now : CommandTrace) → (x ≡ true → y ≡ true) → Stores former storage x s bytes p now →
+    Stores former storage y s bytes p now
+stores-by former storage x y s bytes p now f (inl w) = inl ((λ e. f (w.0 e)), w.1, w.2, w.3)
+stores-by former storage x y s bytes p now f (inr w) = inr w
+
+located-fault : (storage : Contents) (t : Transfer) → is_some t.fault ≡ true → is_some (located_transfer storage t).fault ≡ true
+located-fault storage t e = by (is_some t.fault) e
+  where
+    by : (b : Bool) → b ≡ true → is_some (if b then t else with_located t (access.located storage t.walk.orb.key t.moving)).fault ≡ true
+    by true f = e
+    by false f = absurd (cc f)
+
+moved-fault : (s : SubchannelState) (b : ActiveProgram) (t : Transfer) (x : Bool) →
+    has_fault (if x then with_cause (record (taking.with_transfer s b t) { begun = Some (taking.without_pci (record b { transfer = t })) }) (cause.Pci t.walk.tried (residual t.moving))
+    else taking.with_transfer s b t).begun ≡ is_some t.fault
+moved-fault s b t true = refl
+moved-fault s b t false = refl
 
 module _ (laws : AreLaws) (accesses : AreAccesses) where
   abbrev MovesOf : Contents → Met → ℕ → Load → ProgramTrace → ProgramTrace → Type 0
-  MovesOf storage x s load k after = Moves storage x.storage s load x.step.came.sent k after
+  MovesOf storage x s load k after = Moves storage x.storage (has_fault x.step.state.begun) s load x.step.came.sent k after
 
   out-told : (storage : Contents) (s : SubchannelState) (b : ActiveProgram) (k : ProgramTrace) (signal : DataSignal) (load : Load) →
       IsAtWork k.earlier k.orb k.now b.transfer true →
@@ -194,14 +224,20 @@ module _ (laws : AreLaws) (accesses : AreAccesses) where
       let a : Brought = brought storage t signal.sequence bytes in
       let f : IsSame t a.transfer = brought-same storage t signal.sequence bytes in
       let g : IsSame a.transfer (located_transfer a.storage a.transfer) = located-same a.storage a.transfer in
+      let u : Transfer = located_transfer a.storage a.transfer in
       let now : CommandTrace = takes_in storage t signal.sequence bytes k.now in
+      let told = brought-told k.earlier laws accesses storage k.orb t signal.sequence bytes k.now (signal.sequence == t.sequence + 1) refl w in
       let adds : AddsFetched a.storage k.orb k.now.acts now.acts = takes_in-adds k.earlier laws accesses storage k.orb k.now t signal.sequence bytes w in (
         now,
         refl,
         adds,
         work-codes k.earlier a.storage k.orb k.now now t (located_transfer a.storage a.transfer) false false (g.0 ∙ f.0, g.1 ∙ f.1) w
             (takes_in-work k.earlier laws accesses storage k.orb k.now t signal.sequence bytes w) adds,
-        brought-told k.earlier laws accesses storage k.orb t signal.sequence bytes k.now (signal.sequence == t.sequence + 1) refl w,
+        (
+          stores-by storage a.storage (is_some a.transfer.fault) (has_fault (taking.take_in s b signal a).step.state.begun) signal.sequence bytes k.now now
+              (λ e. moved-fault s b u u.pci_pending ∙ located-fault a.storage a.transfer e) told.0,
+          told.1,
+        ),
       )
 
   -- a Data

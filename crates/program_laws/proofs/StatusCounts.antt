@@ -1,7 +1,7 @@
 -- The counts of status that the program's device does not bring: of a halt and a clear that are performed, of attention, of an
 -- interface-control check, and of a program that finds no path.
-use Rattle.std.proofs.Common.{◌≡◌, refl, ◌∙◌, subst, arith, ℕ, ◌+◌, ◌<◌, Bool, true, false, List, ◌∷◌, Option, None, Some, Result, Ok, inl, inr}
-use Rattle.std.specs.Prelude.{◌⊎◌, if◌then◌else◌, ◌&&◌, ◌||◌, ◌==◌, not, is_none, is_some, unwrap_or, IfOk, IfSome}
+use Rattle.std.proofs.Common.{◌≡◌, refl, ◌∙◌, subst, arith, ℕ, ◌+◌, ◌<◌, Bool, true, false, List, ◌∷◌, Option, None, Some, Result, Ok}
+use Rattle.std.specs.Prelude.{if◌then◌else◌, ◌&&◌, ◌||◌, ◌==◌, not, is_none, is_some, unwrap_or, IfOk, IfSome}
 use Rattle.allegiance.specs.PathUse.{is_any, reachable_paths}
 use Rattle.chan_model.specs.declared.fault.Fault.{Fault}
 use Rattle.chan_model.specs.declared.hold_state.HoldPhase.{HoldPhase}
@@ -162,97 +162,116 @@ swept-shows what x =
     swept-kept x (λ y. ShowsCount x.state y.state) (λ y path up f. f) (λ path f. f) (λ wires f. lost-shows x.state)
     (λ f. none-made x.state (state_reset x.state) refl) what (none-made x.state x.state refl)
 
--- what is chosen: a clear that is performed is pending
-abbrev IfClear : SubchannelState → Chosen → Type 0
-IfClear s PerformsClear = s.scsw.activity.clear_pending ≡ true
-IfClear s c = Unit {0}
+-- what is chosen: a clear is performed where one is pending and a Reset is due, and then nothing else makes status
+abbrev IfClear : Option Chosen → Chosen → Type 0
+IfClear clear PerformsClear = is_some clear ≡ true
+IfClear clear PerformsHalt = clear ≡ None
+IfClear clear FindsNoPath = clear ≡ None
+IfClear clear c = Unit {0}
 
-first-clear : (s : SubchannelState) (a : Option Chosen) (later : List (Option Chosen)) → IfSome a (IfClear s) → IfSome (first_some later) (IfClear s) →
-    IfSome (first_some (a ∷ later)) (IfClear s)
-first-clear s None later here after = after
-first-clear s (Some c) later here after = here
+first-clear : (clear a : Option Chosen) (later : List (Option Chosen)) → IfSome a (IfClear clear) → IfSome (first_some later) (IfClear clear) →
+    IfSome (first_some (a ∷ later)) (IfClear clear)
+first-clear clear None later here after = after
+first-clear clear (Some c) later here after = here
 
-chosen-by : (s : SubchannelState) (o : Option Chosen) → IfSome o (IfClear s) → IfClear s (unwrap_or o Idle)
-chosen-by s None h = tt
-chosen-by s (Some c) h = h
+chosen-by : (clear o : Option Chosen) → IfSome o (IfClear clear) → IfClear clear (unwrap_or o Idle)
+chosen-by clear None h = tt
+chosen-by clear (Some c) h = h
 
-reset-clear : (s : SubchannelState) (unsent choice : Option ℕ) → IfSome (reset_chosen unsent choice) (IfClear s)
-reset-clear s None choice = tt
-reset-clear s (Some r) None = tt
-reset-clear s (Some r) (Some path) = tt
+reset-clear : (clear : Option Chosen) (unsent choice : Option ℕ) → IfSome (reset_chosen unsent choice) (IfClear clear)
+reset-clear clear None choice = tt
+reset-clear clear (Some r) None = tt
+reset-clear clear (Some r) (Some path) = tt
 
-clear-clear : (s : SubchannelState) (unsent : Option ℕ) (pending : Bool) → s.scsw.activity.clear_pending ≡ pending → IfSome (clear_chosen unsent pending) (IfClear s)
-clear-clear s None pending e = tt
-clear-clear s (Some r) true e = e
-clear-clear s (Some r) false e = tt
+clear-clear : (unsent : Option ℕ) (pending : Bool) (later : List (Option Chosen)) → IfSome (first_some later) (IfClear None) →
+    IfSome (first_some (clear_chosen unsent pending ∷ later)) (IfClear (clear_chosen unsent pending))
+clear-clear None pending later h = h
+clear-clear (Some r) true later h = refl
+clear-clear (Some r) false later h = h
 
-halt-clear : (s : SubchannelState) (pending : Bool) (phase : HoldPhase) (choice : Option ℕ) → IfSome (halt_chosen pending phase choice) (IfClear s)
-halt-clear s false phase choice = tt
-halt-clear s true hold.Free choice = tt
-halt-clear s true (hold.Offer t p) choice = tt
-halt-clear s true (hold.On t p c) choice = tt
-halt-clear s true (hold.Away t) None = tt
-halt-clear s true (hold.Away t) (Some path) = tt
-halt-clear s true (hold.Letting t p) choice = tt
-halt-clear s true (hold.Reset r) choice = tt
+halt-clear : (pending : Bool) (phase : HoldPhase) (choice : Option ℕ) → IfSome (halt_chosen pending phase choice) (IfClear None)
+halt-clear false phase choice = tt
+halt-clear true hold.Free choice = refl
+halt-clear true (hold.Offer t p) choice = tt
+halt-clear true (hold.On t p c) choice = tt
+halt-clear true (hold.Away t) None = tt
+halt-clear true (hold.Away t) (Some path) = tt
+halt-clear true (hold.Letting t p) choice = refl
+halt-clear true (hold.Reset r) choice = refl
 
-over-clear : (s : SubchannelState) (reachable : Bool) → IfSome (over_unless reachable) (IfClear s)
-over-clear s true = tt
-over-clear s false = tt
+over-clear : (reachable : Bool) → IfSome (over_unless reachable) (IfClear None)
+over-clear true = tt
+over-clear false = refl
 
-offer-clear : (s : SubchannelState) (phase : HoldPhase) (c : Option Candidate) (reachable : Bool) (choice : Option ℕ) → IfSome (offer_chosen phase c reachable choice) (IfClear s)
-offer-clear s phase None reachable choice = tt
-offer-clear s hold.Free (Some c) reachable None = over-clear s reachable
-offer-clear s hold.Free (Some c) reachable (Some path) = tt
-offer-clear s (hold.Offer t p) (Some c) reachable choice = tt
-offer-clear s (hold.On t p d) (Some c) reachable choice = tt
-offer-clear s (hold.Away t) (Some c) reachable choice = tt
-offer-clear s (hold.Letting t p) (Some c) reachable choice = tt
-offer-clear s (hold.Reset r) (Some c) reachable choice = over-clear s reachable
+offer-clear : (phase : HoldPhase) (c : Option Candidate) (reachable : Bool) (choice : Option ℕ) → IfSome (offer_chosen phase c reachable choice) (IfClear None)
+offer-clear phase None reachable choice = tt
+offer-clear hold.Free (Some c) reachable None = over-clear reachable
+offer-clear hold.Free (Some c) reachable (Some path) = tt
+offer-clear (hold.Offer t p) (Some c) reachable choice = tt
+offer-clear (hold.On t p d) (Some c) reachable choice = tt
+offer-clear (hold.Away t) (Some c) reachable choice = tt
+offer-clear (hold.Letting t p) (Some c) reachable choice = tt
+offer-clear (hold.Reset r) (Some c) reachable choice = over-clear reachable
 
-chosen-clear : (sub : Subchannel) (choice : Option ℕ) → IfClear sub.state (chosen sub choice)
+abbrev pub clear_of : SubchannelState → Option Chosen
+clear_of s = clear_chosen (unsent_reset s.hold) s.scsw.activity.clear_pending
+
+chosen-clear : (sub : Subchannel) (choice : Option ℕ) → IfClear (clear_of sub.state) (chosen sub choice)
 chosen-clear sub choice =
     let s : SubchannelState = sub.state in
     let reachable : Bool = is_any (reachable_paths (path_use sub)) in
-    chosen-by s _
-    (first-clear s (reset_chosen (unsent_reset s.hold) choice) _ (reset-clear s (unsent_reset s.hold) choice)
-    (first-clear s (clear_chosen (unsent_reset s.hold) s.scsw.activity.clear_pending) _ (clear-clear s (unsent_reset s.hold) s.scsw.activity.clear_pending refl)
-    (first-clear s (halt_chosen s.scsw.activity.halt_pending s.hold.phase choice) _ (halt-clear s s.scsw.activity.halt_pending s.hold.phase choice)
-    (first-clear s (offer_chosen s.hold.phase (candidate s) reachable choice) _ (offer-clear s s.hold.phase (candidate s) reachable choice) tt))))
+    chosen-by (clear_of s) _
+    (first-clear (clear_of s) (reset_chosen (unsent_reset s.hold) choice) _ (reset-clear (clear_of s) (unsent_reset s.hold) choice)
+    (clear-clear (unsent_reset s.hold) s.scsw.activity.clear_pending _
+    (first-clear None (halt_chosen s.scsw.activity.halt_pending s.hold.phase choice) _ (halt-clear s.scsw.activity.halt_pending s.hold.phase choice)
+    (first-clear None (offer_chosen s.hold.phase (candidate s) reachable choice) _ (offer-clear s.hold.phase (candidate s) reachable choice) tt))))
 
 -- and its count is zero; otherwise the status speaks of the program
-abbrev pub ChooseShows : SubchannelState → SubchannelState → Type 0
-ChooseShows s next = ((s.scsw.activity.clear_pending ≡ true) × IsCountZero s next) ⊎ ShowsCount s next
+abbrev pub ChooseShows : Option Chosen → SubchannelState → SubchannelState → Type 0
+ChooseShows None s next = ShowsCount s next
+ChooseShows (Some c) s next = IsCountZero s next
+
+quiet-shows : (clear : Option Chosen) (s next : SubchannelState) → next.serials.made ≡ s.serials.made → ChooseShows clear s next
+quiet-shows None s next e = none-made s next e
+quiet-shows (Some c) s next e = λ l. absurd (omega (arith, e, l))
+
+zero-shows : (clear : Option Chosen) (s next : SubchannelState) → is_some clear ≡ true → IsCountZero s next → ChooseShows clear s next
+zero-shows None s next e z = absurd (cc e)
+zero-shows (Some c) s next e z = z
+
+other-shows : (clear : Option Chosen) (s next : SubchannelState) → clear ≡ None → ShowsCount s next → ChooseShows clear s next
+other-shows None s next e f = f
+other-shows (Some c) s next e f = absurd (cc e)
 
 path-shows : (s : SubchannelState) (w : Option Program) → ShowsCount s (with_row s (record { shown = no_path_shown s; left = without_waiting w s; joins = s.scsw }))
 path-shows s None = λ l. status-count s.pmcw.enabled (scsw_joined s.pmcw.enabled s.scsw s.scsw) s.serials (no_path_shown s) l
 path-shows s (Some program) = λ l. status-count s.pmcw.enabled (scsw_joined s.pmcw.enabled s.scsw s.scsw) s.serials (no_path_shown s) l
 
-choose-shows : (sub : Subchannel) (c : Chosen) → IfClear sub.state c → IfOk (choose_sub sub c) (λ t. ChooseShows sub.state t.sub.state)
-choose-shows sub Idle i = inr (none-made sub.state sub.state refl)
-choose-shows sub (Resets r path) i =
-    send-ok (λ t. ChooseShows sub.state t.sub.state) sub (reset_sent sub.state path) path (down.Reset r sub.state.hold.known) (reply.ResetSent r path)
-    (inr (none-made sub.state (reset_sent sub.state path) refl))
-choose-shows sub PerformsClear i = inl (i, clear-count sub.state)
-choose-shows sub (Halts t path) i =
-    send-ok (λ t. ChooseShows sub.state t.sub.state) sub (halt_sent sub.state) path (down.Halt t) (reply.HaltSent t path)
-    (inr (none-made sub.state (halt_sent sub.state) refl))
-choose-shows sub PerformsHalt i = inr (halt-count sub.state)
-choose-shows sub FindsNoPath i = inr (path-shows sub.state sub.state.waiting)
-choose-shows sub (Offers c path) i =
-    send-ok (λ t. ChooseShows sub.state t.sub.state) sub (offered sub.state c.program path) path (down.Select (sub.state.drawn + 1))
-    (reply.Offered (sub.state.drawn + 1) path c.resumes) (inr (none-made sub.state (offered sub.state c.program path) refl))
+choose-shows : (clear : Option Chosen) (sub : Subchannel) (c : Chosen) → IfClear clear c → IfOk (choose_sub sub c) (λ t. ChooseShows clear sub.state t.sub.state)
+choose-shows clear sub Idle i = quiet-shows clear sub.state sub.state refl
+choose-shows clear sub (Resets r path) i =
+    send-ok (λ t. ChooseShows clear sub.state t.sub.state) sub (reset_sent sub.state path) path (down.Reset r sub.state.hold.known) (reply.ResetSent r path)
+    (quiet-shows clear sub.state (reset_sent sub.state path) refl)
+choose-shows clear sub PerformsClear i = zero-shows clear sub.state (with_cause sub.state cause.ClearDone) i (clear-count sub.state)
+choose-shows clear sub (Halts t path) i =
+    send-ok (λ t. ChooseShows clear sub.state t.sub.state) sub (halt_sent sub.state) path (down.Halt t) (reply.HaltSent t path)
+    (quiet-shows clear sub.state (halt_sent sub.state) refl)
+choose-shows clear sub PerformsHalt i = other-shows clear sub.state (with_cause sub.state cause.HaltDone) i (halt-count sub.state)
+choose-shows clear sub FindsNoPath i = other-shows clear sub.state (with_cause sub.state cause.NoPath) i (path-shows sub.state sub.state.waiting)
+choose-shows clear sub (Offers c path) i =
+    send-ok (λ t. ChooseShows clear sub.state t.sub.state) sub (offered sub.state c.program path) path (down.Select (sub.state.drawn + 1))
+    (reply.Offered (sub.state.drawn + 1) path c.resumes) (quiet-shows clear sub.state (offered sub.state c.program path) refl)
 
-pub chosen-shows : (sub : Subchannel) (choice : Option ℕ) (t : SubTurn) → choose_sub (marked_sub sub choice) (chosen sub choice) ≡ Ok t → ChooseShows sub.state t.sub.state
+marked-shows : (sub : Subchannel) (choice : Option ℕ) (clear : Option Chosen) (next : SubchannelState) → ChooseShows clear (marked_sub sub choice).state next →
+    ChooseShows clear sub.state next
+marked-shows sub choice None next f = f
+marked-shows sub choice (Some c) next f = f
+
+pub chosen-shows : (sub : Subchannel) (choice : Option ℕ) (t : SubTurn) → choose_sub (marked_sub sub choice) (chosen sub choice) ≡ Ok t →
+    ChooseShows (clear_of sub.state) sub.state t.sub.state
 chosen-shows sub choice t e =
-    subst (λ (r : Result SubTurn Fault). IfOk r (λ t. ChooseShows sub.state t.sub.state)) e
-    (choose-shows (marked_sub sub choice) (chosen sub choice) (still (chosen sub choice) (chosen-clear sub choice)))
-  where
-    still : (c : Chosen) → IfClear sub.state c → IfClear (marked_sub sub choice).state c
-    still Idle i = tt
-    still (Resets r path) i = tt
-    still PerformsClear i = i
-    still (Halts t path) i = tt
-    still PerformsHalt i = tt
-    still FindsNoPath i = tt
-    still (Offers c path) i = tt
+    let clear : Option Chosen = clear_of sub.state in
+    let marked : Subchannel = marked_sub sub choice in
+    marked-shows sub choice clear t.sub.state
+    (subst (λ (r : Result SubTurn Fault). IfOk r (λ t. ChooseShows clear marked.state t.sub.state)) e
+    (choose-shows clear marked (chosen sub choice) (chosen-clear sub choice)))

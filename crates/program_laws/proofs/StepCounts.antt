@@ -1,5 +1,5 @@
 -- The count of the status that a step makes in which no signal comes up.
-use Rattle.std.proofs.Common.{◌≡◌, refl, sym, ◌∙◌, ap, subst, ℕ, Bool, true, false, Option, None, Some, List, Result, inl, inr}
+use Rattle.std.proofs.Common.{◌≡◌, refl, sym, ◌∙◌, ap, subst, arith, ℕ, Bool, true, false, Option, None, Some, List, Result, inl, inr}
 use Rattle.std.specs.Prelude.{slice_get, slice_set, if◌then◌else◌, IfOk}
 use Rattle.chan_events.specs.declared.event.Event.{Event}
 use Rattle.chan_events.specs.declared.event.Event.TheVariants as event
@@ -8,6 +8,7 @@ use Rattle.chan_events.specs.declared.reply.Reply.{Reply}
 use Rattle.chan_model.specs.declared.answer.ConditionCode.{ConditionCode}
 use Rattle.chan_model.specs.declared.answer.ConditionCode.TheVariants as code
 use Rattle.chan_model.specs.declared.fault.Fault.{Fault}
+use Rattle.subchannel_model.specs.declared.state.Chosen.{Chosen}
 use Rattle.subchannel_model.specs.declared.state.Subchannel.{Subchannel}
 use Rattle.subchannel_model.specs.declared.state.SubchannelState.{SubchannelState}
 use Rattle.subchannel_model.specs.Halt.{halt_begun, drops_status, status_dropped}
@@ -20,39 +21,46 @@ use Rattle.machine_model.specs.PathSteps.{swept}
 use Rattle.machine_model.specs.State.{State}
 use Rattle.machine_model.specs.Turns.{DownTurn}
 use Rattle.step_laws.specs.Walks as walked
-use Rattle.step_laws.specs.Walks.{Walked, Function, effect_of}
+use Rattle.step_laws.specs.Walks.{Walked, Function, IsQuiet, effect_of}
 use Rattle.step_laws.proofs.Places.{set-get, map-get}
-use Rattle.program_laws.specs.Shows.{IsCountOf}
-use Rattle.program_laws.specs.Tells.{ShowsBy, AtPlace}
+use Rattle.program_laws.specs.Shows.{IsCountZero, IsCountOf}
+use Rattle.program_laws.specs.Tells.{IsCountOfChoice, ShowsBy, AtPlace}
 use Rattle.program_laws.specs.Traces.{ProgramTrace}
 use Rattle.program_laws.proofs.Holds.{HeldBy}
-use Rattle.program_laws.proofs.StatusCounts.{none-left, none-counted, ChooseShows, chosen-shows, of-program, swept-shows}
+use Rattle.program_laws.proofs.StatusCounts.{none-left, none-counted, clear_of, ChooseShows, chosen-shows, of-program, swept-shows}
 use Rattle.program_laws.proofs.Turns.{IsSameSub, down-same, report-same}
 use Rattle.program_laws.proofs.UnitActs.{IsActed, act-acted}
 
--- an event of which nothing else is said
-by-event : (e : Event) (s next : SubchannelState) (k : Option ProgramTrace) → IsCountOf s next k → ShowsBy e s next k
-by-event (event.Put address bytes) s next k i = i
-by-event (event.SetKey address key) s next k i = i
-by-event (event.SetPrefix cpu address) s next k i = i
-by-event (event.Show address count) s next k i = i
-by-event (event.Execute cpu i) s next k j = j
-by-event (event.ExecuteOther cpu i) s next k j = j
-by-event (event.Choose word) s next k i = inr i
-by-event (event.Up word path) s next k i = i
-by-event (event.Down word path) s next k i = i
-by-event (event.Report at report) s next k i = i
-by-event (event.Act at what) s next k i = i
-by-event (event.Restart at) s next k i = i
-by-event (event.PathDown chpid) s next k i = i
-by-event (event.PathUp chpid) s next k i = i
-by-event (event.PathReset chpid) s next k i = i
-by-event event.SystemReset s next k i = i
+-- the count of a program, unless a clear is performed and it is zero
+by-choice : (clear : Option Chosen) (s next : SubchannelState) (k : Option ProgramTrace) → IsCountOf s next k → IsCountZero s next → IsCountOfChoice clear s next k
+by-choice None s next k i z = i
+by-choice (Some c) s next k i z = z
+
+by-event : (e : Event) (s next : SubchannelState) (k : Option ProgramTrace) → IsCountOf s next k → ((word : ℕ) → e ≡ event.Choose word → IsCountZero s next) → ShowsBy e s next k
+by-event (event.Put address bytes) s next k i z = i
+by-event (event.SetKey address key) s next k i z = i
+by-event (event.SetPrefix cpu address) s next k i z = i
+by-event (event.Show address count) s next k i z = i
+by-event (event.Execute cpu j) s next k i z = i
+by-event (event.ExecuteOther cpu j) s next k i z = i
+by-event (event.Choose word) s next k i z = by-choice (clear_of s) s next k i (z word refl)
+by-event (event.Up word path) s next k i z = i
+by-event (event.Down word path) s next k i z = i
+by-event (event.Report at report) s next k i z = i
+by-event (event.Act at what) s next k i z = i
+by-event (event.Restart at) s next k i z = i
+by-event (event.PathDown chpid) s next k i z = i
+by-event (event.PathUp chpid) s next k i z = i
+by-event (event.PathReset chpid) s next k i z = i
+by-event event.SystemReset s next k i z = i
 
 -- no status is made
+none-zero : (s next : SubchannelState) → next.serials.made ≡ s.serials.made → IsCountZero s next
+none-zero s next m = λ l. absurd (omega (arith, m, l))
+
 none-made : (e : Event) (s next : SubchannelState) (k : Option ProgramTrace) → next.serials.made ≡ s.serials.made → ShowsBy e s next k
-none-made e s next None m = by-event e s next None (none-left s next m)
-none-made e s next (Some k) m = by-event e s next (Some k) (none-counted s next k m)
+none-made e s next None m = by-event e s next None (none-left s next m) (λ word is. none-zero s next m)
+none-made e s next (Some k) m = by-event e s next (Some k) (none-counted s next k m) (λ word is. none-zero s next m)
 
 -- no instruction makes any
 tested-made : (s : SubchannelState) → (tested_wholly s).serials.made ≡ s.serials.made
@@ -115,9 +123,9 @@ module _ (s : State) (place : ℕ) where
     one-unshown e new at sub after there subs m =
         one-changes new at sub after (λ x y. ShowsBy e x y k) there subs (λ here. none-made e sub.state after.state k m) (λ x. none-made e x x k refl)
 
-    choose-by : (word : ℕ) (x y : SubchannelState) → HeldBy x k → ChooseShows x y → ShowsBy (event.Choose word) x y k
-    choose-by word x y h (inl i) = inl i
-    choose-by word x y h (inr f) = inr (of-program x y k h f)
+    choose-by : (clear : Option Chosen) (x y : SubchannelState) → HeldBy x k → ChooseShows clear x y → IsCountOfChoice clear x y k
+    choose-by None x y h f = of-program x y k h f
+    choose-by (Some c) x y h f = f
 
     state-made : (sub x : Subchannel) → IsSameSub sub x → x.state.serials.made ≡ sub.state.serials.made
     state-made sub x same = ap (λ (y : SubchannelState). y.serials.made) same.1
@@ -133,7 +141,7 @@ module _ (s : State) (place : ℕ) where
         one-unshown e new at sub _ o.there o.subs (function-made sub c (effect_of f sub.state) (effect-made f sub.state))
     walk-shows _ _ _ (walked.Chosen word at sub choice t new named picks suits h o) n =
         one-changes new at sub t.sub (λ x y. ShowsBy (event.Choose word) x y k) o.there o.subs
-        (λ here. choose-by word sub.state t.sub.state (held sub here) (chosen-shows sub choice t h)) (λ x. none-made (event.Choose word) x x k refl)
+        (λ here. choose-by (clear_of sub.state) sub.state t.sub.state (held sub here) (chosen-shows sub choice t h)) (λ x. none-made (event.Choose word) x x k refl)
     walk-shows _ _ _ (walked.Met word path returns at sub t new named h o may) n = absurd (n word path refl)
     walk-shows _ _ _ (walked.Sunk word path may owed at sub u t new named h o) n =
         one-unshown (event.Down word path) new at sub t.sub o.there o.subs
@@ -151,4 +159,5 @@ module _ (s : State) (place : ℕ) where
         let was : a.0 ≡ x = cc (sym a.1 ∙ f) in
         subst (λ (y : Subchannel). ShowsBy e y.state next.state k) was
         (subst (λ (y : Subchannel). ShowsBy e a.0.state y.state k) a.2
-        (by-event e a.0.state (swept what a.0).state k (of-program a.0.state (swept what a.0).state k (held a.0 a.1) (swept-shows what a.0))))
+        (by-event e a.0.state (swept what a.0).state k (of-program a.0.state (swept what a.0).state k (held a.0 a.1) (swept-shows what a.0))
+        (λ word is. absurd (subst (λ (x : Event). IsQuiet x r) is q))))

@@ -24,6 +24,8 @@ use Rattle.subchannel_model.specs.declared.state.Program.{Program}
 use Rattle.subchannel_model.specs.declared.state.ProgramPosition.{ProgramPosition}
 use Rattle.subchannel_model.specs.declared.state.Subchannel.{Subchannel}
 use Rattle.subchannel_model.specs.declared.state.SubchannelState.{SubchannelState}
+use Rattle.subchannel_model.specs.declared.state.Chosen.{Chosen}
+use Rattle.subchannel_model.specs.Choosing.{unsent_reset, clear_chosen}
 use Rattle.subchannel_model.specs.Ends.{has_status_modifier, breaks_chain}
 use Rattle.subchannel_model.specs.Taking.{bytes_of_load}
 use Rattle.machine_model.specs.State.{State, place_of}
@@ -92,26 +94,31 @@ pub record Gives (storage : Contents) (orb : Orb) (count : ℕ) (bytes : List �
   pub given : IsGiven storage orb bytes k now
   pub arrived : now.arrived ≡ k.arrived
 
--- Data of a read: some of its bytes are stored where it is the next that is, so that none is stored twice; or none are, and then
--- storage stays
-abbrev pub Stores : Contents → Contents → ℕ → List ℕ → CommandTrace → CommandTrace → Type 0
-Stores former storage s bytes k now =
-    ((storage ≡ former) × (now.arrived ≡ k.arrived) × (now.moved ≡ k.moved))
+-- Data of a read: bytes of it are stored where it is the next, so that none is stored twice; or none are, and storage stays, where
+-- it is another or a check stopped the transfer
+abbrev pub has_fault : Option ActiveProgram → Bool
+has_fault None = false
+has_fault (Some b) = is_some b.transfer.fault
+
+abbrev pub Stores : Contents → Contents → Bool → ℕ → List ℕ → CommandTrace → CommandTrace → Type 0
+Stores former storage faulty s bytes k now =
+    ((s ≡ length k.arrived + 1 → faulty ≡ true) × (storage ≡ former) × (now.arrived ≡ k.arrived) × (now.moved ≡ k.moved))
     ⊎ ((s ≡ length k.arrived + 1) × (places : List (Option ℕ)) × (n : ℕ)
     × (now.arrived ≡ record { former = former.bytes; chunk = record { storage = storage.bytes; places = places; bytes = take n bytes } } ∷ k.arrived)
     × (now.moved ≡ k.moved ++ places))
 
 -- a Data is answered by what it is answered with
-abbrev pub MovesBy : Contents → Contents → Orb → ℕ → Load → Down → CommandTrace → CommandTrace → Type 0
-MovesBy former storage orb s load (down.Give t c n next bytes) k now = Gives storage orb (load_length load) bytes k now
-MovesBy former storage orb s load (down.Took t n last room) k now = Stores former storage s (bytes_of_load load) k now × (now.copied ≡ k.copied)
-MovesBy former storage orb s load signal k now = ⊥
+abbrev pub MovesBy : Contents → Contents → Orb → Bool → ℕ → Load → Down → CommandTrace → CommandTrace → Type 0
+MovesBy former storage orb faulty s load (down.Give t c n next bytes) k now = Gives storage orb (load_length load) bytes k now
+MovesBy former storage orb faulty s load (down.Took t n last room) k now =
+    Stores former storage faulty s (bytes_of_load load) k now × (now.copied ≡ k.copied)
+MovesBy former storage orb faulty s load signal k now = ⊥
 
-abbrev pub Moves : Contents → Contents → ℕ → Load → Option (OnPath Down) → ProgramTrace → ProgramTrace → Type 0
-Moves former storage s load None k after = ⊥
-Moves former storage s load (Some sent) k after =
+abbrev pub Moves : Contents → Contents → Bool → ℕ → Load → Option (OnPath Down) → ProgramTrace → ProgramTrace → Type 0
+Moves former storage faulty s load None k after = ⊥
+Moves former storage faulty s load (Some sent) k after =
     (now : CommandTrace) × (after ≡ record k { now = now }) × AddsFetched storage k.orb k.now.acts now.acts
-    × (map code (commands k.orb now.acts) ≡ map code (commands k.orb k.now.acts)) × MovesBy former storage k.orb s load sent.signal k.now now
+    × (map code (commands k.orb now.acts) ≡ map code (commands k.orb k.now.acts)) × MovesBy former storage k.orb faulty s load sent.signal k.now now
 
 -- End: a command is chained to where one is next by the program, nothing breaks the chain (chapter 16), and no earlier End of
 -- the command was shown
@@ -143,7 +150,7 @@ Ends storage s next status more sent k after =
 -- what a signal that is taken tells, and the count of the status that it makes
 abbrev pub Meets : Contents → Contents → SubchannelState → SubchannelState → Up → Bool → Option (OnPath Down) → ProgramTrace → ProgramTrace → Type 0
 Meets former storage s next (up.Accept t) true sent k after = Accepted storage s next sent k after
-Meets former storage s next (up.Data t c n seq load) true sent k after = Moves former storage seq load sent k after × IsCountShown s next after
+Meets former storage s next (up.Data t c n seq load) true sent k after = Moves former storage (has_fault next.begun) seq load sent k after × IsCountShown s next after
 Meets former storage s next (up.End t n status more) true sent k after = Ends storage s next status more sent k after
 Meets former storage s next (up.Cleared r) taken sent k after = (after ≡ k) × IsCountZero s next
 Meets former storage s next (up.Attn a status) taken sent k after = (after ≡ k) × IsCountLeft s next
@@ -160,9 +167,13 @@ OfBoth N P (Some k) (Some after) = P k after
 OfBoth N P None (Some after) = ⊥
 OfBoth N P (Some k) None = ⊥
 
--- the count of the status that another event makes; Choose may perform a clear that is pending
+-- the count of the status that another event makes: of a clear that is pending where a Reset is due, Choose shows zero
+abbrev pub IsCountOfChoice : Option Chosen → SubchannelState → SubchannelState → Option ProgramTrace → Type 0
+IsCountOfChoice None s next k = IsCountOf s next k
+IsCountOfChoice (Some clear) s next k = IsCountZero s next
+
 abbrev pub ShowsBy : Event → SubchannelState → SubchannelState → Option ProgramTrace → Type 0
-ShowsBy (event.Choose word) s next k = ((s.scsw.activity.clear_pending ≡ true) × IsCountZero s next) ⊎ IsCountOf s next k
+ShowsBy (event.Choose word) s next k = IsCountOfChoice (clear_chosen (unsent_reset s.hold) s.scsw.activity.clear_pending) s next k
 ShowsBy e s next k = IsCountOf s next k
 
 -- of the subchannel at a place, before a step and after it

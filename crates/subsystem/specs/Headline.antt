@@ -6,6 +6,7 @@ use Rattle.chan_events.specs.declared.reply.Reply.{Reply}
 use Rattle.channel_config.specs.Setup.{Setup}
 use Rattle.event_laws.specs.Clearing.{ClearsByCause}
 use Rattle.event_laws.specs.Codes.{IsByTable}
+use Rattle.event_laws.specs.Counts.{CountsByStatus}
 use Rattle.event_laws.specs.Resets.{ResetsByCause, StaysReset}
 use Rattle.machine_laws.specs.Agreeing.{AllAgree, HoldEndsByReset}
 use Rattle.machine_laws.specs.Claims.{IsPendingUncleared}
@@ -41,6 +42,8 @@ pub record HoldsIn (opening : State) (h : List Entry) (old : State) (run : Run o
   pub clears : ClearsByCause old e r new
   -- condition codes are the table's
   pub codes : IsByTable old e r new
+  -- the count that stands moves as status is made, and is zero as a start is accepted
+  pub counts : CountsByStatus old e r new
   -- while a dedicated allegiance stands, offers are on its path
   pub offers : OffersOnDedicated old e r
   -- in single-path mode a program comes back by the path of its first Accept

@@ -227,6 +227,7 @@ impl<P: PathChoice + Drop> Subsystem<P> {
         path_laws::returns();
         codes();
         event_laws::clearings();
+        event_laws::counts();
         event_laws::resets();
         programs();
         let _ = &self.history;

@@ -39,6 +39,7 @@ returns-clause-headline g c =
       stays = c.resets.ensures.stays old e r new step;
       clears = c.clearings.ensures.cause old e r new step;
       codes = c.codes.ensures.table old e r new step;
+      counts = c.counts.ensures.status old e r new step;
       offers = c.offers.ensures.dedicated old e r new step;
       returns = c.returns.ensures.first setup h old run e r new lawful step;
     })
