@@ -2,7 +2,7 @@
 use Rattle.std.proofs.Common.{◌≡◌, ℕ, ◌+◌, Bool, true, false, not, ◌||◌, List, [], ◌∷◌, ◌++◌, length, take, map, refl, subst, sym, ap, ◌∙◌, append-nil, append_assoc, suc, arith, ◌<◌, get_or}
 use Rattle.std.specs.Prelude.{is_err}
 use Rattle.std.specs.List.{list_any}
-use Rattle.std.proofs.lemmas.List.{take_more, map-append}
+use Rattle.std.proofs.lemmas.List.{take_more}
 use Rattle.std.proofs.KnownBytes.{Appends-trans}
 use Rattle.script_rows.specs.declared.Action.{Action}
 use Rattle.script_text.specs.Text.{event_line}
@@ -85,12 +85,3 @@ performed_to old middle new ls i l held then now a r lt is h t whole =
 pub whole_if : (b : Bool) → not b ≡ false → b ≡ true
 whole_if true e = refl
 whole_if false e = absurd (cc e)
-
--- what is made of one more
-pub mapped-more : {A B : Type 0} (f : A → B) (made after : List B) (xs : List A) (k : ℕ) (d : A) (y : B) → made ≡ map f (take k xs) → k < length xs → y ≡ f (get_or xs k d)
-    → after ≡ made ++ y ∷ [] → after ≡ map f (take (k + 1) xs)
-mapped-more {A} {B} f made after xs k d y before lt is pushed =
-    pushed
-    ∙ (ap (λ (b : B). made ++ b ∷ []) is
-    ∙ (ap (λ (bs : List B). bs ++ f (get_or xs k d) ∷ []) before
-    ∙ (sym (map-append f (take k xs) (get_or xs k d ∷ [])) ∙ ap (λ (as : List A). map f as) (sym (take_more xs k d lt)))))
