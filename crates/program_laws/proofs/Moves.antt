@@ -28,7 +28,7 @@ use Rattle.subchannel_model.specs.Taking.{Met, bytes_of_load}
 use Rattle.program_laws.specs.Traces.{CommandTrace, ProgramTrace}
 use Rattle.program_laws.specs.DataAreas.{data_areas}
 use Rattle.program_laws.specs.Fetches.{AddsFetched}
-use Rattle.program_laws.specs.Tells.{IsGiven, Gives, has_fault, Stores, Moves, Meets}
+use Rattle.program_laws.specs.Tells.{IsGiven, Gives, room_at, has_fault, Stores, Moves, Meets}
 use Rattle.program_laws.proofs.MachineActs.{with_acts, with_places, chained_acts, located_acts, chunk_of, with_copy, copying, trace_moved_on, trace_answered, gives, with_arrival, storing, takes_in}
 use Rattle.program_laws.proofs.MachineTraces as stories
 use Rattle.program_laws.proofs.Lists.{length-each_below}
@@ -134,24 +134,24 @@ module _ (earlier : ℕ) where
         }
 
     -- a read
-    abbrev StoresBy : Contents → Brought → ℕ → List ℕ → CommandTrace → CommandTrace → Type 0
-    StoresBy storage x s bytes p now = Stores storage x.storage (is_some x.transfer.fault) s bytes p now
+    abbrev StoresBy : Contents → Brought → ℕ → ℕ → List ℕ → CommandTrace → CommandTrace → Type 0
+    StoresBy storage x n s bytes p now = Stores storage x.storage n (is_some x.transfer.fault) s bytes p now
 
     arrival-told : (storage : Contents) (t : Transfer) (bytes : List ℕ) (n : ℕ) (r : Result Contents Check) (p : CommandTrace) → t.sequence ≡ length p.arrived + 1 →
-        StoresBy storage (brought_by storage t (length (take n bytes)) r) t.sequence bytes p (with_arrival storage t (take n bytes) r p)
+        StoresBy storage (brought_by storage t (length (take n bytes)) r) n t.sequence bytes p (with_arrival storage t (take n bytes) r p)
         × ((with_arrival storage t (take n bytes) r p).copied ≡ p.copied)
     arrival-told storage t bytes n (Ok after) p next =
         let some : List ℕ = take n bytes in
         let q : CommandTrace = record p { arrived = record { former = storage.bytes; chunk = chunk_of after t.moving some } ∷ p.arrived } in
         let parts = moved_on-parts after t (length some) q (chains_data (with_moved t (length some)) (length some)) in (
-          inr (next, each_below (next_place t.moving) (length some), n, parts.1, parts.0),
+          inr (next, each_below (next_place t.moving) (length some), parts.1, parts.0),
           moved_on-copied after t (length some) q (chains_data (with_moved t (length some)) (length some)),
         )
     arrival-told storage t bytes n (Err check) p next = (inl ((λ e. refl), refl, refl, refl), refl)
 
     stored-told : (storage : Contents) (t : Transfer) (bytes : List ℕ) (n : ℕ) (r : Result Contents Check) (p : CommandTrace) (fault : Option Check) → t.fault ≡ fault →
         (fault ≡ None → t.sequence ≡ length p.arrived + 1) → let b : Bool = is_some fault in
-        StoresBy storage (if b then record { transfer = t; storage = storage } else brought_by storage t (length (take n bytes)) r) t.sequence bytes p
+        StoresBy storage (if b then record { transfer = t; storage = storage } else brought_by storage t (length (take n bytes)) r) n t.sequence bytes p
         (if b then p else with_arrival storage t (take n bytes) r p)
         × ((if b then p else with_arrival storage t (take n bytes) r p).copied ≡ p.copied)
     stored-told storage t bytes n r p (Some check) f next = (inl ((λ e. ap (λ (o : Option Check). is_some o) f), refl, refl, refl), refl)
@@ -163,7 +163,7 @@ module _ (earlier : ℕ) where
     unstored None s n m f g e = absurd (eqb-false s (n + 1) f (e ∙ sym (ap (λ (x : ℕ). x + 1) (g refl))))
 
     brought-told : (storage : Contents) (orb : Orb) (t : Transfer) (s : ℕ) (bytes : List ℕ) (p : CommandTrace) (b : Bool) → (s == t.sequence + 1) ≡ b → IsAtWork earlier orb p t false →
-        StoresBy storage (if b then brought_in storage (record t { sequence = s }) (fitting t bytes) else record { transfer = t; storage = storage }) s bytes p
+        StoresBy storage (if b then brought_in storage (record t { sequence = s }) (fitting t bytes) else record { transfer = t; storage = storage }) (room t.moving) s bytes p
         (if b then storing storage (record t { sequence = s }) (fitting t bytes) p else p)
         × ((if b then storing storage (record t { sequence = s }) (fitting t bytes) p else p).copied ≡ p.copied)
     brought-told storage orb t s bytes p true is k =
@@ -173,10 +173,10 @@ module _ (earlier : ℕ) where
         (inl ((λ e. unstored t.fault s t.sequence (length p.arrived) is k.arrived.2 e), refl, refl, refl), refl)
 
 -- a check that stopped the transfer is still there as the device is answered
-stores-by : (former storage : Contents) (x y : Bool) (s : ℕ) (bytes : List ℕ) (p now : CommandTrace) → (x ≡ true → y ≡ true) → Stores former storage x s bytes p now →
-    Stores former storage y s bytes p now
-stores-by former storage x y s bytes p now f (inl w) = inl ((λ e. f (w.0 e)), w.1, w.2, w.3)
-stores-by former storage x y s bytes p now f (inr w) = inr w
+stores-by : (former storage : Contents) (n : ℕ) (x y : Bool) (s : ℕ) (bytes : List ℕ) (p now : CommandTrace) → (x ≡ true → y ≡ true) → Stores former storage n x s bytes p now →
+    Stores former storage n y s bytes p now
+stores-by former storage n x y s bytes p now f (inl w) = inl ((λ e. f (w.0 e)), w.1, w.2, w.3)
+stores-by former storage n x y s bytes p now f (inr w) = inr w
 
 located-fault : (storage : Contents) (t : Transfer) → is_some t.fault ≡ true → is_some (located_transfer storage t).fault ≡ true
 located-fault storage t e = by (is_some t.fault) e
@@ -192,12 +192,12 @@ moved-fault s b t true = refl
 moved-fault s b t false = refl
 
 module _ (laws : AreLaws) (accesses : AreAccesses) where
-  abbrev MovesOf : Contents → Met → ℕ → Load → ProgramTrace → ProgramTrace → Type 0
-  MovesOf storage x s load k after = Moves storage x.storage (has_fault x.step.state.begun) s load x.step.came.sent k after
+  abbrev MovesOf : Contents → SubchannelState → Met → ℕ → Load → ProgramTrace → ProgramTrace → Type 0
+  MovesOf storage s x seq load k after = Moves storage x.storage (room_at s.begun) (has_fault x.step.state.begun) seq load x.step.came.sent k after
 
   out-told : (storage : Contents) (s : SubchannelState) (b : ActiveProgram) (k : ProgramTrace) (signal : DataSignal) (load : Load) →
       IsAtWork k.earlier k.orb k.now b.transfer true →
-      MovesOf storage (taking.meets storage (taking.give_next storage s b signal (load_length load))) signal.sequence load k (record k { now = gives storage b.transfer signal.sequence (load_length load) k.now })
+      MovesOf storage s (taking.meets storage (taking.give_next storage s b signal (load_length load))) signal.sequence load k (record k { now = gives storage b.transfer signal.sequence (load_length load) k.now })
   out-told storage s b k signal load w =
       let t : Transfer = b.transfer in
       let count : ℕ = load_length load in
@@ -214,11 +214,11 @@ module _ (laws : AreLaws) (accesses : AreAccesses) where
         gives-told k.earlier laws accesses storage k.orb k.now t signal.sequence count w,
       )
 
-  in-told : (storage : Contents) (s : SubchannelState) (b : ActiveProgram) (k : ProgramTrace) (signal : DataSignal) (load : Load) →
+  in-told : (storage : Contents) (s : SubchannelState) (b : ActiveProgram) (k : ProgramTrace) (signal : DataSignal) (load : Load) → s.begun ≡ Some b →
       IsAtWork k.earlier k.orb k.now b.transfer false →
-      MovesOf storage (taking.take_in s b signal (brought storage b.transfer signal.sequence (bytes_of_load load))) signal.sequence load k
+      MovesOf storage s (taking.take_in s b signal (brought storage b.transfer signal.sequence (bytes_of_load load))) signal.sequence load k
       (record k { now = takes_in storage b.transfer signal.sequence (bytes_of_load load) k.now })
-  in-told storage s b k signal load w =
+  in-told storage s b k signal load is w =
       let t : Transfer = b.transfer in
       let bytes : List ℕ = bytes_of_load load in
       let a : Brought = brought storage t signal.sequence bytes in
@@ -234,8 +234,9 @@ module _ (laws : AreLaws) (accesses : AreAccesses) where
         work-codes k.earlier a.storage k.orb k.now now t (located_transfer a.storage a.transfer) false false (g.0 ∙ f.0, g.1 ∙ f.1) w
             (takes_in-work k.earlier laws accesses storage k.orb k.now t signal.sequence bytes w) adds,
         (
-          stores-by storage a.storage (is_some a.transfer.fault) (has_fault (taking.take_in s b signal a).step.state.begun) signal.sequence bytes k.now now
-              (λ e. moved-fault s b u u.pci_pending ∙ located-fault a.storage a.transfer e) told.0,
+          stores-by storage a.storage (room_at s.begun) (is_some a.transfer.fault) (has_fault (taking.take_in s b signal a).step.state.begun) signal.sequence bytes k.now now
+              (λ e. moved-fault s b u u.pci_pending ∙ located-fault a.storage a.transfer e)
+              (subst (λ (o : Option ActiveProgram). Stores storage a.storage (room_at o) (is_some a.transfer.fault) signal.sequence bytes k.now now) (sym is) told.0),
           told.1,
         ),
       )
@@ -246,32 +247,32 @@ module _ (laws : AreLaws) (accesses : AreAccesses) where
       ShowsRest s.serials.made x.step.state after →
       Meets storage x.storage s x.step.state (up.Data signal.number signal.connection signal.command signal.sequence load) x.step.came.taken x.step.came.sent k after
 
-  moves-meets : (storage : Contents) (s : SubchannelState) (b : ActiveProgram) (k : ProgramTrace) (signal : DataSignal) (load : Load) (x : Bool) → is_outward b.transfer.code ≡ x →
+  moves-meets : (storage : Contents) (s : SubchannelState) (b : ActiveProgram) (k : ProgramTrace) (signal : DataSignal) (load : Load) (x : Bool) → s.begun ≡ Some b → is_outward b.transfer.code ≡ x →
       IsAtWork k.earlier k.orb k.now b.transfer (is_outward b.transfer.code) →
       DataBy storage s signal load (if x then taking.meets storage (taking.give_next storage s b signal (load_length load))
       else taking.take_in s b signal (brought storage b.transfer signal.sequence (bytes_of_load load))) k
       (if x then record k { now = gives storage b.transfer signal.sequence (load_length load) k.now } else record k { now = takes_in storage b.transfer signal.sequence (bytes_of_load load) k.now })
-  moves-meets storage s b k signal load true d w r =
+  moves-meets storage s b k signal load true is d w r =
       (out-told storage s b k signal load (subst (λ (y : Bool). IsAtWork k.earlier k.orb k.now b.transfer y) d w), r)
-  moves-meets storage s b k signal load false d w r =
-      (in-told storage s b k signal load (subst (λ (y : Bool). IsAtWork k.earlier k.orb k.now b.transfer y) d w), r)
+  moves-meets storage s b k signal load false is d w r =
+      (in-told storage s b k signal load is (subst (λ (y : Bool). IsAtWork k.earlier k.orb k.now b.transfer y) d w), r)
 
-  answers-meets : (storage : Contents) (s : SubchannelState) (b : ActiveProgram) (k : ProgramTrace) (signal : DataSignal) (load : Load) (x : Bool) →
+  answers-meets : (storage : Contents) (s : SubchannelState) (b : ActiveProgram) (k : ProgramTrace) (signal : DataSignal) (load : Load) (x : Bool) → s.begun ≡ Some b →
       IsAtWork k.earlier k.orb k.now b.transfer (is_outward b.transfer.code) →
       DataBy storage s signal load (if x then taking.move_bytes storage s b signal load else taking.meets storage (taking.ignoring s)) k
       (if x then stories.moves storage b.transfer signal.sequence load k else k)
-  answers-meets storage s b k signal load true w r = moves-meets storage s b k signal load (is_outward b.transfer.code) refl w r
-  answers-meets storage s b k signal load false w r = (refl, none-counted s s k refl)
+  answers-meets storage s b k signal load true is w r = moves-meets storage s b k signal load (is_outward b.transfer.code) is refl w r
+  answers-meets storage s b k signal load false is w r = (refl, none-counted s s k refl)
 
-  work-meets : (storage : Contents) (s : SubchannelState) (b : Option ActiveProgram) (k : ProgramTrace) (signal : DataSignal) (load : Load) → HasWork b k →
+  work-meets : (storage : Contents) (s : SubchannelState) (b : Option ActiveProgram) (k : ProgramTrace) (signal : DataSignal) (load : Load) → s.begun ≡ b → HasWork b k →
       DataBy storage s signal load (taking.move_data storage s b signal load) k (stories.answers storage b signal.command signal.sequence load k)
-  work-meets storage s None k signal load w r = (refl, none-counted s s k refl)
-  work-meets storage s (Some b) k signal load w r = answers-meets storage s b k signal load (is_answered b.transfer signal.command signal.sequence) w.0 r
+  work-meets storage s None k signal load is w r = (refl, none-counted s s k refl)
+  work-meets storage s (Some b) k signal load is w r = answers-meets storage s b k signal load (is_answered b.transfer signal.command signal.sequence) is w.0 r
 
   data-by : (storage : Contents) (s : SubchannelState) (k : ProgramTrace) (signal : DataSignal) (load : Load) (x : Bool) → IsHeld s k →
       DataBy storage s signal load (if x then taking.move_data storage s s.begun signal load else taking.meets storage (taking.ignoring s)) k
       (if x then stories.answers storage s.begun signal.command signal.sequence load k else k)
-  data-by storage s k signal load true h r = work-meets storage s s.begun k signal load h.work r
+  data-by storage s k signal load true h r = work-meets storage s s.begun k signal load refl h.work r
   data-by storage s k signal load false h r = (refl, none-counted s s k refl)
 
   pub data-meets : (storage : Contents) (s : SubchannelState) (k : ProgramTrace) (signal : DataSignal) (load : Load) (x : Bool) → IsHeld s k →

@@ -19,6 +19,7 @@ use Rattle.chan_events.specs.declared.reply.Reply.{Reply}
 use Rattle.chan_events.specs.declared.reply.Reply.TheVariants as reply
 use Rattle.channel_program.specs.Acts.{Act, End}
 use Rattle.channel_program.specs.Programs.{next, commands, code}
+use Rattle.data_move.specs.Moving.{room}
 use Rattle.subchannel_model.specs.declared.state.ActiveProgram.{ActiveProgram}
 use Rattle.subchannel_model.specs.declared.state.Program.{Program}
 use Rattle.subchannel_model.specs.declared.state.ProgramPosition.{ProgramPosition}
@@ -94,31 +95,35 @@ pub record Gives (storage : Contents) (orb : Orb) (count : ℕ) (bytes : List �
   pub given : IsGiven storage orb bytes k now
   pub arrived : now.arrived ≡ k.arrived
 
--- Data of a read: bytes of it are stored where it is the next, so that none is stored twice; or none are, and storage stays, where
--- it is another or a check stopped the transfer
+-- Data of a read: its bytes are stored, as many as there is room for, where it is the next, so that none is stored twice; or none
+-- are, and storage stays, where it is another or a check stopped the transfer
+abbrev pub room_at : Option ActiveProgram → ℕ
+room_at None = 0
+room_at (Some b) = room b.transfer.moving
+
 abbrev pub has_fault : Option ActiveProgram → Bool
 has_fault None = false
 has_fault (Some b) = is_some b.transfer.fault
 
-abbrev pub Stores : Contents → Contents → Bool → ℕ → List ℕ → CommandTrace → CommandTrace → Type 0
-Stores former storage faulty s bytes k now =
+abbrev pub Stores : Contents → Contents → ℕ → Bool → ℕ → List ℕ → CommandTrace → CommandTrace → Type 0
+Stores former storage fits faulty s bytes k now =
     ((s ≡ length k.arrived + 1 → faulty ≡ true) × (storage ≡ former) × (now.arrived ≡ k.arrived) × (now.moved ≡ k.moved))
-    ⊎ ((s ≡ length k.arrived + 1) × (places : List (Option ℕ)) × (n : ℕ)
-    × (now.arrived ≡ record { former = former.bytes; chunk = record { storage = storage.bytes; places = places; bytes = take n bytes } } ∷ k.arrived)
+    ⊎ ((s ≡ length k.arrived + 1) × (places : List (Option ℕ))
+    × (now.arrived ≡ record { former = former.bytes; chunk = record { storage = storage.bytes; places = places; bytes = take fits bytes } } ∷ k.arrived)
     × (now.moved ≡ k.moved ++ places))
 
 -- a Data is answered by what it is answered with
-abbrev pub MovesBy : Contents → Contents → Orb → Bool → ℕ → Load → Down → CommandTrace → CommandTrace → Type 0
-MovesBy former storage orb faulty s load (down.Give t c n next bytes) k now = Gives storage orb (load_length load) bytes k now
-MovesBy former storage orb faulty s load (down.Took t n last room) k now =
-    Stores former storage faulty s (bytes_of_load load) k now × (now.copied ≡ k.copied)
-MovesBy former storage orb faulty s load signal k now = ⊥
+abbrev pub MovesBy : Contents → Contents → Orb → ℕ → Bool → ℕ → Load → Down → CommandTrace → CommandTrace → Type 0
+MovesBy former storage orb fits faulty s load (down.Give t c n next bytes) k now = Gives storage orb (load_length load) bytes k now
+MovesBy former storage orb fits faulty s load (down.Took t n last room) k now =
+    Stores former storage fits faulty s (bytes_of_load load) k now × (now.copied ≡ k.copied)
+MovesBy former storage orb fits faulty s load signal k now = ⊥
 
-abbrev pub Moves : Contents → Contents → Bool → ℕ → Load → Option (OnPath Down) → ProgramTrace → ProgramTrace → Type 0
-Moves former storage faulty s load None k after = ⊥
-Moves former storage faulty s load (Some sent) k after =
+abbrev pub Moves : Contents → Contents → ℕ → Bool → ℕ → Load → Option (OnPath Down) → ProgramTrace → ProgramTrace → Type 0
+Moves former storage fits faulty s load None k after = ⊥
+Moves former storage fits faulty s load (Some sent) k after =
     (now : CommandTrace) × (after ≡ record k { now = now }) × AddsFetched storage k.orb k.now.acts now.acts
-    × (map code (commands k.orb now.acts) ≡ map code (commands k.orb k.now.acts)) × MovesBy former storage k.orb faulty s load sent.signal k.now now
+    × (map code (commands k.orb now.acts) ≡ map code (commands k.orb k.now.acts)) × MovesBy former storage k.orb fits faulty s load sent.signal k.now now
 
 -- End: a command is chained to where one is next by the program, nothing breaks the chain (chapter 16), and no earlier End of
 -- the command was shown
@@ -150,7 +155,8 @@ Ends storage s next status more sent k after =
 -- what a signal that is taken tells, and the count of the status that it makes
 abbrev pub Meets : Contents → Contents → SubchannelState → SubchannelState → Up → Bool → Option (OnPath Down) → ProgramTrace → ProgramTrace → Type 0
 Meets former storage s next (up.Accept t) true sent k after = Accepted storage s next sent k after
-Meets former storage s next (up.Data t c n seq load) true sent k after = Moves former storage (has_fault next.begun) seq load sent k after × IsCountShown s next after
+Meets former storage s next (up.Data t c n seq load) true sent k after =
+    Moves former storage (room_at s.begun) (has_fault next.begun) seq load sent k after × IsCountShown s next after
 Meets former storage s next (up.End t n status more) true sent k after = Ends storage s next status more sent k after
 Meets former storage s next (up.Cleared r) taken sent k after = (after ≡ k) × IsCountZero s next
 Meets former storage s next (up.Attn a status) taken sent k after = (after ≡ k) × IsCountLeft s next
