@@ -111,6 +111,16 @@ module _ (laws : AreAccesses) where
   pub copied-room : (storage : Contents) (key : ℕ) (m : Moving) (bytes : List ℕ) → access.copied storage key m ≡ Ok bytes → length bytes ≤ room m
   copied-room storage key m bytes e = (copied-by storage key m bytes m.skipped refl e).1
 
+  copied-many : (storage : Contents) (key : ℕ) (m : Moving) (bytes : List ℕ) (b : Bool) → (if b then Ok [] else checked (fetched storage key m.piece (room m))) ≡ Ok bytes →
+      length bytes ≡ (if b then 0 else room m)
+  copied-many storage key m bytes true e = let none : [] ≡ bytes = cc e in ap length (sym none)
+  copied-many storage key m bytes false e =
+      fetched-length storage key m.piece (room m) bytes (was-checked (fetched storage key m.piece (room m)) bytes e)
+
+  pub copied-length : (storage : Contents) (key : ℕ) (m : Moving) (bytes : List ℕ) → access.copied storage key m ≡ Ok bytes →
+      length bytes ≡ (if m.skipped then 0 else room m)
+  copied-length storage key m bytes e = copied-many storage key m bytes m.skipped e
+
   -- stored
   inside-cases : (storage : Contents) (address count : ℕ) → is_inside storage address count ≡ true → (count ≡ 0) ⊎ (address + count ≤ length storage.bytes)
   inside-cases storage address count e = by (count == 0) (nat_le (address + count) (length storage.bytes)) refl refl e

@@ -2,7 +2,7 @@
 use Rattle.std.proofs.Common.{◌≡◌, refl, sym, ◌∙◌, ap, subst, arith, ℕ, ◌+◌, ◌≤◌, ◌==◌, Bool, true, false, List, [], ◌∷◌, ◌++◌, length, map, take, Option, Some, None, Result, Ok, Err, inl, inr, append-nil, min}
 use Rattle.std.proofs.lemmas.Bool.{eqb-true, eqb-false}
 use Rattle.std.proofs.Math.Nat.{min-le_left}
-use Rattle.std.specs.Prelude.{if◌then◌else◌, is_some}
+use Rattle.std.specs.Prelude.{◌||◌, if◌then◌else◌, is_some}
 use Rattle.orb_block.specs.declared.Orb.{Orb}
 use Rattle.storage_keys.specs.Storage.{Contents}
 use Rattle.chan_model.specs.declared.signal.Load.{Load}
@@ -15,6 +15,7 @@ use Rattle.channel_program.specs.Programs.{commands, code}
 use Rattle.idaw.specs.Places.{each_below}
 use Rattle.data_move.specs.Accesses as access
 use Rattle.data_move.specs.Moving.{next_place, residual, room}
+use Rattle.transfer.specs.declared.NextChunk.{NextChunk}
 use Rattle.transfer.specs.declared.Transfer.{Transfer}
 use Rattle.transfer.specs.Commands.{with_located, located_transfer, has_stopped}
 use Rattle.transfer.specs.Chunks.{Brought, with_moved, chains_data, with_answer, taken_by_device, given_bytes, next_chunk_of, next_given, fitting, brought_by, brought_in, brought, is_answered}
@@ -28,11 +29,11 @@ use Rattle.subchannel_model.specs.Taking.{Met, bytes_of_load}
 use Rattle.program_laws.specs.Traces.{CommandTrace, ProgramTrace}
 use Rattle.program_laws.specs.DataAreas.{data_areas}
 use Rattle.program_laws.specs.Fetches.{AddsFetched}
-use Rattle.program_laws.specs.Tells.{IsGiven, Gives, room_at, has_fault, Stores, Moves, Meets}
+use Rattle.program_laws.specs.Tells.{IsGiven, Gives, room_at, absorbed_at, given_of, given_at, has_fault, Stores, Moves, Meets}
 use Rattle.program_laws.proofs.MachineActs.{with_acts, with_places, chained_acts, located_acts, chunk_of, with_copy, copying, trace_moved_on, trace_answered, gives, with_arrival, storing, takes_in}
 use Rattle.program_laws.proofs.MachineTraces as stories
 use Rattle.program_laws.proofs.Lists.{length-each_below}
-use Rattle.program_laws.proofs.Accesses.{AreAccesses, copied-room}
+use Rattle.program_laws.proofs.Accesses.{AreAccesses, copied-room, copied-length}
 use Rattle.program_laws.proofs.Ties.{AreLaws, spot-begins, with_moved-tied}
 use Rattle.program_laws.proofs.Parts.{IsSame, IsAtWork, absorbed-same, next_given-same, located-same, brought-same, moved_on-parts, answer-by, gives-work, takes_in-work, located-work}
 use Rattle.program_laws.proofs.Holds.{HasWork, IsHeld}
@@ -84,7 +85,7 @@ module _ (earlier : ℕ) where
     -- what the device absorbed is moved
     abbrev IsAnswered : ℕ → CommandTrace → CommandTrace → Type 0
     IsAnswered count p q =
-        (absorbed : List (Option ℕ)) × (length absorbed ≤ count) × (q.moved ≡ p.moved ++ absorbed) × (q.arrived ≡ p.arrived) × (q.copied ≡ p.copied)
+        (absorbed : List (Option ℕ)) × (length absorbed ≡ count) × (q.moved ≡ p.moved ++ absorbed) × (q.arrived ≡ p.arrived) × (q.copied ≡ p.copied)
 
     moved_on-copied : (storage : Contents) (t : Transfer) (n : ℕ) (p : CommandTrace) (b : Bool) →
         (if b then with_acts (with_places p t.moving n) (chained_acts storage (with_moved t n)) else with_places p t.moving n).copied ≡ p.copied
@@ -92,20 +93,43 @@ module _ (earlier : ℕ) where
     moved_on-copied storage t n p false = refl
 
     answered : (storage : Contents) (t : Transfer) (s count : ℕ) (p : CommandTrace) (b : Bool) →
-        IsAnswered count p (if b then trace_moved_on storage (with_answer t s count) (min count (room t.moving)) p else p)
+        IsAnswered (if b then min count (room t.moving) else 0) p (if b then trace_moved_on storage (with_answer t s count) (min count (room t.moving)) p else p)
     answered storage t s count p true =
         let u : Transfer = with_answer t s count in
         let n : ℕ = min count (room t.moving) in
         let parts = moved_on-parts storage u n p (chains_data (with_moved u n) n) in (
           each_below (next_place t.moving) n,
-          let long : length (each_below (next_place t.moving) n) ≡ n = length-each_below (next_place t.moving) n in
-              let few : n ≤ count = min-le_left count (room t.moving) in
-              omega (arith, long, few),
+          length-each_below (next_place t.moving) n,
           parts.0,
           parts.1,
           moved_on-copied storage u n p (chains_data (with_moved u n) n),
         )
-    answered storage t s count p false = ([], omega arith, sym (append-nil p.moved), refl, refl)
+    answered storage t s count p false = ([], refl, sym (append-nil p.moved), refl, refl)
+
+    -- how many are given
+    none-given : (x y : Bool) (n : ℕ) → x ≡ true → 0 ≡ (if x || y then 0 else n)
+    none-given true y n e = refl
+    none-given false y n e = absurd (cc e)
+
+    some-given : (x y : Bool) (n m : ℕ) → x ≡ false → m ≡ (if y then 0 else n) → m ≡ (if x || y then 0 else n)
+    some-given true y n m e f = absurd (cc e)
+    some-given false y n m e f = f
+
+    or-true : (x : Bool) → (x || true) ≡ true
+    or-true true = refl
+    or-true false = refl
+
+    chunk-many : (storage : Contents) (t : Transfer) (r : Result (List ℕ) Check) → has_stopped t ≡ false → access.copied storage t.walk.orb.key t.moving ≡ r →
+        length (next_chunk_of t r).bytes ≡ given_of (next_chunk_of t r).transfer
+    chunk-many storage t (Ok bytes) e f =
+        some-given (has_stopped t) t.moving.skipped (room t.moving) (length bytes) e (copied-length accesses storage t.walk.orb.key t.moving bytes f)
+    chunk-many storage t (Err check) e f = none-given (t.stopped || true) t.moving.skipped (room t.moving) (or-true t.stopped)
+
+    given-many : (storage : Contents) (t : Transfer) (b : Bool) → has_stopped t ≡ b →
+        let given : NextChunk = if b then given_bytes t [] else next_chunk_of t (access.copied storage t.walk.orb.key t.moving) in
+        length given.bytes ≡ given_of given.transfer
+    given-many storage t true e = none-given (has_stopped t) t.moving.skipped (room t.moving) e
+    given-many storage t false e = chunk-many storage t (access.copied storage t.walk.orb.key t.moving) e refl
 
     given-from : (storage : Contents) (orb : Orb) (bytes : List ℕ) (p q now : CommandTrace) → q.copied ≡ p.copied → now.moved ≡ q.moved → IsGiven storage orb bytes q now →
         IsGiven storage orb bytes p now
@@ -114,18 +138,20 @@ module _ (earlier : ℕ) where
         inr (x.0, x.1 ∙ ap (λ cs. record { storage = storage.bytes; places = x.0; bytes = bytes } ∷ cs) e, x.2)
 
     gives-told : (storage : Contents) (orb : Orb) (p : CommandTrace) (t : Transfer) (s count : ℕ) → IsAtWork earlier orb p t true →
-        Gives storage orb count (next_given storage (taken_by_device storage t s count)).bytes p (gives storage t s count p)
+        Gives storage orb (if s == t.sequence + 1 then min count (room t.moving) else 0) (given_of (next_given storage (taken_by_device storage t s count)).transfer)
+        (next_given storage (taken_by_device storage t s count)).bytes p (gives storage t s count p)
     gives-told storage orb p t s count k =
         let a : Transfer = taken_by_device storage t s count in
         let q : CommandTrace = trace_answered storage t s count p in
         let u : Transfer = located_transfer storage a in
         let r : CommandTrace = with_acts q (located_acts storage a) in
-        let x : IsAnswered count p q = answered storage t s count p (s == t.sequence + 1) in
+        let x : IsAnswered (if s == t.sequence + 1 then min count (room t.moving) else 0) p q = answered storage t s count p (s == t.sequence + 1) in
         let w : IsAtWork earlier orb q a true = answer-by earlier laws storage orb p t s count (s == t.sequence + 1) k in
         let c = copied-moved storage u r (has_stopped u) (access.copied storage u.walk.orb.key u.moving) in
         record {
           absorbed = x.0;
-          most = x.1;
+          all = x.1;
+          many = given-many storage u (has_stopped u) refl;
           moved = c.0 ∙ x.2;
           given =
               given-from storage orb (next_given storage a).bytes p r (copying storage u r) x.4 c.0
@@ -185,6 +211,12 @@ located-fault storage t e = by (is_some t.fault) e
     by true f = e
     by false f = absurd (cc f)
 
+moved-given : (s : SubchannelState) (b : ActiveProgram) (t : Transfer) (x : Bool) →
+    given_at (if x then with_cause (record (taking.with_transfer s b t) { begun = Some (taking.without_pci (record b { transfer = t })) }) (cause.Pci t.walk.tried (residual t.moving))
+    else taking.with_transfer s b t).begun ≡ given_of t
+moved-given s b t true = refl
+moved-given s b t false = refl
+
 moved-fault : (s : SubchannelState) (b : ActiveProgram) (t : Transfer) (x : Bool) →
     has_fault (if x then with_cause (record (taking.with_transfer s b t) { begun = Some (taking.without_pci (record b { transfer = t })) }) (cause.Pci t.walk.tried (residual t.moving))
     else taking.with_transfer s b t).begun ≡ is_some t.fault
@@ -193,15 +225,16 @@ moved-fault s b t false = refl
 
 module _ (laws : AreLaws) (accesses : AreAccesses) where
   abbrev MovesOf : Contents → SubchannelState → Met → ℕ → Load → ProgramTrace → ProgramTrace → Type 0
-  MovesOf storage s x seq load k after = Moves storage x.storage (room_at s.begun) (has_fault x.step.state.begun) seq load x.step.came.sent k after
+  MovesOf storage s x seq load k after = Moves storage x.storage s.begun x.step.state.begun seq load x.step.came.sent k after
 
-  out-told : (storage : Contents) (s : SubchannelState) (b : ActiveProgram) (k : ProgramTrace) (signal : DataSignal) (load : Load) →
+  out-told : (storage : Contents) (s : SubchannelState) (b : ActiveProgram) (k : ProgramTrace) (signal : DataSignal) (load : Load) → s.begun ≡ Some b →
       IsAtWork k.earlier k.orb k.now b.transfer true →
       MovesOf storage s (taking.meets storage (taking.give_next storage s b signal (load_length load))) signal.sequence load k (record k { now = gives storage b.transfer signal.sequence (load_length load) k.now })
-  out-told storage s b k signal load w =
+  out-told storage s b k signal load is w =
       let t : Transfer = b.transfer in
       let count : ℕ = load_length load in
       let a : Transfer = taken_by_device storage t signal.sequence count in
+      let given : NextChunk = next_given storage a in
       let f : IsSame t a = absorbed-same storage t signal.sequence count in
       let g : IsSame a (next_given storage a).transfer = next_given-same storage a in
       let now : CommandTrace = gives storage t signal.sequence count k.now in
@@ -211,7 +244,10 @@ module _ (laws : AreLaws) (accesses : AreAccesses) where
         adds,
         work-codes k.earlier storage k.orb k.now now t (next_given storage a).transfer true true (g.0 ∙ f.0, g.1 ∙ f.1) w
             (gives-work k.earlier laws storage k.orb k.now t signal.sequence count w) adds,
-        gives-told k.earlier laws accesses storage k.orb k.now t signal.sequence count w,
+        subst (λ (n : ℕ). Gives storage k.orb (absorbed_at s.begun signal.sequence count) n given.bytes k.now now)
+            (sym (moved-given s b given.transfer given.transfer.pci_pending))
+            (subst (λ (o : Option ActiveProgram). Gives storage k.orb (absorbed_at o signal.sequence count) (given_of given.transfer) given.bytes k.now now) (sym is)
+            (gives-told k.earlier laws accesses storage k.orb k.now t signal.sequence count w)),
       )
 
   in-told : (storage : Contents) (s : SubchannelState) (b : ActiveProgram) (k : ProgramTrace) (signal : DataSignal) (load : Load) → s.begun ≡ Some b →
@@ -253,7 +289,7 @@ module _ (laws : AreLaws) (accesses : AreAccesses) where
       else taking.take_in s b signal (brought storage b.transfer signal.sequence (bytes_of_load load))) k
       (if x then record k { now = gives storage b.transfer signal.sequence (load_length load) k.now } else record k { now = takes_in storage b.transfer signal.sequence (bytes_of_load load) k.now })
   moves-meets storage s b k signal load true is d w r =
-      (out-told storage s b k signal load (subst (λ (y : Bool). IsAtWork k.earlier k.orb k.now b.transfer y) d w), r)
+      (out-told storage s b k signal load is (subst (λ (y : Bool). IsAtWork k.earlier k.orb k.now b.transfer y) d w), r)
   moves-meets storage s b k signal load false is d w r =
       (in-told storage s b k signal load is (subst (λ (y : Bool). IsAtWork k.earlier k.orb k.now b.transfer y) d w), r)
 

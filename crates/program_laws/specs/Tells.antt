@@ -1,6 +1,6 @@
 -- How what was done for a program goes on with each event, told by what is seen: the signals that are taken and sent, and what
 -- storage holds in that step (SA22-7832, chapter 15).
-use Rattle.std.specs.Prelude.{◌≡◌, ◌⊎◌, ◌&&◌, ◌||◌, not, ℕ, ◌+◌, ◌<◌, ◌≤◌, Bool, true, false, is_none, is_some, Option, None, Some, List, [], ◌∷◌, ◌++◌, length, map, take, slice_get, IfSome}
+use Rattle.std.specs.Prelude.{◌≡◌, ◌⊎◌, ◌&&◌, ◌||◌, not, ℕ, ◌==◌, ◌+◌, ◌<◌, min, Bool, true, false, is_none, is_some, if◌then◌else◌, Option, None, Some, List, [], ◌∷◌, ◌++◌, length, map, take, slice_get, IfSome}
 use Rattle.orb_block.specs.declared.Orb.{Orb}
 use Rattle.scsw_irb.specs.declared.status.DeviceStatus.{DeviceStatus}
 use Rattle.storage_keys.specs.Storage.{Contents}
@@ -20,6 +20,8 @@ use Rattle.chan_events.specs.declared.reply.Reply.TheVariants as reply
 use Rattle.channel_program.specs.Acts.{Act, End}
 use Rattle.channel_program.specs.Programs.{next, commands, code}
 use Rattle.data_move.specs.Moving.{room}
+use Rattle.transfer.specs.declared.Transfer.{Transfer}
+use Rattle.transfer.specs.Commands.{has_stopped}
 use Rattle.subchannel_model.specs.declared.state.ActiveProgram.{ActiveProgram}
 use Rattle.subchannel_model.specs.declared.state.Program.{Program}
 use Rattle.subchannel_model.specs.declared.state.ProgramPosition.{ProgramPosition}
@@ -80,27 +82,41 @@ Accepted storage s next sent k after =
     (IsOver s × (command_sent sent ≡ None) × (after ≡ k) × IsCountOf s next (Some k))
     ⊎ (GoesOn storage sent (beginning s.waiting k).now.acts (beginning s.waiting k) after × IsCountShown s next after)
 
--- Data of a write: what the device absorbed of a chunk, no more than it says, is moved; and the next chunk that is given is
--- copied from the next places. How many were moved, those places and the count that is shown tell
+-- How many bytes a Data moves, of the transfer at work as it stands: of a read, as many as there is room for; of a write, of those that
+-- the device says it absorbed, where it is the next; and of a write that is answered, how many are given next
+abbrev pub room_at : Option ActiveProgram → ℕ
+room_at None = 0
+room_at (Some b) = room b.transfer.moving
+
+abbrev pub absorbed_at : Option ActiveProgram → ℕ → ℕ → ℕ
+absorbed_at None s count = 0
+absorbed_at (Some b) s count = if s == b.transfer.sequence + 1 then min count (room b.transfer.moving) else 0
+
+abbrev pub given_of : Transfer → ℕ
+given_of t = if has_stopped t || t.moving.skipped then 0 else room t.moving
+
+abbrev pub given_at : Option ActiveProgram → ℕ
+given_at None = 0
+given_at (Some b) = given_of b.transfer
+
+-- Data of a write: what the device absorbed of a chunk is moved; and the next chunk that is given is copied from the next places.
+-- Those places the next chunk and the count tell
 abbrev pub IsGiven : Contents → Orb → List ℕ → CommandTrace → CommandTrace → Type 0
 IsGiven storage orb bytes k now =
     ((bytes ≡ []) × (now.copied ≡ k.copied))
     ⊎ ((places : List (Option ℕ)) × (now.copied ≡ record { storage = storage.bytes; places = places; bytes = bytes } ∷ k.copied)
     × IsBeginning (now.moved ++ places) (places_of orb now.acts))
 
-pub record Gives (storage : Contents) (orb : Orb) (count : ℕ) (bytes : List ℕ) (k now : CommandTrace) : Type 0 where
+pub record Gives (storage : Contents) (orb : Orb) (count next : ℕ) (bytes : List ℕ) (k now : CommandTrace) : Type 0 where
   pub absorbed : List (Option ℕ)
-  pub most : length absorbed ≤ count
+  pub all : length absorbed ≡ count
   pub moved : now.moved ≡ k.moved ++ absorbed
+  pub many : length bytes ≡ next
   pub given : IsGiven storage orb bytes k now
   pub arrived : now.arrived ≡ k.arrived
 
 -- Data of a read: its bytes are stored, as many as there is room for, where it is the next, so that none is stored twice; or none
 -- are, and storage stays, where it is another or a check stopped the transfer
-abbrev pub room_at : Option ActiveProgram → ℕ
-room_at None = 0
-room_at (Some b) = room b.transfer.moving
-
 abbrev pub has_fault : Option ActiveProgram → Bool
 has_fault None = false
 has_fault (Some b) = is_some b.transfer.fault
@@ -113,17 +129,18 @@ Stores former storage fits faulty s bytes k now =
     × (now.moved ≡ k.moved ++ places))
 
 -- a Data is answered by what it is answered with
-abbrev pub MovesBy : Contents → Contents → Orb → ℕ → Bool → ℕ → Load → Down → CommandTrace → CommandTrace → Type 0
-MovesBy former storage orb fits faulty s load (down.Give t c n next bytes) k now = Gives storage orb (load_length load) bytes k now
-MovesBy former storage orb fits faulty s load (down.Took t n last room) k now =
-    Stores former storage fits faulty s (bytes_of_load load) k now × (now.copied ≡ k.copied)
-MovesBy former storage orb fits faulty s load signal k now = ⊥
+abbrev pub MovesBy : Contents → Contents → Orb → Option ActiveProgram → Option ActiveProgram → ℕ → Load → Down → CommandTrace → CommandTrace → Type 0
+MovesBy former storage orb old new s load (down.Give t c n next bytes) k now =
+    Gives storage orb (absorbed_at old s (load_length load)) (given_at new) bytes k now
+MovesBy former storage orb old new s load (down.Took t n last room) k now =
+    Stores former storage (room_at old) (has_fault new) s (bytes_of_load load) k now × (now.copied ≡ k.copied)
+MovesBy former storage orb old new s load signal k now = ⊥
 
-abbrev pub Moves : Contents → Contents → ℕ → Bool → ℕ → Load → Option (OnPath Down) → ProgramTrace → ProgramTrace → Type 0
-Moves former storage fits faulty s load None k after = ⊥
-Moves former storage fits faulty s load (Some sent) k after =
+abbrev pub Moves : Contents → Contents → Option ActiveProgram → Option ActiveProgram → ℕ → Load → Option (OnPath Down) → ProgramTrace → ProgramTrace → Type 0
+Moves former storage old new s load None k after = ⊥
+Moves former storage old new s load (Some sent) k after =
     (now : CommandTrace) × (after ≡ record k { now = now }) × AddsFetched storage k.orb k.now.acts now.acts
-    × (map code (commands k.orb now.acts) ≡ map code (commands k.orb k.now.acts)) × MovesBy former storage k.orb fits faulty s load sent.signal k.now now
+    × (map code (commands k.orb now.acts) ≡ map code (commands k.orb k.now.acts)) × MovesBy former storage k.orb old new s load sent.signal k.now now
 
 -- End: a command is chained to where one is next by the program, nothing breaks the chain (chapter 16), and no earlier End of
 -- the command was shown
@@ -156,7 +173,7 @@ Ends storage s next status more sent k after =
 abbrev pub Meets : Contents → Contents → SubchannelState → SubchannelState → Up → Bool → Option (OnPath Down) → ProgramTrace → ProgramTrace → Type 0
 Meets former storage s next (up.Accept t) true sent k after = Accepted storage s next sent k after
 Meets former storage s next (up.Data t c n seq load) true sent k after =
-    Moves former storage (room_at s.begun) (has_fault next.begun) seq load sent k after × IsCountShown s next after
+    Moves former storage s.begun next.begun seq load sent k after × IsCountShown s next after
 Meets former storage s next (up.End t n status more) true sent k after = Ends storage s next status more sent k after
 Meets former storage s next (up.Cleared r) taken sent k after = (after ≡ k) × IsCountZero s next
 Meets former storage s next (up.Attn a status) taken sent k after = (after ≡ k) × IsCountLeft s next
