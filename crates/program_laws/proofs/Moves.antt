@@ -29,7 +29,7 @@ use Rattle.subchannel_model.specs.Taking.{Met, bytes_of_load}
 use Rattle.program_laws.specs.Traces.{CommandTrace, ProgramTrace}
 use Rattle.program_laws.specs.DataAreas.{data_areas}
 use Rattle.program_laws.specs.Fetches.{AddsFetched}
-use Rattle.program_laws.specs.Tells.{IsGiven, Gives, room_at, absorbed_at, given_of, given_at, has_fault, Stores, Moves, Meets}
+use Rattle.program_laws.specs.Tells.{IsGiven, Gives, absorbed_of, given_of, Stores, Moves, Meets}
 use Rattle.program_laws.proofs.MachineActs.{with_acts, with_places, chained_acts, located_acts, chunk_of, with_copy, copying, trace_moved_on, trace_answered, gives, with_arrival, storing, takes_in}
 use Rattle.program_laws.proofs.MachineTraces as stories
 use Rattle.program_laws.proofs.Lists.{length-each_below}
@@ -211,21 +211,20 @@ located-fault storage t e = by (is_some t.fault) e
     by true f = e
     by false f = absurd (cc f)
 
-moved-given : (s : SubchannelState) (b : ActiveProgram) (t : Transfer) (x : Bool) →
-    given_at (if x then with_cause (record (taking.with_transfer s b t) { begun = Some (taking.without_pci (record b { transfer = t })) }) (cause.Pci t.walk.tried (residual t.moving))
-    else taking.with_transfer s b t).begun ≡ given_of t
-moved-given s b t true = refl
-moved-given s b t false = refl
+-- what is at work after it
+abbrev WorksAt : Option ActiveProgram → Transfer → Type 0
+WorksAt begun t = (c : ActiveProgram) × (begun ≡ Some c) × (given_of c.transfer ≡ given_of t) × (is_some c.transfer.fault ≡ is_some t.fault)
 
-moved-fault : (s : SubchannelState) (b : ActiveProgram) (t : Transfer) (x : Bool) →
-    has_fault (if x then with_cause (record (taking.with_transfer s b t) { begun = Some (taking.without_pci (record b { transfer = t })) }) (cause.Pci t.walk.tried (residual t.moving))
-    else taking.with_transfer s b t).begun ≡ is_some t.fault
-moved-fault s b t true = refl
-moved-fault s b t false = refl
+moved-work : (s : SubchannelState) (b : ActiveProgram) (t : Transfer) (x : Bool) →
+    WorksAt (if x then with_cause (record (taking.with_transfer s b t) { begun = Some (taking.without_pci (record b { transfer = t })) }) (cause.Pci t.walk.tried (residual t.moving))
+    else taking.with_transfer s b t).begun t
+moved-work s b t true = (taking.without_pci (record b { transfer = t }), refl, refl, refl)
+moved-work s b t false = (record b { transfer = t }, refl, refl, refl)
 
 module _ (laws : AreLaws) (accesses : AreAccesses) where
   abbrev MovesOf : Contents → SubchannelState → Met → ℕ → Load → ProgramTrace → ProgramTrace → Type 0
-  MovesOf storage s x seq load k after = Moves storage x.storage s.begun x.step.state.begun seq load x.step.came.sent k after
+  MovesOf storage s x seq load k after =
+      (b c : ActiveProgram) × (s.begun ≡ Some b) × (x.step.state.begun ≡ Some c) × Moves storage x.storage b.transfer c.transfer seq load x.step.came.sent k after
 
   out-told : (storage : Contents) (s : SubchannelState) (b : ActiveProgram) (k : ProgramTrace) (signal : DataSignal) (load : Load) → s.begun ≡ Some b →
       IsAtWork k.earlier k.orb k.now b.transfer true →
@@ -236,18 +235,23 @@ module _ (laws : AreLaws) (accesses : AreAccesses) where
       let a : Transfer = taken_by_device storage t signal.sequence count in
       let given : NextChunk = next_given storage a in
       let f : IsSame t a = absorbed-same storage t signal.sequence count in
-      let g : IsSame a (next_given storage a).transfer = next_given-same storage a in
+      let g : IsSame a given.transfer = next_given-same storage a in
       let now : CommandTrace = gives storage t signal.sequence count k.now in
-      let adds : AddsFetched storage k.orb k.now.acts now.acts = gives-adds k.earlier laws storage k.orb k.now t signal.sequence count w in (
-        now,
-        refl,
-        adds,
-        work-codes k.earlier storage k.orb k.now now t (next_given storage a).transfer true true (g.0 ∙ f.0, g.1 ∙ f.1) w
-            (gives-work k.earlier laws storage k.orb k.now t signal.sequence count w) adds,
-        subst (λ (n : ℕ). Gives storage k.orb (absorbed_at s.begun signal.sequence count) n given.bytes k.now now)
-            (sym (moved-given s b given.transfer given.transfer.pci_pending))
-            (subst (λ (o : Option ActiveProgram). Gives storage k.orb (absorbed_at o signal.sequence count) (given_of given.transfer) given.bytes k.now now) (sym is)
-            (gives-told k.earlier laws accesses storage k.orb k.now t signal.sequence count w)),
+      let adds : AddsFetched storage k.orb k.now.acts now.acts = gives-adds k.earlier laws storage k.orb k.now t signal.sequence count w in
+      let at : WorksAt (taking.give_next storage s b signal count).state.begun given.transfer = moved-work s b given.transfer given.transfer.pci_pending in (
+        b,
+        at.0,
+        is,
+        at.1,
+        (
+          now,
+          refl,
+          adds,
+          work-codes k.earlier storage k.orb k.now now t given.transfer true true (g.0 ∙ f.0, g.1 ∙ f.1) w
+              (gives-work k.earlier laws storage k.orb k.now t signal.sequence count w) adds,
+          subst (λ (n : ℕ). Gives storage k.orb (absorbed_of t signal.sequence count) n given.bytes k.now now) (sym at.2)
+              (gives-told k.earlier laws accesses storage k.orb k.now t signal.sequence count w),
+        ),
       )
 
   in-told : (storage : Contents) (s : SubchannelState) (b : ActiveProgram) (k : ProgramTrace) (signal : DataSignal) (load : Load) → s.begun ≡ Some b →
@@ -259,21 +263,27 @@ module _ (laws : AreLaws) (accesses : AreAccesses) where
       let bytes : List ℕ = bytes_of_load load in
       let a : Brought = brought storage t signal.sequence bytes in
       let f : IsSame t a.transfer = brought-same storage t signal.sequence bytes in
-      let g : IsSame a.transfer (located_transfer a.storage a.transfer) = located-same a.storage a.transfer in
       let u : Transfer = located_transfer a.storage a.transfer in
+      let g : IsSame a.transfer u = located-same a.storage a.transfer in
       let now : CommandTrace = takes_in storage t signal.sequence bytes k.now in
       let told = brought-told k.earlier laws accesses storage k.orb t signal.sequence bytes k.now (signal.sequence == t.sequence + 1) refl w in
-      let adds : AddsFetched a.storage k.orb k.now.acts now.acts = takes_in-adds k.earlier laws accesses storage k.orb k.now t signal.sequence bytes w in (
-        now,
-        refl,
-        adds,
-        work-codes k.earlier a.storage k.orb k.now now t (located_transfer a.storage a.transfer) false false (g.0 ∙ f.0, g.1 ∙ f.1) w
-            (takes_in-work k.earlier laws accesses storage k.orb k.now t signal.sequence bytes w) adds,
+      let adds : AddsFetched a.storage k.orb k.now.acts now.acts = takes_in-adds k.earlier laws accesses storage k.orb k.now t signal.sequence bytes w in
+      let at : WorksAt (taking.take_in s b signal a).step.state.begun u = moved-work s b u u.pci_pending in (
+        b,
+        at.0,
+        is,
+        at.1,
         (
-          stores-by storage a.storage (room_at s.begun) (is_some a.transfer.fault) (has_fault (taking.take_in s b signal a).step.state.begun) signal.sequence bytes k.now now
-              (λ e. moved-fault s b u u.pci_pending ∙ located-fault a.storage a.transfer e)
-              (subst (λ (o : Option ActiveProgram). Stores storage a.storage (room_at o) (is_some a.transfer.fault) signal.sequence bytes k.now now) (sym is) told.0),
-          told.1,
+          now,
+          refl,
+          adds,
+          work-codes k.earlier a.storage k.orb k.now now t u false false (g.0 ∙ f.0, g.1 ∙ f.1) w
+              (takes_in-work k.earlier laws accesses storage k.orb k.now t signal.sequence bytes w) adds,
+          (
+            stores-by storage a.storage (room t.moving) (is_some a.transfer.fault) (is_some at.0.transfer.fault) signal.sequence bytes k.now now
+                (λ e. at.3 ∙ located-fault a.storage a.transfer e) told.0,
+            told.1,
+          ),
         ),
       )
 

@@ -82,22 +82,13 @@ Accepted storage s next sent k after =
     (IsOver s × (command_sent sent ≡ None) × (after ≡ k) × IsCountOf s next (Some k))
     ⊎ (GoesOn storage sent (beginning s.waiting k).now.acts (beginning s.waiting k) after × IsCountShown s next after)
 
--- How many bytes a Data moves, of the transfer at work as it stands: of a read, as many as there is room for; of a write, of those that
--- the device says it absorbed, where it is the next; and of a write that is answered, how many are given next
-abbrev pub room_at : Option ActiveProgram → ℕ
-room_at None = 0
-room_at (Some b) = room b.transfer.moving
-
-abbrev pub absorbed_at : Option ActiveProgram → ℕ → ℕ → ℕ
-absorbed_at None s count = 0
-absorbed_at (Some b) s count = if s == b.transfer.sequence + 1 then min count (room b.transfer.moving) else 0
+-- How many bytes a Data moves, by the transfer at work as it stands: of a write, of those that the device says it absorbed, where it
+-- is the next, as many as there is room for at the next places; and of a write, how many are given next
+abbrev pub absorbed_of : Transfer → ℕ → ℕ → ℕ
+absorbed_of t s count = if s == t.sequence + 1 then min count (room t.moving) else 0
 
 abbrev pub given_of : Transfer → ℕ
 given_of t = if has_stopped t || t.moving.skipped then 0 else room t.moving
-
-abbrev pub given_at : Option ActiveProgram → ℕ
-given_at None = 0
-given_at (Some b) = given_of b.transfer
 
 -- Data of a write: what the device absorbed of a chunk is moved; and the next chunk that is given is copied from the next places.
 -- Those places the next chunk and the count tell
@@ -117,10 +108,6 @@ pub record Gives (storage : Contents) (orb : Orb) (count next : ℕ) (bytes : Li
 
 -- Data of a read: its bytes are stored, as many as there is room for, where it is the next, so that none is stored twice; or none
 -- are, and storage stays, where it is another or a check stopped the transfer
-abbrev pub has_fault : Option ActiveProgram → Bool
-has_fault None = false
-has_fault (Some b) = is_some b.transfer.fault
-
 abbrev pub Stores : Contents → Contents → ℕ → Bool → ℕ → List ℕ → CommandTrace → CommandTrace → Type 0
 Stores former storage fits faulty s bytes k now =
     ((s ≡ length k.arrived + 1 → faulty ≡ true) × (storage ≡ former) × (now.arrived ≡ k.arrived) × (now.moved ≡ k.moved))
@@ -129,14 +116,14 @@ Stores former storage fits faulty s bytes k now =
     × (now.moved ≡ k.moved ++ places))
 
 -- a Data is answered by what it is answered with
-abbrev pub MovesBy : Contents → Contents → Orb → Option ActiveProgram → Option ActiveProgram → ℕ → Load → Down → CommandTrace → CommandTrace → Type 0
+abbrev pub MovesBy : Contents → Contents → Orb → Transfer → Transfer → ℕ → Load → Down → CommandTrace → CommandTrace → Type 0
 MovesBy former storage orb old new s load (down.Give t c n next bytes) k now =
-    Gives storage orb (absorbed_at old s (load_length load)) (given_at new) bytes k now
-MovesBy former storage orb old new s load (down.Took t n last room) k now =
-    Stores former storage (room_at old) (has_fault new) s (bytes_of_load load) k now × (now.copied ≡ k.copied)
+    Gives storage orb (absorbed_of old s (load_length load)) (given_of new) bytes k now
+MovesBy former storage orb old new s load (down.Took t n last more) k now =
+    Stores former storage (room old.moving) (is_some new.fault) s (bytes_of_load load) k now × (now.copied ≡ k.copied)
 MovesBy former storage orb old new s load signal k now = ⊥
 
-abbrev pub Moves : Contents → Contents → Option ActiveProgram → Option ActiveProgram → ℕ → Load → Option (OnPath Down) → ProgramTrace → ProgramTrace → Type 0
+abbrev pub Moves : Contents → Contents → Transfer → Transfer → ℕ → Load → Option (OnPath Down) → ProgramTrace → ProgramTrace → Type 0
 Moves former storage old new s load None k after = ⊥
 Moves former storage old new s load (Some sent) k after =
     (now : CommandTrace) × (after ≡ record k { now = now }) × AddsFetched storage k.orb k.now.acts now.acts
@@ -173,7 +160,8 @@ Ends storage s next status more sent k after =
 abbrev pub Meets : Contents → Contents → SubchannelState → SubchannelState → Up → Bool → Option (OnPath Down) → ProgramTrace → ProgramTrace → Type 0
 Meets former storage s next (up.Accept t) true sent k after = Accepted storage s next sent k after
 Meets former storage s next (up.Data t c n seq load) true sent k after =
-    Moves former storage s.begun next.begun seq load sent k after × IsCountShown s next after
+    ((b c : ActiveProgram) × (s.begun ≡ Some b) × (next.begun ≡ Some c) × Moves former storage b.transfer c.transfer seq load sent k after)
+    × IsCountShown s next after
 Meets former storage s next (up.End t n status more) true sent k after = Ends storage s next status more sent k after
 Meets former storage s next (up.Cleared r) taken sent k after = (after ≡ k) × IsCountZero s next
 Meets former storage s next (up.Attn a status) taken sent k after = (after ≡ k) × IsCountLeft s next
