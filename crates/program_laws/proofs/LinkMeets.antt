@@ -72,10 +72,6 @@ use Rattle.program_laws.proofs.LinkWires.{HandClosed, IsClosed, IsGiving, IsTell
 use Rattle.program_laws.proofs.LinkCourses.{mode-marked, mode-ended, interrupted-mode, flow-absorbs, absorbs-on}
 use Rattle.program_laws.proofs.LinkModes.{AnyGive, NoGive, AnyData, HandPlain, HandFlow, Mode, Waits, Over, Reads, Writes, mode-carried, absorbs-none}
 
--- the lesser of two numbers
-least : (j n : ℕ) → j ≤ n → min j n ≡ j
-least j n l = min-eq_left l
-
 -- any but a Notice, which may empty what is begun
 abbrev pub IsNoNotice : Up → Type 0
 IsNoNotice (up.Notice b) = ⊥
@@ -272,7 +268,7 @@ module _ (laws : AreLaws) (accesses : AreAccesses) (storage : Contents) (side : 
             let j : ℕ = load_length l in
             let ahead : lead ≡ Some j = d.1 is in
             let flow : Flow v k.absorbed (Some j) = subst (Flow v k.absorbed) ahead f in
-            let all : min j (room b.transfer.moving) ≡ j = least j (room b.transfer.moving) flow.within in
+            let all : min j (room b.transfer.moving) ≡ j = min-eq_left flow.within in
             let moved : w.moved ≡ v.moved ++ each_below v.next j = a.0.moved ∙ ap (λ (i : ℕ). v.moved ++ each_below v.next i) all in
             given (Writes (record b { transfer = x.transfer }) refl taken-all outward None (answered-flow v w k.absorbed j a.0.copied moved flow)
             (now-wires (HandFlow b.transfer.code v lead) (HandFlow x.transfer.code w None) (IsGive v) (IsGive w) (IsData v lead) (IsData w None) (Some (record { path = signal.path; signal = down.Give signal.number signal.connection signal.command (signal.sequence + 1) x.bytes }))
