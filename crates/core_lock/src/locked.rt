@@ -324,6 +324,7 @@ impl<J: Naming, P: PathChoice + Drop> Core<J, P> {
     /// One step, entered from a seat: its reply, with the entry in the history and in the seat's log. Where it is refused all
     /// is as before; it is refused `NoMemory` only where the history, the seats beside it or the log can't grow, or the steps
     /// are used up.
+    #[inline]
     pub fn enter(&mut self, seat: &mut Seat<J>, event: Event) -> Result<Reply, Fault>
         ensures step { IfOk result (λ reply. Step self.old.value.state event reply self.new.value.state) }
         ensures history { IfOk result (λ reply. self.new.value.history ≡ self.old.value.history ++ entry event reply ∷ []) }
@@ -341,18 +342,44 @@ impl<J: Naming, P: PathChoice + Drop> Core<J, P> {
         // Where it is refused no room is lost.
         ensures kept { OnErr result ((self.old.room ≤ self.new.room) × (seat.old.room ≤ seat.new.room)) }
     {
+        let mut answer = Err(Fault::NoMemory);
+        self.enter_to(seat, &event, &mut answer);
+        answer
+    }
+
+    /// One step, as `enter` has it, with its answer in a place.
+    #[inline(never)]
+    pub fn enter_to(&mut self, seat: &mut Seat<J>, event: &Event, answer: &mut Result<Reply, Fault>)
+        ensures step { IfOk answer.new (λ reply. Step self.old.value.state event.now reply self.new.value.state) }
+        ensures history { IfOk answer.new (λ reply. self.new.value.history ≡ self.old.value.history ++ entry event.now reply ∷ []) }
+        ensures by { IfOk answer.new (λ reply. self.new.value.by ≡ self.old.value.by ++ seat.old.value.number ∷ []) }
+        ensures seats { self.new.value.seats ≡ self.old.value.seats }
+        ensures logged { IfOk answer.new (λ reply. seat.new.value ≡ entered seat.old.value event.now reply) }
+        ensures ruled { answer.new ≢ Err fault_spec.NoMemory →
+            GoesByRule P.picks self.old.value.state event.now answer.new self.new.value.state }
+        ensures refusal { IfErr answer.new (λ f. MayRefuse self.old.value.state event.now f) }
+        ensures spent { answer.new ≡ Err fault_spec.NoMemory → HasNoRoom self.old seat.old }
+        ensures core { OnErr answer.new (self.new.value ≡ self.old.value) }
+        ensures seat { OnErr answer.new (seat.new.value ≡ seat.old.value) }
+        ensures room { self.old.room ≤ self.new.room + 1 }
+        ensures seat_room { seat.old.room ≤ seat.new.room + 1 }
+        // Where it is refused no room is lost.
+        ensures kept { OnErr answer.new ((self.old.room ≤ self.new.room) × (seat.old.room ≤ seat.new.room)) }
+    {
         if self.by.reserve(1).is_err() || seat.log.make_room().is_err() {
-            return Err(Fault::NoMemory);
+            *answer = Err(Fault::NoMemory);
+            return;
         }
         touches();
-        let touched = touched_by(&self.subsystem, &event);
-        let reply = self.subsystem.step(&event)?;
-        publish(&mut self.writers, &self.subsystem, touched);
-        self.entries.add(&mut seat.share, 1);
-        self.by.push_reserved(seat.number);
-        raise(&mut seat.pairs, &seat.directory, &event, &reply);
-        seat.log.append(&event, &reply);
-        Ok(reply)
+        let touched = touched_by(&self.subsystem, event);
+        self.subsystem.step_to(event, answer);
+        if let Ok(reply) = &*answer {
+            publish(&mut self.writers, &self.subsystem, touched);
+            self.entries.add(&mut seat.share, 1);
+            self.by.push_reserved(seat.number);
+            raise(&mut seat.pairs, &seat.directory, event, reply);
+            self.subsystem.add_last(&mut seat.log);
+        }
     }
 
     /// One turn of the worker of a channel path: the first event that there is for a subchannel of that path is entered. False

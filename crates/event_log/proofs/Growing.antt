@@ -7,7 +7,7 @@ use Rattle.chan_events.specs.declared.reply.Entry.{Entry}
 use Rattle.kept_events.specs.declared.entries.KeptEntry.{KeptEntry}
 use Rattle.kept_events.specs.declared.events.KeptEvent.TheVariants as kept_event
 use Rattle.kept_events.specs.declared.replies.KeptReply.TheVariants as kept_reply
-use Rattle.kept_events.specs.Entries.{entry_in, entry_length, entry_bytes}
+use Rattle.kept_events.specs.Entries.{entry_in, entry_length}
 use Rattle.event_log.specs.Logs.{entry_at, entries_at, Fits, AllFit}
 
 -- a piece that lies in an arena is the same in a longer one
@@ -33,24 +33,26 @@ entries-append arena more ks fit =
     ∙ sym (get_or-map (entry_at arena) ks i blank d within))
 
 -- what is known of an entry that is kept with its bytes at the end
-pub record IsAdded (arena : List ℕ) (e : Entry) (k : KeptEntry) : Type 0 where
+pub record IsAdded (arena bytes : List ℕ) (k : KeptEntry) : Type 0 where
   pub start : k.start ≡ length arena
-  pub kept : (rest : List ℕ) → entry_in k (entry_bytes e ++ rest) ≡ e
-  pub long : entry_length k ≡ length (entry_bytes e)
+  pub long : entry_length k ≡ length bytes
 
-entry-added : (arena : List ℕ) (e : Entry) (k : KeptEntry) → IsAdded arena e k → entry_at (arena ++ entry_bytes e) k ≡ e
-entry-added arena e k is =
-    let after = ap (λ s. drop s (arena ++ entry_bytes e)) is.start ∙ drop-append_seam arena (entry_bytes e) in
-    ap (entry_in k) (ap₂ take is.long after ∙ take-length (entry_bytes e) ∙ sym (append-nil (entry_bytes e))) ∙ is.kept []
+entry-added : (arena bytes : List ℕ) (k : KeptEntry) → IsAdded arena bytes k → entry_at (arena ++ bytes) k ≡ entry_in k bytes
+entry-added arena bytes k is =
+    let after = ap (λ s. drop s (arena ++ bytes)) is.start ∙ drop-append_seam arena bytes in
+    ap (entry_in k) (ap₂ take is.long after ∙ take-length bytes)
 
-pub entries-added : (arena : List ℕ) (ks : List KeptEntry) (e : Entry) (k : KeptEntry) → AllFit arena ks → IsAdded arena e k →
-    entries_at (arena ++ entry_bytes e) (ks ++ k ∷ []) ≡ entries_at arena ks ++ e ∷ []
-entries-added arena ks e k fit is =
-    map_push (entry_at (arena ++ entry_bytes e)) ks k
-    ∙ ap₂ (λ (h : List Entry) (x : Entry). h ++ x ∷ []) (entries-append arena (entry_bytes e) ks fit) (entry-added arena e k is)
+pub entries-added : (arena bytes : List ℕ) (ks : List KeptEntry) (k : KeptEntry) → AllFit arena ks → IsAdded arena bytes k →
+    entries_at (arena ++ bytes) (ks ++ k ∷ []) ≡ entries_at arena ks ++ entry_in k bytes ∷ []
+entries-added arena bytes ks k fit is =
+    map_push (entry_at (arena ++ bytes)) ks k
+    ∙ ap₂ (λ (h : List Entry) (x : Entry). h ++ x ∷ []) (entries-append arena bytes ks fit) (entry-added arena bytes k is)
 
-pub fit-added : (arena : List ℕ) (ks : List KeptEntry) (e : Entry) (k : KeptEntry) → AllFit arena ks → IsAdded arena e k →
-    AllFit (arena ++ entry_bytes e) (ks ++ k ∷ [])
-fit-added arena ks e k fit is =
-    let size = length-append arena (entry_bytes e) in
-    All-push (Fits (length (arena ++ entry_bytes e))) ks k (λ i d within. omega (arith, fit i d within, size)) (omega (arith, is.start, is.long, size))
+pub fit-added : (arena bytes : List ℕ) (ks : List KeptEntry) (k : KeptEntry) → AllFit arena ks → IsAdded arena bytes k → AllFit (arena ++ bytes) (ks ++ k ∷ [])
+fit-added arena bytes ks k fit is =
+    let size = length-append arena bytes in
+    All-push (Fits (length (arena ++ bytes))) ks k (λ i d within. omega (arith, fit i d within, size)) (omega (arith, is.start, is.long, size))
+
+-- the bytes of an entry, as they are where nothing follows
+pub whole-bytes : (k : KeptEntry) (bytes : List ℕ) (e : Entry) → ((rest : List ℕ) → entry_in k (bytes ++ rest) ≡ e) → entry_in k bytes ≡ e
+whole-bytes k bytes e kept = ap (entry_in k) (sym (append-nil bytes)) ∙ kept []

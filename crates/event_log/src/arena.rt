@@ -9,7 +9,7 @@ use chan_events::reply::Reply;
 use kept_events::bytes::{down_bytes, event_bytes, up_bytes};
 
 /// Adds bytes.
-fn add_bytes(arena: &mut Vec<u8>, bytes: &[u8])
+pub fn add_bytes(arena: &mut Vec<u8>, bytes: &[u8])
     requires { vec_len arena.old + length bytes.now ≤ vec_capacity arena.old }
     ensures items { arena.new.items ≡ arena.old.items ++ bytes.now }
     ensures len { vec_len arena.new ≡ vec_len arena.old + length bytes.now }

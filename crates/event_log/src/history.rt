@@ -1,9 +1,12 @@
 //! What was accepted, in order.
 
-ghost use Rattle.std.specs.Prelude.{◌≡◌, length, slice_get};
+ghost use Rattle.std.specs.Prelude.{◌≡◌, ◌≤◌, ◌+◌, ◌++◌, ◌∷◌, [], List, length, take, drop, slice_get};
+ghost use Rattle.chan_events.specs.declared.reply.Entry.{Entry};
+ghost use Rattle.kept_events.specs.Entries.{entry_length};
 ghost use Rattle.event_log.specs.Logs.{AllFit, entries_at};
 ghost use Rattle.event_log.specs.Logs as spec;
 
+use crate::logs::Log;
 use chan_events::reply::Entry;
 use kept_events::entries::KeptEntry;
 use std::marker::Model;
@@ -52,6 +55,31 @@ impl<'a> History<'a> {
             Some(kept) => Some(entry_at(kept, self.bytes)),
         }
     }
+
+    /// Adds the last entry, where there is one, to a log that has room for it.
+    pub fn add_last(&self, log: &mut Log)
+        requires { 1 ≤ log.old.room }
+        ensures entries { (h : List Entry) (e : Entry) → self.now ≡ h ++ e ∷ [] → log.new.entries ≡ log.old.entries ++ e ∷ [] }
+        ensures none { self.now ≡ [] → log.new.entries ≡ log.old.entries }
+        ensures room { log.old.room ≤ log.new.room + 1 }
+    {
+        let count = self.entries.len();
+        if count > 0 {
+            let kept = self.entries[count - 1];
+            log.append_kept(&kept, bytes_of(&kept, self.bytes));
+        }
+    }
+}
+
+/// The bytes of an entry.
+fn bytes_of<'a>(kept: &KeptEntry, arena: &'a [u8]) -> &'a [u8]
+    requires { spec.Fits (length arena.now) kept.now }
+    ensures value { result.now ≡ take (entry_length kept.now) (drop kept.now.start arena.now) }
+    ensures length { length result.now ≡ entry_length kept.now }
+    ensures bound { length result.now ≤ 768 }
+{
+    let bytes = &arena[kept.start..];
+    &bytes[..kept.length()]
 }
 
 /// The entry whose bytes stand from its start on.
@@ -59,6 +87,5 @@ fn entry_at(kept: &KeptEntry, arena: &[u8]) -> Entry
     requires { spec.Fits (length arena.now) kept.now }
     ensures { result ≡ spec.entry_at arena.now kept.now }
 {
-    let bytes = &arena[kept.start..];
-    kept.with(&bytes[..kept.length()])
+    kept.with(bytes_of(kept, arena))
 }

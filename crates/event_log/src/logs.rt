@@ -1,8 +1,9 @@
 //! A log that grows at its end.
 
 ghost use Rattle.std.specs.Prelude.{◌≡◌, ◌≤◌, ◌<◌, ◌+◌, ◌++◌, ◌∷◌, [], OnOk, OnErr, length, vec_len, vec_capacity};
+ghost use Rattle.kept_events.specs.Entries.{entry_in, entry_length};
 
-use crate::arena::add_entry;
+use crate::arena::{add_bytes, add_entry};
 use crate::history::History;
 use chan_events::event::Event;
 use chan_events::reply::Reply;
@@ -76,6 +77,19 @@ impl Log {
         let entry = KeptEntry::of(self.bytes.len(), event, reply);
         add_entry(&mut self.bytes, event, reply);
         push(&mut self.entries, entry.start, entry.event, entry.reply);
+    }
+
+    /// Adds an entry that is kept with these bytes, for which there is room.
+    pub fn append_kept(&mut self, kept: &KeptEntry, bytes: &[u8])
+        requires room { 1 ≤ self.old.room }
+        requires whole { entry_length kept.now ≡ length bytes.now }
+        requires bound { length bytes.now ≤ 768 }
+        ensures entries { self.new.entries ≡ self.old.entries ++ entry_in kept.now bytes.now ∷ [] }
+        ensures room { self.old.room ≤ self.new.room + 1 }
+    {
+        let start = self.bytes.len();
+        add_bytes(&mut self.bytes, bytes);
+        push(&mut self.entries, start, kept.event, kept.reply);
     }
 
     /// The entries.

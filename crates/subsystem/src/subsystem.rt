@@ -1,6 +1,7 @@
 //! The channel subsystem: its machine, and the history that led there.
 
-ghost use Rattle.std.specs.Prelude.{◌≡◌, ◌≢◌, ◌⊎◌, ◌+◌, ◌<◌, ◌≤◌, All, Err, ◌++◌, ◌∷◌, [], IfOk, IfErr, IfSome, OnErr, OnOk, length, slice_get, true, vec_len, vec_capacity};
+ghost use Rattle.std.specs.Prelude.{◌≡◌, ◌≢◌, ◌⊎◌, ◌+◌, ◌<◌, ◌≤◌, All, Err, List, ◌++◌, ◌∷◌, [], IfOk, IfErr, IfSome, OnErr, OnOk, length, slice_get, true, vec_len, vec_capacity};
+ghost use Rattle.chan_events.specs.declared.reply.Entry.{Entry};
 ghost use Rattle.chan_model.specs.declared.fault.Fault.TheVariants as fault_spec;
 ghost use Rattle.machine_model.specs.State as state_spec;
 ghost use Rattle.machine_model.specs.Ruled.{GoesByRule};
@@ -107,6 +108,7 @@ impl<P: PathChoice + Drop> Subsystem<P> {
 
     /// One event. It is refused `NoMemory` only where the history has no room and can't grow, or the numbers are used
     /// up; a refusal changes nothing.
+    #[inline]
     pub fn step(&mut self, event: &Event) -> Result<Reply, Fault>
         ensures step { IfOk result (λ reply. Step self.old.state event.now reply self.new.state) }
         ensures history { IfOk result (λ reply. self.new.history ≡
@@ -122,22 +124,53 @@ impl<P: PathChoice + Drop> Subsystem<P> {
         ensures rises { Rises (all_serials self.old.state) (all_serials self.new.state) }
         ensures ordered { IfOk result (λ reply. BringsOrdered event.now reply) }
     {
+        let mut answer = Err(Fault::NoMemory);
+        self.step_to(event, &mut answer);
+        answer
+    }
+
+    /// One event, as `step` has it, with its answer in a place.
+    #[inline(never)]
+    pub fn step_to(&mut self, event: &Event, answer: &mut Result<Reply, Fault>)
+        ensures step { IfOk answer.new (λ reply. Step self.old.state event.now reply self.new.state) }
+        ensures history { IfOk answer.new (λ reply. self.new.history ≡
+            self.old.history ++ record { event = event.now; reply = reply } ∷ []) }
+        ensures set_up { StaysSetUp self.old.state self.new.state }
+        ensures ruled { answer.new ≢ Err fault_spec.NoMemory →
+            GoesByRule P.picks self.old.state event.now answer.new self.new.state }
+        ensures room { self.old.room ≤ self.new.room + 1 }
+        ensures refused { OnErr answer.new (IsAsBefore self.old self.new) }
+        ensures refusal { IfErr answer.new (λ f. (f ≡ fault_spec.NoMemory) ⊎ IsRefused self.old.state event.now f) }
+        ensures spent { answer.new ≡ Err fault_spec.NoMemory → LacksRoom self.old self.new }
+        ensures rises { Rises (all_serials self.old.state) (all_serials self.new.state) }
+        ensures ordered { IfOk answer.new (λ reply. BringsOrdered event.now reply) }
+    {
         numbers();
         setups();
         steps();
         codes();
         if self.history.len() >= (1 << 62) - 1 {
-            return Err(Fault::NoMemory);
+            *answer = Err(Fault::NoMemory);
+            return;
         }
         if self.history.make_room().is_err() {
-            return Err(Fault::NoMemory);
+            *answer = Err(Fault::NoMemory);
+            return;
         }
-        let answer = self.machine.perform(&self.places, &self.choice, event);
-        let Ok(reply) = &answer else {
-            return answer;
-        };
-        self.history.append(event, reply);
-        answer
+        *answer = self.machine.perform(&self.places, &self.choice, event);
+        if let Ok(reply) = &*answer {
+            self.history.append(event, reply);
+        }
+    }
+
+    /// Adds what was accepted last, where there is any, to a log that has room for it.
+    pub fn add_last(&self, log: &mut Log)
+        requires { 1 ≤ log.old.room }
+        ensures entries { (h : List Entry) (e : Entry) → self.now.history ≡ h ++ e ∷ [] → log.new.entries ≡ log.old.entries ++ e ∷ [] }
+        ensures none { self.now.history ≡ [] → log.new.entries ≡ log.old.entries }
+        ensures room { log.old.room ≤ log.new.room + 1 }
+    {
+        self.history.history().add_last(log);
     }
 
     /// The events in order, each with its reply or its refusal. Room for the answers is made first; the refusal

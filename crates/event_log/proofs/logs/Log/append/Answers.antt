@@ -1,8 +1,9 @@
 use Rattle.std.proofs.Common.{◌∙◌, ap, ap₂, sym, subst, List, ℕ, [], ◌∷◌, ◌++◌, rules}
 use Rattle.chan_events.specs.declared.reply.Entry.{Entry}
 use Rattle.kept_events.specs.declared.entries.KeptEntry.{KeptEntry}
+use Rattle.kept_events.specs.Entries.{entry_bytes}
 use Rattle.event_log.specs.Logs.{AllFit, entries_at}
-use Rattle.event_log.proofs.Growing.{entries-added, fit-added}
+use Rattle.event_log.proofs.Growing.{entries-added, fit-added, whole-bytes}
 use Rattle.event_log.proofs.logs.Log.append.Goals as goal
 
 pub invariant_of-self : goal.invariant_of-self
@@ -11,14 +12,13 @@ invariant_of-self c =
     let entry : Entry = record { event = c.args.event.now; reply = c.args.reply.now } in
     subst (λ (ks : List KeptEntry). AllFit c.add_entry.new.arena.items ks) (sym c.push.ensures.items)
     (subst (λ (a : List ℕ). AllFit a (log.entries.items ++ c.of-entry.result ∷ [])) (sym c.add_entry.ensures.items)
-    (fit-added log.bytes.items log.entries.items entry c.of-entry.result c.self.invariant
-    (record { start = search rules; kept = c.of-entry.ensures.kept; long = c.of-entry.ensures.length })))
+    (fit-added log.bytes.items (entry_bytes entry) log.entries.items c.of-entry.result c.self.invariant (record { start = search rules; long = c.of-entry.ensures.length })))
 
 pub returns-clause-entries : goal.returns-clause-entries
 returns-clause-entries c =
     let log = c.self.inside in
     let entry : Entry = record { event = c.args.event.now; reply = c.args.reply.now } in
     ap₂ entries_at c.add_entry.ensures.items c.push.ensures.items
-    ∙ entries-added log.bytes.items log.entries.items entry c.of-entry.result c.self.invariant
-    (record { start = search rules; kept = c.of-entry.ensures.kept; long = c.of-entry.ensures.length })
-    ∙ ap (λ (h : List Entry). h ++ entry ∷ []) (ap (λ l. l.entries) c.self.view_is)
+    ∙ entries-added log.bytes.items (entry_bytes entry) log.entries.items c.of-entry.result c.self.invariant
+    (record { start = search rules; long = c.of-entry.ensures.length })
+    ∙ ap₂ (λ (h : List Entry) (e : Entry). h ++ e ∷ []) (ap (λ l. l.entries) c.self.view_is) (whole-bytes c.of-entry.result (entry_bytes entry) entry c.of-entry.ensures.kept)
