@@ -13,31 +13,24 @@ use Rattle.machine_model.specs.State.{State, opening_of, place_of}
 use Rattle.machine_model.specs.Setups.{IsSetUp}
 use Rattle.machine_model.specs.Steps.{HasRun}
 use Rattle.subsystem.specs.Keeping.{StaysSetUp, all_serials}
-use Rattle.core_lock.specs.Directory.{Directory, directory_of, is_name, name_of, name_place, place_named, place_of_name}
-use Rattle.core_lock.specs.Keeping.{IsNamedBy, directory_by, id_of}
+use Rattle.core_lock.specs.Directory.{Directory, directory_of, is_name, name_place, place_named, place_of_name, setup_of}
+use Rattle.core_lock.specs.Keeping.{IsNamedBy, directory_by}
 use Rattle.core_lock.specs.Named.{serials}
 
 -- a name is found where its subchannel stands
-name_stands : (id : SubchannelId) (subs : List Subchannel) → name_place id (map name_of subs) ≡ place_in id subs
+name_stands : (id : SubchannelId) (subs : List Subchannel) → name_place id (map setup_of subs) ≡ place_in id subs
 name_stands id [] = refl
-name_stands id (sub ∷ subs) = ap (λ (o : Option ℕ). if is_name id (name_of sub) then Some 0 else one_later o) (name_stands id subs)
+name_stands id (sub ∷ subs) = ap (λ (o : Option ℕ). if is_name id (setup_of sub) then Some 0 else one_later o) (name_stands id subs)
 
-named_stands : (o : Option SubchannelId) (subs : List Subchannel) → place_of_name (map name_of subs) o ≡ place_of_id subs o
+named_stands : (o : Option SubchannelId) (subs : List Subchannel) → place_of_name (map setup_of subs) o ≡ place_of_id subs o
 named_stands None subs = refl
 named_stands (Some id) subs = name_stands id subs
 
 pub place_is : (s : State) (word : ℕ) → place_named (directory_of s) word ≡ place_of s word
 place_is s word = named_stands (subchannel_named s.sets word) s.subs
 
-names_same : (subs : List Subchannel) → map name_of subs ≡ map id_of (map (λ (sub : Subchannel). sub.setup) subs)
-names_same [] = refl
-names_same (sub ∷ subs) = ap (λ l. name_of sub ∷ l) (names_same subs)
-
 pub directory_is : (setup : Setup) (s : State) → IsSetUp setup s → directory_of s ≡ directory_by setup
-directory_is setup s i j = record {
-  sets = i.sets j;
-  names = (names_same s.subs ∙ ap (λ (l : List SubchannelSetup). map id_of l) i.subs) j;
-}
+directory_is setup s i j = record { sets = i.sets j; setups = i.subs j }
 
 pub run_named : (h : List Entry) (s : State) (d : Directory) → HasRun h s → directory_of s ≡ d → IsNamedBy d s
 run_named h s d run is = (run.0.0, run.0.1, sym (directory_is run.0.0 s run.0.1) ∙ is)
@@ -49,12 +42,12 @@ pub is_named : (s : State) (d : Directory) → IsNamedBy d s → directory_of s 
 is_named s d (setup, i, is) = directory_is setup s i ∙ is
 
 -- at the opening
-opened_names : (setups : List SubchannelSetup) → map name_of (map opened setups) ≡ map id_of setups
-opened_names [] = refl
-opened_names (setup ∷ setups) = ap (λ l. id_of setup ∷ l) (opened_names setups)
+opened_setups : (setups : List SubchannelSetup) → map setup_of (map opened setups) ≡ setups
+opened_setups [] = refl
+opened_setups (setup ∷ setups) = ap (λ l. setup ∷ l) (opened_setups setups)
 
 pub opening_directory : (setup : Setup) → directory_by setup ≡ directory_of (opening_of setup)
-opening_directory setup j = record { sets = (directory_by setup).sets; names = sym (opened_names setup.subchannels) j }
+opening_directory setup j = record { sets = (directory_by setup).sets; setups = sym (opened_setups setup.subchannels) j }
 
 opened_serials : (setups : List SubchannelSetup) → replicate (length setups) (serials 0 0) ≡ map (λ (sub : Subchannel). sub.state.serials) (map opened setups)
 opened_serials [] = refl

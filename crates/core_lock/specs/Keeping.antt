@@ -1,9 +1,7 @@
 -- What a locked machine and a seat keep, whenever no call is at work on them (own).
-use Rattle.std.specs.Prelude.{◌≡◌, ◌≤◌, ℕ, ◌+◌, All, List, length, map}
+use Rattle.std.specs.Prelude.{◌≡◌, ◌≤◌, ℕ, ◌+◌, All, List, length}
 use Rattle.scsw_irb.specs.declared.serials.Serials.{Serials}
 use Rattle.chan_events.specs.declared.reply.Entry.{Entry}
-use Rattle.channel_config.specs.declared.names.SubchannelId.{SubchannelId}
-use Rattle.channel_config.specs.declared.parts.SubchannelSetup.{SubchannelSetup}
 use Rattle.channel_config.specs.Setup.{Setup, set_count}
 use Rattle.glance_cell.specs.Shown.{Words}
 use Rattle.machine_model.specs.State.{Past, State}
@@ -12,13 +10,10 @@ use Rattle.subsystem.specs.Keeping.{IsOrdered, all_serials}
 use Rattle.core_lock.specs.Directory.{Directory}
 use Rattle.core_lock.specs.Named.{MachineName, cells_of, shown}
 
-abbrev pub id_of : SubchannelSetup → SubchannelId
-id_of setup = setup.id
-
 abbrev pub directory_by : Setup → Directory
-directory_by setup = record { sets = set_count setup; names = map id_of setup.subchannels }
+directory_by setup = record { sets = set_count setup; setups = setup.subchannels }
 
--- a set-up that the machine has gives its subchannels these names
+-- a set-up that the machine has gives it these subchannels
 abbrev pub IsNamedBy : Directory → State → Type 0
 IsNamedBy directory s = (setup : Setup) × IsSetUp setup s × (directory_by setup ≡ directory)
 
@@ -52,5 +47,5 @@ pub record IsSeat (counted : Part) (turn_parts : ℕ) (log : List Entry) (pairs 
   pub beside : length pairs ≡ length readers
   pub ordered : All IsOrdered pairs
   pub cells : cells_of readers ≡ name.cells
-  pub names : length held.names ≡ length readers
+  pub names : length held.setups ≡ length readers
   pub directory : held ≡ name.directory

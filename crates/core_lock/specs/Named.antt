@@ -5,7 +5,7 @@ use Rattle.scsw_irb.specs.declared.serials.Serials.{Serials}
 use Rattle.glance_cell.specs.Shown.{Words}
 use Rattle.core_lock.specs.Directory.{Directory}
 
--- the ledger of its entries and the ledger of its turns; the cell of each subchannel; the subchannels by their names
+-- the ledger of its entries and the ledger of its turns; the cell of each subchannel; the subchannels
 pub record MachineName : Type 0 where
   pub entries : ℕ
   pub turns : ℕ

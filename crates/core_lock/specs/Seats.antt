@@ -23,7 +23,7 @@ pub record Locked : Type 0 where
   pub by : List ℕ
   pub seats : ℕ
 
--- a seat: its number, and what it entered; the subchannels by their names, what it saw of the counts of each, and what its readers
+-- a seat: its number, and what it entered; the subchannels of its machine, what it saw of the counts of each, and what its readers
 -- loaded last; how many turns it made and calls it began, the call that it owes, the report that it keeps, and the command after
 -- which its unit left its path
 pub record Seated : Type 0 where

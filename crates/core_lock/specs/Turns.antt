@@ -12,17 +12,18 @@ use Rattle.chan_events.specs.declared.event.Event.TheVariants as event
 use Rattle.chan_events.specs.declared.event.UnitAct.TheVariants as act
 use Rattle.chan_events.specs.declared.reply.Entry.{Entry}
 use Rattle.chan_events.specs.declared.reply.Reply.{Reply}
-use Rattle.channel_config.specs.declared.names.SubchannelId.{SubchannelId}
+use Rattle.channel_config.specs.declared.parts.SubchannelSetup.{SubchannelSetup}
 use Rattle.machine_model.specs.declared.state.UnitTurn.{UnitTurn}
 use Rattle.machine_model.specs.declared.state.UnitTurn.TheVariants as unit_turn
 use Rattle.machine_model.specs.State.{State, unit_turn_of}
+use Rattle.machine_model.specs.Steps.{HasRun}
 use Rattle.machine_steps.specs.PathTurns.{path_turn_of}
 use Rattle.core_lock.specs.declared.turns.OwedCall.{OwedCall}
 use Rattle.core_lock.specs.declared.turns.KeptReport.{KeptReport}
 use Rattle.core_lock.specs.declared.turns.TakenCommand.{TakenCommand}
 use Rattle.core_lock.specs.declared.turns.Turn.{Turn}
 use Rattle.core_lock.specs.declared.turns.Turn.TheVariants.{Enters, Leaves, Owes, Rests}
-use Rattle.core_lock.specs.Directory.{word_of}
+use Rattle.core_lock.specs.Directory.{Directory, directory_of, word_of}
 use Rattle.core_lock.specs.Seats.{Locked, Seated}
 use Rattle.core_lock.specs.Entering as entering
 use Rattle.core_lock.specs.Entering.{MayRefuse}
@@ -127,13 +128,13 @@ abbrev pub or_turn : Option Event → Option Event → Option Event
 or_turn None later = later
 or_turn (Some e) later = Some e
 
-abbrev pub path_turn_at : State → ℕ → Option SubchannelId → Option Event
+abbrev pub path_turn_at : State → ℕ → Option SubchannelSetup → Option Event
 path_turn_at s chpid None = None
-path_turn_at s chpid (Some id) = path_turn_of s (word_of id) chpid
+path_turn_at s chpid (Some setup) = path_turn_of s (word_of setup.id) chpid
 
-abbrev pub path_turn_among : State → ℕ → List SubchannelId → Option Event
+abbrev pub path_turn_among : State → ℕ → List SubchannelSetup → Option Event
 path_turn_among s chpid [] = None
-path_turn_among s chpid (id ∷ ids) = or_turn (path_turn_at s chpid (Some id)) (path_turn_among s chpid ids)
+path_turn_among s chpid (setup ∷ setups) = or_turn (path_turn_at s chpid (Some setup)) (path_turn_among s chpid setups)
 
 abbrev pub TakesPathTurn : Locked → Seated → Option Event → Result Bool Fault → Locked → Seated → Type 0
 TakesPathTurn old seat None result new after = Passes old seat result new after
@@ -157,49 +158,64 @@ Calls answers old device new after =
     (owed : OwedCall) × (answer : DeviceAnswer) × (old.owed ≡ Some owed) × answers device owed.call answer after
     × (new ≡ record old { calls = one_call_more old.calls; owed = None; kept = Some (report_of owed answer) })
 
--- up and choose events are those of a path's worker
-abbrev pub IsOfPaths : Event → Type 0
-IsOfPaths (event.Up word path) = Unit {0}
-IsOfPaths (event.Choose word) = Unit {0}
-IsOfPaths e = ⊥
+-- a history of a machine with these subchannels may lead to this state
+abbrev pub MayStand : Directory → State → Type 0
+MayStand directory s = (h : List Entry) × HasRun h s × (directory_of s ≡ directory)
 
--- down events, acts and reports of a unit are those of its worker, and a report that its seat kept before
-abbrev pub IsOfUnit : ℕ → Event → Type 0
-IsOfUnit at (event.Down word path) = Unit {0}
-IsOfUnit at (event.Act at2 what) = at2 ≡ at
-IsOfUnit at (event.Report at2 report) = at2 ≡ at
-IsOfUnit at e = ⊥
+-- a turn of a channel path's worker may be this event: in such a state it is the first that there is for a subchannel
+abbrev pub IsOfPath : Directory → ℕ → Event → Type 0
+IsOfPath directory chpid e = (s : State) × MayStand directory s × (path_turn_among s chpid directory.setups ≡ Some e)
 
-abbrev pub IsKept : Option KeptReport → Event → Type 0
-IsKept None e = ⊥
-IsKept (Some kept) e = e ≡ report_event kept
+-- a turn of a unit's worker may be for this: in such a state, after some command for which the unit left its path last
+abbrev pub MayTurn : Directory → Bool → ℕ → Turn → Type 0
+MayTurn directory roam at turn = (s : State) × MayStand directory s × (left : Option TakenCommand) × (turn_of roam left at s ≡ turn)
 
-abbrev pub IsOfWorker : ℕ → Option KeptReport → Event → Type 0
-IsOfWorker at kept e = IsOfUnit at e ⊎ IsKept kept e
+-- the event that a turn enters
+abbrev pub IsEnteredBy : Turn → Event → Type 0
+IsEnteredBy (Enters entered) e = e ≡ entered
+IsEnteredBy (Leaves command) e = e ≡ event.Act command.«unit» act.Leave
+IsEnteredBy turn e = ⊥
+
+-- the report of what a device answered to a call that such a turn owed
+abbrev pub IsAnswer : Directory → Bool → ℕ → KeptReport → Type 0
+IsAnswer directory roam at kept =
+    (owed : OwedCall) × (answer : DeviceAnswer) × MayTurn directory roam at (Owes owed) × (kept ≡ report_of owed answer)
+
+-- a report that is kept in the end was kept before, or answers a call of such a turn; a call that is owed is of such a turn
+abbrev pub IsKeptFrom : Directory → Bool → ℕ → Option KeptReport → Option KeptReport → Type 0
+IsKeptFrom directory roam at old None = Unit {0}
+IsKeptFrom directory roam at old (Some kept) = IsAnswer directory roam at kept ⊎ (old ≡ Some kept)
+
+abbrev pub IsOwedBy : Directory → Bool → ℕ → Option OwedCall → Type 0
+IsOwedBy directory roam at None = Unit {0}
+IsOwedBy directory roam at (Some owed) = MayTurn directory roam at (Owes owed)
+
+-- an event of a unit's worker is that of a turn, or the report that its seat keeps
+abbrev pub IsTurnEvent : Directory → Bool → ℕ → Event → Type 0
+IsTurnEvent directory roam at e = (turn : Turn) × MayTurn directory roam at turn × IsEnteredBy turn e
+
+abbrev pub IsHandedIn : Directory → Bool → ℕ → Option KeptReport → Event → Type 0
+IsHandedIn directory roam at old e = (kept : KeptReport) × IsKeptFrom directory roam at old (Some kept) × (e ≡ report_event kept)
+
+abbrev pub IsOfWorker : Directory → Bool → ℕ → Option KeptReport → Event → Type 0
+IsOfWorker directory roam at kept e = IsTurnEvent directory roam at e ⊎ IsHandedIn directory roam at kept e
 
 -- the log grew by so many entries, whose events are such
 abbrev pub Grew : (Event → Type 0) → List Entry → List Entry → ℕ → Type 0
 Grew P old new count = (more : List Entry) × (new ≡ old ++ more) × (length more ≡ count) × All (λ (e : Entry). P e.event) more
 
--- a report that is kept in the end was kept before, or is the unit's; a call that is owed is the unit's
-abbrev pub IsKeptFrom : ℕ → Option KeptReport → Option KeptReport → Type 0
-IsKeptFrom at old None = Unit {0}
-IsKeptFrom at old (Some kept) = (kept.«unit» ≡ at) ⊎ (old ≡ Some kept)
-
-abbrev pub IsOwedBy : ℕ → Option OwedCall → Type 0
-IsOwedBy at None = Unit {0}
-IsOwedBy at (Some owed) = owed.«unit» ≡ at
-
 -- what turns of a path's worker leave of its seat, and turns of a unit's worker
-pub record WorksPaths (old new : Seated) (count : ℕ) : Type 0 where
+pub record WorksPath (chpid : ℕ) (old new : Seated) (count : ℕ) : Type 0 where
   pub number : new.number ≡ old.number
+  pub directory : new.directory ≡ old.directory
   pub owed : new.owed ≡ old.owed
-  pub log : Grew IsOfPaths old.log new.log count
+  pub log : Grew (IsOfPath old.directory chpid) old.log new.log count
 
-pub record WorksUnit (at : ℕ) (old new : Seated) (count : ℕ) : Type 0 where
+pub record WorksUnit (roam : Bool) (at : ℕ) (old new : Seated) (count : ℕ) : Type 0 where
   pub number : new.number ≡ old.number
-  pub kept : IsKeptFrom at old.kept new.kept
-  pub log : Grew (IsOfWorker at old.kept) old.log new.log count
+  pub directory : new.directory ≡ old.directory
+  pub kept : IsKeptFrom old.directory roam at old.kept new.kept
+  pub log : Grew (IsOfWorker old.directory roam at old.kept) old.log new.log count
 
 -- what a call that is made leaves, where one is owed: a report of it
 abbrev pub IsAnswered : Option OwedCall → Option KeptReport → Option KeptReport → Type 0
@@ -208,6 +224,7 @@ IsAnswered (Some owed) old new = (answer : DeviceAnswer) × (new ≡ Some (repor
 
 pub record IsCalled (old new : Seated) : Type 0 where
   pub number : new.number ≡ old.number
+  pub directory : new.directory ≡ old.directory
   pub log : new.log ≡ old.log
   pub turns : new.turns ≡ old.turns
   pub owed : new.owed ≡ None

@@ -1,8 +1,8 @@
-//! The subchannels of a machine by their names, for those who look without the lock.
+//! The subchannels of a machine as they are set up, for those who look without the lock.
 
-ghost use Rattle.std.specs.Prelude.{◌≡◌, ◌<◌, true, IfOk, IfSome, OnErr, OnOk, length, map, slice_get};
+ghost use Rattle.std.specs.Prelude.{◌≡◌, ◌<◌, true, IfOk, IfSome, OnErr, OnOk, length, slice_get};
 ghost use Rattle.core_lock.specs.Directory as spec;
-ghost use Rattle.core_lock.specs.Keeping.{directory_by, id_of};
+ghost use Rattle.core_lock.specs.Keeping.{directory_by};
 
 use channel_config::config::Config;
 use channel_config::names::{SubchannelId, subchannel_named};
@@ -11,11 +11,11 @@ use std::alloc::{AllocError, Global};
 use std::marker::Model;
 use supply::{Supply, push};
 
-/// The subchannels of a machine by their names, in the order of the configuration.
+/// The subchannels of a machine, in the order of the configuration.
 #[derive(Drop)]
 pub struct Directory {
     sets: u8,
-    names: Vec<SubchannelId>,
+    setups: Vec<SubchannelSetup>,
 }
 
 impl Model for Directory {
@@ -23,7 +23,7 @@ impl Model for Directory {
 
     ghost Value = { spec.Directory };
 
-    ghost view = { λ d. record { sets = d.sets; names = d.names.items } };
+    ghost view = { λ d. record { sets = d.sets; setups = d.setups.items } };
 }
 
 impl Directory {
@@ -39,76 +39,76 @@ impl Directory {
     {
         Ok(Directory {
             sets: config.set_count(),
-            names: names_of(alloc, supply, config.subchannels())?,
+            setups: copies_of(alloc, supply, config.subchannels())?,
         })
     }
 
     /// How many subchannels there are.
     pub fn count(&self) -> usize
-        ensures { result ≡ length self.now.names }
+        ensures { result ≡ length self.now.setups }
     {
-        self.names.len()
+        self.setups.len()
     }
 
-    /// The name of the subchannel at a place.
-    pub fn name_at(&self, place: usize) -> Option<SubchannelId>
-        ensures { result ≡ slice_get self.now.names place }
+    /// The subchannels.
+    pub fn setups(&self) -> &[SubchannelSetup]
+        ensures { result.now ≡ self.now.setups }
     {
-        self.names.get(place).copied()
+        self.setups.as_slice()
     }
 
     /// The place of the subchannel that a subsystem-identification word names; None where it is not configured.
     pub fn place(&self, word: u32) -> Option<usize>
         ensures place { result ≡ spec.place_named self.now word }
-        ensures bound { IfSome result (λ place. place < length self.now.names) }
+        ensures bound { IfSome result (λ place. place < length self.now.setups) }
     {
         let id = subchannel_named(self.sets, word)?;
-        name_place(id, self.names.as_slice())
+        name_place(id, self.setups.as_slice())
     }
 }
 
-/// The names of these subchannels.
-fn names_of<S: Supply>(
+/// The same subchannels.
+fn copies_of<S: Supply>(
     alloc: Global,
     supply: &mut S,
     setups: &[SubchannelSetup],
-) -> Result<Vec<SubchannelId>, AllocError>
-    ensures names { IfOk result (λ names. names.items ≡ map id_of setups.now) }
+) -> Result<Vec<SubchannelSetup>, AllocError>
+    ensures copies { IfOk result (λ copies. copies.items ≡ setups.now) }
     ensures given { OnOk result (S.refused supply.new ≡ S.refused supply.old) }
     ensures memory { OnErr result (S.refused supply.new ≡ true) }
 {
-    let mut names = Vec::new(alloc);
+    let mut copies = Vec::new(alloc);
     for setup in setups {
-        push(supply, &mut names, setup.id)?;
+        push(supply, &mut copies, setup.copy())?;
     }
-    Ok(names)
+    Ok(copies)
 }
 
-fn is_name(id: SubchannelId, other: SubchannelId) -> bool
-    ensures { result ≡ spec.is_name id other }
+fn is_name(id: SubchannelId, setup: &SubchannelSetup) -> bool
+    ensures { result ≡ spec.is_name id setup.now }
 {
-    other.set == id.set && other.number == id.number
+    setup.id.set == id.set && setup.id.number == id.number
 }
 
 /// The place of the first subchannel of this name.
-fn name_place(id: SubchannelId, names: &[SubchannelId]) -> Option<usize>
-    ensures place { result ≡ spec.name_place id names.now }
-    ensures bound { IfSome result (λ place. place < length names.now) }
+fn name_place(id: SubchannelId, setups: &[SubchannelSetup]) -> Option<usize>
+    ensures place { result ≡ spec.name_place id setups.now }
+    ensures bound { IfSome result (λ place. place < length setups.now) }
 {
-    for place in 0..names.len() {
-        if is_name_at(id, names, place) {
+    for place in 0..setups.len() {
+        if is_name_at(id, setups, place) {
             return Some(place);
         }
     }
     None
 }
 
-/// Whether the name at a place is this one.
-fn is_name_at(id: SubchannelId, names: &[SubchannelId], place: usize) -> bool
-    ensures { result ≡ spec.is_name_at id (slice_get names.now place) }
+/// Whether the subchannel at a place has this name.
+fn is_name_at(id: SubchannelId, setups: &[SubchannelSetup], place: usize) -> bool
+    ensures { result ≡ spec.is_name_at id (slice_get setups.now place) }
 {
-    match names.get(place) {
-        Some(other) => is_name(id, *other),
+    match setups.get(place) {
+        Some(setup) => is_name(id, setup),
         None => false,
     }
 }

@@ -15,6 +15,8 @@ pub mod machine;
 pub mod naming;
 mod pairs;
 pub mod parts;
+mod same_log;
 pub mod supplies;
 mod touching;
+mod turning;
 pub mod turns;

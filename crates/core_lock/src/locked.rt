@@ -1,4 +1,4 @@
-//! The subsystem under its lock, and its seats. This module alone writes the log of a seat.
+//! The subsystem under its lock, and its seats. This module alone writes the history and the log of a seat.
 
 ghost use Rattle.std.specs.Prelude.{◌≡◌, ◌≢◌, ◌⊎◌, ◌+◌, ◌↔◌, ℕ, [], ◌∷◌, ◌++◌, length, vec_len, sum_by, All, Err, true, IsTrue, IfOk, IfErr, IfSome, IfNone, IsSome, OnErr, OnOk, None, Some, Ok, is_some, slice_get, ◌≤◌};
 ghost use Rattle.chan_model.specs.declared.fault.Fault.TheVariants as fault_spec;
@@ -13,22 +13,20 @@ ghost use Rattle.subsystem.specs.Keeping.{all_serials};
 ghost use Rattle.core_lock.specs.Directory.{directory_of, place_named};
 ghost use Rattle.core_lock.specs.Entering.{Glances, HasNoRoom, MayRefuse, entered};
 ghost use Rattle.core_lock.specs.Named.{shown, serials};
-ghost use Rattle.core_lock.specs.Seats as seat_spec;
 ghost use Rattle.core_lock.specs.Seats.{entries_by, entry};
 ghost use Rattle.core_lock.specs.Turns as turn_spec;
 
 use crate::directory::Directory;
 use crate::gate::Gate;
 use crate::naming::{Entries, Naming, Turns};
-use crate::pairs::{first_pairs, greater, publish, raise_at, serials_brought, watch};
+use crate::pairs::{first_pairs, greater, publish, raise, watch};
 use crate::parts::Parts;
+use crate::same_log::is_log;
 use crate::supplies::CoreSupply;
 use crate::touching::{touched_by, touches};
-use crate::turns::{
-    KeptReport, OwedCall, TakenCommand, Turn, kept_after, path_turn_of, refusal_of, turn_of,
-};
-use chan_events::event::{Event, Instruction, UnitAct};
-use chan_events::reply::{Entry, Reply};
+use crate::turns::{KeptReport, OwedCall, TakenCommand};
+use chan_events::event::Event;
+use chan_events::reply::Reply;
 use chan_model::fault::Fault;
 use chan_model::report::Report;
 use device_law::Device;
@@ -38,7 +36,6 @@ use event_log::logs::Log;
 use glance_cell::cell::{Reader, Writer};
 use glance_cell::words::Glance;
 use path_select::PathChoice;
-use same_entries::same;
 use scsw_irb::serials::Serials;
 use std::alloc::Global;
 use std::marker::Model;
@@ -54,14 +51,14 @@ pub const MOST_SEATS: u16 = 1024;
 #[derive(Drop)]
 pub struct Core<J: Naming, P: PathChoice + Drop> {
     alloc: Global,
-    subsystem: Subsystem<P>,
+    pub(crate) subsystem: Subsystem<P>,
     by: Vec<u16>,
     seats: u16,
     writers: Vec<Writer>,
-    directory: Arc<Directory>,
+    pub(crate) directory: Arc<Directory>,
     entries: Book<Entries<J>>,
     rest: Share<Entries<J>>,
-    turns: Book<Turns<J>>,
+    pub(crate) turns: Book<Turns<J>>,
     turns_left: Share<Turns<J>>,
 }
 
@@ -93,15 +90,15 @@ pub struct NotMade<P: PathChoice + Drop> {
 pub struct Seat<J: Naming> {
     number: u16,
     log: Log,
-    directory: Arc<Directory>,
+    pub(crate) directory: Arc<Directory>,
     pairs: Vec<Serials>,
     readers: Vec<Reader>,
     share: Share<Entries<J>>,
-    turns: Share<Turns<J>>,
+    pub(crate) turns: Share<Turns<J>>,
     calls: u64,
-    owed: Option<OwedCall>,
-    kept: Option<KeptReport>,
-    left: Option<TakenCommand>,
+    pub(crate) owed: Option<OwedCall>,
+    pub(crate) kept: Option<KeptReport>,
+    pub(crate) left: Option<TakenCommand>,
 }
 
 impl<J: Naming> Model for Seat<J> {
@@ -381,125 +378,6 @@ impl<J: Naming, P: PathChoice + Drop> Core<J, P> {
             self.subsystem.add_last(&mut seat.log);
         }
     }
-
-    /// One turn of the worker of a channel path: the first event that there is for a subchannel of that path is entered. False
-    /// where there is none. Refused, all but the number of turns is as before.
-    pub fn path_step(&mut self, seat: &mut Seat<J>, chpid: u8) -> Result<bool, Fault>
-        ensures turns { seat.new.value.turns ≡ seat.old.value.turns + 1 }
-        ensures turn { turn_spec.TakesPathTurn self.old.value (turn_spec.turned seat.old.value)
-            (turn_spec.path_turn_among self.old.value.state chpid (directory_of self.old.value.state).names) result self.new.value seat.new.value }
-        ensures works { turn_spec.WorksPaths seat.old.value seat.new.value (turn_spec.count_in result) }
-    {
-        self.count_turn(seat);
-        let turn = self.path_event(chpid);
-        self.take_path_turn(seat, turn)
-    }
-
-    /// The first event that there is for a subchannel of a channel path.
-    fn path_event(&self, chpid: u8) -> Option<Event>
-        ensures { result ≡ turn_spec.path_turn_among self.now.value.state chpid (directory_of self.now.value.state).names }
-    {
-        path_turn_of(&self.subsystem, &self.directory, chpid)
-    }
-
-    /// Takes a turn of the worker of a channel path.
-    fn take_path_turn(&mut self, seat: &mut Seat<J>, turn: Option<Event>) -> Result<bool, Fault>
-        ensures { turn_spec.TakesPathTurn self.old.value seat.old.value turn result self.new.value seat.new.value }
-    {
-        match turn {
-            Some(event) => self.try_enter(seat, event),
-            None => Ok(false),
-        }
-    }
-
-    /// One turn of the worker of a unit. A report that the seat keeps is handed in first: a stale one is dropped, and one that
-    /// is refused `NoMemory` or `WireFull` stays kept. Else an event is entered, or a call of the device becomes owed. A unit that
-    /// roams leaves its path first, once after each command, and asks for one again. Whether an event was entered.
-    pub fn unit_step(&mut self, seat: &mut Seat<J>, unit: u32, roam: bool) -> Result<bool, Fault>
-        requires { seat.old.value.owed ≡ None }
-        ensures turns { seat.new.value.turns ≡ seat.old.value.turns + 1 }
-        ensures turn { turn_spec.TakesUnitTurn self.old.value (turn_spec.turned seat.old.value) seat.old.value.kept «unit» roam result self.new.value seat.new.value }
-        ensures works { turn_spec.WorksUnit «unit» seat.old.value seat.new.value (turn_spec.count_in result) }
-        ensures owes { turn_spec.IsOwedBy «unit» seat.new.value.owed }
-    {
-        self.count_turn(seat);
-        self.unit_turn(seat, unit, roam)
-    }
-
-    /// Takes the turn of a unit's worker that there is.
-    fn unit_turn(&mut self, seat: &mut Seat<J>, unit: u32, roam: bool) -> Result<bool, Fault>
-        requires { seat.old.value.owed ≡ None }
-        ensures { turn_spec.TakesUnitTurn self.old.value seat.old.value seat.old.value.kept «unit» roam result self.new.value seat.new.value }
-    {
-        match &seat.kept {
-            Some(kept) => {
-                let kept = kept.copy();
-                seat.kept = None;
-                self.hand_in(seat, kept)
-            }
-            None => {
-                let turn = turn_of(&self.subsystem, seat.left, unit, roam);
-                self.take_turn(seat, turn)
-            }
-        }
-    }
-
-    /// Counts one turn, in the ledger alone.
-    fn count_turn(&mut self, seat: &mut Seat<J>)
-        ensures core { self.new ≡ self.old }
-        ensures seat { seat.new.value ≡ turn_spec.turned seat.old.value }
-        ensures room { seat.new.room ≡ seat.old.room }
-    {
-        self.turns.add(&mut seat.turns, 1);
-    }
-
-    /// Tries to enter an event.
-    fn try_enter(&mut self, seat: &mut Seat<J>, event: Event) -> Result<bool, Fault>
-        ensures { turn_spec.Tries self.old.value seat.old.value seat.old.value event result self.new.value seat.new.value }
-    {
-        self.enter(seat, event)?;
-        Ok(true)
-    }
-
-    /// Hands in a report that was kept.
-    fn hand_in(&mut self, seat: &mut Seat<J>, kept: KeptReport) -> Result<bool, Fault>
-        ensures { turn_spec.HandsIn self.old.value seat.old.value kept result self.new.value seat.new.value }
-    {
-        let came = self.try_enter(seat, kept.event());
-        match came {
-            Ok(entered) => Ok(entered),
-            Err(fault) => seat.keep(kept, fault),
-        }
-    }
-
-    /// Takes a turn of a unit's worker.
-    fn take_turn(&mut self, seat: &mut Seat<J>, turn: Turn) -> Result<bool, Fault>
-        requires { seat.old.value.owed ≡ None }
-        ensures { turn_spec.TakesTurn self.old.value seat.old.value turn result self.new.value seat.new.value }
-    {
-        match turn {
-            Turn::Enters(event) => self.try_enter(seat, event),
-            Turn::Leaves(command) => self.leave(seat, command),
-            Turn::Owes(call) => {
-                seat.owed = Some(call);
-                Ok(false)
-            }
-            Turn::Rests => Ok(false),
-        }
-    }
-
-    /// The unit leaves its path, for this command once.
-    fn leave(&mut self, seat: &mut Seat<J>, command: TakenCommand) -> Result<bool, Fault>
-        ensures { turn_spec.TakesTurn self.old.value seat.old.value (turn_spec.leaves command) result self.new.value seat.new.value }
-    {
-        let event = Event::Act {
-            unit: command.unit,
-            act: UnitAct::Leave,
-        };
-        self.enter(seat, event)?;
-        seat.left = Some(command);
-        Ok(true)
-    }
 }
 
 impl<J: Naming> Seat<J> {
@@ -521,16 +399,6 @@ impl<J: Naming> Seat<J> {
             left: _,
         } = self;
         share
-    }
-
-    /// Keeps a report that was refused, where it is to be kept. A stale one is no refusal.
-    fn keep(&mut self, kept: KeptReport, fault: Fault) -> Result<bool, Fault>
-        ensures result { result ≡ turn_spec.refusal_of fault }
-        ensures seat { self.new.value ≡ turn_spec.with_kept self.old.value (turn_spec.kept_after kept fault) }
-        ensures room { self.new.room ≡ self.old.room }
-    {
-        self.kept = kept_after(kept, fault);
-        refusal_of(fault)
     }
 
     /// Whether a call of a device is owed.
@@ -593,22 +461,6 @@ impl<J: Naming> Seat<J> {
     }
 }
 
-/// TEST SUBCHANNEL with code 0 or 1 ends by raising the pair of its subchannel.
-fn raise(pairs: &mut Vec<Serials>, directory: &Directory, event: &Event, reply: &Reply)
-    ensures { pairs.new.items ≡ seat_spec.raised_among pairs.old.items directory.now event.now reply.now }
-{
-    let Event::Execute {
-        instruction: Instruction::Tsch { subchannel, .. },
-        ..
-    } = event
-    else {
-        return;
-    };
-    if let Some(found) = serials_brought(reply) {
-        raise_at(pairs, directory.place(*subchannel), found);
-    }
-}
-
 /// Whether the log of each seat is what the history has of it, in order.
 pub fn audit<J: Naming, P: PathChoice + Drop>(core: &Core<J, P>, seats: &[Seat<J>]) -> bool
     ensures { IsTrue result ↔ All (λ s. entries_by s.value.number core.now.value.by core.now.value.history ≡ s.value.log) seats.now }
@@ -627,34 +479,4 @@ fn has_log<J: Naming>(by: &[u16], history: &History, seat: &Seat<J>) -> bool
     ensures { IsTrue result ↔ (entries_by seat.now.value.number by.now history.now ≡ seat.now.value.log) }
 {
     is_log(seat.number, by, history, &seat.log.history())
-}
-
-fn is_log(number: u16, by: &[u16], history: &History, log: &History) -> bool
-    requires { length by.now ≡ length history.now }
-    ensures { IsTrue result ↔ (entries_by number by.now history.now ≡ log.now) }
-{
-    let mut next = 0;
-    for place in 0..by.len() {
-        if by[place] != number {
-            continue;
-        }
-        let Some(entry) = log.get(next) else {
-            return false;
-        };
-        if !has_entry(history, place, &entry) {
-            return false;
-        }
-        next += 1;
-    }
-    next == log.len()
-}
-
-/// Whether this is the entry of a history at a place.
-fn has_entry(history: &History, place: usize, entry: &Entry) -> bool
-    ensures { IsTrue result ↔ (slice_get history.now place ≡ Some entry.now) }
-{
-    match history.get(place) {
-        Some(other) => same(&other, entry),
-        None => false,
-    }
 }

@@ -1,10 +1,11 @@
 //! The lock.
 
-ghost use Rattle.std.specs.Prelude.{◌≡◌, ◌+◌, ◌≤◌, None, MatchResult};
+ghost use Rattle.std.specs.Prelude.{◌≡◌, ◌+◌, ◌≤◌, IfErr, None, MatchResult};
+ghost use Rattle.machine_model.specs.State.{State};
 ghost use Rattle.core_lock.specs.Entering as spec;
 ghost use Rattle.core_lock.specs.Entering.{entered};
 ghost use Rattle.core_lock.specs.Turns as turn_spec;
-ghost use Rattle.core_lock.specs.Turns.{Grew, IsCalled, IsOfPaths, IsOfWorker, IsOwedBy, WorksPaths, WorksUnit};
+ghost use Rattle.core_lock.specs.Turns.{Grew, IsCalled, IsOfPath, IsOfWorker, IsOwedBy, MayStand, WorksPath, WorksUnit};
 
 use crate::gate::Gate;
 use crate::locked::{Core, Seat};
@@ -55,9 +56,12 @@ impl<J: Naming, P: PathChoice + Drop> Machine<J, P> {
         cpu: Cpu,
         instruction: CpuInstruction,
     ) -> Result<Reply, Fault>
-        ensures { MatchResult result (λ reply. seat.new.value ≡ entered seat.old.value (spec.event_of cpu instruction) reply) (λ _. seat.new.value ≡ seat.old.value) }
+        ensures logged { MatchResult result (λ reply. seat.new.value ≡ entered seat.old.value (spec.event_of cpu instruction) reply) (λ _. seat.new.value ≡ seat.old.value) }
+        ensures refusal { IfErr result (λ f. (s : State) × MayStand seat.old.value.directory s × spec.MayRefuse s (spec.event_of cpu instruction) f) }
     {
-        self.lock.lock(rt).enter(seat, event_of(cpu, instruction))
+        let mut core = self.lock.lock(rt);
+        core.stands(seat);
+        core.enter(seat, event_of(cpu, instruction))
     }
 
     /// So many turns of the worker of a channel path, each under the lock. How many entries they added.
@@ -67,7 +71,7 @@ impl<J: Naming, P: PathChoice + Drop> Machine<J, P> {
         ensures owes { seat.new.value.owed ≡ None }
         ensures number { seat.new.value.number ≡ seat.old.value.number }
         ensures most { result ≤ turns }
-        ensures log { Grew IsOfPaths seat.old.value.log seat.new.value.log result }
+        ensures log { Grew (IsOfPath seat.old.value.directory chpid) seat.old.value.log seat.new.value.log result }
     {
         let mut added = 0;
         for _turn in 0..turns {
@@ -94,7 +98,7 @@ impl<J: Naming, P: PathChoice + Drop> Machine<J, P> {
         ensures owes { seat.new.value.owed ≡ None }
         ensures number { seat.new.value.number ≡ seat.old.value.number }
         ensures most { result ≤ turns }
-        ensures log { Grew (IsOfWorker «unit» seat.old.value.kept) seat.old.value.log seat.new.value.log result }
+        ensures log { Grew (IsOfWorker seat.old.value.directory roam «unit» seat.old.value.kept) seat.old.value.log seat.new.value.log result }
     {
         let mut added = 0;
         for _turn in 0..turns {
@@ -107,7 +111,7 @@ impl<J: Naming, P: PathChoice + Drop> Machine<J, P> {
     /// One turn of the worker of a channel path. Whether it entered something.
     fn path_turn<R: Wait>(&self, rt: &R, seat: &mut Seat<J>, chpid: u8) -> bool
         ensures turns { seat.new.value.turns ≡ seat.old.value.turns + 1 }
-        ensures works { WorksPaths seat.old.value seat.new.value (turn_spec.count_of result) }
+        ensures works { WorksPath chpid seat.old.value seat.new.value (turn_spec.count_of result) }
     {
         let stepped = self.lock.lock(rt).path_step(seat, chpid);
         match stepped {
@@ -129,7 +133,7 @@ impl<J: Naming, P: PathChoice + Drop> Machine<J, P> {
         requires { seat.old.value.owed ≡ None }
         ensures turns { seat.new.value.turns ≡ seat.old.value.turns + 1 }
         ensures owes { seat.new.value.owed ≡ None }
-        ensures works { WorksUnit «unit» seat.old.value seat.new.value (turn_spec.count_of result) }
+        ensures works { WorksUnit roam «unit» seat.old.value seat.new.value (turn_spec.count_of result) }
     {
         let entered = self.locked_turn(rt, seat, unit, roam);
         call_owed(seat, device, gate);
@@ -140,8 +144,8 @@ impl<J: Naming, P: PathChoice + Drop> Machine<J, P> {
     fn locked_turn<R: Wait>(&self, rt: &R, seat: &mut Seat<J>, unit: u32, roam: bool) -> bool
         requires { seat.old.value.owed ≡ None }
         ensures turns { seat.new.value.turns ≡ seat.old.value.turns + 1 }
-        ensures owes { IsOwedBy «unit» seat.new.value.owed }
-        ensures works { WorksUnit «unit» seat.old.value seat.new.value (turn_spec.count_of result) }
+        ensures owes { IsOwedBy seat.old.value.directory roam «unit» seat.new.value.owed }
+        ensures works { WorksUnit roam «unit» seat.old.value seat.new.value (turn_spec.count_of result) }
     {
         let stepped = self.lock.lock(rt).unit_step(seat, unit, roam);
         match stepped {

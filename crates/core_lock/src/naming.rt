@@ -17,7 +17,7 @@ pub trait Naming {
 impl Naming for Brand {
     ghost use Rattle.std.specs.Prelude.{[]};
 
-    ghost name = { record { entries = 0; turns = 0; cells = []; directory = record { sets = 0; names = [] } } };
+    ghost name = { record { entries = 0; turns = 0; cells = []; directory = record { sets = 0; setups = [] } } };
 }
 
 /// The ledger of the entries of a machine: a part for each of 1,024 seats, and one that the machine keeps.

@@ -9,7 +9,9 @@ ghost use Rattle.core_lock.specs.Named.{cells_of, shown};
 ghost use Rattle.core_lock.specs.Seats as spec;
 ghost use Rattle.core_lock.specs.Touching as touch_spec;
 
+use crate::directory::Directory;
 use crate::touching::Touched;
+use chan_events::event::{Event, Instruction};
 use chan_events::reply::Reply;
 use chan_model::answer::Answer;
 use glance_cell::cell::{Reader, Writer};
@@ -123,7 +125,7 @@ fn serials_with(answer: Answer) -> Option<Serials>
 }
 
 /// The serials that the reply to an instruction brings.
-pub(crate) fn serials_brought(reply: &Reply) -> Option<Serials>
+fn serials_brought(reply: &Reply) -> Option<Serials>
     ensures { result ≡ keeping.serials_brought (answer_in reply.now) }
 {
     match reply {
@@ -133,7 +135,7 @@ pub(crate) fn serials_brought(reply: &Reply) -> Option<Serials>
 }
 
 /// Raises the pair of a place to these serials.
-pub(crate) fn raise_at(pairs: &mut Vec<Serials>, place: Option<usize>, found: Serials)
+fn raise_at(pairs: &mut Vec<Serials>, place: Option<usize>, found: Serials)
     ensures { pairs.new.items ≡ spec.raised_at pairs.old.items place found }
 {
     let Some(place) = place else {
@@ -152,5 +154,21 @@ pub(crate) fn greater(one: Serials, other: Serials) -> Serials
     Serials {
         made: one.made.max(other.made),
         cleared: one.cleared.max(other.cleared),
+    }
+}
+
+/// TEST SUBCHANNEL with code 0 or 1 ends by raising the pair of its subchannel.
+pub(crate) fn raise(pairs: &mut Vec<Serials>, directory: &Directory, event: &Event, reply: &Reply)
+    ensures { pairs.new.items ≡ spec.raised_among pairs.old.items directory.now event.now reply.now }
+{
+    let Event::Execute {
+        instruction: Instruction::Tsch { subchannel, .. },
+        ..
+    } = event
+    else {
+        return;
+    };
+    if let Some(found) = serials_brought(reply) {
+        raise_at(pairs, directory.place(*subchannel), found);
     }
 }

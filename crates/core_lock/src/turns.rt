@@ -198,7 +198,7 @@ pub fn path_turn_of<P: PathChoice + Drop>(
     directory: &Directory,
     chpid: u8,
 ) -> Option<Event>
-    ensures { result ≡ spec.path_turn_among subsystem.now.state chpid directory.now.names }
+    ensures { result ≡ spec.path_turn_among subsystem.now.state chpid directory.now.setups }
 {
     for place in 0..directory.count() {
         if let Some(turn) = path_turn_at(subsystem, directory, place, chpid) {
@@ -215,10 +215,12 @@ fn path_turn_at<P: PathChoice + Drop>(
     place: usize,
     chpid: u8,
 ) -> Option<Event>
-    ensures { result ≡ spec.path_turn_at subsystem.now.state chpid (slice_get directory.now.names place) }
+    ensures { result ≡ spec.path_turn_at subsystem.now.state chpid (slice_get directory.now.setups place) }
 {
-    let id = directory.name_at(place)?;
-    subsystem.path_turn(word_of(id), chpid)
+    match directory.setups().get(place) {
+        Some(setup) => subsystem.path_turn(word_of(setup.id), chpid),
+        None => None,
+    }
 }
 
 /// What is kept of a report that was refused so: the report for want of memory or of room on a wire, and nothing otherwise.

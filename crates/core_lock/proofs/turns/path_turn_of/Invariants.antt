@@ -4,4 +4,4 @@ use Rattle.core_lock.proofs.turns.path_turn_of.Given as goal
 
 -- there is none for the subchannels so far
 abbrev pub invariant-loop-place : goal.invariant-loop-place
-invariant-loop-place g l = path_turn_among l.subsystem.state l.chpid l.directory.names ≡ path_turn_among l.subsystem.state l.chpid (drop l.place l.directory.names)
+invariant-loop-place g l = path_turn_among l.subsystem.state l.chpid l.directory.setups ≡ path_turn_among l.subsystem.state l.chpid (drop l.place l.directory.setups)

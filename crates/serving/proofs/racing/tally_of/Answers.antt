@@ -20,7 +20,7 @@ loop-turn-preserved g c =
     let new = came.new.seat.value in
     let cpu = c.args.cpu in
     let log = c.args.seat.now.value.log in
-    let is = subst (λ (i : CpuInstruction). MatchResult came.result (λ reply. new ≡ entered old (event_of cpu i) reply) (λ f. new ≡ old)) c.test_of.ensures came.ensures in
+    let is = subst (λ (i : CpuInstruction). MatchResult came.result (λ reply. new ≡ entered old (event_of cpu i) reply) (λ f. new ≡ old)) c.test_of.ensures came.ensures.logged in
     subst (λ (t : Tally). HasTested c.args.race cpu (l._turn + 1) log new.log t) (sym c.count.ensures)
     (tested_once c.args.race cpu l._turn log old new l.tally came.result l.invariant is)
 

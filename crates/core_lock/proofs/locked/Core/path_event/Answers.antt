@@ -10,4 +10,4 @@ returns g c =
     let i = c.self.invariant in
     let state = c.self.inside.subsystem.state in
     let directory = c.deref.ensures ∙ i.directory ∙ sym (is_named state g.J.Naming.name.directory i.named) in
-    c.path_turn_of.ensures ∙ ap (λ (d : Directory). path_turn_among state c.args.chpid d.names) directory ∙ ap (λ (l : LockedCore). path_turn_among l.value.state c.args.chpid (directory_of l.value.state).names) c.self.view_is
+    c.path_turn_of.ensures ∙ ap (λ (d : Directory). path_turn_among state c.args.chpid d.setups) directory ∙ ap (λ (l : LockedCore). path_turn_among l.value.state c.args.chpid (directory_of l.value.state).setups) c.self.view_is

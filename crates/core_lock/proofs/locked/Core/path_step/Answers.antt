@@ -9,7 +9,7 @@ use Rattle.core_lock.proofs.locked.Core.path_step.Goals as goal
 pub returns-clause-turn : goal.returns-clause-turn
 returns-clause-turn g c =
     let core = ap (λ (l : LockedCore). l.value) c.count_turn.ensures.core in
-    let turn = c.path_event-turn.ensures ∙ ap (λ (l : Locked). path_turn_among l.state c.args.chpid (directory_of l.state).names) core in
+    let turn = c.path_event-turn.ensures ∙ ap (λ (l : Locked). path_turn_among l.state c.args.chpid (directory_of l.state).setups) core in
     let result = c.take_path_turn.result in
     let new = c.take_path_turn.new.self.value in
     let after = c.take_path_turn.new.seat.value in
@@ -19,4 +19,4 @@ returns-clause-turn g c =
 
 pub returns-clause-works : goal.returns-clause-works
 returns-clause-works g c =
-    path_works c.args.self.now.value c.args.seat.now.value c.args.chpid (directory_of c.args.self.now.value.state).names c.take_path_turn.result c.take_path_turn.new.self.value c.take_path_turn.new.seat.value (returns-clause-turn g c)
+    path_works c.args.self.now.value c.args.seat.now.value c.args.chpid c.take_path_turn.result c.take_path_turn.new.self.value c.take_path_turn.new.seat.value c.stands.ensures (returns-clause-turn g c)

@@ -15,11 +15,11 @@ returns-clause-turn g c =
 
 pub returns-clause-works : goal.returns-clause-works
 returns-clause-works g c =
-    unit_works c.args.self.now.value c.args.seat.now.value c.args.«unit» c.args.roam c.unit_turn.result c.unit_turn.new.self.value c.unit_turn.new.seat.value (returns-clause-turn g c)
+    unit_works c.args.self.now.value c.args.seat.now.value c.args.«unit» c.args.roam c.unit_turn.result c.unit_turn.new.self.value c.unit_turn.new.seat.value c.stands.ensures (returns-clause-turn g c)
 
 pub returns-clause-owes : goal.returns-clause-owes
 returns-clause-owes g c =
-    unit_owed c.args.self.now.value c.args.seat.now.value c.args.«unit» c.args.roam c.unit_turn.result c.unit_turn.new.self.value c.unit_turn.new.seat.value c.requires (returns-clause-turn g c)
+    unit_owed c.args.self.now.value c.args.seat.now.value c.args.«unit» c.args.roam c.unit_turn.result c.unit_turn.new.self.value c.unit_turn.new.seat.value c.stands.ensures c.requires (returns-clause-turn g c)
 
 pub returns-clause-turns : goal.returns-clause-turns
 returns-clause-turns g c =

@@ -19,7 +19,7 @@ invariant_of-self g c =
     let pair = c.index-pair.result.now in
     let now = c.greater-found.result in
     let found = serials c.load-loaded.result.made c.load-loaded.result.cleared in
-    let lt : k < length pairs = omega (arith, c.in-Some.ensures.bound, ap (λ (d : Directory). length d.names) c.deref.ensures, i.names, i.beside) in
+    let lt : k < length pairs = omega (arith, c.in-Some.ensures.bound, ap (λ (d : Directory). length d.setups) c.deref.ensures, i.names, i.beside) in
     let le = greater_ordered pair found (subst IsOrdered (sym c.index-pair.ensures) (i.ordered k pair lt)) c.load-loaded.ensures.ordered in
     record {
       share = i.share;
@@ -42,7 +42,7 @@ returns-clause-found g c =
     let w = c.load-loaded.new.self in
     let was = c.index_mut-reader.result.now in
     let v = c.load-loaded.ensures.value in
-    let lt : k < length pairs = omega (arith, c.in-Some.ensures.bound, ap (λ (d : Directory). length d.names) c.deref.ensures, i.names, i.beside) in
+    let lt : k < length pairs = omega (arith, c.in-Some.ensures.bound, ap (λ (d : Directory). length d.setups) c.deref.ensures, i.names, i.beside) in
     let is = c.self.view_is in
     record {
       place = k;

@@ -10,4 +10,4 @@ loop-turn-preserved g c =
     let before = c.loop-turn.seat.value in
     let after = c.unit_turn-entered.new.seat.value in
     let n = turn_spec.count_of c.unit_turn-entered.result in
-    (omega (arith, c.unit_turn-entered.ensures.turns, i.0), c.unit_turn-entered.ensures.owes, omega (arith, c.count_of-added.ensures.most, i.2), subst (λ (k : ℕ). WorksUnit c.args.«unit» c.args.seat.now.value after (c.loop-turn.added + k)) (sym c.count_of-added.ensures.value) (works_more c.args.«unit» c.args.seat.now.value before after c.loop-turn.added n i.3 c.unit_turn-entered.ensures.works))
+    (omega (arith, c.unit_turn-entered.ensures.turns, i.0), c.unit_turn-entered.ensures.owes, omega (arith, c.count_of-added.ensures.most, i.2), subst (λ (k : ℕ). WorksUnit c.args.roam c.args.«unit» c.args.seat.now.value after (c.loop-turn.added + k)) (sym c.count_of-added.ensures.value) (works_more c.args.roam c.args.«unit» c.args.seat.now.value before after c.loop-turn.added n i.3 c.unit_turn-entered.ensures.works))

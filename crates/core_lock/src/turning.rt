@@ -1,0 +1,155 @@
+//! The turns of workers, under the lock.
+
+ghost use Rattle.std.specs.Prelude.{◌≡◌, ◌+◌, None};
+ghost use Rattle.core_lock.specs.Directory.{directory_of};
+ghost use Rattle.core_lock.specs.Turns as turn_spec;
+
+use crate::locked::{Core, Seat};
+use crate::naming::Naming;
+use crate::turns::{KeptReport, TakenCommand, Turn, kept_after, path_turn_of, refusal_of, turn_of};
+use chan_events::event::{Event, UnitAct};
+use chan_model::fault::Fault;
+use path_select::PathChoice;
+
+impl<J: Naming, P: PathChoice + Drop> Core<J, P> {
+    /// One turn of the worker of a channel path: the first event that there is for a subchannel of that path is entered. False
+    /// where there is none. Refused, all but the number of turns is as before.
+    pub fn path_step(&mut self, seat: &mut Seat<J>, chpid: u8) -> Result<bool, Fault>
+        ensures turns { seat.new.value.turns ≡ seat.old.value.turns + 1 }
+        ensures turn { turn_spec.TakesPathTurn self.old.value (turn_spec.turned seat.old.value)
+            (turn_spec.path_turn_among self.old.value.state chpid (directory_of self.old.value.state).setups) result self.new.value seat.new.value }
+        ensures works { turn_spec.WorksPath chpid seat.old.value seat.new.value (turn_spec.count_in result) }
+    {
+        self.stands(seat);
+        self.count_turn(seat);
+        let turn = self.path_event(chpid);
+        self.take_path_turn(seat, turn)
+    }
+
+    /// The first event that there is for a subchannel of a channel path.
+    fn path_event(&self, chpid: u8) -> Option<Event>
+        ensures { result ≡ turn_spec.path_turn_among self.now.value.state chpid (directory_of self.now.value.state).setups }
+    {
+        path_turn_of(&self.subsystem, &self.directory, chpid)
+    }
+
+    /// Takes a turn of the worker of a channel path.
+    fn take_path_turn(&mut self, seat: &mut Seat<J>, turn: Option<Event>) -> Result<bool, Fault>
+        ensures { turn_spec.TakesPathTurn self.old.value seat.old.value turn result self.new.value seat.new.value }
+    {
+        match turn {
+            Some(event) => self.try_enter(seat, event),
+            None => Ok(false),
+        }
+    }
+
+    /// One turn of the worker of a unit. A report that the seat keeps is handed in first: a stale one is dropped, and one that
+    /// is refused `NoMemory` or `WireFull` stays kept. Else an event is entered, or a call of the device becomes owed. A unit that
+    /// roams leaves its path first, once after each command, and asks for one again. Whether an event was entered.
+    pub fn unit_step(&mut self, seat: &mut Seat<J>, unit: u32, roam: bool) -> Result<bool, Fault>
+        requires { seat.old.value.owed ≡ None }
+        ensures turns { seat.new.value.turns ≡ seat.old.value.turns + 1 }
+        ensures turn { turn_spec.TakesUnitTurn self.old.value (turn_spec.turned seat.old.value) seat.old.value.kept «unit» roam result self.new.value seat.new.value }
+        ensures works { turn_spec.WorksUnit roam «unit» seat.old.value seat.new.value (turn_spec.count_in result) }
+        ensures owes { turn_spec.IsOwedBy seat.old.value.directory roam «unit» seat.new.value.owed }
+    {
+        self.stands(seat);
+        self.count_turn(seat);
+        self.unit_turn(seat, unit, roam)
+    }
+
+    /// Takes the turn of a unit's worker that there is.
+    fn unit_turn(&mut self, seat: &mut Seat<J>, unit: u32, roam: bool) -> Result<bool, Fault>
+        requires { seat.old.value.owed ≡ None }
+        ensures { turn_spec.TakesUnitTurn self.old.value seat.old.value seat.old.value.kept «unit» roam result self.new.value seat.new.value }
+    {
+        match &seat.kept {
+            Some(kept) => {
+                let kept = kept.copy();
+                seat.kept = None;
+                self.hand_in(seat, kept)
+            }
+            None => {
+                let turn = turn_of(&self.subsystem, seat.left, unit, roam);
+                self.take_turn(seat, turn)
+            }
+        }
+    }
+
+    /// Counts one turn, in the ledger alone.
+    fn count_turn(&mut self, seat: &mut Seat<J>)
+        ensures core { self.new ≡ self.old }
+        ensures seat { seat.new.value ≡ turn_spec.turned seat.old.value }
+        ensures room { seat.new.room ≡ seat.old.room }
+    {
+        self.turns.add(&mut seat.turns, 1);
+    }
+
+    /// Tries to enter an event.
+    fn try_enter(&mut self, seat: &mut Seat<J>, event: Event) -> Result<bool, Fault>
+        ensures { turn_spec.Tries self.old.value seat.old.value seat.old.value event result self.new.value seat.new.value }
+    {
+        self.enter(seat, event)?;
+        Ok(true)
+    }
+
+    /// Hands in a report that was kept.
+    fn hand_in(&mut self, seat: &mut Seat<J>, kept: KeptReport) -> Result<bool, Fault>
+        ensures { turn_spec.HandsIn self.old.value seat.old.value kept result self.new.value seat.new.value }
+    {
+        let came = self.try_enter(seat, kept.event());
+        match came {
+            Ok(entered) => Ok(entered),
+            Err(fault) => seat.keep(kept, fault),
+        }
+    }
+
+    /// Takes a turn of a unit's worker.
+    fn take_turn(&mut self, seat: &mut Seat<J>, turn: Turn) -> Result<bool, Fault>
+        requires { seat.old.value.owed ≡ None }
+        ensures { turn_spec.TakesTurn self.old.value seat.old.value turn result self.new.value seat.new.value }
+    {
+        match turn {
+            Turn::Enters(event) => self.try_enter(seat, event),
+            Turn::Leaves(command) => self.leave(seat, command),
+            Turn::Owes(call) => {
+                seat.owed = Some(call);
+                Ok(false)
+            }
+            Turn::Rests => Ok(false),
+        }
+    }
+
+    /// The unit leaves its path, for this command once.
+    fn leave(&mut self, seat: &mut Seat<J>, command: TakenCommand) -> Result<bool, Fault>
+        ensures { turn_spec.TakesTurn self.old.value seat.old.value (turn_spec.leaves command) result self.new.value seat.new.value }
+    {
+        let event = Event::Act {
+            unit: command.unit,
+            act: UnitAct::Leave,
+        };
+        self.enter(seat, event)?;
+        seat.left = Some(command);
+        Ok(true)
+    }
+
+    /// A history of the seat's machine led to the state.
+    pub(crate) fn stands(&self, seat: &Seat<J>)
+        ensures { turn_spec.MayStand seat.now.value.directory self.now.value.state }
+    {
+        let _ = self.subsystem.history();
+        let _ = &seat.directory;
+    }
+}
+
+impl<J: Naming> Seat<J> {
+    /// Keeps a report that was refused, where it is to be kept. A stale one is no refusal.
+    fn keep(&mut self, kept: KeptReport, fault: Fault) -> Result<bool, Fault>
+        ensures result { result ≡ turn_spec.refusal_of fault }
+        ensures seat { self.new.value ≡ turn_spec.with_kept self.old.value (turn_spec.kept_after kept fault) }
+        ensures room { self.new.room ≡ self.old.room }
+    {
+        self.kept = kept_after(kept, fault);
+        refusal_of(fault)
+    }
+}
