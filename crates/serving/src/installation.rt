@@ -96,12 +96,12 @@ impl<J: Naming> Installation<J> {
         Ok((installation, racers))
     }
 
-    /// Performs an action. An event that restarts a unit, where it is accepted, puts the unit's device back to its
-    /// opening; a report that is kept for the unit stays, and is refused NotNow by the unit's next turn. A turn of a device hands in the report that is kept for its unit, else the one of the unit's
-    /// next work. It is refused NoSuchUnit where the unit is not configured, and NotNow where no report is kept and a
-    /// signal waits for the unit, its program may ask for a path, or it has nothing to do. A look at serials goes by the seat;
-    /// what the subsystem has is told, and where the seat found anything else the audit will fail. It is refused
-    /// NoSuchSubchannel where the subchannel is not configured.
+    /// Performs an action. An event that restarts a unit, where it is accepted, puts the unit's device back to its opening;
+    /// a report that is kept for the unit stays, and is refused NotNow by the unit's next turn. A turn of a device hands in
+    /// the report that is kept for its unit, else the one of the unit's next work. It is refused NoSuchUnit where the unit
+    /// is not configured, and NotNow where no report is kept and a signal waits for the unit, its program may ask for a
+    /// path, or it has nothing to do. A look at serials goes by the seat; what the subsystem has is told, and where the
+    /// seat found anything else the audit will fail. It is refused NoSuchSubchannel where the subchannel is not configured.
     pub fn act(&mut self, action: &Action) -> Result<ActionResult, Fault>
         ensures { PerformsAction self.old action.now result self.new }
     {
