@@ -56,102 +56,123 @@ fn is_without_path(own: Own) -> bool
 }
 
 /// The program that is connected leaves its path.
-fn leave(sub: &mut Subchannel, unit: &mut Unit) -> Result<Reply, Fault>
+#[inline(never)]
+fn leave(sub: &mut Subchannel, unit: &mut Unit, answer: &mut Result<Reply, Fault>)
     ensures engaged { engaged sub.new ≡ engaged sub.old }
     ensures state { sub.new.state ≡ sub.old.state }
     ensures gives { giving_spec.GivesBoth sub.old «unit».old
-        (report_spec.report_taken sub.old (unit_spec.leaving «unit».old «unit».old.own)) result sub.new «unit».new }
+        (report_spec.report_taken sub.old (unit_spec.leaving «unit».old «unit».old.own)) answer.new sub.new «unit».new }
 {
     let Some(path) = connected_path(unit.own()) else {
-        return Err(Fault::NotNow);
+        *answer = Err(Fault::NotNow);
+        return;
     };
     if finds_up_full(sub, path) {
-        return Err(Fault::WireFull);
+        *answer = Err(Fault::WireFull);
+        return;
     }
     let sent = unit.leave();
     send_any_up(sub, &sent);
-    Ok(Reply::Done)
+    *answer = Ok(Reply::Done);
 }
 
 /// The program that is without a path asks for this one.
-fn ask(sub: &mut Subchannel, unit: &mut Unit, path: Path) -> Result<Reply, Fault>
+#[inline(never)]
+fn ask(sub: &mut Subchannel, unit: &mut Unit, path: Path, answer: &mut Result<Reply, Fault>)
     requires { IsUnitRoomy «unit».old }
     ensures engaged { engaged sub.new ≡ engaged sub.old }
     ensures state { sub.new.state ≡ sub.old.state }
     ensures gives { giving_spec.GivesBoth sub.old «unit».old
-        (report_spec.report_taken sub.old (unit_spec.asking «unit».old «unit».old.own path)) result sub.new «unit».new }
+        (report_spec.report_taken sub.old (unit_spec.asking «unit».old «unit».old.own path)) answer.new sub.new «unit».new }
 {
     if !is_without_path(unit.own()) {
-        return Err(Fault::NotNow);
+        *answer = Err(Fault::NotNow);
+        return;
     }
     if finds_up_full(sub, path) {
-        return Err(Fault::WireFull);
+        *answer = Err(Fault::WireFull);
+        return;
     }
     let sent = unit.ask(path);
     send_any_up(sub, &sent);
-    Ok(Reply::Done)
+    *answer = Ok(Reply::Done);
 }
 
 /// The unit, which no program holds, asks the side of the subchannel for attention.
-fn attend(sub: &mut Subchannel, unit: &mut Unit, path: Path) -> Result<Reply, Fault>
+#[inline(never)]
+fn attend(sub: &mut Subchannel, unit: &mut Unit, path: Path, answer: &mut Result<Reply, Fault>)
     requires { IsUnitRoomy «unit».old }
     ensures engaged { engaged sub.new ≡ engaged sub.old }
     ensures state { sub.new.state ≡ sub.old.state }
     ensures gives { giving_spec.GivesBoth sub.old «unit».old
-        (report_spec.report_taken sub.old (unit_spec.attending «unit».old sub.old.setup.side path)) result sub.new «unit».new }
+        (report_spec.report_taken sub.old (unit_spec.attending «unit».old sub.old.setup.side path)) answer.new sub.new «unit».new }
 {
     let side = sub.setup.side;
     if !unit.is_idle() || side_of(unit.state(), side).fresh {
-        return Err(Fault::NotNow);
+        *answer = Err(Fault::NotNow);
+        return;
     }
     if finds_up_full(sub, path) {
-        return Err(Fault::WireFull);
+        *answer = Err(Fault::WireFull);
+        return;
     }
     let sent = unit.attention(side, path);
     send_any_up(sub, &sent);
-    Ok(Reply::Done)
+    *answer = Ok(Reply::Done);
 }
 
 /// The side of the subchannel, which was not reset since the last restart, is told how often the unit was restarted.
-fn notice(sub: &mut Subchannel, unit: &Unit, path: Path) -> Result<Reply, Fault>
+#[inline(never)]
+fn notice(sub: &mut Subchannel, unit: &Unit, path: Path, answer: &mut Result<Reply, Fault>)
     ensures engaged { engaged sub.new ≡ engaged sub.old }
     ensures state { sub.new.state ≡ sub.old.state }
     ensures gives { giving_spec.GivesBoth sub.old «unit».now
-        (report_spec.report_taken sub.old (unit_spec.noticing «unit».now sub.old.setup.side path)) result sub.new «unit».now }
+        (report_spec.report_taken sub.old (unit_spec.noticing «unit».now sub.old.setup.side path)) answer.new sub.new «unit».now }
 {
     let side = sub.setup.side;
     if !side_of(unit.state(), side).fresh {
-        return Err(Fault::NotNow);
+        *answer = Err(Fault::NotNow);
+        return;
     }
     if finds_up_full(sub, path) {
-        return Err(Fault::WireFull);
+        *answer = Err(Fault::WireFull);
+        return;
     }
     let sent = unit.notice(side, path);
     send_any_up(sub, &sent);
-    Ok(Reply::Done)
+    *answer = Ok(Reply::Done);
 }
 
 /// A unit acts at the subchannel of a side: what it does is sent by the path that is named, and Leave by that of its
 /// program.
-pub fn act_sub(sub: &mut Subchannel, unit: &mut Unit, act: UnitAct) -> Result<Reply, Fault>
+pub fn act_sub(
+    sub: &mut Subchannel,
+    unit: &mut Unit,
+    act: UnitAct,
+    answer: &mut Result<Reply, Fault>,
+)
     requires { IsUnitRoomy «unit».old }
     ensures engaged { engaged sub.new ≡ engaged sub.old }
     ensures state { sub.new.state ≡ sub.old.state }
     ensures gives { giving_spec.GivesBoth sub.old «unit».old (spec.act_sub sub.old «unit».old act)
-        result sub.new «unit».new }
+        answer.new sub.new «unit».new }
 {
     let index = match act {
-        UnitAct::Leave => return leave(sub, unit),
+        UnitAct::Leave => {
+            leave(sub, unit, answer);
+            return;
+        }
         UnitAct::Ask { path } | UnitAct::Attention { path, .. } | UnitAct::Notice { path, .. } =>
             path,
     };
     let Some(path) = path_of(sub, index) else {
-        return Err(Fault::NoSuchPath);
+        *answer = Err(Fault::NoSuchPath);
+        return;
     };
     match act {
-        UnitAct::Leave | UnitAct::Ask { .. } => ask(sub, unit, path),
-        UnitAct::Attention { .. } => attend(sub, unit, path),
-        UnitAct::Notice { .. } => notice(sub, unit, path),
+        UnitAct::Leave | UnitAct::Ask { .. } => ask(sub, unit, path, answer),
+        UnitAct::Attention { .. } => attend(sub, unit, path, answer),
+        UnitAct::Notice { .. } => notice(sub, unit, path, answer),
     }
 }
 

@@ -1,6 +1,8 @@
 //! A channel subsystem without its history: what each event does to the whole.
 
-ghost use Rattle.std.specs.Prelude.{◌≡◌, ◌<◌, All, Err, None, Some, IfSome, length, slice_get};
+ghost use Rattle.std.specs.Prelude.{◌≡◌, ◌<◌, All, Ok, Err, IfErr, OnOk, None, Some, IfSome, length, slice_get};
+ghost use Rattle.chan_events.specs.declared.reply.Reply.TheVariants as reply_spec;
+ghost use Rattle.chan_model.specs.declared.fault.Fault.TheVariants as fault_spec;
 ghost use Rattle.subchannel_model.specs.declared.state.Subchannel.{Subchannel};
 ghost use Rattle.machine_model.specs.State as state_spec;
 ghost use Rattle.machine_model.specs.Ruled.{GoesByRule};
@@ -38,8 +40,8 @@ use machine_model::state::UnitTurn;
 use path_select::PathChoice;
 use scsw_irb::serials::Serials;
 use std::marker::Model;
-use storage_keys::Storage;
 use storage_keys::key::Key;
+use storage_keys::{Storage, StorageFault};
 use subchannel::choosing::{chosen, paths_to_choose};
 use subchannel_model::state::Subchannel;
 use unit::Unit;
@@ -58,6 +60,17 @@ fn word_of(instruction: Instruction) -> u32
         | Instruction::Csch { subchannel }
         | Instruction::Xsch { subchannel }
         | Instruction::Enable { subchannel, .. } => subchannel,
+    }
+}
+
+/// The answer of an event that storage has done or refused.
+fn done(came: Result<(), StorageFault>) -> Result<Reply, Fault>
+    ensures done { OnOk came (result ≡ Ok reply_spec.Done) }
+    ensures refused { IfErr came (λ f. result ≡ Err (fault_spec.Storage f)) }
+{
+    match came {
+        Ok(()) => Ok(Reply::Done),
+        Err(fault) => Err(Fault::Storage(fault)),
     }
 }
 
@@ -159,104 +172,112 @@ impl Machine {
         Some(turn_of_unit(places, number, &self.units[number], self.subs.as_slice()))
     }
 
-    fn put(&mut self, address: u32, bytes: &Chunk) -> Result<Reply, Fault>
-        ensures { giving_spec.Gives self.old (storage_spec.put_turn self.old address bytes.now) result self.new }
+    #[inline(never)]
+    fn put(&mut self, address: u32, bytes: &Chunk, answer: &mut Result<Reply, Fault>)
+        ensures { giving_spec.Gives self.old (storage_spec.put_turn self.old address bytes.now) answer.new self.new }
     {
-        self.storage
-            .put(address, bytes.as_slice())
-            .map_err(Fault::Storage)?;
-        Ok(Reply::Done)
+        *answer = done(self.storage.put(address, bytes.as_slice()));
     }
 
-    fn set_key(&mut self, address: u32, key: Key) -> Result<Reply, Fault>
-        ensures { giving_spec.Gives self.old (storage_spec.key_turn self.old address key) result self.new }
+    #[inline(never)]
+    fn set_key(&mut self, address: u32, key: Key, answer: &mut Result<Reply, Fault>)
+        ensures { giving_spec.Gives self.old (storage_spec.key_turn self.old address key) answer.new self.new }
     {
-        self.storage.set_key(address, key).map_err(Fault::Storage)?;
-        Ok(Reply::Done)
+        *answer = done(self.storage.set_key(address, key));
     }
 
-    fn set_prefix(&mut self, cpu: Cpu, address: u32) -> Result<Reply, Fault>
-        ensures { giving_spec.Gives self.old (storage_spec.prefix_turn self.old cpu address) result self.new }
+    #[inline(never)]
+    fn set_prefix(&mut self, cpu: Cpu, address: u32, answer: &mut Result<Reply, Fault>)
+        ensures { giving_spec.Gives self.old (storage_spec.prefix_turn self.old cpu address) answer.new self.new }
     {
-        self.storage
-            .set_prefix(cpu.number(), address)
-            .map_err(Fault::Storage)?;
-        Ok(Reply::Done)
+        *answer = done(self.storage.set_prefix(cpu.number(), address));
     }
 
-    fn show(&self, address: u32, length: ChunkLength) -> Result<Reply, Fault>
-        ensures { giving_spec.Gives self.now (storage_spec.show_turn self.now address length) result self.now }
+    #[inline(never)]
+    fn show(&self, address: u32, length: ChunkLength, answer: &mut Result<Reply, Fault>)
+        ensures { giving_spec.Gives self.now (storage_spec.show_turn self.now address length) answer.new self.now }
     {
-        let shown = self
-            .storage
-            .show(address, length.get())
-            .map_err(Fault::Storage)?;
-        Ok(Reply::Shown {
-            bytes: Chunk::of(shown),
-        })
+        *answer = match self.storage.show(address, length.get()) {
+            Ok(shown) => Ok(Reply::Shown {
+                bytes: Chunk::of(shown),
+            }),
+            Err(fault) => Err(Fault::Storage(fault)),
+        };
     }
 
+    #[inline(never)]
     fn execute(
         &mut self,
         places: &Places,
         cpu: Cpu,
         instruction: Instruction,
-    ) -> Result<Reply, Fault>
+        answer: &mut Result<Reply, Fault>,
+    )
         requires fits { Fits places.now self.old.subs }
         requires roomy { All IsRoomy self.old.subs }
         requires postable { All IsPostable self.old.subs }
         requires requests { self.old.requests.numbers ≡ 0x100 }
-        ensures { spec.Performs self.old (event_spec.Execute cpu instruction) result self.new }
+        ensures { spec.Performs self.old (event_spec.Execute cpu instruction) answer.new self.new }
     {
         let Some(id) = subchannel_named(self.sets, word_of(instruction)) else {
-            return Err(Fault::Operand);
+            *answer = Err(Fault::Operand);
+            return;
         };
         let Some(place) = places.place_in(id, self.subs.as_slice()) else {
-            return execute_absent(&mut self.storage, cpu, instruction);
+            *answer = execute_absent(&mut self.storage, cpu, instruction);
+            return;
         };
         let sub = &mut self.subs[place];
         let before = engaged(sub);
         let made = sub.state.serials.made;
-        let answer = perform_provided(&mut self.storage, sub, &mut self.pending, cpu, instruction);
+        *answer = perform_provided(&mut self.storage, sub, &mut self.pending, cpu, instruction);
         post(&mut self.pending, sub, made);
         let after = engaged(sub);
         self.engines.change(before, after);
-        answer
     }
 
-    fn execute_other(&mut self, cpu: Cpu, instruction: OtherInstruction) -> Result<Reply, Fault>
-        ensures { spec.Performs self.old (event_spec.ExecuteOther cpu instruction) result self.new }
+    #[inline(never)]
+    fn execute_other(
+        &mut self,
+        cpu: Cpu,
+        instruction: OtherInstruction,
+        answer: &mut Result<Reply, Fault>,
+    )
+        ensures { spec.Performs self.old (event_spec.ExecuteOther cpu instruction) answer.new self.new }
     {
         let counted = Counted::of(self.subs.as_slice(), &self.engines);
         let paths = ChannelPaths {
             up: self.up,
             engaged: engaged_for(&counted, instruction),
         };
-        perform_other(
+        *answer = perform_other(
             &mut self.storage,
             &mut self.pending,
             &mut self.reports,
             &paths,
             cpu,
             instruction,
-        )
+        );
     }
 
+    #[inline(never)]
     fn choose<P: PathChoice>(
         &mut self,
         places: &Places,
         choice: &P,
         word: u32,
-    ) -> Result<Reply, Fault>
+        answer: &mut Result<Reply, Fault>,
+    )
         requires fits { Fits places.now self.old.subs }
         requires roomy { All IsRoomy self.old.subs }
         requires postable { All IsPostable self.old.subs }
         requires requests { self.old.requests.numbers ≡ 0x100 }
-        ensures performs { spec.Performs self.old (event_spec.Choose word) result self.new }
-        ensures ruled { GoesByRule P.picks self.old (event_spec.Choose word) result self.new }
+        ensures performs { spec.Performs self.old (event_spec.Choose word) answer.new self.new }
+        ensures ruled { GoesByRule P.picks self.old (event_spec.Choose word) answer.new self.new }
     {
         let Some(place) = self.place_of(places, word) else {
-            return Err(Fault::NoSuchSubchannel);
+            *answer = Err(Fault::NoSuchSubchannel);
+            return;
         };
         let counted = Counted::of(self.subs.as_slice(), &self.engines);
         let paths = paths_to_choose(&counted, &self.subs[place]);
@@ -265,133 +286,156 @@ impl Machine {
         let what = chosen(sub, path);
         let before = engaged(sub);
         let made = sub.state.serials.made;
-        let answer = choose_sub(sub, &path, what);
+        choose_sub(sub, &path, what, answer);
         let after = engaged(sub);
         self.engines.change(before, after);
         post(&mut self.pending, sub, made);
-        answer
     }
 
-    fn up(&mut self, places: &Places, word: u32, path: u32) -> Result<Reply, Fault>
+    #[inline(never)]
+    fn up(&mut self, places: &Places, word: u32, path: u32, answer: &mut Result<Reply, Fault>)
         requires fits { Fits places.now self.old.subs }
         requires roomy { All IsRoomy self.old.subs }
         requires postable { All IsPostable self.old.subs }
         requires requests { self.old.requests.numbers ≡ 0x100 }
-        ensures { spec.Performs self.old (event_spec.Up word path) result self.new }
+        ensures { spec.Performs self.old (event_spec.Up word path) answer.new self.new }
     {
         let Some(place) = self.place_of(places, word) else {
-            return Err(Fault::NoSuchSubchannel);
+            *answer = Err(Fault::NoSuchSubchannel);
+            return;
         };
         let counted = Counted::of(self.subs.as_slice(), &self.engines);
         let returns = returns_at(&counted, &self.subs[place], path);
         let sub = &mut self.subs[place];
         let before = engaged(sub);
         let made = sub.state.serials.made;
-        let answer = up_sub(&mut self.storage, sub, path, returns);
+        up_sub(&mut self.storage, sub, path, returns, answer);
         post(&mut self.pending, sub, made);
         let after = engaged(sub);
         self.engines.change(before, after);
-        answer
     }
 
-    fn down(&mut self, places: &Places, word: u32, path: u32) -> Result<Reply, Fault>
+    #[inline(never)]
+    fn down(&mut self, places: &Places, word: u32, path: u32, answer: &mut Result<Reply, Fault>)
         requires fits { Fits places.now self.old.subs }
-        ensures { spec.Performs self.old (event_spec.Down word path) result self.new }
+        ensures { spec.Performs self.old (event_spec.Down word path) answer.new self.new }
     {
         let Some(place) = self.place_of(places, word) else {
-            return Err(Fault::NoSuchSubchannel);
+            *answer = Err(Fault::NoSuchSubchannel);
+            return;
         };
         let number = self.subs[place].setup.unit as usize;
         if number >= self.units.len() {
-            return Err(Fault::NoSuchUnit);
+            *answer = Err(Fault::NoSuchUnit);
+            return;
         }
         let sub = &mut self.subs[place];
         let unit = &mut self.units[number];
-        down_sub(sub, unit, &mut self.sharing, path)
+        down_sub(sub, unit, &mut self.sharing, path, answer);
     }
 
-    fn report(&mut self, places: &Places, number: u32, report: &Report) -> Result<Reply, Fault>
+    #[inline(never)]
+    fn report(
+        &mut self,
+        places: &Places,
+        number: u32,
+        report: &Report,
+        answer: &mut Result<Reply, Fault>,
+    )
         requires fits { Fits places.now self.old.subs }
         requires roomy { All IsUnitRoomy self.old.units }
-        ensures { spec.Performs self.old (event_spec.Report number report.now) result self.new }
+        ensures { spec.Performs self.old (event_spec.Report number report.now) answer.new self.new }
     {
         let number = number as usize;
         if number >= self.units.len() {
-            return Err(Fault::NoSuchUnit);
+            *answer = Err(Fault::NoSuchUnit);
+            return;
         }
         let Some(place) = places.reached_in(number, report.side, self.subs.as_slice()) else {
-            return Err(Fault::NotNow);
+            *answer = Err(Fault::NotNow);
+            return;
         };
         let sub = &mut self.subs[place];
         let unit = &mut self.units[number];
-        report_sub(sub, unit, report)
+        report_sub(sub, unit, report, answer);
     }
 
-    fn act(&mut self, places: &Places, number: u32, act: UnitAct) -> Result<Reply, Fault>
+    #[inline(never)]
+    fn act(&mut self, places: &Places, number: u32, act: UnitAct, answer: &mut Result<Reply, Fault>)
         requires fits { Fits places.now self.old.subs }
         requires roomy { All IsUnitRoomy self.old.units }
-        ensures { spec.Performs self.old (event_spec.Act number act) result self.new }
+        ensures { spec.Performs self.old (event_spec.Act number act) answer.new self.new }
     {
         let number = number as usize;
         if number >= self.units.len() {
-            return Err(Fault::NoSuchUnit);
+            *answer = Err(Fault::NoSuchUnit);
+            return;
         }
         let Some(side) = side_of_act(&self.units[number], act) else {
-            return Err(not_held(places, number, act, self.subs.as_slice()));
+            *answer = Err(not_held(places, number, act, self.subs.as_slice()));
+            return;
         };
         let Some(place) = places.reached_in(number, side, self.subs.as_slice()) else {
-            return Err(Fault::NotNow);
+            *answer = Err(Fault::NotNow);
+            return;
         };
         let sub = &mut self.subs[place];
         let unit = &mut self.units[number];
-        act_sub(sub, unit, act)
+        act_sub(sub, unit, act, answer);
     }
 
-    fn restart(&mut self, number: u32) -> Result<Reply, Fault>
+    #[inline(never)]
+    fn restart(&mut self, number: u32, answer: &mut Result<Reply, Fault>)
         requires { All IsUnitRoomy self.old.units }
-        ensures { spec.Performs self.old (event_spec.Restart number) result self.new }
+        ensures { spec.Performs self.old (event_spec.Restart number) answer.new self.new }
     {
         if number as usize >= self.units.len() {
-            return Err(Fault::NoSuchUnit);
+            *answer = Err(Fault::NoSuchUnit);
+            return;
         }
         let unit = &mut self.units[number as usize];
         restart(&mut self.sharing, number as u16, unit);
-        Ok(Reply::Done)
+        *answer = Ok(Reply::Done);
     }
 
-    /// Performs one event; a refusal changes nothing.
+    /// Performs one event, its answer in a place; a refusal changes nothing.
     #[tactic(auto, using(crate::proofs::Storing::put_performs, crate::proofs::Storing::key_performs, crate::proofs::Storing::prefix_performs, crate::proofs::Storing::show_performs))]
     pub fn perform<P: PathChoice>(
         &mut self,
         places: &Places,
         choice: &P,
         event: &Event,
-    ) -> Result<Reply, Fault>
+        answer: &mut Result<Reply, Fault>,
+    )
         requires fits { Fits places.now self.old.subs }
         requires subs { All IsRoomy self.old.subs }
         requires units { All IsUnitRoomy self.old.units }
         requires postable { All IsPostable self.old.subs }
         requires requests { self.old.requests.numbers ≡ 0x100 }
-        ensures performs { spec.Performs self.old event.now result self.new }
-        ensures ruled { GoesByRule P.picks self.old event.now result self.new }
+        ensures performs { spec.Performs self.old event.now answer.new self.new }
+        ensures ruled { GoesByRule P.picks self.old event.now answer.new self.new }
     {
         match event {
-            Event::Put { address, bytes } => self.put(*address, bytes),
-            Event::SetKey { address, key } => self.set_key(*address, *key),
-            Event::SetPrefix { cpu, address } => self.set_prefix(*cpu, *address),
-            Event::Show { address, length } => self.show(*address, *length),
-            Event::Execute { cpu, instruction } => self.execute(places, *cpu, *instruction),
-            Event::ExecuteOther { cpu, instruction } => self.execute_other(*cpu, *instruction),
-            Event::Choose { subchannel } => self.choose(places, choice, *subchannel),
-            Event::Up { subchannel, path } => self.up(places, *subchannel, *path),
-            Event::Down { subchannel, path } => self.down(places, *subchannel, *path),
-            Event::Report { unit, report } => self.report(places, *unit, report),
-            Event::Act { unit, act } => self.act(places, *unit, *act),
-            Event::Restart { unit } => self.restart(*unit),
-            Event::PathDown { chpid } => self.path_down(*chpid),
-            Event::PathUp { chpid } => self.path_up(*chpid),
-            Event::PathReset { chpid } => self.path_reset(*chpid),
-            Event::SystemReset => self.system_reset(),
+            Event::Execute { cpu, instruction } => {
+                self.execute(places, *cpu, *instruction, answer)
+            }
+            Event::Choose { subchannel } => self.choose(places, choice, *subchannel, answer),
+            Event::Up { subchannel, path } => self.up(places, *subchannel, *path, answer),
+            Event::Down { subchannel, path } => self.down(places, *subchannel, *path, answer),
+            Event::Report { unit, report } => self.report(places, *unit, report, answer),
+            Event::Act { unit, act } => self.act(places, *unit, *act, answer),
+            Event::Put { address, bytes } => self.put(*address, bytes, answer),
+            Event::SetKey { address, key } => self.set_key(*address, *key, answer),
+            Event::SetPrefix { cpu, address } => self.set_prefix(*cpu, *address, answer),
+            Event::Show { address, length } => self.show(*address, *length, answer),
+            Event::ExecuteOther { cpu, instruction } => {
+                self.execute_other(*cpu, *instruction, answer)
+            }
+            Event::Restart { unit } => self.restart(*unit, answer),
+            Event::PathDown { chpid } => self.path_down(*chpid, answer),
+            Event::PathUp { chpid } => self.path_up(*chpid, answer),
+            Event::PathReset { chpid } => self.path_reset(*chpid, answer),
+            Event::SystemReset => self.system_reset(answer),
         }
     }
 }

@@ -83,74 +83,84 @@ fn sweep_all(subs: &mut Vec<Subchannel>, pending: &mut Pending, engines: &mut En
 
 impl Machine {
     /// A channel path goes down.
-    pub(crate) fn path_down(&mut self, number: u32) -> Result<Reply, Fault>
+    #[inline(never)]
+    pub(crate) fn path_down(&mut self, number: u32, answer: &mut Result<Reply, Fault>)
         requires roomy { All IsRoomy self.old.subs }
         requires postable { All IsPostable self.old.subs }
         requires requests { self.old.requests.numbers ≡ 0x100 }
-        ensures { spec.Performs self.old (event_spec.PathDown number) result self.new }
+        ensures { spec.Performs self.old (event_spec.PathDown number) answer.new self.new }
     {
         let Some(chpid) = chpid_of(self.chpids.as_slice(), number) else {
-            return Err(Fault::NoSuchPath);
+            *answer = Err(Fault::NoSuchPath);
+            return;
         };
         if !self.up[usize::from(chpid)] {
-            return Err(Fault::NotNow);
+            *answer = Err(Fault::NotNow);
+            return;
         }
         let what = Sweep::GoesDown { chpid };
         sweep_all(&mut self.subs, &mut self.pending, &mut self.engines, what);
         self.up[usize::from(chpid)] = false;
         self.reports.path_lost(chpid);
-        Ok(Reply::Done)
+        *answer = Ok(Reply::Done);
     }
 
     /// A channel path that was down comes up.
-    pub(crate) fn path_up(&mut self, number: u32) -> Result<Reply, Fault>
+    #[inline(never)]
+    pub(crate) fn path_up(&mut self, number: u32, answer: &mut Result<Reply, Fault>)
         requires roomy { All IsRoomy self.old.subs }
         requires postable { All IsPostable self.old.subs }
         requires requests { self.old.requests.numbers ≡ 0x100 }
-        ensures { spec.Performs self.old (event_spec.PathUp number) result self.new }
+        ensures { spec.Performs self.old (event_spec.PathUp number) answer.new self.new }
     {
         let Some(chpid) = chpid_of(self.chpids.as_slice(), number) else {
-            return Err(Fault::NoSuchPath);
+            *answer = Err(Fault::NoSuchPath);
+            return;
         };
         if self.up[usize::from(chpid)] {
-            return Err(Fault::NotNow);
+            *answer = Err(Fault::NotNow);
+            return;
         }
         let what = Sweep::ComesUp { chpid };
         sweep_all(&mut self.subs, &mut self.pending, &mut self.engines, what);
         self.up[usize::from(chpid)] = true;
         self.reports.path_back(chpid);
-        Ok(Reply::Done)
+        *answer = Ok(Reply::Done);
     }
 
     /// A channel path whose reset is asked for is reset.
-    pub(crate) fn path_reset(&mut self, number: u32) -> Result<Reply, Fault>
+    #[inline(never)]
+    pub(crate) fn path_reset(&mut self, number: u32, answer: &mut Result<Reply, Fault>)
         requires roomy { All IsRoomy self.old.subs }
         requires postable { All IsPostable self.old.subs }
         requires requests { self.old.requests.numbers ≡ 0x100 }
-        ensures { spec.Performs self.old (event_spec.PathReset number) result self.new }
+        ensures { spec.Performs self.old (event_spec.PathReset number) answer.new self.new }
     {
         let Some(chpid) = chpid_of(self.chpids.as_slice(), number) else {
-            return Err(Fault::NoSuchPath);
+            *answer = Err(Fault::NoSuchPath);
+            return;
         };
         if !self.reports.reset_done(chpid) {
-            return Err(Fault::NotNow);
+            *answer = Err(Fault::NotNow);
+            return;
         }
         let what = Sweep::PathReset { chpid };
         sweep_all(&mut self.subs, &mut self.pending, &mut self.engines, what);
-        Ok(Reply::Done)
+        *answer = Ok(Reply::Done);
     }
 
     /// The channel subsystem is reset.
-    pub(crate) fn system_reset(&mut self) -> Result<Reply, Fault>
+    #[inline(never)]
+    pub(crate) fn system_reset(&mut self, answer: &mut Result<Reply, Fault>)
         requires roomy { All IsRoomy self.old.subs }
         requires postable { All IsPostable self.old.subs }
         requires requests { self.old.requests.numbers ≡ 0x100 }
-        ensures { spec.Performs self.old event_spec.SystemReset result self.new }
+        ensures { spec.Performs self.old event_spec.SystemReset answer.new self.new }
     {
         self.pending.drop_all();
         self.reports = Reports::new();
         let what = Sweep::SystemReset;
         sweep_all(&mut self.subs, &mut self.pending, &mut self.engines, what);
-        Ok(Reply::Done)
+        *answer = Ok(Reply::Done);
     }
 }

@@ -49,6 +49,7 @@ fn chosen_finds_full(sub: &Subchannel, chosen: &Chosen) -> bool
 }
 
 /// A Reset is sent on a path.
+#[inline(never)]
 fn reset_on(sub: &mut Subchannel, number: u64, path: Path) -> Reply
     requires due { choosing_spec.IsFitFor (chosen_spec.Resets number path) sub.old.state.hold }
     requires room { giving_spec.HasRoomForChosen sub.old (chosen_spec.Resets number path) }
@@ -62,6 +63,7 @@ fn reset_on(sub: &mut Subchannel, number: u64, path: Path) -> Reply
 }
 
 /// A Halt is sent on a path.
+#[inline(never)]
 fn halt_on(sub: &mut Subchannel, number: u64, path: Path) -> Reply
     requires { giving_spec.HasRoomForChosen sub.old (chosen_spec.Halts number path) }
     ensures gives { choose_spec.choose_sub sub.old (chosen_spec.Halts number path) ≡ Ok (turn_spec.leaves result sub.new) }
@@ -78,6 +80,7 @@ fn halt_on(sub: &mut Subchannel, number: u64, path: Path) -> Reply
 }
 
 /// A program is offered on a path.
+#[inline(never)]
 fn offer_on(sub: &mut Subchannel, candidate: Candidate, path: Path) -> Reply
     requires drawn { sub.old.state.drawn < 2 ^ 63 }
     requires free { choosing_spec.IsFitFor (chosen_spec.Offers candidate path) sub.old.state.hold }
@@ -96,6 +99,7 @@ fn offer_on(sub: &mut Subchannel, candidate: Candidate, path: Path) -> Reply
 }
 
 /// A status is made pending.
+#[inline(never)]
 fn pend_sub(sub: &mut Subchannel, cause: &StatusCause) -> Reply
     requires { sub.old.state.serials.made < 2 ^ 63 }
     ensures gives { choose_spec.pend_sub sub.old cause.now ≡ Ok (turn_spec.leaves result sub.new) }
@@ -131,18 +135,20 @@ pub fn choose_sub(
     sub: &mut Subchannel,
     choice: &Option<Path>,
     chosen: Chosen,
-) -> Result<Reply, Fault>
+    answer: &mut Result<Reply, Fault>,
+)
     requires roomy { IsRoomy sub.old }
     requires fits { choosing_spec.IsFitFor chosen sub.old.state.hold }
     ensures gives { giving_spec.GivesSub sub.old
-        (choose_spec.choose_sub (choosing_spec.marked_sub sub.old choice.now) chosen) result sub.new }
+        (choose_spec.choose_sub (choosing_spec.marked_sub sub.old choice.now) chosen) answer.new sub.new }
     ensures setup { sub.new.setup ≡ sub.old.setup }
 {
     if chosen_finds_full(sub, &chosen) {
-        return Err(Fault::WireFull);
+        *answer = Err(Fault::WireFull);
+        return;
     }
     mark_lost_paths(sub, choice);
-    Ok(act_on_choice(sub, chosen))
+    *answer = Ok(act_on_choice(sub, chosen));
 }
 
 /// Whether what comes of a signal finds its wire full.
@@ -194,30 +200,34 @@ pub fn up_sub(
     sub: &mut Subchannel,
     path: u32,
     returns: bool,
-) -> Result<Reply, Fault>
+    answer: &mut Result<Reply, Fault>,
+)
     requires { IsRoomy sub.old }
     ensures setup { sub.new.setup ≡ sub.old.setup }
     ensures gives { giving_spec.GivesStorage storage.old sub.old (up_spec.up_sub returns storage.old sub.old path)
-        result storage.new sub.new }
+        answer.new storage.new sub.new }
 {
     let Some(path) = path_of(sub, path) else {
-        return Err(Fault::NoSuchPath);
+        *answer = Err(Fault::NoSuchPath);
+        return;
     };
     let Some(front) = sub.wires.front_up(path) else {
-        return Err(Fault::NotSent);
+        *answer = Err(Fault::NotSent);
+        return;
     };
     if up_finds_full(storage, sub, path, front, returns) {
-        return Err(Fault::WireFull);
+        *answer = Err(Fault::WireFull);
+        return;
     }
     let signal = sub.wires.take_up(path);
     let available = sub.state.pmcw.available;
     let Taken { taken, sent } = take_up(storage, &mut sub.state, path, &signal, returns);
     send_any_down(&mut sub.wires, &available, &sent);
-    Ok(Reply::Up {
+    *answer = Ok(Reply::Up {
         signal,
         taken,
         sent,
-    })
+    });
 }
 
 /// Whether the answer of a unit to a signal finds its wire full. What the control unit may do makes no difference.
@@ -235,30 +245,34 @@ pub fn down_sub(
     unit: &mut Unit,
     sharing: &mut Sharing,
     path: u32,
-) -> Result<Reply, Fault>
+    answer: &mut Result<Reply, Fault>,
+)
     ensures engaged { engaged sub.new ≡ engaged sub.old }
     ensures state { sub.new.state ≡ sub.old.state }
     ensures gives { giving_spec.GivesShared sub.old «unit».old sharing.old
-        (down_spec.down_shared sharing.old sub.old path «unit».old) result sub.new «unit».new sharing.new }
+        (down_spec.down_shared sharing.old sub.old path «unit».old) answer.new sub.new «unit».new sharing.new }
 {
     let Some(path) = path_of(sub, path) else {
-        return Err(Fault::NoSuchPath);
+        *answer = Err(Fault::NoSuchPath);
+        return;
     };
     let Some(front) = sub.wires.front_down(path) else {
-        return Err(Fault::NotSent);
+        *answer = Err(Fault::NotSent);
+        return;
     };
     if answer_finds_full(sub, unit, path, front) {
-        return Err(Fault::WireFull);
+        *answer = Err(Fault::WireFull);
+        return;
     }
     let signal = sub.wires.take_down(path);
     let side = sub.setup.side;
     let Taken { taken, sent } = take(sharing, sub.setup.unit, unit, side, path, &signal);
     send_any_up(sub, &sent);
-    Ok(Reply::Down {
+    *answer = Ok(Reply::Down {
         signal,
         taken,
         sent,
-    })
+    });
 }
 
 /// Whether what comes of a report, whose path is this, finds its wire full.
@@ -273,21 +287,28 @@ fn report_finds_full(sub: &Subchannel, path: &ReportPath) -> bool
 }
 
 /// The unit takes its device's answer, and sends what comes of it to the subchannel.
-pub fn report_sub(sub: &mut Subchannel, unit: &mut Unit, report: &Report) -> Result<Reply, Fault>
+pub fn report_sub(
+    sub: &mut Subchannel,
+    unit: &mut Unit,
+    report: &Report,
+    answer: &mut Result<Reply, Fault>,
+)
     requires { IsUnitRoomy «unit».old }
     ensures engaged { engaged sub.new ≡ engaged sub.old }
     ensures state { sub.new.state ≡ sub.old.state }
     ensures gives { giving_spec.GivesBoth sub.old «unit».old (report_spec.report_sub sub.old «unit».old report.now)
-        result sub.new «unit».new }
+        answer.new sub.new «unit».new }
 {
     let path = unit.report_path(report);
     if let ReportPath::Refused = path {
-        return Err(Fault::NotNow);
+        *answer = Err(Fault::NotNow);
+        return;
     }
     if report_finds_full(sub, &path) {
-        return Err(Fault::WireFull);
+        *answer = Err(Fault::WireFull);
+        return;
     }
     let Taken { sent, .. } = unit.report(report);
     send_any_up(sub, &sent);
-    Ok(Reply::Done)
+    *answer = Ok(Reply::Done);
 }

@@ -157,7 +157,8 @@ impl<P: PathChoice + Drop> Subsystem<P> {
             *answer = Err(Fault::NoMemory);
             return;
         }
-        *answer = self.machine.perform(&self.places, &self.choice, event);
+        self.machine
+            .perform(&self.places, &self.choice, event, answer);
         if let Ok(reply) = &*answer {
             self.history.append(event, reply);
         }

@@ -18,10 +18,10 @@ returns c =
     ap (reached_in c.args.number c.in-Some.side) (sym subs) ∙ (sym c.reached_in.ensures.place ∙ c.in-Some-reached_in.is) in
     let stands = at_seen old.subs c.as_slice-2.result.now c.in-Some-reached_in.place c.index_mut-sub.result.now (sym subs) c.in-Some-reached_in.ensures.bound c.index_mut-sub.ensures.value in
     let inside : c.args.number < length old.units = omega (arith, c.if-number-len.false, c.len.ensures) in
-    subst (λ (s : State). Performs s (event.Act c.args.number c.args.act) c.act_sub.result
+    subst (λ (s : State). Performs s (event.Act c.args.number c.args.act) c.act_sub.new.answer
     (state_with_unit (with_sub old c.in-Some-reached_in.place c.act_sub.new.sub) c.args.number c.act_sub.new.«unit»)) c.self.view_is
     (act-performs old c.args.number c.in-Some-reached_in.place c.args.act c.in-Some.side c.index_mut-sub.result.now c.act_sub.new.sub c.index.result.now
-    c.index_mut-unit.result.now c.act_sub.new.«unit» c.act_sub.result inside c.index.ensures of at stands c.index_mut-unit.ensures.value c.act_sub.ensures.state c.act_sub.ensures.gives)
+    c.index_mut-unit.result.now c.act_sub.new.«unit» c.act_sub.new.answer inside c.index.ensures of at stands c.index_mut-unit.ensures.value c.act_sub.ensures.state c.act_sub.ensures.gives)
 
 pub invariant_of-self : goal.invariant_of-self
 invariant_of-self c =

@@ -35,10 +35,10 @@ returns c =
     let placed : place_in c.in-Some.id old.subs ≡ Some c.in-Some-place_in.place =
     ap (place_in c.in-Some.id) (sym subs) ∙ (sym c.place_in.ensures.place ∙ c.in-Some-place_in.is) in
     let stands = at_seen old.subs c.as_slice.result.now c.in-Some-place_in.place c.index_mut-sub.result.now (sym subs) c.in-Some-place_in.ensures.bound c.index_mut-sub.ensures.value in
-    subst (λ (s : State). Performs s (event.Execute c.args.cpu c.args.instruction) c.perform_provided-answer.result
-    (record (with_sub (record old { storage = c.perform_provided-answer.new.storage }) c.in-Some-place_in.place c.perform_provided-answer.new.sub) { requests = c.post.new.pending })) c.self.view_is
-    (executes old c.args.cpu c.in-Some-place_in.place c.args.instruction c.in-Some.id c.index_mut-sub.result.now c.perform_provided-answer.new.sub c.perform_provided-answer.new.storage
-    c.perform_provided-answer.new.pending c.post.new.pending c.perform_provided-answer.result named placed stands c.perform_provided-answer.ensures.done c.post.ensures)
+    subst (λ (s : State). Performs s (event.Execute c.args.cpu c.args.instruction) c.perform_provided.result
+    (record (with_sub (record old { storage = c.perform_provided.new.storage }) c.in-Some-place_in.place c.perform_provided.new.sub) { requests = c.post.new.pending })) c.self.view_is
+    (executes old c.args.cpu c.in-Some-place_in.place c.args.instruction c.in-Some.id c.index_mut-sub.result.now c.perform_provided.new.sub c.perform_provided.new.storage
+    c.perform_provided.new.pending c.post.new.pending c.perform_provided.result named placed stands c.perform_provided.ensures.done c.post.ensures)
 
 pub change-requires-clause-some : goal.change-requires-clause-some
 change-requires-clause-some c =
@@ -50,7 +50,7 @@ pub invariant_of-self-2 : goal.invariant_of-self-2
 invariant_of-self-2 c =
     let subs = c.self.inside.subs.items in
     let stands = at_seen subs c.as_slice.result.now c.in-Some-place_in.place c.index_mut-sub.result.now (sym c.as_slice.ensures.value) c.in-Some-place_in.ensures.bound c.index_mut-sub.ensures.value in (
-      counted-in c.self.inside.engines c.change.new.self subs c.in-Some-place_in.place c.index_mut-sub.result.now c.perform_provided-answer.new.sub c.engaged-before.result c.engaged-after.result stands c.self.invariant.0
+      counted-in c.self.inside.engines c.change.new.self subs c.in-Some-place_in.place c.index_mut-sub.result.now c.perform_provided.new.sub c.engaged-before.result c.engaged-after.result stands c.self.invariant.0
           c.engaged-before.ensures.value c.engaged-after.ensures.value c.change.ensures,
       c.self.invariant.1,
     )

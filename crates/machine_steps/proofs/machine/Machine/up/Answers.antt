@@ -15,10 +15,10 @@ returns c =
     let stands = at_seen old.subs c.args.self.now.subs c.in-Some.place c.index_mut-sub.result.now (ap (λ (s : State). s.subs) c.self.view_is) c.in-Some.ensures.bound c.index_mut-sub.ensures.value in
     let may : MayReturn old.subs c.index.result.now c.args.path c.returns_at-returns.result =
     subst (λ (subs : List Subchannel). MayReturn subs c.index.result.now c.args.path c.returns_at-returns.result) (c.of-counted.ensures ∙ c.as_slice.ensures.value) c.returns_at-returns.ensures in
-    subst (λ (s : State). Performs s (event.Up c.args.word c.args.path) c.up_sub-answer.result
-    (record (with_sub (record old { storage = c.up_sub-answer.new.storage }) c.in-Some.place c.up_sub-answer.new.sub) { requests = c.post.new.pending })) c.self.view_is
-    (up-performs old c.args.word c.args.path c.in-Some.place c.index.result.now c.index_mut-sub.result.now c.up_sub-answer.new.sub c.up_sub-answer.new.storage
-    c.returns_at-returns.result c.up_sub-answer.result c.post.new.pending at stands c.index.ensures may c.up_sub-answer.ensures.gives c.post.ensures)
+    subst (λ (s : State). Performs s (event.Up c.args.word c.args.path) c.up_sub.new.answer
+    (record (with_sub (record old { storage = c.up_sub.new.storage }) c.in-Some.place c.up_sub.new.sub) { requests = c.post.new.pending })) c.self.view_is
+    (up-performs old c.args.word c.args.path c.in-Some.place c.index.result.now c.index_mut-sub.result.now c.up_sub.new.sub c.up_sub.new.storage
+    c.returns_at-returns.result c.up_sub.new.answer c.post.new.pending at stands c.index.ensures may c.up_sub.ensures.gives c.post.ensures)
 
 pub change-requires-clause-some : goal.change-requires-clause-some
 change-requires-clause-some c =
@@ -30,7 +30,7 @@ pub invariant_of-self : goal.invariant_of-self
 invariant_of-self c =
     let subs = c.self.inside.subs.items in
     let stands = at_seen subs c.args.self.now.subs c.in-Some.place c.index_mut-sub.result.now (ap (λ (s : State). s.subs) c.self.view_is) c.in-Some.ensures.bound c.index_mut-sub.ensures.value in (
-      counted-in c.self.inside.engines c.change.new.self subs c.in-Some.place c.index_mut-sub.result.now c.up_sub-answer.new.sub c.engaged-before.result c.engaged-after.result stands c.self.invariant.0
+      counted-in c.self.inside.engines c.change.new.self subs c.in-Some.place c.index_mut-sub.result.now c.up_sub.new.sub c.engaged-before.result c.engaged-after.result stands c.self.invariant.0
           c.engaged-before.ensures.value c.engaged-after.ensures.value c.change.ensures,
       c.self.invariant.1,
     )

@@ -44,20 +44,20 @@ perform-requires-clause-requests g c = past-requests c.self.inside.history.entri
 
 pub returns-in-Ok-clause-set_up : goal.returns-in-Ok-clause-set_up
 returns-in-Ok-clause-set_up g c = λ setup k.
-    performed-set_up c.setups.ensures.set_up c.self.inside.machine c.args.event.now c.perform.result c.perform.new.self c.perform.ensures.performs
+    performed-set_up c.setups.ensures.set_up c.self.inside.machine c.args.event.now c.perform.new.answer c.perform.new.self c.perform.ensures.performs
     setup (subst (λ (p : Past). IsSetUp setup p.state) (sym c.self.view_is) k)
 
 pub returns-in-Ok-clause-ruled : goal.returns-in-Ok-clause-ruled
 returns-in-Ok-clause-ruled g c = λ other.
-    subst (λ (p : Past). GoesByRule g.P.PathChoice.picks p.state c.args.event.now c.perform.result c.perform.new.self) c.self.view_is c.perform.ensures.ruled
+    subst (λ (p : Past). GoesByRule g.P.PathChoice.picks p.state c.args.event.now c.perform.new.answer c.perform.new.self) c.self.view_is c.perform.ensures.ruled
 
 pub returns-in-Ok-clause-rises : goal.returns-in-Ok-clause-rises
 returns-in-Ok-clause-rises g c =
     subst (λ (p : Past). Rises (all_serials p.state) (all_serials c.perform.new.self)) c.self.view_is
-    (performed-rises c.steps.ensures.subs c.self.inside.history.entries c.self.inside.machine c.args.event.now c.perform.result c.perform.new.self
+    (performed-rises c.steps.ensures.subs c.self.inside.history.entries c.self.inside.machine c.args.event.now c.perform.new.answer c.perform.new.self
     c.self.invariant.0 c.perform.ensures.performs)
 
 pub returns-in-Ok-clause-ordered : goal.returns-in-Ok-clause-ordered
 returns-in-Ok-clause-ordered g c =
-    performed-brings c.numbers.ensures.pending c.codes.ensures.table c.self.inside.history.entries c.self.inside.machine c.args.event.now c.perform.result
+    performed-brings c.numbers.ensures.pending c.codes.ensures.table c.self.inside.history.entries c.self.inside.machine c.args.event.now c.perform.new.answer
     c.perform.new.self c.self.invariant.0 c.perform.ensures.performs
