@@ -131,7 +131,7 @@ list_any-map p f (x ∷ xs) = ap (λ (b : Bool). p (f x) || b) (list_any-map p f
 
 -- the draft of all lines is the script
 pub script_of-draft : (races : Bool) (text : List (List ℕ)) (i : ℕ) (d : Draft) → i ≡ length text → list_any has_words text ≡ true → IsDraftOf races text i d
-    → IsScript races text (record { setup = d.config; lines = d.lines.items; race = d.race })
+    → IsScript races text (record { setup = d.config; lines = d.lines; race = d.race })
 script_of-draft races text i d e begun h =
     let whole : take i text ≡ text = take_all i text (omega arith) in
     record {

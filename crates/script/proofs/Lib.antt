@@ -1,2 +1,3 @@
 pub mod Parting
 pub mod Drafting
+pub mod Keeping

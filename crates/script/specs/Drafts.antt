@@ -15,14 +15,14 @@ pub record Hears (old : Draft) (number : ℕ) (what : Result Said ℕ) (new : Dr
   pub begun : new.begun ≡ old.begun
   pub acted : new.acted ≡ (old.acted || is_action what)
   pub setup : new.config ≡ set_up old.config (setting_of what)
-  pub lines : new.lines.items ≡ old.lines.items ++ action_of number what
+  pub lines : new.lines ≡ old.lines ++ action_of number what
   pub race : new.race ≡ latest old.race (race_of number what)
 
 pub record IsNext (old : Draft) (number : ℕ) (line : List ℕ) (new : Draft) : Type 0 where
   pub begun : new.begun ≡ (old.begun || has_words line)
   pub acted : new.acted ≡ (old.acted || is_action (said line))
   pub setup : new.config ≡ set_up old.config (setting_of (said line))
-  pub lines : new.lines.items ≡ old.lines.items ++ action_of number (said line)
+  pub lines : new.lines ≡ old.lines ++ action_of number (said line)
   pub race : new.race ≡ latest old.race (race_of number (said line))
 
 -- the first i of the lines of a text, all clean, made this
@@ -31,5 +31,5 @@ pub record IsDraftOf (races : Bool) (text : List (List ℕ)) (i : ℕ) (d : Draf
   pub begun : d.begun ≡ list_any has_words (take i text)
   pub acted : d.acted ≡ list_any (λ line. is_action (said line)) (take i text)
   pub setup : d.config ≡ set_up no_setup (flat_map (λ line. setting_of (said line)) (take i text))
-  pub lines : d.lines.items ≡ actions_from 1 (take i text)
+  pub lines : d.lines ≡ actions_from 1 (take i text)
   pub race : d.race ≡ race_from 1 (take i text)

@@ -3,3 +3,4 @@ pub mod Saying
 pub mod Scripts
 pub mod Reading
 pub mod Drafts
+pub mod Keeping

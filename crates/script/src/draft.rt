@@ -1,15 +1,16 @@
 //! Reading a script line by line.
 
-ghost use Rattle.std.specs.Prelude.{◌≡◌, ◌<◌, ◌++◌, ◌∷◌, [], true, OnOk, IfErr, IfOk, None, Ok, Err, length, map, vec_len, vec_capacity};
+ghost use Rattle.std.specs.Prelude.{◌≡◌, true, OnOk, IfErr, IfOk, None, Ok, Err, length, map};
 ghost use Rattle.script.specs.Pieces.{words_between_blanks};
 ghost use Rattle.script.specs.Saying.{first_is_storage};
 ghost use Rattle.script.specs.Scripts as spec;
 ghost use Rattle.script.specs.Drafts.{context, Hears, IsNext, IsDraftOf};
 ghost use Rattle.script.specs.Reading.{BreaksRule, BadIn, bad_by};
 
+use crate::lines::Lines;
 use crate::pieces::pieces;
 use crate::said::{Said, has_words, say};
-use crate::{Line, RaceLine, ScriptBad, some_have_words};
+use crate::{RaceLine, ScriptBad, some_have_words};
 use channel_config::config::{Config, ConfigFault};
 use script_rows::settings::configure;
 use script_rows::words::LineFault;
@@ -22,7 +23,7 @@ pub struct Draft {
     pub config: Config,
     pub begun: bool,
     pub acted: bool,
-    pub lines: Vec<Line>,
+    pub lines: Lines,
     pub race: Option<RaceLine>,
 }
 
@@ -77,8 +78,7 @@ fn hear<S: Supply>(
             }
         }
         Said::Does(action) => {
-            supply.reserve(&mut draft.lines, 1)?;
-            add_line(&mut draft.lines, Line { number, action });
+            draft.lines.add(supply, number, &action)?;
             draft.acted = true;
             Ok(())
         }
@@ -91,14 +91,6 @@ fn hear<S: Supply>(
             Ok(())
         }
     }
-}
-
-/// Adds a line, for which there is room.
-fn add_line(lines: &mut Vec<Line>, line: Line)
-    requires { vec_len lines.old < vec_capacity lines.old }
-    ensures { lines.new.items ≡ lines.old.items ++ line ∷ [] }
-{
-    lines.push_reserved(line);
 }
 
 /// Takes one line, before these lines.
@@ -154,7 +146,7 @@ pub fn draft_of<S: Supply>(
         config: Config::new(alloc),
         begun: false,
         acted: false,
-        lines: Vec::new(alloc),
+        lines: Lines::new(alloc),
         race: None,
     };
     for (i, line) in lines.iter().enumerate() {

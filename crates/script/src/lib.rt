@@ -9,10 +9,13 @@ ghost use Rattle.script.specs.Scripts.{IsScript};
 ghost use Rattle.script.specs.Reading.{BadAt};
 
 mod draft;
+mod kept;
+pub mod lines;
 mod pieces;
 mod said;
 
 use crate::draft::draft_of;
+use crate::lines::Lines;
 use crate::pieces::pieces;
 use crate::said::has_words;
 use channel_config::config::Config;
@@ -49,7 +52,7 @@ pub enum ScriptBad {
 #[derive(Drop)]
 pub struct Script {
     config: Config,
-    lines: Vec<Line>,
+    lines: Lines,
     race: Option<RaceLine>,
 }
 
@@ -58,7 +61,7 @@ impl Model for Script {
 
     ghost Value = { ScriptContents };
 
-    ghost view = { λ s. record { setup = s.config; lines = s.lines.items; race = s.race } };
+    ghost view = { λ s. record { setup = s.config; lines = s.lines; race = s.race } };
 }
 
 impl Script {
@@ -102,10 +105,10 @@ impl Script {
     }
 
     /// The actions in order, under the numbers of their lines.
-    pub fn lines(&self) -> &[Line]
+    pub fn lines(&self) -> &Lines
         ensures { result.now ≡ self.now.lines }
     {
-        self.lines.as_slice()
+        &self.lines
     }
 
     /// The race of the last line, where it asks for one.
@@ -116,9 +119,9 @@ impl Script {
     }
 
     /// The configuration and the actions apart.
-    pub fn into_parts(self) -> (Config, Vec<Line>)
+    pub fn into_parts(self) -> (Config, Lines)
         ensures config { result.0 ≡ self.setup }
-        ensures lines { result.1.items ≡ self.lines }
+        ensures lines { result.1 ≡ self.lines }
     {
         (self.config, self.lines)
     }

@@ -1,8 +1,9 @@
 -- One more line performed and written.
-use Rattle.std.proofs.Common.{◌≡◌, ℕ, ◌+◌, Bool, true, false, not, ◌||◌, List, [], ◌∷◌, ◌++◌, length, take, map, refl, subst, sym, ap, ◌∙◌, append-nil, append_assoc, suc, arith, ◌<◌, get_or}
-use Rattle.std.specs.Prelude.{is_err}
+use Rattle.std.proofs.Common.{◌≡◌, ℕ, ◌+◌, Bool, true, false, not, ◌||◌, List, [], ◌∷◌, ◌++◌, length, take, map, refl, subst, sym, ap, ◌∙◌, append-nil, append_assoc, suc, arith}
+use Rattle.std.specs.Prelude.{is_err, slice_get, Some}
 use Rattle.std.specs.List.{list_any}
 use Rattle.std.proofs.lemmas.List.{take_more}
+use Rattle.std.proofs.lemmas.Option.{slice_get_within, get_or_from_slice_get}
 use Rattle.std.proofs.KnownBytes.{Appends-trans}
 use Rattle.script_rows.specs.declared.Action.{Action}
 use Rattle.script_text.specs.Text.{event_line}
@@ -71,14 +72,14 @@ performed_more old middle new ls l held then now a r o h acts refused took = rec
       (takes-more held then now (output_of ls h.outcomes) (event_line l.number o) h.written took);
 }
 
-pub grown : (ls : List Line) (i : ℕ) (l : Line) → i < length ls → l ≡ get_or ls i l → take (i + 1) ls ≡ take i ls ++ l ∷ []
-grown ls i l lt is = take_more ls i l lt ∙ ap (λ (k : Line). take i ls ++ k ∷ []) (sym is)
+pub grown : (ls : List Line) (i : ℕ) (l : Line) → slice_get ls i ≡ Some l → take (i + 1) ls ≡ take i ls ++ l ∷ []
+grown ls i l there = take_more ls i l (slice_get_within ls i l there) ∙ ap (λ (k : Line). take i ls ++ k ∷ []) (get_or_from_slice_get ls i l l there)
 
 pub performed_to : (old middle new : Installed) (ls : List Line) (i : ℕ) (l : Line) (held then now : Seen) (a : Bool) (r : Written)
-    → i < length ls → l ≡ get_or ls i l → HasPerformed old (take i ls) held then a middle → IsDone middle l then now r new → r.whole ≡ true
+    → slice_get ls i ≡ Some l → HasPerformed old (take i ls) held then a middle → IsDone middle l then now r new → r.whole ≡ true
     → HasPerformed old (take (i + 1) ls) held now (a || r.refused) new
-performed_to old middle new ls i l held then now a r lt is h t whole =
-    subst (λ (ks : List Line). HasPerformed old ks held now (a || r.refused) new) (sym (grown ls i l lt is))
+performed_to old middle new ls i l held then now a r there h t whole =
+    subst (λ (ks : List Line). HasPerformed old ks held now (a || r.refused) new) (sym (grown ls i l there))
     (performed_more old middle new (take i ls) l held then now a r t.outcome h t.acts t.refused
     (subst (λ (w : Bool). Puts then (event_line l.number t.outcome) now w) whole t.prints))
 

@@ -5,6 +5,7 @@ ghost use Rattle.serving.specs.Performing.{IsDone, PerformsLines};
 use crate::installation::Installation;
 use core_lock::naming::Naming;
 use script::Line;
+use script::lines::Lines;
 use script_text::held::Held;
 use script_text::put_event_line_at_once;
 use streams::Sink;
@@ -46,15 +47,18 @@ fn perform_one<J: Naming, S: Sink>(
 /// Performs the lines in order, up to the first whose print is not written whole.
 pub fn perform<J: Naming, S: Sink>(
     installation: &mut Installation<J>,
-    lines: &[Line],
+    lines: &Lines,
     sink: &mut S,
 ) -> PerformedLines
     ensures { PerformsLines installation.old lines.now (S.seen sink.old) (S.seen sink.new) result installation.new }
 {
     let mut held = Held::new();
     let mut refused = false;
-    for line in lines {
-        let written = perform_one(installation, line, &mut held, sink);
+    for place in 0..lines.len() {
+        let Some(line) = lines.get(place) else {
+            break;
+        };
+        let written = perform_one(installation, &line, &mut held, sink);
         refused = refused | written.refused;
         if !written.whole {
             return PerformedLines {

@@ -16,7 +16,8 @@ use channel_config::config::Config;
 use core_lock::naming::Naming;
 use core_lock::parts::Parts;
 use core_lock::supplies::CoreSupply;
-use script::{Line, RaceLine, Script};
+use script::lines::Lines;
+use script::{RaceLine, Script};
 use script_text::{ActionResult, put_event_line};
 use std::alloc::Global;
 use std::marker::Brand;
@@ -38,7 +39,7 @@ pub fn run_script<M: CoreSupply, S: Sink>(
     let Ok(parts) = Parts::new_with(alloc, supply, &config) else {
         return no_memory(sink);
     };
-    run_named::<Brand, M, S>(alloc, supply, config, parts, lines.as_slice(), sink)
+    run_named::<Brand, M, S>(alloc, supply, config, parts, &lines, sink)
 }
 
 /// Performs a good script, with the race of its last line where it asks for one.
@@ -59,16 +60,9 @@ pub fn race_script<T: Threads + Wait + Sync, M: CoreSupply, S: Sink>(
     };
     match race {
         Some(line) => race_named::<Brand, T, M, S>(
-            rt,
-            alloc,
-            supply,
-            config,
-            parts,
-            lines.as_slice(),
-            line,
-            sink,
+            rt, alloc, supply, config, parts, &lines, line, sink,
         ),
-        None => run_named::<Brand, M, S>(alloc, supply, config, parts, lines.as_slice(), sink),
+        None => run_named::<Brand, M, S>(alloc, supply, config, parts, &lines, sink),
     }
 }
 
@@ -78,7 +72,7 @@ fn run_named<J: Naming, M: CoreSupply, S: Sink>(
     supply: &mut M,
     config: Config,
     parts: Parts,
-    lines: &[Line],
+    lines: &Lines,
     sink: &mut S,
 ) -> Ending
     requires named { parts.name ≡ J.name }
@@ -100,7 +94,7 @@ fn race_named<J: Naming + Send + Sync, T: Threads + Wait + Sync, M: CoreSupply, 
     supply: &mut M,
     config: Config,
     parts: Parts,
-    lines: &[Line],
+    lines: &Lines,
     race: RaceLine,
     sink: &mut S,
 ) -> Ending
@@ -119,7 +113,7 @@ fn race_named<J: Naming + Send + Sync, T: Threads + Wait + Sync, M: CoreSupply, 
 /// Performs lines, and audits.
 fn perform_all<J: Naming, S: Sink>(
     installation: Installation<J>,
-    lines: &[Line],
+    lines: &Lines,
     sink: &mut S,
 ) -> Ending
     ensures { PerformsAll installation lines.now (S.seen sink.old) (S.seen sink.new) result }
@@ -134,7 +128,7 @@ fn perform_race<J: Naming + Send + Sync, T: Threads + Wait + Sync, S: Sink>(
     rt: &T,
     installation: Installation<J>,
     racers: Racers<J>,
-    lines: &[Line],
+    lines: &Lines,
     line: RaceLine,
     sink: &mut S,
 ) -> Ending

@@ -72,12 +72,18 @@ fn a_right_script_is_read(rt: HostRuntime) -> Result<(), AllocError> {
     ];
     assert!(rt; script.config().set_count() == 2);
     assert!(rt; script.lines().len() == wanted.len());
-    for (line, (number, name, value)) in script.lines().iter().zip(wanted) {
-        let (kind, said) = shown(&line.action);
-        assert!(rt; line.number == number);
-        assert!(rt; kind == name);
-        assert!(rt; said == value);
+    for (place, (number, name, value)) in wanted.into_iter().enumerate() {
+        match script.lines().get(place) {
+            Some(line) => {
+                let (kind, said) = shown(&line.action);
+                assert!(rt; line.number == number);
+                assert!(rt; kind == name);
+                assert!(rt; said == value);
+            }
+            None => assert!(rt; false, "there are as many"),
+        }
     }
+    assert!(rt; script.lines().get(wanted.len()).is_none());
     let (config, lines) = script.into_parts();
     assert!(rt; config.blocks() == Some(0x10));
     assert!(rt; config.paths() == [0x10, 0xFF].as_slice());

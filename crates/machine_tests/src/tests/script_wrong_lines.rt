@@ -162,7 +162,10 @@ fn a_script_of_many_lines_is_read(rt: HostRuntime) -> Result<(), AllocError> {
         Ok(script) => {
             let lines = script.lines();
             assert!(rt; lines.len() == 1);
-            assert!(rt; lines[0].number == 70_002);
+            match lines.get(0) {
+                Some(line) => assert!(rt; line.number == 70_002),
+                None => assert!(rt; false, "it has a line"),
+            }
         }
         Err(_) => assert!(rt; false, "the text is right"),
     }

@@ -2,5 +2,5 @@ use Rattle.std.proofs.Common.{take}
 use Rattle.serving.specs.Performing.{HasPerformed}
 use Rattle.serving.proofs.performing.perform.Given as goal
 
-abbrev pub invariant-loop-line : goal.invariant-loop-line
-invariant-loop-line g l = HasPerformed l.fn.installation (take l.line-index l.lines) (g.S.Sink.seen l.fn.sink) (g.S.Sink.seen l.sink) l.refused l.installation
+abbrev pub invariant-loop-place : goal.invariant-loop-place
+invariant-loop-place g l = HasPerformed l.fn.installation (take l.place l.lines) (g.S.Sink.seen l.fn.sink) (g.S.Sink.seen l.sink) l.refused l.installation

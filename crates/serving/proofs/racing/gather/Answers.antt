@@ -1,4 +1,4 @@
-use Rattle.std.proofs.Common.{◌+◌, ◌∷◌, ◌++◌, [], rules, ap, ◌∙◌, vec_len}
+use Rattle.std.proofs.Common.{◌∷◌, ◌++◌, [], rules, ap, ◌∙◌, vec_len}
 use Rattle.core_lock.specs.Seats.{HeldSeat}
 use Rattle.serving.specs.declared.tally.Tally.{Tally}
 use Rattle.serving.specs.Racing.{plus, seats_of, total_of}
