@@ -1,5 +1,5 @@
 -- Packed entries over one arena of bytes, and the entries that they are.
-use Rattle.std.specs.Prelude.{ℕ, ◌+◌, ◌/◌, ◌≤◌, min, List, All, length, take, drop, map}
+use Rattle.std.specs.Prelude.{ℕ, ◌≡◌, ◌+◌, ◌/◌, ◌≤◌, ◌<◌, min, List, All, length, take, drop, map, slice_get}
 use Rattle.chan_events.specs.declared.reply.Entry.{Entry}
 use Rattle.kept_events.specs.Entries.{entry_in, entry_length}
 use Rattle.kept_events.specs.declared.entries.KeptEntry.{KeptEntry}
@@ -26,3 +26,7 @@ Fits size kept = kept.start + entry_length kept ≤ size
 
 abbrev pub AllFit : List ℕ → List KeptEntry → Type 0
 AllFit arena kept = All (Fits (length arena)) kept
+
+-- entries have one at a place, and others have the same at another
+abbrev pub HasSame : List Entry → ℕ → List Entry → ℕ → Type 0
+HasSame entries number others place = (number < length entries) × (slice_get entries number ≡ slice_get others place)

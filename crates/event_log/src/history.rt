@@ -1,14 +1,15 @@
 //! What was accepted, in order.
 
-ghost use Rattle.std.specs.Prelude.{◌≡◌, ◌≤◌, ◌+◌, ◌++◌, ◌∷◌, [], List, length, take, drop, slice_get};
+ghost use Rattle.std.specs.Prelude.{◌≡◌, ◌≤◌, ◌+◌, ◌++◌, ◌∷◌, ◌↔◌, [], IsTrue, List, length, take, drop, slice_get};
 ghost use Rattle.chan_events.specs.declared.reply.Entry.{Entry};
 ghost use Rattle.kept_events.specs.Entries.{entry_length};
-ghost use Rattle.event_log.specs.Logs.{AllFit, entries_at};
+ghost use Rattle.event_log.specs.Logs.{AllFit, HasSame, entries_at};
 ghost use Rattle.event_log.specs.Logs as spec;
 
 use crate::logs::Log;
 use chan_events::reply::Entry;
 use kept_events::entries::KeptEntry;
+use same_entries::{same, same_kept};
 use std::marker::Model;
 
 /// The accepted events with their replies, the oldest first.
@@ -56,6 +57,16 @@ impl<'a> History<'a> {
         }
     }
 
+    /// Whether there is an entry of this number, and it is the same as that of another number in another history.
+    pub fn has_same(&self, number: usize, other: &History<'_>, place: usize) -> bool
+        ensures { IsTrue result ↔ HasSame self.now number other.now place }
+    {
+        match (self.entries.get(number), other.entries.get(place)) {
+            (Some(one), Some(two)) => same_at(one, self.bytes, two, other.bytes),
+            _ => false,
+        }
+    }
+
     /// Adds the last entry, where there is one, to a log that has room for it.
     pub fn add_last(&self, log: &mut Log)
         requires { 1 ≤ log.old.room }
@@ -88,4 +99,32 @@ fn entry_at(kept: &KeptEntry, arena: &[u8]) -> Entry
     ensures { result ≡ spec.entry_at arena.now kept.now }
 {
     kept.with(bytes_of(kept, arena))
+}
+
+/// Whether both are the same entry, each with its bytes.
+fn same_at(one: &KeptEntry, bytes: &[u8], other: &KeptEntry, other_bytes: &[u8]) -> bool
+    requires one { spec.Fits (length bytes.now) one.now }
+    requires other { spec.Fits (length other_bytes.now) other.now }
+    ensures { IsTrue result ↔ (spec.entry_at bytes.now one.now ≡ spec.entry_at other_bytes.now other.now) }
+{
+    packed_same(one, bytes, other, other_bytes) || unpacked_same(one, bytes, other, other_bytes)
+}
+
+/// Whether both are kept as the same.
+fn packed_same(one: &KeptEntry, bytes: &[u8], other: &KeptEntry, other_bytes: &[u8]) -> bool
+    requires one { spec.Fits (length bytes.now) one.now }
+    requires other { spec.Fits (length other_bytes.now) other.now }
+    ensures { IsTrue result → spec.entry_at bytes.now one.now ≡ spec.entry_at other_bytes.now other.now }
+{
+    same_kept(one, other) && bytes_of(one, bytes) == bytes_of(other, other_bytes)
+}
+
+/// Whether both are the same entry, which each is unpacked to.
+#[inline(never)]
+fn unpacked_same(one: &KeptEntry, bytes: &[u8], other: &KeptEntry, other_bytes: &[u8]) -> bool
+    requires one { spec.Fits (length bytes.now) one.now }
+    requires other { spec.Fits (length other_bytes.now) other.now }
+    ensures { IsTrue result ↔ (spec.entry_at bytes.now one.now ≡ spec.entry_at other_bytes.now other.now) }
+{
+    same(&entry_at(one, bytes), &entry_at(other, other_bytes))
 }

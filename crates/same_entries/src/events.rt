@@ -16,21 +16,21 @@ pub fn same_chunk(one: &Chunk, other: &Chunk) -> bool
 }
 
 /// Whether both are the same side.
-fn same_side(one: Side, other: Side) -> bool
+pub fn same_side(one: Side, other: Side) -> bool
     ensures { IsTrue result ↔ (one ≡ other) }
 {
     one == other
 }
 
 /// Whether both keys are the same.
-fn same_key(one: Key, other: Key) -> bool
+pub fn same_key(one: Key, other: Key) -> bool
     ensures { IsTrue result ↔ (one ≡ other) }
 {
     one == other
 }
 
 /// Whether both instructions are the same.
-fn same_instruction(one: Instruction, other: Instruction) -> bool
+pub fn same_instruction(one: Instruction, other: Instruction) -> bool
     ensures { IsTrue result ↔ (one ≡ other) }
 {
     match (one, other) {
@@ -95,7 +95,7 @@ fn same_instruction(one: Instruction, other: Instruction) -> bool
 }
 
 /// Whether both instructions are the same.
-fn same_other_instruction(one: OtherInstruction, other: OtherInstruction) -> bool
+pub fn same_other_instruction(one: OtherInstruction, other: OtherInstruction) -> bool
     ensures { IsTrue result ↔ (one ≡ other) }
 {
     match (one, other) {
@@ -117,7 +117,7 @@ fn same_other_instruction(one: OtherInstruction, other: OtherInstruction) -> boo
 }
 
 /// Whether both acts are the same.
-fn same_act(one: UnitAct, other: UnitAct) -> bool
+pub fn same_act(one: UnitAct, other: UnitAct) -> bool
     ensures { IsTrue result ↔ (one ≡ other) }
 {
     match (one, other) {

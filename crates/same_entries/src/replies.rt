@@ -12,14 +12,14 @@ use scsw_irb::crw::Crw;
 use scsw_irb::scsw::{ActivityControl, FunctionControl, Scsw, StatusControl};
 
 /// Whether both codes are the same.
-fn same_code(one: ConditionCode, other: ConditionCode) -> bool
+pub fn same_code(one: ConditionCode, other: ConditionCode) -> bool
     ensures { IsTrue result ↔ (one ≡ other) }
 {
     one == other
 }
 
 /// Whether both answers are the same.
-fn same_answer(one: Answer, other: Answer) -> bool
+pub fn same_answer(one: Answer, other: Answer) -> bool
     ensures { IsTrue result ↔ (one ≡ other) }
 {
     match (one, other) {
@@ -98,7 +98,7 @@ fn same_rest(one: &Scsw, other: &Scsw) -> bool
 
 /// Whether both status words are the same.
 #[tactic(auto, using(crate::proofs::Fields::scsws_same))]
-fn same_scsw(one: &Scsw, other: &Scsw) -> bool
+pub fn same_scsw(one: &Scsw, other: &Scsw) -> bool
     ensures { IsTrue result ↔ (one.now ≡ other.now) }
 {
     one.key == other.key && same_modes(one, other) && same_rest(one, other)
@@ -116,7 +116,7 @@ fn same_interruption_code(one: IntCode, other: IntCode) -> bool
 }
 
 /// Whether both codes are the same, or neither is there.
-fn same_interruption(one: Option<IntCode>, other: Option<IntCode>) -> bool
+pub fn same_interruption(one: Option<IntCode>, other: Option<IntCode>) -> bool
     ensures { IsTrue result ↔ (one ≡ other) }
 {
     match (one, other) {
@@ -127,7 +127,7 @@ fn same_interruption(one: Option<IntCode>, other: Option<IntCode>) -> bool
 }
 
 /// Whether both reports are the same, or neither is there.
-fn same_report(one: Option<Crw>, other: Option<Crw>) -> bool
+pub fn same_report(one: Option<Crw>, other: Option<Crw>) -> bool
     ensures { IsTrue result ↔ (one ≡ other) }
 {
     match (one, other) {
