@@ -1,12 +1,13 @@
 -- A seat's log against the history, one entry after another.
-use Rattle.std.proofs.Common.{◌≡◌, ◌≢◌, ℕ, zero, suc, ◌+◌, ◌<◌, ◌≤◌, Bool, false, List, [], ◌∷◌, length, get_or, drop, add-one, None, Some, refl, sym, ap, ◌∙◌, subst, eqb, eq-eqb, ne_eqb, arith, ◌-◌, length-drop, true≢false}
+use Rattle.std.proofs.Common.{◌≡◌, ◌≢◌, ℕ, zero, suc, ◌+◌, ◌<◌, ◌≤◌, Bool, false, List, [], ◌∷◌, length, get_or, drop, add-one, Some, refl, sym, ap, ◌∙◌, subst, eqb, eq-eqb, ne_eqb, arith, ◌-◌, length-drop, true≢false}
 use Rattle.std.proofs.lemmas.Bool.{eqb-true}
-use Rattle.std.proofs.lemmas.Option.{get_or_from_slice_get, slice_get-get_or}
-use Rattle.std.specs.Prelude.{if◌then◌else◌, ◌==◌, ◌↔◌, slice_get}
+use Rattle.std.proofs.lemmas.Option.{slice_get-get_or}
+use Rattle.std.specs.Prelude.{if◌then◌else◌, ◌==◌, ◌↔◌}
 use Rattle.std.specs.Bool.{IsTrue}
 use Rattle.chan_events.specs.declared.event.Event.TheVariants.{SystemReset}
 use Rattle.chan_events.specs.declared.reply.Reply.TheVariants.{Done}
 use Rattle.chan_events.specs.declared.reply.Entry.{Entry}
+use Rattle.event_log.specs.Logs.{HasSame}
 use Rattle.core_lock.specs.Seats.{entries_by, entry}
 
 -- an entry, where any will do
@@ -76,18 +77,15 @@ goes_on number by history log place next d e lt is here same f =
       back = λ h. f.back (a ∙ ap (λ l. get_or history place d ∷ l) h ∙ sym c);
     }
 
--- an entry of this seat, where the log has ended
-ends_early : (number : ℕ) (by : List ℕ) (history log : List Entry) (place next : ℕ) (d : Entry) → length by ≡ length history → place < length by → get_or by place 0 ≡ number → length log ≤ next → Fits number by history log place next → entries_by number by history ≡ log → ⊥
-ends_early number by history log place next d e lt is none f h =
-    let a = found number by history place d e lt is in
+-- an entry of this seat, where the whole log is what the history has
+pub has_next : (number : ℕ) (by : List ℕ) (history log : List Entry) (place next : ℕ) (d : Entry) → length by ≡ length history → place < length by → get_or by place 0 ≡ number → Fits number by history log place next → entries_by number by history ≡ log → HasSame log next history place
+has_next number by history log place next d e lt is f h =
+    let left = sym (f.there h) ∙ found number by history place d e lt is in
     let n : length (drop next log) ≡ length log - next = length-drop next log in
-    let l = ap length (sym a ∙ f.there h) in omega (arith, l, n)
-
--- an entry of this seat, where the log has another
-differs : (number : ℕ) (by : List ℕ) (history log : List Entry) (place next : ℕ) (d : Entry) → length by ≡ length history → place < length by → get_or by place 0 ≡ number → next < length log → get_or log next d ≢ get_or history place d → Fits number by history log place next → entries_by number by history ≡ log → ⊥
-differs number by history log place next d e lt is here ne f h =
-    let a = found number by history place d e lt is in
-    ne (head_same _ _ _ _ (sym (at_drop log next d here) ∙ sym (f.there h) ∙ a))
+    let l = ap length left in
+    let here : next < length log = omega (arith, l, n) in
+    let same = head_same _ _ _ _ (sym (at_drop log next d here) ∙ left) in
+    (here, slice_get-get_or log next d here ∙ ap Some same ∙ sym (slice_get-get_or history place d (omega (arith, e, lt))))
 
 entries_nil : (number : ℕ) (by : List ℕ) → entries_by number by [] ≡ []
 entries_nil number [] = refl
@@ -126,37 +124,13 @@ whole number by history log place next le f t = ends_well number by history log 
 short : (number : ℕ) (by : List ℕ) (history log : List Entry) (place next : ℕ) → length by ≤ place → Fits number by history log place next → entries_by number by history ≡ log → IsTrue (eqb next (length log))
 short number by history log place next le f h = eq-eqb next (length log) (ends_short number by history log place next le f h)
 
--- an entry of this seat, which the log has next, as the history shows it
-goes_on_with : (number : ℕ) (by : List ℕ) (history log : List Entry) (place next : ℕ) (e : Entry) → length by ≡ length history → place < length by → get_or by place 0 ≡ number → next < length log → slice_get history place ≡ Some e → get_or log next e ≡ e → Fits number by history log place next → Fits number by history log (place + 1) (next + 1)
-goes_on_with number by history log place next e len lt is here has same f =
-    goes_on number by history log place next e len lt is here (same ∙ sym (get_or_from_slice_get history place e e has)) f
+some_same : (x y : Entry) → Some x ≡ Some y → x ≡ y
+some_same x y e = cc
 
--- an entry of this seat, where the history has another
-differs_from : (number : ℕ) (by : List ℕ) (history log : List Entry) (place next : ℕ) (e : Entry) → length by ≡ length history → place < length by → get_or by place 0 ≡ number → next < length log → (slice_get history place ≡ Some e → ⊥) → get_or log next e ≡ e → Fits number by history log place next → entries_by number by history ≡ log → ⊥
-differs_from number by history log place next e len lt is here has_not same f h =
-    differs number by history log place next e len lt is here (λ x. has_not (slice_get-get_or history place e (omega arith) ∙ ap Some (sym x ∙ same))) f h
-
--- the log has nothing at a place, or this
-none_there : (log : List Entry) (next : ℕ) → slice_get log next ≡ None → length log ≤ next
-none_there [] next is = omega arith
-none_there (x ∷ log) zero is = absurd (cc)
-none_there (x ∷ log) (suc next) is = let rest = none_there log next is in omega (arith, rest)
-
-one_there : (log : List Entry) (next : ℕ) (e : Entry) → slice_get log next ≡ Some e → next < length log
-one_there [] next e is = absurd (cc)
-one_there (x ∷ log) zero e is = omega arith
-one_there (x ∷ log) (suc next) e is = let rest = one_there log next e is in omega (arith, rest)
-
-pub ends_at : (number : ℕ) (by : List ℕ) (history log : List Entry) (place next : ℕ) (d : Entry) → length by ≡ length history → place < length by → get_or by place 0 ≡ number → slice_get log next ≡ None → Fits number by history log place next → entries_by number by history ≡ log → ⊥
-ends_at number by history log place next d e lt is none f h = ends_early number by history log place next d e lt is (none_there log next none) f h
-
-pub goes_on_at : (number : ℕ) (by : List ℕ) (history log : List Entry) (place next : ℕ) (e : Entry) → length by ≡ length history → place < length by → get_or by place 0 ≡ number → slice_get history place ≡ Some e → slice_get log next ≡ Some e → Fits number by history log place next → Fits number by history log (place + 1) (next + 1)
-goes_on_at number by history log place next e len lt is has same f =
-    goes_on_with number by history log place next e len lt is (one_there log next e same) has (get_or_from_slice_get log next e e same) f
-
-pub differs_at : (number : ℕ) (by : List ℕ) (history log : List Entry) (place next : ℕ) (e : Entry) → length by ≡ length history → place < length by → get_or by place 0 ≡ number → (slice_get history place ≡ Some e → ⊥) → slice_get log next ≡ Some e → Fits number by history log place next → entries_by number by history ≡ log → ⊥
-differs_at number by history log place next e len lt is has_not same f h =
-    differs_from number by history log place next e len lt is (one_there log next e same) has_not (get_or_from_slice_get log next e e same) f h
+pub goes_on_at : (number : ℕ) (by : List ℕ) (history log : List Entry) (place next : ℕ) (d : Entry) → length by ≡ length history → place < length by → get_or by place 0 ≡ number → HasSame log next history place → Fits number by history log place next → Fits number by history log (place + 1) (next + 1)
+goes_on_at number by history log place next d e lt is (here, same) f =
+    let there : place < length history = omega (arith, e, lt) in
+    goes_on number by history log place next d e lt is here (some_same _ _ (sym (slice_get-get_or log next d here) ∙ same ∙ slice_get-get_or history place d there)) f
 
 -- at the end the log is whole exactly where all of it was passed
 pub whole_where : (number : ℕ) (by : List ℕ) (history log : List Entry) (place next all : ℕ) → all ≡ length log → length by ≤ place → Fits number by history log place next → IsTrue (eqb next all) ↔ (entries_by number by history ≡ log)

@@ -1,11 +1,9 @@
 //! Whether a log is what a history has of a seat.
 
-ghost use Rattle.std.specs.Prelude.{◌≡◌, ◌↔◌, IsTrue, Some, length, slice_get};
+ghost use Rattle.std.specs.Prelude.{◌≡◌, ◌↔◌, IsTrue, length};
 ghost use Rattle.core_lock.specs.Seats.{entries_by};
 
-use chan_events::reply::Entry;
 use event_log::history::History;
-use same_entries::same;
 
 /// Whether the log is what the history has of the seat of this number.
 pub(crate) fn is_log(number: u16, by: &[u16], history: &History, log: &History) -> bool
@@ -17,23 +15,10 @@ pub(crate) fn is_log(number: u16, by: &[u16], history: &History, log: &History) 
         if by[place] != number {
             continue;
         }
-        let Some(entry) = log.get(next) else {
-            return false;
-        };
-        if !has_entry(history, place, &entry) {
+        if !log.has_same(next, history, place) {
             return false;
         }
         next += 1;
     }
     next == log.len()
-}
-
-/// Whether this is the entry of a history at a place.
-fn has_entry(history: &History, place: usize, entry: &Entry) -> bool
-    ensures { IsTrue result ↔ (slice_get history.now place ≡ Some entry.now) }
-{
-    match history.get(place) {
-        Some(other) => same(&other, entry),
-        None => false,
-    }
 }
