@@ -1,15 +1,16 @@
 //! What a unit does with a signal, its control unit being asked and told.
 
-ghost use Rattle.std.specs.Prelude.{◌≡◌, ◌&&◌, not, true};
+ghost use Rattle.std.specs.Prelude.{◌≡◌, ◌&&◌, None, not, true};
 ghost use Rattle.std.specs.Bool.{OnTrue};
 ghost use Rattle.chan_model.specs.UnitTable as unit_spec;
 ghost use Rattle.control_units.specs.Units as members_spec;
 ghost use Rattle.machine_model.specs.Bounds.{IsUnitRoomy};
 ghost use Rattle.machine_model.specs.Sharing as spec;
 ghost use Rattle.machine_steps.specs.Giving as giving_spec;
+ghost use Rattle.unit.specs.UnitWords as words;
 
 use chan_model::names::{Path, Side};
-use chan_model::signal::{Down, Taken, Up};
+use chan_model::signal::{Down, OnPath, Up};
 use chan_model::unit_state::{Own, SideState, UnitState};
 use control_units::ControlUnit;
 use control_units::sharing::Sharing;
@@ -65,7 +66,8 @@ fn end(sharing: &mut Sharing, number: u16, unit: &mut Unit, was_idle: bool)
     }
 }
 
-/// The unit takes a signal that came by a path. Its control unit is asked where it must be.
+/// The unit takes a signal that came by a path, with the signal that it sends in a place: whether it was taken. Its control
+/// unit is asked where it must be.
 pub fn take(
     sharing: &mut Sharing,
     number: u16,
@@ -73,19 +75,21 @@ pub fn take(
     side: Side,
     path: Path,
     signal: &Down,
-) -> Taken<Up>
+    sent: &mut Option<OnPath<Up>>,
+) -> bool
+    requires { sent.old ≡ None }
     ensures state { «unit».new ≡ spec.owing_after sharing.old number «unit».old
         (unit_spec.unit_after «unit».old (giving_spec.shared_step sharing.old number «unit».old side path signal.now)) }
     ensures members { sharing.new ≡ spec.members_after sharing.old number (spec.is_asked_for «unit».old side signal.now) «unit».old
         (unit_spec.unit_after «unit».old (giving_spec.shared_step sharing.old number «unit».old side path signal.now)) }
-    ensures came { result ≡ unit_spec.came_of (giving_spec.shared_step sharing.old number «unit».old side path signal.now) }
+    ensures came { words.taken_so result sent.new ≡ unit_spec.came_of (giving_spec.shared_step sharing.old number «unit».old side path signal.now) }
 {
     if is_asked_for(unit.state(), side, signal) {
         let may = serve(sharing, number);
-        unit.take(side, path, signal, may)
+        unit.take_to(side, path, signal, may, sent)
     } else {
         let was_idle = unit.is_idle();
-        let taken = unit.take(side, path, signal, true);
+        let taken = unit.take_to(side, path, signal, true, sent);
         end(sharing, number, unit, was_idle);
         taken
     }

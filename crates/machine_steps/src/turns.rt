@@ -266,7 +266,16 @@ pub fn down_sub(
     }
     let signal = sub.wires.take_down(path);
     let side = sub.setup.side;
-    let Taken { taken, sent } = take(sharing, sub.setup.unit, unit, side, path, &signal);
+    let mut sent = None;
+    let taken = take(
+        sharing,
+        sub.setup.unit,
+        unit,
+        side,
+        path,
+        &signal,
+        &mut sent,
+    );
     send_any_up(sub, &sent);
     *answer = Ok(Reply::Down {
         signal,
@@ -308,7 +317,8 @@ pub fn report_sub(
         *answer = Err(Fault::WireFull);
         return;
     }
-    let Taken { sent, .. } = unit.report(report);
+    let mut sent = None;
+    let _ = unit.report_to(report, &mut sent);
     send_any_up(sub, &sent);
     *answer = Ok(Reply::Done);
 }

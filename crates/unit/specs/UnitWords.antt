@@ -4,6 +4,9 @@ use Rattle.chan_model.specs.declared.names.Side.{Side}
 use Rattle.chan_model.specs.declared.names.Side.TheVariants.{First, Second}
 use Rattle.chan_model.specs.declared.signal.Down.{Down}
 use Rattle.chan_model.specs.declared.signal.Down.TheVariants as down
+use Rattle.chan_model.specs.declared.signal.OnPath.{OnPath}
+use Rattle.chan_model.specs.declared.signal.Taken.{Taken}
+use Rattle.chan_model.specs.declared.signal.Up.{Up}
 use Rattle.chan_model.specs.declared.unit_state.Place.{Place}
 use Rattle.chan_model.specs.declared.unit_state.Place.TheVariants.{On, Ask, Away}
 use Rattle.chan_model.specs.declared.unit_state.Own.{Own}
@@ -11,6 +14,10 @@ use Rattle.chan_model.specs.declared.unit_state.Own.TheVariants.{Idle, Owned}
 use Rattle.chan_model.specs.declared.unit_state.AtHand.{AtHand}
 use Rattle.chan_model.specs.declared.unit_state.UnitState.{UnitState}
 use Rattle.chan_model.specs.UnitTable.{unit_takes, came_of, side_of, owns, is_owner, is_owner_on}
+
+-- what came of a signal: whether it was taken, and what was sent
+abbrev pub taken_so : Bool → Option (OnPath Up) → Taken Up
+taken_so taken sent = record { taken = taken; sent = sent }
 
 -- the signal is answered; neither its path nor what the control unit may do decides that
 abbrev pub is_unit_answered : UnitState → Side → Down → Bool

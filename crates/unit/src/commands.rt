@@ -1,13 +1,13 @@
 //! What the unit does with the commands and the bytes of the program that holds it.
 
-ghost use Rattle.std.specs.Prelude.{◌≡◌, IfSome};
+ghost use Rattle.std.specs.Prelude.{◌≡◌, IfSome, None};
 ghost use Rattle.chan_model.specs.UnitTable as table;
 ghost use Rattle.unit.specs.UnitWords as words;
 
-use crate::parts::{follows, ignored, is_owner, is_owner_on, quietly};
+use crate::parts::{follows, is_owner, is_owner_on};
 use chan_model::chunk::Chunk;
 use chan_model::names::Side;
-use chan_model::signal::{Down, Taken, Up};
+use chan_model::signal::Down;
 use chan_model::unit_state::{AtHand, Progress, UnitState};
 
 /// Command: the next of the program that holds the device.
@@ -18,16 +18,16 @@ pub fn commanded(
     command: u64,
     code: u8,
     room: u16,
-) -> Taken<Up>
+) -> bool
     ensures state { unit.new ≡ table.unit_after unit.old (table.commanded unit.old side number command code room) }
-    ensures came { result ≡ table.came_of (table.commanded unit.old side number command code room) }
+    ensures came { words.taken_so result None ≡ table.came_of (table.commanded unit.old side number command code room) }
 {
     if is_owner(unit, side, number) && follows(command, unit.last_command) {
         unit.last_command = command;
         unit.at_hand = Some(new_command(code, room));
-        quietly()
+        true
     } else {
-        ignored()
+        false
     }
 }
 
@@ -70,16 +70,16 @@ pub fn is_of_command(unit: &UnitState, side: Side, signal: &Down) -> bool
 }
 
 /// Give of the command at hand: the chunk that follows the last.
-pub fn given(unit: &mut UnitState, sequence: u64, bytes: &Chunk) -> Taken<Up>
+pub fn given(unit: &mut UnitState, sequence: u64, bytes: &Chunk) -> bool
     ensures state { unit.new ≡ table.unit_after unit.old (table.given_next unit.old unit.old.at_hand sequence bytes.now) }
-    ensures came { result ≡ table.came_of (table.given_next unit.old unit.old.at_hand sequence bytes.now) }
+    ensures came { words.taken_so result None ≡ table.came_of (table.given_next unit.old unit.old.at_hand sequence bytes.now) }
 {
     match &mut unit.at_hand {
         Some(command) if follows(sequence, command.sequence) => {
             give(command, sequence, bytes);
-            quietly()
+            true
         }
-        _ => ignored(),
+        _ => false,
     }
 }
 
@@ -105,16 +105,16 @@ fn kept(bytes: &Chunk) -> Option<Chunk>
 }
 
 /// Took of the last chunk of the command at hand, where its Data is not answered.
-pub fn answered(unit: &mut UnitState, sequence: u64, room: u16) -> Taken<Up>
+pub fn answered(unit: &mut UnitState, sequence: u64, room: u16) -> bool
     ensures state { unit.new ≡ table.unit_after unit.old (table.answered_last unit.old unit.old.at_hand sequence room) }
-    ensures came { result ≡ table.came_of (table.answered_last unit.old unit.old.at_hand sequence room) }
+    ensures came { words.taken_so result None ≡ table.came_of (table.answered_last unit.old unit.old.at_hand sequence room) }
 {
     match &mut unit.at_hand {
         Some(command) if sequence == command.sequence && command.unanswered.is_some() => {
             settle(command, room);
-            quietly()
+            true
         }
-        _ => ignored(),
+        _ => false,
     }
 }
 

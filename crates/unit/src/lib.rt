@@ -8,7 +8,7 @@ mod reports;
 mod signals;
 mod works;
 
-ghost use Rattle.std.specs.Prelude.{◌≡◌, ◌<◌, ◌^◌, ◌||◌, ℕ, Bool, IfSome, is_some};
+ghost use Rattle.std.specs.Prelude.{◌≡◌, ◌<◌, ◌^◌, ◌||◌, ℕ, Bool, IfSome, None, is_some};
 ghost use Rattle.chan_model.specs.UnitReports as reports;
 ghost use Rattle.chan_model.specs.UnitTable as table;
 ghost use Rattle.unit.specs.UnitWords as words;
@@ -89,7 +89,25 @@ impl Unit {
         ensures answered { is_some result.sent ≡ words.is_unit_answered self.old side signal.now }
         ensures other { words.LeavesOther side self.old self.new }
     {
-        signals::takes(&mut self.state, side, path, signal, may)
+        let mut sent = None;
+        let taken = signals::takes(&mut self.state, side, path, signal, may, &mut sent);
+        Taken { taken, sent }
+    }
+
+    /// Takes a signal, as `take` has it, with the signal that is sent in a place: whether it was taken.
+    pub fn take_to(
+        &mut self,
+        side: Side,
+        path: Path,
+        signal: &Down,
+        may: bool,
+        sent: &mut Option<OnPath<Up>>,
+    ) -> bool
+        requires { sent.old ≡ None }
+        ensures state { self.new ≡ table.unit_after self.old (table.unit_takes self.old side path signal.now may) }
+        ensures came { words.taken_so result sent.new ≡ table.came_of (table.unit_takes self.old side path signal.now may) }
+    {
+        signals::takes(&mut self.state, side, path, signal, may, sent)
     }
 
     /// Whether a signal of a side is answered. Its path, and what the control unit may do, make no difference.
@@ -109,7 +127,19 @@ impl Unit {
         ensures state { self.new ≡ table.unit_after self.old (reports.unit_reports self.old report.now) }
         ensures came { result ≡ table.came_of (reports.unit_reports self.old report.now) }
     {
-        reports::reports(&mut self.state, report)
+        let mut sent = None;
+        let taken = reports::reports(&mut self.state, report, &mut sent);
+        Taken { taken, sent }
+    }
+
+    /// Takes the device's answer, as `report` has it, with the signal that is sent in a place: whether it was taken.
+    pub fn report_to(&mut self, report: &Report, sent: &mut Option<OnPath<Up>>) -> bool
+        requires nothing { sent.old ≡ None }
+        requires below { words.last_sequence self.old.at_hand < 2 ^ 63 }
+        ensures state { self.new ≡ table.unit_after self.old (reports.unit_reports self.old report.now) }
+        ensures came { words.taken_so result sent.new ≡ table.came_of (reports.unit_reports self.old report.now) }
+    {
+        reports::reports(&mut self.state, report, sent)
     }
 
     /// The path that the signal of a report is sent on, asked before the report is taken.

@@ -2,39 +2,18 @@
 
 ghost use Rattle.std.specs.Prelude.{◌≡◌, ◌==◌, ◌+◌, None, Some, true};
 ghost use Rattle.chan_model.specs.UnitTable as table;
+ghost use Rattle.unit.specs.UnitWords as words;
 
 use chan_model::names::{Path, Side};
-use chan_model::signal::{OnPath, Taken, Up};
+use chan_model::signal::{OnPath, Up};
 use chan_model::unit_state::{Own, Place, SideState, UnitState};
 
-/// Nothing came of a signal.
-pub fn ignored() -> Taken<Up>
-    ensures { result ≡ table.came_of None }
+/// A signal is sent on a path.
+pub fn sending(path: Path, signal: Up, sent: &mut Option<OnPath<Up>>) -> bool
+    ensures { words.taken_so result sent.new ≡ record { taken = true; sent = Some (record { path = path; signal = signal }) } }
 {
-    Taken {
-        taken: false,
-        sent: None,
-    }
-}
-
-/// The state changed, and nothing was sent.
-pub fn quietly() -> Taken<Up>
-    ensures { result ≡ record { taken = true; sent = None } }
-{
-    Taken {
-        taken: true,
-        sent: None,
-    }
-}
-
-/// A signal was sent on a path.
-pub fn sending(path: Path, signal: Up) -> Taken<Up>
-    ensures { result ≡ record { taken = true; sent = Some (record { path = path; signal = signal }) } }
-{
-    Taken {
-        taken: true,
-        sent: Some(OnPath { path, signal }),
-    }
+    *sent = Some(OnPath { path, signal });
+    true
 }
 
 /// What is kept of a side.

@@ -9,12 +9,12 @@ ghost use Rattle.chan_model.specs.declared.signal.Up.TheVariants as up;
 ghost use Rattle.chan_model.specs.declared.unit_state.Place.TheVariants.{On};
 ghost use Rattle.unit.specs.UnitWords as words;
 
-use crate::parts::{ignored, quietly, sending};
+use crate::parts::sending;
 use bitflags::Flags;
 use chan_model::chunk::Chunk;
 use chan_model::names::{Path, Side};
 use chan_model::report::{DeviceAnswer, Report, ReportPath};
-use chan_model::signal::{Load, Taken, Up};
+use chan_model::signal::{Load, OnPath, Up};
 use chan_model::unit_state::{AtHand, Own, Place, Progress, UnitState};
 use scsw_irb::status::DeviceStatus;
 
@@ -169,14 +169,15 @@ fn reporting(unit: &UnitState, report: &Report) -> Option<Place>
 }
 
 /// What a report does. It is not taken where it is stale or against the law of devices, and then nothing changes.
-pub fn reports(unit: &mut UnitState, report: &Report) -> Taken<Up>
-    requires { words.last_sequence unit.old.at_hand < 2 ^ 63 }
+pub fn reports(unit: &mut UnitState, report: &Report, sent: &mut Option<OnPath<Up>>) -> bool
+    requires nothing { sent.old ≡ None }
+    requires below { words.last_sequence unit.old.at_hand < 2 ^ 63 }
     ensures state { unit.new ≡ table.unit_after unit.old (reports.unit_reports unit.old report.now) }
-    ensures came { result ≡ table.came_of (reports.unit_reports unit.old report.now) }
+    ensures came { words.taken_so result sent.new ≡ table.came_of (reports.unit_reports unit.old report.now) }
 {
     match reporting(unit, report) {
-        Some(place) => report_on(unit, place, report),
-        None => ignored(),
+        Some(place) => report_on(unit, place, report, sent),
+        None => false,
     }
 }
 
@@ -207,14 +208,20 @@ fn path_from(unit: &UnitState, place: Place, report: &Report) -> ReportPath
 }
 
 /// What a report does that is allowed: Data or End is sent on the path of the program, or a read is begun.
-fn report_on(unit: &mut UnitState, place: Place, report: &Report) -> Taken<Up>
+fn report_on(
+    unit: &mut UnitState,
+    place: Place,
+    report: &Report,
+    sent: &mut Option<OnPath<Up>>,
+) -> bool
+    requires nothing { sent.old ≡ None }
     requires below { words.last_sequence unit.old.at_hand < 2 ^ 63 }
     requires allowed { is_some (reports.report_on unit.old 0 (On 0 0) unit.old.at_hand report.now) ≡ true }
     ensures state { unit.new ≡ table.unit_after unit.old (reports.report_on unit.old report.now.number place unit.old.at_hand report.now) }
-    ensures came { result ≡ table.came_of (reports.report_on unit.old report.now.number place unit.old.at_hand report.now) }
+    ensures came { words.taken_so result sent.new ≡ table.came_of (reports.report_on unit.old report.now.number place unit.old.at_hand report.now) }
 {
     let Place::On { path, connection } = place else {
-        return ignored();
+        return false;
     };
     let program = Program {
         path,
@@ -223,33 +230,33 @@ fn report_on(unit: &mut UnitState, place: Place, report: &Report) -> Taken<Up>
         command: unit.last_command,
     };
     let Some(command) = &mut unit.at_hand else {
-        return ignored();
+        return false;
     };
     match &report.answer {
         DeviceAnswer::Begins if is_outward(command.code) => {
             absorb(command, 0);
-            program.data(command, Load::Absorbed(0))
+            program.data(command, Load::Absorbed(0), sent)
         }
         DeviceAnswer::Begins => {
             command.progress = Progress::Working;
-            quietly()
+            true
         }
         DeviceAnswer::Absorbed(count) => {
             absorb(command, *count);
-            program.data(command, Load::Absorbed(*count))
+            program.data(command, Load::Absorbed(*count), sent)
         }
         DeviceAnswer::Supplied(bytes) => {
             supply(command, bytes);
-            program.data(command, Load::Bytes(bytes.copy()))
+            program.data(command, Load::Bytes(bytes.copy()), sent)
         }
         DeviceAnswer::Again => {
             command.again = false;
-            program.data_again(command)
+            program.data_again(command, sent)
         }
         DeviceAnswer::Ended { status, more } => {
             let shown = shown_end(command.progress, *status);
             command.progress = after_end(shown);
-            program.end(shown, *more)
+            program.end(shown, *more, sent)
         }
     }
 }
@@ -284,8 +291,9 @@ struct Program {
 
 impl Program {
     /// The Data of the last chunk of the command.
-    fn data(&self, command: &AtHand, load: Load) -> Taken<Up>
-        ensures { result ≡ record {
+    fn data(&self, command: &AtHand, load: Load, sent: &mut Option<OnPath<Up>>) -> bool
+        requires { sent.old ≡ None }
+        ensures { words.taken_so result sent.new ≡ record {
           taken = true;
           sent = Some (record {
             path = self.now.path;
@@ -302,12 +310,14 @@ impl Program {
                 sequence: command.sequence,
                 load,
             },
+            sent,
         )
     }
 
     /// The Data that was not answered, on the connection at hand.
-    fn data_again(&self, command: &AtHand) -> Taken<Up>
-        ensures { IfSome command.now.unanswered (λ load. result ≡ record {
+    fn data_again(&self, command: &AtHand, sent: &mut Option<OnPath<Up>>) -> bool
+        requires { sent.old ≡ None }
+        ensures { IfSome command.now.unanswered (λ load. words.taken_so result sent.new ≡ record {
           taken = true;
           sent = Some (record {
             path = self.now.path;
@@ -316,14 +326,15 @@ impl Program {
         }) }
     {
         match &command.unanswered {
-            Some(load) => self.data(command, load.copy()),
-            None => ignored(),
+            Some(load) => self.data(command, load.copy(), sent),
+            None => false,
         }
     }
 
     /// The End of the command.
-    fn end(&self, status: DeviceStatus, more: bool) -> Taken<Up>
-        ensures { result ≡ record {
+    fn end(&self, status: DeviceStatus, more: bool, sent: &mut Option<OnPath<Up>>) -> bool
+        requires { sent.old ≡ None }
+        ensures { words.taken_so result sent.new ≡ record {
           taken = true;
           sent = Some (record {
             path = self.now.path;
@@ -339,6 +350,7 @@ impl Program {
                 status,
                 more,
             },
+            sent,
         )
     }
 }

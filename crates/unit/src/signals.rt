@@ -7,39 +7,55 @@ ghost use Rattle.chan_model.specs.declared.signal.Up.TheVariants as up;
 ghost use Rattle.unit.specs.UnitWords as words;
 
 use crate::commands::{answered, commanded, given, is_of_command};
-use crate::parts::{free, ignored, is_owner, keep_side, owns, quietly, sending, side_of};
+use crate::parts::{free, is_owner, keep_side, owns, sending, side_of};
 use chan_model::names::{Path, Side};
-use chan_model::signal::{Down, Taken, Up};
+use chan_model::signal::{Down, OnPath, Up};
 use chan_model::unit_state::{Own, Place, SideState, UnitState};
 
 /// A signal of a side that came by a path.
-pub fn takes(unit: &mut UnitState, side: Side, path: Path, signal: &Down, may: bool) -> Taken<Up>
+pub fn takes(
+    unit: &mut UnitState,
+    side: Side,
+    path: Path,
+    signal: &Down,
+    may: bool,
+    sent: &mut Option<OnPath<Up>>,
+) -> bool
+    requires { sent.old ≡ None }
     ensures state { unit.new ≡ table.unit_after unit.old (table.unit_takes unit.old side path signal.now may) }
-    ensures came { result ≡ table.came_of (table.unit_takes unit.old side path signal.now may) }
+    ensures came { words.taken_so result sent.new ≡ table.came_of (table.unit_takes unit.old side path signal.now may) }
 {
     if let Down::Reset { number, restarts } = signal {
-        reset(unit, side, path, *number, *restarts)
+        reset(unit, side, path, *number, *restarts, sent)
     } else if side_of(unit, side).fresh {
-        telling(unit, path)
+        telling(unit, path, sent)
     } else {
-        works(unit, side, path, signal, may)
+        works(unit, side, path, signal, may, sent)
     }
 }
 
 /// A signal of a side that is not fresh, but Reset.
-fn works(unit: &mut UnitState, side: Side, path: Path, signal: &Down, may: bool) -> Taken<Up>
+fn works(
+    unit: &mut UnitState,
+    side: Side,
+    path: Path,
+    signal: &Down,
+    may: bool,
+    sent: &mut Option<OnPath<Up>>,
+) -> bool
+    requires { sent.old ≡ None }
     ensures state { unit.new ≡ table.unit_after unit.old (table.unit_works unit.old side path signal.now may) }
-    ensures came { result ≡ table.came_of (table.unit_works unit.old side path signal.now may) }
+    ensures came { words.taken_so result sent.new ≡ table.came_of (table.unit_works unit.old side path signal.now may) }
 {
     match signal {
-        Down::Select { number } => offered(unit, side, path, *number, may),
+        Down::Select { number } => offered(unit, side, path, *number, may, sent),
         Down::Command {
             number,
             command,
             code,
             room,
         } => commanded(unit, side, *number, *command, *code, *room),
-        Down::Grant { number, connection } => granted(unit, side, path, *number, *connection),
+        Down::Grant { number, connection } => granted(unit, side, path, *number, *connection, sent),
         Down::Refuse { number, connection } => refused(unit, side, *number, *connection),
         Down::Took { sequence, room, .. } if is_of_command(unit, side, signal) => {
             answered(unit, *sequence, *room)
@@ -50,35 +66,45 @@ fn works(unit: &mut UnitState, side: Side, path: Path, signal: &Down, may: bool)
             ..
         } if is_of_command(unit, side, signal) => given(unit, *sequence, bytes),
         Down::Halt { number } => halting(unit, side, *number),
-        Down::Release { number } => releasing(unit, side, path, *number),
-        Down::Took { .. } | Down::Give { .. } | Down::Reset { .. } => ignored(),
+        Down::Release { number } => releasing(unit, side, path, *number, sent),
+        Down::Took { .. } | Down::Give { .. } | Down::Reset { .. } => false,
         Down::Got { attention } => forgetting(unit, side, *attention),
     }
 }
 
 /// In a side that is fresh: how often the device was restarted.
-fn telling(unit: &UnitState, path: Path) -> Taken<Up>
-    ensures { result ≡ table.came_of (table.telling unit.now path) }
+fn telling(unit: &UnitState, path: Path, sent: &mut Option<OnPath<Up>>) -> bool
+    requires { sent.old ≡ None }
+    ensures { words.taken_so result sent.new ≡ table.came_of (table.telling unit.now path) }
 {
     sending(
         path,
         Up::Notice {
             restarts: unit.restarts,
         },
+        sent,
     )
 }
 
 /// Select: ignored at or below the floor of its side.
-fn offered(unit: &mut UnitState, side: Side, path: Path, number: u64, may: bool) -> Taken<Up>
+fn offered(
+    unit: &mut UnitState,
+    side: Side,
+    path: Path,
+    number: u64,
+    may: bool,
+    sent: &mut Option<OnPath<Up>>,
+) -> bool
+    requires { sent.old ≡ None }
     ensures state { unit.new ≡ table.unit_after unit.old (table.unit_works unit.old side path (down.Select number) may) }
-    ensures came { result ≡ table.came_of (table.unit_works unit.old side path (down.Select number) may) }
+    ensures came { words.taken_so result sent.new ≡ table.came_of (table.unit_works unit.old side path (down.Select number) may) }
 {
     let own = unit.own;
     if side_of(unit, side).floor < number {
         raise(unit, side, number);
-        selected(unit, own, side, path, number, may)
+        selected(unit, own, side, path, number, may, sent)
     } else {
-        ignored()
+        false
     }
 }
 
@@ -105,16 +131,18 @@ fn selected(
     path: Path,
     number: u64,
     may: bool,
-) -> Taken<Up>
+    sent: &mut Option<OnPath<Up>>,
+) -> bool
+    requires { sent.old ≡ None }
     ensures state { unit.new ≡ table.unit_after unit.old (table.selected unit.old own side path number may) }
-    ensures came { result ≡ table.came_of (table.selected unit.old own side path number may) }
+    ensures came { words.taken_so result sent.new ≡ table.came_of (table.selected unit.old own side path number may) }
 {
     match own {
         Own::Idle if may => {
             hold(unit, side, path, number);
-            sending(path, Up::Accept { number })
+            sending(path, Up::Accept { number }, sent)
         }
-        _ => sending(path, Up::Busy { number }),
+        _ => sending(path, Up::Busy { number }, sent),
     }
 }
 
@@ -134,9 +162,17 @@ fn hold(unit: &mut UnitState, side: Side, path: Path, number: u64)
 }
 
 /// Grant: of the connection asked for; an older one is answered by Leave.
-fn granted(unit: &mut UnitState, side: Side, path: Path, number: u64, connection: u64) -> Taken<Up>
+fn granted(
+    unit: &mut UnitState,
+    side: Side,
+    path: Path,
+    number: u64,
+    connection: u64,
+    sent: &mut Option<OnPath<Up>>,
+) -> bool
+    requires { sent.old ≡ None }
     ensures state { unit.new ≡ table.unit_after unit.old (table.granted unit.old unit.old.own side path number connection) }
-    ensures came { result ≡ table.came_of (table.granted unit.old unit.old.own side path number connection) }
+    ensures came { words.taken_so result sent.new ≡ table.came_of (table.granted unit.old unit.old.own side path number connection) }
 {
     let own = unit.own;
     match own {
@@ -145,9 +181,9 @@ fn granted(unit: &mut UnitState, side: Side, path: Path, number: u64, connection
             number: held,
             place,
         } if owner.same(side) && number == held => {
-            granted_at(unit, owner, held, place, path, connection)
+            granted_at(unit, owner, held, place, path, connection, sent)
         }
-        _ => ignored(),
+        _ => false,
     }
 }
 
@@ -159,9 +195,11 @@ fn granted_at(
     place: Place,
     path: Path,
     connection: u64,
-) -> Taken<Up>
+    sent: &mut Option<OnPath<Up>>,
+) -> bool
+    requires { sent.old ≡ None }
     ensures state { unit.new ≡ table.unit_after unit.old (table.granted_at unit.old side number place path connection) }
-    ensures came { result ≡ table.came_of (table.granted_at unit.old side number place path connection) }
+    ensures came { words.taken_so result sent.new ≡ table.came_of (table.granted_at unit.old side number place path connection) }
 {
     match place {
         Place::Ask {
@@ -177,36 +215,43 @@ fn granted_at(
                         connection: last,
                     },
                 };
-                quietly()
+                true
             } else {
-                granted_late(number, path, connection, last)
+                granted_late(number, path, connection, last, sent)
             }
         }
         Place::On {
             connection: last,
             ..
         }
-        | Place::Away { connection: last } => granted_late(number, path, connection, last),
+        | Place::Away { connection: last } => granted_late(number, path, connection, last, sent),
     }
 }
 
 /// Grant of an older connection than the last.
-fn granted_late(number: u64, path: Path, connection: u64, last: u64) -> Taken<Up>
-    ensures { result ≡ (if nat_lt connection last
+fn granted_late(
+    number: u64,
+    path: Path,
+    connection: u64,
+    last: u64,
+    sent: &mut Option<OnPath<Up>>,
+) -> bool
+    requires { sent.old ≡ None }
+    ensures { words.taken_so result sent.new ≡ (if nat_lt connection last
         then record { taken = true; sent = Some (record { path = path; signal = up.Leave number connection }) }
         else record { taken = false; sent = None }) }
 {
     if connection < last {
-        sending(path, Up::Leave { number, connection })
+        sending(path, Up::Leave { number, connection }, sent)
     } else {
-        ignored()
+        false
     }
 }
 
 /// Refuse: of the connection asked for.
-fn refused(unit: &mut UnitState, side: Side, number: u64, connection: u64) -> Taken<Up>
+fn refused(unit: &mut UnitState, side: Side, number: u64, connection: u64) -> bool
     ensures state { unit.new ≡ table.unit_after unit.old (table.grant_refused unit.old unit.old.own side number connection) }
-    ensures came { result ≡ table.came_of (table.grant_refused unit.old unit.old.own side number connection) }
+    ensures came { words.taken_so result None ≡ table.came_of (table.grant_refused unit.old unit.old.own side number connection) }
 {
     match unit.own {
         Own::Owned {
@@ -222,50 +267,65 @@ fn refused(unit: &mut UnitState, side: Side, number: u64, connection: u64) -> Ta
                 number: held,
                 place: Place::Away { connection: last },
             };
-            quietly()
+            true
         }
-        _ => ignored(),
+        _ => false,
     }
 }
 
 /// Halt: once for a program.
-fn halting(unit: &mut UnitState, side: Side, number: u64) -> Taken<Up>
+fn halting(unit: &mut UnitState, side: Side, number: u64) -> bool
     ensures state { unit.new ≡ table.unit_after unit.old (table.unit_halting unit.old side number) }
-    ensures came { result ≡ table.came_of (table.unit_halting unit.old side number) }
+    ensures came { words.taken_so result None ≡ table.came_of (table.unit_halting unit.old side number) }
 {
     if is_owner(unit, side, number) && !unit.halted {
         unit.halted = true;
-        quietly()
+        true
     } else {
-        ignored()
+        false
     }
 }
 
 /// Release: by the program that holds the device.
-fn releasing(unit: &mut UnitState, side: Side, path: Path, number: u64) -> Taken<Up>
+fn releasing(
+    unit: &mut UnitState,
+    side: Side,
+    path: Path,
+    number: u64,
+    sent: &mut Option<OnPath<Up>>,
+) -> bool
+    requires { sent.old ≡ None }
     ensures state { unit.new ≡ table.unit_after unit.old (table.releasing unit.old side path number) }
-    ensures came { result ≡ table.came_of (table.releasing unit.old side path number) }
+    ensures came { words.taken_so result sent.new ≡ table.came_of (table.releasing unit.old side path number) }
 {
     if is_owner(unit, side, number) {
         free(unit);
-        sending(path, Up::Released { number })
+        sending(path, Up::Released { number }, sent)
     } else {
-        ignored()
+        false
     }
 }
 
 /// Reset: taken with the device's own restart count, where its side is fresh or its number above the floor.
-fn reset(unit: &mut UnitState, side: Side, path: Path, number: u64, restarts: u64) -> Taken<Up>
+fn reset(
+    unit: &mut UnitState,
+    side: Side,
+    path: Path,
+    number: u64,
+    restarts: u64,
+    sent: &mut Option<OnPath<Up>>,
+) -> bool
+    requires { sent.old ≡ None }
     ensures state { unit.new ≡ table.unit_after unit.old (table.unit_takes unit.old side path (down.Reset number restarts) false) }
-    ensures came { result ≡ table.came_of (table.unit_takes unit.old side path (down.Reset number restarts) false) }
+    ensures came { words.taken_so result sent.new ≡ table.came_of (table.unit_takes unit.old side path (down.Reset number restarts) false) }
 {
     if resets(unit, side, number, restarts) {
         reset_side(unit, side, number);
-        sending(path, Up::Cleared { number })
+        sending(path, Up::Cleared { number }, sent)
     } else if side_of(unit, side).fresh {
-        telling(unit, path)
+        telling(unit, path, sent)
     } else {
-        ignored()
+        false
     }
 }
 
@@ -295,16 +355,16 @@ fn reset_side(unit: &mut UnitState, side: Side, number: u64)
 }
 
 /// Got: of the attention that is not answered.
-fn forgetting(unit: &mut UnitState, side: Side, attention: u64) -> Taken<Up>
+fn forgetting(unit: &mut UnitState, side: Side, attention: u64) -> bool
     ensures state { unit.new ≡ table.unit_after unit.old (table.forgetting unit.old unit.old.attention side attention) }
-    ensures came { result ≡ table.came_of (table.forgetting unit.old unit.old.attention side attention) }
+    ensures came { words.taken_so result None ≡ table.came_of (table.forgetting unit.old unit.old.attention side attention) }
 {
     match unit.attention {
         Some(last) if last.side.same(side) && attention == last.number => {
             unit.attention = None;
-            quietly()
+            true
         }
-        _ => ignored(),
+        _ => false,
     }
 }
 

@@ -7,6 +7,7 @@ use Rattle.machine_model.specs.DownSteps.{down_shared}
 use Rattle.machine_model.specs.ReportSteps.{with_any_up}
 use Rattle.machine_model.specs.Sharing.{is_asked_for, may_take}
 use Rattle.machine_steps.proofs.Turning.{down-fronted, down-done, downed}
+use Rattle.unit.specs.UnitWords.{taken_so}
 use Rattle.machine_steps.proofs.turns.down_sub.Goals as goal
 
 some_inj : {A : Type 0} (x y : A) → Some x ≡ Some y → x ≡ y
@@ -20,7 +21,7 @@ returns-clause-gives c =
     let k = sub.setup.«unit» in
     let path = c.in-Some.path in
     let signal = c.take_down-signal.result in
-    let came = c.take-taken.result in
+    let came = taken_so c.take-taken.result c.take-taken.new.sent in
     let asks = is_asked_for u sub.setup.side signal in
     let step = unit_takes u sub.setup.side path signal (may_take members k asks) in
     let same : c.in-Some-front_down.front.now ≡ signal = some_inj _ _ (sym c.in-Some-front_down.ensures.first ∙ c.take_down-signal.ensures.first) in
