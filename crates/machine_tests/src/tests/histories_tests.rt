@@ -33,7 +33,10 @@ fn two_puts(alloc: Global) -> Log {
 
 #[test]
 fn an_entry_is_found_the_same_wherever_its_bytes_stand(rt: HostRuntime) {
-    let (two, one) = (two_puts(rt.alloc()), one_put(rt.alloc(), 0x500, &[1, 2, 3, 4]));
+    let (two, one) = (
+        two_puts(rt.alloc()),
+        one_put(rt.alloc(), 0x500, &[1, 2, 3, 4]),
+    );
     assert!(rt; two.history().has_same(1, &one.history(), 0));
     assert!(rt; one.history().has_same(0, &two.history(), 1));
 }
