@@ -1,0 +1,216 @@
+//! A place for a signal that may be sent on a path.
+
+ghost use Rattle.std.specs.Prelude.{◌≡◌, ◌≤◌, ◌++◌, [], IfSome, None, Some, ℕ, List, length};
+ghost use Rattle.chan_model.specs.declared.signal.Down.TheVariants as down;
+ghost use Rattle.chan_model.specs.declared.signal.Load.TheVariants as load;
+ghost use Rattle.chan_model.specs.declared.signal.Up.TheVariants as up;
+ghost use Rattle.kept_events.specs.Signals as kept_spec;
+ghost use Rattle.signal_places.specs.Places.{down_at, sent_path, up_at};
+
+use crate::bytes;
+use crate::signals::{DownPlace, UpPlace};
+use chan_model::names::Path;
+use chan_model::signal::{OnPath, Down, Up};
+use kept_events::lengths::Length;
+use kept_events::signals::{KeptDown, KeptUp};
+use std::marker::Model;
+
+/// A signal down that is sent on a path, or none.
+#[derive(Drop)]
+pub struct SentDown {
+    path: Option<Path>,
+    place: DownPlace,
+}
+
+impl Model for SentDown {
+    ghost use Rattle.std.specs.Prelude.{Option};
+    ghost use Rattle.chan_model.specs.declared.signal.Down.{Down};
+    ghost use Rattle.chan_model.specs.declared.signal.OnPath.{OnPath};
+    ghost use Rattle.signal_places.specs.Places.{down_at, sent_on};
+
+    ghost Value = { Option (OnPath Down) };
+
+    ghost view = { λ s. sent_on s.path (down_at s.place) };
+}
+
+impl SentDown {
+    /// None.
+    pub fn new() -> Self
+        ensures { result ≡ None }
+    {
+        SentDown {
+            path: None,
+            place: DownPlace::new(),
+        }
+    }
+
+    /// None from now on.
+    pub fn clear(&mut self)
+        ensures { self.new ≡ None }
+    {
+        self.path = None;
+    }
+
+    /// A signal without bytes.
+    pub fn put(&mut self, path: Path, signal: KeptDown)
+        requires { kept_spec.down_length signal ≡ 0 }
+        ensures { self.new ≡ Some (record { path = path; signal = kept_spec.down_in signal [] }) }
+    {
+        self.path = Some(path);
+        self.place.kept = signal;
+    }
+
+    /// A Give of these bytes.
+    pub fn put_give(
+        &mut self,
+        path: Path,
+        number: u64,
+        connection: u64,
+        command: u64,
+        sequence: u64,
+        bytes: &[u8],
+    )
+        requires { length bytes.now ≤ 256 }
+        ensures { self.new ≡ Some (record { path = path; signal = down.Give number connection command sequence bytes.now }) }
+    {
+        let length = Length {
+            bytes: bytes.len() as u16,
+        };
+        bytes::put_bytes(&mut self.place.bytes, bytes);
+        self.path = Some(path);
+        self.place.kept = KeptDown::Give {
+            length,
+            number,
+            connection,
+            command,
+            sequence,
+        };
+    }
+
+    /// The path of the signal that is sent; None where none is.
+    pub fn path(&self) -> Option<Path>
+        ensures { result ≡ sent_path self.now }
+    {
+        self.path
+    }
+
+    /// The place of the signal, where one is sent.
+    pub fn place(&self) -> &DownPlace
+        ensures { IfSome self.now (λ sent. sent.signal ≡ down_at result.now) }
+    {
+        &self.place
+    }
+
+    /// The signal that is sent.
+    pub fn signal(&self) -> Option<OnPath<Down>>
+        ensures { result ≡ self.now }
+    {
+        match self.path {
+            None => None,
+            Some(path) => Some(OnPath {
+                path,
+                signal: self.place.signal(),
+            }),
+        }
+    }
+}
+
+/// A signal up that is sent on a path, or none.
+#[derive(Drop)]
+pub struct SentUp {
+    path: Option<Path>,
+    place: UpPlace,
+}
+
+impl Model for SentUp {
+    ghost use Rattle.std.specs.Prelude.{Option};
+    ghost use Rattle.chan_model.specs.declared.signal.Up.{Up};
+    ghost use Rattle.chan_model.specs.declared.signal.OnPath.{OnPath};
+    ghost use Rattle.signal_places.specs.Places.{up_at, sent_on};
+
+    ghost Value = { Option (OnPath Up) };
+
+    ghost view = { λ s. sent_on s.path (up_at s.place) };
+}
+
+impl SentUp {
+    /// None.
+    pub fn new() -> Self
+        ensures { result ≡ None }
+    {
+        SentUp {
+            path: None,
+            place: UpPlace::new(),
+        }
+    }
+
+    /// None from now on.
+    pub fn clear(&mut self)
+        ensures { self.new ≡ None }
+    {
+        self.path = None;
+    }
+
+    /// A signal without bytes.
+    pub fn put(&mut self, path: Path, signal: KeptUp)
+        requires { kept_spec.up_length signal ≡ 0 }
+        ensures { self.new ≡ Some (record { path = path; signal = kept_spec.up_in signal [] }) }
+    {
+        self.path = Some(path);
+        self.place.kept = signal;
+    }
+
+    /// A Data with these bytes.
+    pub fn put_bytes(
+        &mut self,
+        path: Path,
+        number: u64,
+        connection: u64,
+        command: u64,
+        sequence: u64,
+        bytes: &[u8],
+    )
+        requires { length bytes.now ≤ 256 }
+        ensures { self.new ≡ Some (record { path = path; signal = up.Data number connection command sequence (load.Bytes bytes.now) }) }
+    {
+        let length = Length {
+            bytes: bytes.len() as u16,
+        };
+        bytes::put_bytes(&mut self.place.bytes, bytes);
+        self.path = Some(path);
+        self.place.kept = KeptUp::Bytes {
+            length,
+            number,
+            connection,
+            command,
+            sequence,
+        };
+    }
+
+    /// The path of the signal that is sent; None where none is.
+    pub fn path(&self) -> Option<Path>
+        ensures { result ≡ sent_path self.now }
+    {
+        self.path
+    }
+
+    /// The place of the signal, where one is sent.
+    pub fn place(&self) -> &UpPlace
+        ensures { IfSome self.now (λ sent. sent.signal ≡ up_at result.now) }
+    {
+        &self.place
+    }
+
+    /// The signal that is sent.
+    pub fn signal(&self) -> Option<OnPath<Up>>
+        ensures { result ≡ self.now }
+    {
+        match self.path {
+            None => None,
+            Some(path) => Some(OnPath {
+                path,
+                signal: self.place.signal(),
+            }),
+        }
+    }
+}
