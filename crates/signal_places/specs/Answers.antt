@@ -21,6 +21,17 @@ answer_by (outcome.MetDown taken) place = Ok (reply.Down (down_at place.down) ta
 abbrev pub answer_at : AnswerPlace → Result Reply Fault
 answer_at place = answer_by place.outcome place
 
+-- the reply that stands there, where no refusal does
+abbrev pub reply_by : Outcome → AnswerPlace → Reply
+reply_by (outcome.Refused fault) place = reply.Done
+reply_by (outcome.Replied plain) place = reply_of plain
+reply_by (outcome.Shown length) place = reply.Shown (take length.bytes place.up.bytes)
+reply_by (outcome.MetUp taken) place = reply.Up (up_at place.up) taken place.sent_down
+reply_by (outcome.MetDown taken) place = reply.Down (down_at place.down) taken place.sent_up
+
+abbrev pub reply_at : AnswerPlace → Reply
+reply_at place = reply_by place.outcome place
+
 -- the bytes of its reply that come first: those of the signal that was met, or those that were asked for
 abbrev pub first_by : Outcome → AnswerPlace → List ℕ
 first_by (outcome.Refused fault) place = []

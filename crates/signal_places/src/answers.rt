@@ -1,8 +1,9 @@
 //! A place for the answer of an event.
 
-ghost use Rattle.std.specs.Prelude.{◌≡◌, ◌≤◌, ◌++◌, ◌↔◌, Ok, Err, IfOk, IsOk, IsTrue, ℕ, List, length};
+ghost use Rattle.std.specs.Prelude.{◌≡◌, ◌≤◌, ◌++◌, Ok, Err, IsErr, ℕ, List, length};
+ghost use Rattle.std.specs.Bool.{OnTrue, OnFalse};
 ghost use Rattle.kept_events.specs.Replies as kept_spec;
-ghost use Rattle.signal_places.specs.Answers.{answer_at, first_of};
+ghost use Rattle.signal_places.specs.Answers.{answer_at, first_of, reply_at};
 ghost use Rattle.signal_places.specs.Plain.{reply_of};
 
 use crate::plain::PlainReply;
@@ -70,16 +71,17 @@ impl AnswerPlace {
 
     /// Whether it is a reply.
     pub fn is_reply(&self) -> bool
-        ensures { IsTrue result ↔ IsOk (answer_at self.now) }
+        ensures reply { OnTrue result (answer_at self.now ≡ Ok (reply_at self.now)) }
+        ensures refusal { OnFalse result (IsErr (answer_at self.now)) }
     {
         !matches!(self.outcome, Outcome::Refused(_))
     }
 
-    /// The numbers of the reply.
+    /// The numbers of the reply, where it is one.
     pub fn kept(&self) -> KeptReply
-        ensures kept { IfOk (answer_at self.now) (λ reply. (rest : List ℕ) → kept_spec.reply_in result (kept_spec.reply_bytes reply ++ rest) ≡ reply) }
-        ensures length { IfOk (answer_at self.now) (λ reply. kept_spec.reply_length result ≡ length (kept_spec.reply_bytes reply)) }
-        ensures bound { IfOk (answer_at self.now) (λ reply. length (kept_spec.reply_bytes reply) ≤ 512) }
+        ensures kept { (rest : List ℕ) → kept_spec.reply_in result (kept_spec.reply_bytes (reply_at self.now) ++ rest) ≡ reply_at self.now }
+        ensures length { kept_spec.reply_length result ≡ length (kept_spec.reply_bytes (reply_at self.now)) }
+        ensures bound { length (kept_spec.reply_bytes (reply_at self.now)) ≤ 512 }
     {
         match self.outcome {
             Outcome::Refused(_) => KeptReply::Done,
@@ -105,7 +107,7 @@ impl AnswerPlace {
 
     /// The bytes that follow: those of the signal that was sent.
     pub fn last_bytes(&self) -> &[u8]
-        ensures value { IfOk (answer_at self.now) (λ reply. kept_spec.reply_bytes reply ≡ first_of self.now ++ result.now) }
+        ensures value { kept_spec.reply_bytes (reply_at self.now) ≡ first_of self.now ++ result.now }
         ensures bound { length result.now ≤ 256 }
     {
         match self.outcome {
