@@ -1,15 +1,17 @@
 //! A log that grows at its end.
 
-ghost use Rattle.std.specs.Prelude.{◌≡◌, ◌≤◌, ◌<◌, ◌+◌, ◌++◌, ◌∷◌, [], OnOk, OnErr, length, vec_len, vec_capacity};
-ghost use Rattle.kept_events.specs.Entries.{entry_in, entry_length};
+ghost use Rattle.std.specs.Prelude.{◌≡◌, ◌≤◌, ◌<◌, ◌+◌, ◌++◌, ◌∷◌, [], ℕ, List, OnOk, OnErr, length, vec_len, vec_capacity};
+ghost use Rattle.kept_events.specs.Entries.{entry_bytes, entry_in, entry_length};
+ghost use Rattle.signal_places.specs.Answers.{reply_at};
 
-use crate::arena::{add_bytes, add_entry};
+use crate::arena::{add_answer, add_bytes, add_entry};
 use crate::history::History;
 use chan_events::event::Event;
 use chan_events::reply::Reply;
 use kept_events::entries::KeptEntry;
 use kept_events::events::KeptEvent;
 use kept_events::replies::KeptReply;
+use signal_places::answers::AnswerPlace;
 use std::alloc::{AllocError, Global};
 use std::marker::Model;
 
@@ -79,6 +81,17 @@ impl Log {
         push(&mut self.entries, entry.start, entry.event, entry.reply);
     }
 
+    /// Adds an event with the reply that stands in a place, for which there is room.
+    pub fn append_answer(&mut self, event: &Event, place: &AnswerPlace)
+        requires { 1 ≤ self.old.room }
+        ensures entries { self.new.entries ≡ self.old.entries ++ record { event = event.now; reply = reply_at place.now } ∷ [] }
+        ensures room { self.old.room ≤ self.new.room + 1 }
+    {
+        let entry = kept_entry(self.bytes.len(), event, place);
+        add_answer(&mut self.bytes, event, place);
+        push(&mut self.entries, entry.start, entry.event, entry.reply);
+    }
+
     /// Adds an entry that is kept with these bytes, for which there is room.
     pub fn append_kept(&mut self, kept: &KeptEntry, bytes: &[u8])
         requires room { 1 ≤ self.old.room }
@@ -97,6 +110,20 @@ impl Log {
         ensures { result ≡ self.now.entries }
     {
         History::of(self.entries.as_slice(), self.bytes.as_slice())
+    }
+}
+
+/// The numbers of an event and of the reply that stands in a place, whose bytes stand from `start` on.
+fn kept_entry(start: usize, event: &Event, place: &AnswerPlace) -> KeptEntry
+    ensures start { result.start ≡ start }
+    ensures kept { (rest : List ℕ) → entry_in result (entry_bytes (record { event = event.now; reply = reply_at place.now }) ++ rest) ≡ record { event = event.now; reply = reply_at place.now } }
+    ensures length { entry_length result ≡ length (entry_bytes (record { event = event.now; reply = reply_at place.now })) }
+    ensures bound { length (entry_bytes (record { event = event.now; reply = reply_at place.now })) ≤ 768 }
+{
+    KeptEntry {
+        start,
+        event: KeptEvent::of(event),
+        reply: place.kept(),
     }
 }
 

@@ -1,6 +1,6 @@
 //! A place for a signal that may be sent on a path.
 
-ghost use Rattle.std.specs.Prelude.{◌≡◌, ◌≤◌, ◌++◌, [], IfSome, None, Some, ℕ, List, length};
+ghost use Rattle.std.specs.Prelude.{◌≡◌, ◌≤◌, ◌++◌, [], MatchOption, None, Some, ℕ, List, length};
 ghost use Rattle.chan_model.specs.declared.signal.Down.TheVariants as down;
 ghost use Rattle.chan_model.specs.declared.signal.Load.TheVariants as load;
 ghost use Rattle.chan_model.specs.declared.signal.Up.TheVariants as up;
@@ -97,11 +97,14 @@ impl SentDown {
         self.path
     }
 
-    /// The place of the signal, where one is sent.
-    pub fn place(&self) -> &DownPlace
-        ensures { (path : ℕ) → sent_path self.now ≡ Some path → self.now ≡ Some (record { path = path; signal = down_at result.now }) }
+    /// The path, and the place of the signal that is sent; None where none is.
+    pub fn get(&self) -> Option<(Path, &DownPlace)>
+        ensures { MatchOption result (self.now ≡ None) (λ sent. self.now ≡ Some (record { path = sent.0; signal = down_at sent.1.now })) }
     {
-        &self.place
+        match self.path {
+            None => None,
+            Some(path) => Some((path, &self.place)),
+        }
     }
 
     /// Its bytes; none where none is sent.
@@ -228,11 +231,14 @@ impl SentUp {
         self.path
     }
 
-    /// The place of the signal, where one is sent.
-    pub fn place(&self) -> &UpPlace
-        ensures { (path : ℕ) → sent_path self.now ≡ Some path → self.now ≡ Some (record { path = path; signal = up_at result.now }) }
+    /// The path, and the place of the signal that is sent; None where none is.
+    pub fn get(&self) -> Option<(Path, &UpPlace)>
+        ensures { MatchOption result (self.now ≡ None) (λ sent. self.now ≡ Some (record { path = sent.0; signal = up_at sent.1.now })) }
     {
-        &self.place
+        match self.path {
+            None => None,
+            Some(path) => Some((path, &self.place)),
+        }
     }
 
     /// Its bytes; none where none is sent.
