@@ -8,17 +8,19 @@ ghost use Rattle.machine_model.specs.Bounds.{IsUnitRoomy};
 ghost use Rattle.machine_model.specs.ReportSteps as report_spec;
 ghost use Rattle.machine_steps.specs.Giving as giving_spec;
 ghost use Rattle.subchannel_model.specs.Places as place_spec;
+ghost use Rattle.signal_places.specs.Answers.{answer_at};
 
 use crate::sending::{finds_up_full, send_any_up};
 use crate::sharing::side_of;
 use crate::turns::path_of;
 use crate::unit_turns::reached_sub;
 use chan_events::event::UnitAct;
-use chan_events::reply::Reply;
 use chan_model::fault::Fault;
 use chan_model::names::{Path, Side};
 use chan_model::unit_state::{Own, Place};
 use finding::tables::Places;
+use signal_places::answers::{AnswerPlace, Outcome};
+use signal_places::plain::PlainReply;
 use subchannel_model::state::Subchannel;
 use unit::Unit;
 
@@ -57,90 +59,90 @@ fn is_without_path(own: Own) -> bool
 
 /// The program that is connected leaves its path.
 #[inline(never)]
-fn leave(sub: &mut Subchannel, unit: &mut Unit, answer: &mut Result<Reply, Fault>)
+fn leave(sub: &mut Subchannel, unit: &mut Unit, answer: &mut AnswerPlace)
     ensures engaged { engaged sub.new ≡ engaged sub.old }
     ensures state { sub.new.state ≡ sub.old.state }
     ensures gives { giving_spec.GivesBoth sub.old «unit».old
-        (report_spec.report_taken sub.old (unit_spec.leaving «unit».old «unit».old.own)) answer.new sub.new «unit».new }
+        (report_spec.report_taken sub.old (unit_spec.leaving «unit».old «unit».old.own)) (answer_at answer.new) sub.new «unit».new }
 {
     let Some(path) = connected_path(unit.own()) else {
-        *answer = Err(Fault::NotNow);
+        answer.outcome = Outcome::Refused(Fault::NotNow);
         return;
     };
     if finds_up_full(sub, path) {
-        *answer = Err(Fault::WireFull);
+        answer.outcome = Outcome::Refused(Fault::WireFull);
         return;
     }
-    let sent = unit.leave();
-    send_any_up(sub, &sent);
-    *answer = Ok(Reply::Done);
+    unit.leave_to(&mut answer.sent_up);
+    send_any_up(sub, &answer.sent_up);
+    answer.outcome = Outcome::Replied(PlainReply::Done);
 }
 
 /// The program that is without a path asks for this one.
 #[inline(never)]
-fn ask(sub: &mut Subchannel, unit: &mut Unit, path: Path, answer: &mut Result<Reply, Fault>)
+fn ask(sub: &mut Subchannel, unit: &mut Unit, path: Path, answer: &mut AnswerPlace)
     requires { IsUnitRoomy «unit».old }
     ensures engaged { engaged sub.new ≡ engaged sub.old }
     ensures state { sub.new.state ≡ sub.old.state }
     ensures gives { giving_spec.GivesBoth sub.old «unit».old
-        (report_spec.report_taken sub.old (unit_spec.asking «unit».old «unit».old.own path)) answer.new sub.new «unit».new }
+        (report_spec.report_taken sub.old (unit_spec.asking «unit».old «unit».old.own path)) (answer_at answer.new) sub.new «unit».new }
 {
     if !is_without_path(unit.own()) {
-        *answer = Err(Fault::NotNow);
+        answer.outcome = Outcome::Refused(Fault::NotNow);
         return;
     }
     if finds_up_full(sub, path) {
-        *answer = Err(Fault::WireFull);
+        answer.outcome = Outcome::Refused(Fault::WireFull);
         return;
     }
-    let sent = unit.ask(path);
-    send_any_up(sub, &sent);
-    *answer = Ok(Reply::Done);
+    unit.ask_to(path, &mut answer.sent_up);
+    send_any_up(sub, &answer.sent_up);
+    answer.outcome = Outcome::Replied(PlainReply::Done);
 }
 
 /// The unit, which no program holds, asks the side of the subchannel for attention.
 #[inline(never)]
-fn attend(sub: &mut Subchannel, unit: &mut Unit, path: Path, answer: &mut Result<Reply, Fault>)
+fn attend(sub: &mut Subchannel, unit: &mut Unit, path: Path, answer: &mut AnswerPlace)
     requires { IsUnitRoomy «unit».old }
     ensures engaged { engaged sub.new ≡ engaged sub.old }
     ensures state { sub.new.state ≡ sub.old.state }
     ensures gives { giving_spec.GivesBoth sub.old «unit».old
-        (report_spec.report_taken sub.old (unit_spec.attending «unit».old sub.old.setup.side path)) answer.new sub.new «unit».new }
+        (report_spec.report_taken sub.old (unit_spec.attending «unit».old sub.old.setup.side path)) (answer_at answer.new) sub.new «unit».new }
 {
     let side = sub.setup.side;
     if !unit.is_idle() || side_of(unit.state(), side).fresh {
-        *answer = Err(Fault::NotNow);
+        answer.outcome = Outcome::Refused(Fault::NotNow);
         return;
     }
     if finds_up_full(sub, path) {
-        *answer = Err(Fault::WireFull);
+        answer.outcome = Outcome::Refused(Fault::WireFull);
         return;
     }
-    let sent = unit.attention(side, path);
-    send_any_up(sub, &sent);
-    *answer = Ok(Reply::Done);
+    unit.attention_to(side, path, &mut answer.sent_up);
+    send_any_up(sub, &answer.sent_up);
+    answer.outcome = Outcome::Replied(PlainReply::Done);
 }
 
 /// The side of the subchannel, which was not reset since the last restart, is told how often the unit was restarted.
 #[inline(never)]
-fn notice(sub: &mut Subchannel, unit: &Unit, path: Path, answer: &mut Result<Reply, Fault>)
+fn notice(sub: &mut Subchannel, unit: &Unit, path: Path, answer: &mut AnswerPlace)
     ensures engaged { engaged sub.new ≡ engaged sub.old }
     ensures state { sub.new.state ≡ sub.old.state }
     ensures gives { giving_spec.GivesBoth sub.old «unit».now
-        (report_spec.report_taken sub.old (unit_spec.noticing «unit».now sub.old.setup.side path)) answer.new sub.new «unit».now }
+        (report_spec.report_taken sub.old (unit_spec.noticing «unit».now sub.old.setup.side path)) (answer_at answer.new) sub.new «unit».now }
 {
     let side = sub.setup.side;
     if !side_of(unit.state(), side).fresh {
-        *answer = Err(Fault::NotNow);
+        answer.outcome = Outcome::Refused(Fault::NotNow);
         return;
     }
     if finds_up_full(sub, path) {
-        *answer = Err(Fault::WireFull);
+        answer.outcome = Outcome::Refused(Fault::WireFull);
         return;
     }
-    let sent = unit.notice(side, path);
-    send_any_up(sub, &sent);
-    *answer = Ok(Reply::Done);
+    unit.notice_to(side, path, &mut answer.sent_up);
+    send_any_up(sub, &answer.sent_up);
+    answer.outcome = Outcome::Replied(PlainReply::Done);
 }
 
 /// A unit acts at the subchannel of a side: what it does is sent by the path that is named, and Leave by that of its
@@ -149,13 +151,13 @@ pub fn act_sub(
     sub: &mut Subchannel,
     unit: &mut Unit,
     act: UnitAct,
-    answer: &mut Result<Reply, Fault>,
+    answer: &mut AnswerPlace,
 )
     requires { IsUnitRoomy «unit».old }
     ensures engaged { engaged sub.new ≡ engaged sub.old }
     ensures state { sub.new.state ≡ sub.old.state }
     ensures gives { giving_spec.GivesBoth sub.old «unit».old (spec.act_sub sub.old «unit».old act)
-        answer.new sub.new «unit».new }
+        (answer_at answer.new) sub.new «unit».new }
 {
     let index = match act {
         UnitAct::Leave => {
@@ -166,7 +168,7 @@ pub fn act_sub(
             path,
     };
     let Some(path) = path_of(sub, index) else {
-        *answer = Err(Fault::NoSuchPath);
+        answer.outcome = Outcome::Refused(Fault::NoSuchPath);
         return;
     };
     match act {

@@ -1,7 +1,8 @@
 //! A channel subsystem without its history: what each event does to the whole.
 
 ghost use Rattle.std.specs.Prelude.{◌≡◌, ◌<◌, All, Ok, Err, IfErr, OnOk, None, Some, IfSome, length, slice_get};
-ghost use Rattle.chan_events.specs.declared.reply.Reply.TheVariants as reply_spec;
+ghost use Rattle.signal_places.specs.declared.answers.Outcome.TheVariants as outcome_spec;
+ghost use Rattle.signal_places.specs.declared.plain.PlainReply.TheVariants as plain_spec;
 ghost use Rattle.chan_model.specs.declared.fault.Fault.TheVariants as fault_spec;
 ghost use Rattle.subchannel_model.specs.declared.state.Subchannel.{Subchannel};
 ghost use Rattle.machine_model.specs.State as state_spec;
@@ -15,6 +16,7 @@ ghost use Rattle.machine_model.specs.Bounds.{IsRoomy, IsUnitRoomy};
 ghost use Rattle.machine_steps.specs.Postable.{IsPostable};
 ghost use Rattle.chan_events.specs.declared.event.Event.TheVariants as event_spec;
 ghost use Rattle.finding.specs.Tables.{Fits};
+ghost use Rattle.signal_places.specs.Answers.{answer_at};
 
 use crate::acts::{act_sub, not_held, side_of_act};
 use crate::path_turns::turn_at;
@@ -24,7 +26,6 @@ use crate::tables::engaged_for;
 use crate::turns::{choose_sub, down_sub, report_sub, returns_at, up_sub};
 use crate::unit_turns::turn_of_unit;
 use chan_events::event::{Event, Instruction, OtherInstruction, UnitAct};
-use chan_events::reply::Reply;
 use chan_model::chunk::{Chunk, ChunkLength};
 use chan_model::fault::Fault;
 use chan_model::names::Cpu;
@@ -39,6 +40,8 @@ use io_step::{ChannelPaths, PathTable, execute_absent, perform_other, perform_pr
 use machine_model::state::UnitTurn;
 use path_select::PathChoice;
 use scsw_irb::serials::Serials;
+use signal_places::answers::{AnswerPlace, Outcome};
+use signal_places::plain::PlainReply;
 use std::marker::Model;
 use storage_keys::key::Key;
 use storage_keys::{Storage, StorageFault};
@@ -64,13 +67,13 @@ fn word_of(instruction: Instruction) -> u32
 }
 
 /// The answer of an event that storage has done or refused.
-fn done(came: Result<(), StorageFault>) -> Result<Reply, Fault>
-    ensures done { OnOk came (result ≡ Ok reply_spec.Done) }
-    ensures refused { IfErr came (λ f. result ≡ Err (fault_spec.Storage f)) }
+fn done(came: Result<(), StorageFault>) -> Outcome
+    ensures done { OnOk came (result ≡ outcome_spec.Replied plain_spec.Done) }
+    ensures refused { IfErr came (λ f. result ≡ outcome_spec.Refused (fault_spec.Storage f)) }
 {
     match came {
-        Ok(()) => Ok(Reply::Done),
-        Err(fault) => Err(Fault::Storage(fault)),
+        Ok(()) => Outcome::Replied(PlainReply::Done),
+        Err(fault) => Outcome::Refused(Fault::Storage(fault)),
     }
 }
 
@@ -173,36 +176,34 @@ impl Machine {
     }
 
     #[inline(never)]
-    fn put(&mut self, address: u32, bytes: &Chunk, answer: &mut Result<Reply, Fault>)
-        ensures { giving_spec.Gives self.old (storage_spec.put_turn self.old address bytes.now) answer.new self.new }
+    fn put(&mut self, address: u32, bytes: &Chunk, answer: &mut AnswerPlace)
+        ensures { giving_spec.Gives self.old (storage_spec.put_turn self.old address bytes.now) (answer_at answer.new) self.new }
     {
-        *answer = done(self.storage.put(address, bytes.as_slice()));
+        answer.outcome = done(self.storage.put(address, bytes.as_slice()));
     }
 
     #[inline(never)]
-    fn set_key(&mut self, address: u32, key: Key, answer: &mut Result<Reply, Fault>)
-        ensures { giving_spec.Gives self.old (storage_spec.key_turn self.old address key) answer.new self.new }
+    fn set_key(&mut self, address: u32, key: Key, answer: &mut AnswerPlace)
+        ensures { giving_spec.Gives self.old (storage_spec.key_turn self.old address key) (answer_at answer.new) self.new }
     {
-        *answer = done(self.storage.set_key(address, key));
+        answer.outcome = done(self.storage.set_key(address, key));
     }
 
     #[inline(never)]
-    fn set_prefix(&mut self, cpu: Cpu, address: u32, answer: &mut Result<Reply, Fault>)
-        ensures { giving_spec.Gives self.old (storage_spec.prefix_turn self.old cpu address) answer.new self.new }
+    fn set_prefix(&mut self, cpu: Cpu, address: u32, answer: &mut AnswerPlace)
+        ensures { giving_spec.Gives self.old (storage_spec.prefix_turn self.old cpu address) (answer_at answer.new) self.new }
     {
-        *answer = done(self.storage.set_prefix(cpu.number(), address));
+        answer.outcome = done(self.storage.set_prefix(cpu.number(), address));
     }
 
     #[inline(never)]
-    fn show(&self, address: u32, length: ChunkLength, answer: &mut Result<Reply, Fault>)
-        ensures { giving_spec.Gives self.now (storage_spec.show_turn self.now address length) answer.new self.now }
+    fn show(&self, address: u32, length: ChunkLength, answer: &mut AnswerPlace)
+        ensures { giving_spec.Gives self.now (storage_spec.show_turn self.now address length) (answer_at answer.new) self.now }
     {
-        *answer = match self.storage.show(address, length.get()) {
-            Ok(shown) => Ok(Reply::Shown {
-                bytes: Chunk::of(shown),
-            }),
-            Err(fault) => Err(Fault::Storage(fault)),
-        };
+        match self.storage.show(address, length.get()) {
+            Ok(shown) => answer.show(shown),
+            Err(fault) => answer.outcome = Outcome::Refused(Fault::Storage(fault)),
+        }
     }
 
     #[inline(never)]
@@ -211,26 +212,27 @@ impl Machine {
         places: &Places,
         cpu: Cpu,
         instruction: Instruction,
-        answer: &mut Result<Reply, Fault>,
+        answer: &mut AnswerPlace,
     )
         requires fits { Fits places.now self.old.subs }
         requires roomy { All IsRoomy self.old.subs }
         requires postable { All IsPostable self.old.subs }
         requires requests { self.old.requests.numbers ≡ 0x100 }
-        ensures { spec.Performs self.old (event_spec.Execute cpu instruction) answer.new self.new }
+        ensures { spec.Performs self.old (event_spec.Execute cpu instruction) (answer_at answer.new) self.new }
     {
         let Some(id) = subchannel_named(self.sets, word_of(instruction)) else {
-            *answer = Err(Fault::Operand);
+            answer.outcome = Outcome::Refused(Fault::Operand);
             return;
         };
         let Some(place) = places.place_in(id, self.subs.as_slice()) else {
-            *answer = execute_absent(&mut self.storage, cpu, instruction);
+            answer.outcome = Outcome::of(execute_absent(&mut self.storage, cpu, instruction));
             return;
         };
         let sub = &mut self.subs[place];
         let before = engaged(sub);
         let made = sub.state.serials.made;
-        *answer = perform_provided(&mut self.storage, sub, &mut self.pending, cpu, instruction);
+        let came = perform_provided(&mut self.storage, sub, &mut self.pending, cpu, instruction);
+        answer.outcome = Outcome::of(came);
         post(&mut self.pending, sub, made);
         let after = engaged(sub);
         self.engines.change(before, after);
@@ -241,16 +243,16 @@ impl Machine {
         &mut self,
         cpu: Cpu,
         instruction: OtherInstruction,
-        answer: &mut Result<Reply, Fault>,
+        answer: &mut AnswerPlace,
     )
-        ensures { spec.Performs self.old (event_spec.ExecuteOther cpu instruction) answer.new self.new }
+        ensures { spec.Performs self.old (event_spec.ExecuteOther cpu instruction) (answer_at answer.new) self.new }
     {
         let counted = Counted::of(self.subs.as_slice(), &self.engines);
         let paths = ChannelPaths {
             up: self.up,
             engaged: engaged_for(&counted, instruction),
         };
-        *answer = perform_other(
+        let came = perform_other(
             &mut self.storage,
             &mut self.pending,
             &mut self.reports,
@@ -258,6 +260,7 @@ impl Machine {
             cpu,
             instruction,
         );
+        answer.outcome = Outcome::of(came);
     }
 
     #[inline(never)]
@@ -266,17 +269,17 @@ impl Machine {
         places: &Places,
         choice: &P,
         word: u32,
-        answer: &mut Result<Reply, Fault>,
+        answer: &mut AnswerPlace,
     )
         requires fits { Fits places.now self.old.subs }
         requires roomy { All IsRoomy self.old.subs }
         requires postable { All IsPostable self.old.subs }
         requires requests { self.old.requests.numbers ≡ 0x100 }
-        ensures performs { spec.Performs self.old (event_spec.Choose word) answer.new self.new }
-        ensures ruled { GoesByRule P.picks self.old (event_spec.Choose word) answer.new self.new }
+        ensures performs { spec.Performs self.old (event_spec.Choose word) (answer_at answer.new) self.new }
+        ensures ruled { GoesByRule P.picks self.old (event_spec.Choose word) (answer_at answer.new) self.new }
     {
         let Some(place) = self.place_of(places, word) else {
-            *answer = Err(Fault::NoSuchSubchannel);
+            answer.outcome = Outcome::Refused(Fault::NoSuchSubchannel);
             return;
         };
         let counted = Counted::of(self.subs.as_slice(), &self.engines);
@@ -293,15 +296,15 @@ impl Machine {
     }
 
     #[inline(never)]
-    fn up(&mut self, places: &Places, word: u32, path: u32, answer: &mut Result<Reply, Fault>)
+    fn up(&mut self, places: &Places, word: u32, path: u32, answer: &mut AnswerPlace)
         requires fits { Fits places.now self.old.subs }
         requires roomy { All IsRoomy self.old.subs }
         requires postable { All IsPostable self.old.subs }
         requires requests { self.old.requests.numbers ≡ 0x100 }
-        ensures { spec.Performs self.old (event_spec.Up word path) answer.new self.new }
+        ensures { spec.Performs self.old (event_spec.Up word path) (answer_at answer.new) self.new }
     {
         let Some(place) = self.place_of(places, word) else {
-            *answer = Err(Fault::NoSuchSubchannel);
+            answer.outcome = Outcome::Refused(Fault::NoSuchSubchannel);
             return;
         };
         let counted = Counted::of(self.subs.as_slice(), &self.engines);
@@ -316,17 +319,17 @@ impl Machine {
     }
 
     #[inline(never)]
-    fn down(&mut self, places: &Places, word: u32, path: u32, answer: &mut Result<Reply, Fault>)
+    fn down(&mut self, places: &Places, word: u32, path: u32, answer: &mut AnswerPlace)
         requires fits { Fits places.now self.old.subs }
-        ensures { spec.Performs self.old (event_spec.Down word path) answer.new self.new }
+        ensures { spec.Performs self.old (event_spec.Down word path) (answer_at answer.new) self.new }
     {
         let Some(place) = self.place_of(places, word) else {
-            *answer = Err(Fault::NoSuchSubchannel);
+            answer.outcome = Outcome::Refused(Fault::NoSuchSubchannel);
             return;
         };
         let number = self.subs[place].setup.unit as usize;
         if number >= self.units.len() {
-            *answer = Err(Fault::NoSuchUnit);
+            answer.outcome = Outcome::Refused(Fault::NoSuchUnit);
             return;
         }
         let sub = &mut self.subs[place];
@@ -340,19 +343,19 @@ impl Machine {
         places: &Places,
         number: u32,
         report: &Report,
-        answer: &mut Result<Reply, Fault>,
+        answer: &mut AnswerPlace,
     )
         requires fits { Fits places.now self.old.subs }
         requires roomy { All IsUnitRoomy self.old.units }
-        ensures { spec.Performs self.old (event_spec.Report number report.now) answer.new self.new }
+        ensures { spec.Performs self.old (event_spec.Report number report.now) (answer_at answer.new) self.new }
     {
         let number = number as usize;
         if number >= self.units.len() {
-            *answer = Err(Fault::NoSuchUnit);
+            answer.outcome = Outcome::Refused(Fault::NoSuchUnit);
             return;
         }
         let Some(place) = places.reached_in(number, report.side, self.subs.as_slice()) else {
-            *answer = Err(Fault::NotNow);
+            answer.outcome = Outcome::Refused(Fault::NotNow);
             return;
         };
         let sub = &mut self.subs[place];
@@ -361,22 +364,22 @@ impl Machine {
     }
 
     #[inline(never)]
-    fn act(&mut self, places: &Places, number: u32, act: UnitAct, answer: &mut Result<Reply, Fault>)
+    fn act(&mut self, places: &Places, number: u32, act: UnitAct, answer: &mut AnswerPlace)
         requires fits { Fits places.now self.old.subs }
         requires roomy { All IsUnitRoomy self.old.units }
-        ensures { spec.Performs self.old (event_spec.Act number act) answer.new self.new }
+        ensures { spec.Performs self.old (event_spec.Act number act) (answer_at answer.new) self.new }
     {
         let number = number as usize;
         if number >= self.units.len() {
-            *answer = Err(Fault::NoSuchUnit);
+            answer.outcome = Outcome::Refused(Fault::NoSuchUnit);
             return;
         }
         let Some(side) = side_of_act(&self.units[number], act) else {
-            *answer = Err(not_held(places, number, act, self.subs.as_slice()));
+            answer.outcome = Outcome::Refused(not_held(places, number, act, self.subs.as_slice()));
             return;
         };
         let Some(place) = places.reached_in(number, side, self.subs.as_slice()) else {
-            *answer = Err(Fault::NotNow);
+            answer.outcome = Outcome::Refused(Fault::NotNow);
             return;
         };
         let sub = &mut self.subs[place];
@@ -385,17 +388,17 @@ impl Machine {
     }
 
     #[inline(never)]
-    fn restart(&mut self, number: u32, answer: &mut Result<Reply, Fault>)
+    fn restart(&mut self, number: u32, answer: &mut AnswerPlace)
         requires { All IsUnitRoomy self.old.units }
-        ensures { spec.Performs self.old (event_spec.Restart number) answer.new self.new }
+        ensures { spec.Performs self.old (event_spec.Restart number) (answer_at answer.new) self.new }
     {
         if number as usize >= self.units.len() {
-            *answer = Err(Fault::NoSuchUnit);
+            answer.outcome = Outcome::Refused(Fault::NoSuchUnit);
             return;
         }
         let unit = &mut self.units[number as usize];
         restart(&mut self.sharing, number as u16, unit);
-        *answer = Ok(Reply::Done);
+        answer.outcome = Outcome::Replied(PlainReply::Done);
     }
 
     /// Performs one event, its answer in a place; a refusal changes nothing.
@@ -405,15 +408,15 @@ impl Machine {
         places: &Places,
         choice: &P,
         event: &Event,
-        answer: &mut Result<Reply, Fault>,
+        answer: &mut AnswerPlace,
     )
         requires fits { Fits places.now self.old.subs }
         requires subs { All IsRoomy self.old.subs }
         requires units { All IsUnitRoomy self.old.units }
         requires postable { All IsPostable self.old.subs }
         requires requests { self.old.requests.numbers ≡ 0x100 }
-        ensures performs { spec.Performs self.old event.now answer.new self.new }
-        ensures ruled { GoesByRule P.picks self.old event.now answer.new self.new }
+        ensures performs { spec.Performs self.old event.now (answer_at answer.new) self.new }
+        ensures ruled { GoesByRule P.picks self.old event.now (answer_at answer.new) self.new }
     {
         match event {
             Event::Execute { cpu, instruction } => {

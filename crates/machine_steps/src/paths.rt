@@ -9,16 +9,18 @@ ghost use Rattle.machine_model.specs.Requests as requests_spec;
 ghost use Rattle.machine_model.specs.Steps as spec;
 ghost use Rattle.machine_steps.specs.Giving as giving_spec;
 ghost use Rattle.machine_steps.specs.Postable.{IsPostable};
+ghost use Rattle.signal_places.specs.Answers.{answer_at};
 
 use crate::machine::Machine;
 use crate::posting::post;
 use crate::tables::has_chpid;
-use chan_events::reply::Reply;
 use chan_model::fault::Fault;
 use channel_reports::Reports;
 use finding::engines::{Engines, engaged};
 use interruptions::Pending;
 use machine_model::state::Sweep;
+use signal_places::answers::{AnswerPlace, Outcome};
+use signal_places::plain::PlainReply;
 use subchannel::losing::{go_down, lose_path, show_path};
 use subchannel::system_reset::reset_by_system;
 use subchannel_model::state::Subchannel;
@@ -84,83 +86,83 @@ fn sweep_all(subs: &mut Vec<Subchannel>, pending: &mut Pending, engines: &mut En
 impl Machine {
     /// A channel path goes down.
     #[inline(never)]
-    pub(crate) fn path_down(&mut self, number: u32, answer: &mut Result<Reply, Fault>)
+    pub(crate) fn path_down(&mut self, number: u32, answer: &mut AnswerPlace)
         requires roomy { All IsRoomy self.old.subs }
         requires postable { All IsPostable self.old.subs }
         requires requests { self.old.requests.numbers ≡ 0x100 }
-        ensures { spec.Performs self.old (event_spec.PathDown number) answer.new self.new }
+        ensures { spec.Performs self.old (event_spec.PathDown number) (answer_at answer.new) self.new }
     {
         let Some(chpid) = chpid_of(self.chpids.as_slice(), number) else {
-            *answer = Err(Fault::NoSuchPath);
+            answer.outcome = Outcome::Refused(Fault::NoSuchPath);
             return;
         };
         if !self.up[usize::from(chpid)] {
-            *answer = Err(Fault::NotNow);
+            answer.outcome = Outcome::Refused(Fault::NotNow);
             return;
         }
         let what = Sweep::GoesDown { chpid };
         sweep_all(&mut self.subs, &mut self.pending, &mut self.engines, what);
         self.up[usize::from(chpid)] = false;
         self.reports.path_lost(chpid);
-        *answer = Ok(Reply::Done);
+        answer.outcome = Outcome::Replied(PlainReply::Done);
     }
 
     /// A channel path that was down comes up.
     #[inline(never)]
-    pub(crate) fn path_up(&mut self, number: u32, answer: &mut Result<Reply, Fault>)
+    pub(crate) fn path_up(&mut self, number: u32, answer: &mut AnswerPlace)
         requires roomy { All IsRoomy self.old.subs }
         requires postable { All IsPostable self.old.subs }
         requires requests { self.old.requests.numbers ≡ 0x100 }
-        ensures { spec.Performs self.old (event_spec.PathUp number) answer.new self.new }
+        ensures { spec.Performs self.old (event_spec.PathUp number) (answer_at answer.new) self.new }
     {
         let Some(chpid) = chpid_of(self.chpids.as_slice(), number) else {
-            *answer = Err(Fault::NoSuchPath);
+            answer.outcome = Outcome::Refused(Fault::NoSuchPath);
             return;
         };
         if self.up[usize::from(chpid)] {
-            *answer = Err(Fault::NotNow);
+            answer.outcome = Outcome::Refused(Fault::NotNow);
             return;
         }
         let what = Sweep::ComesUp { chpid };
         sweep_all(&mut self.subs, &mut self.pending, &mut self.engines, what);
         self.up[usize::from(chpid)] = true;
         self.reports.path_back(chpid);
-        *answer = Ok(Reply::Done);
+        answer.outcome = Outcome::Replied(PlainReply::Done);
     }
 
     /// A channel path whose reset is asked for is reset.
     #[inline(never)]
-    pub(crate) fn path_reset(&mut self, number: u32, answer: &mut Result<Reply, Fault>)
+    pub(crate) fn path_reset(&mut self, number: u32, answer: &mut AnswerPlace)
         requires roomy { All IsRoomy self.old.subs }
         requires postable { All IsPostable self.old.subs }
         requires requests { self.old.requests.numbers ≡ 0x100 }
-        ensures { spec.Performs self.old (event_spec.PathReset number) answer.new self.new }
+        ensures { spec.Performs self.old (event_spec.PathReset number) (answer_at answer.new) self.new }
     {
         let Some(chpid) = chpid_of(self.chpids.as_slice(), number) else {
-            *answer = Err(Fault::NoSuchPath);
+            answer.outcome = Outcome::Refused(Fault::NoSuchPath);
             return;
         };
         if !self.reports.reset_done(chpid) {
-            *answer = Err(Fault::NotNow);
+            answer.outcome = Outcome::Refused(Fault::NotNow);
             return;
         }
         let what = Sweep::PathReset { chpid };
         sweep_all(&mut self.subs, &mut self.pending, &mut self.engines, what);
-        *answer = Ok(Reply::Done);
+        answer.outcome = Outcome::Replied(PlainReply::Done);
     }
 
     /// The channel subsystem is reset.
     #[inline(never)]
-    pub(crate) fn system_reset(&mut self, answer: &mut Result<Reply, Fault>)
+    pub(crate) fn system_reset(&mut self, answer: &mut AnswerPlace)
         requires roomy { All IsRoomy self.old.subs }
         requires postable { All IsPostable self.old.subs }
         requires requests { self.old.requests.numbers ≡ 0x100 }
-        ensures { spec.Performs self.old event_spec.SystemReset answer.new self.new }
+        ensures { spec.Performs self.old event_spec.SystemReset (answer_at answer.new) self.new }
     {
         self.pending.drop_all();
         self.reports = Reports::new();
         let what = Sweep::SystemReset;
         sweep_all(&mut self.subs, &mut self.pending, &mut self.engines, what);
-        *answer = Ok(Reply::Done);
+        answer.outcome = Outcome::Replied(PlainReply::Done);
     }
 }

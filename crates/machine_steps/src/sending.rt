@@ -10,7 +10,7 @@ ghost use Rattle.subchannel_model.specs.Sending as spec;
 
 use chan_model::names::Path;
 use chan_model::paths::PathSet;
-use chan_model::signal::{Down, OnPath, Up};
+use signal_places::sent::{SentDown, SentUp};
 use subchannel_model::state::Subchannel;
 use wires::Wires;
 
@@ -23,15 +23,15 @@ pub fn finds_down_full(sub: &Subchannel, path: Path) -> bool
 }
 
 /// Sends a signal down, where there is one. `available`: the paths of its subchannel that are not down.
-pub fn send_any_down(wires: &mut Wires, available: &PathSet, sent: &Option<OnPath<Down>>)
+pub fn send_any_down(wires: &mut Wires, available: &PathSet, sent: &SentDown)
     requires { giving_spec.TellsFull wires.old.down (spec.carried available.now sent.now) false }
     ensures { wires.new ≡ record wires.old { down = spec.with_any_sent wires.old.down (spec.carried available.now sent.now) } }
 {
-    let Some(signal) = sent else {
+    let Some((path, signal)) = sent.get() else {
         return;
     };
-    if available[signal.path.index()] {
-        wires.send_down(signal.path, signal.signal.copy());
+    if available[path.index()] {
+        wires.send_down(path, signal);
     }
 }
 
@@ -44,14 +44,14 @@ pub fn finds_up_full(sub: &Subchannel, path: Path) -> bool
 }
 
 /// Sends a signal up, where there is one.
-pub fn send_any_up(sub: &mut Subchannel, sent: &Option<OnPath<Up>>)
+pub fn send_any_up(sub: &mut Subchannel, sent: &SentUp)
     requires { giving_spec.TellsFull sub.old.wires.up (spec.carried_by sub.old sent.now) false }
     ensures { sub.new ≡ report_spec.with_any_up sub.old sent.now }
 {
-    let Some(signal) = sent else {
+    let Some((path, signal)) = sent.get() else {
         return;
     };
-    if sub.state.pmcw.available[signal.path.index()] {
-        sub.wires.send_up(signal.path, signal.signal.copy());
+    if sub.state.pmcw.available[path.index()] {
+        sub.wires.send_up(path, signal);
     }
 }

@@ -1,19 +1,22 @@
 //! What a unit does with a signal, its control unit being asked and told.
 
-ghost use Rattle.std.specs.Prelude.{◌≡◌, ◌&&◌, None, not, true};
+ghost use Rattle.std.specs.Prelude.{◌≡◌, ◌&&◌, not, true};
 ghost use Rattle.std.specs.Bool.{OnTrue};
 ghost use Rattle.chan_model.specs.UnitTable as unit_spec;
 ghost use Rattle.control_units.specs.Units as members_spec;
 ghost use Rattle.machine_model.specs.Bounds.{IsUnitRoomy};
 ghost use Rattle.machine_model.specs.Sharing as spec;
 ghost use Rattle.machine_steps.specs.Giving as giving_spec;
+ghost use Rattle.signal_places.specs.Places.{down_at};
 ghost use Rattle.unit.specs.UnitWords as words;
 
 use chan_model::names::{Path, Side};
-use chan_model::signal::{Down, OnPath, Up};
 use chan_model::unit_state::{Own, SideState, UnitState};
 use control_units::ControlUnit;
 use control_units::sharing::Sharing;
+use kept_events::signals::KeptDown;
+use signal_places::sent::SentUp;
+use signal_places::signals::DownPlace;
 use unit::Unit;
 
 /// What is kept of a side of a unit.
@@ -28,14 +31,14 @@ pub fn side_of(unit: &UnitState, side: Side) -> SideState
 
 /// Whether the control unit is asked for a signal: a Select above the floor, at a side that is not fresh, where no program
 /// holds the device.
-fn is_asked_for(unit: &UnitState, side: Side, signal: &Down) -> bool
-    ensures asked { result ≡ spec.is_asked_for «unit».now side signal.now }
+fn is_asked_for(unit: &UnitState, side: Side, signal: &DownPlace) -> bool
+    ensures asked { result ≡ spec.is_asked_for «unit».now side (down_at signal.now) }
     ensures idle { OnTrue result (unit_spec.is_idle «unit».now.own ≡ true) }
 {
-    match signal {
-        Down::Select { number } => {
+    match signal.kept {
+        KeptDown::Select { number } => {
             let kept = side_of(unit, side);
-            !kept.fresh && kept.floor < *number && matches!(unit.own, Own::Idle)
+            !kept.fresh && kept.floor < number && matches!(unit.own, Own::Idle)
         }
         _ => false,
     }
@@ -74,15 +77,14 @@ pub fn take(
     unit: &mut Unit,
     side: Side,
     path: Path,
-    signal: &Down,
-    sent: &mut Option<OnPath<Up>>,
+    signal: &DownPlace,
+    sent: &mut SentUp,
 ) -> bool
-    requires { sent.old ≡ None }
     ensures state { «unit».new ≡ spec.owing_after sharing.old number «unit».old
-        (unit_spec.unit_after «unit».old (giving_spec.shared_step sharing.old number «unit».old side path signal.now)) }
-    ensures members { sharing.new ≡ spec.members_after sharing.old number (spec.is_asked_for «unit».old side signal.now) «unit».old
-        (unit_spec.unit_after «unit».old (giving_spec.shared_step sharing.old number «unit».old side path signal.now)) }
-    ensures came { words.taken_so result sent.new ≡ unit_spec.came_of (giving_spec.shared_step sharing.old number «unit».old side path signal.now) }
+        (unit_spec.unit_after «unit».old (giving_spec.shared_step sharing.old number «unit».old side path (down_at signal.now))) }
+    ensures members { sharing.new ≡ spec.members_after sharing.old number (spec.is_asked_for «unit».old side (down_at signal.now)) «unit».old
+        (unit_spec.unit_after «unit».old (giving_spec.shared_step sharing.old number «unit».old side path (down_at signal.now))) }
+    ensures came { words.taken_so result sent.new ≡ unit_spec.came_of (giving_spec.shared_step sharing.old number «unit».old side path (down_at signal.now)) }
 {
     if is_asked_for(unit.state(), side, signal) {
         let may = serve(sharing, number);

@@ -16,16 +16,22 @@ ghost use Rattle.chan_model.specs.UnitReports as reports_spec;
 ghost use Rattle.chan_model.specs.UnitTable as unit_spec;
 ghost use Rattle.chan_model.specs.UnitTable.{UnitStep};
 ghost use Rattle.finding.specs.Tables.{engaged};
+ghost use Rattle.signal_places.specs.Answers.{answer_at};
+ghost use Rattle.signal_places.specs.Places.{down_at, up_at};
+ghost use Rattle.signal_places.specs.Plain.{reply_of};
 
 use crate::sending::{finds_down_full, finds_up_full, send_any_down, send_any_up};
 use crate::sharing::take;
-use chan_events::reply::Reply;
 use chan_model::fault::Fault;
 use chan_model::names::Path;
 use chan_model::report::{Report, ReportPath};
-use chan_model::signal::{Down, OnPath, Taken, Up};
 use control_units::sharing::Sharing;
 use finding::engines::Counted;
+use kept_events::signals::{KeptDown, KeptUp};
+use signal_places::answers::{AnswerPlace, Outcome};
+use signal_places::plain::PlainReply;
+use signal_places::sent::SentDown;
+use signal_places::signals::{DownPlace, UpPlace};
 use status::make_pending;
 use storage_keys::Storage;
 use subchannel::answering::answer_path;
@@ -50,82 +56,84 @@ fn chosen_finds_full(sub: &Subchannel, chosen: &Chosen) -> bool
 
 /// A Reset is sent on a path.
 #[inline(never)]
-fn reset_on(sub: &mut Subchannel, number: u64, path: Path) -> Reply
+fn reset_on(sub: &mut Subchannel, number: u64, path: Path, sent: &mut SentDown) -> PlainReply
     requires due { choosing_spec.IsFitFor (chosen_spec.Resets number path) sub.old.state.hold }
     requires room { giving_spec.HasRoomForChosen sub.old (chosen_spec.Resets number path) }
-    ensures gives { choose_spec.choose_sub sub.old (chosen_spec.Resets number path) ≡ Ok (turn_spec.leaves result sub.new) }
+    ensures gives { choose_spec.choose_sub sub.old (chosen_spec.Resets number path) ≡ Ok (turn_spec.leaves (reply_of result) sub.new) }
     ensures setup { sub.new.setup ≡ sub.old.setup }
 {
     let available = sub.state.pmcw.available;
-    let sent = send_reset(&mut sub.state, path);
-    send_any_down(&mut sub.wires, &available, &sent);
-    Reply::ResetSent { number, path }
+    send_reset(&mut sub.state, path, sent);
+    send_any_down(&mut sub.wires, &available, sent);
+    PlainReply::ResetSent { path, number }
 }
 
 /// A Halt is sent on a path.
 #[inline(never)]
-fn halt_on(sub: &mut Subchannel, number: u64, path: Path) -> Reply
+fn halt_on(sub: &mut Subchannel, number: u64, path: Path, sent: &mut SentDown) -> PlainReply
     requires { giving_spec.HasRoomForChosen sub.old (chosen_spec.Halts number path) }
-    ensures gives { choose_spec.choose_sub sub.old (chosen_spec.Halts number path) ≡ Ok (turn_spec.leaves result sub.new) }
+    ensures gives { choose_spec.choose_sub sub.old (chosen_spec.Halts number path) ≡ Ok (turn_spec.leaves (reply_of result) sub.new) }
     ensures setup { sub.new.setup ≡ sub.old.setup }
 {
     let available = sub.state.pmcw.available;
-    let sent = Some(OnPath {
-        path,
-        signal: Down::Halt { number },
-    });
-    send_any_down(&mut sub.wires, &available, &sent);
+    sent.put(path, KeptDown::Halt { number });
+    send_any_down(&mut sub.wires, &available, sent);
     send_halt(&mut sub.state);
-    Reply::HaltSent { number, path }
+    PlainReply::HaltSent { path, number }
 }
 
 /// A program is offered on a path.
 #[inline(never)]
-fn offer_on(sub: &mut Subchannel, candidate: Candidate, path: Path) -> Reply
+fn offer_on(
+    sub: &mut Subchannel,
+    candidate: Candidate,
+    path: Path,
+    sent: &mut SentDown,
+) -> PlainReply
     requires drawn { sub.old.state.drawn < 2 ^ 63 }
     requires free { choosing_spec.IsFitFor (chosen_spec.Offers candidate path) sub.old.state.hold }
     requires room { giving_spec.HasRoomForChosen sub.old (chosen_spec.Offers candidate path) }
-    ensures gives { choose_spec.choose_sub sub.old (chosen_spec.Offers candidate path) ≡ Ok (turn_spec.leaves result sub.new) }
+    ensures gives { choose_spec.choose_sub sub.old (chosen_spec.Offers candidate path) ≡ Ok (turn_spec.leaves (reply_of result) sub.new) }
     ensures setup { sub.new.setup ≡ sub.old.setup }
 {
     let available = sub.state.pmcw.available;
-    let sent = Some(offer(&mut sub.state, &candidate.program, path));
-    send_any_down(&mut sub.wires, &available, &sent);
-    Reply::Offered {
-        number: sub.state.drawn,
+    offer(&mut sub.state, &candidate.program, path, sent);
+    send_any_down(&mut sub.wires, &available, sent);
+    PlainReply::Offered {
         path,
         resumed: candidate.resumes,
+        number: sub.state.drawn,
     }
 }
 
 /// A status is made pending.
 #[inline(never)]
-fn pend_sub(sub: &mut Subchannel, cause: &StatusCause) -> Reply
+fn pend_sub(sub: &mut Subchannel, cause: &StatusCause) -> PlainReply
     requires { sub.old.state.serials.made < 2 ^ 63 }
-    ensures gives { choose_spec.pend_sub sub.old cause.now ≡ Ok (turn_spec.leaves result sub.new) }
+    ensures gives { choose_spec.pend_sub sub.old cause.now ≡ Ok (turn_spec.leaves (reply_of result) sub.new) }
     ensures setup { sub.new.setup ≡ sub.old.setup }
 {
     make_pending(&mut sub.state, cause);
-    Reply::Pending
+    PlainReply::Pending
 }
 
 /// What was chosen is done.
-fn act_on_choice(sub: &mut Subchannel, chosen: Chosen) -> Reply
+fn act_on_choice(sub: &mut Subchannel, chosen: Chosen, sent: &mut SentDown) -> PlainReply
     requires drawn { sub.old.state.drawn < 2 ^ 63 }
     requires made { sub.old.state.serials.made < 2 ^ 63 }
     requires fits { choosing_spec.IsFitFor chosen sub.old.state.hold }
     requires room { giving_spec.HasRoomForChosen sub.old chosen }
-    ensures gives { choose_spec.choose_sub sub.old chosen ≡ Ok (turn_spec.leaves result sub.new) }
+    ensures gives { choose_spec.choose_sub sub.old chosen ≡ Ok (turn_spec.leaves (reply_of result) sub.new) }
     ensures setup { sub.new.setup ≡ sub.old.setup }
 {
     match chosen {
-        Chosen::Idle => Reply::Idle,
-        Chosen::Resets { number, path } => reset_on(sub, number, path),
+        Chosen::Idle => PlainReply::Idle,
+        Chosen::Resets { number, path } => reset_on(sub, number, path, sent),
         Chosen::PerformsClear => pend_sub(sub, &StatusCause::ClearDone),
-        Chosen::Halts { number, path } => halt_on(sub, number, path),
+        Chosen::Halts { number, path } => halt_on(sub, number, path, sent),
         Chosen::PerformsHalt => pend_sub(sub, &StatusCause::HaltDone),
         Chosen::FindsNoPath => pend_sub(sub, &StatusCause::NoPath),
-        Chosen::Offers { candidate, path } => offer_on(sub, candidate, path),
+        Chosen::Offers { candidate, path } => offer_on(sub, candidate, path, sent),
     }
 }
 
@@ -135,20 +143,21 @@ pub fn choose_sub(
     sub: &mut Subchannel,
     choice: &Option<Path>,
     chosen: Chosen,
-    answer: &mut Result<Reply, Fault>,
+    answer: &mut AnswerPlace,
 )
     requires roomy { IsRoomy sub.old }
     requires fits { choosing_spec.IsFitFor chosen sub.old.state.hold }
     ensures gives { giving_spec.GivesSub sub.old
-        (choose_spec.choose_sub (choosing_spec.marked_sub sub.old choice.now) chosen) answer.new sub.new }
+        (choose_spec.choose_sub (choosing_spec.marked_sub sub.old choice.now) chosen) (answer_at answer.new) sub.new }
     ensures setup { sub.new.setup ≡ sub.old.setup }
 {
     if chosen_finds_full(sub, &chosen) {
-        *answer = Err(Fault::WireFull);
+        answer.outcome = Outcome::Refused(Fault::WireFull);
         return;
     }
     mark_lost_paths(sub, choice);
-    *answer = Ok(act_on_choice(sub, chosen));
+    let reply = act_on_choice(sub, chosen, &mut answer.sent_down);
+    answer.outcome = Outcome::Replied(reply);
 }
 
 /// Whether what comes of a signal finds its wire full.
@@ -156,12 +165,12 @@ fn up_finds_full(
     storage: &Storage,
     sub: &Subchannel,
     path: Path,
-    signal: &Up,
+    signal: &UpPlace,
     returns: bool,
 ) -> bool
     requires { IsBelow sub.now.state.begun }
     ensures { giving_spec.TellsFull sub.now.wires.down (sending_spec.carried_by sub.now
-        (takes_up returns storage.now sub.now.state path signal.now).step.came.sent) result }
+        (takes_up returns storage.now sub.now.state path (up_at signal.now)).step.came.sent) result }
 {
     match answer_path(storage, &sub.state, path, signal, returns) {
         None => false,
@@ -188,7 +197,12 @@ pub fn returns_at(subs: &Counted<'_>, sub: &Subchannel, path: u32) -> bool
         return false;
     };
     match sub.wires.front_up(path) {
-        Some(Up::Back { .. }) => is_granted(subs, sub, path),
+        Some(
+            UpPlace {
+                kept: KeptUp::Back { .. },
+                ..
+            },
+        ) => is_granted(subs, sub, path),
         _ => false,
     }
 }
@@ -200,42 +214,46 @@ pub fn up_sub(
     sub: &mut Subchannel,
     path: u32,
     returns: bool,
-    answer: &mut Result<Reply, Fault>,
+    answer: &mut AnswerPlace,
 )
     requires { IsRoomy sub.old }
     ensures setup { sub.new.setup ≡ sub.old.setup }
     ensures gives { giving_spec.GivesStorage storage.old sub.old (up_spec.up_sub returns storage.old sub.old path)
-        answer.new storage.new sub.new }
+        (answer_at answer.new) storage.new sub.new }
 {
     let Some(path) = path_of(sub, path) else {
-        *answer = Err(Fault::NoSuchPath);
+        answer.outcome = Outcome::Refused(Fault::NoSuchPath);
         return;
     };
     let Some(front) = sub.wires.front_up(path) else {
-        *answer = Err(Fault::NotSent);
+        answer.outcome = Outcome::Refused(Fault::NotSent);
         return;
     };
     if up_finds_full(storage, sub, path, front, returns) {
-        *answer = Err(Fault::WireFull);
+        answer.outcome = Outcome::Refused(Fault::WireFull);
         return;
     }
-    let signal = sub.wires.take_up(path);
+    answer.up.put_from(front);
+    sub.wires.drop_up(path);
     let available = sub.state.pmcw.available;
-    let Taken { taken, sent } = take_up(storage, &mut sub.state, path, &signal, returns);
-    send_any_down(&mut sub.wires, &available, &sent);
-    *answer = Ok(Reply::Up {
-        signal,
-        taken,
-        sent,
-    });
+    let taken = take_up(
+        storage,
+        &mut sub.state,
+        path,
+        &answer.up,
+        returns,
+        &mut answer.sent_down,
+    );
+    send_any_down(&mut sub.wires, &available, &answer.sent_down);
+    answer.outcome = Outcome::MetUp { taken };
 }
 
 /// Whether the answer of a unit to a signal finds its wire full. What the control unit may do makes no difference.
-fn answer_finds_full(sub: &Subchannel, unit: &Unit, path: Path, signal: &Down) -> bool
+fn answer_finds_full(sub: &Subchannel, unit: &Unit, path: Path, signal: &DownPlace) -> bool
     ensures { (may : Bool) → giving_spec.TellsFull sub.now.wires.up (sending_spec.carried_by sub.now
-        (unit_spec.came_of (unit_spec.unit_takes «unit».now sub.now.setup.side path signal.now may)).sent) result }
+        (unit_spec.came_of (unit_spec.unit_takes «unit».now sub.now.setup.side path (down_at signal.now) may)).sent) result }
 {
-    unit.answers(sub.setup.side, signal) && finds_up_full(sub, path)
+    unit.answers_at(sub.setup.side, signal) && finds_up_full(sub, path)
 }
 
 /// The unit takes the signal that waits longest on the wire down of a path, once it is known that its answer finds room; its
@@ -245,43 +263,39 @@ pub fn down_sub(
     unit: &mut Unit,
     sharing: &mut Sharing,
     path: u32,
-    answer: &mut Result<Reply, Fault>,
+    answer: &mut AnswerPlace,
 )
     ensures engaged { engaged sub.new ≡ engaged sub.old }
     ensures state { sub.new.state ≡ sub.old.state }
     ensures gives { giving_spec.GivesShared sub.old «unit».old sharing.old
-        (down_spec.down_shared sharing.old sub.old path «unit».old) answer.new sub.new «unit».new sharing.new }
+        (down_spec.down_shared sharing.old sub.old path «unit».old) (answer_at answer.new) sub.new «unit».new sharing.new }
 {
     let Some(path) = path_of(sub, path) else {
-        *answer = Err(Fault::NoSuchPath);
+        answer.outcome = Outcome::Refused(Fault::NoSuchPath);
         return;
     };
     let Some(front) = sub.wires.front_down(path) else {
-        *answer = Err(Fault::NotSent);
+        answer.outcome = Outcome::Refused(Fault::NotSent);
         return;
     };
     if answer_finds_full(sub, unit, path, front) {
-        *answer = Err(Fault::WireFull);
+        answer.outcome = Outcome::Refused(Fault::WireFull);
         return;
     }
-    let signal = sub.wires.take_down(path);
+    answer.down.put_from(front);
+    sub.wires.drop_down(path);
     let side = sub.setup.side;
-    let mut sent = None;
     let taken = take(
         sharing,
         sub.setup.unit,
         unit,
         side,
         path,
-        &signal,
-        &mut sent,
+        &answer.down,
+        &mut answer.sent_up,
     );
-    send_any_up(sub, &sent);
-    *answer = Ok(Reply::Down {
-        signal,
-        taken,
-        sent,
-    });
+    send_any_up(sub, &answer.sent_up);
+    answer.outcome = Outcome::MetDown { taken };
 }
 
 /// Whether what comes of a report, whose path is this, finds its wire full.
@@ -300,25 +314,24 @@ pub fn report_sub(
     sub: &mut Subchannel,
     unit: &mut Unit,
     report: &Report,
-    answer: &mut Result<Reply, Fault>,
+    answer: &mut AnswerPlace,
 )
     requires { IsUnitRoomy «unit».old }
     ensures engaged { engaged sub.new ≡ engaged sub.old }
     ensures state { sub.new.state ≡ sub.old.state }
     ensures gives { giving_spec.GivesBoth sub.old «unit».old (report_spec.report_sub sub.old «unit».old report.now)
-        answer.new sub.new «unit».new }
+        (answer_at answer.new) sub.new «unit».new }
 {
     let path = unit.report_path(report);
     if let ReportPath::Refused = path {
-        *answer = Err(Fault::NotNow);
+        answer.outcome = Outcome::Refused(Fault::NotNow);
         return;
     }
     if report_finds_full(sub, &path) {
-        *answer = Err(Fault::WireFull);
+        answer.outcome = Outcome::Refused(Fault::WireFull);
         return;
     }
-    let mut sent = None;
-    let _ = unit.report_to(report, &mut sent);
-    send_any_up(sub, &sent);
-    *answer = Ok(Reply::Done);
+    let _ = unit.report_to(report, &mut answer.sent_up);
+    send_any_up(sub, &answer.sent_up);
+    answer.outcome = Outcome::Replied(PlainReply::Done);
 }

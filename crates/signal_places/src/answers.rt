@@ -3,9 +3,12 @@
 ghost use Rattle.std.specs.Prelude.{◌≡◌, ◌≤◌, ◌++◌, Ok, Err, IsErr, ℕ, List, length};
 ghost use Rattle.std.specs.Bool.{OnTrue, OnFalse};
 ghost use Rattle.kept_events.specs.Replies as kept_spec;
-ghost use Rattle.signal_places.specs.Answers.{answer_at, first_of, reply_at};
-ghost use Rattle.signal_places.specs.Plain.{reply_of};
+ghost use Rattle.signal_places.specs.Answers.{answer_at, answer_by, first_of, reply_at};
+ghost use Rattle.signal_places.specs.Plain.{outcome_of};
+ghost use Rattle.signal_places.specs.declared.answers.AnswerPlace.{AnswerPlace};
+ghost use Rattle.chan_events.specs.declared.reply.Reply.TheVariants as reply_spec;
 
+use crate::bytes::put_bytes;
 use crate::plain::PlainReply;
 use crate::sent::{SentDown, SentUp};
 use crate::signals::{DownPlace, UpPlace};
@@ -33,6 +36,18 @@ pub enum Outcome {
     },
 }
 
+impl Outcome {
+    /// The outcome of a reply without signals and bytes, or of a refusal.
+    pub fn of(came: Result<PlainReply, Fault>) -> Self
+        ensures { (place : AnswerPlace) → answer_by result place ≡ outcome_of came }
+    {
+        match came {
+            Ok(reply) => Outcome::Replied(reply),
+            Err(fault) => Outcome::Refused(fault),
+        }
+    }
+}
+
 /// A place for the answer of an event: the signal that was met and the one that was sent, each in a place of its own.
 #[derive(Drop)]
 pub struct AnswerPlace {
@@ -55,18 +70,16 @@ impl AnswerPlace {
         }
     }
 
-    /// The answer is a refusal.
-    pub fn refuse(&mut self, fault: Fault)
-        ensures { answer_at self.new ≡ Err fault }
+    /// The answer shows bytes of storage.
+    pub fn show(&mut self, bytes: &[u8])
+        requires { length bytes.now ≤ 256 }
+        ensures { answer_at self.new ≡ Ok (reply_spec.Shown bytes.now) }
     {
-        self.outcome = Outcome::Refused(fault);
-    }
-
-    /// The answer is a reply without signals and bytes.
-    pub fn reply(&mut self, reply: PlainReply)
-        ensures { answer_at self.new ≡ Ok (reply_of reply) }
-    {
-        self.outcome = Outcome::Replied(reply);
+        let length = Length {
+            bytes: bytes.len() as u16,
+        };
+        put_bytes(&mut self.up.bytes, bytes);
+        self.outcome = Outcome::Shown { length };
     }
 
     /// Whether it is a reply.
