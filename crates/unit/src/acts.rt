@@ -6,29 +6,30 @@ ghost use Rattle.unit.specs.UnitWords as words;
 
 use crate::parts::{free, side_of};
 use chan_model::names::{Path, Side};
-use chan_model::signal::{OnPath, Up};
 use chan_model::unit_state::{AtHand, Attention, Own, Place, UnitState};
+use kept_events::signals::KeptUp;
 use scsw_irb::status::DeviceStatus;
+use signal_places::sent::SentUp;
 
 /// Leave: the program that is connected works on without the path.
-pub fn leaving(unit: &mut UnitState) -> Option<OnPath<Up>>
+pub fn leaving(unit: &mut UnitState, sent: &mut SentUp)
     ensures state { unit.new ≡ table.unit_after unit.old (table.leaving unit.old unit.old.own) }
-    ensures sent { result ≡ (table.came_of (table.leaving unit.old unit.old.own)).sent }
+    ensures sent { sent.new ≡ (table.came_of (table.leaving unit.old unit.old.own)).sent }
 {
     match unit.own {
-        Own::Idle => None,
+        Own::Idle => sent.clear(),
         Own::Owned {
             side,
             number,
             place,
-        } => leaving_from(unit, side, number, place),
+        } => leaving_from(unit, side, number, place, sent),
     }
 }
 
 /// Leave from a place of the program that holds the device.
-fn leaving_from(unit: &mut UnitState, side: Side, number: u64, place: Place) -> Option<OnPath<Up>>
+fn leaving_from(unit: &mut UnitState, side: Side, number: u64, place: Place, sent: &mut SentUp)
     ensures state { unit.new ≡ table.unit_after unit.old (table.leaving_from unit.old side number place) }
-    ensures sent { result ≡ (table.came_of (table.leaving_from unit.old side number place)).sent }
+    ensures sent { sent.new ≡ (table.came_of (table.leaving_from unit.old side number place)).sent }
 {
     match place {
         Place::On { path, connection } => {
@@ -38,12 +39,9 @@ fn leaving_from(unit: &mut UnitState, side: Side, number: u64, place: Place) -> 
                 place: Place::Away { connection },
             };
             mark_again(&mut unit.at_hand);
-            Some(OnPath {
-                path,
-                signal: Up::Leave { number, connection },
-            })
+            sent.put(path, KeptUp::Leave { number, connection });
         }
-        _ => None,
+        _ => sent.clear(),
     }
 }
 
@@ -57,10 +55,10 @@ fn mark_again(at_hand: &mut Option<AtHand>)
 }
 
 /// Ask: for a path, under the next connection number.
-pub fn asking(unit: &mut UnitState, path: Path) -> Option<OnPath<Up>>
+pub fn asking(unit: &mut UnitState, path: Path, sent: &mut SentUp)
     requires { words.last_connection unit.old.own < 2 ^ 63 }
     ensures state { unit.new ≡ table.unit_after unit.old (table.asking unit.old unit.old.own path) }
-    ensures sent { result ≡ (table.came_of (table.asking unit.old unit.old.own path)).sent }
+    ensures sent { sent.new ≡ (table.came_of (table.asking unit.old unit.old.own path)).sent }
 {
     match unit.own {
         Own::Owned {
@@ -74,36 +72,34 @@ pub fn asking(unit: &mut UnitState, path: Path) -> Option<OnPath<Up>>
                 number,
                 place: Place::Ask { path, connection },
             };
-            Some(OnPath {
-                path,
-                signal: Up::Back { number, connection },
-            })
+            sent.put(path, KeptUp::Back { number, connection });
         }
-        _ => None,
+        _ => sent.clear(),
     }
 }
 
 /// Attention: of an idle unit, on a side that is not fresh.
-pub fn attending(unit: &mut UnitState, side: Side, path: Path) -> Option<OnPath<Up>>
+pub fn attending(unit: &mut UnitState, side: Side, path: Path, sent: &mut SentUp)
     requires { unit.old.attentions < 2 ^ 63 }
     ensures state { unit.new ≡ table.unit_after unit.old (table.attending unit.old side path) }
-    ensures sent { result ≡ (table.came_of (table.attending unit.old side path)).sent }
+    ensures sent { sent.new ≡ (table.came_of (table.attending unit.old side path)).sent }
 {
     if !is_idle(unit.own) || side_of(unit, side).fresh {
-        return None;
+        sent.clear();
+        return;
     }
     let number = unit.attentions + 1;
     let status = attention_status(unit.end_owed);
     unit.attentions = number;
     unit.attention = Some(Attention { number, side });
     unit.end_owed = false;
-    Some(OnPath {
+    sent.put(
         path,
-        signal: Up::Attn {
+        KeptUp::Attn {
             attention: number,
             status,
         },
-    })
+    );
 }
 
 /// Whether nothing holds the device.
@@ -137,17 +133,17 @@ pub fn restart(unit: &mut UnitState)
 }
 
 /// Notice: of a side that is fresh.
-pub fn noticing(unit: &UnitState, side: Side, path: Path) -> Option<OnPath<Up>>
-    ensures { result ≡ (table.came_of (table.noticing unit.now side path)).sent }
+pub fn noticing(unit: &UnitState, side: Side, path: Path, sent: &mut SentUp)
+    ensures { sent.new ≡ (table.came_of (table.noticing unit.now side path)).sent }
 {
     if side_of(unit, side).fresh {
-        Some(OnPath {
+        sent.put(
             path,
-            signal: Up::Notice {
+            KeptUp::Notice {
                 restarts: unit.restarts,
             },
-        })
+        );
     } else {
-        None
+        sent.clear();
     }
 }

@@ -1,14 +1,16 @@
 //! What the unit does with the commands and the bytes of the program that holds it.
 
-ghost use Rattle.std.specs.Prelude.{◌≡◌, IfSome, None};
+ghost use Rattle.std.specs.Prelude.{◌≡◌, ◌≤◌, IfSome, None, length};
 ghost use Rattle.chan_model.specs.UnitTable as table;
+ghost use Rattle.signal_places.specs.Places.{down_at};
 ghost use Rattle.unit.specs.UnitWords as words;
 
 use crate::parts::{follows, is_owner, is_owner_on};
 use chan_model::chunk::Chunk;
 use chan_model::names::Side;
-use chan_model::signal::Down;
 use chan_model::unit_state::{AtHand, Progress, UnitState};
+use kept_events::signals::KeptDown;
+use signal_places::signals::DownPlace;
 
 /// Command: the next of the program that holds the device.
 pub fn commanded(
@@ -50,27 +52,28 @@ fn new_command(code: u8, room: u16) -> AtHand
 
 /// Whether a Took or a Give is of the last command of the program that holds the device, and a Give of the connection at
 /// hand.
-pub fn is_of_command(unit: &UnitState, side: Side, signal: &Down) -> bool
-    ensures { result ≡ words.is_of_command unit.now side signal.now }
+pub fn is_of_command(unit: &UnitState, side: Side, signal: &DownPlace) -> bool
+    ensures { result ≡ words.is_of_command unit.now side (down_at signal.now) }
 {
-    match signal {
-        Down::Took {
+    match signal.kept {
+        KeptDown::Took {
             number,
             command,
             ..
-        } => { is_owner(unit, side, *number) && *command == unit.last_command }
-        Down::Give {
+        } => { is_owner(unit, side, number) && command == unit.last_command }
+        KeptDown::Give {
             number,
             connection,
             command,
             ..
-        } => is_owner_on(unit, side, *number, *connection) && *command == unit.last_command,
+        } => is_owner_on(unit, side, number, connection) && command == unit.last_command,
         _ => false,
     }
 }
 
 /// Give of the command at hand: the chunk that follows the last.
-pub fn given(unit: &mut UnitState, sequence: u64, bytes: &Chunk) -> bool
+pub fn given(unit: &mut UnitState, sequence: u64, bytes: &[u8]) -> bool
+    requires { length bytes.now ≤ 256 }
     ensures state { unit.new ≡ table.unit_after unit.old (table.given_next unit.old unit.old.at_hand sequence bytes.now) }
     ensures came { words.taken_so result None ≡ table.came_of (table.given_next unit.old unit.old.at_hand sequence bytes.now) }
 {
@@ -84,7 +87,8 @@ pub fn given(unit: &mut UnitState, sequence: u64, bytes: &Chunk) -> bool
 }
 
 /// The command has these bytes; none stop the transfer.
-fn give(command: &mut AtHand, sequence: u64, bytes: &Chunk)
+fn give(command: &mut AtHand, sequence: u64, bytes: &[u8])
+    requires { length bytes.now ≤ 256 }
     ensures { command.new ≡ table.with_given command.old sequence bytes.now }
 {
     command.sequence = sequence;
@@ -95,12 +99,13 @@ fn give(command: &mut AtHand, sequence: u64, bytes: &Chunk)
 }
 
 /// The bytes, where there are any.
-fn kept(bytes: &Chunk) -> Option<Chunk>
+fn kept(bytes: &[u8]) -> Option<Chunk>
+    requires { length bytes.now ≤ 256 }
     ensures { result ≡ table.kept_bytes bytes.now }
 {
-    match bytes.as_slice() {
+    match bytes {
         [] => None,
-        [_, ..] => Some(bytes.copy()),
+        [_, ..] => Some(Chunk::of(bytes)),
     }
 }
 

@@ -8,15 +8,18 @@ mod reports;
 mod signals;
 mod works;
 
-ghost use Rattle.std.specs.Prelude.{◌≡◌, ◌<◌, ◌^◌, ◌||◌, ℕ, Bool, IfSome, None, is_some};
+ghost use Rattle.std.specs.Prelude.{◌≡◌, ◌<◌, ◌^◌, ◌||◌, ℕ, Bool, IfSome, is_some};
 ghost use Rattle.chan_model.specs.UnitReports as reports;
 ghost use Rattle.chan_model.specs.UnitTable as table;
+ghost use Rattle.signal_places.specs.Places.{down_at};
 ghost use Rattle.unit.specs.UnitWords as words;
 
 use chan_model::names::{Path, Side};
 use chan_model::report::{Report, ReportPath, Work};
 use chan_model::signal::{Down, OnPath, Taken, Up};
 use chan_model::unit_state::{Own, SideState, UnitState};
+use signal_places::sent::SentUp;
+use signal_places::signals::DownPlace;
 use std::marker::Model;
 
 /// A unit: whom its device is held by, what it keeps of each side, and the command at hand.
@@ -89,9 +92,13 @@ impl Unit {
         ensures answered { is_some result.sent ≡ words.is_unit_answered self.old side signal.now }
         ensures other { words.LeavesOther side self.old self.new }
     {
-        let mut sent = None;
-        let taken = signals::takes(&mut self.state, side, path, signal, may, &mut sent);
-        Taken { taken, sent }
+        let place = DownPlace::of(signal);
+        let mut sent = SentUp::new();
+        let taken = self.take_to(side, path, &place, may, &mut sent);
+        Taken {
+            taken,
+            sent: sent.signal(),
+        }
     }
 
     /// Takes a signal, as `take` has it, with the signal that is sent in a place: whether it was taken.
@@ -99,14 +106,14 @@ impl Unit {
         &mut self,
         side: Side,
         path: Path,
-        signal: &Down,
+        signal: &DownPlace,
         may: bool,
-        sent: &mut Option<OnPath<Up>>,
+        sent: &mut SentUp,
     ) -> bool
-        requires { sent.old ≡ None }
-        ensures state { self.new ≡ table.unit_after self.old (table.unit_takes self.old side path signal.now may) }
-        ensures came { words.taken_so result sent.new ≡ table.came_of (table.unit_takes self.old side path signal.now may) }
+        ensures state { self.new ≡ table.unit_after self.old (table.unit_takes self.old side path (down_at signal.now) may) }
+        ensures came { words.taken_so result sent.new ≡ table.came_of (table.unit_takes self.old side path (down_at signal.now) may) }
     {
+        sent.clear();
         signals::takes(&mut self.state, side, path, signal, may, sent)
     }
 
@@ -116,6 +123,14 @@ impl Unit {
 
         // Its answer goes by the path that the signal came by.
         ensures path { (path : ℕ) (may : Bool) → IfSome (table.came_of (table.unit_takes self.now side path signal.now may)).sent (λ s. s.path ≡ path) }
+    {
+        self.answers_at(side, &DownPlace::of(signal))
+    }
+
+    /// Whether a signal of a side is answered, as `answers` has it, of a signal in a place.
+    pub fn answers_at(&self, side: Side, signal: &DownPlace) -> bool
+        ensures answers { (path : ℕ) (may : Bool) → result ≡ is_some (table.came_of (table.unit_takes self.now side path (down_at signal.now) may)).sent }
+        ensures path { (path : ℕ) (may : Bool) → IfSome (table.came_of (table.unit_takes self.now side path (down_at signal.now) may)).sent (λ s. s.path ≡ path) }
     {
         signals::answers(&self.state, side, signal)
     }
@@ -127,18 +142,21 @@ impl Unit {
         ensures state { self.new ≡ table.unit_after self.old (reports.unit_reports self.old report.now) }
         ensures came { result ≡ table.came_of (reports.unit_reports self.old report.now) }
     {
-        let mut sent = None;
-        let taken = reports::reports(&mut self.state, report, &mut sent);
-        Taken { taken, sent }
+        let mut sent = SentUp::new();
+        let taken = self.report_to(report, &mut sent);
+        Taken {
+            taken,
+            sent: sent.signal(),
+        }
     }
 
     /// Takes the device's answer, as `report` has it, with the signal that is sent in a place: whether it was taken.
-    pub fn report_to(&mut self, report: &Report, sent: &mut Option<OnPath<Up>>) -> bool
-        requires nothing { sent.old ≡ None }
-        requires below { words.last_sequence self.old.at_hand < 2 ^ 63 }
+    pub fn report_to(&mut self, report: &Report, sent: &mut SentUp) -> bool
+        requires { words.last_sequence self.old.at_hand < 2 ^ 63 }
         ensures state { self.new ≡ table.unit_after self.old (reports.unit_reports self.old report.now) }
         ensures came { words.taken_so result sent.new ≡ table.came_of (reports.unit_reports self.old report.now) }
     {
+        sent.clear();
         reports::reports(&mut self.state, report, sent)
     }
 
@@ -161,7 +179,17 @@ impl Unit {
         ensures state { self.new ≡ table.unit_after self.old (table.leaving self.old self.old.own) }
         ensures sent { result ≡ (table.came_of (table.leaving self.old self.old.own)).sent }
     {
-        acts::leaving(&mut self.state)
+        let mut sent = SentUp::new();
+        self.leave_to(&mut sent);
+        sent.signal()
+    }
+
+    /// Leaves the path of its program, as `leave` has it, with the Leave in a place.
+    pub fn leave_to(&mut self, sent: &mut SentUp)
+        ensures state { self.new ≡ table.unit_after self.old (table.leaving self.old self.old.own) }
+        ensures sent { sent.new ≡ (table.came_of (table.leaving self.old self.old.own)).sent }
+    {
+        acts::leaving(&mut self.state, sent);
     }
 
     /// Asks for a path. None where no program is without one, and then nothing changes.
@@ -170,7 +198,18 @@ impl Unit {
         ensures state { self.new ≡ table.unit_after self.old (table.asking self.old self.old.own path) }
         ensures sent { result ≡ (table.came_of (table.asking self.old self.old.own path)).sent }
     {
-        acts::asking(&mut self.state, path)
+        let mut sent = SentUp::new();
+        self.ask_to(path, &mut sent);
+        sent.signal()
+    }
+
+    /// Asks for a path, as `ask` has it, with the Back in a place.
+    pub fn ask_to(&mut self, path: Path, sent: &mut SentUp)
+        requires { words.last_connection self.old.own < 2 ^ 63 }
+        ensures state { self.new ≡ table.unit_after self.old (table.asking self.old self.old.own path) }
+        ensures sent { sent.new ≡ (table.came_of (table.asking self.old self.old.own path)).sent }
+    {
+        acts::asking(&mut self.state, path, sent);
     }
 
     /// Asks a side for attention. None where a program holds the device or the side is fresh, and then nothing changes.
@@ -179,7 +218,18 @@ impl Unit {
         ensures state { self.new ≡ table.unit_after self.old (table.attending self.old side path) }
         ensures sent { result ≡ (table.came_of (table.attending self.old side path)).sent }
     {
-        acts::attending(&mut self.state, side, path)
+        let mut sent = SentUp::new();
+        self.attention_to(side, path, &mut sent);
+        sent.signal()
+    }
+
+    /// Asks a side for attention, as `attention` has it, with the Attn in a place.
+    pub fn attention_to(&mut self, side: Side, path: Path, sent: &mut SentUp)
+        requires { self.old.attentions < 2 ^ 63 }
+        ensures state { self.new ≡ table.unit_after self.old (table.attending self.old side path) }
+        ensures sent { sent.new ≡ (table.came_of (table.attending self.old side path)).sent }
+    {
+        acts::attending(&mut self.state, side, path, sent);
     }
 
     /// Restarts the device: it forgets its program, and both sides are fresh.
@@ -201,6 +251,15 @@ impl Unit {
     pub fn notice(&self, side: Side, path: Path) -> Option<OnPath<Up>>
         ensures { result ≡ (table.came_of (table.noticing self.now side path)).sent }
     {
-        acts::noticing(&self.state, side, path)
+        let mut sent = SentUp::new();
+        self.notice_to(side, path, &mut sent);
+        sent.signal()
+    }
+
+    /// Tells a side that is fresh, as `notice` has it, with the Notice in a place.
+    pub fn notice_to(&self, side: Side, path: Path, sent: &mut SentUp)
+        ensures { sent.new ≡ (table.came_of (table.noticing self.now side path)).sent }
+    {
+        acts::noticing(&self.state, side, path, sent);
     }
 }

@@ -1,6 +1,6 @@
 //! What the unit asks of its device, and what it does with the answers.
 
-ghost use Rattle.std.specs.Prelude.{◌≡◌, ◌<◌, ◌==◌, ◌&&◌, ◌^◌, ℕ, None, Some, IfSome, MatchOption, is_some, true};
+ghost use Rattle.std.specs.Prelude.{◌≡◌, ◌<◌, ◌≤◌, ◌==◌, ◌&&◌, ◌^◌, ℕ, None, Some, IfSome, MatchOption, is_some, length, true};
 ghost use Rattle.chan_model.specs.UnitReports as reports;
 ghost use Rattle.chan_model.specs.Sides.{same_side};
 ghost use Rattle.chan_model.specs.UnitTable as table;
@@ -14,9 +14,11 @@ use bitflags::Flags;
 use chan_model::chunk::Chunk;
 use chan_model::names::{Path, Side};
 use chan_model::report::{DeviceAnswer, Report, ReportPath};
-use chan_model::signal::{Load, OnPath, Up};
+use chan_model::signal::Load;
 use chan_model::unit_state::{AtHand, Own, Place, Progress, UnitState};
+use kept_events::signals::KeptUp;
 use scsw_irb::status::DeviceStatus;
+use signal_places::sent::SentUp;
 
 /// Whether a device status says that the channel ended.
 fn has_channel_end(status: DeviceStatus) -> bool
@@ -169,7 +171,7 @@ fn reporting(unit: &UnitState, report: &Report) -> Option<Place>
 }
 
 /// What a report does. It is not taken where it is stale or against the law of devices, and then nothing changes.
-pub fn reports(unit: &mut UnitState, report: &Report, sent: &mut Option<OnPath<Up>>) -> bool
+pub fn reports(unit: &mut UnitState, report: &Report, sent: &mut SentUp) -> bool
     requires nothing { sent.old ≡ None }
     requires below { words.last_sequence unit.old.at_hand < 2 ^ 63 }
     ensures state { unit.new ≡ table.unit_after unit.old (reports.unit_reports unit.old report.now) }
@@ -208,12 +210,7 @@ fn path_from(unit: &UnitState, place: Place, report: &Report) -> ReportPath
 }
 
 /// What a report does that is allowed: Data or End is sent on the path of the program, or a read is begun.
-fn report_on(
-    unit: &mut UnitState,
-    place: Place,
-    report: &Report,
-    sent: &mut Option<OnPath<Up>>,
-) -> bool
+fn report_on(unit: &mut UnitState, place: Place, report: &Report, sent: &mut SentUp) -> bool
     requires nothing { sent.old ≡ None }
     requires below { words.last_sequence unit.old.at_hand < 2 ^ 63 }
     requires allowed { is_some (reports.report_on unit.old 0 (On 0 0) unit.old.at_hand report.now) ≡ true }
@@ -235,7 +232,7 @@ fn report_on(
     match &report.answer {
         DeviceAnswer::Begins if is_outward(command.code) => {
             absorb(command, 0);
-            program.data(command, Load::Absorbed(0), sent)
+            program.absorbed(command, 0, sent)
         }
         DeviceAnswer::Begins => {
             command.progress = Progress::Working;
@@ -243,11 +240,11 @@ fn report_on(
         }
         DeviceAnswer::Absorbed(count) => {
             absorb(command, *count);
-            program.data(command, Load::Absorbed(*count), sent)
+            program.absorbed(command, *count, sent)
         }
         DeviceAnswer::Supplied(bytes) => {
             supply(command, bytes);
-            program.data(command, Load::Bytes(bytes.copy()), sent)
+            program.supplied(command, bytes.as_slice(), sent)
         }
         DeviceAnswer::Again => {
             command.again = false;
@@ -290,33 +287,53 @@ struct Program {
 }
 
 impl Program {
-    /// The Data of the last chunk of the command.
-    fn data(&self, command: &AtHand, load: Load, sent: &mut Option<OnPath<Up>>) -> bool
-        requires { sent.old ≡ None }
+    /// The Data of the last chunk of a write: so many bytes were absorbed.
+    fn absorbed(&self, command: &AtHand, count: u16, sent: &mut SentUp) -> bool
         ensures { words.taken_so result sent.new ≡ record {
           taken = true;
           sent = Some (record {
             path = self.now.path;
-            signal = up.Data self.now.number self.now.connection self.now.command command.now.sequence load;
+            signal = up.Data self.now.number self.now.connection self.now.command command.now.sequence (load.Absorbed count);
           });
         } }
     {
         sending(
             self.path,
-            Up::Data {
+            KeptUp::Absorbed {
+                count,
                 number: self.number,
                 connection: self.connection,
                 command: self.command,
                 sequence: command.sequence,
-                load,
             },
             sent,
         )
     }
 
+    /// The Data of the last chunk of a read.
+    fn supplied(&self, command: &AtHand, bytes: &[u8], sent: &mut SentUp) -> bool
+        requires { length bytes.now ≤ 256 }
+        ensures { words.taken_so result sent.new ≡ record {
+          taken = true;
+          sent = Some (record {
+            path = self.now.path;
+            signal = up.Data self.now.number self.now.connection self.now.command command.now.sequence (load.Bytes bytes.now);
+          });
+        } }
+    {
+        sent.put_bytes(
+            self.path,
+            self.number,
+            self.connection,
+            self.command,
+            command.sequence,
+            bytes,
+        );
+        true
+    }
+
     /// The Data that was not answered, on the connection at hand.
-    fn data_again(&self, command: &AtHand, sent: &mut Option<OnPath<Up>>) -> bool
-        requires { sent.old ≡ None }
+    fn data_again(&self, command: &AtHand, sent: &mut SentUp) -> bool
         ensures { IfSome command.now.unanswered (λ load. words.taken_so result sent.new ≡ record {
           taken = true;
           sent = Some (record {
@@ -326,14 +343,14 @@ impl Program {
         }) }
     {
         match &command.unanswered {
-            Some(load) => self.data(command, load.copy(), sent),
+            Some(Load::Absorbed(count)) => self.absorbed(command, *count, sent),
+            Some(Load::Bytes(bytes)) => self.supplied(command, bytes.as_slice(), sent),
             None => false,
         }
     }
 
     /// The End of the command.
-    fn end(&self, status: DeviceStatus, more: bool, sent: &mut Option<OnPath<Up>>) -> bool
-        requires { sent.old ≡ None }
+    fn end(&self, status: DeviceStatus, more: bool, sent: &mut SentUp) -> bool
         ensures { words.taken_so result sent.new ≡ record {
           taken = true;
           sent = Some (record {
@@ -344,11 +361,11 @@ impl Program {
     {
         sending(
             self.path,
-            Up::End {
-                number: self.number,
-                command: self.command,
+            KeptUp::End {
                 status,
                 more,
+                number: self.number,
+                command: self.command,
             },
             sent,
         )

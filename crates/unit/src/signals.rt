@@ -4,29 +4,32 @@ ghost use Rattle.std.specs.Prelude.{◌≡◌, None, Some, false, if◌then◌el
 ghost use Rattle.chan_model.specs.UnitTable as table;
 ghost use Rattle.chan_model.specs.declared.signal.Down.TheVariants as down;
 ghost use Rattle.chan_model.specs.declared.signal.Up.TheVariants as up;
+ghost use Rattle.signal_places.specs.Places.{down_at};
 ghost use Rattle.unit.specs.UnitWords as words;
 
 use crate::commands::{answered, commanded, given, is_of_command};
 use crate::parts::{free, is_owner, keep_side, owns, sending, side_of};
 use chan_model::names::{Path, Side};
-use chan_model::signal::{Down, OnPath, Up};
 use chan_model::unit_state::{Own, Place, SideState, UnitState};
+use kept_events::signals::{KeptDown, KeptUp};
+use signal_places::sent::SentUp;
+use signal_places::signals::DownPlace;
 
 /// A signal of a side that came by a path.
 pub fn takes(
     unit: &mut UnitState,
     side: Side,
     path: Path,
-    signal: &Down,
+    signal: &DownPlace,
     may: bool,
-    sent: &mut Option<OnPath<Up>>,
+    sent: &mut SentUp,
 ) -> bool
     requires { sent.old ≡ None }
-    ensures state { unit.new ≡ table.unit_after unit.old (table.unit_takes unit.old side path signal.now may) }
-    ensures came { words.taken_so result sent.new ≡ table.came_of (table.unit_takes unit.old side path signal.now may) }
+    ensures state { unit.new ≡ table.unit_after unit.old (table.unit_takes unit.old side path (down_at signal.now) may) }
+    ensures came { words.taken_so result sent.new ≡ table.came_of (table.unit_takes unit.old side path (down_at signal.now) may) }
 {
-    if let Down::Reset { number, restarts } = signal {
-        reset(unit, side, path, *number, *restarts, sent)
+    if let KeptDown::Reset { number, restarts } = signal.kept {
+        reset(unit, side, path, number, restarts, sent)
     } else if side_of(unit, side).fresh {
         telling(unit, path, sent)
     } else {
@@ -39,47 +42,47 @@ fn works(
     unit: &mut UnitState,
     side: Side,
     path: Path,
-    signal: &Down,
+    signal: &DownPlace,
     may: bool,
-    sent: &mut Option<OnPath<Up>>,
+    sent: &mut SentUp,
 ) -> bool
     requires { sent.old ≡ None }
-    ensures state { unit.new ≡ table.unit_after unit.old (table.unit_works unit.old side path signal.now may) }
-    ensures came { words.taken_so result sent.new ≡ table.came_of (table.unit_works unit.old side path signal.now may) }
+    ensures state { unit.new ≡ table.unit_after unit.old (table.unit_works unit.old side path (down_at signal.now) may) }
+    ensures came { words.taken_so result sent.new ≡ table.came_of (table.unit_works unit.old side path (down_at signal.now) may) }
 {
-    match signal {
-        Down::Select { number } => offered(unit, side, path, *number, may, sent),
-        Down::Command {
-            number,
-            command,
+    match signal.kept {
+        KeptDown::Select { number } => offered(unit, side, path, number, may, sent),
+        KeptDown::Command {
             code,
             room,
-        } => commanded(unit, side, *number, *command, *code, *room),
-        Down::Grant { number, connection } => granted(unit, side, path, *number, *connection, sent),
-        Down::Refuse { number, connection } => refused(unit, side, *number, *connection),
-        Down::Took { sequence, room, .. } if is_of_command(unit, side, signal) => {
-            answered(unit, *sequence, *room)
+            number,
+            command,
+        } => commanded(unit, side, number, command, code, room),
+        KeptDown::Grant { number, connection } => {
+            granted(unit, side, path, number, connection, sent)
         }
-        Down::Give {
-            sequence,
-            bytes,
-            ..
-        } if is_of_command(unit, side, signal) => given(unit, *sequence, bytes),
-        Down::Halt { number } => halting(unit, side, *number),
-        Down::Release { number } => releasing(unit, side, path, *number, sent),
-        Down::Took { .. } | Down::Give { .. } | Down::Reset { .. } => false,
-        Down::Got { attention } => forgetting(unit, side, *attention),
+        KeptDown::Refuse { number, connection } => refused(unit, side, number, connection),
+        KeptDown::Took { room, sequence, .. } if is_of_command(unit, side, signal) => {
+            answered(unit, sequence, room)
+        }
+        KeptDown::Give { sequence, .. } if is_of_command(unit, side, signal) => {
+            given(unit, sequence, signal.bytes())
+        }
+        KeptDown::Halt { number } => halting(unit, side, number),
+        KeptDown::Release { number } => releasing(unit, side, path, number, sent),
+        KeptDown::Took { .. } | KeptDown::Give { .. } | KeptDown::Reset { .. } => false,
+        KeptDown::Got { attention } => forgetting(unit, side, attention),
     }
 }
 
 /// In a side that is fresh: how often the device was restarted.
-fn telling(unit: &UnitState, path: Path, sent: &mut Option<OnPath<Up>>) -> bool
+fn telling(unit: &UnitState, path: Path, sent: &mut SentUp) -> bool
     requires { sent.old ≡ None }
     ensures { words.taken_so result sent.new ≡ table.came_of (table.telling unit.now path) }
 {
     sending(
         path,
-        Up::Notice {
+        KeptUp::Notice {
             restarts: unit.restarts,
         },
         sent,
@@ -93,7 +96,7 @@ fn offered(
     path: Path,
     number: u64,
     may: bool,
-    sent: &mut Option<OnPath<Up>>,
+    sent: &mut SentUp,
 ) -> bool
     requires { sent.old ≡ None }
     ensures state { unit.new ≡ table.unit_after unit.old (table.unit_works unit.old side path (down.Select number) may) }
@@ -131,7 +134,7 @@ fn selected(
     path: Path,
     number: u64,
     may: bool,
-    sent: &mut Option<OnPath<Up>>,
+    sent: &mut SentUp,
 ) -> bool
     requires { sent.old ≡ None }
     ensures state { unit.new ≡ table.unit_after unit.old (table.selected unit.old own side path number may) }
@@ -140,9 +143,9 @@ fn selected(
     match own {
         Own::Idle if may => {
             hold(unit, side, path, number);
-            sending(path, Up::Accept { number }, sent)
+            sending(path, KeptUp::Accept { number }, sent)
         }
-        _ => sending(path, Up::Busy { number }, sent),
+        _ => sending(path, KeptUp::Busy { number }, sent),
     }
 }
 
@@ -168,7 +171,7 @@ fn granted(
     path: Path,
     number: u64,
     connection: u64,
-    sent: &mut Option<OnPath<Up>>,
+    sent: &mut SentUp,
 ) -> bool
     requires { sent.old ≡ None }
     ensures state { unit.new ≡ table.unit_after unit.old (table.granted unit.old unit.old.own side path number connection) }
@@ -195,7 +198,7 @@ fn granted_at(
     place: Place,
     path: Path,
     connection: u64,
-    sent: &mut Option<OnPath<Up>>,
+    sent: &mut SentUp,
 ) -> bool
     requires { sent.old ≡ None }
     ensures state { unit.new ≡ table.unit_after unit.old (table.granted_at unit.old side number place path connection) }
@@ -229,20 +232,14 @@ fn granted_at(
 }
 
 /// Grant of an older connection than the last.
-fn granted_late(
-    number: u64,
-    path: Path,
-    connection: u64,
-    last: u64,
-    sent: &mut Option<OnPath<Up>>,
-) -> bool
+fn granted_late(number: u64, path: Path, connection: u64, last: u64, sent: &mut SentUp) -> bool
     requires { sent.old ≡ None }
     ensures { words.taken_so result sent.new ≡ (if nat_lt connection last
         then record { taken = true; sent = Some (record { path = path; signal = up.Leave number connection }) }
         else record { taken = false; sent = None }) }
 {
     if connection < last {
-        sending(path, Up::Leave { number, connection }, sent)
+        sending(path, KeptUp::Leave { number, connection }, sent)
     } else {
         false
     }
@@ -287,20 +284,14 @@ fn halting(unit: &mut UnitState, side: Side, number: u64) -> bool
 }
 
 /// Release: by the program that holds the device.
-fn releasing(
-    unit: &mut UnitState,
-    side: Side,
-    path: Path,
-    number: u64,
-    sent: &mut Option<OnPath<Up>>,
-) -> bool
+fn releasing(unit: &mut UnitState, side: Side, path: Path, number: u64, sent: &mut SentUp) -> bool
     requires { sent.old ≡ None }
     ensures state { unit.new ≡ table.unit_after unit.old (table.releasing unit.old side path number) }
     ensures came { words.taken_so result sent.new ≡ table.came_of (table.releasing unit.old side path number) }
 {
     if is_owner(unit, side, number) {
         free(unit);
-        sending(path, Up::Released { number }, sent)
+        sending(path, KeptUp::Released { number }, sent)
     } else {
         false
     }
@@ -313,7 +304,7 @@ fn reset(
     path: Path,
     number: u64,
     restarts: u64,
-    sent: &mut Option<OnPath<Up>>,
+    sent: &mut SentUp,
 ) -> bool
     requires { sent.old ≡ None }
     ensures state { unit.new ≡ table.unit_after unit.old (table.unit_takes unit.old side path (down.Reset number restarts) false) }
@@ -321,7 +312,7 @@ fn reset(
 {
     if resets(unit, side, number, restarts) {
         reset_side(unit, side, number);
-        sending(path, Up::Cleared { number }, sent)
+        sending(path, KeptUp::Cleared { number }, sent)
     } else if side_of(unit, side).fresh {
         telling(unit, path, sent)
     } else {
@@ -369,24 +360,24 @@ fn forgetting(unit: &mut UnitState, side: Side, attention: u64) -> bool
 }
 
 /// Whether a signal is answered.
-pub fn answers(unit: &UnitState, side: Side, signal: &Down) -> bool
-    ensures { result ≡ words.is_unit_answered unit.now side signal.now }
+pub fn answers(unit: &UnitState, side: Side, signal: &DownPlace) -> bool
+    ensures { result ≡ words.is_unit_answered unit.now side (down_at signal.now) }
 {
-    if let Down::Reset { number, restarts } = signal {
-        resets(unit, side, *number, *restarts) || side_of(unit, side).fresh
+    if let KeptDown::Reset { number, restarts } = signal.kept {
+        resets(unit, side, number, restarts) || side_of(unit, side).fresh
     } else {
         side_of(unit, side).fresh || is_work_answered(unit, side, signal)
     }
 }
 
 /// Whether a signal of a side that is not fresh is answered.
-fn is_work_answered(unit: &UnitState, side: Side, signal: &Down) -> bool
-    ensures { result ≡ is_some (table.came_of (table.unit_works unit.now side 0 signal.now false)).sent }
+fn is_work_answered(unit: &UnitState, side: Side, signal: &DownPlace) -> bool
+    ensures { result ≡ is_some (table.came_of (table.unit_works unit.now side 0 (down_at signal.now) false)).sent }
 {
-    match signal {
-        Down::Select { number } => side_of(unit, side).floor < *number,
-        Down::Grant { number, connection } => is_granted_late(unit, side, *number, *connection),
-        Down::Release { number } => is_owner(unit, side, *number),
+    match signal.kept {
+        KeptDown::Select { number } => side_of(unit, side).floor < number,
+        KeptDown::Grant { number, connection } => is_granted_late(unit, side, number, connection),
+        KeptDown::Release { number } => is_owner(unit, side, number),
         _ => false,
     }
 }

@@ -1,28 +1,33 @@
 //! The wires between one subchannel and its unit (own).
 //!
 //! Used alone, this crate promises: each of the eight paths has a queue down and a queue up, of at most 8 signals each. A
-//! signal that is sent goes to the end of its queue and the one that is taken was its front, so signals arrive in the order in
-//! which they were sent, once each; only `lose` makes signals vanish, and then all of one path, both ways. No call changes a
-//! queue but those that it names. Sending has the condition that there is room, and taking that a signal waits; `down_is_full`
-//! and `front_down` tell that beforehand, and so do their like for the way up. Nothing here takes memory.
+//! signal that is sent goes to the end of its queue and the one that is let go was its front, so signals arrive in the order
+//! in which they were sent, once each; only `lose` makes signals vanish, and then all of one path, both ways. No call changes a
+//! queue but those that it names. Sending has the condition that there is room, and letting go that a signal waits;
+//! `down_is_full` and `front_down` tell that beforehand, and so do their like for the way up. A queue is a ring of places that
+//! are made with the wires and stay where they are: sending writes one place, and a signal is read where it stands. Nothing
+//! here takes memory.
 #![tactic(auto)]
 
-mod way;
+mod downs;
+mod ups;
 
 ghost use Rattle.std.specs.Prelude.{◌≡◌, ◌<◌, ◌↔◌, None, Some, IsTrue, IsSome, MatchOption, length};
 ghost use Rattle.std.specs.Bool.{OnFalse};
+ghost use Rattle.signal_places.specs.Places.{down_at, up_at};
 ghost use Rattle.wires.specs.Queues.{no_queues, queue, first_of, sent, taken, lost};
 
-use crate::way::Way;
+use crate::downs::Downs;
+use crate::ups::Ups;
 use chan_model::names::Path;
-use chan_model::signal::{Down, Up};
+use signal_places::signals::{DownPlace, UpPlace};
 use std::marker::Model;
 
 /// The signals that wait, for each path down to the unit and up to the subchannel. A wire holds at most 8.
 #[derive(Drop)]
 pub struct Wires {
-    down: Way<Down>,
-    up: Way<Up>,
+    down: [Downs; 8],
+    up: [Ups; 8],
 }
 
 impl Model for Wires {
@@ -39,8 +44,8 @@ impl Wires {
         ensures { result ≡ no_queues }
     {
         Wires {
-            down: Way::new(),
-            up: Way::new(),
+            down: Downs::on_each_path(),
+            up: Ups::on_each_path(),
         }
     }
 
@@ -49,32 +54,31 @@ impl Wires {
         ensures full { IsTrue result ↔ (length (queue self.now.down path) ≡ 8) }
         ensures room { OnFalse result (length (queue self.now.down path) < 8) }
     {
-        self.down.is_full(path)
+        self.down[path.index()].is_full()
     }
 
-    /// Sends a signal down.
-    pub fn send_down(&mut self, path: Path, signal: Down)
+    /// Sends the signal in this place down.
+    pub fn send_down(&mut self, path: Path, place: &DownPlace)
         requires { length (queue self.old.down path) < 8 }
-        ensures { self.new ≡ record self.old { down = sent self.old.down path signal } }
+        ensures { self.new ≡ record self.old { down = sent self.old.down path (down_at place.now) } }
     {
-        self.down.send(path, signal);
+        self.down[path.index()].send(place);
     }
 
-    /// The signal that waits longest on the wire down of a path; None where none waits.
-    pub fn front_down(&self, path: Path) -> Option<&Down>
+    /// The place of the signal that waits longest on the wire down of a path; None where none waits.
+    pub fn front_down(&self, path: Path) -> Option<&DownPlace>
         ensures waits { IsSome result ↔ (0 < length (queue self.now.down path)) }
-        ensures first { MatchOption result (first_of self.now.down path ≡ None) (λ signal. first_of self.now.down path ≡ Some signal.now) }
+        ensures first { MatchOption result (first_of self.now.down path ≡ None) (λ place. first_of self.now.down path ≡ Some (down_at place.now)) }
     {
-        self.down.front(path)
+        self.down[path.index()].front()
     }
 
-    /// Takes that signal.
-    pub fn take_down(&mut self, path: Path) -> Down
+    /// Lets that signal go.
+    pub fn drop_down(&mut self, path: Path)
         requires { 0 < length (queue self.old.down path) }
-        ensures first { first_of self.old.down path ≡ Some result }
-        ensures rest { self.new ≡ record self.old { down = taken self.old.down path } }
+        ensures { self.new ≡ record self.old { down = taken self.old.down path } }
     {
-        self.down.take(path)
+        self.down[path.index()].drop_front();
     }
 
     /// Whether the wire up of a path has no room.
@@ -82,39 +86,38 @@ impl Wires {
         ensures full { IsTrue result ↔ (length (queue self.now.up path) ≡ 8) }
         ensures room { OnFalse result (length (queue self.now.up path) < 8) }
     {
-        self.up.is_full(path)
+        self.up[path.index()].is_full()
     }
 
-    /// Sends a signal up.
-    pub fn send_up(&mut self, path: Path, signal: Up)
+    /// Sends the signal in this place up.
+    pub fn send_up(&mut self, path: Path, place: &UpPlace)
         requires { length (queue self.old.up path) < 8 }
-        ensures { self.new ≡ record self.old { up = sent self.old.up path signal } }
+        ensures { self.new ≡ record self.old { up = sent self.old.up path (up_at place.now) } }
     {
-        self.up.send(path, signal);
+        self.up[path.index()].send(place);
     }
 
-    /// The signal that waits longest on the wire up of a path; None where none waits.
-    pub fn front_up(&self, path: Path) -> Option<&Up>
+    /// The place of the signal that waits longest on the wire up of a path; None where none waits.
+    pub fn front_up(&self, path: Path) -> Option<&UpPlace>
         ensures waits { IsSome result ↔ (0 < length (queue self.now.up path)) }
-        ensures first { MatchOption result (first_of self.now.up path ≡ None) (λ signal. first_of self.now.up path ≡ Some signal.now) }
+        ensures first { MatchOption result (first_of self.now.up path ≡ None) (λ place. first_of self.now.up path ≡ Some (up_at place.now)) }
     {
-        self.up.front(path)
+        self.up[path.index()].front()
     }
 
-    /// Takes that signal.
-    pub fn take_up(&mut self, path: Path) -> Up
+    /// Lets that signal go.
+    pub fn drop_up(&mut self, path: Path)
         requires { 0 < length (queue self.old.up path) }
-        ensures first { first_of self.old.up path ≡ Some result }
-        ensures rest { self.new ≡ record self.old { up = taken self.old.up path } }
+        ensures { self.new ≡ record self.old { up = taken self.old.up path } }
     {
-        self.up.take(path)
+        self.up[path.index()].drop_front();
     }
 
     /// All signals on a path vanish, both ways.
     pub fn lose(&mut self, path: Path)
         ensures { self.new ≡ record { down = lost self.old.down path; up = lost self.old.up path } }
     {
-        self.down.lose(path);
-        self.up.lose(path);
+        self.down[path.index()].lose();
+        self.up[path.index()].lose();
     }
 }

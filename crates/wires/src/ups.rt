@@ -1,0 +1,149 @@
+//! The signals that wait on the way up of one path.
+
+ghost use Rattle.std.specs.Prelude.{◌≡◌, ◌<◌, ◌↔◌, [], ◌∷◌, ◌++◌, None, Some, IsTrue, IsSome, MatchOption, length, replicate, slice_get, drop};
+ghost use Rattle.std.specs.Bool.{OnFalse};
+ghost use Rattle.signal_places.specs.Places.{up_at};
+
+use signal_places::signals::UpPlace;
+use std::marker::Model;
+
+/// A place of the ring: the signal that stands there.
+#[derive(Drop)]
+struct UpSlot {
+    place: UpPlace,
+}
+
+impl Model for UpSlot {
+    ghost use Rattle.chan_model.specs.declared.signal.Up.{Up};
+    ghost use Rattle.signal_places.specs.Places.{up_at};
+
+    ghost Value = { Up };
+
+    ghost view = { λ s. up_at s.place };
+}
+
+impl UpSlot {
+    /// A place, with a signal that no one sent.
+    fn new() -> Self {
+        UpSlot {
+            place: UpPlace::new(),
+        }
+    }
+
+    /// Writes there what stands in another place.
+    fn put(&mut self, place: &UpPlace)
+        ensures { self.new ≡ up_at place.now }
+    {
+        self.place.put_from(place);
+    }
+
+    /// The place itself.
+    fn place(&self) -> &UpPlace
+        ensures { up_at result.now ≡ self.now }
+    {
+        &self.place
+    }
+}
+
+/// A ring of eight places, which stay where they are: sending writes the one behind the last signal, and nothing else is
+/// touched.
+#[derive(Drop)]
+pub(crate) struct Ups {
+    slots: [UpSlot; 8],
+    oldest: usize,
+    count: usize,
+}
+
+impl Model for Ups {
+    ghost use Rattle.std.specs.Prelude.{List, ◌<◌, ◌≤◌, ◌≡◌, length};
+    ghost use Rattle.chan_model.specs.declared.signal.Up.{Up};
+    ghost use Rattle.wires.specs.Windows.{window};
+
+    ghost Value = { List Up };
+
+    ghost view = { λ r. window r.oldest r.count r.slots };
+
+    ghost invariant = { λ r. (length r.slots ≡ 8) × (r.oldest < 8) × (r.count ≤ 8) };
+}
+
+impl Ups {
+    /// No signal waits.
+    pub fn new() -> Self
+        ensures { result ≡ [] }
+    {
+        Ups {
+            slots: [
+                UpSlot::new(),
+                UpSlot::new(),
+                UpSlot::new(),
+                UpSlot::new(),
+                UpSlot::new(),
+                UpSlot::new(),
+                UpSlot::new(),
+                UpSlot::new(),
+            ],
+            oldest: 0,
+            count: 0,
+        }
+    }
+
+    /// A ring for each of the eight paths, where no signal waits.
+    pub fn on_each_path() -> [Ups; 8]
+        ensures { result ≡ replicate 8 [] }
+    {
+        [
+            Ups::new(),
+            Ups::new(),
+            Ups::new(),
+            Ups::new(),
+            Ups::new(),
+            Ups::new(),
+            Ups::new(),
+            Ups::new(),
+        ]
+    }
+
+    /// Whether there is no room.
+    pub fn is_full(&self) -> bool
+        ensures full { IsTrue result ↔ (length self.now ≡ 8) }
+        ensures room { OnFalse result (length self.now < 8) }
+    {
+        self.count == 8
+    }
+
+    /// The signal in this place goes to the end.
+    pub fn send(&mut self, place: &UpPlace)
+        requires { length self.old < 8 }
+        ensures { self.new ≡ self.old ++ up_at place.now ∷ [] }
+    {
+        self.slots[(self.oldest + self.count) % 8].put(place);
+        self.count += 1;
+    }
+
+    /// The place of the signal that waits longest; None where none waits.
+    pub fn front(&self) -> Option<&UpPlace>
+        ensures waits { IsSome result ↔ (0 < length self.now) }
+        ensures first { MatchOption result (slice_get self.now 0 ≡ None) (λ place. slice_get self.now 0 ≡ Some (up_at place.now)) }
+    {
+        if self.count == 0 {
+            return None;
+        }
+        Some(self.slots[self.oldest].place())
+    }
+
+    /// Lets that signal go.
+    pub fn drop_front(&mut self)
+        requires { 0 < length self.old }
+        ensures { self.new ≡ drop 1 self.old }
+    {
+        self.oldest = (self.oldest + 1) % 8;
+        self.count -= 1;
+    }
+
+    /// Lets all signals go.
+    pub fn lose(&mut self)
+        ensures { self.new ≡ [] }
+    {
+        self.count = 0;
+    }
+}
