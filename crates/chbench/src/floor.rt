@@ -4,6 +4,7 @@ use chan_events::event::Event;
 use core_lock::locked::{Core, Seat};
 use core_lock::naming::Naming;
 use path_select::Rotating;
+use signal_places::answers::AnswerPlace;
 use subsystem::subsystem::Subsystem;
 
 /// What events are performed at.
@@ -22,6 +23,24 @@ impl Floor for Subsystem<Rotating> {
 
     fn subsystem(&self) -> &Subsystem<Rotating> {
         self
+    }
+}
+
+/// A channel subsystem with a place for the answer of each event.
+#[derive(Drop)]
+pub struct Placed {
+    pub subsystem: Subsystem<Rotating>,
+    pub place: AnswerPlace,
+}
+
+impl Floor for Placed {
+    fn accepts(&mut self, event: Event) -> bool {
+        self.subsystem.step_place(&event, &mut self.place);
+        self.place.is_reply()
+    }
+
+    fn subsystem(&self) -> &Subsystem<Rotating> {
+        &self.subsystem
     }
 }
 

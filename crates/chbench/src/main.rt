@@ -5,6 +5,7 @@
 //!
 //! - `step KIND SUBCHANNELS CYCLES`: so many cycles by `Subsystem::step`, at the last of so many subchannels. The kind is
 //!   `write`, `read`, `chain`, `reconnect`, or `test`, which is one TEST SUBCHANNEL.
+//! - `place KIND SUBCHANNELS CYCLES`: the same by `Subsystem::step_place`, with one place for all answers.
 //! - `enter KIND SUBCHANNELS CYCLES`: the same by `Core::enter`, from the first seat of a core that no lock guards.
 //! - `race CPUS LOOKERS TIMES`: so many CPUs, each on a thread of its own, execute TEST SUBCHANNEL under the lock, so many times
 //!   each, while so many lookers look at the serials of the same subchannel, 64 times as often.
@@ -21,9 +22,11 @@ mod seats;
 
 use crate::bench::{Bench, Count, config_of};
 use crate::cycle::Kind;
+use crate::floor::Placed;
 use crate::race::{Race, RaceCount};
 use crate::seats::{Outcome, Task};
 use path_select::Rotating;
+use signal_places::answers::AnswerPlace;
 use std::alloc::Global;
 use std::process::ExitCode;
 use std::sync::Wait;
@@ -34,8 +37,9 @@ use subsystem::subsystem::Subsystem;
 /// What a group of words asks for.
 #[derive(Clone, Copy)]
 enum Wanted {
-    /// Cycles at a subsystem by itself.
+    /// Cycles at a subsystem by itself; `placed`: the answers in one place.
     Step {
+        placed: bool,
         kind: Kind,
         subchannels: u32,
         cycles: u64,
@@ -55,8 +59,9 @@ impl Wanted {
         let second = words.get(1)?;
         let third = number(words.get(2)?)?;
         let times = words.get(3)?.as_str().parse::<u64>().ok()?;
-        if name == "step" {
+        if name == "step" || name == "place" {
             Some(Wanted::Step {
+                placed: name == "place",
                 kind: Kind::named(second.as_str())?,
                 subchannels: third,
                 cycles: times,
@@ -82,10 +87,17 @@ impl Wanted {
     fn perform<R: Threads + Wait + Sync>(self, rt: &R, alloc: Global) -> Option<Outcome> {
         match self {
             Wanted::Step {
+                placed: false,
                 kind,
                 subchannels,
                 cycles,
             } => Some(Outcome::Count(stepped(alloc, kind, subchannels, cycles)?)),
+            Wanted::Step {
+                placed: true,
+                kind,
+                subchannels,
+                cycles,
+            } => Some(Outcome::Count(placed(alloc, kind, subchannels, cycles)?)),
             Wanted::AtCore(task) => seats::perform(rt, alloc, task),
         }
     }
@@ -96,6 +108,18 @@ fn stepped(alloc: Global, kind: Kind, subchannels: u32, cycles: u64) -> Option<C
     let config = config_of(alloc, subchannels, kind.paths())?;
     let subsystem = Subsystem::new(alloc, config, Rotating).ok()?;
     let mut bench = Bench::at(alloc, subsystem, kind, subchannels)?;
+    bench.measure(alloc, kind, cycles).ok()
+}
+
+/// The same, with one place for all answers.
+fn placed(alloc: Global, kind: Kind, subchannels: u32, cycles: u64) -> Option<Count> {
+    let config = config_of(alloc, subchannels, kind.paths())?;
+    let subsystem = Subsystem::new(alloc, config, Rotating).ok()?;
+    let floor = Placed {
+        subsystem,
+        place: AnswerPlace::new(),
+    };
+    let mut bench = Bench::at(alloc, floor, kind, subchannels)?;
     bench.measure(alloc, kind, cycles).ok()
 }
 
@@ -146,7 +170,7 @@ fn main(rt: HostRuntime) -> io::Result<ExitCode> {
     for group in words.as_slice().chunks(4) {
         let Some(wanted) = Wanted::of(group) else {
             println!(rt;
-                "chbench: step|enter KIND SUBCHANNELS CYCLES | race CPUS LOOKERS TIMES .."
+                "chbench: step|place|enter KIND SUBCHANNELS CYCLES | race CPUS LOOKERS TIMES .."
             )?;
             return Ok(ExitCode::from(2));
         };

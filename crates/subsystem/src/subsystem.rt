@@ -17,6 +17,7 @@ ghost use Rattle.subsystem.specs.Headline.{HasHeld};
 ghost use Rattle.subsystem.specs.Keeping.{BringsOrdered, IsOrdered, Rises, StaysSetUp, all_serials};
 ghost use Rattle.machine_laws.specs.Claims.{IsClearedOnce};
 ghost use Rattle.machine_laws.specs.Beginnings.{IsBegunOnce};
+ghost use Rattle.signal_places.specs.Answers.{answer_at};
 
 use chan_events::event::Event;
 use chan_events::reply::Reply;
@@ -33,6 +34,7 @@ use machine_steps::opening::opened_machine;
 use path_select::PathChoice;
 use program_laws::programs;
 use scsw_irb::serials::Serials;
+use signal_places::answers::{AnswerPlace, Outcome};
 use std::alloc::Global;
 use std::marker::Model;
 use supply::{Given, Supply, make_room};
@@ -129,7 +131,7 @@ impl<P: PathChoice + Drop> Subsystem<P> {
         answer
     }
 
-    /// One event, as `step` has it, with its answer in a place.
+    /// One event, as `step` has it, with its answer written where the caller has it.
     #[inline(never)]
     pub fn step_to(&mut self, event: &Event, answer: &mut Result<Reply, Fault>)
         ensures step { IfOk answer.new (λ reply. Step self.old.state event.now reply self.new.state) }
@@ -145,22 +147,43 @@ impl<P: PathChoice + Drop> Subsystem<P> {
         ensures rises { Rises (all_serials self.old.state) (all_serials self.new.state) }
         ensures ordered { IfOk answer.new (λ reply. BringsOrdered event.now reply) }
     {
+        let mut place = AnswerPlace::new();
+        self.step_place(event, &mut place);
+        *answer = place.answer();
+    }
+
+    /// One event, as `step` has it, with its answer in a place that is made once: no more bytes move than its signals have.
+    #[inline(never)]
+    pub fn step_place(&mut self, event: &Event, place: &mut AnswerPlace)
+        ensures step { IfOk (answer_at place.new) (λ reply. Step self.old.state event.now reply self.new.state) }
+        ensures history { IfOk (answer_at place.new) (λ reply. self.new.history ≡
+            self.old.history ++ record { event = event.now; reply = reply } ∷ []) }
+        ensures set_up { StaysSetUp self.old.state self.new.state }
+        ensures ruled { (answer_at place.new) ≢ Err fault_spec.NoMemory →
+            GoesByRule P.picks self.old.state event.now (answer_at place.new) self.new.state }
+        ensures room { self.old.room ≤ self.new.room + 1 }
+        ensures refused { OnErr (answer_at place.new) (IsAsBefore self.old self.new) }
+        ensures refusal { IfErr (answer_at place.new) (λ f. (f ≡ fault_spec.NoMemory) ⊎ IsRefused self.old.state event.now f) }
+        ensures spent { (answer_at place.new) ≡ Err fault_spec.NoMemory → LacksRoom self.old self.new }
+        ensures rises { Rises (all_serials self.old.state) (all_serials self.new.state) }
+        ensures ordered { IfOk (answer_at place.new) (λ reply. BringsOrdered event.now reply) }
+    {
         numbers();
         setups();
         steps();
         codes();
         if self.history.len() >= (1 << 62) - 1 {
-            *answer = Err(Fault::NoMemory);
+            place.outcome = Outcome::Refused(Fault::NoMemory);
             return;
         }
         if self.history.make_room().is_err() {
-            *answer = Err(Fault::NoMemory);
+            place.outcome = Outcome::Refused(Fault::NoMemory);
             return;
         }
         self.machine
-            .perform(&self.places, &self.choice, event, answer);
-        if let Ok(reply) = &*answer {
-            self.history.append(event, reply);
+            .perform(&self.places, &self.choice, event, place);
+        if place.is_reply() {
+            self.history.append_answer(event, place);
         }
     }
 
