@@ -1,58 +1,69 @@
 //! An instruction on a subchannel that is not provided: its operand is tested, then the condition code is 3.
 
-ghost use Rattle.std.specs.Prelude.{ℕ};
+ghost use Rattle.std.specs.Prelude.{ℕ, List};
 ghost use Rattle.io_step.specs.Executing as spec;
+ghost use Rattle.io_step.specs.Kept.{reply_with};
 ghost use Rattle.chan_events.specs.declared.event.Instruction.TheVariants as instruction_spec;
 
 use crate::operands::{ENABLE_BLOCK, ENABLE_WORD, WORD, check_operand, operand, orb_at, word_at};
 use chan_events::event::Instruction;
-use chan_events::reply::Reply;
 use chan_model::answer::Answer;
 use chan_model::fault::Fault;
 use chan_model::names::Cpu;
 use functions::blocks::enabling_word;
+use kept_events::replies::KeptReply;
 use schib_block::SCHIB_BYTES;
 use schib_block::pmcw::Pmcw;
 use scsw_irb::irb::IRB_BYTES;
 use storage_keys::Storage;
 use zbits::{be_bytes, be_words};
 
-fn start(storage: &Storage, cpu: Cpu, address: u32) -> Result<Reply, Fault>
-    ensures { (word : ℕ) →
-        spec.Executed_absent storage.now cpu (instruction_spec.Ssch word address) result storage.now }
+fn start(storage: &Storage, cpu: Cpu, address: u32) -> Result<KeptReply, Fault>
+    ensures { (bytes : List ℕ) (word : ℕ) →
+        spec.Executed_absent storage.now cpu (instruction_spec.Ssch word address)
+        (reply_with bytes result) storage.now }
 {
     orb_at(storage, cpu, address)?;
-    Ok(Reply::Code(Answer::Three))
+    Ok(KeptReply::Code(Answer::Three))
 }
 
-fn test(storage: &Storage, cpu: Cpu, address: u32) -> Result<Reply, Fault>
-    ensures { (word : ℕ) →
-        spec.Executed_absent storage.now cpu (instruction_spec.Tsch word address) result storage.now }
+fn test(storage: &Storage, cpu: Cpu, address: u32) -> Result<KeptReply, Fault>
+    ensures { (bytes : List ℕ) (word : ℕ) →
+        spec.Executed_absent storage.now cpu (instruction_spec.Tsch word address)
+        (reply_with bytes result) storage.now }
 {
     check_operand(storage, cpu, address, IRB_BYTES, WORD)?;
-    Ok(Reply::Code(Answer::Three))
+    Ok(KeptReply::Code(Answer::Three))
 }
 
-fn store(storage: &Storage, cpu: Cpu, address: u32) -> Result<Reply, Fault>
-    ensures { (word : ℕ) →
-        spec.Executed_absent storage.now cpu (instruction_spec.Stsch word address) result storage.now }
+fn store(storage: &Storage, cpu: Cpu, address: u32) -> Result<KeptReply, Fault>
+    ensures { (bytes : List ℕ) (word : ℕ) →
+        spec.Executed_absent storage.now cpu (instruction_spec.Stsch word address)
+        (reply_with bytes result) storage.now }
 {
     check_operand(storage, cpu, address, SCHIB_BYTES, WORD)?;
-    Ok(Reply::Code(Answer::Three))
+    Ok(KeptReply::Code(Answer::Three))
 }
 
-fn modify(storage: &Storage, cpu: Cpu, address: u32) -> Result<Reply, Fault>
-    ensures { (word : ℕ) →
-        spec.Executed_absent storage.now cpu (instruction_spec.Msch word address) result storage.now }
+fn modify(storage: &Storage, cpu: Cpu, address: u32) -> Result<KeptReply, Fault>
+    ensures { (bytes : List ℕ) (word : ℕ) →
+        spec.Executed_absent storage.now cpu (instruction_spec.Msch word address)
+        (reply_with bytes result) storage.now }
 {
     word_at(storage, cpu, address)?;
-    Ok(Reply::Code(Answer::Three))
+    Ok(KeptReply::Code(Answer::Three))
 }
 
 /// The bits are placed in the block that stands there, where MODIFY SUBCHANNEL takes it.
-fn enable(storage: &mut Storage, cpu: Cpu, subclass: u8, multipath: bool) -> Result<Reply, Fault>
-    ensures { (word : ℕ) →
-        spec.Executed_absent storage.old cpu (instruction_spec.Enable word subclass multipath) result storage.new }
+fn enable(
+    storage: &mut Storage,
+    cpu: Cpu,
+    subclass: u8,
+    multipath: bool,
+) -> Result<KeptReply, Fault>
+    ensures { (bytes : List ℕ) (word : ℕ) →
+        spec.Executed_absent storage.old cpu (instruction_spec.Enable word subclass multipath)
+        (reply_with bytes result) storage.new }
 {
     check_operand(storage, cpu, ENABLE_BLOCK, SCHIB_BYTES, WORD)?;
     let image = operand::<SCHIB_BYTES>(storage, cpu, ENABLE_BLOCK)?;
@@ -62,7 +73,7 @@ fn enable(storage: &mut Storage, cpu: Cpu, subclass: u8, multipath: bool) -> Res
     let words = be_words::<13>(&image);
     let placed = be_bytes::<4>(&[enabling_word(words[1], subclass, multipath)]);
     storage.store_operand(cpu.number(), ENABLE_WORD, &placed);
-    Ok(Reply::Code(Answer::Three))
+    Ok(KeptReply::Code(Answer::Three))
 }
 
 /// Executes an instruction on a subchannel that is not provided. A refusal changes nothing.
@@ -70,8 +81,9 @@ pub fn execute_absent(
     storage: &mut Storage,
     cpu: Cpu,
     instruction: Instruction,
-) -> Result<Reply, Fault>
-    ensures { spec.Executed_absent storage.old cpu instruction result storage.new }
+) -> Result<KeptReply, Fault>
+    ensures { (bytes : List ℕ) →
+        spec.Executed_absent storage.old cpu instruction (reply_with bytes result) storage.new }
 {
     match instruction {
         Instruction::Ssch { address, .. } => start(storage, cpu, address),
@@ -86,6 +98,6 @@ pub fn execute_absent(
         Instruction::Rsch { .. }
         | Instruction::Hsch { .. }
         | Instruction::Csch { .. }
-        | Instruction::Xsch { .. } => Ok(Reply::Code(Answer::Three)),
+        | Instruction::Xsch { .. } => Ok(KeptReply::Code(Answer::Three)),
     }
 }

@@ -1,7 +1,8 @@
 //! Any I/O instruction, on all that it is lent.
 
-ghost use Rattle.std.specs.Prelude.{◌≡◌, IfSome, Some};
+ghost use Rattle.std.specs.Prelude.{◌≡◌, ℕ, List, IfSome, Some};
 ghost use Rattle.machine_model.specs.Bounds.{IsRoomy};
+ghost use Rattle.io_step.specs.Kept.{reply_with};
 ghost use Rattle.io_step.specs.Performing as spec;
 ghost use Rattle.machine_model.specs.OtherSteps.{lent_whole};
 ghost use Rattle.machine_model.specs.Requests as requests_spec;
@@ -11,12 +12,12 @@ use crate::instruction::{ChannelPaths, reply_code};
 use crate::others::{rchp, stcps, stcrw, tpi};
 use crate::provided::execute;
 use chan_events::event::{Instruction, OtherInstruction};
-use chan_events::reply::Reply;
 use chan_model::answer::ConditionCode;
 use chan_model::fault::Fault;
 use chan_model::names::Cpu;
 use channel_reports::Reports;
 use interruptions::Pending;
+use kept_events::replies::KeptReply;
 use storage_keys::Storage;
 use subchannel_model::state::Subchannel;
 
@@ -46,10 +47,10 @@ pub fn perform_provided(
     pending: &mut Pending,
     cpu: Cpu,
     instruction: Instruction,
-) -> Result<Reply, Fault>
+) -> Result<KeptReply, Fault>
     requires { IsRoomy sub.old }
-    ensures done { spec.Performed (spec.lent storage.old (Some sub.old) pending.old) cpu instruction
-        result (spec.lent storage.new (Some sub.new) pending.new) }
+    ensures done { (bytes : List ℕ) → spec.Performed (spec.lent storage.old (Some sub.old) pending.old) cpu instruction
+        (reply_with bytes result) (spec.lent storage.new (Some sub.new) pending.new) }
     ensures setup { sub.new.setup ≡ sub.old.setup }
     ensures numbers { pending.new.numbers ≡ pending.old.numbers }
 {
@@ -68,10 +69,11 @@ pub fn perform(
     pending: &mut Pending,
     cpu: Cpu,
     instruction: Instruction,
-) -> Result<Reply, Fault>
+) -> Result<KeptReply, Fault>
     requires { IfSome (spec.sub_lent sub) (λ s. IsRoomy s) }
-    ensures { spec.Performed (spec.lent storage.old (spec.sub_lent sub.entry) pending.old) cpu instruction
-        result (spec.lent storage.new (spec.sub_left sub.exit) pending.new) }
+    ensures { (bytes : List ℕ) →
+        spec.Performed (spec.lent storage.old (spec.sub_lent sub.entry) pending.old) cpu instruction
+        (reply_with bytes result) (spec.lent storage.new (spec.sub_left sub.exit) pending.new) }
 {
     match sub {
         Some(sub) => perform_provided(storage, sub, pending, cpu, instruction),
@@ -87,26 +89,27 @@ pub fn perform_other(
     paths: &ChannelPaths,
     cpu: Cpu,
     instruction: OtherInstruction,
-) -> Result<Reply, Fault>
-    ensures { spec.Performed_other (lent_whole storage.old pending.old reports.old) paths.now cpu instruction
-        result (lent_whole storage.new pending.new reports.new) }
+) -> Result<KeptReply, Fault>
+    ensures { (bytes : List ℕ) →
+        spec.Performed_other (lent_whole storage.old pending.old reports.old) paths.now cpu instruction
+        (reply_with bytes result) (lent_whole storage.new pending.new reports.new) }
 {
     match instruction {
         OtherInstruction::Tpi { mask, address } => {
             let found = tpi(storage, pending, cpu, mask, address)?;
-            Ok(Reply::Interruption(found))
+            Ok(KeptReply::Interruption(found))
         }
         OtherInstruction::Rchp { path } => {
             let code = rchp(reports, &paths.up, path)?;
-            Ok(Reply::PathReset(code))
+            Ok(KeptReply::PathReset(code))
         }
         OtherInstruction::Stcrw { address } => {
             let report = stcrw(storage, reports, cpu, address)?;
-            Ok(Reply::ChannelReport(report))
+            Ok(KeptReply::ChannelReport(report))
         }
         OtherInstruction::Stcps { address } => {
             let engaged = stcps(storage, &paths.engaged, cpu, address)?;
-            Ok(Reply::Paths { engaged })
+            Ok(KeptReply::Paths { engaged })
         }
     }
 }

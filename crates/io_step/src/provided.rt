@@ -1,7 +1,8 @@
 //! An instruction on a subchannel that is provided.
 
-ghost use Rattle.std.specs.Prelude.{◌≡◌, ◌≤◌, ◌+◌, ℕ, length};
+ghost use Rattle.std.specs.Prelude.{◌≡◌, ◌≤◌, ◌+◌, ℕ, List, length};
 ghost use Rattle.io_step.specs.Executing as spec;
+ghost use Rattle.io_step.specs.Kept.{reply_with};
 ghost use Rattle.machine_model.specs.State.{State};
 ghost use Rattle.machine_model.specs.InstructionSteps as steps;
 ghost use Rattle.machine_model.specs.Bounds.{IsRoomy};
@@ -14,20 +15,26 @@ use crate::turns::{
     test_code_of, test_sub,
 };
 use chan_events::event::Instruction;
-use chan_events::reply::Reply;
 use chan_model::answer::Answer;
 use chan_model::fault::Fault;
 use chan_model::names::Cpu;
 use functions::blocks::{enabling_schib, schib_of};
+use kept_events::replies::KeptReply;
 use schib_block::SCHIB_BYTES;
 use scsw_irb::irb::IRB_BYTES;
 use storage_keys::Storage;
 use subchannel_model::state::Subchannel;
 
-fn start(storage: &Storage, sub: &mut Subchannel, cpu: Cpu, address: u32) -> Result<Reply, Fault>
+fn start(
+    storage: &Storage,
+    sub: &mut Subchannel,
+    cpu: Cpu,
+    address: u32,
+) -> Result<KeptReply, Fault>
     requires { IsRoomy sub.old }
-    ensures done { (word : ℕ) →
-        spec.Executed storage.now sub.old cpu (instruction_spec.Ssch word address) result storage.now sub.new }
+    ensures done { (bytes : List ℕ) (word : ℕ) →
+        spec.Executed storage.now sub.old cpu (instruction_spec.Ssch word address)
+        (reply_with bytes result) storage.now sub.new }
     ensures setup { sub.new.setup ≡ sub.old.setup }
 {
     let orb = orb_at(storage, cpu, address)?;
@@ -47,9 +54,15 @@ fn store_irb(storage: &mut Storage, sub: &Subchannel, cpu: Cpu, address: u32)
     }
 }
 
-fn test(storage: &mut Storage, sub: &mut Subchannel, cpu: Cpu, address: u32) -> Result<Reply, Fault>
-    ensures done { (word : ℕ) →
-        spec.Executed storage.old sub.old cpu (instruction_spec.Tsch word address) result storage.new sub.new }
+fn test(
+    storage: &mut Storage,
+    sub: &mut Subchannel,
+    cpu: Cpu,
+    address: u32,
+) -> Result<KeptReply, Fault>
+    ensures done { (bytes : List ℕ) (word : ℕ) →
+        spec.Executed storage.old sub.old cpu (instruction_spec.Tsch word address)
+        (reply_with bytes result) storage.new sub.new }
     ensures setup { sub.new.setup ≡ sub.old.setup }
 {
     check_operand(storage, cpu, address, IRB_BYTES, WORD)?;
@@ -57,22 +70,34 @@ fn test(storage: &mut Storage, sub: &mut Subchannel, cpu: Cpu, address: u32) -> 
     Ok(test_sub(sub))
 }
 
-fn store(storage: &mut Storage, sub: &Subchannel, cpu: Cpu, address: u32) -> Result<Reply, Fault>
-    ensures { (word : ℕ) →
-        spec.Executed storage.old sub.now cpu (instruction_spec.Stsch word address) result storage.new sub.now }
+fn store(
+    storage: &mut Storage,
+    sub: &Subchannel,
+    cpu: Cpu,
+    address: u32,
+) -> Result<KeptReply, Fault>
+    ensures { (bytes : List ℕ) (word : ℕ) →
+        spec.Executed storage.old sub.now cpu (instruction_spec.Stsch word address)
+        (reply_with bytes result) storage.new sub.now }
 {
     check_operand(storage, cpu, address, SCHIB_BYTES, WORD)?;
     let image = schib_of(sub).write();
     storage.store_operand(cpu.number(), address, &image);
-    Ok(Reply::Status {
+    Ok(KeptReply::Status {
         answer: Answer::Zero(sub.state.serials),
         scsw: sub.state.scsw,
     })
 }
 
-fn modify(storage: &Storage, sub: &mut Subchannel, cpu: Cpu, address: u32) -> Result<Reply, Fault>
-    ensures done { (word : ℕ) →
-        spec.Executed storage.now sub.old cpu (instruction_spec.Msch word address) result storage.now sub.new }
+fn modify(
+    storage: &Storage,
+    sub: &mut Subchannel,
+    cpu: Cpu,
+    address: u32,
+) -> Result<KeptReply, Fault>
+    ensures done { (bytes : List ℕ) (word : ℕ) →
+        spec.Executed storage.now sub.old cpu (instruction_spec.Msch word address)
+        (reply_with bytes result) storage.now sub.new }
     ensures setup { sub.new.setup ≡ sub.old.setup }
 {
     let given = word_at(storage, cpu, address)?;
@@ -85,9 +110,10 @@ fn enable(
     cpu: Cpu,
     subclass: u8,
     multipath: bool,
-) -> Result<Reply, Fault>
-    ensures done { (word : ℕ) → spec.Executed storage.old sub.old cpu (instruction_spec.Enable word subclass multipath)
-        result storage.new sub.new }
+) -> Result<KeptReply, Fault>
+    ensures done { (bytes : List ℕ) (word : ℕ) →
+        spec.Executed storage.old sub.old cpu (instruction_spec.Enable word subclass multipath)
+        (reply_with bytes result) storage.new sub.new }
     ensures setup { sub.new.setup ≡ sub.old.setup }
 {
     check_operand(storage, cpu, ENABLE_BLOCK, SCHIB_BYTES, WORD)?;
@@ -104,9 +130,10 @@ pub fn execute(
     sub: &mut Subchannel,
     cpu: Cpu,
     instruction: Instruction,
-) -> Result<Reply, Fault>
+) -> Result<KeptReply, Fault>
     requires { IsRoomy sub.old }
-    ensures done { spec.Executed storage.old sub.old cpu instruction result storage.new sub.new }
+    ensures done { (bytes : List ℕ) →
+        spec.Executed storage.old sub.old cpu instruction (reply_with bytes result) storage.new sub.new }
     ensures setup { sub.new.setup ≡ sub.old.setup }
 {
     match instruction {

@@ -5,7 +5,6 @@ ghost use Rattle.machine_model.specs.Bounds.{IsRoomy};
 
 use crate::tests::setups::idle_state;
 use chan_events::event::{Instruction, OtherInstruction};
-use chan_events::reply::Reply;
 use chan_model::answer::ConditionCode;
 use chan_model::fault::Fault;
 use chan_model::names::{Cpu, Side};
@@ -14,6 +13,7 @@ use channel_config::parts::{ChpidList, SubchannelSetup};
 use channel_reports::Reports;
 use interruptions::Pending;
 use io_step::{ChannelPaths, perform, perform_other, reply_code};
+use kept_events::replies::KeptReply;
 use scsw_irb::code::IntCode;
 use std::alloc::Global;
 use storage_keys::{Storage, StorageFault};
@@ -127,7 +127,7 @@ fn other(bench: &mut Lent, instruction: OtherInstruction) -> Result<u8, Fault> {
     Ok(code_of(&reply))
 }
 
-fn code_of(reply: &Reply) -> u8 {
+fn code_of(reply: &KeptReply) -> u8 {
     match reply_code(reply) {
         Some(ConditionCode::Zero) => 0,
         Some(ConditionCode::One) => 1,
