@@ -225,14 +225,15 @@ impl Machine {
             return;
         };
         let Some(place) = places.place_in(id, self.subs.as_slice()) else {
-            answer.outcome = Outcome::of(execute_absent(&mut self.storage, cpu, instruction));
+            let came = execute_absent(&mut self.storage, cpu, instruction);
+            answer.tell(came);
             return;
         };
         let sub = &mut self.subs[place];
         let before = engaged(sub);
         let made = sub.state.serials.made;
         let came = perform_provided(&mut self.storage, sub, &mut self.pending, cpu, instruction);
-        answer.outcome = Outcome::of(came);
+        answer.tell(came);
         post(&mut self.pending, sub, made);
         let after = engaged(sub);
         self.engines.change(before, after);
@@ -260,7 +261,7 @@ impl Machine {
             cpu,
             instruction,
         );
-        answer.outcome = Outcome::of(came);
+        answer.tell(came);
     }
 
     #[inline(never)]

@@ -22,6 +22,6 @@ reply_of plain.Pending = reply.Pending
 reply_of plain.Idle = reply.Idle
 
 -- the same of a reply or a refusal
-abbrev pub outcome_of : Result PlainReply Fault → Result Reply Fault
-outcome_of (Ok plain) = Ok (reply_of plain)
-outcome_of (Err fault) = Err fault
+abbrev pub plain_outcome : Result PlainReply Fault → Result Reply Fault
+plain_outcome (Ok plain) = Ok (reply_of plain)
+plain_outcome (Err fault) = Err fault

@@ -3,9 +3,8 @@
 ghost use Rattle.std.specs.Prelude.{◌≡◌, ◌≤◌, ◌++◌, Ok, Err, IsErr, ℕ, List, length};
 ghost use Rattle.std.specs.Bool.{OnTrue, OnFalse};
 ghost use Rattle.kept_events.specs.Replies as kept_spec;
-ghost use Rattle.signal_places.specs.Answers.{answer_at, answer_by, first_of, reply_at};
-ghost use Rattle.signal_places.specs.Plain.{outcome_of};
-ghost use Rattle.signal_places.specs.declared.answers.AnswerPlace.{AnswerPlace};
+ghost use Rattle.signal_places.specs.Answers.{answer_at, first_of, reply_at};
+ghost use Rattle.signal_places.specs.Plain.{plain_outcome};
 ghost use Rattle.chan_events.specs.declared.reply.Reply.TheVariants as reply_spec;
 
 use crate::bytes::put_bytes;
@@ -36,18 +35,6 @@ pub enum Outcome {
     },
 }
 
-impl Outcome {
-    /// The outcome of a reply without signals and bytes, or of a refusal.
-    pub fn of(came: Result<PlainReply, Fault>) -> Self
-        ensures { (place : AnswerPlace) → answer_by result place ≡ outcome_of came }
-    {
-        match came {
-            Ok(reply) => Outcome::Replied(reply),
-            Err(fault) => Outcome::Refused(fault),
-        }
-    }
-}
-
 /// A place for the answer of an event: the signal that was met and the one that was sent, each in a place of its own.
 #[derive(Drop)]
 pub struct AnswerPlace {
@@ -67,6 +54,16 @@ impl AnswerPlace {
             down: DownPlace::new(),
             sent_down: SentDown::new(),
             sent_up: SentUp::new(),
+        }
+    }
+
+    /// The answer is a reply without signals and bytes, or a refusal.
+    pub fn tell(&mut self, came: Result<PlainReply, Fault>)
+        ensures { answer_at self.new ≡ plain_outcome came }
+    {
+        match came {
+            Ok(reply) => self.outcome = Outcome::Replied(reply),
+            Err(fault) => self.outcome = Outcome::Refused(fault),
         }
     }
 

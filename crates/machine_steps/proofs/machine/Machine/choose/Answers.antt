@@ -1,5 +1,6 @@
 use Rattle.std.proofs.Common.{arith, ◌∙◌, ap, subst, sym, List}
 use Rattle.std.specs.Prelude.{All}
+use Rattle.signal_places.specs.Answers.{answer_at}
 use Rattle.machine_steps.specs.Postable.{IsPostable}
 use Rattle.machine_model.specs.State.{State}
 use Rattle.subchannel_model.specs.Choosing.{paths_to_choose}
@@ -14,7 +15,7 @@ returns g c =
     let at = named_at old c.args.self.now c.args.word c.in-Some.place c.place_of.result c.self.view_is c.place_of.ensures.place c.in-Some.is in
     let stands = at_seen old.subs c.args.self.now.subs c.in-Some.place c.index_mut-sub.result.now (ap (λ (s : State). s.subs) c.self.view_is) c.in-Some.ensures.bound c.index_mut-sub.ensures.value in
     let both = chooses g.P.PathChoice.picks old c.args.self.now c.args.word c.in-Some.place c.index_mut-sub.result.now c.index.result.now c.choose_sub.new.sub
-    c.paths_to_choose-paths.result c.choose-path.result c.chosen-what.result c.choose_sub.new.answer c.post.new.pending c.self.view_is at stands c.index.ensures
+    c.paths_to_choose-paths.result c.choose-path.result c.chosen-what.result (answer_at c.choose_sub.new.answer) c.post.new.pending c.self.view_is at stands c.index.ensures
     (c.paths_to_choose-paths.ensures ∙ ap (λ (subs : List Subchannel). paths_to_choose subs c.index.result.now) (c.of-counted.ensures ∙ c.as_slice.ensures.value))
     c.choose-path.ensures.law c.choose-path.ensures.rule c.chosen-what.ensures.chosen c.choose_sub.ensures.gives c.post.ensures in
     record { performs = both.0; ruled = both.1 }

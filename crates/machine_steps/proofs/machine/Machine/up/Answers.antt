@@ -3,6 +3,7 @@ use Rattle.chan_events.specs.declared.event.Event.TheVariants as event
 use Rattle.subchannel_model.specs.declared.state.Subchannel.{Subchannel}
 use Rattle.machine_model.specs.State.{State, with_sub}
 use Rattle.machine_model.specs.Steps.{Performs}
+use Rattle.signal_places.specs.Answers.{answer_at}
 use Rattle.machine_steps.specs.Giving.{MayReturn}
 use Rattle.machine_steps.specs.contracts.machine.Machine.{the_view}
 use Rattle.machine_steps.proofs.Lifting.{at_seen, named_at, up-performs, counted-room, counted-out, counted-in}
@@ -15,10 +16,10 @@ returns c =
     let stands = at_seen old.subs c.args.self.now.subs c.in-Some.place c.index_mut-sub.result.now (ap (λ (s : State). s.subs) c.self.view_is) c.in-Some.ensures.bound c.index_mut-sub.ensures.value in
     let may : MayReturn old.subs c.index.result.now c.args.path c.returns_at-returns.result =
     subst (λ (subs : List Subchannel). MayReturn subs c.index.result.now c.args.path c.returns_at-returns.result) (c.of-counted.ensures ∙ c.as_slice.ensures.value) c.returns_at-returns.ensures in
-    subst (λ (s : State). Performs s (event.Up c.args.word c.args.path) c.up_sub.new.answer
+    subst (λ (s : State). Performs s (event.Up c.args.word c.args.path) (answer_at c.up_sub.new.answer)
     (record (with_sub (record old { storage = c.up_sub.new.storage }) c.in-Some.place c.up_sub.new.sub) { requests = c.post.new.pending })) c.self.view_is
     (up-performs old c.args.word c.args.path c.in-Some.place c.index.result.now c.index_mut-sub.result.now c.up_sub.new.sub c.up_sub.new.storage
-    c.returns_at-returns.result c.up_sub.new.answer c.post.new.pending at stands c.index.ensures may c.up_sub.ensures.gives c.post.ensures)
+    c.returns_at-returns.result (answer_at c.up_sub.new.answer) c.post.new.pending at stands c.index.ensures may c.up_sub.ensures.gives c.post.ensures)
 
 pub change-requires-clause-some : goal.change-requires-clause-some
 change-requires-clause-some c =
