@@ -1,10 +1,11 @@
 -- The answer of an event in a place that is made beforehand.
-use Rattle.std.specs.Prelude.{Result, Ok, Err}
+use Rattle.std.specs.Prelude.{Result, Ok, Err, List, ℕ, [], take}
 use Rattle.chan_model.specs.declared.fault.Fault.{Fault}
 use Rattle.chan_events.specs.declared.reply.Reply.{Reply}
 use Rattle.chan_events.specs.declared.reply.Reply.TheVariants as reply
-use Rattle.kept_events.specs.Replies.{reply_in}
+use Rattle.kept_events.specs.Signals.{down_bytes, up_bytes}
 use Rattle.signal_places.specs.Places.{down_at, up_at}
+use Rattle.signal_places.specs.Plain.{reply_of}
 use Rattle.signal_places.specs.declared.answers.AnswerPlace.{AnswerPlace}
 use Rattle.signal_places.specs.declared.answers.Outcome.{Outcome}
 use Rattle.signal_places.specs.declared.answers.Outcome.TheVariants as outcome
@@ -12,9 +13,32 @@ use Rattle.signal_places.specs.declared.answers.Outcome.TheVariants as outcome
 -- the answer that stands in a place
 abbrev pub answer_by : Outcome → AnswerPlace → Result Reply Fault
 answer_by (outcome.Refused fault) place = Err fault
-answer_by (outcome.Replied kept) place = Ok (reply_in kept place.up.bytes)
+answer_by (outcome.Replied plain) place = Ok (reply_of plain)
+answer_by (outcome.Shown length) place = Ok (reply.Shown (take length.bytes place.up.bytes))
 answer_by (outcome.MetUp taken) place = Ok (reply.Up (up_at place.up) taken place.sent_down)
 answer_by (outcome.MetDown taken) place = Ok (reply.Down (down_at place.down) taken place.sent_up)
 
 abbrev pub answer_at : AnswerPlace → Result Reply Fault
 answer_at place = answer_by place.outcome place
+
+-- the reply that stands there, where no refusal does
+abbrev pub reply_by : Outcome → AnswerPlace → Reply
+reply_by (outcome.Refused fault) place = reply.Done
+reply_by (outcome.Replied plain) place = reply_of plain
+reply_by (outcome.Shown length) place = reply.Shown (take length.bytes place.up.bytes)
+reply_by (outcome.MetUp taken) place = reply.Up (up_at place.up) taken place.sent_down
+reply_by (outcome.MetDown taken) place = reply.Down (down_at place.down) taken place.sent_up
+
+abbrev pub reply_at : AnswerPlace → Reply
+reply_at place = reply_by place.outcome place
+
+-- the bytes of its reply that come first: those of the signal that was met, or those that were asked for
+abbrev pub first_by : Outcome → AnswerPlace → List ℕ
+first_by (outcome.Refused fault) place = []
+first_by (outcome.Replied plain) place = []
+first_by (outcome.Shown length) place = take length.bytes place.up.bytes
+first_by (outcome.MetUp taken) place = up_bytes (up_at place.up)
+first_by (outcome.MetDown taken) place = down_bytes (down_at place.down)
+
+abbrev pub first_of : AnswerPlace → List ℕ
+first_of place = first_by place.outcome place

@@ -1,20 +1,39 @@
 //! A place for the answer of an event.
 
+ghost use Rattle.std.specs.Prelude.{◌≡◌, ◌≤◌, ◌++◌, Ok, Err, IsErr, ℕ, List, length};
+ghost use Rattle.std.specs.Bool.{OnTrue, OnFalse};
+ghost use Rattle.kept_events.specs.Replies as kept_spec;
+ghost use Rattle.signal_places.specs.Answers.{answer_at, first_of, reply_at};
+ghost use Rattle.signal_places.specs.Plain.{reply_of};
+
+use crate::plain::PlainReply;
 use crate::sent::{SentDown, SentUp};
 use crate::signals::{DownPlace, UpPlace};
+use chan_events::reply::Reply;
 use chan_model::fault::Fault;
+use kept_events::lengths::{Length, chunk_of};
 use kept_events::replies::KeptReply;
 
 /// Which answer stands in a place.
 #[derive(Clone, Copy)]
 pub enum Outcome {
     Refused(Fault),
-    Replied(KeptReply),
-    MetUp { taken: bool },
-    MetDown { taken: bool },
+    Replied(PlainReply),
+    /// The bytes that were asked for stand in the place for a signal up.
+    Shown {
+        length: Length,
+    },
+    /// A subchannel met the signal up, and sent the one down.
+    MetUp {
+        taken: bool,
+    },
+    /// A unit met the signal down, and sent the one up.
+    MetDown {
+        taken: bool,
+    },
 }
 
-/// A place for the answer of an event.
+/// A place for the answer of an event: the signal that was met and the one that was sent, each in a place of its own.
 #[derive(Drop)]
 pub struct AnswerPlace {
     pub outcome: Outcome,
@@ -25,7 +44,7 @@ pub struct AnswerPlace {
 }
 
 impl AnswerPlace {
-    /// A place, with an answer that no one gave.
+    /// A place, with a refusal that no one gave.
     pub fn new() -> Self {
         AnswerPlace {
             outcome: Outcome::Refused(Fault::NoMemory),
@@ -33,6 +52,91 @@ impl AnswerPlace {
             down: DownPlace::new(),
             sent_down: SentDown::new(),
             sent_up: SentUp::new(),
+        }
+    }
+
+    /// The answer is a refusal.
+    pub fn refuse(&mut self, fault: Fault)
+        ensures { answer_at self.new ≡ Err fault }
+    {
+        self.outcome = Outcome::Refused(fault);
+    }
+
+    /// The answer is a reply without signals and bytes.
+    pub fn reply(&mut self, reply: PlainReply)
+        ensures { answer_at self.new ≡ Ok (reply_of reply) }
+    {
+        self.outcome = Outcome::Replied(reply);
+    }
+
+    /// Whether it is a reply.
+    pub fn is_reply(&self) -> bool
+        ensures reply { OnTrue result (answer_at self.now ≡ Ok (reply_at self.now)) }
+        ensures refusal { OnFalse result (IsErr (answer_at self.now)) }
+    {
+        !matches!(self.outcome, Outcome::Refused(_))
+    }
+
+    /// The numbers of the reply, where it is one.
+    pub fn kept(&self) -> KeptReply
+        ensures kept { (rest : List ℕ) → kept_spec.reply_in result (kept_spec.reply_bytes (reply_at self.now) ++ rest) ≡ reply_at self.now }
+        ensures length { kept_spec.reply_length result ≡ length (kept_spec.reply_bytes (reply_at self.now)) }
+        ensures bound { length (kept_spec.reply_bytes (reply_at self.now)) ≤ 512 }
+    {
+        match self.outcome {
+            Outcome::Refused(_) => KeptReply::Done,
+            Outcome::Replied(plain) => plain.kept(),
+            Outcome::Shown { length } => KeptReply::Shown { length },
+            Outcome::MetUp { taken } => self.sent_down.kept_reply(taken, &self.up),
+            Outcome::MetDown { taken } => self.sent_up.kept_reply(taken, &self.down),
+        }
+    }
+
+    /// The bytes of the reply that come first: those of the signal that was met, or those that were asked for.
+    pub fn first_bytes(&self) -> &[u8]
+        ensures value { result.now ≡ first_of self.now }
+        ensures bound { length result.now ≤ 256 }
+    {
+        match self.outcome {
+            Outcome::Refused(_) | Outcome::Replied(_) => &[],
+            Outcome::Shown { length } => &self.up.bytes[..length.get()],
+            Outcome::MetUp { .. } => self.up.bytes(),
+            Outcome::MetDown { .. } => self.down.bytes(),
+        }
+    }
+
+    /// The bytes that follow: those of the signal that was sent.
+    pub fn last_bytes(&self) -> &[u8]
+        ensures value { kept_spec.reply_bytes (reply_at self.now) ≡ first_of self.now ++ result.now }
+        ensures bound { length result.now ≤ 256 }
+    {
+        match self.outcome {
+            Outcome::Refused(_) | Outcome::Replied(_) | Outcome::Shown { .. } => &[],
+            Outcome::MetUp { .. } => self.sent_down.bytes(),
+            Outcome::MetDown { .. } => self.sent_up.bytes(),
+        }
+    }
+
+    /// The answer.
+    pub fn answer(&self) -> Result<Reply, Fault>
+        ensures { result ≡ answer_at self.now }
+    {
+        match self.outcome {
+            Outcome::Refused(fault) => Err(fault),
+            Outcome::Replied(plain) => Ok(plain.reply()),
+            Outcome::Shown { length } => Ok(Reply::Shown {
+                bytes: chunk_of(length, &self.up.bytes),
+            }),
+            Outcome::MetUp { taken } => Ok(Reply::Up {
+                signal: self.up.signal(),
+                taken,
+                sent: self.sent_down.signal(),
+            }),
+            Outcome::MetDown { taken } => Ok(Reply::Down {
+                signal: self.down.signal(),
+                taken,
+                sent: self.sent_up.signal(),
+            }),
         }
     }
 }

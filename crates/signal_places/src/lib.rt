@@ -4,5 +4,6 @@
 
 pub mod answers;
 pub mod bytes;
+pub mod plain;
 pub mod sent;
 pub mod signals;

@@ -4,14 +4,17 @@ ghost use Rattle.std.specs.Prelude.{◌≡◌, ◌≤◌, ◌++◌, [], IfSome, 
 ghost use Rattle.chan_model.specs.declared.signal.Down.TheVariants as down;
 ghost use Rattle.chan_model.specs.declared.signal.Load.TheVariants as load;
 ghost use Rattle.chan_model.specs.declared.signal.Up.TheVariants as up;
+ghost use Rattle.chan_events.specs.declared.reply.Reply.TheVariants as reply_spec;
+ghost use Rattle.kept_events.specs.Replies as replies_spec;
 ghost use Rattle.kept_events.specs.Signals as kept_spec;
-ghost use Rattle.signal_places.specs.Places.{down_at, sent_path, up_at};
+ghost use Rattle.signal_places.specs.Places.{down_at, sent_down_bytes, sent_path, sent_up_bytes, up_at};
 
 use crate::bytes;
 use crate::signals::{DownPlace, UpPlace};
 use chan_model::names::Path;
 use chan_model::signal::{OnPath, Down, Up};
 use kept_events::lengths::Length;
+use kept_events::replies::KeptReply;
 use kept_events::signals::{KeptDown, KeptUp};
 use std::marker::Model;
 
@@ -96,9 +99,40 @@ impl SentDown {
 
     /// The place of the signal, where one is sent.
     pub fn place(&self) -> &DownPlace
-        ensures { IfSome self.now (λ sent. sent.signal ≡ down_at result.now) }
+        ensures { (path : ℕ) → sent_path self.now ≡ Some path → self.now ≡ Some (record { path = path; signal = down_at result.now }) }
     {
         &self.place
+    }
+
+    /// Its bytes; none where none is sent.
+    pub fn bytes(&self) -> &[u8]
+        ensures value { result.now ≡ sent_down_bytes self.now }
+        ensures bound { length result.now ≤ 256 }
+    {
+        match self.path {
+            None => &[],
+            Some(_) => self.place.bytes(),
+        }
+    }
+
+    /// The numbers of the reply to a signal up that it is sent for.
+    pub fn kept_reply(&self, taken: bool, met: &UpPlace) -> KeptReply
+        ensures kept { (rest : List ℕ) → replies_spec.reply_in result (replies_spec.reply_bytes (reply_spec.Up (up_at met.now) taken self.now) ++ rest) ≡ reply_spec.Up (up_at met.now) taken self.now }
+        ensures length { replies_spec.reply_length result ≡ length (replies_spec.reply_bytes (reply_spec.Up (up_at met.now) taken self.now)) }
+        ensures bound { length (replies_spec.reply_bytes (reply_spec.Up (up_at met.now) taken self.now)) ≤ 512 }
+    {
+        match self.path {
+            None => KeptReply::Up {
+                taken,
+                signal: met.kept(),
+            },
+            Some(path) => KeptReply::UpSent {
+                taken,
+                path,
+                signal: met.kept(),
+                sent: self.place.kept(),
+            },
+        }
     }
 
     /// The signal that is sent.
@@ -196,9 +230,40 @@ impl SentUp {
 
     /// The place of the signal, where one is sent.
     pub fn place(&self) -> &UpPlace
-        ensures { IfSome self.now (λ sent. sent.signal ≡ up_at result.now) }
+        ensures { (path : ℕ) → sent_path self.now ≡ Some path → self.now ≡ Some (record { path = path; signal = up_at result.now }) }
     {
         &self.place
+    }
+
+    /// Its bytes; none where none is sent.
+    pub fn bytes(&self) -> &[u8]
+        ensures value { result.now ≡ sent_up_bytes self.now }
+        ensures bound { length result.now ≤ 256 }
+    {
+        match self.path {
+            None => &[],
+            Some(_) => self.place.bytes(),
+        }
+    }
+
+    /// The numbers of the reply to a signal down that it is sent for.
+    pub fn kept_reply(&self, taken: bool, met: &DownPlace) -> KeptReply
+        ensures kept { (rest : List ℕ) → replies_spec.reply_in result (replies_spec.reply_bytes (reply_spec.Down (down_at met.now) taken self.now) ++ rest) ≡ reply_spec.Down (down_at met.now) taken self.now }
+        ensures length { replies_spec.reply_length result ≡ length (replies_spec.reply_bytes (reply_spec.Down (down_at met.now) taken self.now)) }
+        ensures bound { length (replies_spec.reply_bytes (reply_spec.Down (down_at met.now) taken self.now)) ≤ 512 }
+    {
+        match self.path {
+            None => KeptReply::Down {
+                taken,
+                signal: met.kept(),
+            },
+            Some(path) => KeptReply::DownSent {
+                taken,
+                path,
+                signal: met.kept(),
+                sent: self.place.kept(),
+            },
+        }
     }
 
     /// The signal that is sent.

@@ -1,6 +1,6 @@
 //! A place for one signal.
 
-ghost use Rattle.std.specs.Prelude.{◌≡◌, ◌≤◌, length};
+ghost use Rattle.std.specs.Prelude.{◌≡◌, ◌≤◌, ◌++◌, ℕ, List, length};
 ghost use Rattle.kept_events.specs.Signals as kept_spec;
 ghost use Rattle.signal_places.specs.Places.{down_at, up_at};
 
@@ -65,6 +65,15 @@ impl DownPlace {
         self.kept.with(&self.bytes)
     }
 
+    /// Its numbers.
+    pub fn kept(&self) -> KeptDown
+        ensures kept { (rest : List ℕ) → kept_spec.down_in result (kept_spec.down_bytes (down_at self.now) ++ rest) ≡ down_at self.now }
+        ensures length { kept_spec.down_length result ≡ length (kept_spec.down_bytes (down_at self.now)) }
+        ensures bound { length (kept_spec.down_bytes (down_at self.now)) ≤ 256 }
+    {
+        self.kept
+    }
+
     /// Its bytes.
     pub fn bytes(&self) -> &[u8]
         ensures value { result.now ≡ kept_spec.down_bytes (down_at self.now) }
@@ -113,6 +122,15 @@ impl UpPlace {
         ensures { result ≡ up_at self.now }
     {
         self.kept.with(&self.bytes)
+    }
+
+    /// Its numbers.
+    pub fn kept(&self) -> KeptUp
+        ensures kept { (rest : List ℕ) → kept_spec.up_in result (kept_spec.up_bytes (up_at self.now) ++ rest) ≡ up_at self.now }
+        ensures length { kept_spec.up_length result ≡ length (kept_spec.up_bytes (up_at self.now)) }
+        ensures bound { length (kept_spec.up_bytes (up_at self.now)) ≤ 256 }
+    {
+        self.kept
     }
 
     /// Its bytes.
