@@ -1,4 +1,3 @@
 pub mod Operands
 pub mod Executing
 pub mod Performing
-pub mod Kept

@@ -1,8 +1,8 @@
 //! An instruction on a subchannel that is not provided: its operand is tested, then the condition code is 3.
 
-ghost use Rattle.std.specs.Prelude.{ℕ, List};
+ghost use Rattle.std.specs.Prelude.{ℕ};
 ghost use Rattle.io_step.specs.Executing as spec;
-ghost use Rattle.io_step.specs.Kept.{reply_with};
+ghost use Rattle.signal_places.specs.Plain.{plain_outcome};
 ghost use Rattle.chan_events.specs.declared.event.Instruction.TheVariants as instruction_spec;
 
 use crate::operands::{ENABLE_BLOCK, ENABLE_WORD, WORD, check_operand, operand, orb_at, word_at};
@@ -11,47 +11,43 @@ use chan_model::answer::Answer;
 use chan_model::fault::Fault;
 use chan_model::names::Cpu;
 use functions::blocks::enabling_word;
-use kept_events::replies::KeptReply;
 use schib_block::SCHIB_BYTES;
 use schib_block::pmcw::Pmcw;
 use scsw_irb::irb::IRB_BYTES;
+use signal_places::plain::PlainReply;
 use storage_keys::Storage;
 use zbits::{be_bytes, be_words};
 
-fn start(storage: &Storage, cpu: Cpu, address: u32) -> Result<KeptReply, Fault>
-    ensures { (bytes : List ℕ) (word : ℕ) →
-        spec.Executed_absent storage.now cpu (instruction_spec.Ssch word address)
-        (reply_with bytes result) storage.now }
+fn start(storage: &Storage, cpu: Cpu, address: u32) -> Result<PlainReply, Fault>
+    ensures { (word : ℕ) →
+        spec.Executed_absent storage.now cpu (instruction_spec.Ssch word address) (plain_outcome result) storage.now }
 {
     orb_at(storage, cpu, address)?;
-    Ok(KeptReply::Code(Answer::Three))
+    Ok(PlainReply::Code(Answer::Three))
 }
 
-fn test(storage: &Storage, cpu: Cpu, address: u32) -> Result<KeptReply, Fault>
-    ensures { (bytes : List ℕ) (word : ℕ) →
-        spec.Executed_absent storage.now cpu (instruction_spec.Tsch word address)
-        (reply_with bytes result) storage.now }
+fn test(storage: &Storage, cpu: Cpu, address: u32) -> Result<PlainReply, Fault>
+    ensures { (word : ℕ) →
+        spec.Executed_absent storage.now cpu (instruction_spec.Tsch word address) (plain_outcome result) storage.now }
 {
     check_operand(storage, cpu, address, IRB_BYTES, WORD)?;
-    Ok(KeptReply::Code(Answer::Three))
+    Ok(PlainReply::Code(Answer::Three))
 }
 
-fn store(storage: &Storage, cpu: Cpu, address: u32) -> Result<KeptReply, Fault>
-    ensures { (bytes : List ℕ) (word : ℕ) →
-        spec.Executed_absent storage.now cpu (instruction_spec.Stsch word address)
-        (reply_with bytes result) storage.now }
+fn store(storage: &Storage, cpu: Cpu, address: u32) -> Result<PlainReply, Fault>
+    ensures { (word : ℕ) →
+        spec.Executed_absent storage.now cpu (instruction_spec.Stsch word address) (plain_outcome result) storage.now }
 {
     check_operand(storage, cpu, address, SCHIB_BYTES, WORD)?;
-    Ok(KeptReply::Code(Answer::Three))
+    Ok(PlainReply::Code(Answer::Three))
 }
 
-fn modify(storage: &Storage, cpu: Cpu, address: u32) -> Result<KeptReply, Fault>
-    ensures { (bytes : List ℕ) (word : ℕ) →
-        spec.Executed_absent storage.now cpu (instruction_spec.Msch word address)
-        (reply_with bytes result) storage.now }
+fn modify(storage: &Storage, cpu: Cpu, address: u32) -> Result<PlainReply, Fault>
+    ensures { (word : ℕ) →
+        spec.Executed_absent storage.now cpu (instruction_spec.Msch word address) (plain_outcome result) storage.now }
 {
     word_at(storage, cpu, address)?;
-    Ok(KeptReply::Code(Answer::Three))
+    Ok(PlainReply::Code(Answer::Three))
 }
 
 /// The bits are placed in the block that stands there, where MODIFY SUBCHANNEL takes it.
@@ -60,10 +56,10 @@ fn enable(
     cpu: Cpu,
     subclass: u8,
     multipath: bool,
-) -> Result<KeptReply, Fault>
-    ensures { (bytes : List ℕ) (word : ℕ) →
+) -> Result<PlainReply, Fault>
+    ensures { (word : ℕ) →
         spec.Executed_absent storage.old cpu (instruction_spec.Enable word subclass multipath)
-        (reply_with bytes result) storage.new }
+        (plain_outcome result) storage.new }
 {
     check_operand(storage, cpu, ENABLE_BLOCK, SCHIB_BYTES, WORD)?;
     let image = operand::<SCHIB_BYTES>(storage, cpu, ENABLE_BLOCK)?;
@@ -73,7 +69,7 @@ fn enable(
     let words = be_words::<13>(&image);
     let placed = be_bytes::<4>(&[enabling_word(words[1], subclass, multipath)]);
     storage.store_operand(cpu.number(), ENABLE_WORD, &placed);
-    Ok(KeptReply::Code(Answer::Three))
+    Ok(PlainReply::Code(Answer::Three))
 }
 
 /// Executes an instruction on a subchannel that is not provided. A refusal changes nothing.
@@ -81,9 +77,8 @@ pub fn execute_absent(
     storage: &mut Storage,
     cpu: Cpu,
     instruction: Instruction,
-) -> Result<KeptReply, Fault>
-    ensures { (bytes : List ℕ) →
-        spec.Executed_absent storage.old cpu instruction (reply_with bytes result) storage.new }
+) -> Result<PlainReply, Fault>
+    ensures { spec.Executed_absent storage.old cpu instruction (plain_outcome result) storage.new }
 {
     match instruction {
         Instruction::Ssch { address, .. } => start(storage, cpu, address),
@@ -98,6 +93,6 @@ pub fn execute_absent(
         Instruction::Rsch { .. }
         | Instruction::Hsch { .. }
         | Instruction::Csch { .. }
-        | Instruction::Xsch { .. } => Ok(KeptReply::Code(Answer::Three)),
+        | Instruction::Xsch { .. } => Ok(PlainReply::Code(Answer::Three)),
     }
 }

@@ -1,12 +1,12 @@
 //! What is known of the channel paths, and the condition code of what an instruction answered.
 
-ghost use Rattle.std.specs.Prelude.{◌≡◌, ℕ, List};
-ghost use Rattle.kept_events.specs.Replies.{reply_in};
+ghost use Rattle.std.specs.Prelude.{◌≡◌};
+ghost use Rattle.signal_places.specs.Plain.{reply_of};
 ghost use Rattle.machine_model.specs.Requests as spec;
 
 use crate::others::PathTable;
 use chan_model::answer::ConditionCode;
-use kept_events::replies::KeptReply;
+use signal_places::plain::PlainReply;
 
 /// What is known of the channel paths, by identifier.
 #[derive(Clone, Copy)]
@@ -19,27 +19,22 @@ pub struct ChannelPaths {
 
 /// The condition code that an instruction with this reply set; None where it sets none, and for the replies of other
 /// events.
-pub fn reply_code(reply: &KeptReply) -> Option<ConditionCode>
-    ensures { (bytes : List ℕ) → result ≡ spec.reply_code (reply_in reply.now bytes) }
+pub fn reply_code(reply: &PlainReply) -> Option<ConditionCode>
+    ensures { result ≡ spec.reply_code (reply_of reply.now) }
 {
     match reply {
-        KeptReply::Code(answer) | KeptReply::Status { answer, .. } => Some(answer.code()),
-        KeptReply::Interruption(None) => Some(ConditionCode::Zero),
-        KeptReply::Interruption(Some(_)) => Some(ConditionCode::One),
-        KeptReply::PathReset(code) => Some(*code),
-        KeptReply::ChannelReport(None) => Some(ConditionCode::One),
-        KeptReply::ChannelReport(Some(_)) => Some(ConditionCode::Zero),
-        KeptReply::Paths { .. }
-        | KeptReply::Done
-        | KeptReply::Shown { .. }
-        | KeptReply::Offered { .. }
-        | KeptReply::ResetSent { .. }
-        | KeptReply::HaltSent { .. }
-        | KeptReply::Pending
-        | KeptReply::Idle
-        | KeptReply::Up { .. }
-        | KeptReply::UpSent { .. }
-        | KeptReply::Down { .. }
-        | KeptReply::DownSent { .. } => None,
+        PlainReply::Code(answer) | PlainReply::Status { answer, .. } => Some(answer.code()),
+        PlainReply::Interruption(None) => Some(ConditionCode::Zero),
+        PlainReply::Interruption(Some(_)) => Some(ConditionCode::One),
+        PlainReply::PathReset(code) => Some(*code),
+        PlainReply::ChannelReport(None) => Some(ConditionCode::One),
+        PlainReply::ChannelReport(Some(_)) => Some(ConditionCode::Zero),
+        PlainReply::Paths { .. }
+        | PlainReply::Done
+        | PlainReply::Offered { .. }
+        | PlainReply::ResetSent { .. }
+        | PlainReply::HaltSent { .. }
+        | PlainReply::Pending
+        | PlainReply::Idle => None,
     }
 }

@@ -6,8 +6,7 @@
 //! RESET CHANNEL PATH, STORE CHANNEL REPORT WORD and STORE CHANNEL PATH STATUS, which name no subchannel, each answer
 //! and leave what one definition gives of storage, of the requests and of the reports. Of the requests, only what TEST
 //! PENDING INTERRUPTION answers is taken out, and that of a subchannel is dropped by its TEST with code 0 or 1 and its
-//! CLEAR with code 0; of the reports only STORE CHANNEL REPORT WORD takes one. A reply is answered as it is kept, and
-//! has no bytes that stand elsewhere: every clause speaks of it with any bytes. A refusal changes nothing, and nothing
+//! CLEAR with code 0; of the reports only STORE CHANNEL REPORT WORD takes one. A refusal changes nothing, and nothing
 //! takes memory. That general register 1 names the lent subchannel is the caller's to see to; what makes requests and
 //! reports is too.
 #![tactic(auto)]

@@ -1,8 +1,8 @@
 //! Any I/O instruction, on all that it is lent.
 
-ghost use Rattle.std.specs.Prelude.{◌≡◌, ℕ, List, IfSome, Some};
+ghost use Rattle.std.specs.Prelude.{◌≡◌, IfSome, Some};
 ghost use Rattle.machine_model.specs.Bounds.{IsRoomy};
-ghost use Rattle.io_step.specs.Kept.{reply_with};
+ghost use Rattle.signal_places.specs.Plain.{plain_outcome};
 ghost use Rattle.io_step.specs.Performing as spec;
 ghost use Rattle.machine_model.specs.OtherSteps.{lent_whole};
 ghost use Rattle.machine_model.specs.Requests as requests_spec;
@@ -17,7 +17,7 @@ use chan_model::fault::Fault;
 use chan_model::names::Cpu;
 use channel_reports::Reports;
 use interruptions::Pending;
-use kept_events::replies::KeptReply;
+use signal_places::plain::PlainReply;
 use storage_keys::Storage;
 use subchannel_model::state::Subchannel;
 
@@ -47,10 +47,10 @@ pub fn perform_provided(
     pending: &mut Pending,
     cpu: Cpu,
     instruction: Instruction,
-) -> Result<KeptReply, Fault>
+) -> Result<PlainReply, Fault>
     requires { IsRoomy sub.old }
-    ensures done { (bytes : List ℕ) → spec.Performed (spec.lent storage.old (Some sub.old) pending.old) cpu instruction
-        (reply_with bytes result) (spec.lent storage.new (Some sub.new) pending.new) }
+    ensures done { spec.Performed (spec.lent storage.old (Some sub.old) pending.old) cpu instruction
+        (plain_outcome result) (spec.lent storage.new (Some sub.new) pending.new) }
     ensures setup { sub.new.setup ≡ sub.old.setup }
     ensures numbers { pending.new.numbers ≡ pending.old.numbers }
 {
@@ -69,11 +69,10 @@ pub fn perform(
     pending: &mut Pending,
     cpu: Cpu,
     instruction: Instruction,
-) -> Result<KeptReply, Fault>
+) -> Result<PlainReply, Fault>
     requires { IfSome (spec.sub_lent sub) (λ s. IsRoomy s) }
-    ensures { (bytes : List ℕ) →
-        spec.Performed (spec.lent storage.old (spec.sub_lent sub.entry) pending.old) cpu instruction
-        (reply_with bytes result) (spec.lent storage.new (spec.sub_left sub.exit) pending.new) }
+    ensures { spec.Performed (spec.lent storage.old (spec.sub_lent sub.entry) pending.old) cpu instruction
+        (plain_outcome result) (spec.lent storage.new (spec.sub_left sub.exit) pending.new) }
 {
     match sub {
         Some(sub) => perform_provided(storage, sub, pending, cpu, instruction),
@@ -89,27 +88,26 @@ pub fn perform_other(
     paths: &ChannelPaths,
     cpu: Cpu,
     instruction: OtherInstruction,
-) -> Result<KeptReply, Fault>
-    ensures { (bytes : List ℕ) →
-        spec.Performed_other (lent_whole storage.old pending.old reports.old) paths.now cpu instruction
-        (reply_with bytes result) (lent_whole storage.new pending.new reports.new) }
+) -> Result<PlainReply, Fault>
+    ensures { spec.Performed_other (lent_whole storage.old pending.old reports.old) paths.now cpu instruction
+        (plain_outcome result) (lent_whole storage.new pending.new reports.new) }
 {
     match instruction {
         OtherInstruction::Tpi { mask, address } => {
             let found = tpi(storage, pending, cpu, mask, address)?;
-            Ok(KeptReply::Interruption(found))
+            Ok(PlainReply::Interruption(found))
         }
         OtherInstruction::Rchp { path } => {
             let code = rchp(reports, &paths.up, path)?;
-            Ok(KeptReply::PathReset(code))
+            Ok(PlainReply::PathReset(code))
         }
         OtherInstruction::Stcrw { address } => {
             let report = stcrw(storage, reports, cpu, address)?;
-            Ok(KeptReply::ChannelReport(report))
+            Ok(PlainReply::ChannelReport(report))
         }
         OtherInstruction::Stcps { address } => {
             let engaged = stcps(storage, &paths.engaged, cpu, address)?;
-            Ok(KeptReply::Paths { engaged })
+            Ok(PlainReply::Paths { engaged })
         }
     }
 }

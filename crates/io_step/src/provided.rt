@@ -1,8 +1,8 @@
 //! An instruction on a subchannel that is provided.
 
-ghost use Rattle.std.specs.Prelude.{◌≡◌, ◌≤◌, ◌+◌, ℕ, List, length};
+ghost use Rattle.std.specs.Prelude.{◌≡◌, ◌≤◌, ◌+◌, ℕ, length};
 ghost use Rattle.io_step.specs.Executing as spec;
-ghost use Rattle.io_step.specs.Kept.{reply_with};
+ghost use Rattle.signal_places.specs.Plain.{plain_outcome};
 ghost use Rattle.machine_model.specs.State.{State};
 ghost use Rattle.machine_model.specs.InstructionSteps as steps;
 ghost use Rattle.machine_model.specs.Bounds.{IsRoomy};
@@ -19,9 +19,9 @@ use chan_model::answer::Answer;
 use chan_model::fault::Fault;
 use chan_model::names::Cpu;
 use functions::blocks::{enabling_schib, schib_of};
-use kept_events::replies::KeptReply;
 use schib_block::SCHIB_BYTES;
 use scsw_irb::irb::IRB_BYTES;
+use signal_places::plain::PlainReply;
 use storage_keys::Storage;
 use subchannel_model::state::Subchannel;
 
@@ -30,11 +30,11 @@ fn start(
     sub: &mut Subchannel,
     cpu: Cpu,
     address: u32,
-) -> Result<KeptReply, Fault>
+) -> Result<PlainReply, Fault>
     requires { IsRoomy sub.old }
-    ensures done { (bytes : List ℕ) (word : ℕ) →
+    ensures done { (word : ℕ) →
         spec.Executed storage.now sub.old cpu (instruction_spec.Ssch word address)
-        (reply_with bytes result) storage.now sub.new }
+        (plain_outcome result) storage.now sub.new }
     ensures setup { sub.new.setup ≡ sub.old.setup }
 {
     let orb = orb_at(storage, cpu, address)?;
@@ -59,10 +59,10 @@ fn test(
     sub: &mut Subchannel,
     cpu: Cpu,
     address: u32,
-) -> Result<KeptReply, Fault>
-    ensures done { (bytes : List ℕ) (word : ℕ) →
+) -> Result<PlainReply, Fault>
+    ensures done { (word : ℕ) →
         spec.Executed storage.old sub.old cpu (instruction_spec.Tsch word address)
-        (reply_with bytes result) storage.new sub.new }
+        (plain_outcome result) storage.new sub.new }
     ensures setup { sub.new.setup ≡ sub.old.setup }
 {
     check_operand(storage, cpu, address, IRB_BYTES, WORD)?;
@@ -75,15 +75,15 @@ fn store(
     sub: &Subchannel,
     cpu: Cpu,
     address: u32,
-) -> Result<KeptReply, Fault>
-    ensures { (bytes : List ℕ) (word : ℕ) →
+) -> Result<PlainReply, Fault>
+    ensures { (word : ℕ) →
         spec.Executed storage.old sub.now cpu (instruction_spec.Stsch word address)
-        (reply_with bytes result) storage.new sub.now }
+        (plain_outcome result) storage.new sub.now }
 {
     check_operand(storage, cpu, address, SCHIB_BYTES, WORD)?;
     let image = schib_of(sub).write();
     storage.store_operand(cpu.number(), address, &image);
-    Ok(KeptReply::Status {
+    Ok(PlainReply::Status {
         answer: Answer::Zero(sub.state.serials),
         scsw: sub.state.scsw,
     })
@@ -94,10 +94,10 @@ fn modify(
     sub: &mut Subchannel,
     cpu: Cpu,
     address: u32,
-) -> Result<KeptReply, Fault>
-    ensures done { (bytes : List ℕ) (word : ℕ) →
+) -> Result<PlainReply, Fault>
+    ensures done { (word : ℕ) →
         spec.Executed storage.now sub.old cpu (instruction_spec.Msch word address)
-        (reply_with bytes result) storage.now sub.new }
+        (plain_outcome result) storage.now sub.new }
     ensures setup { sub.new.setup ≡ sub.old.setup }
 {
     let given = word_at(storage, cpu, address)?;
@@ -110,10 +110,10 @@ fn enable(
     cpu: Cpu,
     subclass: u8,
     multipath: bool,
-) -> Result<KeptReply, Fault>
-    ensures done { (bytes : List ℕ) (word : ℕ) →
+) -> Result<PlainReply, Fault>
+    ensures done { (word : ℕ) →
         spec.Executed storage.old sub.old cpu (instruction_spec.Enable word subclass multipath)
-        (reply_with bytes result) storage.new sub.new }
+        (plain_outcome result) storage.new sub.new }
     ensures setup { sub.new.setup ≡ sub.old.setup }
 {
     check_operand(storage, cpu, ENABLE_BLOCK, SCHIB_BYTES, WORD)?;
@@ -130,10 +130,9 @@ pub fn execute(
     sub: &mut Subchannel,
     cpu: Cpu,
     instruction: Instruction,
-) -> Result<KeptReply, Fault>
+) -> Result<PlainReply, Fault>
     requires { IsRoomy sub.old }
-    ensures done { (bytes : List ℕ) →
-        spec.Executed storage.old sub.old cpu instruction (reply_with bytes result) storage.new sub.new }
+    ensures done { spec.Executed storage.old sub.old cpu instruction (plain_outcome result) storage.new sub.new }
     ensures setup { sub.new.setup ≡ sub.old.setup }
 {
     match instruction {

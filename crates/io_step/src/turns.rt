@@ -1,7 +1,7 @@
 //! What an instruction leaves of its subchannel.
 
-ghost use Rattle.std.specs.Prelude.{◌≡◌, ℕ, List};
-ghost use Rattle.kept_events.specs.Replies.{reply_in};
+ghost use Rattle.std.specs.Prelude.{◌≡◌};
+ghost use Rattle.signal_places.specs.Plain.{reply_of};
 ghost use Rattle.machine_model.specs.InstructionSteps as spec;
 ghost use Rattle.machine_model.specs.Turns as turn_spec;
 ghost use Rattle.machine_model.specs.Bounds.{IsRoomy};
@@ -18,23 +18,22 @@ use chan_model::paths::mask_of_path;
 use functions::codes::condition_of;
 use functions::law::modified;
 use functions::{csch, hsch, msch, rsch, ssch, xsch};
-use kept_events::replies::KeptReply;
 use orb_block::Orb;
 use schib_block::pmcw::Pmcw;
 use scsw_irb::irb::Irb;
+use signal_places::plain::PlainReply;
 use status::tsch;
 use subchannel_model::state::{Subchannel, SubchannelState};
 
 /// START SUBCHANNEL with an allowed ORB.
-pub fn start_sub(sub: &mut Subchannel, orb: Orb) -> KeptReply
+pub fn start_sub(sub: &mut Subchannel, orb: Orb) -> PlainReply
     requires { IsRoomy sub.old }
-    ensures left { (bytes : List ℕ) →
-        spec.function_sub sub.old (spec.code_at ssch_code sub.old) (started sub.old.state orb) ≡
-        turn_spec.leaves (reply_in result bytes) sub.new }
+    ensures left { spec.function_sub sub.old (spec.code_at ssch_code sub.old) (started sub.old.state orb) ≡
+        turn_spec.leaves (reply_of result) sub.new }
     ensures setup { sub.new.setup ≡ sub.old.setup }
 {
     let code = ssch(&mut sub.state, orb);
-    KeptReply::Code(Answer::of(code, sub.state.serials))
+    PlainReply::Code(Answer::of(code, sub.state.serials))
 }
 
 /// The condition code of TEST SUBCHANNEL.
@@ -45,18 +44,17 @@ pub fn test_code_of(sub: &Subchannel) -> ConditionCode
 }
 
 /// TEST SUBCHANNEL, but for the IRB.
-pub fn test_sub(sub: &mut Subchannel) -> KeptReply
-    ensures left { (bytes : List ℕ) →
-        spec.test_with sub.old (spec.code_at test_spec.tsch_code sub.old) ≡
-        turn_spec.leaves (reply_in result bytes) sub.new }
+pub fn test_sub(sub: &mut Subchannel) -> PlainReply
+    ensures left { spec.test_with sub.old (spec.code_at test_spec.tsch_code sub.old) ≡
+        turn_spec.leaves (reply_of result) sub.new }
     ensures setup { sub.new.setup ≡ sub.old.setup }
 {
     let scsw = sub.state.scsw;
     let code = tsch(&mut sub.state);
     let answer = Answer::of(code, sub.state.serials);
     match code {
-        ConditionCode::Zero | ConditionCode::One => KeptReply::Status { answer, scsw },
-        ConditionCode::Two | ConditionCode::Three => KeptReply::Code(answer),
+        ConditionCode::Zero | ConditionCode::One => PlainReply::Status { answer, scsw },
+        ConditionCode::Two | ConditionCode::Three => PlainReply::Code(answer),
     }
 }
 
@@ -81,58 +79,53 @@ pub fn stores_irb(code: ConditionCode) -> bool
 }
 
 /// MODIFY SUBCHANNEL with a word that it allows.
-pub fn modify_sub(sub: &mut Subchannel, given: &Pmcw) -> KeptReply
+pub fn modify_sub(sub: &mut Subchannel, given: &Pmcw) -> PlainReply
     requires { IsAllowedPmcw given.now }
-    ensures left { (bytes : List ℕ) →
-        spec.modify_sub sub.old given.now ≡ turn_spec.leaves (reply_in result bytes) sub.new }
+    ensures left { spec.modify_sub sub.old given.now ≡ turn_spec.leaves (reply_of result) sub.new }
     ensures setup { sub.new.setup ≡ sub.old.setup }
 {
     modified();
     let code = msch(&mut sub.state, given);
-    KeptReply::Code(Answer::of(code, sub.state.serials))
+    PlainReply::Code(Answer::of(code, sub.state.serials))
 }
 
 /// RESUME SUBCHANNEL.
-pub fn resume_sub(sub: &mut Subchannel) -> KeptReply
-    ensures left { (bytes : List ℕ) →
-        spec.function_sub sub.old (spec.code_at rsch_code sub.old) (resumed sub.old.state) ≡
-        turn_spec.leaves (reply_in result bytes) sub.new }
+pub fn resume_sub(sub: &mut Subchannel) -> PlainReply
+    ensures left { spec.function_sub sub.old (spec.code_at rsch_code sub.old) (resumed sub.old.state) ≡
+        turn_spec.leaves (reply_of result) sub.new }
     ensures setup { sub.new.setup ≡ sub.old.setup }
 {
     let code = rsch(&mut sub.state);
-    KeptReply::Code(Answer::of(code, sub.state.serials))
+    PlainReply::Code(Answer::of(code, sub.state.serials))
 }
 
 /// HALT SUBCHANNEL.
-pub fn halt_sub(sub: &mut Subchannel) -> KeptReply
-    ensures left { (bytes : List ℕ) →
-        spec.function_sub sub.old (spec.code_at hsch_code sub.old) (halted sub.old.state) ≡
-        turn_spec.leaves (reply_in result bytes) sub.new }
+pub fn halt_sub(sub: &mut Subchannel) -> PlainReply
+    ensures left { spec.function_sub sub.old (spec.code_at hsch_code sub.old) (halted sub.old.state) ≡
+        turn_spec.leaves (reply_of result) sub.new }
     ensures setup { sub.new.setup ≡ sub.old.setup }
 {
     let code = hsch(&mut sub.state);
-    KeptReply::Code(Answer::of(code, sub.state.serials))
+    PlainReply::Code(Answer::of(code, sub.state.serials))
 }
 
 /// CLEAR SUBCHANNEL.
-pub fn clear_sub(sub: &mut Subchannel) -> KeptReply
+pub fn clear_sub(sub: &mut Subchannel) -> PlainReply
     requires { IsRoomy sub.old }
-    ensures left { (bytes : List ℕ) →
-        spec.function_sub sub.old (spec.code_at csch_code sub.old) (cleared sub.old.state) ≡
-        turn_spec.leaves (reply_in result bytes) sub.new }
+    ensures left { spec.function_sub sub.old (spec.code_at csch_code sub.old) (cleared sub.old.state) ≡
+        turn_spec.leaves (reply_of result) sub.new }
     ensures setup { sub.new.setup ≡ sub.old.setup }
 {
     let code = csch(&mut sub.state);
-    KeptReply::Code(Answer::of(code, sub.state.serials))
+    PlainReply::Code(Answer::of(code, sub.state.serials))
 }
 
 /// CANCEL SUBCHANNEL.
-pub fn cancel_sub(sub: &mut Subchannel) -> KeptReply
-    ensures left { (bytes : List ℕ) →
-        spec.function_sub sub.old (spec.code_at xsch_code sub.old) (cancelled sub.old.state) ≡
-        turn_spec.leaves (reply_in result bytes) sub.new }
+pub fn cancel_sub(sub: &mut Subchannel) -> PlainReply
+    ensures left { spec.function_sub sub.old (spec.code_at xsch_code sub.old) (cancelled sub.old.state) ≡
+        turn_spec.leaves (reply_of result) sub.new }
     ensures setup { sub.new.setup ≡ sub.old.setup }
 {
     let code = xsch(&mut sub.state);
-    KeptReply::Code(Answer::of(code, sub.state.serials))
+    PlainReply::Code(Answer::of(code, sub.state.serials))
 }

@@ -13,8 +13,8 @@ use channel_config::parts::{ChpidList, SubchannelSetup};
 use channel_reports::Reports;
 use interruptions::Pending;
 use io_step::{ChannelPaths, perform, perform_other, reply_code};
-use kept_events::replies::KeptReply;
 use scsw_irb::code::IntCode;
+use signal_places::plain::PlainReply;
 use std::alloc::Global;
 use storage_keys::{Storage, StorageFault};
 use subchannel_model::state::{Subchannel, SubchannelState};
@@ -127,7 +127,7 @@ fn other(bench: &mut Lent, instruction: OtherInstruction) -> Result<u8, Fault> {
     Ok(code_of(&reply))
 }
 
-fn code_of(reply: &KeptReply) -> u8 {
+fn code_of(reply: &PlainReply) -> u8 {
     match reply_code(reply) {
         Some(ConditionCode::Zero) => 0,
         Some(ConditionCode::One) => 1,

@@ -11,7 +11,7 @@ use Rattle.io_step.proofs.Executions.{enables-none, not-allowed, permitted}
 use Rattle.io_step.proofs.absent.enable.Goals as goal
 
 pub returns-then-not-is_allowed : goal.returns-then-not-is_allowed
-returns-then-not-is_allowed c = λ bytes word.
+returns-then-not-is_allowed c = λ word.
     let fetched = permitted (operand_at c.args.storage.now c.args.cpu 0xF00 52 4) c.in_ok-image.image c.in_ok-image.ensures in (
       λ s. subst (λ (x : Result (List ℕ) StorageFault). Enables (state_with_storage s c.args.storage.now) c.args.cpu None c.args.subclass c.args.multipath x (Err fault.Operand)) (sym fetched)
           (c.of_schib.result, c.of_schib.ensures.shown, inl (not-allowed c.of_schib.result c.is_allowed.result c.if-not-is_allowed.true c.is_allowed.ensures.1, refl)),
@@ -19,7 +19,7 @@ returns-then-not-is_allowed c = λ bytes word.
     )
 
 pub returns : goal.returns
-returns c = λ bytes word s.
+returns c = λ word s.
     let fetched = permitted (operand_at c.args.storage.now c.args.cpu 0xF00 52 4) c.in_ok-image.image c.in_ok-image.ensures in
     let left = enables-none s c.args.storage.now c.store_operand.new.self c.args.cpu c.number.result c.args.subclass c.args.multipath c.in_ok-image.image c.be_bytes-placed.result _ c.enabling_word.result
     (c.be_words-words.ensures.words 1 (omega arith)) c.enabling_word.ensures c.be_bytes-placed.ensures c.number.ensures.value c.store_operand.ensures in

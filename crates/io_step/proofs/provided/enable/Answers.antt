@@ -1,9 +1,9 @@
-use Rattle.kept_events.specs.Replies.{reply_in}
+use Rattle.signal_places.specs.Plain.{reply_of}
 use Rattle.io_step.proofs.Executions.{enables-sub}
 use Rattle.io_step.proofs.provided.enable.Goals as goal
 
 pub returns-clause-done : goal.returns-clause-done
-returns-clause-done c = λ bytes word s place there.
+returns-clause-done c = λ word s place there.
     enables-sub s c.args.storage.now c.store_operand.new.self c.args.cpu c.number.result c.args.subclass place c.args.multipath c.args.sub.now c.modify_sub.new.sub
-    c.enabling_schib-schib.result c.write.result c.in_ok-check_operand.field-0 (reply_in c.modify_sub.result bytes) c.in_ok-check_operand.ensures.checked c.number.ensures.value
-    c.enabling_schib-schib.ensures c.write.ensures c.store_operand.ensures (c.modify_sub.ensures.left bytes)
+    c.enabling_schib-schib.result c.write.result c.in_ok-check_operand.field-0 (reply_of c.modify_sub.result) c.in_ok-check_operand.ensures.checked c.number.ensures.value
+    c.enabling_schib-schib.ensures c.write.ensures c.store_operand.ensures c.modify_sub.ensures.left

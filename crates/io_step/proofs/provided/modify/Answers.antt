@@ -4,18 +4,18 @@ use Rattle.storage_keys.specs.Storage.{operand_at}
 use Rattle.machine_model.specs.State.{with_sub}
 use Rattle.machine_model.specs.Turns.{does, at_place}
 use Rattle.io_step.specs.Executing.{state_with_storage}
-use Rattle.kept_events.specs.Replies.{reply_in}
+use Rattle.signal_places.specs.Plain.{reply_of}
 use Rattle.io_step.proofs.Executions.{modifies, modifies-not}
 use Rattle.io_step.proofs.provided.modify.Goals as goal
 
 pub returns-clause-done : goal.returns-clause-done
-returns-clause-done c = λ bytes word s place there.
+returns-clause-done c = λ word s place there.
     let now = state_with_storage s c.args.storage.now in
     modifies now (Some (record { place = place; sub = c.args.sub.now })) (operand_at c.args.storage.now c.args.cpu c.args.address 52 4) c.in_ok-given.given
-    (does (reply_in c.modify_sub.result bytes) (with_sub now place c.modify_sub.new.sub)) c.in_ok-given.ensures.word (sym (ap (at_place now place) (c.modify_sub.ensures.left bytes)))
+    (does (reply_of c.modify_sub.result) (with_sub now place c.modify_sub.new.sub)) c.in_ok-given.ensures.word (sym (ap (at_place now place) c.modify_sub.ensures.left))
 
 pub returns-in_err-given-clause-done : goal.returns-in_err-given-clause-done
-returns-in_err-given-clause-done c = let p = err_from_is_err_and c.from_residual.result c.from_residual.ensures.1 in rw (p.1, p.2) (λ bytes word. (
+returns-in_err-given-clause-done c = let p = err_from_is_err_and c.from_residual.result c.from_residual.ensures.1 in rw (p.1, p.2) (λ word. (
   λ s place there. modifies-not (state_with_storage s c.args.storage.now) (Some (record { place = place; sub = c.args.sub.now }))
       (operand_at c.args.storage.now c.args.cpu c.args.address 52 4) c.in_err-given.field-0.0 c.in_err-given.ensures.word,
   (refl, refl),

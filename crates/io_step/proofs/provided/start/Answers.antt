@@ -3,12 +3,12 @@ use Rattle.storage_keys.specs.Storage.{operand_at}
 use Rattle.machine_model.specs.State.{with_sub}
 use Rattle.machine_model.specs.Turns.{does, at_place}
 use Rattle.io_step.specs.Executing.{state_with_storage}
-use Rattle.kept_events.specs.Replies.{reply_in}
+use Rattle.signal_places.specs.Plain.{reply_of}
 use Rattle.io_step.proofs.Executions.{starts}
 use Rattle.io_step.proofs.provided.start.Goals as goal
 
 pub returns-clause-done : goal.returns-clause-done
-returns-clause-done c = λ bytes word s place there.
+returns-clause-done c = λ word s place there.
     let now = state_with_storage s c.args.storage.now in
     starts now (Some (record { place = place; sub = c.args.sub.now })) (operand_at c.args.storage.now c.args.cpu c.args.address 12 4) c.in_ok-orb.orb
-    (does (reply_in c.start_sub.result bytes) (with_sub now place c.start_sub.new.sub)) c.in_ok-orb.ensures (sym (ap (at_place now place) (c.start_sub.ensures.left bytes)))
+    (does (reply_of c.start_sub.result) (with_sub now place c.start_sub.new.sub)) c.in_ok-orb.ensures (sym (ap (at_place now place) c.start_sub.ensures.left))
