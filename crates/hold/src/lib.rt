@@ -7,10 +7,14 @@ ghost use Rattle.std.specs.Prelude.{◌≡◌, Some};
 ghost use Rattle.chan_model.specs.HoldTable as table;
 ghost use Rattle.chan_model.specs.ResetCauses as causes;
 ghost use Rattle.chan_model.specs.declared.hold_state.HoldPhase.TheVariants as phase;
+ghost use Rattle.signal_places.specs.Places.{came_so, up_at};
 
 use chan_model::hold_state::{HoldPhase, HoldState};
 use chan_model::names::Path;
 use chan_model::signal::{Down, OnPath, Taken, Up};
+use kept_events::signals::KeptDown;
+use signal_places::sent::SentDown;
+use signal_places::signals::UpPlace;
 use std::marker::Model;
 
 /// What the subsystem takes the device of one subchannel to be held by.
@@ -66,12 +70,29 @@ impl Hold {
         ensures state { self.new ≡ (table.offering self.old number path single_path).state }
         ensures sent { Some result ≡ (table.offering self.old number path single_path).sent }
     {
-        self.state.phase = HoldPhase::Offer { number, path };
-        self.state.single_path = single_path;
+        self.offers(number, path, single_path);
         OnPath {
             path,
             signal: Down::Select { number },
         }
+    }
+
+    /// Offers the program, as `offer` has it, with the Select in a place.
+    pub fn offer_to(&mut self, number: u64, path: Path, single_path: bool, sent: &mut SentDown)
+        requires { self.old.phase ≡ phase.Free }
+        ensures state { self.new ≡ (table.offering self.old number path single_path).state }
+        ensures sent { sent.new ≡ (table.offering self.old number path single_path).sent }
+    {
+        self.offers(number, path, single_path);
+        sent.put(path, KeptDown::Select { number });
+    }
+
+    /// The program is offered under this number; the Select is not sent yet.
+    fn offers(&mut self, number: u64, path: Path, single_path: bool)
+        ensures { self.new ≡ (table.offering self.old number path single_path).state }
+    {
+        self.state.phase = HoldPhase::Offer { number, path };
+        self.state.single_path = single_path;
     }
 
     /// Takes a signal that came by a path.
@@ -82,7 +103,21 @@ impl Hold {
         ensures state { self.new ≡ table.hold_after self.old (table.hold_takes self.old path signal.now may) }
         ensures came { result ≡ table.came_of (table.hold_takes self.old path signal.now may) }
     {
-        rows::takes(&mut self.state, path, signal, may)
+        let place = UpPlace::of(signal);
+        let mut sent = SentDown::new();
+        let taken = self.take_to(path, &place, may, &mut sent);
+        Taken {
+            taken,
+            sent: sent.signal(),
+        }
+    }
+
+    /// Takes a signal, as `take` has it, with the signal that is sent in a place: whether it was taken.
+    pub fn take_to(&mut self, path: Path, signal: &UpPlace, may: bool, sent: &mut SentDown) -> bool
+        ensures state { self.new ≡ table.hold_after self.old (table.hold_takes self.old path (up_at signal.now) may) }
+        ensures came { came_so result sent.new ≡ table.came_of (table.hold_takes self.old path (up_at signal.now) may) }
+    {
+        rows::takes(&mut self.state, path, signal, may, sent)
     }
 
     /// Whether the program of this number is connected on this path, by this connection.
@@ -114,16 +149,23 @@ impl Hold {
         ensures state { self.new ≡ table.hold_after self.old (table.letting_go self.old self.old.phase) }
         ensures sent { result ≡ (table.came_of (table.letting_go self.old self.old.phase)).sent }
     {
+        let mut sent = SentDown::new();
+        self.let_go_to(&mut sent);
+        sent.signal()
+    }
+
+    /// Lets the device go, as `let_go` has it, with the Release in a place.
+    pub fn let_go_to(&mut self, sent: &mut SentDown)
+        ensures state { self.new ≡ table.hold_after self.old (table.letting_go self.old self.old.phase) }
+        ensures sent { sent.new ≡ (table.came_of (table.letting_go self.old self.old.phase)).sent }
+    {
         let phase = self.state.phase;
         match phase {
             HoldPhase::On { number, path, .. } => {
                 self.state.phase = HoldPhase::Letting { number, path };
-                Some(OnPath {
-                    path,
-                    signal: Down::Release { number },
-                })
+                sent.put(path, KeptDown::Release { number });
             }
-            _ => None,
+            _ => sent.clear(),
         }
     }
 
@@ -140,18 +182,28 @@ impl Hold {
         ensures state { self.new ≡ table.hold_after self.old (table.sending_reset self.old self.old.phase path) }
         ensures sent { result ≡ (table.came_of (table.sending_reset self.old self.old.phase path)).sent }
     {
+        let mut sent = SentDown::new();
+        self.send_reset_to(path, &mut sent);
+        sent.signal()
+    }
+
+    /// Sends the Reset, as `send_reset` has it, with the Reset in a place.
+    pub fn send_reset_to(&mut self, path: Path, sent: &mut SentDown)
+        ensures state { self.new ≡ table.hold_after self.old (table.sending_reset self.old self.old.phase path) }
+        ensures sent { sent.new ≡ (table.came_of (table.sending_reset self.old self.old.phase path)).sent }
+    {
         match self.state.phase {
             HoldPhase::Reset { number } => {
                 self.state.reset_path = Some(path);
-                Some(OnPath {
+                sent.put(
                     path,
-                    signal: Down::Reset {
+                    KeptDown::Reset {
                         number,
                         restarts: self.state.known,
                     },
-                })
+                );
             }
-            _ => None,
+            _ => sent.clear(),
         }
     }
 
