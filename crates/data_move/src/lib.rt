@@ -4,3 +4,4 @@
 
 pub mod law;
 pub mod moving;
+pub mod slices;

@@ -7,9 +7,10 @@ ghost use Rattle.data_move.specs.Moving as spec;
 ghost use Rattle.data_move.specs.Moving.{IsAt};
 ghost use Rattle.data_move.specs.Accesses as access;
 
+use crate::slices::ChunkSlice;
 use byteorder::{BigEndian, ByteOrder};
 use ccw_codec::Ccw;
-use chan_model::chunk::{CHUNK_BYTES, Chunk};
+use chan_model::chunk::CHUNK_BYTES;
 use channel_program::check::Check;
 use idaw::{ListKind, WordFault, piece};
 use std::marker::Model;
@@ -164,11 +165,11 @@ impl Move {
         }
     }
 
-    /// The bytes of the next chunk as storage has them. Skipped bytes are not copied: there are none.
+    /// The bytes of the next chunk, where storage has them. Of skipped bytes there are none.
     ///
     /// Program check where a byte is not in storage, otherwise protection check where the key does not
     /// permit the fetch of each of them.
-    pub fn copied(&self, storage: &Storage, key: u8) -> Result<Chunk, Check>
+    pub fn copied<'a>(&self, storage: &'a Storage, key: u8) -> Result<ChunkSlice<'a>, Check>
         ensures copied { IfOk result (λ chunk. access.copied storage.now key self.now ≡ Ok chunk) }
         ensures refused { IfErr result (λ check. access.copied storage.now key self.now ≡ Err check) }
         ensures whole { IfOk result (λ chunk. self.now.skipped ≡ false → length chunk ≡ spec.room self.now) }
@@ -176,11 +177,11 @@ impl Move {
         ensures places { IfOk result (λ chunk. (r : Reach) → IsAt r self.now → chunk ≡ access.bytes_at storage.now.bytes (places_from (block self.now.kind) r self.now.done (spec.room self.now))) }
     {
         if self.skipped {
-            return Ok(Chunk::new());
+            return Ok(ChunkSlice::empty());
         }
         fetched_bytes();
         match storage.fetch(key, self.piece, usize::from(self.room())) {
-            Ok(bytes) => Ok(Chunk::of(bytes)),
+            Ok(bytes) => Ok(ChunkSlice::of(bytes)),
             Err(fault) => Err(Check::of(fault)),
         }
     }

@@ -1,8 +1,10 @@
 -- A Back that is not granted leaves the path that was used last, and the one that was chosen last.
 use Rattle.std.proofs.Common.{◌≡◌, refl, sym, ◌∙◌, ap, ℕ, Bool, true, false, Option}
 use Rattle.chan_model.specs.declared.signal.Down.{Down}
+use Rattle.chan_model.specs.declared.signal.OnPath.{OnPath}
 use Rattle.chan_model.specs.declared.signal.Taken.{Taken}
 use Rattle.chan_model.specs.HoldTable.{HoldStep, hold_after, came_of}
+use Rattle.signal_places.specs.Places.{came_so}
 use Rattle.subchannel_model.specs.declared.state.SubchannelState.{SubchannelState}
 use Rattle.subchannel_model.specs.declared.state.UpStep.{UpStep}
 use Rattle.subchannel_model.specs.Taking.{back, by_hold, is_granted, returned}
@@ -12,9 +14,10 @@ ungranted : (s : SubchannelState) (came : Taken Down) (p : ℕ) (b : Bool) → b
 ungranted s came p false e = refl
 ungranted s came p true e = absurd (cc e)
 
-pub back_refused : (s : SubchannelState) (p : ℕ) (step : Option HoldStep) (next : UpStep) → next ≡ by_hold s step → is_granted next.came.sent ≡ false →
-    next ≡ back s p step
-back_refused s p step next e g =
+pub back_refused : (s : SubchannelState) (p : ℕ) (step : Option HoldStep) (next : SubchannelState) (taken : Bool) (sent : Option (OnPath Down)) →
+    subchannel_stepped next (came_so taken sent) ≡ by_hold s step → is_granted sent ≡ false →
+    subchannel_stepped next (came_so taken sent) ≡ back s p step
+back_refused s p step next taken sent e g =
     e
     ∙ ungranted (record s { hold = hold_after s.hold step }) (came_of step) p (is_granted (came_of step).sent)
     (ap (λ (n : UpStep). is_granted n.came.sent) (sym e) ∙ g)

@@ -1,14 +1,12 @@
 -- The path by which a subchannel answers a signal, if it does.
-use Rattle.std.specs.Prelude.{ℕ, Bool, false, if◌then◌else◌, Option, None, Some, is_some}
+use Rattle.std.specs.Prelude.{ℕ, Bool, ◌==◌, ◌&&◌, nat_lt, if◌then◌else◌, Option, None, Some}
 use Rattle.storage_keys.specs.Storage.{Contents}
 use Rattle.chan_model.specs.declared.hold_state.HoldPhase.{HoldPhase}
 use Rattle.chan_model.specs.declared.hold_state.HoldPhase.TheVariants as hold
 use Rattle.chan_model.specs.declared.signal.Down.{Down}
 use Rattle.chan_model.specs.declared.signal.OnPath.{OnPath}
-use Rattle.chan_model.specs.declared.signal.Taken.{Taken}
 use Rattle.chan_model.specs.declared.signal.Up.{Up}
 use Rattle.chan_model.specs.declared.signal.Up.TheVariants as up
-use Rattle.chan_model.specs.HoldTable.{HoldStep, hold_takes, hold_after, came_of}
 use Rattle.chan_model.specs.UnitReports.{is_last_end, has_device_end}
 use Rattle.transfer.specs.declared.CommandStart.{CommandStart}
 use Rattle.transfer.specs.declared.CommandStart.TheVariants as came
@@ -17,7 +15,7 @@ use Rattle.subchannel_model.specs.declared.signals.EndSignal.{EndSignal}
 use Rattle.subchannel_model.specs.declared.state.ActiveProgram.{ActiveProgram}
 use Rattle.subchannel_model.specs.declared.state.SubchannelState.{SubchannelState}
 use Rattle.subchannel_model.specs.Ends.{has_status_modifier, chains_command}
-use Rattle.subchannel_model.specs.Taking.{standing, goes_ahead, with_end, may_attend}
+use Rattle.subchannel_model.specs.Taking.{with_end, may_attend}
 use Rattle.subchannel.specs.declared.moving.Moved.{Moved}
 use Rattle.subchannel.specs.declared.ending.Ended.{Ended}
 use Rattle.subchannel.specs.Working.{moved_by, ended_by}
@@ -33,12 +31,20 @@ abbrev pub held_path : HoldPhase → Option ℕ
 held_path (hold.On t p c) = Some p
 held_path phase = None
 
-abbrev pub accepted_path : SubchannelState → HoldPhase → Taken Down → Option ℕ
-accepted_path s (hold.On t p c) taken = only_if (is_some (standing s)) p
-accepted_path s phase taken = path_of taken.sent
+-- an Accept of the number that is offered is answered by the path of the offer: with the first command, or with a Release
+abbrev pub accept_path : HoldPhase → ℕ → Option ℕ
+accept_path (hold.Offer t p) u = only_if (u == t) p
+accept_path phase u = None
 
-abbrev pub accept_path : SubchannelState → Option HoldStep → Option ℕ
-accept_path s step = if (came_of step).taken then accepted_path s (hold_after s.hold step).phase (came_of step) else None
+-- a Back under a connection above the last seen is answered by its path: with a Grant, or with a Refuse
+abbrev pub back_path : ℕ → HoldPhase → ℕ → ℕ → ℕ → Option ℕ
+back_path seen (hold.On t q d) p u c = only_if ((u == t) && nat_lt seen c) p
+back_path seen (hold.Away t) p u c = only_if ((u == t) && nat_lt seen c) p
+back_path seen phase p u c = None
+
+abbrev pub attention_path : HoldPhase → ℕ → Bool → Option ℕ
+attention_path hold.Free p may = only_if may p
+attention_path phase p may = None
 
 abbrev pub data_path : Option Moved → Option ℕ
 data_path None = None
@@ -64,11 +70,11 @@ abbrev pub end_path : Contents → SubchannelState → Option Ended → Option �
 end_path storage s None = None
 end_path storage s (Some e) = ended_path storage s e.begun e.signal
 
-abbrev pub answer_path : Bool → Contents → SubchannelState → ℕ → Up → Option ℕ
-answer_path returns storage s p (up.Accept t) = accept_path s (hold_takes s.hold p (up.Accept t) (goes_ahead s))
-answer_path returns storage s p (up.Data t c n seq load) = data_path (moved_by s p (up.Data t c n seq load))
-answer_path returns storage s p (up.End t n status more) = end_path storage s (ended_by s p (up.End t n status more))
-answer_path returns storage s p (up.Back t c) = path_of (came_of (hold_takes s.hold p (up.Back t c) returns)).sent
-answer_path returns storage s p (up.Notice b) = None
-answer_path returns storage s p (up.Attn a status) = path_of (came_of (hold_takes s.hold p (up.Attn a status) (may_attend s))).sent
-answer_path returns storage s p signal = path_of (came_of (hold_takes s.hold p signal false)).sent
+-- no answer depends on whether a program that is away may come back: a Back that is answered is granted or refused by its path
+abbrev pub answer_path : Contents → SubchannelState → ℕ → Up → Option ℕ
+answer_path storage s p (up.Accept t) = accept_path s.hold.phase t
+answer_path storage s p (up.Data t c n seq load) = data_path (moved_by s p (up.Data t c n seq load))
+answer_path storage s p (up.End t n status more) = end_path storage s (ended_by s p (up.End t n status more))
+answer_path storage s p (up.Back t c) = back_path s.hold.seen s.hold.phase p t c
+answer_path storage s p (up.Attn a status) = attention_path s.hold.phase p (may_attend s)
+answer_path storage s p signal = None

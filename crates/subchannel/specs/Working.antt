@@ -2,6 +2,7 @@
 use Rattle.std.specs.Prelude.{ℕ, ◌==◌, if◌then◌else◌, Option, None, Some}
 use Rattle.storage_keys.specs.Storage.{Contents}
 use Rattle.chan_model.specs.declared.signal.Load.{Load}
+use Rattle.chan_model.specs.declared.signal.Load.TheVariants as load
 use Rattle.chan_model.specs.declared.signal.Up.{Up}
 use Rattle.chan_model.specs.declared.signal.Up.TheVariants as up
 use Rattle.chan_model.specs.HoldTable.{is_connected, is_on}
@@ -25,9 +26,21 @@ abbrev pub moved_at : SubchannelState → DataSignal → Option Moved
 moved_at s signal =
     if is_connected s.hold.phase signal.path signal.number signal.connection then moved_of s.begun signal else None
 
+abbrev pub data_by : ℕ → Up → Option DataSignal
+data_by p (up.Data t c n seq load) = Some (record { path = p; number = t; connection = c; command = n; sequence = seq })
+data_by p signal = None
+
+abbrev pub moved_when : SubchannelState → Option DataSignal → Option Moved
+moved_when s None = None
+moved_when s (Some signal) = moved_at s signal
+
 abbrev pub moved_by : SubchannelState → ℕ → Up → Option Moved
-moved_by s p (up.Data t c n seq load) = moved_at s (record { path = p; number = t; connection = c; command = n; sequence = seq })
-moved_by s p signal = None
+moved_by s p signal = moved_when s (data_by p signal)
+
+-- what a Data brings; of another signal it is nothing
+abbrev pub load_of : Up → Load
+load_of (up.Data t c n seq load) = load
+load_of signal = load.Absorbed 0
 
 -- it moves bytes, and any other is ignored
 abbrev pub data_met : Contents → SubchannelState → Load → Option Moved → Met

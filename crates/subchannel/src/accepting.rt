@@ -2,18 +2,21 @@
 
 ghost use Rattle.std.specs.Prelude.{◌≡◌, ◌<◌, ◌^◌};
 ghost use Rattle.chan_model.specs.HoldTable.{hold_takes};
+ghost use Rattle.signal_places.specs.Places.{came_so, up_at};
 ghost use Rattle.subchannel_model.specs.Taking as spec;
 ghost use Rattle.subchannel.specs.Stepping.{subchannel_stepped};
 ghost use Rattle.transfer.specs.Commands as transfer_spec;
 
-use crate::answers::{ignored, let_go, quiet, sent};
+use crate::answers::{ignored, let_go, quiet, send};
 use crate::intermediate::{interrupt, suspend};
 use ccw_walk::Walk;
 use chan_model::hold_state::HoldPhase;
 use chan_model::names::Path;
-use chan_model::signal::{Down, Taken, Up};
 use hold::Hold;
+use kept_events::signals::KeptDown;
 use scsw_irb::scsw::Scsw;
+use signal_places::sent::SentDown;
+use signal_places::signals::UpPlace;
 use status::make_pending;
 use storage_keys::Storage;
 use subchannel_model::cause::StatusCause;
@@ -106,20 +109,21 @@ fn send_first(
     number: u64,
     program: Program,
     command: WithRoom,
-) -> Taken<Down>
+    sent: &mut SentDown,
+) -> bool
     requires { state.old.serials.made < 2 ^ 63 }
-    ensures { subchannel_stepped state.new result ≡ spec.sends_first state.old path number program command }
+    ensures { subchannel_stepped state.new (came_so result sent.new) ≡ spec.sends_first state.old path number program command }
 {
     let WithRoom { transfer, room } = command;
-    let signal = Down::Command {
-        number,
-        command: transfer.command,
+    let signal = KeptDown::Command {
         code: transfer.code,
         room,
+        number,
+        command: transfer.command,
     };
     take_over(state, program, transfer);
     interrupt(state);
-    sent(path, signal)
+    send(sent, path, signal)
 }
 
 fn begin_with(
@@ -128,9 +132,10 @@ fn begin_with(
     path: Path,
     number: u64,
     standing: &ProgramPosition,
-) -> Taken<Down>
+    sent: &mut SentDown,
+) -> bool
     requires { state.old.serials.made < 2 ^ 63 }
-    ensures { subchannel_stepped state.new result ≡ spec.begin_with storage.now state.old path number standing.now (transfer_spec.first_command storage.now standing.now.walk) }
+    ensures { subchannel_stepped state.new (came_so result sent.new) ≡ spec.begin_with storage.now state.old path number standing.now (transfer_spec.first_command storage.now standing.now.walk) }
 {
     let first = first_command(storage, standing.walk);
     let program = standing.program;
@@ -138,11 +143,11 @@ fn begin_with(
     match first.came {
         CommandStart::Begins(transfer) => {
             let command = begun_with_room(storage, &transfer);
-            send_first(state, path, number, program, command)
+            send_first(state, path, number, program, command, sent)
         }
         CommandStart::Suspends => {
             suspend(state, program, first.walk, count);
-            let_go(state)
+            let_go(state, sent)
         }
         CommandStart::Stops(check) => {
             let tried = first.walk.tried();
@@ -152,7 +157,7 @@ fn begin_with(
                 count,
             };
             make_pending(state, &cause);
-            let_go(state)
+            let_go(state, sent)
         }
     }
 }
@@ -162,13 +167,14 @@ fn begin_standing(
     state: &mut SubchannelState,
     path: Path,
     number: u64,
-) -> Taken<Down>
+    sent: &mut SentDown,
+) -> bool
     requires { state.old.serials.made < 2 ^ 63 }
-    ensures { subchannel_stepped state.new result ≡ spec.begin_standing storage.now state.old path number (spec.standing state.old) }
+    ensures { subchannel_stepped state.new (came_so result sent.new) ≡ spec.begin_standing storage.now state.old path number (spec.standing state.old) }
 {
     match standing(state) {
-        None => quiet(),
-        Some(standing) => begin_with(storage, state, path, number, &standing),
+        None => quiet(sent),
+        Some(standing) => begin_with(storage, state, path, number, &standing, sent),
     }
 }
 
@@ -182,22 +188,28 @@ fn do_halt(state: &mut SubchannelState)
     }
 }
 
-fn accepted_by(storage: &Storage, state: &mut SubchannelState, came: Taken<Down>) -> Taken<Down>
+/// What comes of an Accept that the hold took as `sent` says.
+fn accepted_by(
+    storage: &Storage,
+    state: &mut SubchannelState,
+    taken: bool,
+    sent: &mut SentDown,
+) -> bool
     requires { state.old.serials.made < 2 ^ 63 }
-    ensures { subchannel_stepped state.new result ≡ spec.accepted_by storage.now state.old state.old.hold.phase came }
+    ensures { subchannel_stepped state.new (came_so result sent.new) ≡ spec.accepted_by storage.now state.old state.old.hold.phase (came_so taken sent.old) }
 {
     let phase = state.hold.phase;
     match phase {
         HoldPhase::On { number, path, .. } => {
             use_path(&mut state.pmcw, path);
-            begin_standing(storage, state, path, number)
+            begin_standing(storage, state, path, number, sent)
         }
         HoldPhase::Letting { path, .. } => {
             use_path(&mut state.pmcw, path);
             do_halt(state);
-            came
+            taken
         }
-        _ => came,
+        _ => taken,
     }
 }
 
@@ -206,16 +218,17 @@ pub(crate) fn accept(
     storage: &Storage,
     state: &mut SubchannelState,
     path: Path,
-    signal: &Up,
-) -> Taken<Down>
+    signal: &UpPlace,
+    sent: &mut SentDown,
+) -> bool
     requires { state.old.serials.made < 2 ^ 63 }
-    ensures { subchannel_stepped state.new result ≡ spec.accept storage.now state.old (hold_takes state.old.hold path signal.now (spec.goes_ahead state.old)) }
+    ensures { subchannel_stepped state.new (came_so result sent.new) ≡ spec.accept storage.now state.old (hold_takes state.old.hold path (up_at signal.now) (spec.goes_ahead state.old)) }
 {
     let mut hold = Hold::of(state.hold);
-    let came = hold.take(path, signal, goes_ahead(state));
-    if !came.taken {
-        return ignored();
+    let taken = hold.take_to(path, signal, goes_ahead(state), sent);
+    if !taken {
+        return ignored(sent);
     }
     state.hold = hold.state();
-    accepted_by(storage, state, came)
+    accepted_by(storage, state, taken, sent)
 }

@@ -1,35 +1,25 @@
 //! Whether a signal is answered, and by which path, before anything is changed.
 
 ghost use Rattle.std.specs.Prelude.{◌≡◌, ◌<◌, ◌^◌, false};
-ghost use Rattle.chan_model.specs.HoldTable.{hold_takes, came_of};
+ghost use Rattle.signal_places.specs.Places.{up_at};
 ghost use Rattle.subchannel_model.specs.Taking as taking_spec;
 ghost use Rattle.subchannel_model.specs.Ends as end_spec;
 ghost use Rattle.subchannel.specs.Answering as spec;
 ghost use Rattle.subchannel.specs.Working as working_spec;
 ghost use Rattle.transfer.specs.Commands as transfer_spec;
 
-use crate::accepting::{goes_ahead, standing};
 use crate::attending::may_attend;
 use crate::ending::{Ended, ended_by, with_end};
 use crate::moving::moved_by;
 use chan_model::hold_state::{HoldPhase, HoldState};
 use chan_model::names::Path;
-use chan_model::signal::{Down, OnPath, Up};
-use hold::Hold;
+use kept_events::signals::KeptUp;
+use signal_places::signals::UpPlace;
 use status::ends::{chains_command, is_last_end};
 use storage_keys::Storage;
 use subchannel_model::state::SubchannelState;
 use transfer::CommandStart;
 use transfer::commands::next_command;
-
-fn path_of(sent: &Option<OnPath<Down>>) -> Option<Path>
-    ensures { result ≡ spec.path_of sent.now }
-{
-    match sent {
-        None => None,
-        Some(signal) => Some(signal.path),
-    }
-}
 
 fn held_path(hold: &HoldState) -> Option<Path>
     ensures { result ≡ spec.held_path hold.now.phase }
@@ -40,39 +30,42 @@ fn held_path(hold: &HoldState) -> Option<Path>
     }
 }
 
-/// By which path the hold answers.
-fn hold_path(state: &SubchannelState, path: Path, signal: &Up, may: bool) -> Option<Path>
-    ensures { result ≡ spec.path_of (came_of (hold_takes state.now.hold path signal.now may)).sent }
+/// An Accept is answered by the path of the offer: with the first command, or with a Release.
+fn accept_path(hold: &HoldState, number: u64) -> Option<Path>
+    ensures { result ≡ spec.accept_path hold.now.phase number }
 {
-    let mut hold = Hold::of(state.hold);
-    let came = hold.take(path, signal, may);
-    path_of(&came.sent)
-}
-
-fn accept_path(state: &SubchannelState, path: Path, signal: &Up) -> Option<Path>
-    ensures { result ≡ spec.accept_path state.now (hold_takes state.now.hold path signal.now (taking_spec.goes_ahead state.now)) }
-{
-    let mut hold = Hold::of(state.hold);
-    let came = hold.take(path, signal, goes_ahead(state));
-    if !came.taken {
-        return None;
-    }
-    let phase = hold.state().phase;
-    match phase {
-        HoldPhase::On { path, .. } => {
-            if standing(state).is_some() {
-                Some(path)
-            } else {
-                None
-            }
-        }
-        _ => path_of(&came.sent),
+    match hold.phase {
+        HoldPhase::Offer {
+            number: offered,
+            path,
+        } if number == offered => Some(path),
+        _ => None,
     }
 }
 
-fn data_path(state: &SubchannelState, path: Path, signal: &Up) -> Option<Path>
+/// A Back is answered by its path: with a Grant, or with a Refuse.
+fn back_path(hold: &HoldState, path: Path, number: u64, connection: u64) -> Option<Path>
+    ensures { result ≡ spec.back_path hold.now.seen hold.now.phase path number connection }
+{
+    match hold.phase {
+        HoldPhase::On { number: held, .. } | HoldPhase::Away { number: held }
+            if number == held && hold.seen < connection => { Some(path) }
+        _ => None,
+    }
+}
+
+fn attention_path(state: &SubchannelState, path: Path) -> Option<Path>
+    ensures { result ≡ spec.attention_path state.now.hold.phase path (taking_spec.may_attend state.now) }
+{
+    match state.hold.phase {
+        HoldPhase::Free if may_attend(state) => Some(path),
+        _ => None,
+    }
+}
+
+fn data_path(state: &SubchannelState, path: Path, signal: &UpPlace) -> Option<Path>
     requires { taking_spec.IsBelow state.now.begun }
-    ensures { result ≡ spec.data_path (working_spec.moved_by state.now path signal.now) }
+    ensures { result ≡ spec.data_path (working_spec.moved_by state.now path (up_at signal.now)) }
 {
     let moved = moved_by(state, path, signal)?;
     Some(moved.signal.path)
@@ -126,9 +119,14 @@ fn ended_path(storage: &Storage, state: &SubchannelState, ended: &Ended) -> Opti
     }
 }
 
-fn end_path(storage: &Storage, state: &SubchannelState, path: Path, signal: &Up) -> Option<Path>
+fn end_path(
+    storage: &Storage,
+    state: &SubchannelState,
+    path: Path,
+    signal: &UpPlace,
+) -> Option<Path>
     requires { taking_spec.IsBelow state.now.begun }
-    ensures { result ≡ spec.end_path storage.now state.now (working_spec.ended_by state.now path signal.now) }
+    ensures { result ≡ spec.end_path storage.now state.now (working_spec.ended_by state.now path (up_at signal.now)) }
 {
     match ended_by(state, path, signal) {
         None => None,
@@ -136,26 +134,29 @@ fn end_path(storage: &Storage, state: &SubchannelState, path: Path, signal: &Up)
     }
 }
 
-/// The path of the signal that is sent as this one is taken. None where none is sent. `returns`: a program that is away may
-/// come back by the path.
+/// The path of the signal that is sent as this one is taken. None where none is sent. It is the same whether a program that
+/// is away may come back by the path (`returns`) or not.
 #[tactic(auto, using(crate::proofs::Answered::takes_answers))]
 pub fn answer_path(
     storage: &Storage,
     state: &SubchannelState,
     path: Path,
-    signal: &Up,
+    signal: &UpPlace,
     returns: bool,
 ) -> Option<Path>
     requires { taking_spec.IsBelow state.now.begun }
-    ensures { spec.path_of (taking_spec.takes_up returns storage.now state.now path signal.now).step.came.sent ≡ result }
+    ensures { spec.path_of (taking_spec.takes_up returns storage.now state.now path (up_at signal.now)).step.came.sent ≡ result }
 {
-    match signal {
-        Up::Accept { .. } => accept_path(state, path, signal),
-        Up::Data { .. } => data_path(state, path, signal),
-        Up::End { .. } => end_path(storage, state, path, signal),
-        Up::Back { .. } => hold_path(state, path, signal, returns),
-        Up::Notice { .. } => None,
-        Up::Attn { .. } => hold_path(state, path, signal, may_attend(state)),
-        _ => hold_path(state, path, signal, false),
+    match signal.kept {
+        KeptUp::Accept { number } => accept_path(&state.hold, number),
+        KeptUp::Absorbed { .. } | KeptUp::Bytes { .. } => data_path(state, path, signal),
+        KeptUp::End { .. } => end_path(storage, state, path, signal),
+        KeptUp::Back { number, connection } => back_path(&state.hold, path, number, connection),
+        KeptUp::Attn { .. } => attention_path(state, path),
+        KeptUp::Busy { .. }
+        | KeptUp::Leave { .. }
+        | KeptUp::Released { .. }
+        | KeptUp::Cleared { .. }
+        | KeptUp::Notice { .. } => None,
     }
 }

@@ -1,62 +1,62 @@
 //! What may come of a signal.
 
-ghost use Rattle.std.specs.Prelude.{◌≡◌, None, Some};
+ghost use Rattle.std.specs.Prelude.{◌≡◌, [], None, Some};
 ghost use Rattle.chan_model.specs.HoldTable.{hold_takes};
+ghost use Rattle.kept_events.specs.Signals as kept_spec;
+ghost use Rattle.signal_places.specs.Places.{came_so, up_at};
 ghost use Rattle.subchannel_model.specs.Taking as spec;
 ghost use Rattle.subchannel.specs.Stepping.{not_taken, subchannel_stepped, taken_with};
 
 use chan_model::names::Path;
-use chan_model::signal::{Down, OnPath, Taken, Up};
 use hold::Hold;
+use kept_events::signals::KeptDown;
+use signal_places::sent::SentDown;
+use signal_places::signals::UpPlace;
 use subchannel_model::state::SubchannelState;
 
-pub(crate) fn ignored() -> Taken<Down>
-    ensures { result ≡ not_taken }
+pub(crate) fn ignored(sent: &mut SentDown) -> bool
+    ensures { came_so result sent.new ≡ not_taken }
 {
-    Taken {
-        taken: false,
-        sent: None,
-    }
+    sent.clear();
+    false
 }
 
-pub(crate) fn quiet() -> Taken<Down>
-    ensures { result ≡ taken_with None }
+pub(crate) fn quiet(sent: &mut SentDown) -> bool
+    ensures { came_so result sent.new ≡ taken_with None }
 {
-    Taken {
-        taken: true,
-        sent: None,
-    }
+    sent.clear();
+    true
 }
 
-pub(crate) fn sent(path: Path, signal: Down) -> Taken<Down>
-    ensures { result ≡ taken_with (Some (record { path = path; signal = signal })) }
+pub(crate) fn send(sent: &mut SentDown, path: Path, signal: KeptDown) -> bool
+    requires { kept_spec.down_length signal ≡ 0 }
+    ensures { came_so result sent.new ≡ taken_with (Some (record { path = path; signal = kept_spec.down_in signal [] })) }
 {
-    Taken {
-        taken: true,
-        sent: Some(OnPath { path, signal }),
-    }
+    sent.put(path, signal);
+    true
 }
 
-pub(crate) fn let_go(state: &mut SubchannelState) -> Taken<Down>
-    ensures { subchannel_stepped state.new result ≡ spec.let_go state.old }
+pub(crate) fn let_go(state: &mut SubchannelState, sent: &mut SentDown) -> bool
+    ensures { subchannel_stepped state.new (came_so result sent.new) ≡ spec.let_go state.old }
 {
     let mut hold = Hold::of(state.hold);
-    let sent = hold.let_go();
+    hold.let_go_to(sent);
     state.hold = hold.state();
-    Taken { taken: true, sent }
+    true
 }
 
 /// What the hold does with a signal; `may`: it may be taken, as the hold's table asks.
 pub(crate) fn by_hold(
     state: &mut SubchannelState,
     path: Path,
-    signal: &Up,
+    signal: &UpPlace,
     may: bool,
-) -> Taken<Down>
-    ensures { subchannel_stepped state.new result ≡ spec.by_hold state.old (hold_takes state.old.hold path signal.now may) }
+    sent: &mut SentDown,
+) -> bool
+    ensures { subchannel_stepped state.new (came_so result sent.new) ≡ spec.by_hold state.old (hold_takes state.old.hold path (up_at signal.now) may) }
 {
     let mut hold = Hold::of(state.hold);
-    let came = hold.take(path, signal, may);
+    let taken = hold.take_to(path, signal, may, sent);
     state.hold = hold.state();
-    came
+    taken
 }

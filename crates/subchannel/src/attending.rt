@@ -2,14 +2,16 @@
 
 ghost use Rattle.std.specs.Prelude.{◌≡◌, ◌<◌, ◌^◌};
 ghost use Rattle.chan_model.specs.HoldTable.{hold_takes};
+ghost use Rattle.signal_places.specs.Places.{came_so, up_at};
 ghost use Rattle.subchannel_model.specs.Taking as spec;
 ghost use Rattle.subchannel.specs.Stepping.{subchannel_stepped};
 
 use crate::answers::by_hold;
 use chan_model::names::Path;
-use chan_model::signal::{Down, Taken, Up};
 use scsw_irb::scsw::ActivityControl;
 use scsw_irb::status::DeviceStatus;
+use signal_places::sent::SentDown;
+use signal_places::signals::UpPlace;
 use status::make_pending;
 use subchannel_model::cause::StatusCause;
 use subchannel_model::state::SubchannelState;
@@ -37,16 +39,17 @@ pub fn may_attend(state: &SubchannelState) -> bool
 pub(crate) fn attend(
     state: &mut SubchannelState,
     path: Path,
-    signal: &Up,
+    signal: &UpPlace,
     status: DeviceStatus,
-) -> Taken<Down>
+    sent: &mut SentDown,
+) -> bool
     requires { state.old.serials.made < 2 ^ 63 }
-    ensures { subchannel_stepped state.new result ≡ spec.attend state.old status (hold_takes state.old.hold path signal.now (spec.may_attend state.old)) }
+    ensures { subchannel_stepped state.new (came_so result sent.new) ≡ spec.attend state.old status (hold_takes state.old.hold path (up_at signal.now) (spec.may_attend state.old)) }
 {
     let may = may_attend(state);
-    let came = by_hold(state, path, signal, may);
-    if came.taken && status != DeviceStatus::CONTROL_UNIT_END {
+    let taken = by_hold(state, path, signal, may, sent);
+    if taken && status != DeviceStatus::CONTROL_UNIT_END {
         make_pending(state, &StatusCause::Attention);
     }
-    came
+    taken
 }

@@ -1,6 +1,6 @@
 //! What the subsystem does of itself for a subchannel (own).
 
-ghost use Rattle.std.specs.Prelude.{◌≡◌, ◌<◌, ◌+◌, ◌^◌, if◌then◌else◌, IfSome, Some, true};
+ghost use Rattle.std.specs.Prelude.{◌≡◌, ◌<◌, ◌+◌, ◌^◌, if◌then◌else◌, IfSome, true};
 ghost use Rattle.chan_model.specs.HoldTable.{came_of, offering, sending_reset};
 ghost use Rattle.subchannel_model.specs.Choosing as spec;
 ghost use Rattle.chan_model.specs.declared.hold_state.HoldPhase.TheVariants as phase;
@@ -10,11 +10,11 @@ use allegiance::path_use::{PathUse, is_any};
 use chan_model::hold_state::{HoldPhase, HoldState};
 use chan_model::names::Path;
 use chan_model::paths::PathSet;
-use chan_model::signal::{Down, OnPath};
 use finding::engines::Counted;
 use functions::blocks::available_paths;
 use hold::Hold;
 use scsw_irb::scsw::Scsw;
+use signal_places::sent::SentDown;
 use subchannel_model::state::{
     Candidate, Chosen, PmcwState, Program, ProgramPosition, Subchannel, SubchannelState,
 };
@@ -221,16 +221,15 @@ pub fn mark_lost_paths(sub: &mut Subchannel, choice: &Option<Path>)
     }
 }
 
-/// The Reset that is due is sent on a path: the signal. None where there is none to send.
-pub fn send_reset(state: &mut SubchannelState, path: Path) -> Option<OnPath<Down>>
+/// The Reset that is due is sent on a path; nothing is sent where there is none.
+pub fn send_reset(state: &mut SubchannelState, path: Path, sent: &mut SentDown)
     ensures state { state.new ≡ spec.reset_sent state.old path }
-    ensures sent { result ≡ (came_of (sending_reset state.old.hold state.old.hold.phase path)).sent }
+    ensures sent { sent.new ≡ (came_of (sending_reset state.old.hold state.old.hold.phase path)).sent }
 {
     let mut hold = Hold::of(state.hold);
-    let sent = hold.send_reset(path);
+    hold.send_reset_to(path, sent);
     state.hold = hold.state();
     state.last_path = Some(path);
-    sent
 }
 
 fn tell_halt(scsw: &mut Scsw)
@@ -246,18 +245,17 @@ pub fn send_halt(state: &mut SubchannelState)
     tell_halt(&mut state.scsw);
 }
 
-/// A program is offered on a path under a fresh number: the signal.
-pub fn offer(state: &mut SubchannelState, program: &Program, path: Path) -> OnPath<Down>
+/// A program is offered on a path under a fresh number.
+pub fn offer(state: &mut SubchannelState, program: &Program, path: Path, sent: &mut SentDown)
     requires drawn { state.old.drawn < 2 ^ 63 }
     requires free { state.old.hold.phase ≡ phase.Free }
     ensures state { state.new ≡ spec.offered state.old program.now path }
-    ensures sent { Some result ≡ (offering state.old.hold (state.old.drawn + 1) path program.now.single_path).sent }
+    ensures sent { sent.new ≡ (offering state.old.hold (state.old.drawn + 1) path program.now.single_path).sent }
 {
     state.drawn += 1;
     let mut hold = Hold::of(state.hold);
-    let sent = hold.offer(state.drawn, path, program.single_path);
+    hold.offer_to(state.drawn, path, program.single_path, sent);
     state.hold = hold.state();
     state.offered = program.start;
     state.last_path = Some(path);
-    sent
 }

@@ -1,20 +1,23 @@
 //! What a subchannel does as a command ends.
 
 ghost use Rattle.std.specs.Prelude.{◌≡◌, ◌<◌, ◌^◌, IfSome};
+ghost use Rattle.signal_places.specs.Places.{came_so, up_at};
 ghost use Rattle.subchannel_model.specs.Ends as end_spec;
 ghost use Rattle.subchannel_model.specs.Taking as spec;
 ghost use Rattle.subchannel.specs.Stepping.{subchannel_stepped};
 ghost use Rattle.subchannel.specs.Working as working_spec;
 ghost use Rattle.transfer.specs.Commands as transfer_spec;
 
-use crate::answers::{ignored, let_go, quiet, sent};
+use crate::answers::{ignored, let_go, quiet, send};
 use crate::intermediate::suspend;
 use crate::moving::move_on;
 use allegiance::allegiances;
 use allegiance::allegiances::dedicated;
 use chan_model::names::Path;
-use chan_model::signal::{Down, Taken, Up};
 use hold::Hold;
+use kept_events::signals::{KeptDown, KeptUp};
+use signal_places::sent::SentDown;
+use signal_places::signals::UpPlace;
 use status::ends::{chains_command, is_last_end};
 use status::make_pending;
 use storage_keys::Storage;
@@ -32,33 +35,33 @@ pub(crate) struct Ended {
 }
 
 /// The End that a signal is. None where it is none, or not of the command at hand of the program that is connected.
-pub(crate) fn ended_by(state: &SubchannelState, path: Path, signal: &Up) -> Option<Ended>
+pub(crate) fn ended_by(state: &SubchannelState, path: Path, signal: &UpPlace) -> Option<Ended>
     requires { spec.IsBelow state.now.begun }
-    ensures ended { result ≡ working_spec.ended_by state.now path signal.now }
+    ensures ended { result ≡ working_spec.ended_by state.now path (up_at signal.now) }
     ensures command { IfSome result (λ e. e.begun.transfer.command < 2 ^ 63) }
 {
-    let Up::End {
-        number,
-        command,
+    let KeptUp::End {
         status,
         more,
-    } = signal
+        number,
+        command,
+    } = signal.kept
     else {
         return None;
     };
-    if !Hold::of(state.hold).is_on(*number) {
+    if !Hold::of(state.hold).is_on(number) {
         return None;
     }
     let begun = state.begun?;
-    if *command != begun.transfer.command {
+    if command != begun.transfer.command {
         return None;
     }
     let signal = EndSignal {
         path,
-        number: *number,
-        command: *command,
-        status: *status,
-        more: *more,
+        number,
+        command,
+        status,
+        more,
     };
     Some(Ended { begun, signal })
 }
@@ -90,25 +93,30 @@ pub(crate) fn with_end(ended: &Ended) -> Ended
     next
 }
 
-fn send_next(state: &mut SubchannelState, ended: &Ended, command: WithRoom) -> Taken<Down>
+fn send_next(
+    state: &mut SubchannelState,
+    ended: &Ended,
+    command: WithRoom,
+    sent: &mut SentDown,
+) -> bool
     requires { state.old.serials.made < 2 ^ 63 }
-    ensures { subchannel_stepped state.new result ≡ spec.sends_next state.old ended.now.begun ended.now.signal command }
+    ensures { subchannel_stepped state.new (came_so result sent.new) ≡ spec.sends_next state.old ended.now.begun ended.now.signal command }
 {
     let WithRoom { transfer, room } = command;
-    let next = Down::Command {
-        number: ended.signal.number,
-        command: transfer.command,
+    let next = KeptDown::Command {
         code: transfer.code,
         room,
+        number: ended.signal.number,
+        command: transfer.command,
     };
     move_on(state, &ended.begun, transfer);
-    sent(ended.signal.path, next)
+    send(sent, ended.signal.path, next)
 }
 
-fn chain(storage: &Storage, state: &mut SubchannelState, ended: &Ended) -> Taken<Down>
+fn chain(storage: &Storage, state: &mut SubchannelState, ended: &Ended, sent: &mut SentDown) -> bool
     requires made { state.old.serials.made < 2 ^ 63 }
     requires command { ended.now.begun.transfer.command < 2 ^ 63 }
-    ensures { subchannel_stepped state.new result ≡ spec.chain_with storage.now state.old ended.now.begun ended.now.signal (transfer_spec.next_command storage.now ended.now.begun.transfer (end_spec.has_status_modifier ended.now.signal.status)) }
+    ensures { subchannel_stepped state.new (came_so result sent.new) ≡ spec.chain_with storage.now state.old ended.now.begun ended.now.signal (transfer_spec.next_command storage.now ended.now.begun.transfer (end_spec.has_status_modifier ended.now.signal.status)) }
 {
     let begun = &ended.begun;
     let next = next_command(storage, &begun.transfer, ended.signal.status.has_modifier());
@@ -116,12 +124,12 @@ fn chain(storage: &Storage, state: &mut SubchannelState, ended: &Ended) -> Taken
     match next.came {
         CommandStart::Begins(transfer) => {
             let command = begun_with_room(storage, &transfer);
-            send_next(state, ended, command)
+            send_next(state, ended, command, sent)
         }
         CommandStart::Suspends => {
             take_end(state, ended.signal);
             suspend(state, begun.program, next.walk, count);
-            let_go(state)
+            let_go(state, sent)
         }
         CommandStart::Stops(check) => {
             let tried = next.walk.tried();
@@ -132,22 +140,22 @@ fn chain(storage: &Storage, state: &mut SubchannelState, ended: &Ended) -> Taken
             };
             take_end(state, ended.signal);
             make_pending(state, &cause);
-            let_go(state)
+            let_go(state, sent)
         }
     }
 }
 
-fn go_on(storage: &Storage, state: &mut SubchannelState, ended: &Ended) -> Taken<Down>
+fn go_on(storage: &Storage, state: &mut SubchannelState, ended: &Ended, sent: &mut SentDown) -> bool
     requires made { state.old.serials.made < 2 ^ 63 }
     requires command { ended.now.begun.transfer.command < 2 ^ 63 }
-    ensures { subchannel_stepped state.new result ≡ spec.goes_on storage.now state.old ended.now.begun ended.now.signal }
+    ensures { subchannel_stepped state.new (came_so result sent.new) ≡ spec.goes_on storage.now state.old ended.now.begun ended.now.signal }
 {
     if ended.signal.status.has_device_end() {
-        return chain(storage, state, ended);
+        return chain(storage, state, ended, sent);
     }
     take_end(state, ended.signal);
     state.begun = Some(ended.begun);
-    quiet()
+    quiet(sent)
 }
 
 fn show_end(state: &mut SubchannelState, ended: &Ended)
@@ -164,25 +172,34 @@ fn show_end(state: &mut SubchannelState, ended: &Ended)
     state.dedicated = dedicated_by_end(before, ended.signal);
 }
 
-fn stop_at(state: &mut SubchannelState, ended: &Ended) -> Taken<Down>
+fn stop_at(state: &mut SubchannelState, ended: &Ended, sent: &mut SentDown) -> bool
     requires { state.old.serials.made < 2 ^ 63 }
-    ensures { subchannel_stepped state.new result ≡ spec.stops_at state.old ended.now.begun ended.now.signal }
+    ensures { subchannel_stepped state.new (came_so result sent.new) ≡ spec.stops_at state.old ended.now.begun ended.now.signal }
 {
     let last = is_last_end(ended.signal.status);
     show_end(state, ended);
-    if last { let_go(state) } else { quiet() }
+    if last {
+        let_go(state, sent)
+    } else {
+        quiet(sent)
+    }
 }
 
-fn command_ended(storage: &Storage, state: &mut SubchannelState, ended: &Ended) -> Taken<Down>
+fn command_ended(
+    storage: &Storage,
+    state: &mut SubchannelState,
+    ended: &Ended,
+    sent: &mut SentDown,
+) -> bool
     requires made { state.old.serials.made < 2 ^ 63 }
     requires command { ended.now.begun.transfer.command < 2 ^ 63 }
-    ensures { subchannel_stepped state.new result ≡ spec.command_ended storage.now state.old ended.now.begun ended.now.signal }
+    ensures { subchannel_stepped state.new (came_so result sent.new) ≡ spec.command_ended storage.now state.old ended.now.begun ended.now.signal }
 {
     let signal = ended.signal;
     if chains_command(state.scsw, &ended.begun, signal.status, signal.more) {
-        go_on(storage, state, &with_end(ended))
+        go_on(storage, state, &with_end(ended), sent)
     } else {
-        stop_at(state, ended)
+        stop_at(state, ended, sent)
     }
 }
 
@@ -191,14 +208,15 @@ pub(crate) fn end_command(
     storage: &Storage,
     state: &mut SubchannelState,
     path: Path,
-    signal: &Up,
-) -> Taken<Down>
+    signal: &UpPlace,
+    sent: &mut SentDown,
+) -> bool
     requires made { state.old.serials.made < 2 ^ 63 }
     requires below { spec.IsBelow state.old.begun }
-    ensures { subchannel_stepped state.new result ≡ working_spec.end_met storage.now state.old (working_spec.ended_by state.old path signal.now) }
+    ensures { subchannel_stepped state.new (came_so result sent.new) ≡ working_spec.end_met storage.now state.old (working_spec.ended_by state.old path (up_at signal.now)) }
 {
     match ended_by(state, path, signal) {
-        None => ignored(),
-        Some(ended) => command_ended(storage, state, &ended),
+        None => ignored(sent),
+        Some(ended) => command_ended(storage, state, &ended, sent),
     }
 }

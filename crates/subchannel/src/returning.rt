@@ -2,43 +2,42 @@
 
 ghost use Rattle.std.specs.Prelude.{◌≡◌, Some};
 ghost use Rattle.chan_model.specs.HoldTable.{hold_takes};
+ghost use Rattle.signal_places.specs.Places.{came_so, up_at};
 ghost use Rattle.subchannel_model.specs.Taking as spec;
 ghost use Rattle.subchannel.specs.Stepping.{subchannel_stepped};
 
 use crate::answers::by_hold;
 use chan_model::names::Path;
-use chan_model::signal::{Down, OnPath, Taken, Up};
+use kept_events::signals::KeptDown;
+use signal_places::sent::SentDown;
+use signal_places::signals::UpPlace;
 use subchannel_model::state::{PmcwState, SubchannelState};
 
 /// Back: the path of a Grant is the one that was used last, and the one that was chosen last.
 pub(crate) fn come_back(
     state: &mut SubchannelState,
     path: Path,
-    signal: &Up,
+    signal: &UpPlace,
     returns: bool,
-) -> Taken<Down>
-    ensures { subchannel_stepped state.new result ≡ spec.back state.old path (hold_takes state.old.hold path signal.now returns) }
+    sent: &mut SentDown,
+) -> bool
+    ensures { subchannel_stepped state.new (came_so result sent.new) ≡ spec.back state.old path (hold_takes state.old.hold path (up_at signal.now) returns) }
 {
-    let came = by_hold(state, path, signal, returns);
-    if is_granted(&came.sent) {
+    let taken = by_hold(state, path, signal, returns, sent);
+    if is_granted(sent) {
         mark_last_used(&mut state.pmcw, path);
         state.last_path = Some(path);
     }
-    came
+    taken
 }
 
 /// Whether an answer is a Grant.
-fn is_granted(answer: &Option<OnPath<Down>>) -> bool
+fn is_granted(answer: &SentDown) -> bool
     ensures { result ≡ spec.is_granted answer.now }
 {
-    match answer {
-        Some(
-            OnPath {
-                signal: Down::Grant { .. },
-                ..
-            },
-        ) => true,
-        _ => false,
+    match answer.get() {
+        Some((_, place)) => matches!(place.kept, KeptDown::Grant { .. }),
+        None => false,
     }
 }
 

@@ -2,6 +2,7 @@
 
 ghost use Rattle.std.specs.Prelude.{◌≡◌, ◌<◌, ◌^◌, false};
 ghost use Rattle.chan_model.specs.HoldTable.{hold_takes};
+ghost use Rattle.signal_places.specs.Places.{came_so, up_at};
 ghost use Rattle.subchannel.specs.Stepping.{subchannel_stepped};
 ghost use Rattle.subchannel_model.specs.Taking as spec;
 
@@ -13,8 +14,10 @@ use crate::losing::reset_for;
 use crate::moving::take_data;
 use crate::returning::come_back;
 use chan_model::names::Path;
-use chan_model::signal::{Down, Taken, Up};
 use hold::Hold;
+use kept_events::signals::KeptUp;
+use signal_places::sent::SentDown;
+use signal_places::signals::UpPlace;
 use status::make_pending;
 use storage_keys::Storage;
 use subchannel_model::cause::StatusCause;
@@ -31,57 +34,65 @@ fn do_clear(state: &mut SubchannelState)
 }
 
 /// Cleared: the device was reset.
-fn reset_taken(state: &mut SubchannelState, path: Path, signal: &Up) -> Taken<Down>
+fn reset_taken(
+    state: &mut SubchannelState,
+    path: Path,
+    signal: &UpPlace,
+    sent: &mut SentDown,
+) -> bool
     requires { state.old.serials.made < 2 ^ 63 }
-    ensures { subchannel_stepped state.new result ≡ spec.reset_taken state.old (hold_takes state.old.hold path signal.now false) }
+    ensures { subchannel_stepped state.new (came_so result sent.new) ≡ spec.reset_taken state.old (hold_takes state.old.hold path (up_at signal.now) false) }
 {
     let mut hold = Hold::of(state.hold);
-    let came = hold.take(path, signal, false);
-    if !came.taken {
-        return ignored();
+    let taken = hold.take_to(path, signal, false, sent);
+    if !taken {
+        return ignored(sent);
     }
     state.hold = hold.state();
     do_clear(state);
-    came
+    taken
 }
 
 /// Notice: the unit restarted. A count above the one known becomes known, and the hold is to be reset.
-fn notice(state: &mut SubchannelState, restarts: u64) -> Taken<Down>
+fn notice(state: &mut SubchannelState, restarts: u64, sent: &mut SentDown) -> bool
     requires made { state.old.serials.made < 2 ^ 63 }
     requires drawn { state.old.drawn < 2 ^ 63 }
-    ensures { subchannel_stepped state.new result ≡ spec.notice state.old restarts }
+    ensures { subchannel_stepped state.new (came_so result sent.new) ≡ spec.notice state.old restarts }
 {
     if restarts <= state.hold.known {
-        return ignored();
+        return ignored(sent);
     }
     state.hold.known = restarts;
     reset_for(state);
-    quiet()
+    quiet(sent)
 }
 
-/// A subchannel takes a signal, and answers what came of the signal. The bytes of a read are stored. `returns`: a program
-/// that is away may come back by the path.
+/// A subchannel takes a signal: whether it was taken, with what is sent in a place. The bytes of a read are stored.
+/// `returns`: a program that is away may come back by the path.
 #[tactic(auto, using(crate::proofs::Working::end_takes))]
 pub fn take_up(
     storage: &mut Storage,
     state: &mut SubchannelState,
     path: Path,
-    signal: &Up,
+    signal: &UpPlace,
     returns: bool,
-) -> Taken<Down>
+    sent: &mut SentDown,
+) -> bool
     requires made { state.old.serials.made < 2 ^ 63 }
     requires drawn { state.old.drawn < 2 ^ 63 }
     requires below { spec.IsBelow state.old.begun }
-    ensures met { spec.meets storage.new (subchannel_stepped state.new result) ≡ spec.takes_up returns storage.old state.old path signal.now }
+    ensures met { spec.meets storage.new (subchannel_stepped state.new (came_so result sent.new)) ≡ spec.takes_up returns storage.old state.old path (up_at signal.now) }
 {
-    match signal {
-        Up::Accept { .. } => accept(storage, state, path, signal),
-        Up::Data { load, .. } => take_data(storage, state, path, signal, load),
-        Up::End { .. } => end_command(storage, state, path, signal),
-        Up::Cleared { .. } => reset_taken(state, path, signal),
-        Up::Back { .. } => come_back(state, path, signal, returns),
-        Up::Notice { restarts } => notice(state, *restarts),
-        Up::Attn { status, .. } => attend(state, path, signal, *status),
-        _ => by_hold(state, path, signal, false),
+    match signal.kept {
+        KeptUp::Accept { .. } => accept(storage, state, path, signal, sent),
+        KeptUp::Absorbed { .. } | KeptUp::Bytes { .. } => {
+            take_data(storage, state, path, signal, sent)
+        }
+        KeptUp::End { .. } => end_command(storage, state, path, signal, sent),
+        KeptUp::Cleared { .. } => reset_taken(state, path, signal, sent),
+        KeptUp::Back { .. } => come_back(state, path, signal, returns, sent),
+        KeptUp::Notice { restarts } => notice(state, restarts, sent),
+        KeptUp::Attn { status, .. } => attend(state, path, signal, status, sent),
+        _ => by_hold(state, path, signal, false, sent),
     }
 }

@@ -48,6 +48,10 @@ abbrev pub taken_by_device : Contents → Transfer → ℕ → ℕ → Transfer
 taken_by_device storage t s count =
     if s == t.sequence + 1 then moved_on storage (with_answer t s count) (min count (movement.room t.moving)) else t
 
+-- a transfer that changed, with the chunk that is given
+abbrev pub next_chunk : Transfer → List ℕ → NextChunk
+next_chunk t bytes = record { transfer = t; bytes = bytes }
+
 -- the next chunk as it is given to the device; one that can't be fetched is a fault, and no bytes are given
 abbrev pub given_bytes : Transfer → List ℕ → NextChunk
 given_bytes t bytes = record { transfer = record t { offered = length bytes }; bytes = bytes }

@@ -2,13 +2,14 @@
 
 ghost use Rattle.std.specs.Prelude.{◌≡◌, ◌<◌, ◌≤◌, ◌^◌, ◌+◌, ◌==◌, length};
 ghost use Rattle.transfer.specs.Chunks as spec;
+ghost use Rattle.transfer.specs.Chunks.{next_chunk};
 
-use crate::commands::{data_of, has_stopped, is_outward, located};
+use crate::commands::{data_of, has_stopped, is_outward, locate};
 use crate::{NextChunk, Transfer};
 use ccw_walk::Walk;
-use chan_model::chunk::Chunk;
 use channel_program::Advance;
 use channel_program::check::Check;
+use data_move::slices::ChunkSlice;
 use storage_keys::Storage;
 
 fn chains_data(transfer: &Transfer, count: u16) -> bool
@@ -20,50 +21,45 @@ fn chains_data(transfer: &Transfer, count: u16) -> bool
         && transfer.fault.is_none()
 }
 
-fn chained_to(transfer: &Transfer, walk: Walk, advance: Option<Advance>) -> Transfer
-    ensures { result ≡ spec.chained_to transfer.now walk advance }
+fn chain_to(transfer: &mut Transfer, walk: Walk, advance: Option<Advance>)
+    ensures { transfer.new ≡ spec.chained_to transfer.old walk advance }
 {
-    let mut next = *transfer;
     match advance {
         Some(Advance::Takes(ccw)) => {
-            next.walk = walk;
-            next.moving = data_of(&walk, transfer.code, ccw);
-            next.pci_pending = ccw.program_controlled;
+            transfer.walk = walk;
+            transfer.moving = data_of(&walk, transfer.code, ccw);
+            transfer.pci_pending = ccw.program_controlled;
         }
         Some(Advance::Suspends) => {
-            next.walk = walk;
-            next.fault = Some(Check::Program);
+            transfer.walk = walk;
+            transfer.fault = Some(Check::Program);
         }
         Some(Advance::Stops(check)) => {
-            next.walk = walk;
-            next.fault = Some(check);
+            transfer.walk = walk;
+            transfer.fault = Some(check);
         }
         None => {}
     }
-    next
 }
 
 /// The next block takes control, with its own data.
-fn chained(storage: &Storage, transfer: &Transfer) -> Transfer
-    ensures { result ≡ spec.chained storage.now transfer.now }
+fn chain(storage: &Storage, transfer: &mut Transfer)
+    ensures { transfer.new ≡ spec.chained storage.now transfer.old }
 {
     let mut walk = transfer.walk;
     walk.used_up();
     let advance = walk.advance(storage);
-    chained_to(transfer, walk, advance)
+    chain_to(transfer, walk, advance);
 }
 
 /// So many bytes of the chunk at hand were moved.
-fn moved_on(storage: &Storage, transfer: &Transfer, count: u16) -> Transfer
-    requires { count ≤ transfer.now.moving.left }
-    ensures { result ≡ spec.moved_on storage.now transfer.now count }
+fn move_on(storage: &Storage, transfer: &mut Transfer, count: u16)
+    requires { count ≤ transfer.old.moving.left }
+    ensures { transfer.new ≡ spec.moved_on storage.now transfer.old count }
 {
-    let mut next = *transfer;
-    next.moving.moved(count);
-    if chains_data(&next, count) {
-        chained(storage, &next)
-    } else {
-        next
+    transfer.moving.moved(count);
+    if chains_data(transfer, count) {
+        chain(storage, transfer);
     }
 }
 
@@ -80,79 +76,72 @@ pub fn absorbed(storage: &Storage, transfer: &Transfer, sequence: u64, count: us
     requires { transfer.now.sequence < 2 ^ 63 }
     ensures { result ≡ spec.taken_by_device storage.now transfer.now sequence count }
 {
-    if !is_next(transfer, sequence) {
-        return *transfer;
-    }
     let mut next = *transfer;
-    next.sequence = sequence;
-    next.stopped = transfer.stopped | (count < usize::from(transfer.offered));
-    let moved = count.min(usize::from(transfer.moving.room()));
-    moved_on(storage, &next, moved as u16)
+    if is_next(transfer, sequence) {
+        next.sequence = sequence;
+        next.stopped = transfer.stopped | (count < usize::from(transfer.offered));
+        let moved = count.min(usize::from(transfer.moving.room()));
+        move_on(storage, &mut next, moved as u16);
+    }
+    next
 }
 
-fn given_bytes(transfer: &Transfer, bytes: Chunk) -> NextChunk
-    ensures { result ≡ spec.given_bytes transfer.now bytes }
+/// The bytes of a chunk that is given, of which the transfer takes note.
+fn give_bytes<'a>(transfer: &mut Transfer, bytes: ChunkSlice<'a>) -> ChunkSlice<'a>
+    ensures { next_chunk transfer.new result ≡ spec.given_bytes transfer.old bytes.entry }
 {
+    transfer.offered = bytes.len() as u16;
+    bytes
+}
+
+fn give_fault<'a>(transfer: &mut Transfer, check: Check) -> ChunkSlice<'a>
+    ensures { next_chunk transfer.new result ≡ spec.given_fault transfer.old check }
+{
+    transfer.offered = 0;
+    transfer.fault = Some(check);
+    ChunkSlice::empty()
+}
+
+fn give_from<'a>(storage: &'a Storage, transfer: &mut Transfer) -> ChunkSlice<'a>
+    ensures { next_chunk transfer.new result ≡ spec.given_from storage.now transfer.old }
+{
+    if has_stopped(transfer) {
+        return give_bytes(transfer, ChunkSlice::empty());
+    }
+    match transfer.moving.copied(storage, transfer.walk.orb().key) {
+        Ok(bytes) => give_bytes(transfer, bytes),
+        Err(check) => give_fault(transfer, check),
+    }
+}
+
+/// The next chunk as it is given to the device: its bytes as they lie in storage.
+pub fn next_given<'a>(storage: &'a Storage, transfer: &Transfer) -> NextChunk<'a>
+    ensures { result ≡ spec.next_given storage.now transfer.now }
+{
+    let mut next = *transfer;
+    locate(storage, &mut next);
+    let bytes = give_from(storage, &mut next);
     NextChunk {
-        transfer: Transfer {
-            offered: bytes.len() as u16,
-            ..*transfer
-        },
+        transfer: next,
         bytes,
     }
 }
 
-fn given_fault(transfer: &Transfer, check: Check) -> NextChunk
-    ensures { result ≡ spec.given_fault transfer.now check }
-{
-    NextChunk {
-        transfer: Transfer {
-            offered: 0,
-            fault: Some(check),
-            ..*transfer
-        },
-        bytes: Chunk::new(),
-    }
-}
-
-fn given_from(storage: &Storage, transfer: &Transfer) -> NextChunk
-    ensures { result ≡ spec.given_from storage.now transfer.now }
-{
-    if has_stopped(transfer) {
-        return given_bytes(transfer, Chunk::new());
-    }
-    match transfer.moving.copied(storage, transfer.walk.orb().key) {
-        Ok(bytes) => given_bytes(transfer, bytes),
-        Err(check) => given_fault(transfer, check),
-    }
-}
-
-/// The next chunk as it is given to the device.
-pub fn next_given(storage: &Storage, transfer: &Transfer) -> NextChunk
-    ensures { result ≡ spec.next_given storage.now transfer.now }
-{
-    given_from(storage, &located(storage, transfer))
-}
-
 /// Bytes that the device supplied are stored at the next places.
-fn brought_in(storage: &mut Storage, transfer: &Transfer, bytes: &[u8]) -> Transfer
-    requires piece { length bytes.now ≤ transfer.now.moving.left }
+fn bring_in(storage: &mut Storage, transfer: &mut Transfer, bytes: &[u8])
+    requires piece { length bytes.now ≤ transfer.old.moving.left }
     requires chunk { length bytes.now ≤ 256 }
-    ensures transfer { result ≡ (spec.brought_in storage.old transfer.now bytes.now).transfer }
-    ensures storage { storage.new ≡ (spec.brought_in storage.old transfer.now bytes.now).storage }
+    ensures transfer { transfer.new ≡ (spec.brought_in storage.old transfer.old bytes.now).transfer }
+    ensures storage { storage.new ≡ (spec.brought_in storage.old transfer.old bytes.now).storage }
 {
     if transfer.fault.is_some() {
-        return *transfer;
+        return;
     }
-    if let Err(check) = transfer
-        .moving
-        .stored(storage, transfer.walk.orb().key, bytes)
-    {
-        let mut next = *transfer;
-        next.fault = Some(check);
-        return next;
+    let key = transfer.walk.orb().key;
+    match transfer.moving.stored(storage, key, bytes) {
+        Ok(()) => move_on(storage, transfer, bytes.len() as u16),
+        Err(check) => transfer.fault = Some(check),
     }
-    moved_on(storage, transfer, bytes.len() as u16)
 }
 
 /// The transfer after a chunk that the device supplied. The bytes that there is room for are stored.
@@ -161,13 +150,13 @@ pub fn brought(storage: &mut Storage, transfer: &Transfer, sequence: u64, bytes:
     ensures transfer { result ≡ (spec.brought storage.old transfer.now sequence bytes.now).transfer }
     ensures storage { storage.new ≡ (spec.brought storage.old transfer.now sequence bytes.now).storage }
 {
-    if !is_next(transfer, sequence) {
-        return *transfer;
-    }
     let mut next = *transfer;
-    next.sequence = sequence;
-    let fitting = bytes.len().min(usize::from(transfer.moving.room()));
-    brought_in(storage, &next, &bytes[..fitting])
+    if is_next(transfer, sequence) {
+        next.sequence = sequence;
+        let fitting = bytes.len().min(usize::from(transfer.moving.room()));
+        bring_in(storage, &mut next, &bytes[..fitting]);
+    }
+    next
 }
 
 /// Whether a Data is of this command, its chunk the last one or the next, and to be answered.

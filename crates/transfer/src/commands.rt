@@ -94,17 +94,16 @@ pub fn next_command(storage: &Storage, transfer: &Transfer, modifier: bool) -> B
 }
 
 /// The next word of an indirect list is fetched where it is needed.
-pub(crate) fn located(storage: &Storage, transfer: &Transfer) -> Transfer
-    ensures { result ≡ spec.located_transfer storage.now transfer.now }
+pub(crate) fn locate(storage: &Storage, transfer: &mut Transfer)
+    ensures { transfer.new ≡ spec.located_transfer storage.now transfer.old }
 {
     if transfer.fault.is_some() {
-        return *transfer;
+        return;
     }
-    let mut next = *transfer;
-    if let Err(check) = next.moving.locate(storage, transfer.walk.orb().key) {
-        next.fault = Some(check);
+    let key = transfer.walk.orb().key;
+    if let Err(check) = transfer.moving.locate(storage, key) {
+        transfer.fault = Some(check);
     }
-    next
 }
 
 pub(crate) fn has_stopped(transfer: &Transfer) -> bool
@@ -127,10 +126,11 @@ fn room_of(transfer: &Transfer) -> u16
 pub fn with_room(storage: &Storage, transfer: &Transfer) -> WithRoom
     ensures { result ≡ spec.with_room storage.now transfer.now }
 {
-    let transfer = located(storage, transfer);
+    let mut next = *transfer;
+    locate(storage, &mut next);
     WithRoom {
-        transfer,
-        room: room_of(&transfer),
+        transfer: next,
+        room: room_of(&next),
     }
 }
 

@@ -7,9 +7,9 @@ pub mod commands;
 pub mod law;
 
 use ccw_walk::Walk;
-use chan_model::chunk::Chunk;
 use channel_program::check::Check;
 use data_move::moving::Move;
+use data_move::slices::ChunkSlice;
 
 /// A command whose bytes are moved.
 #[derive(Clone, Copy)]
@@ -63,9 +63,9 @@ pub struct WithRoom {
     pub room: u16,
 }
 
-/// The next bytes of a transfer, as they are given to the device.
+/// The next bytes of a transfer, as they are given to the device: they stand in storage.
 #[derive(Drop)]
-pub struct NextChunk {
+pub struct NextChunk<'a> {
     pub transfer: Transfer,
-    pub bytes: Chunk,
+    pub bytes: ChunkSlice<'a>,
 }

@@ -1,10 +1,15 @@
-use Rattle.std.proofs.Common.{◌∙◌}
-use Rattle.subchannel.proofs.Working.{told_takes}
+use Rattle.std.proofs.Common.{◌≡◌, Bool, true, ap, ◌∙◌, inl, inr}
+use Rattle.kept_events.specs.Signals.{up_in}
+use Rattle.kept_events.specs.declared.signals.KeptUp.{KeptUp}
+use Rattle.signal_places.specs.Places.{up_at}
+use Rattle.subchannel.proofs.Working.{is_data, told_takes}
 use Rattle.subchannel.proofs.taking.take_up.Goals as goal
 
-pub returns-in-Data : goal.returns-in-Data
-returns-in-Data c = record {
-  met = c.take_data.ensures
-      ∙ told_takes c.args.returns c.args.storage.now c.args.state.now c.args.path c.args.signal.now
-      c.in-Data.number c.in-Data.connection c.in-Data.command c.in-Data.sequence c.in-Data.load c.in-Data.is;
-}
+-- a Data that absorbed bytes, or brings them
+pub returns-in-Absorbed : goal.returns-in-Absorbed
+returns-in-Absorbed c =
+    let moves : KeptUp → Bool = λ kept. is_data (up_in kept c.args.signal.now.bytes) in
+    let is : is_data (up_at c.args.signal.now) ≡ true = elim c.in-Absorbed.is [ inl absorbed ↦ ap moves absorbed.5 | inr brings ↦ ap moves brings.5 ] in
+    record {
+      met = c.take_data.ensures ∙ told_takes c.args.returns c.args.storage.now c.args.state.now c.args.path (up_at c.args.signal.now) is;
+    }

@@ -8,7 +8,7 @@ use Rattle.data_move.proofs.moving.Move.copied.Goals as goal
 pub returns-then-self-clause-places : goal.returns-then-self-clause-places
 returns-then-self-clause-places c = λ r a.
     let skipped : c.args.self.now.skipped ≡ true = ap (λ (m : Moving). m.skipped) (sym c.self.view_is) ∙ c.if-self.true in
-    c.new.ensures ∙ skipped_at r c.args.self.now c.args.storage.now.bytes a skipped
+    c.empty.ensures ∙ skipped_at r c.args.self.now c.args.storage.now.bytes a skipped
 
 pub returns-in-Ok-clause-places : goal.returns-in-Ok-clause-places
 returns-in-Ok-clause-places c = λ r a.
