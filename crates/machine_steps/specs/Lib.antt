@@ -1,3 +1,4 @@
 pub mod Giving
 pub mod Postable
 pub mod PathTurns
+pub mod KeptTurns

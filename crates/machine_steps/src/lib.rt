@@ -7,6 +7,7 @@
 #![tactic(auto)]
 
 mod acts;
+pub mod kept_turns;
 pub mod law;
 pub mod machine;
 pub mod opening;

@@ -9,6 +9,7 @@ ghost use Rattle.machine_model.specs.State as state_spec;
 ghost use Rattle.machine_model.specs.Ruled.{GoesByRule};
 ghost use Rattle.machine_model.specs.InstructionSteps as instruction_steps;
 ghost use Rattle.machine_steps.specs.Giving as giving_spec;
+ghost use Rattle.machine_steps.specs.KeptTurns.{given_of, turns_in};
 ghost use Rattle.machine_steps.specs.PathTurns as turn_spec;
 ghost use Rattle.machine_model.specs.StorageSteps as storage_spec;
 ghost use Rattle.machine_model.specs.Steps as spec;
@@ -19,6 +20,7 @@ ghost use Rattle.finding.specs.Tables.{Fits};
 ghost use Rattle.signal_places.specs.Answers.{answer_at};
 
 use crate::acts::{act_sub, not_held, side_of_act};
+use crate::kept_turns::KeptTurn;
 use crate::path_turns::turn_at;
 use crate::posting::post;
 use crate::sharing::restart;
@@ -168,11 +170,33 @@ impl Machine {
         requires fits { Fits places.now self.now.subs }
         ensures { result ≡ state_spec.unit_turn_of self.now number }
     {
+        match self.kept_turn(places, number) {
+            None => None,
+            Some(turn) => Some(turn.with(self.given(number))),
+        }
+    }
+
+    /// What a unit is to do next, as `unit_turn` has it; the bytes that are to be absorbed are those of `given`.
+    pub fn kept_turn(&self, places: &Places, number: u32) -> Option<KeptTurn>
+        requires fits { Fits places.now self.now.subs }
+        ensures { turns_in result (given_of self.now number) ≡ state_spec.unit_turn_of self.now number }
+    {
         let number = number as usize;
         if number >= self.units.len() {
             return None;
         }
         Some(turn_of_unit(places, number, &self.units[number], self.subs.as_slice()))
+    }
+
+    /// The bytes of a write that the device of a unit has not absorbed.
+    pub fn given(&self, number: u32) -> &[u8]
+        ensures value { result.now ≡ given_of self.now number }
+        ensures bound { length result.now ≤ 256 }
+    {
+        match self.units.get(number as usize) {
+            None => &[],
+            Some(unit) => unit.given(),
+        }
     }
 
     #[inline(never)]

@@ -1,17 +1,19 @@
 //! What a unit is to do next.
 
-ghost use Rattle.std.specs.Prelude.{◌≡◌, ◌<◌, MatchOption, None, Some};
+ghost use Rattle.std.specs.Prelude.{◌≡◌, ◌<◌, ℕ, List, MatchOption, None, Some};
 ghost use Rattle.machine_model.specs.State as state_spec;
 ghost use Rattle.subchannel_model.specs.Places as place_spec;
 ghost use Rattle.machine_model.specs.State.{State};
 ghost use Rattle.finding.specs.Tables.{Fits};
+ghost use Rattle.kept_work.specs.Works.{given_bytes};
+ghost use Rattle.machine_steps.specs.KeptTurns.{turn_in, turns_in};
 
+use crate::kept_turns::KeptTurn;
 use chan_model::names::{Path, Side};
 use chan_model::paths::PathSet;
 use chan_model::unit_state::{Own, Place};
 use finding::tables::Places;
 use functions::blocks::available_paths;
-use machine_model::state::UnitTurn;
 use subchannel_model::state::Subchannel;
 use unit::Unit;
 use wires::Wires;
@@ -67,13 +69,13 @@ pub fn reached_sub<'a>(
 }
 
 /// The signal that waits for a side of a unit, as what the unit is to do.
-fn taken_from(places: &Places, unit: usize, side: Side, subs: &[Subchannel]) -> Option<UnitTurn>
+fn taken_from(places: &Places, unit: usize, side: Side, subs: &[Subchannel]) -> Option<KeptTurn>
     requires { Fits places.now subs.now }
-    ensures { result ≡ state_spec.takes_from (place_spec.reached_sub «unit» side subs.now) }
+    ensures { (bytes : List ℕ) → turns_in result bytes ≡ state_spec.takes_from (place_spec.reached_sub «unit» side subs.now) }
 {
     let sub = reached_sub(places, unit, side, subs)?;
     let path = signal_path(&sub.wires)?;
-    Some(UnitTurn::Takes {
+    Some(KeptTurn::Takes {
         subchannel: sub.setup.id,
         path,
     })
@@ -109,27 +111,27 @@ fn away_path(
 }
 
 /// What a unit without a signal and without work is to do.
-fn turn_of_own(places: &Places, unit: usize, own: Own, subs: &[Subchannel]) -> UnitTurn
+fn turn_of_own(places: &Places, unit: usize, own: Own, subs: &[Subchannel]) -> KeptTurn
     requires { Fits places.now subs.now }
-    ensures { result ≡ state_spec.turn_of_own subs.now «unit» own }
+    ensures { (bytes : List ℕ) → turn_in result bytes ≡ state_spec.turn_of_own subs.now «unit» own }
 {
     match own {
         Own::Owned {
             side,
             place: Place::Away { connection },
             ..
-        } => UnitTurn::Away {
+        } => KeptTurn::Away {
             path: away_path(places, unit, side, connection, subs),
         },
-        _ => UnitTurn::Rests,
+        _ => KeptTurn::Rests,
     }
 }
 
 /// What a unit is to do next: it takes the signal that waits, of its first side before its second; else does what its
-/// program asks for; else its program may ask for a path.
-pub fn turn_of_unit(places: &Places, number: usize, unit: &Unit, subs: &[Subchannel]) -> UnitTurn
+/// program asks for; else its program may ask for a path. The bytes that are to be absorbed stand with the unit.
+pub fn turn_of_unit(places: &Places, number: usize, unit: &Unit, subs: &[Subchannel]) -> KeptTurn
     requires { Fits places.now subs.now }
-    ensures { (s : State) → s.subs ≡ subs.now → state_spec.turn_of_unit s number (Some «unit».now) ≡ Some result }
+    ensures { (s : State) → s.subs ≡ subs.now → state_spec.turn_of_unit s number (Some «unit».now) ≡ Some (turn_in result (given_bytes «unit».now.at_hand)) }
 {
     if let Some(turn) = taken_from(places, number, Side::First, subs) {
         return turn;
@@ -137,8 +139,8 @@ pub fn turn_of_unit(places: &Places, number: usize, unit: &Unit, subs: &[Subchan
     if let Some(turn) = taken_from(places, number, Side::Second, subs) {
         return turn;
     }
-    match unit.work() {
-        Some(work) => UnitTurn::Works(work),
+    match unit.kept_work() {
+        Some(work) => KeptTurn::Works(work),
         None => turn_of_own(places, number, unit.own(), subs),
     }
 }

@@ -11,6 +11,7 @@ ghost use Rattle.machine_model.specs.Steps.{Step, IsRefused, HasRun};
 ghost use Rattle.machine_model.specs.Answering.{HasAnswered, HasBegun};
 ghost use Rattle.std.specs.Bool.{OnTrue, OnFalse};
 ghost use Rattle.finding.specs.Tables.{Fits};
+ghost use Rattle.machine_steps.specs.KeptTurns.{given_of, turns_in};
 ghost use Rattle.machine_steps.specs.PathTurns as path_spec;
 ghost use Rattle.machine_laws.specs.Agreeing.{AllAgree};
 ghost use Rattle.subsystem.specs.Headline.{HasHeld};
@@ -29,6 +30,7 @@ use event_log::logs::Log;
 use finding::tables::Places;
 use machine_laws::{agreements, beginnings, numbers, serials, setups, steps};
 use machine_model::state::UnitTurn;
+use machine_steps::kept_turns::KeptTurn;
 use machine_steps::machine::Machine;
 use machine_steps::opening::opened_machine;
 use path_select::PathChoice;
@@ -349,6 +351,22 @@ impl<P: PathChoice + Drop> Subsystem<P> {
         ensures { result ≡ state_spec.unit_turn_of self.now.state «unit» }
     {
         self.machine.unit_turn(&self.places, unit)
+    }
+
+    /// What a unit is to do next, as `unit_turn` has it, by a small value; the bytes that are to be absorbed are those of
+    /// `given`.
+    pub fn kept_turn(&self, unit: u32) -> Option<KeptTurn>
+        ensures { turns_in result (given_of self.now.state «unit») ≡ state_spec.unit_turn_of self.now.state «unit» }
+    {
+        self.machine.kept_turn(&self.places, unit)
+    }
+
+    /// The bytes of a write that the device of a unit has not absorbed; none for a unit that is not configured.
+    pub fn given(&self, unit: u32) -> &[u8]
+        ensures value { result.now ≡ given_of self.now.state «unit» }
+        ensures bound { length result.now ≤ 256 }
+    {
+        self.machine.given(unit)
     }
 }
 

@@ -8,9 +8,10 @@ mod reports;
 mod signals;
 mod works;
 
-ghost use Rattle.std.specs.Prelude.{◌≡◌, ◌<◌, ◌^◌, ◌||◌, ℕ, Bool, IfSome, is_some};
+ghost use Rattle.std.specs.Prelude.{◌≡◌, ◌<◌, ◌≤◌, ◌^◌, ◌||◌, ℕ, Bool, IfSome, is_some, length};
 ghost use Rattle.chan_model.specs.UnitReports as reports;
 ghost use Rattle.chan_model.specs.UnitTable as table;
+ghost use Rattle.kept_work.specs.Works.{given_bytes, works_in};
 ghost use Rattle.signal_places.specs.Places.{down_at};
 ghost use Rattle.unit.specs.UnitWords as words;
 
@@ -18,6 +19,7 @@ use chan_model::names::{Path, Side};
 use chan_model::report::{Report, ReportPath, Work};
 use chan_model::signal::{Down, OnPath, Taken, Up};
 use chan_model::unit_state::{Own, SideState, UnitState};
+use kept_work::works::KeptWork;
 use signal_places::sent::SentUp;
 use signal_places::signals::DownPlace;
 use std::marker::Model;
@@ -171,7 +173,28 @@ impl Unit {
     pub fn work(&self) -> Option<Work>
         ensures { result ≡ reports.unit_work self.now }
     {
+        match works::work(&self.state) {
+            None => None,
+            Some(work) => Some(work.with(self.given())),
+        }
+    }
+
+    /// What it has to do next, as `work` has it; the bytes that are to be absorbed are those of `given`.
+    pub fn kept_work(&self) -> Option<KeptWork>
+        ensures { works_in result (given_bytes self.now.at_hand) ≡ reports.unit_work self.now }
+    {
         works::work(&self.state)
+    }
+
+    /// The bytes of a write that the device has not absorbed.
+    pub fn given(&self) -> &[u8]
+        ensures value { result.now ≡ given_bytes self.now.at_hand }
+        ensures bound { length result.now ≤ 256 }
+    {
+        match &self.state.at_hand {
+            None => &[],
+            Some(command) => works::given(command),
+        }
     }
 
     /// Leaves the path of its program, which works on. None where no program is connected, and then nothing changes.
