@@ -15,7 +15,7 @@ ghost use Rattle.machine_steps.specs.KeptTurns.{given_of, turns_in};
 ghost use Rattle.machine_steps.specs.PathTurns as path_spec;
 ghost use Rattle.machine_laws.specs.Agreeing.{AllAgree};
 ghost use Rattle.subsystem.specs.Headline.{HasHeld};
-ghost use Rattle.subsystem.specs.Keeping.{BringsOrdered, IsOrdered, Rises, StaysSetUp, all_serials};
+ghost use Rattle.subsystem.specs.Keeping.{BringsOrdered, IsOrdered, Rises, StaysSetUp, all_serials, past_of};
 ghost use Rattle.machine_laws.specs.Claims.{IsClearedOnce};
 ghost use Rattle.machine_laws.specs.Beginnings.{IsBegunOnce};
 ghost use Rattle.signal_places.specs.Answers.{answer_at};
@@ -48,6 +48,8 @@ pub struct Subsystem<P: Drop> {
     places: Places,
     machine: Machine,
     history: Log,
+    /// For the answer of an event whose caller has no place for it.
+    answer: AnswerPlace,
 }
 
 impl<P: Drop> Model for Subsystem<P> {
@@ -105,6 +107,7 @@ impl<P: PathChoice + Drop> Subsystem<P> {
                 places,
                 machine,
                 history: Log::new(alloc),
+                answer: AnswerPlace::new(),
             }),
             Err(_) => Err(NotMade { config, choice }),
         }
@@ -149,13 +152,18 @@ impl<P: PathChoice + Drop> Subsystem<P> {
         ensures rises { Rises (all_serials self.old.state) (all_serials self.new.state) }
         ensures ordered { IfOk answer.new (λ reply. BringsOrdered event.now reply) }
     {
-        let mut place = AnswerPlace::new();
-        self.step_place(event, &mut place);
-        *answer = place.answer();
+        keep_step(
+            &mut self.machine,
+            &mut self.history,
+            &self.places,
+            &self.choice,
+            event,
+            &mut self.answer,
+        );
+        *answer = self.answer.answer();
     }
 
     /// One event, as `step` has it, with its answer in a place that is made once: no more bytes move than its signals have.
-    #[inline(never)]
     pub fn step_place(&mut self, event: &Event, place: &mut AnswerPlace)
         ensures step { IfOk (answer_at place.new) (λ reply. Step self.old.state event.now reply self.new.state) }
         ensures history { IfOk (answer_at place.new) (λ reply. self.new.history ≡
@@ -170,23 +178,14 @@ impl<P: PathChoice + Drop> Subsystem<P> {
         ensures rises { Rises (all_serials self.old.state) (all_serials self.new.state) }
         ensures ordered { IfOk (answer_at place.new) (λ reply. BringsOrdered event.now reply) }
     {
-        numbers();
-        setups();
-        steps();
-        codes();
-        if self.history.len() >= (1 << 62) - 1 {
-            place.outcome = Outcome::Refused(Fault::NoMemory);
-            return;
-        }
-        if self.history.make_room().is_err() {
-            place.outcome = Outcome::Refused(Fault::NoMemory);
-            return;
-        }
-        self.machine
-            .perform(&self.places, &self.choice, event, place);
-        if place.is_reply() {
-            self.history.append_answer(event, place);
-        }
+        keep_step(
+            &mut self.machine,
+            &mut self.history,
+            &self.places,
+            &self.choice,
+            event,
+            place,
+        );
     }
 
     /// Adds what was accepted last, where there is any, to a log that has room for it.
@@ -367,6 +366,52 @@ impl<P: PathChoice + Drop> Subsystem<P> {
         ensures bound { length result.now ≤ 256 }
     {
         self.machine.given(unit)
+    }
+}
+
+/// One event at a machine, and its entry in the history that led there.
+#[inline(never)]
+fn keep_step<P: PathChoice + Drop>(
+    machine: &mut Machine,
+    history: &mut Log,
+    places: &Places,
+    choice: &P,
+    event: &Event,
+    place: &mut AnswerPlace,
+)
+    requires run { HasRun history.old.entries machine.old }
+    requires fits { Fits places.now machine.old.subs }
+    ensures run { HasRun history.new.entries machine.new }
+    ensures fits { Fits places.now machine.new.subs }
+    ensures step { IfOk (answer_at place.new) (λ reply. Step machine.old event.now reply machine.new) }
+    ensures history { IfOk (answer_at place.new) (λ reply. history.new.entries ≡
+        history.old.entries ++ record { event = event.now; reply = reply } ∷ []) }
+    ensures set_up { StaysSetUp machine.old machine.new }
+    ensures ruled { answer_at place.new ≢ Err fault_spec.NoMemory →
+        GoesByRule P.picks machine.old event.now (answer_at place.new) machine.new }
+    ensures room { history.old.room ≤ history.new.room + 1 }
+    ensures refused { OnErr (answer_at place.new) (IsAsBefore (past_of machine.old history.old) (past_of machine.new history.new)) }
+    ensures refusal { IfErr (answer_at place.new) (λ f. (f ≡ fault_spec.NoMemory) ⊎ IsRefused machine.old event.now f) }
+    ensures spent { answer_at place.new ≡ Err fault_spec.NoMemory →
+        LacksRoom (past_of machine.old history.old) (past_of machine.new history.new) }
+    ensures rises { Rises (all_serials machine.old) (all_serials machine.new) }
+    ensures ordered { IfOk (answer_at place.new) (λ reply. BringsOrdered event.now reply) }
+{
+    numbers();
+    setups();
+    steps();
+    codes();
+    if history.len() >= (1 << 62) - 1 {
+        place.outcome = Outcome::Refused(Fault::NoMemory);
+        return;
+    }
+    if history.make_room().is_err() {
+        place.outcome = Outcome::Refused(Fault::NoMemory);
+        return;
+    }
+    machine.perform(places, choice, event, place);
+    if place.is_reply() {
+        history.append_answer(event, place);
     }
 }
 

@@ -37,7 +37,7 @@ returns c =
     ap (place_in c.in-Some.id) (sym subs) ∙ (sym c.place_in.ensures.place ∙ c.in-Some-place_in.is) in
     let stands = at_seen old.subs c.as_slice.result.now c.in-Some-place_in.place c.index_mut-sub.result.now (sym subs) c.in-Some-place_in.ensures.bound c.index_mut-sub.ensures.value in
     told old c.args.self.now (event.Execute c.args.cpu c.args.instruction)
-    (record (with_sub (record old { storage = c.perform_provided-came.new.storage }) c.in-Some-place_in.place c.perform_provided-came.new.sub) { requests = c.post.new.pending }) c.perform_provided-came.result c.tell.new.self c.tell.ensures c.self.view_is
+    (record (with_sub (record old { storage = c.perform_provided-came.new.storage }) c.in-Some-place_in.place c.perform_provided-came.new.sub) { requests = c.post.new.pending }) c.perform_provided-came.result c.tell-2.new.self c.tell-2.ensures c.self.view_is
     (executes old c.args.cpu c.in-Some-place_in.place c.args.instruction c.in-Some.id c.index_mut-sub.result.now c.perform_provided-came.new.sub c.perform_provided-came.new.storage
     c.perform_provided-came.new.pending c.post.new.pending (plain_outcome c.perform_provided-came.result) named placed stands c.perform_provided-came.ensures.done c.post.ensures)
 
