@@ -3,14 +3,10 @@
 use crate::cycle::{Beat, IRB, Kind, ORB};
 use crate::floor::Floor;
 use chan_events::event::{Event, Instruction, UnitAct};
-use chan_model::chunk::Chunk;
 use chan_model::names::Cpu;
-use chan_model::report::{Report, Work};
 use channel_config::config::Config;
 use channel_config::parts::UnitKind;
-use device_law::answering::answer;
 use device_models::any_device::AnyDevice;
-use machine_model::state::UnitTurn;
 use std::alloc::{AllocError, Global};
 
 /// The channel paths of each subchannel, the first of them or all.
@@ -90,16 +86,15 @@ impl<F: Floor + Drop> Bench<F> {
             return false;
         };
         for load in loads {
-            if !self.floor.accepts(load) {
+            if !self.floor.accepts(&load) {
                 return false;
             }
         }
-        let enabling = self.execute(Instruction::Enable {
+        self.execute(Instruction::Enable {
             subchannel: self.subchannel,
             subclass: 0,
             multipath: true,
-        });
-        self.floor.accepts(enabling)
+        })
     }
 
     /// What its events were performed at.
@@ -114,73 +109,36 @@ impl<F: Floor + Drop> Bench<F> {
         floor
     }
 
-    fn execute(&self, instruction: Instruction) -> Event {
-        Event::Execute {
-            cpu: self.cpu,
-            instruction,
-        }
+    /// Whether an instruction is accepted.
+    fn execute(&mut self, instruction: Instruction) -> bool {
+        let cpu = self.cpu;
+        self.floor.accepts(&Event::Execute { cpu, instruction })
     }
 
-    /// The report of the unit's next work, its device having been called where the work is a call.
-    fn report(&mut self) -> Option<Event> {
-        let UnitTurn::Works(work) = self.floor.subsystem().unit_turn(self.unit)? else {
-            return None;
-        };
-        let report = match work {
-            Work::Report(report) => report,
-            Work::Call {
-                side,
-                number,
-                command,
-                sequence,
-                call,
-            } => Report {
-                side,
-                number,
-                command,
-                sequence,
-                answer: answer(&mut self.device, &call),
-            },
-        };
-        Some(Event::Report {
-            unit: self.unit,
-            report,
-        })
-    }
-
-    /// The event of a beat; None where the unit has no work.
-    fn event(&mut self, beat: Beat) -> Option<Event> {
-        let subchannel = self.subchannel;
+    /// Whether an act of the unit is accepted.
+    fn act(&mut self, act: UnitAct) -> bool {
         let unit = self.unit;
-        match beat {
-            Beat::Start => Some(self.execute(Instruction::Ssch {
-                subchannel,
-                address: ORB,
-            })),
-            Beat::Choose => Some(Event::Choose { subchannel }),
-            Beat::Down(path) => Some(Event::Down { subchannel, path }),
-            Beat::Up(path) => Some(Event::Up { subchannel, path }),
-            Beat::Device => self.report(),
-            Beat::Leave => Some(Event::Act {
-                unit,
-                act: UnitAct::Leave,
-            }),
-            Beat::Ask(path) => Some(Event::Act {
-                unit,
-                act: UnitAct::Ask { path },
-            }),
-            Beat::Test => Some(self.execute(Instruction::Tsch {
-                subchannel,
-                address: IRB,
-            })),
-        }
+        self.floor.accepts(&Event::Act { unit, act })
     }
 
     /// Whether the event of a beat is accepted.
     fn perform(&mut self, beat: Beat) -> bool {
-        match self.event(beat) {
-            Some(event) => self.floor.accepts(event),
-            None => false,
+        let subchannel = self.subchannel;
+        match beat {
+            Beat::Start => self.execute(Instruction::Ssch {
+                subchannel,
+                address: ORB,
+            }),
+            Beat::Choose => self.floor.accepts(&Event::Choose { subchannel }),
+            Beat::Down(path) => self.floor.accepts(&Event::Down { subchannel, path }),
+            Beat::Up(path) => self.floor.accepts(&Event::Up { subchannel, path }),
+            Beat::Device => self.floor.reports(self.unit, &mut self.device),
+            Beat::Leave => self.act(UnitAct::Leave),
+            Beat::Ask(path) => self.act(UnitAct::Ask { path }),
+            Beat::Test => self.execute(Instruction::Tsch {
+                subchannel,
+                address: IRB,
+            }),
         }
     }
 

@@ -5,7 +5,8 @@
 //!
 //! - `step KIND SUBCHANNELS CYCLES`: so many cycles by `Subsystem::step`, at the last of so many subchannels. The kind is
 //!   `write`, `read`, `chain`, `reconnect`, or `test`, which is one TEST SUBCHANNEL.
-//! - `place KIND SUBCHANNELS CYCLES`: the same by `Subsystem::step_place`, with one place for all answers.
+//! - `place KIND SUBCHANNELS CYCLES`: the same by `Subsystem::step_place`, with one place for all answers and one for
+//!   all reports.
 //! - `enter KIND SUBCHANNELS CYCLES`: the same by `Core::enter`, from the first seat of a core that no lock guards.
 //! - `race CPUS LOOKERS TIMES`: so many CPUs, each on a thread of its own, execute TEST SUBCHANNEL under the lock, so many times
 //!   each, while so many lookers look at the serials of the same subchannel, 64 times as often.
@@ -26,7 +27,6 @@ use crate::floor::Placed;
 use crate::race::{Race, RaceCount};
 use crate::seats::{Outcome, Task};
 use path_select::Rotating;
-use signal_places::answers::AnswerPlace;
 use std::alloc::Global;
 use std::process::ExitCode;
 use std::sync::Wait;
@@ -111,15 +111,11 @@ fn stepped(alloc: Global, kind: Kind, subchannels: u32, cycles: u64) -> Option<C
     bench.measure(alloc, kind, cycles).ok()
 }
 
-/// The same, with one place for all answers.
+/// The same, with one place for all answers and one for all reports.
 fn placed(alloc: Global, kind: Kind, subchannels: u32, cycles: u64) -> Option<Count> {
     let config = config_of(alloc, subchannels, kind.paths())?;
     let subsystem = Subsystem::new(alloc, config, Rotating).ok()?;
-    let floor = Placed {
-        subsystem,
-        place: AnswerPlace::new(),
-    };
-    let mut bench = Bench::at(alloc, floor, kind, subchannels)?;
+    let mut bench = Bench::at(alloc, Placed::of(subsystem), kind, subchannels)?;
     bench.measure(alloc, kind, cycles).ok()
 }
 

@@ -1,11 +1,13 @@
 //! What a device answers to a call of its unit.
 
-ghost use Rattle.std.specs.Prelude.{◌≡◌};
+ghost use Rattle.std.specs.Prelude.{◌≡◌, ◌≤◌, length};
 ghost use Rattle.device_law.specs.Laws.{IsAnswer};
+ghost use Rattle.kept_work.specs.Works.{call_in};
 ghost use Rattle.chan_model.specs.declared.report.Call.TheVariants as call_spec;
 
 use crate::{Device, Finish};
 use chan_model::report::{Call, DeviceAnswer};
+use kept_work::works::KeptCall;
 
 /// Makes the call.
 pub fn answer<D: Device>(device: &mut D, call: &Call) -> DeviceAnswer
@@ -20,6 +22,31 @@ pub fn answer<D: Device>(device: &mut D, call: &Call) -> DeviceAnswer
         Call::Finish => {
             let Finish { status, more } = device.finish();
             DeviceAnswer::Ended { status, more }
+        }
+    }
+}
+
+/// Makes the call, as `answer` does; these bytes stand beside it, and the answer is written into its place.
+pub fn answer_to<D: Device>(
+    device: &mut D,
+    call: KeptCall,
+    bytes: &[u8],
+    place: &mut DeviceAnswer,
+)
+    requires { length bytes.now ≤ 256 }
+    ensures law { IsAnswer (call_in call bytes.now) place.new }
+    ensures answers { D.answers device.old (call_in call bytes.now) place.new device.new }
+    ensures opening { D.opening device.new ≡ D.opening device.old }
+{
+    match call {
+        KeptCall::Initial { code } => *place = initial_answer(device, code),
+        KeptCall::Absorb => *place = DeviceAnswer::Absorbed(device.absorb(bytes) as u16),
+        KeptCall::Supply { most } => {
+            *place = DeviceAnswer::Supplied(device.supply(usize::from(most)));
+        }
+        KeptCall::Finish => {
+            let Finish { status, more } = device.finish();
+            *place = DeviceAnswer::Ended { status, more };
         }
     }
 }

@@ -1,6 +1,6 @@
 //! A channel subsystem without its history: what each event does to the whole.
 
-ghost use Rattle.std.specs.Prelude.{◌≡◌, ◌<◌, All, Ok, Err, IfErr, OnOk, None, Some, IfSome, length, slice_get};
+ghost use Rattle.std.specs.Prelude.{◌≡◌, ◌<◌, ◌≤◌, All, Ok, Err, IfErr, OnOk, None, Some, IfSome, length, slice_get};
 ghost use Rattle.signal_places.specs.declared.answers.Outcome.TheVariants as outcome_spec;
 ghost use Rattle.signal_places.specs.declared.plain.PlainReply.TheVariants as plain_spec;
 ghost use Rattle.chan_model.specs.declared.fault.Fault.TheVariants as fault_spec;
