@@ -183,6 +183,7 @@ impl KeptDown {
     }
 
     /// The signal with the first of these bytes.
+    #[inline(always)]
     pub fn with(&self, bytes: &[u8]) -> Down
         requires { spec.down_length self.now ≤ length bytes.now }
         ensures { result ≡ spec.down_in self.now bytes.now }
@@ -324,6 +325,7 @@ impl KeptUp {
     }
 
     /// The signal with the first of these bytes.
+    #[inline(always)]
     pub fn with(&self, bytes: &[u8]) -> Up
         requires { spec.up_length self.now ≤ length bytes.now }
         ensures { result ≡ spec.up_in self.now bytes.now }

@@ -127,24 +127,25 @@ impl AnswerPlace {
         }
     }
 
-    /// The answer.
-    pub fn answer(&self) -> Result<Reply, Fault>
-        ensures { result ≡ answer_at self.now }
+    /// The answer, written where it is wanted.
+    #[inline(never)]
+    pub fn answer_to(&self, answer: &mut Result<Reply, Fault>)
+        ensures { answer.new ≡ answer_at self.now }
     {
-        match self.outcome {
-            Outcome::Refused(fault) => Err(fault),
-            Outcome::Replied(plain) => Ok(plain.reply()),
-            Outcome::Shown { length } => Ok(Reply::Shown {
-                bytes: chunk_of(length, &self.up.bytes),
+        match &self.outcome {
+            Outcome::Refused(fault) => *answer = Err(*fault),
+            Outcome::Replied(plain) => plain.reply_to(answer),
+            Outcome::Shown { length } => *answer = Ok(Reply::Shown {
+                bytes: chunk_of(*length, &self.up.bytes),
             }),
-            Outcome::MetUp { taken } => Ok(Reply::Up {
+            Outcome::MetUp { taken } => *answer = Ok(Reply::Up {
                 signal: self.up.signal(),
-                taken,
+                taken: *taken,
                 sent: self.sent_down.signal(),
             }),
-            Outcome::MetDown { taken } => Ok(Reply::Down {
+            Outcome::MetDown { taken } => *answer = Ok(Reply::Down {
                 signal: self.down.signal(),
-                taken,
+                taken: *taken,
                 sent: self.sent_up.signal(),
             }),
         }

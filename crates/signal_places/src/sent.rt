@@ -139,6 +139,7 @@ impl SentDown {
     }
 
     /// The signal that is sent.
+    #[inline(always)]
     pub fn signal(&self) -> Option<OnPath<Down>>
         ensures { result ≡ self.now }
     {
@@ -273,6 +274,7 @@ impl SentUp {
     }
 
     /// The signal that is sent.
+    #[inline(always)]
     pub fn signal(&self) -> Option<OnPath<Up>>
         ensures { result ≡ self.now }
     {

@@ -59,6 +59,7 @@ impl DownPlace {
     }
 
     /// The signal that stands there.
+    #[inline(always)]
     pub fn signal(&self) -> Down
         ensures { result ≡ down_at self.now }
     {
@@ -118,6 +119,7 @@ impl UpPlace {
     }
 
     /// The signal that stands there.
+    #[inline(always)]
     pub fn signal(&self) -> Up
         ensures { result ≡ up_at self.now }
     {

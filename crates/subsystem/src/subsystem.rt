@@ -160,7 +160,7 @@ impl<P: PathChoice + Drop> Subsystem<P> {
             event,
             &mut self.answer,
         );
-        *answer = self.answer.answer();
+        self.answer.answer_to(answer);
     }
 
     /// One event, as `step` has it, with its answer in a place that is made once: no more bytes move than its signals have.
