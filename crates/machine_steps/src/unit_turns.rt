@@ -1,6 +1,8 @@
 //! What a unit is to do next.
 
 ghost use Rattle.std.specs.Prelude.{◌≡◌, ◌<◌, ℕ, List, MatchOption, None, Some};
+ghost use Rattle.chan_model.specs.UnitReports as report_spec;
+ghost use Rattle.chan_model.specs.declared.names.Side.TheVariants.{Second};
 ghost use Rattle.machine_model.specs.State as state_spec;
 ghost use Rattle.subchannel_model.specs.Places as place_spec;
 ghost use Rattle.machine_model.specs.State.{State};
@@ -127,20 +129,39 @@ fn turn_of_own(places: &Places, unit: usize, own: Own, subs: &[Subchannel]) -> K
     }
 }
 
+/// What a unit without a signal is to do: what its program asks for; else its program may ask for a path.
+fn turn_of_work(places: &Places, number: usize, unit: &Unit, subs: &[Subchannel]) -> KeptTurn
+    requires { Fits places.now subs.now }
+    ensures { (s : State) → s.subs ≡ subs.now → turn_in result (given_bytes «unit».now.at_hand) ≡
+        state_spec.turn_by_work s number «unit».now (report_spec.unit_work «unit».now) }
+{
+    match unit.kept_work() {
+        Some(work) => KeptTurn::Works(work),
+        None => turn_of_own(places, number, unit.own(), subs),
+    }
+}
+
+/// What a unit without a signal for its first side is to do: it takes the one for its second side; else what its program asks for.
+fn turn_of_second(places: &Places, number: usize, unit: &Unit, subs: &[Subchannel]) -> KeptTurn
+    requires { Fits places.now subs.now }
+    ensures { (s : State) → s.subs ≡ subs.now → turn_in result (given_bytes «unit».now.at_hand) ≡
+        state_spec.turn_or (state_spec.takes_from (place_spec.reached_sub number Second s.subs))
+        (state_spec.turn_by_work s number «unit».now (report_spec.unit_work «unit».now)) }
+{
+    match taken_from(places, number, Side::Second, subs) {
+        Some(turn) => turn,
+        None => turn_of_work(places, number, unit, subs),
+    }
+}
+
 /// What a unit is to do next: it takes the signal that waits, of its first side before its second; else does what its
 /// program asks for; else its program may ask for a path. The bytes that are to be absorbed stand with the unit.
 pub fn turn_of_unit(places: &Places, number: usize, unit: &Unit, subs: &[Subchannel]) -> KeptTurn
     requires { Fits places.now subs.now }
     ensures { (s : State) → s.subs ≡ subs.now → state_spec.turn_of_unit s number (Some «unit».now) ≡ Some (turn_in result (given_bytes «unit».now.at_hand)) }
 {
-    if let Some(turn) = taken_from(places, number, Side::First, subs) {
-        return turn;
-    }
-    if let Some(turn) = taken_from(places, number, Side::Second, subs) {
-        return turn;
-    }
-    match unit.kept_work() {
-        Some(work) => KeptTurn::Works(work),
-        None => turn_of_own(places, number, unit.own(), subs),
+    match taken_from(places, number, Side::First, subs) {
+        Some(turn) => turn,
+        None => turn_of_second(places, number, unit, subs),
     }
 }
