@@ -1,6 +1,6 @@
 //! What a subchannel does as its program is accepted by the device.
 
-ghost use Rattle.std.specs.Prelude.{◌≡◌, ◌<◌, ◌^◌};
+ghost use Rattle.std.specs.Prelude.{◌≡◌, ◌<◌, ◌^◌, is_some};
 ghost use Rattle.chan_model.specs.HoldTable.{hold_takes};
 ghost use Rattle.signal_places.specs.Places.{came_so, up_at};
 ghost use Rattle.subchannel_model.specs.Taking as spec;
@@ -60,17 +60,36 @@ fn standing_as(
 }
 
 /// The program that was offered, where it is not over.
-pub(crate) fn standing(state: &SubchannelState) -> Option<ProgramPosition>
+fn standing(state: &SubchannelState) -> Option<ProgramPosition>
     ensures { result ≡ spec.standing state.now }
 {
     standing_as(state.waiting, state.suspended, state.offered)
+}
+
+fn is_suspended_as(state: &SubchannelState, start: u64) -> bool
+    ensures { result ≡ is_some (spec.suspended_as state.now.suspended start) }
+{
+    match &state.suspended {
+        Some(standing) => standing.program.start == start,
+        None => false,
+    }
+}
+
+/// Whether the program that was offered is not over.
+fn is_standing(state: &SubchannelState) -> bool
+    ensures { result ≡ is_some (spec.standing state.now) }
+{
+    match &state.waiting {
+        Some(program) if program.start == state.offered => true,
+        _ => is_suspended_as(state, state.offered),
+    }
 }
 
 /// Whether the program that was offered takes the device.
 pub(crate) fn goes_ahead(state: &SubchannelState) -> bool
     ensures { result ≡ spec.goes_ahead state.now }
 {
-    standing(state).is_some() && !state.scsw.activity.halt_pending
+    is_standing(state) && !state.scsw.activity.halt_pending
 }
 
 fn use_path(pmcw: &mut PmcwState, path: Path)

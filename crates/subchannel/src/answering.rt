@@ -10,15 +10,17 @@ ghost use Rattle.transfer.specs.Commands as transfer_spec;
 
 use crate::attending::may_attend;
 use crate::ending::{Ended, ended_by, with_end};
-use crate::moving::moved_by;
+use crate::moving::data_by;
 use chan_model::hold_state::{HoldPhase, HoldState};
 use chan_model::names::Path;
+use hold::Hold;
 use kept_events::signals::KeptUp;
 use signal_places::signals::UpPlace;
 use status::ends::{chains_command, is_last_end};
 use storage_keys::Storage;
 use subchannel_model::state::SubchannelState;
 use transfer::CommandStart;
+use transfer::chunks::is_answered;
 use transfer::commands::next_command;
 
 fn held_path(hold: &HoldState) -> Option<Path>
@@ -67,8 +69,14 @@ fn data_path(state: &SubchannelState, path: Path, signal: &UpPlace) -> Option<Pa
     requires { taking_spec.IsBelow state.now.begun }
     ensures { result ≡ spec.data_path (working_spec.moved_by state.now path (up_at signal.now)) }
 {
-    let moved = moved_by(state, path, signal)?;
-    Some(moved.signal.path)
+    let data = data_by(path, signal)?;
+    if !Hold::of(state.hold).is_connected(path, data.number, data.connection) {
+        return None;
+    }
+    match &state.begun {
+        Some(begun) if is_answered(&begun.transfer, data.command, data.sequence) => Some(path),
+        _ => None,
+    }
 }
 
 /// Where the program is held on the path of its End, nothing is to be fetched.

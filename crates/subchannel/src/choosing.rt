@@ -2,6 +2,7 @@
 
 ghost use Rattle.std.specs.Prelude.{◌≡◌, ◌<◌, ◌+◌, ◌^◌, if◌then◌else◌, IfSome, true};
 ghost use Rattle.chan_model.specs.HoldTable.{came_of, offering, sending_reset};
+ghost use Rattle.allegiance.specs.PathUse as set_spec;
 ghost use Rattle.subchannel_model.specs.Choosing as spec;
 ghost use Rattle.chan_model.specs.declared.hold_state.HoldPhase.TheVariants as phase;
 
@@ -135,20 +136,28 @@ fn halt_chosen(pending: bool, hold: &HoldState, choice: &Option<Path>) -> Option
     }
 }
 
+/// Whether some path is within reach, be its engine free or not.
+fn is_within_reach(sub: &Subchannel) -> bool
+    ensures { result ≡ set_spec.is_any (set_spec.reachable_paths (spec.path_use sub.now)) }
+{
+    is_any(&path_use(sub).reachable())
+}
+
 /// A program that is to be offered, and where a path is within reach or none.
 fn offer_chosen(
-    hold: &HoldState,
+    sub: &Subchannel,
     candidate: Option<Candidate>,
-    reachable: bool,
     choice: &Option<Path>,
 ) -> Option<Chosen>
-    ensures chosen { result ≡ spec.offer_chosen hold.now.phase candidate reachable choice.now }
-    ensures fits { IfSome result (λ c. spec.IsFitFor c hold.now) }
+    ensures chosen { result ≡ spec.offer_chosen sub.now.state.hold.phase candidate (set_spec.is_any (set_spec.reachable_paths (spec.path_use sub.now))) choice.now }
+    ensures fits { IfSome result (λ c. spec.IsFitFor c sub.now.state.hold) }
 {
     let candidate = candidate?;
-    match (hold.phase, *choice) {
+    match (sub.state.hold.phase, *choice) {
         (HoldPhase::Free, Some(path)) => Some(Chosen::Offers { candidate, path }),
-        (HoldPhase::Free | HoldPhase::Reset { .. }, _) if !reachable => Some(Chosen::FindsNoPath),
+        (HoldPhase::Free | HoldPhase::Reset { .. }, _) if !is_within_reach(sub) => Some(
+            Chosen::FindsNoPath,
+        ),
         _ => None,
     }
 }
@@ -169,8 +178,7 @@ pub fn chosen(sub: &Subchannel, choice: Option<Path>) -> Chosen
     if let Some(chosen) = halt_chosen(state.scsw.activity.halt_pending, &state.hold, &choice) {
         return chosen;
     }
-    let reachable = is_any(&path_use(sub).reachable());
-    match offer_chosen(&state.hold, candidate(state), reachable, &choice) {
+    match offer_chosen(sub, candidate(state), &choice) {
         Some(chosen) => chosen,
         None => Chosen::Idle,
     }

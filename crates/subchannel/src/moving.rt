@@ -51,7 +51,7 @@ pub(crate) fn moved_by(state: &SubchannelState, path: Path, signal: &UpPlace) ->
 }
 
 /// The numbers of a Data. None where the signal is another.
-fn data_by(path: Path, signal: &UpPlace) -> Option<DataSignal>
+pub(crate) fn data_by(path: Path, signal: &UpPlace) -> Option<DataSignal>
     ensures { result ≡ working_spec.data_by path (up_at signal.now) }
 {
     match signal.kept {
