@@ -10,8 +10,22 @@ use chan_events::reply::Reply;
 use kept_events::bytes::{down_bytes, event_bytes, up_bytes};
 use signal_places::answers::AnswerPlace;
 
-/// Adds bytes.
+/// Adds bytes; there are often none.
+#[inline(always)]
 pub fn add_bytes(arena: &mut Vec<u8>, bytes: &[u8])
+    requires { vec_len arena.old + length bytes.now ≤ vec_capacity arena.old }
+    ensures items { arena.new.items ≡ arena.old.items ++ bytes.now }
+    ensures len { vec_len arena.new ≡ vec_len arena.old + length bytes.now }
+    ensures capacity { vec_capacity arena.old ≤ vec_capacity arena.new }
+{
+    if !bytes.is_empty() {
+        add_some(arena, bytes);
+    }
+}
+
+/// Adds bytes, of which there are some.
+#[inline(never)]
+fn add_some(arena: &mut Vec<u8>, bytes: &[u8])
     requires { vec_len arena.old + length bytes.now ≤ vec_capacity arena.old }
     ensures items { arena.new.items ≡ arena.old.items ++ bytes.now }
     ensures len { vec_len arena.new ≡ vec_len arena.old + length bytes.now }

@@ -76,8 +76,8 @@ impl<'a> History<'a> {
     {
         let count = self.entries.len();
         if count > 0 {
-            let kept = self.entries[count - 1];
-            log.append_kept(&kept, bytes_of(&kept, self.bytes));
+            let kept = &self.entries[count - 1];
+            log.append_kept(kept, bytes_of(kept, self.bytes));
         }
     }
 }

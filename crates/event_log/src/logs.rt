@@ -1,6 +1,6 @@
 //! A log that grows at its end.
 
-ghost use Rattle.std.specs.Prelude.{◌≡◌, ◌≤◌, ◌<◌, ◌+◌, ◌++◌, ◌∷◌, [], ℕ, List, OnOk, OnErr, length, vec_len, vec_capacity};
+ghost use Rattle.std.specs.Prelude.{◌≡◌, ◌≤◌, ◌<◌, ◌+◌, ◌++◌, ◌∷◌, [], ℕ, List, OnOk, OnErr, IsTrue, length, vec_len, vec_capacity};
 ghost use Rattle.kept_events.specs.Entries.{entry_bytes, entry_in, entry_length};
 ghost use Rattle.signal_places.specs.Answers.{reply_at};
 
@@ -66,6 +66,30 @@ impl Log {
         ensures refused { OnErr result (self.new ≡ self.old) }
         ensures spent { OnErr result (self.old.room ≡ 0) }
     {
+        if self.has_room() {
+            return Ok(());
+        }
+        self.grow()
+    }
+
+    /// Whether there is room for one entry.
+    fn has_room(&self) -> bool
+        ensures { IsTrue result → 1 ≤ self.now.room }
+    {
+        self.entries.len() < self.entries.capacity()
+            && ENTRY_BYTES <= self.bytes.capacity() - self.bytes.len()
+    }
+
+    /// `make_room`, where there may be none: apart, as it is rare.
+    #[cold]
+    #[inline(never)]
+    fn grow(&mut self) -> Result<(), AllocError>
+        ensures entries { self.new.entries ≡ self.old.entries }
+        ensures kept { self.old.room ≤ self.new.room }
+        ensures made { OnOk result (1 ≤ self.new.room) }
+        ensures refused { OnErr result (self.new ≡ self.old) }
+        ensures spent { OnErr result (self.old.room ≡ 0) }
+    {
         self.entries.reserve(1)?;
         self.bytes.reserve(ENTRY_BYTES)
     }
@@ -87,9 +111,15 @@ impl Log {
         ensures entries { self.new.entries ≡ self.old.entries ++ record { event = event.now; reply = reply_at place.now } ∷ [] }
         ensures room { self.old.room ≤ self.new.room + 1 }
     {
-        let entry = kept_entry(self.bytes.len(), event, place);
+        let number = self.entries.len();
+        push(
+            &mut self.entries,
+            self.bytes.len(),
+            KeptEvent::SystemReset,
+            KeptReply::Done,
+        );
+        fill(&mut self.entries[number], event, place);
         add_answer(&mut self.bytes, event, place);
-        push(&mut self.entries, entry.start, entry.event, entry.reply);
     }
 
     /// Adds an entry that is kept with these bytes, for which there is room.
@@ -113,18 +143,15 @@ impl Log {
     }
 }
 
-/// The numbers of an event and of the reply that stands in a place, whose bytes stand from `start` on.
-fn kept_entry(start: usize, event: &Event, place: &AnswerPlace) -> KeptEntry
-    ensures start { result.start ≡ start }
-    ensures kept { (rest : List ℕ) → entry_in result (entry_bytes (record { event = event.now; reply = reply_at place.now }) ++ rest) ≡ record { event = event.now; reply = reply_at place.now } }
-    ensures length { entry_length result ≡ length (entry_bytes (record { event = event.now; reply = reply_at place.now })) }
+/// Writes the numbers of an event and of the reply that stands in a place.
+fn fill(entry: &mut KeptEntry, event: &Event, place: &AnswerPlace)
+    ensures start { entry.new.start ≡ entry.old.start }
+    ensures kept { (rest : List ℕ) → entry_in entry.new (entry_bytes (record { event = event.now; reply = reply_at place.now }) ++ rest) ≡ record { event = event.now; reply = reply_at place.now } }
+    ensures length { entry_length entry.new ≡ length (entry_bytes (record { event = event.now; reply = reply_at place.now })) }
     ensures bound { length (entry_bytes (record { event = event.now; reply = reply_at place.now })) ≤ 768 }
 {
-    KeptEntry {
-        start,
-        event: KeptEvent::of(event),
-        reply: place.kept(),
-    }
+    entry.event.put(event);
+    place.keep(&mut entry.reply);
 }
 
 /// Adds an entry of these parts, for which there is room.

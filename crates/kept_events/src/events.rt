@@ -108,21 +108,21 @@ pub enum KeptEvent {
     SystemReset,
 }
 
-/// The numbers of a report.
-fn of_report(unit: u32, report: &Report) -> KeptEvent
-    ensures kept { (rest : List ℕ) → spec.event_in result (spec.answer_bytes report.now.answer ++ rest) ≡ event_spec.Report unit report.now }
-    ensures length { spec.event_length result ≡ length (spec.answer_bytes report.now.answer) }
+/// Writes the numbers of a report.
+fn put_report(kept: &mut KeptEvent, unit: u32, report: &Report)
+    ensures kept { (rest : List ℕ) → spec.event_in kept.new (spec.answer_bytes report.now.answer ++ rest) ≡ event_spec.Report unit report.now }
+    ensures length { spec.event_length kept.new ≡ length (spec.answer_bytes report.now.answer) }
     ensures bound { length (spec.answer_bytes report.now.answer) ≤ 256 }
 {
     match &report.answer {
-        DeviceAnswer::Begins => KeptEvent::Begins {
+        DeviceAnswer::Begins => *kept = KeptEvent::Begins {
             side: report.side,
             unit,
             number: report.number,
             command: report.command,
             sequence: report.sequence,
         },
-        DeviceAnswer::Absorbed(count) => KeptEvent::Absorbed {
+        DeviceAnswer::Absorbed(count) => *kept = KeptEvent::Absorbed {
             side: report.side,
             count: *count,
             unit,
@@ -130,7 +130,7 @@ fn of_report(unit: u32, report: &Report) -> KeptEvent
             command: report.command,
             sequence: report.sequence,
         },
-        DeviceAnswer::Supplied(bytes) => KeptEvent::Supplied {
+        DeviceAnswer::Supplied(bytes) => *kept = KeptEvent::Supplied {
             side: report.side,
             length: length_of(bytes),
             unit,
@@ -138,14 +138,14 @@ fn of_report(unit: u32, report: &Report) -> KeptEvent
             command: report.command,
             sequence: report.sequence,
         },
-        DeviceAnswer::Again => KeptEvent::Again {
+        DeviceAnswer::Again => *kept = KeptEvent::Again {
             side: report.side,
             unit,
             number: report.number,
             command: report.command,
             sequence: report.sequence,
         },
-        DeviceAnswer::Ended { status, more } => KeptEvent::Ended {
+        DeviceAnswer::Ended { status, more } => *kept = KeptEvent::Ended {
             side: report.side,
             status: *status,
             more: *more,
@@ -164,52 +164,63 @@ impl KeptEvent {
         ensures length { spec.event_length result ≡ length (spec.event_bytes event.now) }
         ensures bound { length (spec.event_bytes event.now) ≤ 256 }
     {
+        let mut kept = KeptEvent::SystemReset;
+        kept.put(event);
+        kept
+    }
+
+    /// Writes the numbers of an event, where they are to stand: each is moved once.
+    pub fn put(&mut self, event: &Event)
+        ensures kept { (rest : List ℕ) → spec.event_in self.new (spec.event_bytes event.now ++ rest) ≡ event.now }
+        ensures length { spec.event_length self.new ≡ length (spec.event_bytes event.now) }
+        ensures bound { length (spec.event_bytes event.now) ≤ 256 }
+    {
         match event {
-            Event::Put { address, bytes } => KeptEvent::Put {
+            Event::Put { address, bytes } => *self = KeptEvent::Put {
                 length: length_of(bytes),
                 address: *address,
             },
-            Event::SetKey { address, key } => KeptEvent::SetKey {
+            Event::SetKey { address, key } => *self = KeptEvent::SetKey {
                 address: *address,
                 key: *key,
             },
-            Event::SetPrefix { cpu, address } => KeptEvent::SetPrefix {
+            Event::SetPrefix { cpu, address } => *self = KeptEvent::SetPrefix {
                 cpu: *cpu,
                 address: *address,
             },
-            Event::Show { address, length } => KeptEvent::Show {
+            Event::Show { address, length } => *self = KeptEvent::Show {
                 length: *length,
                 address: *address,
             },
-            Event::Execute { cpu, instruction } => KeptEvent::Execute {
+            Event::Execute { cpu, instruction } => *self = KeptEvent::Execute {
                 cpu: *cpu,
                 instruction: *instruction,
             },
-            Event::ExecuteOther { cpu, instruction } => KeptEvent::ExecuteOther {
+            Event::ExecuteOther { cpu, instruction } => *self = KeptEvent::ExecuteOther {
                 cpu: *cpu,
                 instruction: *instruction,
             },
-            Event::Choose { subchannel } => KeptEvent::Choose {
+            Event::Choose { subchannel } => *self = KeptEvent::Choose {
                 subchannel: *subchannel,
             },
-            Event::Up { subchannel, path } => KeptEvent::Up {
-                subchannel: *subchannel,
-                path: *path,
-            },
-            Event::Down { subchannel, path } => KeptEvent::Down {
+            Event::Up { subchannel, path } => *self = KeptEvent::Up {
                 subchannel: *subchannel,
                 path: *path,
             },
-            Event::Report { unit, report } => of_report(*unit, report),
-            Event::Act { unit, act } => KeptEvent::Act {
+            Event::Down { subchannel, path } => *self = KeptEvent::Down {
+                subchannel: *subchannel,
+                path: *path,
+            },
+            Event::Report { unit, report } => put_report(self, *unit, report),
+            Event::Act { unit, act } => *self = KeptEvent::Act {
                 unit: *unit,
                 act: *act,
             },
-            Event::Restart { unit } => KeptEvent::Restart { unit: *unit },
-            Event::PathDown { chpid } => KeptEvent::PathDown { chpid: *chpid },
-            Event::PathUp { chpid } => KeptEvent::PathUp { chpid: *chpid },
-            Event::PathReset { chpid } => KeptEvent::PathReset { chpid: *chpid },
-            Event::SystemReset => KeptEvent::SystemReset,
+            Event::Restart { unit } => *self = KeptEvent::Restart { unit: *unit },
+            Event::PathDown { chpid } => *self = KeptEvent::PathDown { chpid: *chpid },
+            Event::PathUp { chpid } => *self = KeptEvent::PathUp { chpid: *chpid },
+            Event::PathReset { chpid } => *self = KeptEvent::PathReset { chpid: *chpid },
+            Event::SystemReset => *self = KeptEvent::SystemReset,
         }
     }
 

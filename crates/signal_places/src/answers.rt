@@ -22,17 +22,11 @@ pub enum Outcome {
     Refused(Fault),
     Replied(PlainReply),
     /// The bytes that were asked for stand in the place for a signal up.
-    Shown {
-        length: Length,
-    },
+    Shown { length: Length },
     /// A subchannel met the signal up, and sent the one down.
-    MetUp {
-        taken: bool,
-    },
+    MetUp { taken: bool },
     /// A unit met the signal down, and sent the one up.
-    MetDown {
-        taken: bool,
-    },
+    MetDown { taken: bool },
 }
 
 /// A place for the answer of an event: the signal that was met and the one that was sent, each in a place of its own.
@@ -87,18 +81,18 @@ impl AnswerPlace {
         !matches!(self.outcome, Outcome::Refused(_))
     }
 
-    /// The numbers of the reply, where it is one.
-    pub fn kept(&self) -> KeptReply
-        ensures kept { (rest : List ℕ) → kept_spec.reply_in result (kept_spec.reply_bytes (reply_at self.now) ++ rest) ≡ reply_at self.now }
-        ensures length { kept_spec.reply_length result ≡ length (kept_spec.reply_bytes (reply_at self.now)) }
+    /// Writes the numbers of the reply, where it is one, to where they are to stand.
+    pub fn keep(&self, kept: &mut KeptReply)
+        ensures kept { (rest : List ℕ) → kept_spec.reply_in kept.new (kept_spec.reply_bytes (reply_at self.now) ++ rest) ≡ reply_at self.now }
+        ensures length { kept_spec.reply_length kept.new ≡ length (kept_spec.reply_bytes (reply_at self.now)) }
         ensures bound { length (kept_spec.reply_bytes (reply_at self.now)) ≤ 512 }
     {
-        match self.outcome {
-            Outcome::Refused(_) => KeptReply::Done,
-            Outcome::Replied(plain) => plain.kept(),
-            Outcome::Shown { length } => KeptReply::Shown { length },
-            Outcome::MetUp { taken } => self.sent_down.kept_reply(taken, &self.up),
-            Outcome::MetDown { taken } => self.sent_up.kept_reply(taken, &self.down),
+        match &self.outcome {
+            Outcome::Refused(_) => *kept = KeptReply::Done,
+            Outcome::Replied(plain) => plain.keep(kept),
+            Outcome::Shown { length } => *kept = KeptReply::Shown { length: *length },
+            Outcome::MetUp { taken } => self.sent_down.keep_reply(*taken, &self.up, kept),
+            Outcome::MetDown { taken } => self.sent_up.keep_reply(*taken, &self.down, kept),
         }
     }
 

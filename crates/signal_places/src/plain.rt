@@ -46,41 +46,41 @@ pub enum PlainReply {
 }
 
 impl PlainReply {
-    /// The reply as it is kept.
-    pub fn kept(&self) -> KeptReply
-        ensures kept { (rest : List ℕ) → kept_spec.reply_in result rest ≡ reply_of self.now }
-        ensures length { kept_spec.reply_length result ≡ 0 }
+    /// Writes the reply as it is kept, where it is to stand.
+    pub fn keep(&self, kept: &mut KeptReply)
+        ensures kept { (rest : List ℕ) → kept_spec.reply_in kept.new rest ≡ reply_of self.now }
+        ensures length { kept_spec.reply_length kept.new ≡ 0 }
     {
         match self {
-            PlainReply::Done => KeptReply::Done,
-            PlainReply::Code(answer) => KeptReply::Code(*answer),
-            PlainReply::Status { answer, scsw } => KeptReply::Status {
+            PlainReply::Done => *kept = KeptReply::Done,
+            PlainReply::Code(answer) => *kept = KeptReply::Code(*answer),
+            PlainReply::Status { answer, scsw } => *kept = KeptReply::Status {
                 answer: *answer,
                 scsw: *scsw,
             },
-            PlainReply::Interruption(code) => KeptReply::Interruption(*code),
-            PlainReply::PathReset(code) => KeptReply::PathReset(*code),
-            PlainReply::ChannelReport(report) => KeptReply::ChannelReport(*report),
-            PlainReply::Paths { engaged } => KeptReply::Paths { engaged: *engaged },
+            PlainReply::Interruption(code) => *kept = KeptReply::Interruption(*code),
+            PlainReply::PathReset(code) => *kept = KeptReply::PathReset(*code),
+            PlainReply::ChannelReport(report) => *kept = KeptReply::ChannelReport(*report),
+            PlainReply::Paths { engaged } => *kept = KeptReply::Paths { engaged: *engaged },
             PlainReply::Offered {
                 path,
                 resumed,
                 number,
-            } => KeptReply::Offered {
+            } => *kept = KeptReply::Offered {
                 path: *path,
                 resumed: *resumed,
                 number: *number,
             },
-            PlainReply::ResetSent { path, number } => KeptReply::ResetSent {
+            PlainReply::ResetSent { path, number } => *kept = KeptReply::ResetSent {
                 path: *path,
                 number: *number,
             },
-            PlainReply::HaltSent { path, number } => KeptReply::HaltSent {
+            PlainReply::HaltSent { path, number } => *kept = KeptReply::HaltSent {
                 path: *path,
                 number: *number,
             },
-            PlainReply::Pending => KeptReply::Pending,
-            PlainReply::Idle => KeptReply::Idle,
+            PlainReply::Pending => *kept = KeptReply::Pending,
+            PlainReply::Idle => *kept = KeptReply::Idle,
         }
     }
 

@@ -12,7 +12,7 @@ ghost use Rattle.signal_places.specs.Places.{down_at, sent_down_bytes, sent_path
 use crate::bytes;
 use crate::signals::{DownPlace, UpPlace};
 use chan_model::names::Path;
-use chan_model::signal::{OnPath, Down, Up};
+use chan_model::signal::{Down, OnPath, Up};
 use kept_events::lengths::Length;
 use kept_events::replies::KeptReply;
 use kept_events::signals::{KeptDown, KeptUp};
@@ -118,18 +118,18 @@ impl SentDown {
         }
     }
 
-    /// The numbers of the reply to a signal up that it is sent for.
-    pub fn kept_reply(&self, taken: bool, met: &UpPlace) -> KeptReply
-        ensures kept { (rest : List ℕ) → replies_spec.reply_in result (replies_spec.reply_bytes (reply_spec.Up (up_at met.now) taken self.now) ++ rest) ≡ reply_spec.Up (up_at met.now) taken self.now }
-        ensures length { replies_spec.reply_length result ≡ length (replies_spec.reply_bytes (reply_spec.Up (up_at met.now) taken self.now)) }
+    /// Writes the numbers of the reply to a signal up that it is sent for.
+    pub fn keep_reply(&self, taken: bool, met: &UpPlace, kept: &mut KeptReply)
+        ensures kept { (rest : List ℕ) → replies_spec.reply_in kept.new (replies_spec.reply_bytes (reply_spec.Up (up_at met.now) taken self.now) ++ rest) ≡ reply_spec.Up (up_at met.now) taken self.now }
+        ensures length { replies_spec.reply_length kept.new ≡ length (replies_spec.reply_bytes (reply_spec.Up (up_at met.now) taken self.now)) }
         ensures bound { length (replies_spec.reply_bytes (reply_spec.Up (up_at met.now) taken self.now)) ≤ 512 }
     {
         match self.path {
-            None => KeptReply::Up {
+            None => *kept = KeptReply::Up {
                 taken,
                 signal: met.kept(),
             },
-            Some(path) => KeptReply::UpSent {
+            Some(path) => *kept = KeptReply::UpSent {
                 taken,
                 path,
                 signal: met.kept(),
@@ -253,18 +253,18 @@ impl SentUp {
         }
     }
 
-    /// The numbers of the reply to a signal down that it is sent for.
-    pub fn kept_reply(&self, taken: bool, met: &DownPlace) -> KeptReply
-        ensures kept { (rest : List ℕ) → replies_spec.reply_in result (replies_spec.reply_bytes (reply_spec.Down (down_at met.now) taken self.now) ++ rest) ≡ reply_spec.Down (down_at met.now) taken self.now }
-        ensures length { replies_spec.reply_length result ≡ length (replies_spec.reply_bytes (reply_spec.Down (down_at met.now) taken self.now)) }
+    /// Writes the numbers of the reply to a signal down that it is sent for.
+    pub fn keep_reply(&self, taken: bool, met: &DownPlace, kept: &mut KeptReply)
+        ensures kept { (rest : List ℕ) → replies_spec.reply_in kept.new (replies_spec.reply_bytes (reply_spec.Down (down_at met.now) taken self.now) ++ rest) ≡ reply_spec.Down (down_at met.now) taken self.now }
+        ensures length { replies_spec.reply_length kept.new ≡ length (replies_spec.reply_bytes (reply_spec.Down (down_at met.now) taken self.now)) }
         ensures bound { length (replies_spec.reply_bytes (reply_spec.Down (down_at met.now) taken self.now)) ≤ 512 }
     {
         match self.path {
-            None => KeptReply::Down {
+            None => *kept = KeptReply::Down {
                 taken,
                 signal: met.kept(),
             },
-            Some(path) => KeptReply::DownSent {
+            Some(path) => *kept = KeptReply::DownSent {
                 taken,
                 path,
                 signal: met.kept(),
