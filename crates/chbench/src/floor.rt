@@ -28,11 +28,7 @@ pub trait Floor {
 }
 
 /// The report of a unit's next work; None where it has none.
-fn report_of(
-    subsystem: &Subsystem<Rotating>,
-    unit: u32,
-    device: &mut AnyDevice,
-) -> Option<Event> {
+fn report_of(subsystem: &Subsystem<Rotating>, unit: u32, device: &mut AnyDevice) -> Option<Event> {
     let UnitTurn::Works(work) = subsystem.unit_turn(unit)? else {
         return None;
     };

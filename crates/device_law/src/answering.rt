@@ -27,12 +27,7 @@ pub fn answer<D: Device>(device: &mut D, call: &Call) -> DeviceAnswer
 }
 
 /// Makes the call, as `answer` does; these bytes stand beside it, and the answer is written into its place.
-pub fn answer_to<D: Device>(
-    device: &mut D,
-    call: KeptCall,
-    bytes: &[u8],
-    place: &mut DeviceAnswer,
-)
+pub fn answer_to<D: Device>(device: &mut D, call: KeptCall, bytes: &[u8], place: &mut DeviceAnswer)
     requires { length bytes.now ≤ 256 }
     ensures law { IsAnswer (call_in call bytes.now) place.new }
     ensures answers { D.answers device.old (call_in call bytes.now) place.new device.new }

@@ -11,14 +11,10 @@ use scsw_irb::status::DeviceStatus;
 /// What the device is asked for, with the meaning that `Call` has.
 #[derive(Clone, Copy)]
 pub enum KeptCall {
-    Initial {
-        code: u8,
-    },
+    Initial { code: u8 },
     /// To absorb the bytes that stand beside it.
     Absorb,
-    Supply {
-        most: u16,
-    },
+    Supply { most: u16 },
     Finish,
 }
 
@@ -27,10 +23,7 @@ pub enum KeptCall {
 pub enum Task {
     Call(KeptCall),
     Again,
-    Ended {
-        status: DeviceStatus,
-        more: bool,
-    },
+    Ended { status: DeviceStatus, more: bool },
 }
 
 /// What a unit has to do next, with the meaning that `Work` has.

@@ -147,12 +147,7 @@ fn notice(sub: &mut Subchannel, unit: &Unit, path: Path, answer: &mut AnswerPlac
 
 /// A unit acts at the subchannel of a side: what it does is sent by the path that is named, and Leave by that of its
 /// program.
-pub fn act_sub(
-    sub: &mut Subchannel,
-    unit: &mut Unit,
-    act: UnitAct,
-    answer: &mut AnswerPlace,
-)
+pub fn act_sub(sub: &mut Subchannel, unit: &mut Unit, act: UnitAct, answer: &mut AnswerPlace)
     requires { IsUnitRoomy «unit».old }
     ensures engaged { engaged sub.new ≡ engaged sub.old }
     ensures state { sub.new.state ≡ sub.old.state }

@@ -264,12 +264,7 @@ impl Machine {
     }
 
     #[inline(never)]
-    fn execute_other(
-        &mut self,
-        cpu: Cpu,
-        instruction: OtherInstruction,
-        answer: &mut AnswerPlace,
-    )
+    fn execute_other(&mut self, cpu: Cpu, instruction: OtherInstruction, answer: &mut AnswerPlace)
         ensures { spec.Performs self.old (event_spec.ExecuteOther cpu instruction) (answer_at answer.new) self.new }
     {
         let counted = Counted::of(self.subs.as_slice(), &self.engines);
@@ -363,13 +358,7 @@ impl Machine {
     }
 
     #[inline(never)]
-    fn report(
-        &mut self,
-        places: &Places,
-        number: u32,
-        report: &Report,
-        answer: &mut AnswerPlace,
-    )
+    fn report(&mut self, places: &Places, number: u32, report: &Report, answer: &mut AnswerPlace)
         requires fits { Fits places.now self.old.subs }
         requires roomy { All IsUnitRoomy self.old.units }
         ensures { spec.Performs self.old (event_spec.Report number report.now) (answer_at answer.new) self.new }

@@ -310,12 +310,7 @@ fn report_finds_full(sub: &Subchannel, path: &ReportPath) -> bool
 }
 
 /// The unit takes its device's answer, and sends what comes of it to the subchannel.
-pub fn report_sub(
-    sub: &mut Subchannel,
-    unit: &mut Unit,
-    report: &Report,
-    answer: &mut AnswerPlace,
-)
+pub fn report_sub(sub: &mut Subchannel, unit: &mut Unit, report: &Report, answer: &mut AnswerPlace)
     requires { IsUnitRoomy «unit».old }
     ensures engaged { engaged sub.new ≡ engaged sub.old }
     ensures state { sub.new.state ≡ sub.old.state }

@@ -82,12 +82,7 @@ fn work_on_bytes(unit: &UnitState, side: Side, number: u64, command: &AtHand) ->
 }
 
 /// The end of a transfer that is over, or else more bytes of a read.
-fn work_on_transfer(
-    unit: &UnitState,
-    side: Side,
-    number: u64,
-    command: &AtHand,
-) -> Option<KeptWork>
+fn work_on_transfer(unit: &UnitState, side: Side, number: u64, command: &AtHand) -> Option<KeptWork>
     ensures { works_in result (given_of command.now.given) ≡ reports.work_on_transfer unit.now side number command.now }
 {
     if is_over(command) {
@@ -101,26 +96,14 @@ fn work_on_transfer(
 }
 
 /// A call for the command at hand.
-fn calling(
-    unit: &UnitState,
-    side: Side,
-    number: u64,
-    command: &AtHand,
-    call: KeptCall,
-) -> KeptWork
+fn calling(unit: &UnitState, side: Side, number: u64, command: &AtHand, call: KeptCall) -> KeptWork
     ensures { Some (work_in result (given_of command.now.given)) ≡ reports.calling unit.now side number command.now (call_in call (given_of command.now.given)) }
 {
     work_for(unit, side, number, command, Task::Call(call))
 }
 
 /// What is to be done for the command at hand.
-fn work_for(
-    unit: &UnitState,
-    side: Side,
-    number: u64,
-    command: &AtHand,
-    task: Task,
-) -> KeptWork
+fn work_for(unit: &UnitState, side: Side, number: u64, command: &AtHand, task: Task) -> KeptWork
     ensures { result ≡ record {
       side = side;
       number = number;
