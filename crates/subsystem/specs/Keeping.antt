@@ -8,13 +8,8 @@ use Rattle.chan_events.specs.declared.event.Event.TheVariants as event
 use Rattle.chan_events.specs.declared.reply.Reply.{Reply}
 use Rattle.channel_config.specs.Setup.{Setup}
 use Rattle.event_laws.specs.Codes.{answer_in}
-use Rattle.event_log.specs.Logs.{Logged}
-use Rattle.machine_model.specs.State.{Past, State}
+use Rattle.machine_model.specs.State.{State}
 use Rattle.machine_model.specs.Setups.{IsSetUp}
-
--- what a subsystem is seen as: a state, and the log of what led there
-abbrev pub past_of : State → Logged → Past
-past_of state log = record { state = state; history = log.entries; room = log.room }
 
 -- it stays as it was set up
 abbrev pub StaysSetUp : State → State → Type 0
