@@ -1,0 +1,86 @@
+//! What is written into a place stands there, bytes and all, whatever stood there before.
+
+use chan_events::reply::Reply;
+use chan_model::fault::Fault;
+use chan_model::names::Path;
+use chan_model::signal::{Down, Load, OnPath, Up};
+use kept_events::signals::KeptDown;
+use signal_places::answers::{AnswerPlace, Outcome};
+use signal_places::plain::PlainReply;
+use signal_places::sent::{SentDown, SentUp};
+use signal_places::signals::DownPlace;
+
+#[test]
+fn a_place_has_what_was_written_last(rt: HostRuntime) {
+    let path = Path::new(5).unwrap();
+    let mut sent = SentDown::new();
+    assert!(rt; sent.get().is_none());
+    sent.put_give(path, 1, 2, 3, 4, &[0xC1, 0xC2, 0xC3]);
+    sent.put_give(path, 1, 2, 3, 5, &[0xC4]);
+    let mut place = DownPlace::new();
+    if let Some((_, signal)) = sent.get() {
+        place.put_from(signal);
+    }
+    let signal = place.signal();
+    assert!(rt;
+        matches!(&signal, Down::Give { sequence: 5, bytes, .. } if bytes.as_slice() == [0xC4].as_slice()),
+        "the last Give, with its own bytes alone"
+    );
+    sent.put(path, KeptDown::Halt { number: 9 });
+    let halt = sent.signal();
+    assert!(rt;
+        matches!(
+            halt,
+            Some(OnPath {
+                signal: Down::Halt { number: 9 },
+                ..
+            })
+        )
+    );
+    sent.clear();
+    assert!(rt; sent.signal().is_none());
+}
+
+#[test]
+fn bytes_come_up_from_their_place(rt: HostRuntime) {
+    let path = Path::new(0).unwrap();
+    let mut sent = SentUp::new();
+    sent.put_bytes(path, 1, 0, 1, 1, &[7, 8]);
+    let signal = sent.signal().map(|sent| sent.signal);
+    assert!(rt;
+        matches!(&signal, Some(Up::Data { load: Load::Bytes(bytes), .. }) if bytes.as_slice() == [7, 8].as_slice()),
+        "both bytes"
+    );
+}
+
+#[test]
+fn an_answer_is_read_off_its_place(rt: HostRuntime) {
+    let mut place = AnswerPlace::new();
+    let mut answer = Ok(Reply::Done);
+    place.tell(Err(Fault::WireFull));
+    place.answer_to(&mut answer);
+    assert!(rt; matches!(answer, Err(Fault::WireFull)));
+    place.tell(Ok(PlainReply::Pending));
+    let replied = place.is_reply();
+    assert!(rt; replied);
+    place.answer_to(&mut answer);
+    assert!(rt; matches!(answer, Ok(Reply::Pending)));
+    place.show(&[1, 2, 3]);
+    place.answer_to(&mut answer);
+    assert!(rt;
+        matches!(&answer, Ok(Reply::Shown { bytes }) if bytes.as_slice() == [1, 2, 3].as_slice()),
+        "the bytes that were shown"
+    );
+    place.outcome = Outcome::MetDown { taken: false };
+    place.answer_to(&mut answer);
+    assert!(rt;
+        matches!(
+            answer,
+            Ok(Reply::Down {
+                taken: false,
+                sent: None,
+                ..
+            })
+        )
+    );
+}
