@@ -3,12 +3,10 @@
 ghost use Rattle.std.specs.Prelude.{◌≡◌, ◌≤◌, ◌+◌, ◌++◌, length, vec_len, vec_capacity};
 ghost use Rattle.kept_events.specs.Entries as entry_spec;
 ghost use Rattle.kept_events.specs.Replies as reply_spec;
-ghost use Rattle.signal_places.specs.Answers.{reply_at};
 
 use chan_events::event::Event;
 use chan_events::reply::Reply;
 use kept_events::bytes::{down_bytes, event_bytes, up_bytes};
-use signal_places::answers::AnswerPlace;
 
 /// Adds bytes; there are often none.
 #[inline(always)]
@@ -68,16 +66,4 @@ pub fn add_entry(arena: &mut Vec<u8>, event: &Event, reply: &Reply)
 {
     add_bytes(arena, event_bytes(event));
     add_reply(arena, reply);
-}
-
-/// Adds the bytes of an event and of the reply that stands in a place.
-pub fn add_answer(arena: &mut Vec<u8>, event: &Event, place: &AnswerPlace)
-    requires { vec_len arena.old + 768 ≤ vec_capacity arena.old }
-    ensures items { arena.new.items ≡ arena.old.items ++ entry_spec.entry_bytes (record { event = event.now; reply = reply_at place.now }) }
-    ensures len { vec_len arena.new ≤ vec_len arena.old + 768 }
-    ensures capacity { vec_capacity arena.old ≤ vec_capacity arena.new }
-{
-    add_bytes(arena, event_bytes(event));
-    add_bytes(arena, place.first_bytes());
-    add_bytes(arena, place.last_bytes());
 }

@@ -4,10 +4,12 @@ ghost use Rattle.std.specs.Prelude.{◌≡◌, ◌≤◌, ◌<◌, ◌+◌, ◌+
 ghost use Rattle.kept_events.specs.Entries.{entry_bytes, entry_in, entry_length};
 ghost use Rattle.signal_places.specs.Answers.{reply_at};
 
-use crate::arena::{add_answer, add_bytes, add_entry};
+use crate::answers::pack;
+use crate::arena::{add_bytes, add_entry};
 use crate::history::History;
 use chan_events::event::Event;
 use chan_events::reply::Reply;
+use kept_events::bytes::event_bytes;
 use kept_events::entries::KeptEntry;
 use kept_events::events::KeptEvent;
 use kept_events::replies::KeptReply;
@@ -73,6 +75,7 @@ impl Log {
     }
 
     /// Whether there is room for one entry.
+    #[inline(always)]
     fn has_room(&self) -> bool
         ensures { IsTrue result → 1 ≤ self.now.room }
     {
@@ -118,8 +121,7 @@ impl Log {
             KeptEvent::SystemReset,
             KeptReply::Done,
         );
-        fill(&mut self.entries[number], event, place);
-        add_answer(&mut self.bytes, event, place);
+        fill(&mut self.entries[number], &mut self.bytes, event, place);
     }
 
     /// Adds an entry that is kept with these bytes, for which there is room.
@@ -143,15 +145,21 @@ impl Log {
     }
 }
 
-/// Writes the numbers of an event and of the reply that stands in a place.
-fn fill(entry: &mut KeptEntry, event: &Event, place: &AnswerPlace)
+/// Writes the numbers of an event and of the reply that stands in a place, and adds their bytes.
+fn fill(entry: &mut KeptEntry, arena: &mut Vec<u8>, event: &Event, place: &AnswerPlace)
+    requires { vec_len arena.old + 768 ≤ vec_capacity arena.old }
     ensures start { entry.new.start ≡ entry.old.start }
     ensures kept { (rest : List ℕ) → entry_in entry.new (entry_bytes (record { event = event.now; reply = reply_at place.now }) ++ rest) ≡ record { event = event.now; reply = reply_at place.now } }
     ensures length { entry_length entry.new ≡ length (entry_bytes (record { event = event.now; reply = reply_at place.now })) }
-    ensures bound { length (entry_bytes (record { event = event.now; reply = reply_at place.now })) ≤ 768 }
+    ensures items { arena.new.items ≡ arena.old.items ++ entry_bytes (record { event = event.now; reply = reply_at place.now }) }
+    ensures len { vec_len arena.new ≤ vec_len arena.old + 768 }
+    ensures capacity { vec_capacity arena.old ≤ vec_capacity arena.new }
 {
     entry.event.put(event);
-    place.keep(&mut entry.reply);
+    if entry.event.length() > 0 {
+        add_bytes(arena, event_bytes(event));
+    }
+    pack(&mut entry.reply, arena, place);
 }
 
 /// Adds an entry of these parts, for which there is room.

@@ -18,7 +18,7 @@ returns-clause-entries c =
     let added = c.push.ensures.items in
     let stands = c.index_mut.ensures.value ∙ ap (λ (ks : List KeptEntry). slice_index_or ks number found) added ∙ get_or_push log.entries.items _ found number (search rules) in
     let starts : kept.start ≡ length log.bytes.items = c.fill.ensures.start ∙ ap (λ (k : KeptEntry). k.start) stands ∙ search rules in
-    ap₂ entries_at c.add_answer.ensures.items
+    ap₂ entries_at c.fill.ensures.items
     (ap (λ (ks : List KeptEntry). slice_set ks number kept) added ∙ set_at log.entries.items _ [] kept number (search rules))
     ∙ entries-added log.bytes.items (entry_bytes entry) log.entries.items kept c.self.invariant (record { start = starts; long = c.fill.ensures.length })
     ∙ ap₂ (λ (h : List Entry) (e : Entry). h ++ e ∷ []) (ap (λ l. l.entries) c.self.view_is) (whole-bytes kept (entry_bytes entry) entry c.fill.ensures.kept)
