@@ -44,9 +44,25 @@ fn pack_up(kept: &mut KeptReply, arena: &mut Vec<u8>, taken: bool, met: &UpPlace
     ensures len { vec_len arena.new ≤ vec_len arena.old + 512 }
     ensures capacity { vec_capacity arena.old ≤ vec_capacity arena.new }
 {
-    sent.keep_reply(taken, met, kept);
-    add_bytes(arena, met.bytes());
-    add_bytes(arena, sent.bytes());
+    match sent.get() {
+        None => {
+            *kept = KeptReply::Up {
+                taken,
+                signal: met.kept(),
+            };
+            add_bytes(arena, met.bytes());
+        }
+        Some((path, place)) => {
+            *kept = KeptReply::UpSent {
+                taken,
+                path,
+                signal: met.kept(),
+                sent: place.kept(),
+            };
+            add_bytes(arena, met.bytes());
+            add_bytes(arena, place.bytes());
+        }
+    }
 }
 
 /// Packs the reply to a signal down that was met.
@@ -59,7 +75,23 @@ fn pack_down(kept: &mut KeptReply, arena: &mut Vec<u8>, taken: bool, met: &DownP
     ensures len { vec_len arena.new ≤ vec_len arena.old + 512 }
     ensures capacity { vec_capacity arena.old ≤ vec_capacity arena.new }
 {
-    sent.keep_reply(taken, met, kept);
-    add_bytes(arena, met.bytes());
-    add_bytes(arena, sent.bytes());
+    match sent.get() {
+        None => {
+            *kept = KeptReply::Down {
+                taken,
+                signal: met.kept(),
+            };
+            add_bytes(arena, met.bytes());
+        }
+        Some((path, place)) => {
+            *kept = KeptReply::DownSent {
+                taken,
+                path,
+                signal: met.kept(),
+                sent: place.kept(),
+            };
+            add_bytes(arena, met.bytes());
+            add_bytes(arena, place.bytes());
+        }
+    }
 }
