@@ -23,7 +23,7 @@ pub fn add_bytes(arena: &mut Vec<u8>, bytes: &[u8])
 
 /// Adds bytes, of which there are some.
 #[inline(never)]
-fn add_some(arena: &mut Vec<u8>, bytes: &[u8])
+pub fn add_some(arena: &mut Vec<u8>, bytes: &[u8])
     requires { vec_len arena.old + length bytes.now ≤ vec_capacity arena.old }
     ensures items { arena.new.items ≡ arena.old.items ++ bytes.now }
     ensures len { vec_len arena.new ≡ vec_len arena.old + length bytes.now }

@@ -5,7 +5,7 @@ ghost use Rattle.kept_events.specs.Entries.{entry_bytes, entry_in, entry_length}
 ghost use Rattle.signal_places.specs.Answers.{reply_at};
 
 use crate::answers::pack;
-use crate::arena::{add_bytes, add_entry};
+use crate::arena::{add_bytes, add_entry, add_some};
 use crate::history::History;
 use chan_events::event::Event;
 use chan_events::reply::Reply;
@@ -157,7 +157,7 @@ fn fill(entry: &mut KeptEntry, arena: &mut Vec<u8>, event: &Event, place: &Answe
 {
     entry.event.put(event);
     if entry.event.length() > 0 {
-        add_bytes(arena, event_bytes(event));
+        add_some(arena, event_bytes(event));
     }
     pack(&mut entry.reply, arena, place);
 }
