@@ -1,9 +1,8 @@
 -- The answer of an event in a place that is made beforehand.
-use Rattle.std.specs.Prelude.{Result, Ok, Err, List, ℕ, [], take}
+use Rattle.std.specs.Prelude.{Result, Ok, Err, take}
 use Rattle.chan_model.specs.declared.fault.Fault.{Fault}
 use Rattle.chan_events.specs.declared.reply.Reply.{Reply}
 use Rattle.chan_events.specs.declared.reply.Reply.TheVariants as reply
-use Rattle.kept_events.specs.Signals.{down_bytes, up_bytes}
 use Rattle.signal_places.specs.Places.{down_at, up_at}
 use Rattle.signal_places.specs.Plain.{reply_of}
 use Rattle.signal_places.specs.declared.answers.AnswerPlace.{AnswerPlace}
@@ -31,14 +30,3 @@ reply_by (outcome.MetDown taken) place = reply.Down (down_at place.down) taken p
 
 abbrev pub reply_at : AnswerPlace → Reply
 reply_at place = reply_by place.outcome place
-
--- the bytes of its reply that come first: those of the signal that was met, or those that were asked for
-abbrev pub first_by : Outcome → AnswerPlace → List ℕ
-first_by (outcome.Refused fault) place = []
-first_by (outcome.Replied plain) place = []
-first_by (outcome.Shown length) place = take length.bytes place.up.bytes
-first_by (outcome.MetUp taken) place = up_bytes (up_at place.up)
-first_by (outcome.MetDown taken) place = down_bytes (down_at place.down)
-
-abbrev pub first_of : AnswerPlace → List ℕ
-first_of place = first_by place.outcome place

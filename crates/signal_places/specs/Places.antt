@@ -1,10 +1,10 @@
 -- Signals in places that are made beforehand, and what stands there.
-use Rattle.std.specs.Prelude.{ℕ, Bool, List, [], Option, None, Some}
+use Rattle.std.specs.Prelude.{ℕ, Bool, Option, None, Some}
 use Rattle.chan_model.specs.declared.signal.Down.{Down}
 use Rattle.chan_model.specs.declared.signal.OnPath.{OnPath}
 use Rattle.chan_model.specs.declared.signal.Taken.{Taken}
 use Rattle.chan_model.specs.declared.signal.Up.{Up}
-use Rattle.kept_events.specs.Signals.{down_in, up_in, down_bytes, up_bytes}
+use Rattle.kept_events.specs.Signals.{down_in, up_in}
 use Rattle.signal_places.specs.declared.signals.DownPlace.{DownPlace}
 use Rattle.signal_places.specs.declared.signals.UpPlace.{UpPlace}
 
@@ -28,12 +28,3 @@ came_so taken sent = record { taken = taken; sent = sent }
 abbrev pub sent_path : {A : Type 0} → Option (OnPath A) → Option ℕ
 sent_path None = None
 sent_path (Some sent) = Some sent.path
-
--- the bytes of a signal that is sent, where there is one
-abbrev pub sent_down_bytes : Option (OnPath Down) → List ℕ
-sent_down_bytes None = []
-sent_down_bytes (Some sent) = down_bytes sent.signal
-
-abbrev pub sent_up_bytes : Option (OnPath Up) → List ℕ
-sent_up_bytes None = []
-sent_up_bytes (Some sent) = up_bytes sent.signal

@@ -2,8 +2,7 @@
 
 ghost use Rattle.std.specs.Prelude.{◌≡◌, ◌≤◌, ◌++◌, Ok, Err, IsErr, ℕ, List, length};
 ghost use Rattle.std.specs.Bool.{OnTrue, OnFalse};
-ghost use Rattle.kept_events.specs.Replies as kept_spec;
-ghost use Rattle.signal_places.specs.Answers.{answer_at, first_of, reply_at};
+ghost use Rattle.signal_places.specs.Answers.{answer_at, reply_at};
 ghost use Rattle.signal_places.specs.Plain.{plain_outcome};
 ghost use Rattle.chan_events.specs.declared.reply.Reply.TheVariants as reply_spec;
 
@@ -14,7 +13,6 @@ use crate::signals::{DownPlace, UpPlace};
 use chan_events::reply::Reply;
 use chan_model::fault::Fault;
 use kept_events::lengths::{Length, chunk_of};
-use kept_events::replies::KeptReply;
 
 /// Which answer stands in a place.
 #[derive(Clone, Copy)]
@@ -79,46 +77,6 @@ impl AnswerPlace {
         ensures refusal { OnFalse result (IsErr (answer_at self.now)) }
     {
         !matches!(self.outcome, Outcome::Refused(_))
-    }
-
-    /// Writes the numbers of the reply, where it is one, to where they are to stand.
-    pub fn keep(&self, kept: &mut KeptReply)
-        ensures kept { (rest : List ℕ) → kept_spec.reply_in kept.new (kept_spec.reply_bytes (reply_at self.now) ++ rest) ≡ reply_at self.now }
-        ensures length { kept_spec.reply_length kept.new ≡ length (kept_spec.reply_bytes (reply_at self.now)) }
-        ensures bound { length (kept_spec.reply_bytes (reply_at self.now)) ≤ 512 }
-    {
-        match &self.outcome {
-            Outcome::Refused(_) => *kept = KeptReply::Done,
-            Outcome::Replied(plain) => plain.keep(kept),
-            Outcome::Shown { length } => *kept = KeptReply::Shown { length: *length },
-            Outcome::MetUp { taken } => self.sent_down.keep_reply(*taken, &self.up, kept),
-            Outcome::MetDown { taken } => self.sent_up.keep_reply(*taken, &self.down, kept),
-        }
-    }
-
-    /// The bytes of the reply that come first: those of the signal that was met, or those that were asked for.
-    pub fn first_bytes(&self) -> &[u8]
-        ensures value { result.now ≡ first_of self.now }
-        ensures bound { length result.now ≤ 256 }
-    {
-        match self.outcome {
-            Outcome::Refused(_) | Outcome::Replied(_) => &[],
-            Outcome::Shown { length } => &self.up.bytes[..length.get()],
-            Outcome::MetUp { .. } => self.up.bytes(),
-            Outcome::MetDown { .. } => self.down.bytes(),
-        }
-    }
-
-    /// The bytes that follow: those of the signal that was sent.
-    pub fn last_bytes(&self) -> &[u8]
-        ensures value { kept_spec.reply_bytes (reply_at self.now) ≡ first_of self.now ++ result.now }
-        ensures bound { length result.now ≤ 256 }
-    {
-        match self.outcome {
-            Outcome::Refused(_) | Outcome::Replied(_) | Outcome::Shown { .. } => &[],
-            Outcome::MetUp { .. } => self.sent_down.bytes(),
-            Outcome::MetDown { .. } => self.sent_up.bytes(),
-        }
     }
 
     /// The answer, written where it is wanted.

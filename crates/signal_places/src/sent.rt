@@ -4,17 +4,14 @@ ghost use Rattle.std.specs.Prelude.{◌≡◌, ◌≤◌, ◌++◌, [], MatchOpt
 ghost use Rattle.chan_model.specs.declared.signal.Down.TheVariants as down;
 ghost use Rattle.chan_model.specs.declared.signal.Load.TheVariants as load;
 ghost use Rattle.chan_model.specs.declared.signal.Up.TheVariants as up;
-ghost use Rattle.chan_events.specs.declared.reply.Reply.TheVariants as reply_spec;
-ghost use Rattle.kept_events.specs.Replies as replies_spec;
 ghost use Rattle.kept_events.specs.Signals as kept_spec;
-ghost use Rattle.signal_places.specs.Places.{down_at, sent_down_bytes, sent_path, sent_up_bytes, up_at};
+ghost use Rattle.signal_places.specs.Places.{down_at, sent_path, up_at};
 
 use crate::bytes;
 use crate::signals::{DownPlace, UpPlace};
 use chan_model::names::Path;
 use chan_model::signal::{Down, OnPath, Up};
 use kept_events::lengths::Length;
-use kept_events::replies::KeptReply;
 use kept_events::signals::{KeptDown, KeptUp};
 use std::marker::Model;
 
@@ -104,37 +101,6 @@ impl SentDown {
         match self.path {
             None => None,
             Some(path) => Some((path, &self.place)),
-        }
-    }
-
-    /// Its bytes; none where none is sent.
-    pub fn bytes(&self) -> &[u8]
-        ensures value { result.now ≡ sent_down_bytes self.now }
-        ensures bound { length result.now ≤ 256 }
-    {
-        match self.path {
-            None => &[],
-            Some(_) => self.place.bytes(),
-        }
-    }
-
-    /// Writes the numbers of the reply to a signal up that it is sent for.
-    pub fn keep_reply(&self, taken: bool, met: &UpPlace, kept: &mut KeptReply)
-        ensures kept { (rest : List ℕ) → replies_spec.reply_in kept.new (replies_spec.reply_bytes (reply_spec.Up (up_at met.now) taken self.now) ++ rest) ≡ reply_spec.Up (up_at met.now) taken self.now }
-        ensures length { replies_spec.reply_length kept.new ≡ length (replies_spec.reply_bytes (reply_spec.Up (up_at met.now) taken self.now)) }
-        ensures bound { length (replies_spec.reply_bytes (reply_spec.Up (up_at met.now) taken self.now)) ≤ 512 }
-    {
-        match self.path {
-            None => *kept = KeptReply::Up {
-                taken,
-                signal: met.kept(),
-            },
-            Some(path) => *kept = KeptReply::UpSent {
-                taken,
-                path,
-                signal: met.kept(),
-                sent: self.place.kept(),
-            },
         }
     }
 
@@ -239,37 +205,6 @@ impl SentUp {
         match self.path {
             None => None,
             Some(path) => Some((path, &self.place)),
-        }
-    }
-
-    /// Its bytes; none where none is sent.
-    pub fn bytes(&self) -> &[u8]
-        ensures value { result.now ≡ sent_up_bytes self.now }
-        ensures bound { length result.now ≤ 256 }
-    {
-        match self.path {
-            None => &[],
-            Some(_) => self.place.bytes(),
-        }
-    }
-
-    /// Writes the numbers of the reply to a signal down that it is sent for.
-    pub fn keep_reply(&self, taken: bool, met: &DownPlace, kept: &mut KeptReply)
-        ensures kept { (rest : List ℕ) → replies_spec.reply_in kept.new (replies_spec.reply_bytes (reply_spec.Down (down_at met.now) taken self.now) ++ rest) ≡ reply_spec.Down (down_at met.now) taken self.now }
-        ensures length { replies_spec.reply_length kept.new ≡ length (replies_spec.reply_bytes (reply_spec.Down (down_at met.now) taken self.now)) }
-        ensures bound { length (replies_spec.reply_bytes (reply_spec.Down (down_at met.now) taken self.now)) ≤ 512 }
-    {
-        match self.path {
-            None => *kept = KeptReply::Down {
-                taken,
-                signal: met.kept(),
-            },
-            Some(path) => *kept = KeptReply::DownSent {
-                taken,
-                path,
-                signal: met.kept(),
-                sent: self.place.kept(),
-            },
         }
     }
 
