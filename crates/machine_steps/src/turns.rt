@@ -253,7 +253,7 @@ fn answer_finds_full(sub: &Subchannel, unit: &Unit, path: Path, signal: &DownPla
     ensures { (may : Bool) → giving_spec.TellsFull sub.now.wires.up (sending_spec.carried_by sub.now
         (unit_spec.came_of (unit_spec.unit_takes «unit».now sub.now.setup.side path (down_at signal.now) may)).sent) result }
 {
-    unit.answers_at(sub.setup.side, signal) && finds_up_full(sub, path)
+    finds_up_full(sub, path) && unit.answers_at(sub.setup.side, signal)
 }
 
 /// The unit takes the signal that waits longest on the wire down of a path, once it is known that its answer finds room; its
@@ -317,7 +317,11 @@ pub fn report_sub(sub: &mut Subchannel, unit: &mut Unit, report: &Report, answer
     ensures gives { giving_spec.GivesBoth sub.old «unit».old (report_spec.report_sub sub.old «unit».old report.now)
         (answer_at answer.new) sub.new «unit».new }
 {
-    let path = unit.report_path(report);
+    let Some(place) = unit.reporting(report) else {
+        answer.outcome = Outcome::Refused(Fault::NotNow);
+        return;
+    };
+    let path = unit.path_from(place, report);
     if let ReportPath::Refused = path {
         answer.outcome = Outcome::Refused(Fault::NotNow);
         return;
@@ -326,7 +330,7 @@ pub fn report_sub(sub: &mut Subchannel, unit: &mut Unit, report: &Report, answer
         answer.outcome = Outcome::Refused(Fault::WireFull);
         return;
     }
-    let _ = unit.report_to(report, &mut answer.sent_up);
+    let _ = unit.report_from(place, report, &mut answer.sent_up);
     send_any_up(sub, &answer.sent_up);
     answer.outcome = Outcome::Replied(PlainReply::Done);
 }
