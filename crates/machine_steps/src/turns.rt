@@ -19,12 +19,14 @@ ghost use Rattle.finding.specs.Tables.{engaged};
 ghost use Rattle.signal_places.specs.Answers.{answer_at};
 ghost use Rattle.signal_places.specs.Places.{down_at, up_at};
 ghost use Rattle.signal_places.specs.Plain.{reply_of};
+ghost use Rattle.unit.specs.UnitWords.{IsAllowed};
 
 use crate::sending::{finds_down_full, finds_up_full, send_any_down, send_any_up};
 use crate::sharing::take;
 use chan_model::fault::Fault;
 use chan_model::names::Path;
 use chan_model::report::{Report, ReportPath};
+use chan_model::unit_state::Place;
 use control_units::sharing::Sharing;
 use finding::engines::Counted;
 use kept_events::signals::{KeptDown, KeptUp};
@@ -309,18 +311,22 @@ fn report_finds_full(sub: &Subchannel, path: &ReportPath) -> bool
     }
 }
 
-/// The unit takes its device's answer, and sends what comes of it to the subchannel.
-pub fn report_sub(sub: &mut Subchannel, unit: &mut Unit, report: &Report, answer: &mut AnswerPlace)
-    requires { IsUnitRoomy «unit».old }
+/// The unit takes a report whose program stands there, and sends what comes of it to the subchannel.
+fn report_from(
+    sub: &mut Subchannel,
+    unit: &mut Unit,
+    place: &Place,
+    report: &Report,
+    answer: &mut AnswerPlace,
+)
+    requires roomy { IsUnitRoomy «unit».old }
+    requires allowed { IsAllowed «unit».old report.now }
     ensures engaged { engaged sub.new ≡ engaged sub.old }
     ensures state { sub.new.state ≡ sub.old.state }
-    ensures gives { giving_spec.GivesBoth sub.old «unit».old (report_spec.report_sub sub.old «unit».old report.now)
+    ensures gives { giving_spec.GivesBoth sub.old «unit».old (report_spec.report_taken sub.old
+        (reports_spec.report_on «unit».old report.now.number place.now «unit».old.at_hand report.now))
         (answer_at answer.new) sub.new «unit».new }
 {
-    let Some(place) = unit.reporting(report) else {
-        answer.outcome = Outcome::Refused(Fault::NotNow);
-        return;
-    };
     let path = unit.path_from(place, report);
     if let ReportPath::Refused = path {
         answer.outcome = Outcome::Refused(Fault::NotNow);
@@ -333,4 +339,18 @@ pub fn report_sub(sub: &mut Subchannel, unit: &mut Unit, report: &Report, answer
     let _ = unit.report_from(place, report, &mut answer.sent_up);
     send_any_up(sub, &answer.sent_up);
     answer.outcome = Outcome::Replied(PlainReply::Done);
+}
+
+/// The unit takes its device's answer, and sends what comes of it to the subchannel.
+pub fn report_sub(sub: &mut Subchannel, unit: &mut Unit, report: &Report, answer: &mut AnswerPlace)
+    requires { IsUnitRoomy «unit».old }
+    ensures engaged { engaged sub.new ≡ engaged sub.old }
+    ensures state { sub.new.state ≡ sub.old.state }
+    ensures gives { giving_spec.GivesBoth sub.old «unit».old (report_spec.report_sub sub.old «unit».old report.now)
+        (answer_at answer.new) sub.new «unit».new }
+{
+    match unit.reporting(report) {
+        None => answer.outcome = Outcome::Refused(Fault::NotNow),
+        Some(place) => report_from(sub, unit, &place, report, answer),
+    }
 }

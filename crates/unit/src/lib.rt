@@ -173,22 +173,22 @@ impl Unit {
     }
 
     /// The path that the signal of a report is sent on whose program stands there.
-    pub fn path_from(&self, place: Place, report: &Report) -> ReportPath
+    pub fn path_from(&self, place: &Place, report: &Report) -> ReportPath
         requires { words.IsAllowed self.now report.now }
-        ensures { (number : ℕ) → result ≡ reports.report_path (reports.report_on self.now number place self.now.at_hand report.now) }
+        ensures { (number : ℕ) → result ≡ reports.report_path (reports.report_on self.now number place.now self.now.at_hand report.now) }
     {
-        reports::path_from(&self.state, place, report)
+        reports::path_from(&self.state, *place, report)
     }
 
     /// Takes the device's answer, as `report_to` does, of a report whose program stands there.
-    pub fn report_from(&mut self, place: Place, report: &Report, sent: &mut SentUp) -> bool
+    pub fn report_from(&mut self, place: &Place, report: &Report, sent: &mut SentUp) -> bool
         requires below { words.last_sequence self.old.at_hand < 2 ^ 63 }
         requires allowed { words.IsAllowed self.old report.now }
-        ensures state { self.new ≡ table.unit_after self.old (reports.report_on self.old report.now.number place self.old.at_hand report.now) }
-        ensures came { words.taken_so result sent.new ≡ table.came_of (reports.report_on self.old report.now.number place self.old.at_hand report.now) }
+        ensures state { self.new ≡ table.unit_after self.old (reports.report_on self.old report.now.number place.now self.old.at_hand report.now) }
+        ensures came { words.taken_so result sent.new ≡ table.came_of (reports.report_on self.old report.now.number place.now self.old.at_hand report.now) }
     {
         sent.clear();
-        reports::report_on(&mut self.state, place, report, sent)
+        reports::report_on(&mut self.state, *place, report, sent)
     }
 
     /// The path that the signal of a report is sent on, asked before the report is taken.

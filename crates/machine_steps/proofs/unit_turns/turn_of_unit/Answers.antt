@@ -1,4 +1,4 @@
-use Rattle.std.proofs.Common.{◌≡◌, sym, ◌∙◌, ap, List, Option, Some}
+use Rattle.std.proofs.Common.{sym, ◌∙◌, ap, List, Option, Some}
 use Rattle.chan_model.specs.UnitReports.{unit_work}
 use Rattle.chan_model.specs.declared.names.Side.TheVariants.{First, Second}
 use Rattle.subchannel_model.specs.declared.state.Subchannel.{Subchannel}
