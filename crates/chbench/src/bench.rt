@@ -115,38 +115,61 @@ impl<F: Floor + Drop> Bench<F> {
         self.floor.accepts(&Event::Execute { cpu, instruction })
     }
 
-    /// Whether an act of the unit is accepted.
-    fn act(&mut self, act: UnitAct) -> bool {
-        let unit = self.unit;
-        self.floor.accepts(&Event::Act { unit, act })
+    /// The event of an instruction.
+    fn instruction(&self, instruction: Instruction) -> Option<Event> {
+        let cpu = self.cpu;
+        Some(Event::Execute { cpu, instruction })
     }
 
-    /// Whether the event of a beat is accepted.
-    fn perform(&mut self, beat: Beat) -> bool {
+    /// The event of an act of the unit.
+    fn act(&self, act: UnitAct) -> Option<Event> {
+        let unit = self.unit;
+        Some(Event::Act { unit, act })
+    }
+
+    /// The event of a beat; None where it is the report of what the device answers then.
+    fn event(&self, beat: Beat) -> Option<Event> {
         let subchannel = self.subchannel;
         match beat {
-            Beat::Start => self.execute(Instruction::Ssch {
+            Beat::Start => self.instruction(Instruction::Ssch {
                 subchannel,
                 address: ORB,
             }),
-            Beat::Choose => self.floor.accepts(&Event::Choose { subchannel }),
-            Beat::Down(path) => self.floor.accepts(&Event::Down { subchannel, path }),
-            Beat::Up(path) => self.floor.accepts(&Event::Up { subchannel, path }),
-            Beat::Device => self.floor.reports(self.unit, &mut self.device),
+            Beat::Choose => Some(Event::Choose { subchannel }),
+            Beat::Down(path) => Some(Event::Down { subchannel, path }),
+            Beat::Up(path) => Some(Event::Up { subchannel, path }),
+            Beat::Device => None,
             Beat::Leave => self.act(UnitAct::Leave),
             Beat::Ask(path) => self.act(UnitAct::Ask { path }),
-            Beat::Test => self.execute(Instruction::Tsch {
+            Beat::Test => self.instruction(Instruction::Tsch {
                 subchannel,
                 address: IRB,
             }),
         }
     }
 
-    /// One cycle: how many of its events were refused.
-    fn cycle(&mut self, beats: &[Beat]) -> u64 {
-        let mut refused = 0u64;
+    /// The events of one cycle of these beats, made once for all cycles.
+    fn events(&self, alloc: Global, beats: &[Beat]) -> Result<Vec<Option<Event>>, AllocError> {
+        let mut events = Vec::new(alloc);
         for beat in beats {
-            if !self.perform(*beat) {
+            events.push(self.event(*beat))?;
+        }
+        Ok(events)
+    }
+
+    /// Whether an event is accepted; where it is none, the report of the device's answer.
+    fn perform(&mut self, event: &Option<Event>) -> bool {
+        match event {
+            Some(event) => self.floor.accepts(event),
+            None => self.floor.reports(self.unit, &mut self.device),
+        }
+    }
+
+    /// One cycle: how many of its events were refused.
+    fn cycle(&mut self, events: &[Option<Event>]) -> u64 {
+        let mut refused = 0u64;
+        for event in events {
+            if !self.perform(event) {
                 refused = refused.saturating_add(1);
             }
         }
@@ -154,10 +177,10 @@ impl<F: Floor + Drop> Bench<F> {
     }
 
     /// So many cycles.
-    fn cycles(&mut self, beats: &[Beat], cycles: u64) -> u64 {
+    fn cycles(&mut self, events: &[Option<Event>], cycles: u64) -> u64 {
         let mut refused = 0u64;
         for _ in 0..cycles {
-            refused = refused.saturating_add(self.cycle(beats));
+            refused = refused.saturating_add(self.cycle(events));
         }
         refused
     }
@@ -170,8 +193,9 @@ impl<F: Floor + Drop> Bench<F> {
     /// Performs so many cycles of this kind.
     pub fn measure(&mut self, alloc: Global, kind: Kind, cycles: u64) -> Result<Count, AllocError> {
         let beats = kind.beats(alloc)?;
+        let events = self.events(alloc, beats.as_slice())?;
         let before = self.entries();
-        let refused = self.cycles(beats.as_slice(), cycles);
+        let refused = self.cycles(events.as_slice(), cycles);
         let cleared = match self.floor.subsystem().serials(self.subchannel) {
             Some(serials) => serials.cleared,
             None => 0,

@@ -34,15 +34,39 @@ pub fn answer_to<D: Device>(device: &mut D, call: KeptCall, bytes: &[u8], place:
     ensures opening { D.opening device.new ≡ D.opening device.old }
 {
     match call {
-        KeptCall::Initial { code } => *place = initial_answer(device, code),
+        KeptCall::Initial { code } => initial_to(device, code, place),
         KeptCall::Absorb => *place = DeviceAnswer::Absorbed(device.absorb(bytes) as u16),
-        KeptCall::Supply { most } => {
-            *place = DeviceAnswer::Supplied(device.supply(usize::from(most)));
-        }
+        KeptCall::Supply { most } => supply_to(device, most, place),
         KeptCall::Finish => {
             let Finish { status, more } = device.finish();
             *place = DeviceAnswer::Ended { status, more };
         }
+    }
+}
+
+/// The answer that has bytes, written into its place.
+#[inline(never)]
+fn supply_to<D: Device>(device: &mut D, most: u16, place: &mut DeviceAnswer)
+    ensures law { IsAnswer (call_spec.Supply most) place.new }
+    ensures answers { D.answers device.old (call_spec.Supply most) place.new device.new }
+    ensures opening { D.opening device.new ≡ D.opening device.old }
+{
+    *place = DeviceAnswer::Supplied(device.supply(usize::from(most)));
+}
+
+/// The initial status, as `initial_answer` has it, written into its place.
+fn initial_to<D: Device>(device: &mut D, code: u8, place: &mut DeviceAnswer)
+    ensures law { IsAnswer (call_spec.Initial code) place.new }
+    ensures answers { D.answers device.old (call_spec.Initial code) place.new device.new }
+    ensures opening { D.opening device.new ≡ D.opening device.old }
+{
+    let status = device.initial(code);
+    match status.bits() {
+        0 => *place = DeviceAnswer::Begins,
+        _ => *place = DeviceAnswer::Ended {
+            status,
+            more: false,
+        },
     }
 }
 

@@ -1,7 +1,10 @@
 -- Whether a signal that is sent finds its wire full, where that was asked of its path.
-use Rattle.std.proofs.Common.{◌≡◌, ℕ, Bool, Option, None, Some, List}
+use Rattle.std.proofs.Common.{◌≡◌, refl, ℕ, Bool, true, false, ◌&&◌, IfSome, Option, None, Some, List}
+use Rattle.std.specs.Prelude.{is_some}
 use Rattle.chan_model.specs.declared.signal.Down.{Down}
 use Rattle.chan_model.specs.declared.signal.OnPath.{OnPath}
+use Rattle.chan_model.specs.declared.signal.Up.{Up}
+use Rattle.chan_model.specs.declared.signal.Up.{Up}
 use Rattle.subchannel_model.specs.Sending.{carried}
 use Rattle.machine_steps.specs.Giving.{TellsFull}
 use Rattle.subchannel.specs.Answering.{path_of}
@@ -10,3 +13,17 @@ pub tells_some : (available : List Bool) (queues : List (List Down)) (sends : Op
     ((s : OnPath Down) → s.path ≡ p → TellsFull queues (carried available (Some s)) full) → TellsFull queues (carried available sends) full
 tells_some available queues None p full e f = absurd (cc e)
 tells_some available queues (Some s) p full e f = f s (cc e)
+
+-- the same of an answer, where it was asked first of its path
+pub tells_answer : (available : List Bool) (queues : List (List Up)) (sends : Option (OnPath Up)) (p : ℕ) (full : Bool) → IfSome sends (λ s. s.path ≡ p) →
+    ((s : OnPath Up) → s.path ≡ p → TellsFull queues (carried available (Some s)) full) → TellsFull queues (carried available sends) (full && is_some sends)
+tells_answer available queues None p true e f = (refl, tt)
+tells_answer available queues None p false e f = (refl, tt)
+tells_answer available queues (Some s) p true e f = f s e
+tells_answer available queues (Some s) p false e f = f s e
+
+-- where a path has room, so has an answer that goes by it, if there is one
+pub tells_room : (available : List Bool) (queues : List (List Up)) (sends : Option (OnPath Up)) (p : ℕ) (full : Bool) → full ≡ false → IfSome sends (λ s. s.path ≡ p) →
+    ((s : OnPath Up) → s.path ≡ p → TellsFull queues (carried available (Some s)) full) → TellsFull queues (carried available sends) full
+tells_room available queues None p full e by f = (e, tt)
+tells_room available queues (Some s) p full e by f = f s by

@@ -7,7 +7,9 @@ use Rattle.chan_model.specs.declared.signal.Down.{Down}
 use Rattle.chan_model.specs.declared.signal.Taken.{Taken}
 use Rattle.chan_model.specs.declared.signal.Up.{Up}
 use Rattle.chan_model.specs.declared.unit_state.UnitState.{UnitState}
+use Rattle.chan_model.specs.UnitReports.{report_path}
 use Rattle.chan_model.specs.UnitTable.{UnitStep, came_of, unit_after}
+use Rattle.chan_model.specs.declared.report.ReportPath.TheVariants.{Refused}
 use Rattle.chan_events.specs.declared.reply.Reply.TheVariants as reply
 use Rattle.control_units.specs.declared.Member.{Member}
 use Rattle.wires.specs.Queues.{queue}
@@ -63,7 +65,7 @@ down-done members later k asks u v sub new path signal step came e same is owes 
     ∙ ap (λ (x : List Member). downed signal came new v x) (sym kept))))
 
 -- what a unit sends of itself
-abbrev reported : Subchannel → UnitState → Result DownTurn Fault
+abbrev pub reported : Subchannel → UnitState → Result DownTurn Fault
 reported sub u = Ok (record { reply = reply.Done; sub = sub; «unit» = u })
 
 pub report-full : (sub : Subchannel) (step : Option UnitStep) → true ≡ finds_full sub.wires.up (carried_by sub (came_of step).sent) →
@@ -71,3 +73,13 @@ pub report-full : (sub : Subchannel) (step : Option UnitStep) → true ≡ finds
 report-full sub None e = absurd (cc e)
 report-full sub (Some step) e =
     if-true (finds_full sub.wires.up (carried_by sub step.sent)) (Err fault.WireFull) (reported (with_any_up sub step.sent) step.state) e
+
+pub report-done : (sub new : Subchannel) (u v : UnitState) (step : Option UnitStep) (came : Taken Up) → (report_path step ≡ Refused → ⊥) →
+    false ≡ finds_full sub.wires.up (carried_by sub (came_of step).sent) → came ≡ came_of step → new ≡ with_any_up sub came.sent → v ≡ unit_after u step →
+    report_taken sub step ≡ reported new v
+report-done sub new u v None came taken e same is left = absurd (taken refl)
+report-done sub new u v (Some step) came taken e same is left =
+    if-false (finds_full sub.wires.up (carried_by sub step.sent)) (Err fault.WireFull) (reported (with_any_up sub step.sent) step.state) e
+    ∙ (ap (λ (x : Taken Up). reported (with_any_up sub x.sent) step.state) (sym same)
+    ∙ (ap (λ (x : Subchannel). reported x step.state) (sym is)
+    ∙ ap (λ (x : UnitState). reported new x) (sym left)))

@@ -19,12 +19,14 @@ ghost use Rattle.finding.specs.Tables.{engaged};
 ghost use Rattle.signal_places.specs.Answers.{answer_at};
 ghost use Rattle.signal_places.specs.Places.{down_at, up_at};
 ghost use Rattle.signal_places.specs.Plain.{reply_of};
+ghost use Rattle.unit.specs.UnitWords.{IsAllowed};
 
 use crate::sending::{finds_down_full, finds_up_full, send_any_down, send_any_up};
 use crate::sharing::take;
 use chan_model::fault::Fault;
 use chan_model::names::Path;
 use chan_model::report::{Report, ReportPath};
+use chan_model::unit_state::Place;
 use control_units::sharing::Sharing;
 use finding::engines::Counted;
 use kept_events::signals::{KeptDown, KeptUp};
@@ -253,7 +255,7 @@ fn answer_finds_full(sub: &Subchannel, unit: &Unit, path: Path, signal: &DownPla
     ensures { (may : Bool) → giving_spec.TellsFull sub.now.wires.up (sending_spec.carried_by sub.now
         (unit_spec.came_of (unit_spec.unit_takes «unit».now sub.now.setup.side path (down_at signal.now) may)).sent) result }
 {
-    unit.answers_at(sub.setup.side, signal) && finds_up_full(sub, path)
+    finds_up_full(sub, path) && unit.answers_at(sub.setup.side, signal)
 }
 
 /// The unit takes the signal that waits longest on the wire down of a path, once it is known that its answer finds room; its
@@ -309,15 +311,23 @@ fn report_finds_full(sub: &Subchannel, path: &ReportPath) -> bool
     }
 }
 
-/// The unit takes its device's answer, and sends what comes of it to the subchannel.
-pub fn report_sub(sub: &mut Subchannel, unit: &mut Unit, report: &Report, answer: &mut AnswerPlace)
-    requires { IsUnitRoomy «unit».old }
+/// The unit takes a report whose program stands there, and sends what comes of it to the subchannel.
+fn report_from(
+    sub: &mut Subchannel,
+    unit: &mut Unit,
+    place: &Place,
+    report: &Report,
+    answer: &mut AnswerPlace,
+)
+    requires roomy { IsUnitRoomy «unit».old }
+    requires allowed { IsAllowed «unit».old report.now }
     ensures engaged { engaged sub.new ≡ engaged sub.old }
     ensures state { sub.new.state ≡ sub.old.state }
-    ensures gives { giving_spec.GivesBoth sub.old «unit».old (report_spec.report_sub sub.old «unit».old report.now)
+    ensures gives { giving_spec.GivesBoth sub.old «unit».old (report_spec.report_taken sub.old
+        (reports_spec.report_on «unit».old report.now.number place.now «unit».old.at_hand report.now))
         (answer_at answer.new) sub.new «unit».new }
 {
-    let path = unit.report_path(report);
+    let path = unit.path_from(place, report);
     if let ReportPath::Refused = path {
         answer.outcome = Outcome::Refused(Fault::NotNow);
         return;
@@ -326,7 +336,21 @@ pub fn report_sub(sub: &mut Subchannel, unit: &mut Unit, report: &Report, answer
         answer.outcome = Outcome::Refused(Fault::WireFull);
         return;
     }
-    let _ = unit.report_to(report, &mut answer.sent_up);
+    let _ = unit.report_from(place, report, &mut answer.sent_up);
     send_any_up(sub, &answer.sent_up);
     answer.outcome = Outcome::Replied(PlainReply::Done);
+}
+
+/// The unit takes its device's answer, and sends what comes of it to the subchannel.
+pub fn report_sub(sub: &mut Subchannel, unit: &mut Unit, report: &Report, answer: &mut AnswerPlace)
+    requires { IsUnitRoomy «unit».old }
+    ensures engaged { engaged sub.new ≡ engaged sub.old }
+    ensures state { sub.new.state ≡ sub.old.state }
+    ensures gives { giving_spec.GivesBoth sub.old «unit».old (report_spec.report_sub sub.old «unit».old report.now)
+        (answer_at answer.new) sub.new «unit».new }
+{
+    match unit.reporting(report) {
+        None => answer.outcome = Outcome::Refused(Fault::NotNow),
+        Some(place) => report_from(sub, unit, &place, report, answer),
+    }
 }

@@ -8,12 +8,14 @@ ghost use Rattle.subchannel_model.specs.Places as place_spec;
 ghost use Rattle.machine_model.specs.State.{State};
 ghost use Rattle.finding.specs.Tables.{Fits};
 ghost use Rattle.kept_work.specs.Works.{given_bytes};
-ghost use Rattle.machine_steps.specs.KeptTurns.{turn_in, turns_in};
+ghost use Rattle.machine_model.specs.declared.state.UnitTurn.TheVariants as turn;
+ghost use Rattle.machine_steps.specs.KeptTurns.{turn_in};
 
 use crate::kept_turns::KeptTurn;
 use chan_model::names::{Path, Side};
 use chan_model::paths::PathSet;
 use chan_model::unit_state::{Own, Place};
+use channel_config::names::SubchannelId;
 use finding::tables::Places;
 use functions::blocks::available_paths;
 use subchannel_model::state::Subchannel;
@@ -70,14 +72,22 @@ pub fn reached_sub<'a>(
     subs.get(place)
 }
 
-/// The signal that waits for a side of a unit, as what the unit is to do.
-fn taken_from(places: &Places, unit: usize, side: Side, subs: &[Subchannel]) -> Option<KeptTurn>
+/// The subchannel and the path of a signal that waits for a unit.
+#[derive(Clone, Copy)]
+struct Waiting {
+    subchannel: SubchannelId,
+    path: u32,
+}
+
+/// The signal that waits for a side of a unit.
+fn taken_from(places: &Places, unit: usize, side: Side, subs: &[Subchannel]) -> Option<Waiting>
     requires { Fits places.now subs.now }
-    ensures { (bytes : List ℕ) → turns_in result bytes ≡ state_spec.takes_from (place_spec.reached_sub «unit» side subs.now) }
+    ensures { MatchOption result (state_spec.takes_from (place_spec.reached_sub «unit» side subs.now) ≡ None)
+        (λ w. state_spec.takes_from (place_spec.reached_sub «unit» side subs.now) ≡ Some (turn.Takes w.subchannel w.path)) }
 {
     let sub = reached_sub(places, unit, side, subs)?;
     let path = signal_path(&sub.wires)?;
-    Some(KeptTurn::Takes {
+    Some(Waiting {
         subchannel: sub.setup.id,
         path,
     })
@@ -149,7 +159,7 @@ fn turn_of_second(places: &Places, number: usize, unit: &Unit, subs: &[Subchanne
         (state_spec.turn_by_work s number «unit».now (report_spec.unit_work «unit».now)) }
 {
     match taken_from(places, number, Side::Second, subs) {
-        Some(turn) => turn,
+        Some(Waiting { subchannel, path }) => KeptTurn::Takes { subchannel, path },
         None => turn_of_work(places, number, unit, subs),
     }
 }
@@ -161,7 +171,7 @@ pub fn turn_of_unit(places: &Places, number: usize, unit: &Unit, subs: &[Subchan
     ensures { (s : State) → s.subs ≡ subs.now → state_spec.turn_of_unit s number (Some «unit».now) ≡ Some (turn_in result (given_bytes «unit».now.at_hand)) }
 {
     match taken_from(places, number, Side::First, subs) {
-        Some(turn) => turn,
+        Some(Waiting { subchannel, path }) => KeptTurn::Takes { subchannel, path },
         None => turn_of_second(places, number, unit, subs),
     }
 }

@@ -1,5 +1,5 @@
 -- What the calls of a unit say of it beside its tables (own).
-use Rattle.std.specs.Prelude.{◌≡◌, ℕ, Bool, false, ◌==◌, ◌&&◌, Option, None, Some, is_some, IsTrue}
+use Rattle.std.specs.Prelude.{◌≡◌, ℕ, Bool, false, true, ◌==◌, ◌&&◌, Option, None, Some, is_some, IsTrue}
 use Rattle.chan_model.specs.declared.names.Side.{Side}
 use Rattle.chan_model.specs.declared.names.Side.TheVariants.{First, Second}
 use Rattle.chan_model.specs.declared.signal.Down.{Down}
@@ -13,6 +13,8 @@ use Rattle.chan_model.specs.declared.unit_state.Own.{Own}
 use Rattle.chan_model.specs.declared.unit_state.Own.TheVariants.{Idle, Owned}
 use Rattle.chan_model.specs.declared.unit_state.AtHand.{AtHand}
 use Rattle.chan_model.specs.declared.unit_state.UnitState.{UnitState}
+use Rattle.chan_model.specs.declared.report.Report.{Report}
+use Rattle.chan_model.specs.UnitReports.{report_on}
 use Rattle.chan_model.specs.UnitTable.{unit_takes, came_of, side_of, owns, is_owner, is_owner_on}
 
 -- what came of a signal: whether it was taken, and what was sent
@@ -43,6 +45,10 @@ last_connection (Owned side t place) = connection_of place
 abbrev pub last_sequence : Option AtHand → ℕ
 last_sequence None = 0
 last_sequence (Some x) = x.sequence
+
+-- a report of the program that is connected is neither stale nor against the law of devices
+abbrev pub IsAllowed : UnitState → Report → Type 0
+IsAllowed u r = is_some (report_on u 0 (On 0 0) u.at_hand r) ≡ true
 
 -- A unit's other side.
 abbrev pub other_of : Side → Side

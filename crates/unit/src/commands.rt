@@ -92,20 +92,31 @@ fn give(command: &mut AtHand, sequence: u64, bytes: &[u8])
     ensures { command.new ≡ table.with_given command.old sequence bytes.now }
 {
     command.sequence = sequence;
-    command.unanswered = None;
+    if command.unanswered.is_some() {
+        command.unanswered = None;
+    }
     command.again = false;
-    command.given = kept(bytes);
+    keep(&mut command.given, bytes);
     command.stopped = command.stopped || bytes.len() == 0;
 }
 
-/// The bytes, where there are any.
-fn kept(bytes: &[u8]) -> Option<Chunk>
+/// The bytes are kept, where there are any.
+fn keep(kept: &mut Option<Chunk>, bytes: &[u8])
     requires { length bytes.now ≤ 256 }
-    ensures { result ≡ table.kept_bytes bytes.now }
+    ensures { kept.new ≡ table.kept_bytes bytes.now }
 {
     match bytes {
-        [] => None,
-        [_, ..] => Some(Chunk::of(bytes)),
+        [] => forget(kept),
+        [_, ..] => *kept = Some(Chunk::of(bytes)),
+    }
+}
+
+/// No bytes are kept.
+pub fn forget(kept: &mut Option<Chunk>)
+    ensures { kept.new ≡ None }
+{
+    if kept.is_some() {
+        *kept = None;
     }
 }
 

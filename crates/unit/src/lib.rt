@@ -8,7 +8,7 @@ mod reports;
 mod signals;
 mod works;
 
-ghost use Rattle.std.specs.Prelude.{◌≡◌, ◌<◌, ◌≤◌, ◌^◌, ◌||◌, ℕ, Bool, IfSome, is_some, length};
+ghost use Rattle.std.specs.Prelude.{◌≡◌, ◌<◌, ◌≤◌, ◌^◌, ◌||◌, ℕ, Bool, IfSome, MatchOption, None, is_some, length};
 ghost use Rattle.chan_model.specs.UnitReports as reports;
 ghost use Rattle.chan_model.specs.UnitTable as table;
 ghost use Rattle.kept_work.specs.Works.{given_bytes, works_in};
@@ -18,7 +18,7 @@ ghost use Rattle.unit.specs.UnitWords as words;
 use chan_model::names::{Path, Side};
 use chan_model::report::{Report, ReportPath, Work};
 use chan_model::signal::{Down, OnPath, Taken, Up};
-use chan_model::unit_state::{Own, SideState, UnitState};
+use chan_model::unit_state::{Own, Place, SideState, UnitState};
 use kept_work::works::KeptWork;
 use signal_places::sent::SentUp;
 use signal_places::signals::DownPlace;
@@ -160,6 +160,35 @@ impl Unit {
     {
         sent.clear();
         reports::reports(&mut self.state, report, sent)
+    }
+
+    /// Where the program of a report stands, asked before the report is taken; None where the report is stale or against the
+    /// law of devices.
+    pub fn reporting(&self, report: &Report) -> Option<Place>
+        ensures place { MatchOption result (reports.unit_reports self.now report.now ≡ None)
+            (λ place. reports.unit_reports self.now report.now ≡ reports.report_on self.now report.now.number place self.now.at_hand report.now) }
+        ensures allowed { IfSome result (λ place. words.IsAllowed self.now report.now) }
+    {
+        reports::reporting(&self.state, report)
+    }
+
+    /// The path that the signal of a report is sent on whose program stands there.
+    pub fn path_from(&self, place: &Place, report: &Report) -> ReportPath
+        requires { words.IsAllowed self.now report.now }
+        ensures { (number : ℕ) → result ≡ reports.report_path (reports.report_on self.now number place.now self.now.at_hand report.now) }
+    {
+        reports::path_from(&self.state, *place, report)
+    }
+
+    /// Takes the device's answer, as `report_to` does, of a report whose program stands there.
+    pub fn report_from(&mut self, place: &Place, report: &Report, sent: &mut SentUp) -> bool
+        requires below { words.last_sequence self.old.at_hand < 2 ^ 63 }
+        requires allowed { words.IsAllowed self.old report.now }
+        ensures state { self.new ≡ table.unit_after self.old (reports.report_on self.old report.now.number place.now self.old.at_hand report.now) }
+        ensures came { words.taken_so result sent.new ≡ table.came_of (reports.report_on self.old report.now.number place.now self.old.at_hand report.now) }
+    {
+        sent.clear();
+        reports::report_on(&mut self.state, *place, report, sent)
     }
 
     /// The path that the signal of a report is sent on, asked before the report is taken.

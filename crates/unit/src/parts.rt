@@ -99,7 +99,9 @@ pub fn free(unit: &mut UnitState)
 {
     unit.own = Own::Idle;
     unit.last_command = 0;
-    unit.at_hand = None;
+    if unit.at_hand.is_some() {
+        unit.at_hand = None;
+    }
     unit.halted = false;
 }
 

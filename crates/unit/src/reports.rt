@@ -9,6 +9,7 @@ ghost use Rattle.chan_model.specs.declared.signal.Up.TheVariants as up;
 ghost use Rattle.chan_model.specs.declared.unit_state.Place.TheVariants.{On};
 ghost use Rattle.unit.specs.UnitWords as words;
 
+use crate::commands::forget;
 use crate::parts::sending;
 use bitflags::Flags;
 use chan_model::chunk::Chunk;
@@ -155,7 +156,7 @@ fn is_of(unit: &UnitState, side: Side, number: u64, report: &Report) -> bool
 }
 
 /// Where the program of a report stands. None where the report is stale or against the law of devices.
-fn reporting(unit: &UnitState, report: &Report) -> Option<Place>
+pub fn reporting(unit: &UnitState, report: &Report) -> Option<Place>
     ensures place { MatchOption result (reports.unit_reports unit.now report.now ≡ None)
         (λ place. reports.unit_reports unit.now report.now ≡ reports.report_on unit.now report.now.number place unit.now.at_hand report.now) }
     ensures allowed { IfSome result (λ place. is_some (reports.report_on unit.now 0 (On 0 0) unit.now.at_hand report.now) ≡ true) }
@@ -194,7 +195,7 @@ pub fn report_path(unit: &UnitState, report: &Report) -> ReportPath
 }
 
 /// The path of a report that is allowed.
-fn path_from(unit: &UnitState, place: Place, report: &Report) -> ReportPath
+pub fn path_from(unit: &UnitState, place: Place, report: &Report) -> ReportPath
     requires { is_some (reports.report_on unit.now 0 (On 0 0) unit.now.at_hand report.now) ≡ true }
     ensures { (number : ℕ) → result ≡ reports.report_path (reports.report_on unit.now number place unit.now.at_hand report.now) }
 {
@@ -210,7 +211,7 @@ fn path_from(unit: &UnitState, place: Place, report: &Report) -> ReportPath
 }
 
 /// What a report does that is allowed: Data or End is sent on the path of the program, or a read is begun.
-fn report_on(unit: &mut UnitState, place: Place, report: &Report, sent: &mut SentUp) -> bool
+pub fn report_on(unit: &mut UnitState, place: Place, report: &Report, sent: &mut SentUp) -> bool
     requires nothing { sent.old ≡ None }
     requires below { words.last_sequence unit.old.at_hand < 2 ^ 63 }
     requires allowed { is_some (reports.report_on unit.old 0 (On 0 0) unit.old.at_hand report.now) ≡ true }
@@ -263,7 +264,7 @@ fn absorb(command: &mut AtHand, count: u16)
     ensures { command.new ≡ reports.with_absorbed command.old count }
 {
     command.progress = Progress::Working;
-    command.given = None;
+    forget(&mut command.given);
     command.unanswered = Some(Load::Absorbed(count));
 }
 

@@ -1,9 +1,8 @@
-use Rattle.std.proofs.Common.{arith, ◌≡◌, ap, sym, ◌∙◌, subst, None, Some}
+use Rattle.std.proofs.Common.{arith, ◌≡◌, ap, sym, ◌∙◌, None, Some}
 use Rattle.channel_config.specs.SubchannelWords.{subchannel_named}
 use Rattle.chan_events.specs.declared.event.Event.TheVariants as event
-use Rattle.machine_model.specs.State.{State, with_sub}
+use Rattle.machine_model.specs.State.{with_sub}
 use Rattle.subchannel_model.specs.Places.{place_in}
-use Rattle.machine_model.specs.Steps.{Performs}
 use Rattle.machine_model.specs.InstructionSteps.{subchannel_word}
 use Rattle.signal_places.specs.Plain.{plain_outcome}
 use Rattle.machine_steps.specs.contracts.machine.Machine.{the_view}
