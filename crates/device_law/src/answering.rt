@@ -54,7 +54,7 @@ fn supply_to<D: Device>(device: &mut D, most: u16, place: &mut DeviceAnswer)
     *place = DeviceAnswer::Supplied(device.supply(usize::from(most)));
 }
 
-/// The initial status, as `initial_answer` has it, written into its place.
+/// The answer to an initial status, written into its place: an empty one begins the command, any other ends it or its channel's part.
 fn initial_to<D: Device>(device: &mut D, code: u8, place: &mut DeviceAnswer)
     ensures law { IsAnswer (call_spec.Initial code) place.new }
     ensures answers { D.answers device.old (call_spec.Initial code) place.new device.new }
@@ -76,12 +76,7 @@ fn initial_answer<D: Device>(device: &mut D, code: u8) -> DeviceAnswer
     ensures answers { D.answers device.old (call_spec.Initial code) result device.new }
     ensures opening { D.opening device.new ≡ D.opening device.old }
 {
-    let status = device.initial(code);
-    if status.bits() == 0 {
-        return DeviceAnswer::Begins;
-    }
-    DeviceAnswer::Ended {
-        status,
-        more: false,
-    }
+    let mut place = DeviceAnswer::Begins;
+    initial_to(device, code, &mut place);
+    place
 }
