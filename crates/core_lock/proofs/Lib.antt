@@ -8,3 +8,4 @@ pub mod Changing
 pub mod Handing
 pub mod Calling
 pub mod Lengthening
+pub mod Lasting

@@ -1,5 +1,5 @@
 -- What entering an event leaves, and what a look finds (own).
-use Rattle.std.specs.Prelude.{◌≡◌, ◌≤◌, ◌^◌, ◌⊎◌, ℕ, ◌+◌, [], ◌∷◌, ◌++◌, length, min, Some, slice_get, slice_set}
+use Rattle.std.specs.Prelude.{◌≡◌, ◌≤◌, ◌^◌, ◌⊎◌, ℕ, ◌+◌, ◌-◌, [], ◌∷◌, ◌++◌, length, min, Some, Vec, vec_capacity, vec_len, slice_get, slice_set}
 use Rattle.scsw_irb.specs.declared.serials.Serials.{Serials}
 use Rattle.chan_model.specs.declared.fault.Fault.{Fault}
 use Rattle.chan_model.specs.declared.fault.Fault.TheVariants as fault
@@ -7,7 +7,7 @@ use Rattle.chan_events.specs.declared.event.Event.{Event}
 use Rattle.chan_events.specs.declared.event.Event.TheVariants as event
 use Rattle.chan_events.specs.declared.reply.Reply.{Reply}
 use Rattle.glance_cell.specs.Shown.{Words}
-use Rattle.machine_model.specs.State.{State}
+use Rattle.machine_model.specs.State.{Past, State}
 use Rattle.machine_model.specs.Steps.{Step, IsRefused}
 use Rattle.core_lock.specs.declared.machine.CpuInstruction.{CpuInstruction}
 use Rattle.core_lock.specs.declared.machine.CpuInstruction.TheVariants as cpu_instruction
@@ -32,9 +32,16 @@ Enters old seat e r new after =
 abbrev pub MayRefuse : State → Event → Fault → Type 0
 MayRefuse s e f = (f ≡ fault.NoMemory) ⊎ IsRefused s e f
 
+-- for how many more entries there is room, in a history and beside it
+abbrev pub room_of : {A Z : Type 0} → Past → Vec A Z → ℕ
+room_of past by = min past.room (vec_capacity by - vec_len by)
+
 -- there is no room for another entry, in the history, beside it or in the log of the seat, or no number for it is left
+abbrev pub LacksSpace : ℕ → ℕ → ℕ → Type 0
+LacksSpace core seat entries = (min core seat ≡ 0) ⊎ (2 ^ 62 ≤ entries + 1)
+
 abbrev pub HasNoRoom : LockedCore → HeldSeat → Type 0
-HasNoRoom core seat = (min core.room seat.room ≡ 0) ⊎ (2 ^ 62 ≤ length core.value.history + 1)
+HasNoRoom core seat = LacksSpace core.room seat.room (length core.value.history)
 
 -- the event of an instruction
 abbrev pub event_of : ℕ → CpuInstruction → Event

@@ -9,8 +9,10 @@
 #![tactic(auto)]
 
 pub mod directory;
+mod entering;
 pub mod gate;
 pub mod locked;
+mod looking;
 pub mod machine;
 pub mod naming;
 mod pairs;

@@ -1,4 +1,4 @@
-//! The subsystem under its lock, and its seats. This module alone writes the history and the log of a seat.
+//! The subsystem under its lock, and its seats.
 
 ghost use Rattle.std.specs.Prelude.{◌≡◌, ◌≢◌, ◌⊎◌, ◌+◌, ◌↔◌, ℕ, [], ◌∷◌, ◌++◌, length, vec_len, sum_by, All, Err, true, IsTrue, IfOk, IfErr, IfSome, IfNone, IsSome, OnErr, OnOk, None, Some, Ok, is_some, slice_get, ◌≤◌};
 ghost use Rattle.chan_model.specs.declared.fault.Fault.TheVariants as fault_spec;
@@ -9,34 +9,31 @@ ghost use Rattle.machine_model.specs.Ruled.{GoesByRule};
 ghost use Rattle.machine_model.specs.State.{place_of};
 ghost use Rattle.machine_model.specs.Steps.{HasRun, Step};
 ghost use Rattle.subsystem.specs.Headline.{HasHeld};
+ghost use Rattle.signal_places.specs.Answers.{answer_at, reply_at};
 ghost use Rattle.subsystem.specs.Keeping.{all_serials};
 ghost use Rattle.core_lock.specs.Directory.{directory_of, place_named};
-ghost use Rattle.core_lock.specs.Entering.{Glances, HasNoRoom, MayRefuse, entered};
-ghost use Rattle.core_lock.specs.Named.{shown, serials};
+ghost use Rattle.core_lock.specs.Entering.{HasNoRoom, MayRefuse, entered};
+ghost use Rattle.core_lock.specs.Named.{shown};
 ghost use Rattle.core_lock.specs.Seats.{entries_by, entry};
 ghost use Rattle.core_lock.specs.Turns as turn_spec;
 
 use crate::directory::Directory;
-use crate::gate::Gate;
+use crate::entering::{came, keep_entry};
 use crate::naming::{Entries, Naming, Turns};
-use crate::pairs::{first_pairs, greater, publish, raise, watch};
+use crate::pairs::{first_pairs, watch};
 use crate::parts::Parts;
 use crate::same_log::is_log;
 use crate::supplies::CoreSupply;
-use crate::touching::{touched_by, touches};
 use crate::turns::{KeptReport, OwedCall, TakenCommand};
 use chan_events::event::Event;
 use chan_events::reply::Reply;
 use chan_model::fault::Fault;
-use chan_model::report::Report;
-use device_law::Device;
-use device_law::answering::answer;
 use event_log::history::History;
 use event_log::logs::Log;
 use glance_cell::cell::{Reader, Writer};
-use glance_cell::words::Glance;
 use path_select::PathChoice;
 use scsw_irb::serials::Serials;
+use signal_places::answers::AnswerPlace;
 use std::alloc::Global;
 use std::marker::Model;
 use std::sync::Arc;
@@ -60,6 +57,8 @@ pub struct Core<J: Naming, P: PathChoice + Drop> {
     rest: Share<Entries<J>>,
     pub(crate) turns: Book<Turns<J>>,
     turns_left: Share<Turns<J>>,
+    /// For the answer of an event whose caller has no place for it.
+    answer: AnswerPlace,
 }
 
 impl<J: Naming, P: PathChoice + Drop> Model for Core<J, P> {
@@ -88,14 +87,14 @@ pub struct NotMade<P: PathChoice + Drop> {
 /// A place at a machine, with the log of what was entered from it, and what it saw of the serials of each subchannel.
 #[derive(Drop)]
 pub struct Seat<J: Naming> {
-    number: u16,
-    log: Log,
+    pub(crate) number: u16,
+    pub(crate) log: Log,
     pub(crate) directory: Arc<Directory>,
-    pairs: Vec<Serials>,
-    readers: Vec<Reader>,
-    share: Share<Entries<J>>,
+    pub(crate) pairs: Vec<Serials>,
+    pub(crate) readers: Vec<Reader>,
+    pub(crate) share: Share<Entries<J>>,
     pub(crate) turns: Share<Turns<J>>,
-    calls: u64,
+    pub(crate) calls: u64,
     pub(crate) owed: Option<OwedCall>,
     pub(crate) kept: Option<KeptReport>,
     pub(crate) left: Option<TakenCommand>,
@@ -184,6 +183,7 @@ impl<J: Naming, P: PathChoice + Drop> Core<J, P> {
             rest,
             turns,
             turns_left,
+            answer: AnswerPlace::new(),
         })
     }
 
@@ -306,6 +306,7 @@ impl<J: Naming, P: PathChoice + Drop> Core<J, P> {
             mut rest,
             turns: _,
             turns_left: _,
+            answer: _,
         } = self;
         if seats.len() != usize::from(made) {
             return None;
@@ -321,7 +322,7 @@ impl<J: Naming, P: PathChoice + Drop> Core<J, P> {
     /// One step, entered from a seat: its reply, with the entry in the history and in the seat's log. Where it is refused all
     /// is as before; it is refused `NoMemory` only where the history, the seats beside it or the log can't grow, or the steps
     /// are used up.
-    #[inline]
+    #[inline(always)]
     pub fn enter(&mut self, seat: &mut Seat<J>, event: Event) -> Result<Reply, Fault>
         ensures step { IfOk result (λ reply. Step self.old.value.state event reply self.new.value.state) }
         ensures history { IfOk result (λ reply. self.new.value.history ≡ self.old.value.history ++ entry event reply ∷ []) }
@@ -363,20 +364,71 @@ impl<J: Naming, P: PathChoice + Drop> Core<J, P> {
         // Where it is refused no room is lost.
         ensures kept { OnErr answer.new ((self.old.room ≤ self.new.room) × (seat.old.room ≤ seat.new.room)) }
     {
-        if self.by.reserve(1).is_err() || seat.log.make_room().is_err() {
-            *answer = Err(Fault::NoMemory);
-            return;
-        }
-        touches();
-        let touched = touched_by(&self.subsystem, event);
-        self.subsystem.step_to(event, answer);
-        if let Ok(reply) = &*answer {
-            publish(&mut self.writers, &self.subsystem, touched);
-            self.entries.add(&mut seat.share, 1);
-            self.by.push_reserved(seat.number);
-            raise(&mut seat.pairs, &seat.directory, event, reply);
-            self.subsystem.add_last(&mut seat.log);
-        }
+        keep_entry(
+            &mut self.subsystem,
+            &mut self.by,
+            &mut self.writers,
+            &mut self.entries,
+            seat,
+            event,
+            &mut self.answer,
+        );
+        self.answer.answer_to(answer);
+    }
+
+    /// One step, as `enter` has it, with its answer in a place that is made once: no more bytes move than its signals have.
+    pub fn enter_place(
+        &mut self,
+        seat: &mut Seat<J>,
+        event: &Event,
+        place: &mut AnswerPlace,
+    ) -> Result<(), Fault>
+        ensures step { IfOk (answer_at place.new) (λ reply. Step self.old.value.state event.now reply self.new.value.state) }
+        ensures history { IfOk (answer_at place.new) (λ reply. self.new.value.history ≡ self.old.value.history ++ entry event.now reply ∷ []) }
+        ensures by { IfOk (answer_at place.new) (λ reply. self.new.value.by ≡ self.old.value.by ++ seat.old.value.number ∷ []) }
+        ensures seats { self.new.value.seats ≡ self.old.value.seats }
+        ensures logged { IfOk (answer_at place.new) (λ reply. seat.new.value ≡ entered seat.old.value event.now reply) }
+        ensures ruled { answer_at place.new ≢ Err fault_spec.NoMemory →
+            GoesByRule P.picks self.old.value.state event.now (answer_at place.new) self.new.value.state }
+        ensures refusal { IfErr (answer_at place.new) (λ f. MayRefuse self.old.value.state event.now f) }
+        ensures spent { answer_at place.new ≡ Err fault_spec.NoMemory → HasNoRoom self.old seat.old }
+        ensures core { OnErr (answer_at place.new) (self.new.value ≡ self.old.value) }
+        ensures seat { OnErr (answer_at place.new) (seat.new.value ≡ seat.old.value) }
+        ensures room { self.old.room ≤ self.new.room + 1 }
+        ensures seat_room { seat.old.room ≤ seat.new.room + 1 }
+        // Where it is refused no room is lost.
+        ensures kept { OnErr (answer_at place.new) ((self.old.room ≤ self.new.room) × (seat.old.room ≤ seat.new.room)) }
+        // It is told which of both stands in the place: a reply, or this refusal.
+        ensures replied { OnOk result (answer_at place.new ≡ Ok (reply_at place.new)) }
+        ensures refused { IfErr result (λ f. answer_at place.new ≡ Err f) }
+    {
+        keep_entry(
+            &mut self.subsystem,
+            &mut self.by,
+            &mut self.writers,
+            &mut self.entries,
+            seat,
+            event,
+            place,
+        );
+        came(place)
+    }
+
+    /// One step, as `enter` has it, whose reply nobody looks at.
+    pub(crate) fn try_enter(&mut self, seat: &mut Seat<J>, event: &Event) -> Result<bool, Fault>
+        ensures { turn_spec.Tries self.old.value seat.old.value seat.old.value event.now result self.new.value seat.new.value }
+    {
+        keep_entry(
+            &mut self.subsystem,
+            &mut self.by,
+            &mut self.writers,
+            &mut self.entries,
+            seat,
+            event,
+            &mut self.answer,
+        );
+        came(&self.answer)?;
+        Ok(true)
     }
 }
 
@@ -399,65 +451,6 @@ impl<J: Naming> Seat<J> {
             left: _,
         } = self;
         share
-    }
-
-    /// Whether a call of a device is owed.
-    pub fn owes(&self) -> bool
-        ensures { result ≡ is_some self.now.value.owed }
-    {
-        self.owed.is_some()
-    }
-
-    /// Passes the gate, makes the call that is owed, and keeps the device's answer as a report. It takes no lock and no memory.
-    pub fn call<D: Device, G: Gate>(&mut self, device: &mut D, gate: &G)
-        requires { IsSome self.old.value.owed }
-        ensures calls { turn_spec.Calls D.answers self.old.value device.old self.new.value device.new }
-        ensures room { self.new.room ≡ self.old.room }
-    {
-        let Some(owed) = self.owed.take() else {
-            unreachable!()
-        };
-        self.calls = self.calls.saturating_add(1);
-        gate.pass(owed.unit, self.calls);
-        self.kept = Some(KeptReport {
-            unit: owed.unit,
-            report: Report {
-                side: owed.side,
-                number: owed.number,
-                command: owed.command,
-                sequence: owed.sequence,
-                answer: answer(device, &owed.call),
-            },
-        });
-    }
-
-    /// The serials of a subchannel: part by part the greater of what is loaded and of what the seat saw. It takes no lock and
-    /// no memory, and is refused only where the subchannel is not configured.
-    pub fn glance(&mut self, subchannel: u32) -> Result<Glance, Fault>
-        ensures found { IfOk result (λ g. Glances self.old.value subchannel (serials g.made g.cleared) self.new.value) }
-        ensures ordered { IfOk result (λ g. g.cleared ≤ g.made) }
-        ensures refused { IfErr result (λ f. (f ≡ fault_spec.NoSuchSubchannel) × (place_named self.old.value.directory subchannel ≡ None)) }
-        ensures same { OnErr result (self.new ≡ self.old) }
-        ensures room { self.new.room ≡ self.old.room }
-    {
-        let Some(place) = self.directory.place(subchannel) else {
-            return Err(Fault::NoSuchSubchannel);
-        };
-        let reader = &mut self.readers[place];
-        let loaded = reader.load();
-        let pair = self.pairs[place];
-        let found = greater(
-            pair,
-            Serials {
-                made: loaded.made,
-                cleared: loaded.cleared,
-            },
-        );
-        self.pairs[place] = found;
-        Ok(Glance {
-            made: found.made,
-            cleared: found.cleared,
-        })
     }
 }
 

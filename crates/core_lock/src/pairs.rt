@@ -3,6 +3,7 @@
 ghost use Rattle.std.specs.Prelude.{◌≡◌, ◌<◌, ◌≤◌, ℕ, true, All, IfOk, OnErr, OnOk, Some, length, slice_get, slice_set, vec_len};
 ghost use Rattle.scsw_irb.specs.declared.serials.Serials.{Serials};
 ghost use Rattle.event_laws.specs.Codes.{answer_in};
+ghost use Rattle.signal_places.specs.Answers.{reply_at};
 ghost use Rattle.subsystem.specs.Keeping as keeping;
 ghost use Rattle.subsystem.specs.Keeping.{IsOrdered, Rises, all_serials};
 ghost use Rattle.core_lock.specs.Named.{cells_of, shown};
@@ -12,12 +13,13 @@ ghost use Rattle.core_lock.specs.Touching as touch_spec;
 use crate::directory::Directory;
 use crate::touching::Touched;
 use chan_events::event::{Event, Instruction};
-use chan_events::reply::Reply;
 use chan_model::answer::Answer;
 use glance_cell::cell::{Reader, Writer};
 use glance_cell::supplies::CellSupply;
 use path_select::PathChoice;
 use scsw_irb::serials::Serials;
+use signal_places::answers::{AnswerPlace, Outcome};
+use signal_places::plain::PlainReply;
 use std::alloc::{AllocError, Global};
 use subsystem::subsystem::Subsystem;
 use supply::{Supply, push};
@@ -124,12 +126,14 @@ fn serials_with(answer: Answer) -> Option<Serials>
     }
 }
 
-/// The serials that the reply to an instruction brings.
-fn serials_brought(reply: &Reply) -> Option<Serials>
-    ensures { result ≡ keeping.serials_brought (answer_in reply.now) }
+/// The serials that the reply to an instruction brings, by the place where it stands.
+fn serials_brought(place: &AnswerPlace) -> Option<Serials>
+    ensures { result ≡ keeping.serials_brought (answer_in (reply_at place.now)) }
 {
-    match reply {
-        Reply::Code(answer) | Reply::Status { answer, .. } => serials_with(*answer),
+    match &place.outcome {
+        Outcome::Replied(PlainReply::Code(answer) | PlainReply::Status { answer, .. }) => {
+            serials_with(*answer)
+        }
         _ => None,
     }
 }
@@ -158,8 +162,13 @@ pub(crate) fn greater(one: Serials, other: Serials) -> Serials
 }
 
 /// TEST SUBCHANNEL with code 0 or 1 ends by raising the pair of its subchannel.
-pub(crate) fn raise(pairs: &mut Vec<Serials>, directory: &Directory, event: &Event, reply: &Reply)
-    ensures { pairs.new.items ≡ spec.raised_among pairs.old.items directory.now event.now reply.now }
+pub(crate) fn raise(
+    pairs: &mut Vec<Serials>,
+    directory: &Directory,
+    event: &Event,
+    place: &AnswerPlace,
+)
+    ensures { pairs.new.items ≡ spec.raised_among pairs.old.items directory.now event.now (reply_at place.now) }
 {
     let Event::Execute {
         instruction: Instruction::Tsch { subchannel, .. },
@@ -168,7 +177,7 @@ pub(crate) fn raise(pairs: &mut Vec<Serials>, directory: &Directory, event: &Eve
     else {
         return;
     };
-    if let Some(found) = serials_brought(reply) {
+    if let Some(found) = serials_brought(place) {
         raise_at(pairs, directory.place(*subchannel), found);
     }
 }

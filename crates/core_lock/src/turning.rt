@@ -38,7 +38,7 @@ impl<J: Naming, P: PathChoice + Drop> Core<J, P> {
         ensures { turn_spec.TakesPathTurn self.old.value seat.old.value turn result self.new.value seat.new.value }
     {
         match turn {
-            Some(event) => self.try_enter(seat, event),
+            Some(event) => self.try_enter(seat, &event),
             None => Ok(false),
         }
     }
@@ -85,19 +85,12 @@ impl<J: Naming, P: PathChoice + Drop> Core<J, P> {
         self.turns.add(&mut seat.turns, 1);
     }
 
-    /// Tries to enter an event.
-    fn try_enter(&mut self, seat: &mut Seat<J>, event: Event) -> Result<bool, Fault>
-        ensures { turn_spec.Tries self.old.value seat.old.value seat.old.value event result self.new.value seat.new.value }
-    {
-        self.enter(seat, event)?;
-        Ok(true)
-    }
-
     /// Hands in a report that was kept.
     fn hand_in(&mut self, seat: &mut Seat<J>, kept: KeptReport) -> Result<bool, Fault>
         ensures { turn_spec.HandsIn self.old.value seat.old.value kept result self.new.value seat.new.value }
     {
-        let came = self.try_enter(seat, kept.event());
+        let event = kept.event();
+        let came = self.try_enter(seat, &event);
         match came {
             Ok(entered) => Ok(entered),
             Err(fault) => seat.keep(kept, fault),
@@ -110,7 +103,7 @@ impl<J: Naming, P: PathChoice + Drop> Core<J, P> {
         ensures { turn_spec.TakesTurn self.old.value seat.old.value turn result self.new.value seat.new.value }
     {
         match turn {
-            Turn::Enters(event) => self.try_enter(seat, event),
+            Turn::Enters(event) => self.try_enter(seat, &event),
             Turn::Leaves(command) => self.leave(seat, command),
             Turn::Owes(call) => {
                 seat.owed = Some(call);
@@ -128,9 +121,9 @@ impl<J: Naming, P: PathChoice + Drop> Core<J, P> {
             unit: command.unit,
             act: UnitAct::Leave,
         };
-        self.enter(seat, event)?;
+        let entered = self.try_enter(seat, &event)?;
         seat.left = Some(command);
-        Ok(true)
+        Ok(entered)
     }
 
     /// A history of the seat's machine led to the state.

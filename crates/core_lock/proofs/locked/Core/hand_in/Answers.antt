@@ -6,9 +6,9 @@ use Rattle.core_lock.proofs.locked.Core.hand_in.Goals as goal
 
 pub returns-in-Ok : goal.returns-in-Ok
 returns-in-Ok g c =
-    handed_ok c.args.self.now.value c.args.seat.now.value c.args.kept c.event.result c.in-Ok.entered c.try_enter-came.new.self.value c.try_enter-came.new.seat.value c.event.ensures c.in-Ok.ensures
+    handed_ok c.args.self.now.value c.args.seat.now.value c.args.kept c.event-event.result c.in-Ok.entered c.try_enter-came.new.self.value c.try_enter-came.new.seat.value c.event-event.ensures c.in-Ok.ensures
 
 pub returns-in-Err : goal.returns-in-Err
 returns-in-Err g c =
     subst (λ (r : Result Bool Fault). HandsIn c.args.self.now.value c.args.seat.now.value c.args.kept r c.try_enter-came.new.self.value c.keep.new.self.value) (sym c.keep.ensures.result)
-    (handed_err c.args.self.now.value c.args.seat.now.value c.args.kept c.event.result c.in-Err.fault c.try_enter-came.new.self.value c.try_enter-came.new.seat.value c.keep.new.self.value c.event.ensures c.in-Err.ensures c.keep.ensures.seat)
+    (handed_err c.args.self.now.value c.args.seat.now.value c.args.kept c.event-event.result c.in-Err.fault c.try_enter-came.new.self.value c.try_enter-came.new.seat.value c.keep.new.self.value c.event-event.ensures c.in-Err.ensures c.keep.ensures.seat)

@@ -1,0 +1,86 @@
+//! One event at a subsystem, entered from a seat. This module alone adds to the history and to the log of a seat.
+
+ghost use Rattle.std.specs.Prelude.{◌≡◌, ◌≢◌, ◌+◌, ◌≤◌, [], ◌∷◌, ◌++◌, length, IfOk, IfErr, OnErr, OnOk, Ok, Err};
+ghost use Rattle.chan_model.specs.declared.fault.Fault.TheVariants as fault_spec;
+ghost use Rattle.machine_model.specs.Ruled.{GoesByRule};
+ghost use Rattle.machine_model.specs.Steps.{Step};
+ghost use Rattle.signal_places.specs.Answers.{answer_at, reply_at};
+ghost use Rattle.subsystem.specs.Keeping.{StaysSetUp, all_serials};
+ghost use Rattle.core_lock.specs.Entering.{LacksSpace, MayRefuse, entered, room_of};
+ghost use Rattle.core_lock.specs.Named.{cells_of, shown};
+ghost use Rattle.core_lock.specs.Seats.{entry};
+
+use crate::locked::Seat;
+use crate::naming::{Entries, Naming};
+use crate::pairs::{publish, raise};
+use crate::touching::{touched_by, touches};
+use chan_events::event::Event;
+use chan_model::fault::Fault;
+use glance_cell::cell::Writer;
+use path_select::PathChoice;
+use signal_places::answers::{AnswerPlace, Outcome};
+use std::sync::ledger::Book;
+use subsystem::subsystem::Subsystem;
+
+/// What is told of the answer that stands in a place, without its reply.
+pub(crate) fn came(place: &AnswerPlace) -> Result<(), Fault>
+    ensures replied { OnOk result (answer_at place.now ≡ Ok (reply_at place.now)) }
+    ensures refused { IfErr result (λ f. answer_at place.now ≡ Err f) }
+{
+    match place.outcome {
+        Outcome::Refused(fault) => Err(fault),
+        _ => Ok(()),
+    }
+}
+
+/// One step at a subsystem, entered from a seat: its entry in the history with the number of its seat beside it, and in the
+/// seat's log, and the serials that it changed in the glance cells.
+#[inline(never)]
+pub(crate) fn keep_entry<J: Naming, P: PathChoice + Drop>(
+    subsystem: &mut Subsystem<P>,
+    by: &mut Vec<u16>,
+    writers: &mut Vec<Writer>,
+    entries: &mut Book<Entries<J>>,
+    seat: &mut Seat<J>,
+    event: &Event,
+    place: &mut AnswerPlace,
+)
+    requires beside { length by.old.items ≡ length subsystem.old.history }
+    requires entries { entries.old.total ≡ length subsystem.old.history }
+    requires shown { shown writers.old.items ≡ all_serials subsystem.old.state }
+    ensures beside { length by.new.items ≡ length subsystem.new.history }
+    ensures entries { entries.new.total ≡ length subsystem.new.history }
+    ensures shown { shown writers.new.items ≡ all_serials subsystem.new.state }
+    ensures cells { cells_of writers.new.items ≡ cells_of writers.old.items }
+    ensures set_up { StaysSetUp subsystem.old.state subsystem.new.state }
+    ensures step { IfOk (answer_at place.new) (λ reply. Step subsystem.old.state event.now reply subsystem.new.state) }
+    ensures history { IfOk (answer_at place.new) (λ reply. subsystem.new.history ≡ subsystem.old.history ++ entry event.now reply ∷ []) }
+    ensures by { IfOk (answer_at place.new) (λ reply. by.new.items ≡ by.old.items ++ seat.old.value.number ∷ []) }
+    ensures logged { IfOk (answer_at place.new) (λ reply. seat.new.value ≡ entered seat.old.value event.now reply) }
+    ensures ruled { answer_at place.new ≢ Err fault_spec.NoMemory →
+        GoesByRule P.picks subsystem.old.state event.now (answer_at place.new) subsystem.new.state }
+    ensures refusal { IfErr (answer_at place.new) (λ f. MayRefuse subsystem.old.state event.now f) }
+    ensures spent { answer_at place.new ≡ Err fault_spec.NoMemory → LacksSpace (room_of subsystem.old by.old) seat.old.room (length subsystem.old.history) }
+    ensures state { OnErr (answer_at place.new) (subsystem.new.state ≡ subsystem.old.state) }
+    ensures past { OnErr (answer_at place.new) (subsystem.new.history ≡ subsystem.old.history) }
+    ensures numbers { OnErr (answer_at place.new) (by.new.items ≡ by.old.items) }
+    ensures seat { OnErr (answer_at place.new) (seat.new.value ≡ seat.old.value) }
+    ensures room { room_of subsystem.old by.old ≤ room_of subsystem.new by.new + 1 }
+    ensures seat_room { seat.old.room ≤ seat.new.room + 1 }
+    ensures kept { OnErr (answer_at place.new) ((room_of subsystem.old by.old ≤ room_of subsystem.new by.new) × (seat.old.room ≤ seat.new.room)) }
+{
+    if by.reserve(1).is_err() || seat.log.make_room().is_err() {
+        place.outcome = Outcome::Refused(Fault::NoMemory);
+        return;
+    }
+    touches();
+    let touched = touched_by(subsystem, event);
+    subsystem.step_place(event, place);
+    if place.is_reply() {
+        publish(writers, subsystem, touched);
+        entries.add(&mut seat.share, 1);
+        by.push_reserved(seat.number);
+        raise(&mut seat.pairs, &seat.directory, event, place);
+        subsystem.add_last(&mut seat.log);
+    }
+}
