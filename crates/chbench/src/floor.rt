@@ -1,6 +1,7 @@
 //! What events are performed at: a channel subsystem by itself, or one in a core, by a seat of it.
 
 use chan_events::event::Event;
+use chan_model::fault::Fault;
 use chan_model::names::Side;
 use chan_model::report::{DeviceAnswer, Report, Work};
 use core_lock::locked::{Core, Seat};
@@ -142,14 +143,23 @@ pub struct Seated<J: Naming> {
     pub seat: Seat<J>,
 }
 
+impl<J: Naming> Seated<J> {
+    /// Whether an event is accepted; as `Core::enter` does it, with an answer of its own, but for an event that stays.
+    fn enters(&mut self, event: &Event) -> bool {
+        let mut answer = Err(Fault::NotNow);
+        self.core.enter_to(&mut self.seat, event, &mut answer);
+        answer.is_ok()
+    }
+}
+
 impl<J: Naming> Floor for Seated<J> {
     fn accepts(&mut self, event: &Event) -> bool {
-        self.core.enter(&mut self.seat, event.copy()).is_ok()
+        self.enters(event)
     }
 
     fn reports(&mut self, unit: u32, device: &mut AnyDevice) -> bool {
         match report_of(self.core.subsystem(), unit, device) {
-            Some(event) => self.core.enter(&mut self.seat, event).is_ok(),
+            Some(event) => self.enters(&event),
             None => false,
         }
     }

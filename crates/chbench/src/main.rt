@@ -7,7 +7,8 @@
 //!   `write`, `read`, `chain`, `reconnect`, or `test`, which is one TEST SUBCHANNEL.
 //! - `place KIND SUBCHANNELS CYCLES`: the same by `Subsystem::step_place`, with one place for all answers and one for
 //!   all reports.
-//! - `enter KIND SUBCHANNELS CYCLES`: the same by `Core::enter`, from the first seat of a core that no lock guards.
+//! - `enter KIND SUBCHANNELS CYCLES`: the same by `Core::enter_to`, of which `Core::enter` is a thin call that takes its event
+//!   with it, from the first seat of a core that no lock guards.
 //! - `race CPUS LOOKERS TIMES`: so many CPUs, each on a thread of its own, execute TEST SUBCHANNEL under the lock, so many times
 //!   each, while so many lookers look at the serials of the same subchannel, 64 times as often.
 //!
