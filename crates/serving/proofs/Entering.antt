@@ -1,5 +1,5 @@
 -- What an event comes to that is entered from the one seat of a machine.
-use Rattle.std.proofs.Common.{◌≡◌, ◌≢◌, ◌≤◌, ◌+◌, [], ◌∷◌, ◌++◌, Result, Ok, Err, refl, arith, ap, absurd, inl, inr}
+use Rattle.std.proofs.Common.{◌≡◌, ◌≢◌, ◌≤◌, ◌+◌, [], ◌∷◌, ◌++◌, Result, Ok, Err, refl, arith, ap, inl, inr}
 use Rattle.std.specs.Prelude.{IfOk, IfErr, OnErr}
 use Rattle.chan_events.specs.declared.event.Event.{Event}
 use Rattle.chan_events.specs.declared.reply.Reply.{Reply}
@@ -36,7 +36,10 @@ refused : (s : State) (e : Event) (f : Fault) → f ≢ fault.NoMemory → MayRe
 refused s e f other (inl is) = absurd (other is)
 refused s e f other (inr refuses) = refuses
 
-told : (c n : LockedCore) (s t : HeldSeat) (e : Event) (f : Fault) → f ≢ fault.NoMemory → (Err f ≢ Err fault.NoMemory) → Came c n s t e (Err f)
+abbrev refusal_of : Fault → Result Reply Fault
+refusal_of f = Err f
+
+told : (c n : LockedCore) (s t : HeldSeat) (e : Event) (f : Fault) → f ≢ fault.NoMemory → refusal_of f ≢ refusal_of fault.NoMemory → Came c n s t e (Err f)
     → IsRefused c.value.state e f × GoesByRule TakesNext c.value.state e (Err f) n.value.state × IsAsBefore (past_of c s) (past_of n t)
 told c n s t e f other way came = (refused c.value.state e f other came.refusal, came.ruled way, as_before c n s t came.core came.kept)
 
