@@ -1,13 +1,12 @@
 -- Packed lines over an arena that grows.
 use Rattle.std.proofs.Common.{◌≡◌, ◌≤◌, ◌<◌, ℕ, ◌+◌, ◌∙◌, sym, ap, ap₂, List, [], ◌∷◌, ◌++◌, arith, length, take, drop, get_or, length-drop}
 use Rattle.std.proofs.Math.Seq.{drop-append_seam, take-length}
-use Rattle.std.proofs.lemmas.List.{same_lists, take-append-le, drop-append-le, append-nil, get_or-map, length-map, map_push}
-use Rattle.script_rows.specs.declared.Action.{Action}
+use Rattle.std.proofs.lemmas.List.{same_lists, take-append-le, drop-append-le, get_or-map, length-map, map_push}
 use Rattle.script.specs.declared.Line.{Line}
-use Rattle.script.specs.declared.kept.KeptAction.{KeptAction}
-use Rattle.script.specs.declared.kept.KeptAction.TheVariants as kept_action
+use Rattle.script_rows.specs.Places.{action_length}
+use Rattle.script_rows.specs.declared.places.KeptAction.TheVariants as kept_action
 use Rattle.script.specs.declared.kept.KeptLine.{KeptLine}
-use Rattle.script.specs.Keeping.{action_in, action_length, line_in, line_at, lines_at, Fits, AllFit}
+use Rattle.script.specs.Keeping.{line_in, line_at, lines_at, Fits, AllFit}
 
 -- a piece that lies in an arena is the same in a longer one
 cut-append : (arena more : List ℕ) (start count : ℕ) → start + count ≤ length arena →
@@ -46,7 +45,3 @@ pub lines-added : (arena bytes : List ℕ) (ks : List KeptLine) (k : KeptLine) �
 lines-added arena bytes ks k fit is =
     map_push (line_at (arena ++ bytes)) ks k
     ∙ ap₂ (λ (h : List Line) (x : Line). h ++ x ∷ []) (lines-append arena bytes ks fit) (line-added arena bytes k is)
-
--- the bytes of an action, as they are where nothing follows
-pub whole-bytes : (k : KeptAction) (bytes : List ℕ) (a : Action) → ((rest : List ℕ) → action_in k (bytes ++ rest) ≡ a) → action_in k bytes ≡ a
-whole-bytes k bytes a kept = ap (action_in k) (sym (append-nil bytes)) ∙ kept []

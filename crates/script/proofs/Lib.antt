@@ -1,3 +1,4 @@
 pub mod Parting
 pub mod Drafting
 pub mod Keeping
+pub mod Plain

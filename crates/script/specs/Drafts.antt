@@ -2,9 +2,8 @@
 use Rattle.std.specs.Prelude.{◌≡◌, ℕ, Bool, ◌||◌, List, ◌++◌, take, Result}
 use Rattle.std.specs.List.{list_any, flat_map}
 use Rattle.channel_config.specs.Setup.{no_setup}
-use Rattle.script.specs.declared.said.Said.{Said}
 use Rattle.script.specs.declared.draft.Draft.{Draft}
-use Rattle.script.specs.Saying.{said, has_words}
+use Rattle.script.specs.Saying.{Said, said, has_words}
 use Rattle.script.specs.Scripts.{Context, setting_of, action_of, race_of, is_action, set_up, actions_from, latest, race_from, AreClean}
 
 abbrev pub context : Draft → Context

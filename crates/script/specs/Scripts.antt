@@ -3,13 +3,11 @@ use Rattle.std.specs.Prelude.{◌≡◌, ℕ, ◌+◌, ◌<◌, Bool, true, fals
 use Rattle.std.specs.List.{list_any, flat_map}
 use Rattle.channel_config.specs.Setup.{Setup, no_setup}
 use Rattle.script_rows.specs.declared.settings.Setting.{Setting}
-use Rattle.script.specs.declared.said.Said.{Said}
-use Rattle.script.specs.declared.said.Said.TheVariants.{Nothing, Sets, Does, Races}
 use Rattle.script.specs.declared.Line.{Line}
 use Rattle.script.specs.declared.RaceLine.{RaceLine}
 use Rattle.script.specs.Pieces.{words_between_blanks}
 use Rattle.script_rows.specs.Settings.{configured}
-use Rattle.script.specs.Saying.{has_words, said, first_is_storage}
+use Rattle.script.specs.Saying.{Said, Nothing, Sets, Does, Races, has_words, said, first_is_storage}
 
 -- the settings of a line, none or one
 abbrev pub setting_of : Result Said ℕ → List Setting

@@ -2,18 +2,20 @@
 
 ghost use Rattle.std.specs.Prelude.{◌≡◌, true, OnOk, IfErr, IfOk, None, Ok, Err, length, map};
 ghost use Rattle.script.specs.Pieces.{words_between_blanks};
-ghost use Rattle.script.specs.Saying.{first_is_storage};
+ghost use Rattle.script.specs.Saying.{first_is_storage, said_by};
+ghost use Rattle.script_rows.specs.Places.{action_at};
 ghost use Rattle.script.specs.Scripts as spec;
 ghost use Rattle.script.specs.Drafts.{context, Hears, IsNext, IsDraftOf};
 ghost use Rattle.script.specs.Reading.{BreaksRule, BadIn, bad_by};
 
 use crate::lines::Lines;
 use crate::pieces::pieces;
-use crate::said::{Said, has_words, say};
+use crate::said::{LineKind, has_words, say};
 use crate::{RaceLine, ScriptBad, some_have_words};
 use channel_config::config::{Config, ConfigFault};
+use script_rows::places::ActionPlace;
 use script_rows::settings::configure;
-use script_rows::words::LineFault;
+use script_rows::words::{LineFault, is_name};
 use std::alloc::Global;
 use supply::Supply;
 
@@ -39,7 +41,7 @@ fn begins<S: Supply>(alloc: Global, supply: &mut S, line: &[u8]) -> Result<bool,
     };
     match words.as_slice() {
         [] => Ok(false),
-        [first, ..] => Ok(*first == b"storage".as_slice()),
+        [first, ..] => Ok(is_name(first, b"storage".as_slice())),
     }
 }
 
@@ -50,24 +52,25 @@ fn may_race(races: bool, later: &[&[u8]]) -> bool
     races && !some_have_words(later)
 }
 
-/// Takes what a line says, before these lines.
+/// Takes what a line says, whose action stands in a place, before these lines.
 fn hear<S: Supply>(
     supply: &mut S,
     draft: &mut Draft,
     number: u64,
-    said: Said,
+    said: LineKind,
+    place: &ActionPlace,
     races: bool,
     later: &[&[u8]],
 ) -> Result<(), LineFault>
-    ensures ok { OnOk result ((spec.broken_by (context draft.old) (spec.may_race races (map (λ l. l.now) later.now)) (Ok said) ≡ None) ×
-        Hears draft.old number (Ok said) draft.new) }
-    ensures err { IfErr result (λ f. BreaksRule f (spec.broken_by (context draft.old) (spec.may_race races (map (λ l. l.now) later.now)) (Ok said))) }
+    ensures ok { OnOk result ((spec.broken_by (context draft.old) (spec.may_race races (map (λ l. l.now) later.now)) (Ok (said_by said (action_at place.now))) ≡ None) ×
+        Hears draft.old number (Ok (said_by said (action_at place.now))) draft.new) }
+    ensures err { IfErr result (λ f. BreaksRule f (spec.broken_by (context draft.old) (spec.may_race races (map (λ l. l.now) later.now)) (Ok (said_by said (action_at place.now))))) }
     ensures given { OnOk result (S.refused supply.new ≡ S.refused supply.old) }
     ensures memory { result ≡ Err LineFault.NoMemory → S.refused supply.new ≡ true }
 {
     match said {
-        Said::Nothing => Ok(()),
-        Said::Sets(setting) => {
+        LineKind::Nothing => Ok(()),
+        LineKind::Sets(setting) => {
             if draft.acted {
                 return Err(LineFault::Rule(4));
             }
@@ -77,12 +80,12 @@ fn hear<S: Supply>(
                 Err(ConfigFault::Rule(_)) => Err(LineFault::Rule(5)),
             }
         }
-        Said::Does(action) => {
-            draft.lines.add(supply, number, &action)?;
+        LineKind::Does => {
+            draft.lines.add(supply, number, place)?;
             draft.acted = true;
             Ok(())
         }
-        Said::Races(race) => {
+        LineKind::Races(race) => {
             if !may_race(races, later) {
                 return Err(LineFault::Rule(7));
             }
@@ -93,13 +96,15 @@ fn hear<S: Supply>(
     }
 }
 
-/// Takes one line, before these lines.
-fn take_line<S: Supply>(
+/// Takes one line, before these lines; its words are written to a list, and its action to a place.
+fn take_line<'a, S: Supply>(
     alloc: Global,
     supply: &mut S,
     draft: &mut Draft,
+    words: &mut Vec<&'a [u8]>,
+    place: &mut ActionPlace,
     number: u64,
-    line: &[u8],
+    line: &'a [u8],
     races: bool,
     later: &[&[u8]],
 ) -> Result<(), LineFault>
@@ -113,8 +118,8 @@ fn take_line<S: Supply>(
     if worded && !draft.begun && !begins(alloc, supply, line)? {
         return Err(LineFault::Rule(6));
     }
-    let said = say(alloc, supply, line)?;
-    hear(supply, draft, number, said, races, later)?;
+    let said = say(alloc, supply, words, place, line)?;
+    hear(supply, draft, number, said, place, races, later)?;
     draft.begun = draft.begun | worded;
     Ok(())
 }
@@ -131,11 +136,11 @@ fn bad_line(number: u64, fault: LineFault) -> ScriptBad
 }
 
 /// Takes all lines, or answers the first bad one.
-pub fn draft_of<S: Supply>(
+pub fn draft_of<'a, S: Supply>(
     alloc: Global,
     supply: &mut S,
     races: bool,
-    lines: &[&[u8]],
+    lines: &[&'a [u8]],
 ) -> Result<Draft, ScriptBad>
     ensures good { IfOk result (λ d. IsDraftOf races (map (λ l. l.now) lines.now) (length lines.now) d) }
     ensures bad { IfErr result (λ b. BadIn b races (map (λ l. l.now) lines.now)) }
@@ -149,10 +154,14 @@ pub fn draft_of<S: Supply>(
         lines: Lines::new(alloc),
         race: None,
     };
+    let mut words = Vec::new(alloc);
+    let mut place = ActionPlace::new();
     for (i, line) in lines.iter().enumerate() {
         let number = i as u64 + 1;
         let later = &lines[i + 1..];
-        match take_line(alloc, supply, &mut draft, number, line, races, later) {
+        match take_line(
+            alloc, supply, &mut draft, &mut words, &mut place, number, line, races, later,
+        ) {
             Ok(()) => {}
             Err(fault) => return Err(bad_line(number, fault)),
         }

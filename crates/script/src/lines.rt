@@ -1,10 +1,11 @@
 //! The lines of a script, packed over one arena of their bytes.
 
-ghost use Rattle.std.specs.Prelude.{◌≡◌, ◌++◌, ◌∷◌, [], true, OnOk, OnErr, length, slice_get};
+ghost use Rattle.std.specs.Prelude.{◌≡◌, ◌≤◌, ◌++◌, ◌∷◌, [], true, OnOk, OnErr, length, slice_get};
+ghost use Rattle.script_rows.specs.Places.{action_at};
 
 use crate::Line;
-use crate::kept::{KeptAction, KeptLine, action_bytes, push};
-use script_rows::Action;
+use crate::kept::{KeptLine, push};
+use script_rows::places::ActionPlace;
 use std::alloc::{AllocError, Global};
 use std::marker::Model;
 use supply::{Supply, extend};
@@ -26,6 +27,20 @@ impl Model for Lines {
     ghost view = { λ l. lines_at l.bytes.items l.kept.items };
 
     ghost invariant = { λ l. AllFit l.bytes.items l.kept.items };
+}
+
+/// These bytes more; none, of which most lines are, take no room.
+fn add_bytes<S: Supply>(supply: &mut S, list: &mut Vec<u8>, bytes: &[u8]) -> Result<(), AllocError>
+    requires { length bytes.now ≤ 256 }
+    ensures added { OnOk result (list.new.items ≡ list.old.items ++ bytes.now) }
+    ensures kept { OnErr result (list.new.items ≡ list.old.items) }
+    ensures given { OnOk result (S.refused supply.new ≡ S.refused supply.old) }
+    ensures memory { OnErr result (S.refused supply.new ≡ true) }
+{
+    match bytes {
+        [] => Ok(()),
+        [_, ..] => extend(supply, list, bytes),
+    }
 }
 
 impl Lines {
@@ -56,22 +71,22 @@ impl Lines {
         }
     }
 
-    /// Adds a line. Where the growth is refused the lines stay as they were.
+    /// Adds a line with the action that stands in a place. Where the growth is refused the lines stay as they were.
     pub fn add<S: Supply>(
         &mut self,
         supply: &mut S,
         number: u64,
-        action: &Action,
+        place: &ActionPlace,
     ) -> Result<(), AllocError>
-        ensures added { OnOk result (self.new ≡ self.old ++ record { number = number; action = action.now } ∷ []) }
+        ensures added { OnOk result (self.new ≡ self.old ++ record { number = number; action = action_at place.now } ∷ []) }
         ensures kept { OnErr result (self.new ≡ self.old) }
         ensures given { OnOk result (S.refused supply.new ≡ S.refused supply.old) }
         ensures memory { OnErr result (S.refused supply.new ≡ true) }
     {
         supply.reserve(&mut self.kept, 1)?;
         let start = self.bytes.len();
-        extend(supply, &mut self.bytes, action_bytes(action))?;
-        push(&mut self.kept, number, start, KeptAction::of(action));
+        add_bytes(supply, &mut self.bytes, place.bytes())?;
+        push(&mut self.kept, number, start, place.kept);
         Ok(())
     }
 }

@@ -1,16 +1,18 @@
 //! What one line says.
 
-ghost use Rattle.std.specs.Prelude.{◌≡◌, map, true, OnOk, MatchResult, Ok, Err};
+ghost use Rattle.std.specs.Prelude.{◌≡◌, nat_lt, map, true, OnOk, MatchResult, Ok, Err};
+ghost use Rattle.std.specs.List.{list_all};
 ghost use Rattle.std.specs.Str.{is_utf8};
 ghost use Rattle.script.specs.Saying as spec;
 ghost use Rattle.script_rows.specs.Faults.{FaultOf};
+ghost use Rattle.script_rows.specs.Places.{action_at};
 
-use crate::pieces::pieces;
-use script_rows::Action;
+use crate::pieces::pieces_to;
 use script_rows::actions::action_row;
+use script_rows::places::ActionPlace;
 use script_rows::race::{Race, race_row};
 use script_rows::settings::{Setting, setting_row};
-use script_rows::words::LineFault;
+use script_rows::words::{LineFault, is_name};
 use std::alloc::Global;
 use std::str::from_utf8;
 use supply::Supply;
@@ -18,32 +20,37 @@ use supply::Supply;
 /// The most bytes that a line has, without its line feed.
 const LINE_BYTES: usize = 1024;
 
-/// What one line says.
+/// What one line says; the action that it asks for stands in a place.
 #[derive(Drop)]
-pub enum Said {
+pub enum LineKind {
     Nothing,
     Sets(Setting),
-    Does(Action),
+    Does,
     Races(Race),
 }
 
 /// What the words of a line say that drives the machine, or the rule that they break.
-fn drive_said(word: &[u8], words: &[&[u8]]) -> Result<Said, u8>
-    ensures { result ≡ spec.drive_said word.now (map (λ w. w.now) words.now) }
+fn drive_said(place: &mut ActionPlace, word: &[u8], words: &[&[u8]]) -> Result<LineKind, u8>
+    ensures { spec.told_by result (action_at place.new) ≡ spec.drive_said word.now (map (λ w. w.now) words.now) }
 {
-    if word == b"race".as_slice() {
-        return Ok(Said::Races(race_row(words)?));
+    if is_name(word, b"race".as_slice()) {
+        return Ok(LineKind::Races(race_row(words)?));
     }
-    match action_row(word, words) {
-        Some(Ok(action)) => Ok(Said::Does(action)),
+    match action_row(place, word, words) {
+        Some(Ok(())) => Ok(LineKind::Does),
         Some(Err(rule)) => Err(rule),
         None => Err(1),
     }
 }
 
 /// What the words of a line say: by the first of them.
-fn words_say<S: Supply>(alloc: Global, supply: &mut S, words: &[&[u8]]) -> Result<Said, LineFault>
-    ensures says { MatchResult result (λ s. spec.words_say (map (λ w. w.now) words.now) ≡ Ok s)
+fn words_say<S: Supply>(
+    alloc: Global,
+    supply: &mut S,
+    place: &mut ActionPlace,
+    words: &[&[u8]],
+) -> Result<LineKind, LineFault>
+    ensures says { MatchResult result (λ k. spec.words_say (map (λ w. w.now) words.now) ≡ Ok (spec.said_by k (action_at place.new)))
         (λ f. FaultOf f (spec.words_say (map (λ w. w.now) words.now))) }
     ensures given { OnOk result (S.refused supply.new ≡ S.refused supply.old) }
     ensures memory { result ≡ Err LineFault.NoMemory → S.refused supply.new ≡ true }
@@ -52,9 +59,9 @@ fn words_say<S: Supply>(alloc: Global, supply: &mut S, words: &[&[u8]]) -> Resul
         return Err(LineFault::Rule(1));
     };
     match setting_row(alloc, supply, first, others) {
-        Some(Ok(setting)) => Ok(Said::Sets(setting)),
+        Some(Ok(setting)) => Ok(LineKind::Sets(setting)),
         Some(Err(fault)) => Err(fault),
-        None => drive_said(first, others).map_err(LineFault::Rule),
+        None => drive_said(place, first, others).map_err(LineFault::Rule),
     }
 }
 
@@ -68,18 +75,34 @@ pub fn has_words(line: &[u8]) -> bool
     }
 }
 
+/// Whether all bytes are of ASCII.
+fn is_plain(line: &[u8]) -> bool
+    ensures { result ≡ list_all (λ b. nat_lt b 128) line.now }
+{
+    line.iter().all(|byte| *byte < 128)
+}
+
 fn is_text(line: &[u8]) -> bool
     ensures { result ≡ is_utf8 line.now }
 {
+    if is_plain(line) {
+        return true;
+    }
     match from_utf8(line) {
         Ok(_) => true,
         Err(_) => false,
     }
 }
 
-/// What a line says, or the first of the rules 1 to 3 that it breaks.
-pub fn say<S: Supply>(alloc: Global, supply: &mut S, line: &[u8]) -> Result<Said, LineFault>
-    ensures says { MatchResult result (λ s. spec.said line.now ≡ Ok s) (λ f. FaultOf f (spec.said line.now)) }
+/// What a line says, its words in a list and its action in a place, or the first of the rules 1 to 3 that it breaks.
+pub fn say<'a, S: Supply>(
+    alloc: Global,
+    supply: &mut S,
+    words: &mut Vec<&'a [u8]>,
+    place: &mut ActionPlace,
+    line: &'a [u8],
+) -> Result<LineKind, LineFault>
+    ensures says { MatchResult result (λ k. spec.said line.now ≡ Ok (spec.said_by k (action_at place.new))) (λ f. FaultOf f (spec.said line.now)) }
     ensures given { OnOk result (S.refused supply.new ≡ S.refused supply.old) }
     ensures memory { result ≡ Err LineFault.NoMemory → S.refused supply.new ≡ true }
 {
@@ -87,10 +110,10 @@ pub fn say<S: Supply>(alloc: Global, supply: &mut S, line: &[u8]) -> Result<Said
         return Err(LineFault::Rule(3));
     }
     if !has_words(line) {
-        return Ok(Said::Nothing);
+        return Ok(LineKind::Nothing);
     }
-    let Ok(words) = pieces(alloc, supply, line, b' ') else {
+    if pieces_to(supply, words, line, b' ').is_err() {
         return Err(LineFault::NoMemory);
-    };
-    words_say(alloc, supply, words.as_slice())
+    }
+    words_say(alloc, supply, place, words.as_slice())
 }

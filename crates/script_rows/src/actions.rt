@@ -3,14 +3,16 @@
 ghost use Rattle.std.specs.Prelude.{◌≡◌, map, Some, None, Ok, Err};
 ghost use Rattle.script_rows.specs.Words.{number_up_to};
 ghost use Rattle.script_rows.specs.Actions as spec;
+ghost use Rattle.script_rows.specs.Places.{action_at, rows_at, row_at};
 
-use crate::Action;
 use crate::acts::act_row;
 use crate::paths::path_row;
-use crate::words::{hex_bytes, number, number_up_to, one, subchannel, three, two};
-use chan_events::event::{Event, Instruction, OtherInstruction};
+use crate::places::{ActionPlace, KeptAction};
+use crate::words::{hex_bytes, is_name, number, number_up_to, one, subchannel, three, two};
+use chan_events::event::{Instruction, OtherInstruction};
 use chan_model::chunk::ChunkLength;
 use chan_model::names::Cpu;
+use kept_events::events::KeptEvent;
 use storage_keys::key::Key;
 
 fn enable_row(words: &[&[u8]]) -> Result<Instruction, u8>
@@ -113,31 +115,31 @@ fn xsch_row(words: &[&[u8]]) -> Result<Instruction, u8>
 fn instruction_row(word: &[u8], words: &[&[u8]]) -> Option<Result<Instruction, u8>>
     ensures { result ≡ spec.instruction_row word.now (map (λ w. w.now) words.now) }
 {
-    if word == b"enable".as_slice() {
+    if is_name(word, b"enable".as_slice()) {
         return Some(enable_row(words));
     }
-    if word == b"ssch".as_slice() {
+    if is_name(word, b"ssch".as_slice()) {
         return Some(ssch_row(words));
     }
-    if word == b"tsch".as_slice() {
+    if is_name(word, b"tsch".as_slice()) {
         return Some(tsch_row(words));
     }
-    if word == b"stsch".as_slice() {
+    if is_name(word, b"stsch".as_slice()) {
         return Some(stsch_row(words));
     }
-    if word == b"msch".as_slice() {
+    if is_name(word, b"msch".as_slice()) {
         return Some(msch_row(words));
     }
-    if word == b"rsch".as_slice() {
+    if is_name(word, b"rsch".as_slice()) {
         return Some(rsch_row(words));
     }
-    if word == b"hsch".as_slice() {
+    if is_name(word, b"hsch".as_slice()) {
         return Some(hsch_row(words));
     }
-    if word == b"csch".as_slice() {
+    if is_name(word, b"csch".as_slice()) {
         return Some(csch_row(words));
     }
-    if word == b"xsch".as_slice() {
+    if is_name(word, b"xsch".as_slice()) {
         return Some(xsch_row(words));
     }
     None
@@ -183,16 +185,16 @@ fn stcps_row(words: &[&[u8]]) -> Result<OtherInstruction, u8>
 fn other_row(word: &[u8], words: &[&[u8]]) -> Option<Result<OtherInstruction, u8>>
     ensures { result ≡ spec.other_row word.now (map (λ w. w.now) words.now) }
 {
-    if word == b"tpi".as_slice() {
+    if is_name(word, b"tpi".as_slice()) {
         return Some(tpi_row(words));
     }
-    if word == b"rchp".as_slice() {
+    if is_name(word, b"rchp".as_slice()) {
         return Some(rchp_row(words));
     }
-    if word == b"stcrw".as_slice() {
+    if is_name(word, b"stcrw".as_slice()) {
         return Some(stcrw_row(words));
     }
-    if word == b"stcps".as_slice() {
+    if is_name(word, b"stcps".as_slice()) {
         return Some(stcps_row(words));
     }
     None
@@ -204,55 +206,71 @@ fn cpu_named(word: &[u8]) -> Option<Cpu>
     Cpu::new(number(word)?)
 }
 
-fn on_cpu(cpu: Option<Cpu>, said: Result<Instruction, u8>) -> Result<Action, u8>
-    ensures { result ≡ spec.on_cpu cpu said }
+fn on_cpu(
+    place: &mut ActionPlace,
+    cpu: Option<Cpu>,
+    said: Result<Instruction, u8>,
+) -> Result<(), u8>
+    ensures { row_at result (action_at place.new) ≡ spec.on_cpu cpu said }
 {
     let instruction = said?;
     let cpu = cpu.ok_or(3)?;
-    Ok(Action::Event(Event::Execute { cpu, instruction }))
+    place.kept = KeptAction::Event(KeptEvent::Execute { cpu, instruction });
+    Ok(())
 }
 
-fn other_on_cpu(cpu: Option<Cpu>, said: Result<OtherInstruction, u8>) -> Result<Action, u8>
-    ensures { result ≡ spec.other_on_cpu cpu said }
+fn other_on_cpu(
+    place: &mut ActionPlace,
+    cpu: Option<Cpu>,
+    said: Result<OtherInstruction, u8>,
+) -> Result<(), u8>
+    ensures { row_at result (action_at place.new) ≡ spec.other_on_cpu cpu said }
 {
     let instruction = said?;
     let cpu = cpu.ok_or(3)?;
-    Ok(Action::Event(Event::ExecuteOther { cpu, instruction }))
+    place.kept = KeptAction::Event(KeptEvent::ExecuteOther { cpu, instruction });
+    Ok(())
 }
 
 /// What a CPU executes, where a line's first word names an instruction.
-fn executed_row(cpu: Option<Cpu>, word: &[u8], words: &[&[u8]]) -> Option<Result<Action, u8>>
-    ensures { result ≡ spec.executed_row cpu word.now (map (λ w. w.now) words.now) }
+fn executed_row(
+    place: &mut ActionPlace,
+    cpu: Option<Cpu>,
+    word: &[u8],
+    words: &[&[u8]],
+) -> Option<Result<(), u8>>
+    ensures { rows_at result (action_at place.new) ≡ spec.executed_row cpu word.now (map (λ w. w.now) words.now) }
 {
     match instruction_row(word, words) {
-        Some(said) => Some(on_cpu(cpu, said)),
+        Some(said) => Some(on_cpu(place, cpu, said)),
         None => match other_row(word, words) {
-            Some(said) => Some(other_on_cpu(cpu, said)),
+            Some(said) => Some(other_on_cpu(place, cpu, said)),
             None => None,
         },
     }
 }
 
-fn cpu_row(words: &[&[u8]]) -> Result<Action, u8>
-    ensures { result ≡ spec.cpu_row (map (λ w. w.now) words.now) }
+fn cpu_row(place: &mut ActionPlace, words: &[&[u8]]) -> Result<(), u8>
+    ensures { row_at result (action_at place.new) ≡ spec.cpu_row (map (λ w. w.now) words.now) }
 {
     match words {
         [] => Err(1),
         [_] => Err(1),
-        [cpu, word, others @ ..] => match executed_row(cpu_named(cpu), word, others) {
+        [cpu, word, others @ ..] => match executed_row(place, cpu_named(cpu), word, others) {
             Some(said) => said,
             None => Err(1),
         },
     }
 }
 
-fn put_row(words: &[&[u8]]) -> Result<Action, u8>
-    ensures { result ≡ spec.put_row (map (λ w. w.now) words.now) }
+fn put_row(place: &mut ActionPlace, words: &[&[u8]]) -> Result<(), u8>
+    ensures { row_at result (action_at place.new) ≡ spec.put_row (map (λ w. w.now) words.now) }
 {
     let (address, bytes) = two(words).ok_or(2)?;
     let address = number(address).ok_or(3)?;
     let bytes = hex_bytes(bytes).ok_or(3)?;
-    Ok(Action::Event(Event::Put { address, bytes }))
+    place.put(address, &bytes);
+    Ok(())
 }
 
 fn key_named(word: &[u8]) -> Option<Key>
@@ -266,22 +284,24 @@ fn key_named(word: &[u8]) -> Option<Key>
     }
 }
 
-fn key_row(words: &[&[u8]]) -> Result<Action, u8>
-    ensures { result ≡ spec.key_row (map (λ w. w.now) words.now) }
+fn key_row(place: &mut ActionPlace, words: &[&[u8]]) -> Result<(), u8>
+    ensures { row_at result (action_at place.new) ≡ spec.key_row (map (λ w. w.now) words.now) }
 {
     let (address, key) = two(words).ok_or(2)?;
     let address = number(address).ok_or(3)?;
     let key = key_named(key).ok_or(3)?;
-    Ok(Action::Event(Event::SetKey { address, key }))
+    place.kept = KeptAction::Event(KeptEvent::SetKey { address, key });
+    Ok(())
 }
 
-fn prefix_row(words: &[&[u8]]) -> Result<Action, u8>
-    ensures { result ≡ spec.prefix_row (map (λ w. w.now) words.now) }
+fn prefix_row(place: &mut ActionPlace, words: &[&[u8]]) -> Result<(), u8>
+    ensures { row_at result (action_at place.new) ≡ spec.prefix_row (map (λ w. w.now) words.now) }
 {
     let (cpu, address) = two(words).ok_or(2)?;
     let cpu = cpu_named(cpu).ok_or(3)?;
     let address = number(address).ok_or(3)?;
-    Ok(Action::Event(Event::SetPrefix { cpu, address }))
+    place.kept = KeptAction::Event(KeptEvent::SetPrefix { cpu, address });
+    Ok(())
 }
 
 /// 1 to 40 (hexadecimal) bytes.
@@ -296,122 +316,128 @@ fn show_length(word: &[u8]) -> Option<ChunkLength>
     }
 }
 
-fn show_row(words: &[&[u8]]) -> Result<Action, u8>
-    ensures { result ≡ spec.show_row (map (λ w. w.now) words.now) }
+fn show_row(place: &mut ActionPlace, words: &[&[u8]]) -> Result<(), u8>
+    ensures { row_at result (action_at place.new) ≡ spec.show_row (map (λ w. w.now) words.now) }
 {
     let (address, length) = two(words).ok_or(2)?;
     let address = number(address).ok_or(3)?;
     let length = show_length(length).ok_or(3)?;
-    Ok(Action::Event(Event::Show { address, length }))
+    place.kept = KeptAction::Event(KeptEvent::Show { address, length });
+    Ok(())
 }
 
-fn choose_row(words: &[&[u8]]) -> Result<Action, u8>
-    ensures { result ≡ spec.choose_row (map (λ w. w.now) words.now) }
+fn choose_row(place: &mut ActionPlace, words: &[&[u8]]) -> Result<(), u8>
+    ensures { row_at result (action_at place.new) ≡ spec.choose_row (map (λ w. w.now) words.now) }
 {
     let word = one(words).ok_or(2)?;
     let subchannel = subchannel(word).ok_or(3)?;
-    Ok(Action::Event(Event::Choose { subchannel }))
+    place.kept = KeptAction::Event(KeptEvent::Choose { subchannel });
+    Ok(())
 }
 
-fn up_row(words: &[&[u8]]) -> Result<Action, u8>
-    ensures { result ≡ spec.up_row (map (λ w. w.now) words.now) }
+fn up_row(place: &mut ActionPlace, words: &[&[u8]]) -> Result<(), u8>
+    ensures { row_at result (action_at place.new) ≡ spec.up_row (map (λ w. w.now) words.now) }
 {
     let (word, path) = two(words).ok_or(2)?;
     let subchannel = subchannel(word).ok_or(3)?;
     let path = number(path).ok_or(3)?;
-    Ok(Action::Event(Event::Up { subchannel, path }))
+    place.kept = KeptAction::Event(KeptEvent::Up { subchannel, path });
+    Ok(())
 }
 
-fn down_row(words: &[&[u8]]) -> Result<Action, u8>
-    ensures { result ≡ spec.down_row (map (λ w. w.now) words.now) }
+fn down_row(place: &mut ActionPlace, words: &[&[u8]]) -> Result<(), u8>
+    ensures { row_at result (action_at place.new) ≡ spec.down_row (map (λ w. w.now) words.now) }
 {
     let (word, path) = two(words).ok_or(2)?;
     let subchannel = subchannel(word).ok_or(3)?;
     let path = number(path).ok_or(3)?;
-    Ok(Action::Event(Event::Down { subchannel, path }))
+    place.kept = KeptAction::Event(KeptEvent::Down { subchannel, path });
+    Ok(())
 }
 
-fn dev_row(words: &[&[u8]]) -> Result<Action, u8>
-    ensures { result ≡ spec.dev_row (map (λ w. w.now) words.now) }
+fn dev_row(place: &mut ActionPlace, words: &[&[u8]]) -> Result<(), u8>
+    ensures { row_at result (action_at place.new) ≡ spec.dev_row (map (λ w. w.now) words.now) }
 {
     let unit = one(words).ok_or(2)?;
     let unit = number(unit).ok_or(3)?;
-    Ok(Action::Dev(unit))
+    place.kept = KeptAction::Dev(unit);
+    Ok(())
 }
 
-fn glance_row(words: &[&[u8]]) -> Result<Action, u8>
-    ensures { result ≡ spec.glance_row (map (λ w. w.now) words.now) }
+fn glance_row(place: &mut ActionPlace, words: &[&[u8]]) -> Result<(), u8>
+    ensures { row_at result (action_at place.new) ≡ spec.glance_row (map (λ w. w.now) words.now) }
 {
     let word = one(words).ok_or(2)?;
     let subchannel = subchannel(word).ok_or(3)?;
-    Ok(Action::Glance(subchannel))
+    place.kept = KeptAction::Glance(subchannel);
+    Ok(())
 }
 
 /// The lines that set and show storage.
-fn storage_row(word: &[u8], words: &[&[u8]]) -> Option<Result<Action, u8>>
-    ensures { result ≡ spec.storage_row word.now (map (λ w. w.now) words.now) }
+fn storage_row(place: &mut ActionPlace, word: &[u8], words: &[&[u8]]) -> Option<Result<(), u8>>
+    ensures { rows_at result (action_at place.new) ≡ spec.storage_row word.now (map (λ w. w.now) words.now) }
 {
-    if word == b"put".as_slice() {
-        return Some(put_row(words));
+    if is_name(word, b"put".as_slice()) {
+        return Some(put_row(place, words));
     }
-    if word == b"key".as_slice() {
-        return Some(key_row(words));
+    if is_name(word, b"key".as_slice()) {
+        return Some(key_row(place, words));
     }
-    if word == b"prefix".as_slice() {
-        return Some(prefix_row(words));
+    if is_name(word, b"prefix".as_slice()) {
+        return Some(prefix_row(place, words));
     }
-    if word == b"show".as_slice() {
-        return Some(show_row(words));
+    if is_name(word, b"show".as_slice()) {
+        return Some(show_row(place, words));
     }
     None
 }
 
 /// The lines of the subsystem and its devices.
-fn subsystem_row(word: &[u8], words: &[&[u8]]) -> Option<Result<Action, u8>>
-    ensures { result ≡ spec.subsystem_row word.now (map (λ w. w.now) words.now) }
+fn subsystem_row(place: &mut ActionPlace, word: &[u8], words: &[&[u8]]) -> Option<Result<(), u8>>
+    ensures { rows_at result (action_at place.new) ≡ spec.subsystem_row word.now (map (λ w. w.now) words.now) }
 {
-    if word == b"cpu".as_slice() {
-        return Some(cpu_row(words));
+    if is_name(word, b"cpu".as_slice()) {
+        return Some(cpu_row(place, words));
     }
-    if word == b"choose".as_slice() {
-        return Some(choose_row(words));
+    if is_name(word, b"choose".as_slice()) {
+        return Some(choose_row(place, words));
     }
-    if word == b"up".as_slice() {
-        return Some(up_row(words));
+    if is_name(word, b"up".as_slice()) {
+        return Some(up_row(place, words));
     }
-    if word == b"down".as_slice() {
-        return Some(down_row(words));
+    if is_name(word, b"down".as_slice()) {
+        return Some(down_row(place, words));
     }
-    if word == b"dev".as_slice() {
-        return Some(dev_row(words));
+    if is_name(word, b"dev".as_slice()) {
+        return Some(dev_row(place, words));
     }
-    if word == b"glance".as_slice() {
-        return Some(glance_row(words));
+    if is_name(word, b"glance".as_slice()) {
+        return Some(glance_row(place, words));
     }
     None
 }
 
-fn event_row(word: &[u8], words: &[&[u8]]) -> Option<Result<Action, u8>>
-    ensures { result ≡ spec.event_row word.now (map (λ w. w.now) words.now) }
+fn event_row(place: &mut ActionPlace, word: &[u8], words: &[&[u8]]) -> Option<Result<(), u8>>
+    ensures { rows_at result (action_at place.new) ≡ spec.event_row word.now (map (λ w. w.now) words.now) }
 {
-    match storage_row(word, words) {
+    match storage_row(place, word, words) {
         Some(said) => Some(said),
-        None => match subsystem_row(word, words) {
+        None => match subsystem_row(place, word, words) {
             Some(said) => Some(said),
-            None => match act_row(word, words) {
+            None => match act_row(place, word, words) {
                 Some(said) => Some(said),
-                None => path_row(word, words),
+                None => path_row(place, word, words),
             },
         },
     }
 }
 
-/// What a line's words ask the machine for, where its first word is known. An instruction without `cpu` is of CPU 0.
-pub fn action_row(word: &[u8], words: &[&[u8]]) -> Option<Result<Action, u8>>
-    ensures { result ≡ spec.action_row word.now (map (λ w. w.now) words.now) }
+/// Writes to a place what a line's words ask the machine for, where its first word is known. An instruction without `cpu` is of CPU 0.
+pub fn action_row(place: &mut ActionPlace, word: &[u8], words: &[&[u8]]) -> Option<Result<(), u8>>
+    ensures { rows_at result (action_at place.new) ≡ spec.action_row word.now (map (λ w. w.now) words.now) }
 {
-    match executed_row(Cpu::new(0), word, words) {
+    match executed_row(place, Cpu::new(0), word, words) {
         Some(said) => Some(said),
-        None => event_row(word, words),
+        None => event_row(place, word, words),
     }
 }

@@ -2,33 +2,37 @@
 
 ghost use Rattle.std.specs.Prelude.{◌≡◌, map};
 ghost use Rattle.script_rows.specs.Actions as spec;
+ghost use Rattle.script_rows.specs.Places.{action_at, rows_at, row_at};
 
-use crate::Action;
-use crate::words::{number, number_up_to, one, two};
-use chan_events::event::{Event, UnitAct};
+use crate::places::{ActionPlace, KeptAction};
+use crate::words::{is_name, number, number_up_to, one, two};
+use chan_events::event::UnitAct;
 use chan_model::names::Side;
+use kept_events::events::KeptEvent;
 
-fn leave_row(words: &[&[u8]]) -> Result<Action, u8>
-    ensures { result ≡ spec.leave_row (map (λ w. w.now) words.now) }
+fn leave_row(place: &mut ActionPlace, words: &[&[u8]]) -> Result<(), u8>
+    ensures { row_at result (action_at place.new) ≡ spec.leave_row (map (λ w. w.now) words.now) }
 {
     let unit = one(words).ok_or(2)?;
     let unit = number(unit).ok_or(3)?;
-    Ok(Action::Event(Event::Act {
+    place.kept = KeptAction::Event(KeptEvent::Act {
         unit,
         act: UnitAct::Leave,
-    }))
+    });
+    Ok(())
 }
 
-fn ask_row(words: &[&[u8]]) -> Result<Action, u8>
-    ensures { result ≡ spec.ask_row (map (λ w. w.now) words.now) }
+fn ask_row(place: &mut ActionPlace, words: &[&[u8]]) -> Result<(), u8>
+    ensures { row_at result (action_at place.new) ≡ spec.ask_row (map (λ w. w.now) words.now) }
 {
     let (unit, path) = two(words).ok_or(2)?;
     let unit = number(unit).ok_or(3)?;
     let path = number(path).ok_or(3)?;
-    Ok(Action::Event(Event::Act {
+    place.kept = KeptAction::Event(KeptEvent::Act {
         unit,
         act: UnitAct::Ask { path },
-    }))
+    });
+    Ok(())
 }
 
 fn side_named(word: &[u8]) -> Option<Side>
@@ -64,52 +68,55 @@ fn side_row(words: &[&[u8]]) -> Result<(u32, u32, Side), u8>
     }
 }
 
-fn attn_row(words: &[&[u8]]) -> Result<Action, u8>
-    ensures { result ≡ spec.attn_row (map (λ w. w.now) words.now) }
+fn attn_row(place: &mut ActionPlace, words: &[&[u8]]) -> Result<(), u8>
+    ensures { row_at result (action_at place.new) ≡ spec.attn_row (map (λ w. w.now) words.now) }
 {
     let (unit, path, side) = side_row(words)?;
-    Ok(Action::Event(Event::Act {
+    place.kept = KeptAction::Event(KeptEvent::Act {
         unit,
         act: UnitAct::Attention { path, side },
-    }))
+    });
+    Ok(())
 }
 
-fn notice_row(words: &[&[u8]]) -> Result<Action, u8>
-    ensures { result ≡ spec.notice_row (map (λ w. w.now) words.now) }
+fn notice_row(place: &mut ActionPlace, words: &[&[u8]]) -> Result<(), u8>
+    ensures { row_at result (action_at place.new) ≡ spec.notice_row (map (λ w. w.now) words.now) }
 {
     let (unit, path, side) = side_row(words)?;
-    Ok(Action::Event(Event::Act {
+    place.kept = KeptAction::Event(KeptEvent::Act {
         unit,
         act: UnitAct::Notice { path, side },
-    }))
+    });
+    Ok(())
 }
 
-fn restart_row(words: &[&[u8]]) -> Result<Action, u8>
-    ensures { result ≡ spec.restart_row (map (λ w. w.now) words.now) }
+fn restart_row(place: &mut ActionPlace, words: &[&[u8]]) -> Result<(), u8>
+    ensures { row_at result (action_at place.new) ≡ spec.restart_row (map (λ w. w.now) words.now) }
 {
     let unit = one(words).ok_or(2)?;
     let unit = number(unit).ok_or(3)?;
-    Ok(Action::Event(Event::Restart { unit }))
+    place.kept = KeptAction::Event(KeptEvent::Restart { unit });
+    Ok(())
 }
 
 /// The lines of what units do of themselves.
-pub fn act_row(word: &[u8], words: &[&[u8]]) -> Option<Result<Action, u8>>
-    ensures { result ≡ spec.act_row word.now (map (λ w. w.now) words.now) }
+pub fn act_row(place: &mut ActionPlace, word: &[u8], words: &[&[u8]]) -> Option<Result<(), u8>>
+    ensures { rows_at result (action_at place.new) ≡ spec.act_row word.now (map (λ w. w.now) words.now) }
 {
-    if word == b"leave".as_slice() {
-        return Some(leave_row(words));
+    if is_name(word, b"leave".as_slice()) {
+        return Some(leave_row(place, words));
     }
-    if word == b"ask".as_slice() {
-        return Some(ask_row(words));
+    if is_name(word, b"ask".as_slice()) {
+        return Some(ask_row(place, words));
     }
-    if word == b"attn".as_slice() {
-        return Some(attn_row(words));
+    if is_name(word, b"attn".as_slice()) {
+        return Some(attn_row(place, words));
     }
-    if word == b"notice".as_slice() {
-        return Some(notice_row(words));
+    if is_name(word, b"notice".as_slice()) {
+        return Some(notice_row(place, words));
     }
-    if word == b"restart".as_slice() {
-        return Some(restart_row(words));
+    if is_name(word, b"restart".as_slice()) {
+        return Some(restart_row(place, words));
     }
     None
 }

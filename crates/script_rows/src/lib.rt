@@ -4,6 +4,7 @@
 pub mod actions;
 mod acts;
 mod paths;
+pub mod places;
 pub mod race;
 pub mod settings;
 pub mod words;

@@ -2,59 +2,66 @@
 
 ghost use Rattle.std.specs.Prelude.{◌≡◌, map};
 ghost use Rattle.script_rows.specs.Actions as spec;
+ghost use Rattle.script_rows.specs.Places.{action_at, rows_at, row_at};
 
-use crate::Action;
-use crate::words::{number, one};
-use chan_events::event::Event;
+use crate::places::{ActionPlace, KeptAction};
+use crate::words::{is_name, number, one};
+use kept_events::events::KeptEvent;
 
-fn pathdown_row(words: &[&[u8]]) -> Result<Action, u8>
-    ensures { result ≡ spec.pathdown_row (map (λ w. w.now) words.now) }
+fn pathdown_row(place: &mut ActionPlace, words: &[&[u8]]) -> Result<(), u8>
+    ensures { row_at result (action_at place.new) ≡ spec.pathdown_row (map (λ w. w.now) words.now) }
 {
     let chpid = one(words).ok_or(2)?;
     let chpid = number(chpid).ok_or(3)?;
-    Ok(Action::Event(Event::PathDown { chpid }))
+    place.kept = KeptAction::Event(KeptEvent::PathDown { chpid });
+    Ok(())
 }
 
-fn pathup_row(words: &[&[u8]]) -> Result<Action, u8>
-    ensures { result ≡ spec.pathup_row (map (λ w. w.now) words.now) }
+fn pathup_row(place: &mut ActionPlace, words: &[&[u8]]) -> Result<(), u8>
+    ensures { row_at result (action_at place.new) ≡ spec.pathup_row (map (λ w. w.now) words.now) }
 {
     let chpid = one(words).ok_or(2)?;
     let chpid = number(chpid).ok_or(3)?;
-    Ok(Action::Event(Event::PathUp { chpid }))
+    place.kept = KeptAction::Event(KeptEvent::PathUp { chpid });
+    Ok(())
 }
 
-fn pathreset_row(words: &[&[u8]]) -> Result<Action, u8>
-    ensures { result ≡ spec.pathreset_row (map (λ w. w.now) words.now) }
+fn pathreset_row(place: &mut ActionPlace, words: &[&[u8]]) -> Result<(), u8>
+    ensures { row_at result (action_at place.new) ≡ spec.pathreset_row (map (λ w. w.now) words.now) }
 {
     let chpid = one(words).ok_or(2)?;
     let chpid = number(chpid).ok_or(3)?;
-    Ok(Action::Event(Event::PathReset { chpid }))
+    place.kept = KeptAction::Event(KeptEvent::PathReset { chpid });
+    Ok(())
 }
 
-fn sysreset_row(words: &[&[u8]]) -> Result<Action, u8>
-    ensures { result ≡ spec.sysreset_row (map (λ w. w.now) words.now) }
+fn sysreset_row(place: &mut ActionPlace, words: &[&[u8]]) -> Result<(), u8>
+    ensures { row_at result (action_at place.new) ≡ spec.sysreset_row (map (λ w. w.now) words.now) }
 {
     match words {
-        [] => Ok(Action::Event(Event::SystemReset)),
+        [] => {
+            place.kept = KeptAction::Event(KeptEvent::SystemReset);
+            Ok(())
+        }
         [_, ..] => Err(2),
     }
 }
 
 /// The lines of channel paths, and of the reset of the channel subsystem.
-pub fn path_row(word: &[u8], words: &[&[u8]]) -> Option<Result<Action, u8>>
-    ensures { result ≡ spec.path_row word.now (map (λ w. w.now) words.now) }
+pub fn path_row(place: &mut ActionPlace, word: &[u8], words: &[&[u8]]) -> Option<Result<(), u8>>
+    ensures { rows_at result (action_at place.new) ≡ spec.path_row word.now (map (λ w. w.now) words.now) }
 {
-    if word == b"pathdown".as_slice() {
-        return Some(pathdown_row(words));
+    if is_name(word, b"pathdown".as_slice()) {
+        return Some(pathdown_row(place, words));
     }
-    if word == b"pathup".as_slice() {
-        return Some(pathup_row(words));
+    if is_name(word, b"pathup".as_slice()) {
+        return Some(pathup_row(place, words));
     }
-    if word == b"pathreset".as_slice() {
-        return Some(pathreset_row(words));
+    if is_name(word, b"pathreset".as_slice()) {
+        return Some(pathreset_row(place, words));
     }
-    if word == b"sysreset".as_slice() {
-        return Some(sysreset_row(words));
+    if is_name(word, b"sysreset".as_slice()) {
+        return Some(sysreset_row(place, words));
     }
     None
 }

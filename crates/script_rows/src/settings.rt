@@ -5,7 +5,7 @@ ghost use Rattle.script_rows.specs.Settings as spec;
 ghost use Rattle.script_rows.specs.Faults.{FaultOf, Says};
 ghost use Rattle.channel_config.specs.Refusing.{Configures};
 
-use crate::words::{LineFault, Numbers, number, numbers_of, one, subchannel, two};
+use crate::words::{LineFault, Numbers, is_name, number, numbers_of, one, subchannel, two};
 use channel_config::config::{Config, ConfigFault};
 use channel_config::parts::UnitKind;
 use std::alloc::Global;
@@ -41,11 +41,11 @@ pub enum Setting {
 fn kind_named(word: &[u8]) -> Option<UnitKind>
     ensures { result ≡ spec.kind_named word.now }
 {
-    if word == b"block".as_slice() {
+    if is_name(word, b"block".as_slice()) {
         Some(UnitKind::Block)
-    } else if word == b"console".as_slice() {
+    } else if is_name(word, b"console".as_slice()) {
         Some(UnitKind::Console)
-    } else if word == b"reject".as_slice() {
+    } else if is_name(word, b"reject".as_slice()) {
         Some(UnitKind::Rejecting)
     } else {
         None
@@ -154,22 +154,22 @@ pub fn setting_row<S: Supply>(
         (λ s. OnOk s (S.refused supply.new ≡ S.refused supply.old)) }
     ensures memory { IfSome result (λ s. s ≡ Err LineFault.NoMemory → S.refused supply.new ≡ true) }
 {
-    if word == b"storage".as_slice() {
+    if is_name(word, b"storage".as_slice()) {
         return Some(ruled(storage_row(words)));
     }
-    if word == b"sets".as_slice() {
+    if is_name(word, b"sets".as_slice()) {
         return Some(ruled(sets_row(words)));
     }
-    if word == b"path".as_slice() {
+    if is_name(word, b"path".as_slice()) {
         return Some(ruled(path_row(words)));
     }
-    if word == b"unit".as_slice() {
+    if is_name(word, b"unit".as_slice()) {
         return Some(ruled(unit_row(words)));
     }
-    if word == b"share".as_slice() {
+    if is_name(word, b"share".as_slice()) {
         return Some(share_row(alloc, supply, words));
     }
-    if word == b"sub".as_slice() {
+    if is_name(word, b"sub".as_slice()) {
         return Some(sub_row(alloc, supply, words));
     }
     None

@@ -1,6 +1,7 @@
 //! What a word of a line stands for.
 
 ghost use Rattle.std.specs.Prelude.{◌≡◌, ◌<◌, ◌≤◌, [], ◌∷◌, ◌++◌, map, length, true, IfSome, OnOk, IfErr, MatchOption, MatchResult, Some, None, Ok, Err};
+ghost use Rattle.std.specs.Str.{bytes_eq};
 ghost use Rattle.script_rows.specs.Words as spec;
 ghost use Rattle.script_rows.specs.Faults.{FaultOf};
 
@@ -69,6 +70,32 @@ impl Numbers {
         ensures { result.now ≡ self.now }
     {
         self.numbers.as_slice()
+    }
+}
+
+/// Whether the bytes of a word are those of a name that is as long.
+fn is_same(word: &[u8], name: &[u8]) -> bool
+    requires { length word.now ≡ length name.now }
+    ensures { result ≡ bytes_eq word.now name.now }
+{
+    for (i, byte) in word.iter().enumerate() {
+        if *byte != name[i] {
+            return false;
+        }
+    }
+    true
+}
+
+/// Whether a word is this name: its length and its first byte tell most others apart.
+#[inline(always)]
+pub fn is_name(word: &[u8], name: &[u8]) -> bool
+    ensures { result ≡ bytes_eq word.now name.now }
+{
+    match (word, name) {
+        ([first, ..], [letter, ..]) => {
+            word.len() == name.len() && *first == *letter && is_same(word, name)
+        }
+        _ => word == name,
     }
 }
 

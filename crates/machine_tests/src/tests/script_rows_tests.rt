@@ -5,6 +5,7 @@ use chan_model::names::Side;
 use channel_config::config::Config;
 use script_rows::Action;
 use script_rows::actions::action_row;
+use script_rows::places::ActionPlace;
 use script_rows::settings::{configure, setting_row};
 use script_rows::words::LineFault;
 use std::alloc::{AllocError, Global};
@@ -67,12 +68,14 @@ const DRIVING: [(&[u8], &[u8], [u32; 4]); 5] = [
 
 #[test]
 fn driving_lines_are_read(rt: HostRuntime) -> Result<(), AllocError> {
+    let mut place = ActionPlace::new();
     for (line, name, numbers) in DRIVING {
         let words = words_of(rt.alloc(), line)?;
         match words.as_slice() {
             [] => assert!(rt; false),
-            [first, others @ ..] => match action_row(first, others) {
-                Some(Ok(action)) => {
+            [first, others @ ..] => match action_row(&mut place, first, others) {
+                Some(Ok(())) => {
+                    let action = place.kept.with(place.bytes());
                     let (kind, said) = shown(&action);
                     assert!(rt; kind == name);
                     assert!(rt; said == numbers);
@@ -89,11 +92,12 @@ const WRONG: [(&[u8], u8); 3] = [(b"cpu 1 up 0 0", 1), (b"up 0 0 0", 2), (b"show
 
 #[test]
 fn wrong_driving_lines_break_a_rule(rt: HostRuntime) -> Result<(), AllocError> {
+    let mut place = ActionPlace::new();
     for (line, rule) in WRONG {
         let words = words_of(rt.alloc(), line)?;
         match words.as_slice() {
             [] => assert!(rt; false),
-            [first, others @ ..] => match action_row(first, others) {
+            [first, others @ ..] => match action_row(&mut place, first, others) {
                 Some(Err(broken)) => assert!(rt; broken == rule),
                 _ => assert!(rt; false),
             },

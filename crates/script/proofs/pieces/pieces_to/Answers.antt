@@ -1,6 +1,6 @@
 use Rattle.std.proofs.Common.{rules, ◌∙◌, sym}
 use Rattle.script.proofs.Parting.{ended, parted, behind, nothing, cut, whole}
-use Rattle.script.proofs.pieces.pieces.Goals as goal
+use Rattle.script.proofs.pieces.pieces_to.Goals as goal
 
 pub returns-in-empty-clause-parts : goal.returns-in-empty-clause-parts
 returns-in-empty-clause-parts g c =
