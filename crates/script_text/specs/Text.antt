@@ -180,6 +180,11 @@ outcome_text (Err it) = refusal_text it
 abbrev pub event_line : ℕ → Result ActionResult Fault → List ℕ
 event_line n outcome = decimal n ++ 32 ∷ outcome_text outcome ++ 10 ∷ []
 
+-- what an event comes to, as an action
+abbrev pub told_of : Result Reply Fault → Result ActionResult Fault
+told_of (Ok r) = Ok (told.Reply r)
+told_of (Err f) = Err f
+
 -- the line of a bad script
 abbrev pub bad_text : ℕ → ℕ → List ℕ
 bad_text line rule = codes "bad line " ++ decimal line ++ codes " rule " ++ decimal rule ++ 10 ∷ []

@@ -10,9 +10,11 @@ ghost use Rattle.chan_model.specs.ConditionCodes as codes_spec;
 ghost use Rattle.script_text.specs.Text as spec;
 ghost use Rattle.streams.specs.Sinks.{Puts};
 
+mod answered;
 pub mod held;
 mod race;
 
+pub use crate::answered::put_answer_line_at_once;
 use crate::held::Held;
 use crate::race::put_race;
 use chan_events::reply::{PATH_STATUS_BYTES, Reply, report_word};
@@ -55,7 +57,7 @@ fn hex_digit(digit: u8) -> u8
 }
 
 /// A number in decimal digits.
-fn put_decimal<S: Sink>(sink: &mut S, number: u64) -> bool
+pub(crate) fn put_decimal<S: Sink>(sink: &mut S, number: u64) -> bool
     ensures { Puts (S.seen sink.old) (decimal number) (S.seen sink.new) result }
 {
     sink.put(Buffer::new().format(number).as_bytes())
@@ -63,7 +65,7 @@ fn put_decimal<S: Sink>(sink: &mut S, number: u64) -> bool
 
 /// A name and a number.
 #[tactic(auto, using(streams::proofs::Sinking::takes_then, streams::proofs::Sinking::fails_then))]
-fn put_named<S: Sink>(sink: &mut S, name: &[u8], number: u64) -> bool
+pub(crate) fn put_named<S: Sink>(sink: &mut S, name: &[u8], number: u64) -> bool
     ensures { Puts (S.seen sink.old) (name.now ++ decimal number) (S.seen sink.new) result }
 {
     sink.put(name) && put_decimal(sink, number)
@@ -77,7 +79,7 @@ fn put_byte<S: Sink>(sink: &mut S, byte: u8) -> bool
     sink.put(&digits)
 }
 
-fn put_bytes<S: Sink>(sink: &mut S, bytes: &[u8]) -> bool
+pub(crate) fn put_bytes<S: Sink>(sink: &mut S, bytes: &[u8]) -> bool
     ensures { Puts (S.seen sink.old) (flat_map spec.byte_text bytes.now) (S.seen sink.new) result }
 {
     for byte in bytes {
@@ -123,7 +125,7 @@ fn put_scsw<S: Sink>(sink: &mut S, scsw: &Scsw) -> bool
     put_words(sink, &scsw.words())
 }
 
-fn put_code<S: Sink>(sink: &mut S, code: ConditionCode) -> bool
+pub(crate) fn put_code<S: Sink>(sink: &mut S, code: ConditionCode) -> bool
     ensures { Puts (S.seen sink.old) (spec.code_text code) (S.seen sink.new) result }
 {
     sink.put(match code {
@@ -134,7 +136,7 @@ fn put_code<S: Sink>(sink: &mut S, code: ConditionCode) -> bool
     })
 }
 
-fn put_answer<S: Sink>(sink: &mut S, answer: Answer) -> bool
+pub(crate) fn put_answer<S: Sink>(sink: &mut S, answer: Answer) -> bool
     ensures { Puts (S.seen sink.old) (spec.answer_text answer) (S.seen sink.new) result }
 {
     put_code(sink, answer.code())
@@ -154,7 +156,7 @@ fn put_request<S: Sink>(sink: &mut S, code: &IntCode) -> bool
 }
 
 /// What TEST PENDING INTERRUPTION answered.
-fn put_interruption<S: Sink>(sink: &mut S, found: &Option<IntCode>) -> bool
+pub(crate) fn put_interruption<S: Sink>(sink: &mut S, found: &Option<IntCode>) -> bool
     ensures { Puts (S.seen sink.old) (spec.interruption_text found.now) (S.seen sink.new) result }
 {
     match found {
@@ -174,7 +176,7 @@ fn stcrw_code(report: Option<Crw>) -> ConditionCode
 
 /// What STORE CHANNEL REPORT WORD answered: its condition code, and the word that it stored.
 #[tactic(auto, using(streams::proofs::Sinking::takes_then, streams::proofs::Sinking::fails_then))]
-fn put_report<S: Sink>(sink: &mut S, report: Option<Crw>) -> bool
+pub(crate) fn put_report<S: Sink>(sink: &mut S, report: Option<Crw>) -> bool
     ensures { Puts (S.seen sink.old) (spec.report_text report) (S.seen sink.new) result }
 {
     put_code(sink, stcrw_code(report)) && put_word(sink, report_word(report))
@@ -233,7 +235,7 @@ fn is_none_engaged(engaged: &[u8; PATH_STATUS_BYTES]) -> bool
 }
 
 /// What STORE CHANNEL PATH STATUS answered: the engaged channel paths.
-fn put_paths<S: Sink>(sink: &mut S, engaged: &[u8; PATH_STATUS_BYTES]) -> bool
+pub(crate) fn put_paths<S: Sink>(sink: &mut S, engaged: &[u8; PATH_STATUS_BYTES]) -> bool
     ensures { Puts (S.seen sink.old) (spec.paths_text engaged.now) (S.seen sink.new) result }
 {
     if is_none_engaged(engaged) {
@@ -278,7 +280,7 @@ fn put_up_name<S: Sink>(sink: &mut S, signal: &Up) -> bool
 }
 
 /// Whether a signal that was met was taken.
-fn put_taken<S: Sink>(sink: &mut S, taken: bool) -> bool
+pub(crate) fn put_taken<S: Sink>(sink: &mut S, taken: bool) -> bool
     ensures { Puts (S.seen sink.old) (spec.taken_text taken) (S.seen sink.new) result }
 {
     sink.put(if taken { b"took " } else { b"ignored " })
@@ -286,7 +288,7 @@ fn put_taken<S: Sink>(sink: &mut S, taken: bool) -> bool
 
 /// An answer and a status word.
 #[tactic(auto, using(streams::proofs::Sinking::takes_then, streams::proofs::Sinking::fails_then))]
-fn put_status<S: Sink>(sink: &mut S, answer: Answer, scsw: &Scsw) -> bool
+pub(crate) fn put_status<S: Sink>(sink: &mut S, answer: Answer, scsw: &Scsw) -> bool
     ensures { Puts (S.seen sink.old) (spec.answer_text answer ++ spec.scsw_text scsw.now) (S.seen sink.new) result }
 {
     put_answer(sink, answer) && put_scsw(sink, scsw)

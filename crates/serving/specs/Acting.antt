@@ -27,14 +27,18 @@ use Rattle.script_rows.specs.declared.Action.{Action}
 use Rattle.script_rows.specs.declared.Action.TheVariants as action
 use Rattle.script_text.specs.declared.ActionResult.{ActionResult}
 use Rattle.script_text.specs.declared.ActionResult.TheVariants as told
+use Rattle.script_text.specs.Text as text
+use Rattle.signal_places.specs.Answers.{answer_at}
+use Rattle.signal_places.specs.declared.answers.AnswerPlace.{AnswerPlace}
+use Rattle.serving.specs.declared.installation.Acted.{Acted}
+use Rattle.serving.specs.declared.installation.Acted.TheVariants.{Answered, Looked}
 
 -- what an action comes to, and what an event does
 abbrev pub ActionOutcome : Type 0
 ActionOutcome = Result ActionResult Fault
 
 abbrev pub told_of : Result Reply Fault → ActionOutcome
-told_of (Ok r) = Ok (told.Reply r)
-told_of (Err f) = Err f
+told_of came = text.told_of came
 
 -- what an audit compares: the number of the seat from which events are entered, the seat of each entry of the history, and
 -- the seat's log; and whether each look at serials showed what the machine had
@@ -167,6 +171,11 @@ TakesTurn old place r new = Follows (record old { devices = (device_turn_of old 
 abbrev pub glanced : Option Serials → ActionOutcome
 glanced None = Err fault.NoSuchSubchannel
 glanced (Some serials) = Ok (told.Serials serials)
+
+-- what an action came to, by what was answered and the place for an event's answer
+abbrev pub outcome_at : Acted → AnswerPlace → ActionOutcome
+outcome_at Answered place = told_of (answer_at place)
+outcome_at (Looked own) place = glanced own
 
 -- whether the seat found what the machine has
 abbrev pub same_serials : Option Serials → Option Serials → Bool

@@ -4,16 +4,16 @@
 ghost use Rattle.std.specs.Prelude.{◌≡◌, ◌+◌, [], Bool, IsTrue, IfOk, None, OnErr, OnOk, map, replicate, slice_get, true, ◌↔◌};
 ghost use Rattle.serving.specs.Acting as spec;
 ghost use Rattle.serving.specs.Racing.{AreMade, HasLogs, IsRaced};
-ghost use Rattle.serving.specs.Acting.{books_of, past_of, PerformsAction, Happens, IsAudited, Looks, TakesTurn, HandsIn, kept_after, opening_installed};
+ghost use Rattle.serving.specs.Acting.{books_of, past_of, PerformsAction, Happens, IsAudited, Looks, TakesTurn, HandsIn, kept_after, opening_installed, outcome_at};
 ghost use Rattle.machine_model.specs.State.{opening_of, sub_of, serials_in};
 ghost use Rattle.subsystem.specs.Keeping.{all_serials};
+ghost use Rattle.signal_places.specs.Answers.{answer_at};
 ghost use Rattle.core_lock.specs.Directory.{directory_of};
 ghost use Rattle.core_lock.specs.Seats.{entries_by};
 ghost use Rattle.device_models.specs.AnyDevices.{device_of};
 
 use crate::racing::{Racers, one_seat};
 use chan_events::event::Event;
-use chan_events::reply::Reply;
 use chan_model::fault::Fault;
 use chan_model::report::{Call, DeviceAnswer, Report, Work};
 use channel_config::config::Config;
@@ -30,8 +30,9 @@ use machine_model::state::UnitTurn;
 use path_select::Rotating;
 use script_rows::Action;
 use script_rows::race::Race;
-use script_text::{ActionResult, RaceCount};
+use script_text::RaceCount;
 use scsw_irb::serials::Serials;
+use signal_places::answers::{AnswerPlace, Outcome};
 use std::alloc::{AllocError, Global};
 use std::marker::Model;
 use std::sync::Wait;
@@ -48,6 +49,15 @@ pub struct Installation<J: Naming> {
     agrees: bool,
     devices: Vec<AnyDevice>,
     kept: Vec<Option<Report>>,
+}
+
+/// Where it stands what an action came to.
+#[derive(Clone, Copy)]
+pub enum Acted {
+    /// In the place for the answer of an event.
+    Answered,
+    /// Here, for a look at serials: those that the subsystem has, None where the subchannel is not configured.
+    Looked(Option<Serials>),
 }
 
 impl<J: Naming> Model for Installation<J> {
@@ -102,13 +112,20 @@ impl<J: Naming> Installation<J> {
     /// is not configured, and NotNow where no report is kept and a signal waits for the unit, its program may ask for a
     /// path, or it has nothing to do. A look at serials goes by the seat; what the subsystem has is told, and where the
     /// seat found anything else the audit will fail. It is refused NoSuchSubchannel where the subchannel is not configured.
-    pub fn act(&mut self, action: &Action) -> Result<ActionResult, Fault>
-        ensures { PerformsAction self.old action.now result self.new }
+    /// The answer of an event is written into a place.
+    pub fn act(&mut self, action: &Action, place: &mut AnswerPlace) -> Acted
+        ensures { PerformsAction self.old action.now (outcome_at result place.new) self.new }
     {
         match action {
-            Action::Event(event) => told_of(self.enter(event)),
-            Action::Dev(unit) => told_of(self.take_turn(*unit)),
-            Action::Glance(subchannel) => self.look(*subchannel),
+            Action::Event(event) => {
+                self.enter(event, place);
+                Acted::Answered
+            }
+            Action::Dev(unit) => {
+                self.take_turn(*unit, place);
+                Acted::Answered
+            }
+            Action::Glance(subchannel) => Acted::Looked(self.look(*subchannel)),
         }
     }
 
@@ -153,31 +170,32 @@ impl<J: Naming> Installation<J> {
     }
 
     /// Performs an event.
-    fn enter(&mut self, event: &Event) -> Result<Reply, Fault>
-        ensures { Happens self.old event.now result self.new }
+    fn enter(&mut self, event: &Event, place: &mut AnswerPlace)
+        ensures { Happens self.old event.now (answer_at place.new) self.new }
     {
-        let came = enter_from(&mut self.core, &mut self.seat, event.copy());
-        if came.is_ok() {
+        enter_from(&mut self.core, &mut self.seat, event, place);
+        if place.is_reply() {
             restart_device(&mut self.devices, event);
         }
-        came
     }
 
     /// Looks from the seat at the serials of the subchannel that a word names, and shows those that the subsystem has.
-    fn look(&mut self, subchannel: u32) -> Result<ActionResult, Fault>
-        ensures { Looks self.old (serials_in (sub_of self.old.past.state subchannel)) result self.new }
+    fn look(&mut self, subchannel: u32) -> Option<Serials>
+        ensures { Looks self.old (serials_in (sub_of self.old.past.state subchannel)) (spec.glanced result) self.new }
     {
         let own = self.core.subsystem().serials(subchannel);
         let found = found_by(&mut self.seat, subchannel);
         self.agrees = self.agrees && same_serials(found, own);
-        glanced(own)
+        own
     }
 
-    fn take_turn(&mut self, unit: u32) -> Result<Reply, Fault>
-        ensures { TakesTurn self.old «unit» result self.new }
+    fn take_turn(&mut self, unit: u32, place: &mut AnswerPlace)
+        ensures { TakesTurn self.old «unit» (answer_at place.new) self.new }
     {
-        let report = self.next_report(unit)?;
-        self.hand_in(unit, report)
+        match self.next_report(unit) {
+            Ok(report) => self.hand_in(unit, report, place),
+            Err(fault) => place.outcome = Outcome::Refused(fault),
+        }
     }
 
     /// The report that is kept for a unit, else the one of its next work.
@@ -201,18 +219,17 @@ impl<J: Naming> Installation<J> {
     }
 
     /// Hands in a report. It is kept where it is refused for want of memory or of room on a wire, and only there.
-    fn hand_in(&mut self, unit: u32, report: Report) -> Result<Reply, Fault>
-        ensures { HandsIn self.old «unit» report result self.new }
+    fn hand_in(&mut self, unit: u32, report: Report, place: &mut AnswerPlace)
+        ensures { HandsIn self.old «unit» report (answer_at place.new) self.new }
     {
         let event = Event::Report {
             unit,
             report: report.copy(),
         };
-        let outcome = enter_from(&mut self.core, &mut self.seat, event);
+        enter_from(&mut self.core, &mut self.seat, &event, place);
         if let Some(kept) = self.kept.get_mut(unit as usize) {
-            *kept = kept_of(&report, &outcome);
+            *kept = kept_of(&report, place);
         }
-        outcome
     }
 }
 
@@ -228,12 +245,13 @@ fn has_its_log<J: Naming>(core: &Core<J, Rotating>, seat: Seat<J>) -> bool
 fn enter_from<J: Naming>(
     core: &mut Core<J, Rotating>,
     seat: &mut Seat<J>,
-    event: Event,
-) -> Result<Reply, Fault>
-    ensures past { spec.Enters (past_of core.old seat.old) event result (past_of core.new seat.new) }
-    ensures books { (agrees : Bool) → books_of core.new seat.new agrees ≡ spec.booked (books_of core.old seat.old agrees) event result }
+    event: &Event,
+    place: &mut AnswerPlace,
+)
+    ensures past { spec.Enters (past_of core.old seat.old) event.now (answer_at place.new) (past_of core.new seat.new) }
+    ensures books { (agrees : Bool) → books_of core.new seat.new agrees ≡ spec.booked (books_of core.old seat.old agrees) event.now (answer_at place.new) }
 {
-    core.enter(seat, event)
+    let _ = core.enter_place(seat, event, place);
 }
 
 /// Whether the history has the log of each seat, all seats are given, and the history grew by so many entries.
@@ -300,26 +318,6 @@ fn same_serials(found: Option<Serials>, own: Option<Serials>) -> bool
     }
 }
 
-/// What a look comes to, as an action.
-fn glanced(own: Option<Serials>) -> Result<ActionResult, Fault>
-    ensures { result ≡ spec.glanced own }
-{
-    match own {
-        Some(serials) => Ok(ActionResult::Serials(serials)),
-        None => Err(Fault::NoSuchSubchannel),
-    }
-}
-
-/// What an event comes to, as an action.
-fn told_of(came: Result<Reply, Fault>) -> Result<ActionResult, Fault>
-    ensures { result ≡ spec.told_of came }
-{
-    match came {
-        Ok(reply) => Ok(ActionResult::Reply(reply)),
-        Err(fault) => Err(fault),
-    }
-}
-
 /// Where an event restarts a unit, its device is put back to its opening.
 fn restart_device(devices: &mut Vec<AnyDevice>, event: &Event)
     ensures { devices.new.items ≡ spec.devices_restarted devices.old.items event.now }
@@ -339,11 +337,11 @@ fn put_back(devices: &mut Vec<AnyDevice>, unit: u32)
 }
 
 /// What is kept of a report that was handed in.
-fn kept_of(report: &Report, outcome: &Result<Reply, Fault>) -> Option<Report>
-    ensures { result ≡ kept_after report.now outcome.now }
+fn kept_of(report: &Report, place: &AnswerPlace) -> Option<Report>
+    ensures { result ≡ kept_after report.now (answer_at place.now) }
 {
-    match outcome {
-        Err(Fault::NoMemory | Fault::WireFull) => Some(report.copy()),
+    match &place.outcome {
+        Outcome::Refused(Fault::NoMemory | Fault::WireFull) => Some(report.copy()),
         _ => None,
     }
 }

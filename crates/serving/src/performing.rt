@@ -1,13 +1,20 @@
 //! Performing the actions of a script, line by line.
 
+ghost use Rattle.std.specs.Prelude.{◌≡◌, is_err};
+ghost use Rattle.script_text.specs.Text.{event_line};
+ghost use Rattle.serving.specs.Acting as acting_spec;
 ghost use Rattle.serving.specs.Performing.{IsDone, PerformsLines};
+ghost use Rattle.streams.specs.Sinks.{Puts};
 
-use crate::installation::Installation;
+use crate::installation::{Acted, Installation};
+use chan_model::fault::Fault;
 use core_lock::naming::Naming;
 use script::Line;
 use script::lines::Lines;
 use script_text::held::Held;
-use script_text::put_event_line_at_once;
+use script_text::{ActionResult, put_answer_line_at_once, put_event_line_at_once};
+use scsw_irb::serials::Serials;
+use signal_places::answers::AnswerPlace;
 use streams::Sink;
 
 /// What came of the line of an action.
@@ -29,19 +36,54 @@ pub struct PerformedLines {
     pub refused: bool,
 }
 
-/// Performs one line and writes what it prints, through a place of its own.
+/// What a look comes to, as an action.
+fn glanced(own: Option<Serials>) -> Result<ActionResult, Fault>
+    ensures { result ≡ acting_spec.glanced own }
+{
+    match own {
+        Some(serials) => Ok(ActionResult::Serials(serials)),
+        None => Err(Fault::NoSuchSubchannel),
+    }
+}
+
+/// Writes what an action came to, through a place of its own.
+fn write<S: Sink>(
+    sink: &mut S,
+    held: &mut Held,
+    number: u64,
+    acted: Acted,
+    place: &AnswerPlace,
+) -> Written
+    ensures refused { result.refused ≡ is_err (acting_spec.outcome_at acted place.now) }
+    ensures prints { Puts (S.seen sink.old) (event_line number (acting_spec.outcome_at acted place.now)) (S.seen sink.new) result.whole }
+{
+    match acted {
+        Acted::Answered => Written {
+            whole: put_answer_line_at_once(sink, held, number, place),
+            refused: !place.is_reply(),
+        },
+        Acted::Looked(own) => {
+            let outcome = glanced(own);
+            Written {
+                whole: put_event_line_at_once(sink, held, number, &outcome),
+                refused: outcome.is_err(),
+            }
+        }
+    }
+}
+
+/// Performs one line and writes what it prints, through places of their own.
 fn perform_one<J: Naming, S: Sink>(
     installation: &mut Installation<J>,
     line: &Line,
+    place: &mut AnswerPlace,
     held: &mut Held,
     sink: &mut S,
 ) -> Written
     ensures { IsDone installation.old line.now (S.seen sink.old) (S.seen sink.new) result installation.new }
 {
-    let outcome = installation.act(&line.action);
-    let refused = outcome.is_err();
-    let whole = put_event_line_at_once(sink, held, line.number, &outcome);
-    Written { whole, refused }
+    let acted = installation.act(&line.action, place);
+    write(sink, held, line.number, acted, place)
 }
 
 /// Performs the lines in order, up to the first whose print is not written whole.
@@ -52,13 +94,14 @@ pub fn perform<J: Naming, S: Sink>(
 ) -> PerformedLines
     ensures { PerformsLines installation.old lines.now (S.seen sink.old) (S.seen sink.new) result installation.new }
 {
+    let mut answer = AnswerPlace::new();
     let mut held = Held::new();
     let mut refused = false;
     for place in 0..lines.len() {
         let Some(line) = lines.get(place) else {
             break;
         };
-        let written = perform_one(installation, &line, &mut held, sink);
+        let written = perform_one(installation, &line, &mut answer, &mut held, sink);
         refused = refused | written.refused;
         if !written.whole {
             return PerformedLines {

@@ -8,6 +8,7 @@ use chan_model::names::Cpu;
 use core_lock::locked::{Core, MOST_SEATS, Seat, audit};
 use core_lock::naming::Naming;
 use path_select::Rotating;
+use signal_places::answers::AnswerPlace;
 use std::alloc::Global;
 
 /// Makes a status and clears it from one seat.
@@ -52,6 +53,26 @@ pub fn sees<J: Naming>(alloc: Global, core: Core<J, Rotating>) -> bool {
         && core.close(seats) == Some(5)
 }
 
+/// An event is accepted and another is refused, and one place has the answer of each.
+pub fn answers<J: Naming>(alloc: Global, core: Core<J, Rotating>) -> bool {
+    let mut core = core;
+    let (Ok(mut seat), Some(cpu)) = (core.seat(), Cpu::new(0)) else {
+        return false;
+    };
+    let mut place = AnswerPlace::new();
+    let instruction = tsch(WORD);
+    let tested = core.enter_place(&mut seat, &Event::Execute { cpu, instruction }, &mut place);
+    let replied = tested.is_ok() && place.is_reply();
+    let subchannel = WORD + 1;
+    let refusal = core.enter_place(&mut seat, &Event::Choose { subchannel }, &mut place);
+    let refused = matches!(refusal, Err(Fault::NoSuchSubchannel)) && !place.is_reply();
+    let mut seats = Vec::new(alloc);
+    if seats.push(seat).is_err() {
+        return false;
+    }
+    replied && refused && audit(&core, seats.as_slice()) && core.close(seats) == Some(1)
+}
+
 /// A seat is left out at the end.
 pub fn leaves_out<J: Naming>(alloc: Global, core: Core<J, Rotating>) -> bool {
     let mut core = core;
@@ -84,6 +105,11 @@ pub fn fills<J: Naming>(alloc: Global, core: Core<J, Rotating>) -> bool {
 #[test]
 fn one_seat_sees_what_another_made_and_cleared(rt: HostRuntime) {
     assert!(rt; goes(&rt, rt.alloc(), Story::Sees));
+}
+
+#[test]
+fn one_place_takes_a_reply_and_then_a_refusal(rt: HostRuntime) {
+    assert!(rt; goes(&rt, rt.alloc(), Story::Answers));
 }
 
 #[test]

@@ -10,7 +10,7 @@ use crate::tests::gate_tests::meets;
 use crate::tests::growths_tests::grows;
 use crate::tests::looking_tests::looks;
 use crate::tests::machines::{apart, config_of};
-use crate::tests::seats_tests::{fills, leaves_out, sees};
+use crate::tests::seats_tests::{answers, fills, leaves_out, sees};
 use crate::tests::workers_tests::roams;
 use channel_config::config::Config;
 use core_lock::locked::Core;
@@ -28,6 +28,8 @@ use subsystem::subsystem::Subsystem;
 pub enum Story {
     /// A seat sees what another made and cleared.
     Sees,
+    /// One place takes the answers of two events.
+    Answers,
     /// A seat is left out at the end.
     LeavesOut,
     /// There are as many seats as there can be.
@@ -47,9 +49,12 @@ pub enum Story {
 /// The machine of a story.
 pub fn setting(alloc: Global, story: Story) -> Config {
     match story {
-        Story::Sees | Story::LeavesOut | Story::Fills | Story::Looks | Story::Grows => {
-            config_of(alloc, 1, &[0x10])
-        }
+        Story::Sees
+        | Story::Answers
+        | Story::LeavesOut
+        | Story::Fills
+        | Story::Looks
+        | Story::Grows => config_of(alloc, 1, &[0x10]),
         Story::Meets => apart(alloc, 2),
         Story::Roams => config_of(alloc, 1, &[0x10, 0x11, 0x12, 0x13, 0x14, 0x15, 0x16, 0x17]),
         Story::Crowds => config_of(alloc, 64, &[0x10, 0x11, 0x12, 0x13]),
@@ -76,6 +81,7 @@ fn tell<J: Naming + Send + Sync, R: Threads + Wait + Sync>(
     };
     match story {
         Story::Sees => sees(alloc, core),
+        Story::Answers => answers(alloc, core),
         Story::LeavesOut => leaves_out(alloc, core),
         Story::Fills => fills(alloc, core),
         Story::Meets => meets(rt, alloc, core),

@@ -1,0 +1,142 @@
+//! The line of an event whose answer stands in a place.
+
+ghost use Rattle.std.specs.Prelude.{◌≡◌, ◌++◌, ◌∷◌, decimal};
+ghost use Rattle.signal_places.specs.Answers.{answer_at};
+ghost use Rattle.signal_places.specs.Places.{down_at, up_at};
+ghost use Rattle.signal_places.specs.Plain.{reply_of};
+ghost use Rattle.script_text.specs.Text as spec;
+ghost use Rattle.streams.specs.Sinks.{Puts};
+
+use crate::held::Held;
+use crate::{
+    put_answer, put_bytes, put_code, put_decimal, put_interruption, put_named, put_paths,
+    put_refusal, put_report, put_status, put_taken,
+};
+use kept_events::signals::{KeptDown, KeptUp};
+use signal_places::answers::{AnswerPlace, Outcome};
+use signal_places::plain::PlainReply;
+use signal_places::signals::{DownPlace, UpPlace};
+use streams::Sink;
+
+fn put_down_name<S: Sink>(sink: &mut S, signal: &DownPlace) -> bool
+    ensures { Puts (S.seen sink.old) (spec.down_name (down_at signal.now)) (S.seen sink.new) result }
+{
+    sink.put(match &signal.kept {
+        KeptDown::Select { .. } => b"select",
+        KeptDown::Command { .. } => b"command",
+        KeptDown::Grant { .. } => b"grant",
+        KeptDown::Refuse { .. } => b"refuse",
+        KeptDown::Took { .. } => b"took",
+        KeptDown::Give { .. } => b"give",
+        KeptDown::Halt { .. } => b"halt",
+        KeptDown::Release { .. } => b"release",
+        KeptDown::Reset { .. } => b"reset",
+        KeptDown::Got { .. } => b"got",
+    })
+}
+
+fn put_up_name<S: Sink>(sink: &mut S, signal: &UpPlace) -> bool
+    ensures { Puts (S.seen sink.old) (spec.up_name (up_at signal.now)) (S.seen sink.new) result }
+{
+    sink.put(match &signal.kept {
+        KeptUp::Accept { .. } => b"accept",
+        KeptUp::Busy { .. } => b"busy",
+        KeptUp::Leave { .. } => b"leave",
+        KeptUp::Back { .. } => b"back",
+        KeptUp::Absorbed { .. } => b"data",
+        KeptUp::Bytes { .. } => b"data",
+        KeptUp::End { .. } => b"end",
+        KeptUp::Released { .. } => b"released",
+        KeptUp::Cleared { .. } => b"cleared",
+        KeptUp::Notice { .. } => b"notice",
+        KeptUp::Attn { .. } => b"attn",
+    })
+}
+
+/// A signal that was met on its way up.
+#[tactic(auto, using(streams::proofs::Sinking::takes_then, streams::proofs::Sinking::fails_then))]
+fn put_up<S: Sink>(sink: &mut S, taken: bool, signal: &UpPlace) -> bool
+    ensures { Puts (S.seen sink.old) (spec.taken_text taken ++ spec.up_name (up_at signal.now)) (S.seen sink.new) result }
+{
+    put_taken(sink, taken) && put_up_name(sink, signal)
+}
+
+/// A signal that was met on its way down.
+#[tactic(auto, using(streams::proofs::Sinking::takes_then, streams::proofs::Sinking::fails_then))]
+fn put_down<S: Sink>(sink: &mut S, taken: bool, signal: &DownPlace) -> bool
+    ensures { Puts (S.seen sink.old) (spec.taken_text taken ++ spec.down_name (down_at signal.now)) (S.seen sink.new) result }
+{
+    put_taken(sink, taken) && put_down_name(sink, signal)
+}
+
+/// What a reply without signals and bytes prints.
+fn put_plain<S: Sink>(sink: &mut S, reply: &PlainReply) -> bool
+    ensures { Puts (S.seen sink.old) (spec.reply_text (reply_of reply.now)) (S.seen sink.new) result }
+{
+    match reply {
+        PlainReply::Done => sink.put(b"done"),
+        PlainReply::Code(answer) => put_answer(sink, *answer),
+        PlainReply::Status { answer, scsw } => put_status(sink, *answer, scsw),
+        PlainReply::Interruption(found) => put_interruption(sink, found),
+        PlainReply::PathReset(code) => put_code(sink, *code),
+        PlainReply::ChannelReport(report) => put_report(sink, *report),
+        PlainReply::Paths { engaged } => put_paths(sink, engaged),
+        PlainReply::Offered { path, .. } => put_named(sink, b"offer ", path.index() as u64),
+        PlainReply::ResetSent { path, .. } => put_named(sink, b"reset ", path.index() as u64),
+        PlainReply::HaltSent { path, .. } => put_named(sink, b"halt ", path.index() as u64),
+        PlainReply::Pending => sink.put(b"status"),
+        PlainReply::Idle => sink.put(b"idle"),
+    }
+}
+
+/// What an answer prints.
+fn put_came<S: Sink>(sink: &mut S, place: &AnswerPlace) -> bool
+    ensures { Puts (S.seen sink.old) (spec.outcome_text (spec.told_of (answer_at place.now))) (S.seen sink.new) result }
+{
+    match &place.outcome {
+        Outcome::Refused(fault) => put_refusal(sink, fault),
+        Outcome::Replied(plain) => put_plain(sink, plain),
+        Outcome::Shown { length } => put_bytes(sink, &place.up.bytes[..length.get()]),
+        Outcome::MetUp { taken } => put_up(sink, *taken, &place.up),
+        Outcome::MetDown { taken } => put_down(sink, *taken, &place.down),
+    }
+}
+
+/// What an event came to, after a space.
+fn put_spaced<S: Sink>(sink: &mut S, place: &AnswerPlace) -> bool
+    ensures { Puts (S.seen sink.old) (32 ∷ spec.outcome_text (spec.told_of (answer_at place.now))) (S.seen sink.new) result }
+{
+    sink.put(b" ") && put_came(sink, place)
+}
+
+/// The number of a line before that.
+#[tactic(auto, using(streams::proofs::Sinking::takes_then, streams::proofs::Sinking::fails_then))]
+fn put_numbered<S: Sink>(sink: &mut S, line: u64, place: &AnswerPlace) -> bool
+    ensures { Puts (S.seen sink.old) (decimal line ++ 32 ∷ spec.outcome_text (spec.told_of (answer_at place.now))) (S.seen sink.new) result }
+{
+    put_decimal(sink, line) && put_spaced(sink, place)
+}
+
+/// The line of one event, piece by piece.
+fn put_pieces<S: Sink>(sink: &mut S, line: u64, place: &AnswerPlace) -> bool
+    ensures { Puts (S.seen sink.old) (spec.event_line line (spec.told_of (answer_at place.now))) (S.seen sink.new) result }
+{
+    put_numbered(sink, line, place) && sink.put(b"\n")
+}
+
+/// The line of an event, as `put_event_line_at_once` writes it, by the place where its answer stands.
+pub fn put_answer_line_at_once<S: Sink>(
+    sink: &mut S,
+    held: &mut Held,
+    line: u64,
+    place: &AnswerPlace,
+) -> bool
+    ensures { Puts (S.seen sink.old) (spec.event_line line (spec.told_of (answer_at place.now))) (S.seen sink.new) result }
+{
+    held.clear();
+    if put_pieces(held, line, place) {
+        sink.put(held.bytes.as_slice())
+    } else {
+        put_pieces(sink, line, place)
+    }
+}
