@@ -27,7 +27,7 @@ use Rattle.script_rows.specs.declared.Action.{Action}
 use Rattle.script_rows.specs.declared.Action.TheVariants as action
 use Rattle.script_text.specs.declared.ActionResult.{ActionResult}
 use Rattle.script_text.specs.declared.ActionResult.TheVariants as told
-use Rattle.script_text.specs.Text as text
+use Rattle.script_text.specs.Text.{told_of}
 use Rattle.signal_places.specs.Answers.{answer_at}
 use Rattle.signal_places.specs.declared.answers.AnswerPlace.{AnswerPlace}
 use Rattle.serving.specs.declared.installation.Acted.{Acted}
@@ -36,9 +36,6 @@ use Rattle.serving.specs.declared.installation.Acted.TheVariants.{Answered, Look
 -- what an action comes to, and what an event does
 abbrev pub ActionOutcome : Type 0
 ActionOutcome = Result ActionResult Fault
-
-abbrev pub told_of : Result Reply Fault → ActionOutcome
-told_of came = text.told_of came
 
 -- what an audit compares: the number of the seat from which events are entered, the seat of each entry of the history, and
 -- the seat's log; and whether each look at serials showed what the machine had
