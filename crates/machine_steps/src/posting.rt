@@ -23,6 +23,7 @@ fn request_of(sub: &Subchannel) -> IntCode
 
 /// Posts the request of a subchannel that had made so many statuses before an event, where the event made one. Where a
 /// request of it stands, nothing changes.
+#[inline(always)]
 pub fn post(pending: &mut Pending, sub: &Subchannel, made: u64)
     requires { sub.now.setup.id.number < pending.old.numbers }
     ensures { pending.new ≡ giving_spec.posted_since made sub.now pending.old }

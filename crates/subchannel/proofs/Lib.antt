@@ -1,4 +1,5 @@
-pub mod Answered
 mod PathIndices
 mod Returned
+pub mod Answered
+pub mod Usable
 pub mod Working

@@ -1,5 +1,5 @@
 -- A Data or an End is taken where it is of the program at work, and otherwise ignored.
-use Rattle.std.proofs.Common.{◌≡◌, refl, sym, ◌∙◌, ap, ℕ, Bool, true, false, Option, None, Some}
+use Rattle.std.proofs.Common.{◌≡◌, refl, ◌∙◌, ap, ℕ, Bool, true, false, Option, None, Some}
 use Rattle.std.specs.Prelude.{◌==◌, if◌then◌else◌}
 use Rattle.storage_keys.specs.Storage.{Contents}
 use Rattle.chan_model.specs.declared.signal.Load.{Load}
@@ -13,7 +13,7 @@ use Rattle.subchannel_model.specs.declared.state.ActiveProgram.{ActiveProgram}
 use Rattle.subchannel_model.specs.declared.state.SubchannelState.{SubchannelState}
 use Rattle.subchannel_model.specs.declared.state.UpStep.{UpStep}
 use Rattle.subchannel_model.specs.Taking.{Met, meets, ignoring, move_data, take_data, end_of, end_command, takes_up}
-use Rattle.subchannel.specs.Working.{load_of, moved_of, moved_at, moved_by, data_met, ended_of, ended_at, end_met}
+use Rattle.subchannel.specs.Working.{load_of, moved_of, moved_at, data_by, data_taken, data_met, ended_of, ended_at, end_met}
 
 either : {A : Type 0} {B : Type 0} (f : A → B) (b : Bool) (x y : A) → (if b then f x else f y) ≡ f (if b then x else y)
 either f true x y = refl
@@ -50,13 +50,12 @@ is_data (up.Data t c n seq load) = true
 is_data signal = false
 
 pub told_takes : (returns : Bool) (storage : Contents) (s : SubchannelState) (p : ℕ) (told : Up) → is_data told ≡ true →
-    data_met storage s (load_of told) (moved_by s p told) ≡ takes_up returns storage s p told
+    data_taken storage s (load_of told) (data_by p told) ≡ takes_up returns storage s p told
 told_takes returns storage s p (up.Accept t) is = absurd (cc is)
 told_takes returns storage s p (up.Busy t) is = absurd (cc is)
 told_takes returns storage s p (up.Leave t c) is = absurd (cc is)
 told_takes returns storage s p (up.Back t c) is = absurd (cc is)
-told_takes returns storage s p (up.Data t c n seq load) is =
-    sym (data_takes storage s (record { path = p; number = t; connection = c; command = n; sequence = seq }) load)
+told_takes returns storage s p (up.Data t c n seq load) is = refl
 told_takes returns storage s p (up.End t n status more) is = absurd (cc is)
 told_takes returns storage s p (up.Released t) is = absurd (cc is)
 told_takes returns storage s p (up.Cleared r) is = absurd (cc is)

@@ -1,3 +1,4 @@
 pub mod Answering
 pub mod Stepping
+pub mod Usable
 pub mod Working

@@ -1,20 +1,30 @@
 -- The Data and the Ends that are of the program at work, and what comes of each.
-use Rattle.std.specs.Prelude.{ℕ, ◌==◌, if◌then◌else◌, Option, None, Some}
+use Rattle.std.specs.Prelude.{ℕ, ◌+◌, ◌==◌, if◌then◌else◌, Bool, false, Option, None, Some, List}
 use Rattle.storage_keys.specs.Storage.{Contents}
 use Rattle.chan_model.specs.declared.signal.Load.{Load}
 use Rattle.chan_model.specs.declared.signal.Load.TheVariants as load
 use Rattle.chan_model.specs.declared.signal.Up.{Up}
 use Rattle.chan_model.specs.declared.signal.Up.TheVariants as up
 use Rattle.chan_model.specs.HoldTable.{is_connected, is_on}
-use Rattle.transfer.specs.Chunks.{is_answered}
+use Rattle.chan_model.specs.declared.signal.Down.{Down}
+use Rattle.chan_model.specs.declared.signal.Down.TheVariants as down
+use Rattle.chan_model.specs.declared.signal.OnPath.{OnPath}
+use Rattle.transfer.specs.declared.NextChunk.{NextChunk}
+use Rattle.transfer.specs.declared.WithRoom.{WithRoom}
+use Rattle.transfer.specs.Chunks.{is_answered, taken_by_device, next_given, brought}
+use Rattle.transfer.specs.Commands.{with_room}
 use Rattle.subchannel_model.specs.declared.signals.DataSignal.{DataSignal}
 use Rattle.subchannel_model.specs.declared.signals.EndSignal.{EndSignal}
 use Rattle.subchannel_model.specs.declared.state.ActiveProgram.{ActiveProgram}
 use Rattle.subchannel_model.specs.declared.state.SubchannelState.{SubchannelState}
 use Rattle.subchannel_model.specs.declared.state.UpStep.{UpStep}
-use Rattle.subchannel_model.specs.Taking.{Met, meets, ignoring, move_bytes, command_ended}
-use Rattle.subchannel.specs.declared.moving.Moved.{Moved}
-use Rattle.subchannel.specs.declared.ending.Ended.{Ended}
+use Rattle.subchannel_model.specs.Taking.{Met, meets, ignoring, interrupted, dedicated_by_data, take_data, move_bytes, command_ended, end_command}
+use Rattle.subchannel_model.specs.Ends.{chains_command}
+
+-- a Data that the program at work takes, and the program
+pub record Moved : Type 0 where
+  pub begun : ActiveProgram
+  pub signal : DataSignal
 
 -- a Data by the connection at hand, that is to be answered
 abbrev pub moved_of : Option ActiveProgram → DataSignal → Option Moved
@@ -42,10 +52,49 @@ abbrev pub load_of : Up → Load
 load_of (up.Data t c n seq load) = load
 load_of signal = load.Absorbed 0
 
+-- whether it is to be answered, and what comes of the one that a signal is
+abbrev pub is_due : Option ActiveProgram → DataSignal → Bool
+is_due None signal = false
+is_due (Some b) signal = is_answered b.transfer signal.command signal.sequence
+
+abbrev pub data_taken : Contents → SubchannelState → Load → Option DataSignal → Met
+data_taken storage s load None = meets storage (ignoring s)
+data_taken storage s load (Some signal) = take_data storage s signal load
+
+-- the chunk that is given next, and the room that is told, with their signals
+abbrev pub given : Contents → ActiveProgram → DataSignal → ℕ → NextChunk
+given storage b signal count = next_given storage (taken_by_device storage b.transfer signal.sequence count)
+
+abbrev pub give_of : DataSignal → NextChunk → Option (OnPath Down)
+give_of signal chunk = Some (record {
+  path = signal.path;
+  signal = down.Give signal.number signal.connection signal.command (signal.sequence + 1) chunk.bytes;
+})
+
+abbrev pub taken_in : Contents → ActiveProgram → DataSignal → List ℕ → WithRoom
+taken_in storage b signal bytes =
+    let after = brought storage b.transfer signal.sequence bytes in
+    with_room after.storage after.transfer
+
+abbrev pub took_of : DataSignal → WithRoom → Option (OnPath Down)
+took_of signal x =
+    Some (record { path = signal.path; signal = down.Took signal.number signal.command signal.sequence x.room })
+
+-- a subchannel whose transfer moved on
+abbrev pub followed : SubchannelState → SubchannelState
+followed s =
+    let next = record s { dedicated = dedicated_by_data s.dedicated } in
+    interrupted next next.begun
+
 -- it moves bytes, and any other is ignored
 abbrev pub data_met : Contents → SubchannelState → Load → Option Moved → Met
 data_met storage s load None = meets storage (ignoring s)
 data_met storage s load (Some m) = move_bytes storage s m.begun m.signal load
+
+-- an End that the program at work takes, and the program
+pub record Ended : Type 0 where
+  pub begun : ActiveProgram
+  pub signal : EndSignal
 
 -- an End of the command at hand of the program that is connected
 abbrev pub ended_of : Option ActiveProgram → EndSignal → Option Ended
@@ -55,9 +104,29 @@ ended_of (Some b) signal = if signal.command == b.transfer.command then Some (re
 abbrev pub ended_at : SubchannelState → EndSignal → Option Ended
 ended_at s signal = if is_on s.hold.phase signal.number then ended_of s.begun signal else None
 
+abbrev pub end_by : ℕ → Up → Option EndSignal
+end_by p (up.End t n status more) = Some (record { path = p; number = t; command = n; status = status; more = more })
+end_by p signal = None
+
+abbrev pub ended_when : SubchannelState → Option EndSignal → Option Ended
+ended_when s None = None
+ended_when s (Some signal) = ended_at s signal
+
 abbrev pub ended_by : SubchannelState → ℕ → Up → Option Ended
-ended_by s p (up.End t n status more) = ended_at s (record { path = p; number = t; command = n; status = status; more = more })
-ended_by s p signal = None
+ended_by s p signal = ended_when s (end_by p signal)
+
+-- whether it is of the command at hand, and what comes of the one that a signal is
+abbrev pub is_of_command : Option ActiveProgram → EndSignal → Bool
+is_of_command None signal = false
+is_of_command (Some b) signal = signal.command == b.transfer.command
+
+abbrev pub end_taken_by : Contents → SubchannelState → Option EndSignal → UpStep
+end_taken_by storage s None = ignoring s
+end_taken_by storage s (Some signal) = end_command storage s signal
+
+abbrev pub chains_at : SubchannelState → Option ActiveProgram → EndSignal → Bool
+chains_at s None signal = false
+chains_at s (Some b) signal = chains_command s.scsw b signal.status signal.more
 
 -- it ends the command, and any other is ignored
 abbrev pub end_met : Contents → SubchannelState → Option Ended → UpStep

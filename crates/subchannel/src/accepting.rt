@@ -3,7 +3,9 @@
 ghost use Rattle.std.specs.Prelude.{◌≡◌, ◌<◌, ◌^◌, is_some};
 ghost use Rattle.chan_model.specs.HoldTable.{hold_takes};
 ghost use Rattle.signal_places.specs.Places.{came_so, up_at};
+ghost use Rattle.subchannel_model.specs.Causes.{with_cause};
 ghost use Rattle.subchannel_model.specs.Taking as spec;
+ghost use Rattle.subchannel_model.specs.declared.cause.StatusCause.TheVariants as cause;
 ghost use Rattle.subchannel.specs.Stepping.{subchannel_stepped};
 ghost use Rattle.transfer.specs.Commands as transfer_spec;
 
@@ -12,6 +14,8 @@ use crate::intermediate::{interrupt, suspend};
 use ccw_walk::Walk;
 use chan_model::hold_state::HoldPhase;
 use chan_model::names::Path;
+use channel_program::Advance;
+use channel_program::check::Check;
 use hold::Hold;
 use kept_events::signals::KeptDown;
 use scsw_irb::scsw::Scsw;
@@ -23,8 +27,8 @@ use subchannel_model::cause::StatusCause;
 use subchannel_model::state::{
     ActiveProgram, PmcwState, Program, ProgramPosition, SubchannelState,
 };
-use transfer::commands::{begun_with_room, first_command};
-use transfer::{CommandStart, Transfer, WithRoom};
+use transfer::Transfer;
+use transfer::commands::{command_of, room_to_tell};
 
 /// A program that waits, at its beginning.
 fn from_start(program: Program) -> ProgramPosition
@@ -122,18 +126,21 @@ fn take_over(state: &mut SubchannelState, program: Program, transfer: Transfer)
     });
 }
 
+/// The program takes the device with its first command, of which the device is told.
 fn send_first(
+    storage: &Storage,
     state: &mut SubchannelState,
     path: Path,
     number: u64,
     program: Program,
-    command: WithRoom,
+    first: Transfer,
     sent: &mut SentDown,
 ) -> bool
     requires { state.old.serials.made < 2 ^ 63 }
-    ensures { subchannel_stepped state.new (came_so result sent.new) ≡ spec.sends_first state.old path number program command }
+    ensures { subchannel_stepped state.new (came_so result sent.new) ≡ spec.sends_first state.old path number program (transfer_spec.begun_with_room storage.now first) }
 {
-    let WithRoom { transfer, room } = command;
+    let mut transfer = first;
+    let room = room_to_tell(storage, &mut transfer);
     let signal = KeptDown::Command {
         code: transfer.code,
         room,
@@ -143,6 +150,43 @@ fn send_first(
     take_over(state, program, transfer);
     interrupt(state);
     send(sent, path, signal)
+}
+
+/// The program is suspended before its first command.
+#[inline(never)]
+fn suspend_first(
+    state: &mut SubchannelState,
+    standing: &ProgramPosition,
+    walk: Walk,
+    sent: &mut SentDown,
+) -> bool
+    requires { state.old.serials.made < 2 ^ 63 }
+    ensures { subchannel_stepped state.new (came_so result sent.new) ≡
+        spec.let_go (spec.suspending state.old standing.now.program walk standing.now.count) }
+{
+    suspend(state, standing.program, walk, standing.count);
+    let_go(state, sent)
+}
+
+/// The program ends with a check before its first command.
+#[inline(never)]
+fn check_first(
+    state: &mut SubchannelState,
+    tried: u32,
+    check: Check,
+    count: u16,
+    sent: &mut SentDown,
+) -> bool
+    requires { state.old.serials.made < 2 ^ 63 }
+    ensures { subchannel_stepped state.new (came_so result sent.new) ≡
+        spec.let_go (with_cause state.old (cause.FetchFault tried check count)) }
+{
+    make_pending(state, &StatusCause::FetchFault {
+        tried,
+        check,
+        count,
+    });
+    let_go(state, sent)
 }
 
 fn begin_with(
@@ -156,28 +200,18 @@ fn begin_with(
     requires { state.old.serials.made < 2 ^ 63 }
     ensures { subchannel_stepped state.new (came_so result sent.new) ≡ spec.begin_with storage.now state.old path number standing.now (transfer_spec.first_command storage.now standing.now.walk) }
 {
-    let first = first_command(storage, standing.walk);
-    let program = standing.program;
-    let count = standing.count;
-    match first.came {
-        CommandStart::Begins(transfer) => {
-            let command = begun_with_room(storage, &transfer);
-            send_first(state, path, number, program, command, sent)
+    let mut walk = standing.walk;
+    let advance = walk.advance(storage);
+    match advance {
+        Some(Advance::Takes(ccw)) => {
+            let first = command_of(walk, 1, ccw);
+            send_first(storage, state, path, number, standing.program, first, sent)
         }
-        CommandStart::Suspends => {
-            suspend(state, program, first.walk, count);
-            let_go(state, sent)
+        Some(Advance::Suspends) => suspend_first(state, standing, walk, sent),
+        Some(Advance::Stops(check)) => {
+            check_first(state, walk.tried(), check, standing.count, sent)
         }
-        CommandStart::Stops(check) => {
-            let tried = first.walk.tried();
-            let cause = StatusCause::FetchFault {
-                tried,
-                check,
-                count,
-            };
-            make_pending(state, &cause);
-            let_go(state, sent)
-        }
+        None => check_first(state, walk.tried(), Check::Program, standing.count, sent),
     }
 }
 

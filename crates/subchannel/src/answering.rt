@@ -9,7 +9,7 @@ ghost use Rattle.subchannel.specs.Working as working_spec;
 ghost use Rattle.transfer.specs.Commands as transfer_spec;
 
 use crate::attending::may_attend;
-use crate::ending::{Ended, ended_by, with_end};
+use crate::ending::end_by;
 use crate::moving::data_by;
 use chan_model::hold_state::{HoldPhase, HoldState};
 use chan_model::names::Path;
@@ -18,7 +18,8 @@ use kept_events::signals::KeptUp;
 use signal_places::signals::UpPlace;
 use status::ends::{chains_command, is_last_end};
 use storage_keys::Storage;
-use subchannel_model::state::SubchannelState;
+use subchannel_model::signals::EndSignal;
+use subchannel_model::state::{ActiveProgram, SubchannelState};
 use transfer::CommandStart;
 use transfer::chunks::is_answered;
 use transfer::commands::next_command;
@@ -81,46 +82,55 @@ fn data_path(state: &SubchannelState, path: Path, signal: &UpPlace) -> Option<Pa
 
 /// Where the program is held on the path of its End, nothing is to be fetched.
 #[tactic(auto, using(crate::proofs::Answered::chained_same))]
-fn chained_path(storage: &Storage, ended: &Ended, held: Option<Path>) -> Option<Path>
-    requires { ended.now.begun.transfer.command < 2 ^ 63 }
-    ensures { result ≡ spec.chained_path (transfer_spec.next_command storage.now ended.now.begun.transfer (end_spec.has_status_modifier ended.now.signal.status)).came ended.now.signal.path held }
+fn chained_path(
+    storage: &Storage,
+    begun: &ActiveProgram,
+    end: &EndSignal,
+    held: Option<Path>,
+) -> Option<Path>
+    requires { begun.now.transfer.command < 2 ^ 63 }
+    ensures { result ≡ spec.chained_path (transfer_spec.next_command storage.now begun.now.transfer (end_spec.has_status_modifier end.now.status)).came end.now.path held }
 {
-    let path = ended.signal.path;
     if let Some(at) = held
-        && path.same(at)
+        && end.path.same(at)
     {
         return held;
     }
-    let next = next_command(
-        storage,
-        &ended.begun.transfer,
-        ended.signal.status.has_modifier(),
-    );
+    let next = next_command(storage, &begun.transfer, end.status.has_modifier());
     match next.came {
-        CommandStart::Begins(_) => Some(path),
+        CommandStart::Begins(_) => Some(end.path),
         CommandStart::Suspends | CommandStart::Stops(_) => held,
     }
 }
 
-fn going_path(storage: &Storage, state: &SubchannelState, ended: &Ended) -> Option<Path>
-    requires { ended.now.begun.transfer.command < 2 ^ 63 }
-    ensures { result ≡ spec.going_path storage.now state.now ended.now.begun ended.now.signal }
+fn going_path(
+    storage: &Storage,
+    state: &SubchannelState,
+    begun: &ActiveProgram,
+    end: &EndSignal,
+) -> Option<Path>
+    requires { begun.now.transfer.command < 2 ^ 63 }
+    ensures { result ≡ spec.going_path storage.now state.now begun.now end.now }
 {
-    if ended.signal.status.has_device_end() {
-        chained_path(storage, ended, held_path(&state.hold))
+    if end.status.has_device_end() {
+        chained_path(storage, begun, end, held_path(&state.hold))
     } else {
         None
     }
 }
 
-fn ended_path(storage: &Storage, state: &SubchannelState, ended: &Ended) -> Option<Path>
-    requires { ended.now.begun.transfer.command < 2 ^ 63 }
-    ensures { result ≡ spec.ended_path storage.now state.now ended.now.begun ended.now.signal }
+fn ended_path(
+    storage: &Storage,
+    state: &SubchannelState,
+    begun: &ActiveProgram,
+    end: &EndSignal,
+) -> Option<Path>
+    requires { begun.now.transfer.command < 2 ^ 63 }
+    ensures { result ≡ spec.ended_path storage.now state.now begun.now end.now }
 {
-    let signal = ended.signal;
-    if chains_command(state.scsw, &ended.begun, signal.status, signal.more) {
-        going_path(storage, state, &with_end(ended))
-    } else if is_last_end(signal.status) {
+    if chains_command(state.scsw, begun, end.status, end.more) {
+        going_path(storage, state, begun, end)
+    } else if is_last_end(end.status) {
         held_path(&state.hold)
     } else {
         None
@@ -136,9 +146,15 @@ fn end_path(
     requires { taking_spec.IsBelow state.now.begun }
     ensures { result ≡ spec.end_path storage.now state.now (working_spec.ended_by state.now path (up_at signal.now)) }
 {
-    match ended_by(state, path, signal) {
-        None => None,
-        Some(ended) => ended_path(storage, state, &ended),
+    let end = end_by(path, signal)?;
+    if !Hold::of(state.hold).is_on(end.number) {
+        return None;
+    }
+    match &state.begun {
+        Some(begun) if end.command == begun.transfer.command => ended_path(
+            storage, state, begun, &end,
+        ),
+        _ => None,
     }
 }
 

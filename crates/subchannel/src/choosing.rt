@@ -1,12 +1,12 @@
 //! What the subsystem does of itself for a subchannel (own).
 
-ghost use Rattle.std.specs.Prelude.{◌≡◌, ◌<◌, ◌+◌, ◌^◌, if◌then◌else◌, IfSome, true};
+ghost use Rattle.std.specs.Prelude.{◌≡◌, ◌<◌, ◌+◌, ◌^◌, if◌then◌else◌, IfSome, length, true};
 ghost use Rattle.chan_model.specs.HoldTable.{came_of, offering, sending_reset};
 ghost use Rattle.allegiance.specs.PathUse as set_spec;
 ghost use Rattle.subchannel_model.specs.Choosing as spec;
 ghost use Rattle.chan_model.specs.declared.hold_state.HoldPhase.TheVariants as phase;
 
-use crate::paths::{engaged_paths, path_use, return_paths};
+use crate::paths::{is_any_lost, path_use, return_paths, usable_paths};
 use allegiance::path_use::{PathUse, is_any};
 use chan_model::hold_state::{HoldPhase, HoldState};
 use chan_model::names::Path;
@@ -43,7 +43,7 @@ fn paths_unreset(subs: &Counted<'_>, sub: &Subchannel) -> PathSet
     if sub.state.scsw.activity.halt_pending && is_away(sub.state.hold.phase) {
         return_paths(sub)
     } else {
-        path_use(sub).usable(&engaged_paths(subs, sub))
+        usable_paths(subs, sub)
     }
 }
 
@@ -218,11 +218,31 @@ fn mark_state(state: &mut SubchannelState, used: PathUse)
     mark_scsw(&mut state.scsw, any);
 }
 
+/// A set says something of each of the eight paths.
+fn is_whole(set: &PathSet)
+    ensures { length set.now ≡ 8 }
+{
+    let _ = set[7];
+}
+
+/// The sets of paths that are operational, and not operational, say something of each path.
+fn has_each_path(pmcw: &PmcwState)
+    ensures operational { length pmcw.now.operational ≡ 8 }
+    ensures not_operational { length pmcw.now.not_operational ≡ 8 }
+{
+    is_whole(&pmcw.operational);
+    is_whole(&pmcw.not_operational);
+}
+
 /// Where a program is to be offered, the paths that are found not operational are marked so, also where nothing comes of it.
 /// `choice` is the one that `chosen` is asked with.
 pub fn mark_lost_paths(sub: &mut Subchannel, choice: &Option<Path>)
     ensures { sub.new ≡ spec.marked_sub sub.old choice.now }
 {
+    if !is_any_lost(sub) {
+        has_each_path(&sub.state.pmcw);
+        return;
+    }
     if looks_for_path(&sub.state, choice) {
         let used = path_use(sub);
         mark_state(&mut sub.state, used);

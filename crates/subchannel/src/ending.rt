@@ -2,10 +2,12 @@
 
 ghost use Rattle.std.specs.Prelude.{◌≡◌, ◌<◌, ◌^◌, IfSome};
 ghost use Rattle.signal_places.specs.Places.{came_so, up_at};
+ghost use Rattle.subchannel_model.specs.Causes.{with_cause};
 ghost use Rattle.subchannel_model.specs.Ends as end_spec;
 ghost use Rattle.subchannel_model.specs.Taking as spec;
 ghost use Rattle.subchannel.specs.Stepping.{subchannel_stepped};
 ghost use Rattle.subchannel.specs.Working as working_spec;
+ghost use Rattle.subchannel_model.specs.declared.cause.StatusCause.TheVariants as cause;
 ghost use Rattle.transfer.specs.Commands as transfer_spec;
 
 use crate::answers::{ignored, let_go, quiet, send};
@@ -13,7 +15,9 @@ use crate::intermediate::suspend;
 use crate::moving::move_on;
 use allegiance::allegiances;
 use allegiance::allegiances::dedicated;
+use ccw_walk::Walk;
 use chan_model::names::Path;
+use channel_program::check::Check;
 use hold::Hold;
 use kept_events::signals::{KeptDown, KeptUp};
 use signal_places::sent::SentDown;
@@ -23,47 +27,39 @@ use status::make_pending;
 use storage_keys::Storage;
 use subchannel_model::cause::StatusCause;
 use subchannel_model::signals::EndSignal;
-use subchannel_model::state::{ActiveProgram, SubchannelState};
+use subchannel_model::state::{ActiveProgram, Program, SubchannelState};
 use transfer::commands::{begun_with_room, next_command};
 use transfer::{CommandStart, WithRoom};
 
-/// An End that the program at work takes, and the program.
-#[derive(Clone, Copy)]
-pub(crate) struct Ended {
-    pub(crate) begun: ActiveProgram,
-    pub(crate) signal: EndSignal,
+/// The numbers of an End. None where the signal is another.
+pub(crate) fn end_by(path: Path, signal: &UpPlace) -> Option<EndSignal>
+    ensures { result ≡ working_spec.end_by path (up_at signal.now) }
+{
+    match signal.kept {
+        KeptUp::End {
+            status,
+            more,
+            number,
+            command,
+        } => Some(EndSignal {
+            path,
+            number,
+            command,
+            status,
+            more,
+        }),
+        _ => None,
+    }
 }
 
-/// The End that a signal is. None where it is none, or not of the command at hand of the program that is connected.
-pub(crate) fn ended_by(state: &SubchannelState, path: Path, signal: &UpPlace) -> Option<Ended>
-    requires { spec.IsBelow state.now.begun }
-    ensures ended { result ≡ working_spec.ended_by state.now path (up_at signal.now) }
-    ensures command { IfSome result (λ e. e.begun.transfer.command < 2 ^ 63) }
+/// Whether an End is of the command at hand of the program at work.
+fn is_of_command(state: &SubchannelState, end: &EndSignal) -> bool
+    ensures { result ≡ working_spec.is_of_command state.now.begun end.now }
 {
-    let KeptUp::End {
-        status,
-        more,
-        number,
-        command,
-    } = signal.kept
-    else {
-        return None;
-    };
-    if !Hold::of(state.hold).is_on(number) {
-        return None;
+    match &state.begun {
+        None => false,
+        Some(begun) => end.command == begun.transfer.command,
     }
-    let begun = state.begun?;
-    if command != begun.transfer.command {
-        return None;
-    }
-    let signal = EndSignal {
-        path,
-        number,
-        command,
-        status,
-        more,
-    };
-    Some(Ended { begun, signal })
 }
 
 /// What an End leaves of the dedicated allegiance. Where one stands, the End is of a later program than the one whose unit
@@ -85,121 +81,176 @@ fn take_end(state: &mut SubchannelState, signal: EndSignal)
     state.dedicated = dedicated_by_end(state.dedicated, signal);
 }
 
-pub(crate) fn with_end(ended: &Ended) -> Ended
-    ensures { result ≡ record ended.now { begun = spec.with_end ended.now.begun } }
-{
-    let mut next = *ended;
-    next.begun.transfer.ended = true;
-    next
-}
-
+/// The program goes on with a command, of which its device is told.
 fn send_next(
     state: &mut SubchannelState,
-    ended: &Ended,
+    end: &EndSignal,
     command: WithRoom,
     sent: &mut SentDown,
 ) -> bool
     requires { state.old.serials.made < 2 ^ 63 }
-    ensures { subchannel_stepped state.new (came_so result sent.new) ≡ spec.sends_next state.old ended.now.begun ended.now.signal command }
+    ensures { IfSome state.old.begun (λ b. subchannel_stepped state.new (came_so result sent.new) ≡
+        spec.sends_next state.old (spec.with_end b) end.now command) }
 {
     let WithRoom { transfer, room } = command;
     let next = KeptDown::Command {
         code: transfer.code,
         room,
-        number: ended.signal.number,
+        number: end.number,
         command: transfer.command,
     };
-    move_on(state, &ended.begun, transfer);
-    send(sent, ended.signal.path, next)
+    move_on(state, transfer);
+    send(sent, end.path, next)
 }
 
-fn chain(storage: &Storage, state: &mut SubchannelState, ended: &Ended, sent: &mut SentDown) -> bool
-    requires made { state.old.serials.made < 2 ^ 63 }
-    requires command { ended.now.begun.transfer.command < 2 ^ 63 }
-    ensures { subchannel_stepped state.new (came_so result sent.new) ≡ spec.chain_with storage.now state.old ended.now.begun ended.now.signal (transfer_spec.next_command storage.now ended.now.begun.transfer (end_spec.has_status_modifier ended.now.signal.status)) }
+/// The program is suspended instead of going on.
+fn suspend_at(
+    state: &mut SubchannelState,
+    end: &EndSignal,
+    program: Program,
+    walk: Walk,
+    count: u16,
+    sent: &mut SentDown,
+) -> bool
+    requires { state.old.serials.made < 2 ^ 63 }
+    ensures { subchannel_stepped state.new (came_so result sent.new) ≡
+        spec.let_go (spec.suspending (spec.end_taken state.old end.now) program walk count) }
 {
-    let begun = &ended.begun;
-    let next = next_command(storage, &begun.transfer, ended.signal.status.has_modifier());
+    take_end(state, *end);
+    suspend(state, program, walk, count);
+    let_go(state, sent)
+}
+
+/// The program ends with a check instead of going on.
+fn check_at(
+    state: &mut SubchannelState,
+    end: &EndSignal,
+    tried: u32,
+    check: Check,
+    count: u16,
+    sent: &mut SentDown,
+) -> bool
+    requires { state.old.serials.made < 2 ^ 63 }
+    ensures { subchannel_stepped state.new (came_so result sent.new) ≡
+        spec.let_go (with_cause (spec.end_taken state.old end.now) (cause.FetchFault tried check count)) }
+{
+    take_end(state, *end);
+    make_pending(state, &StatusCause::FetchFault {
+        tried,
+        check,
+        count,
+    });
+    let_go(state, sent)
+}
+
+fn chain(
+    storage: &Storage,
+    state: &mut SubchannelState,
+    end: &EndSignal,
+    sent: &mut SentDown,
+) -> bool
+    requires made { state.old.serials.made < 2 ^ 63 }
+    requires below { spec.IsBelow state.old.begun }
+    ensures { IfSome state.old.begun (λ b. subchannel_stepped state.new (came_so result sent.new) ≡
+        spec.chain_with storage.now state.old (spec.with_end b) end.now (transfer_spec.next_command storage.now b.transfer (end_spec.has_status_modifier end.now.status))) }
+{
+    let Some(begun) = &state.begun else {
+        return ignored(sent);
+    };
+    let next = next_command(storage, &begun.transfer, end.status.has_modifier());
+    let program = begun.program;
     let count = begun.transfer.moving.residual();
     match next.came {
         CommandStart::Begins(transfer) => {
             let command = begun_with_room(storage, &transfer);
-            send_next(state, ended, command, sent)
+            send_next(state, end, command, sent)
         }
-        CommandStart::Suspends => {
-            take_end(state, ended.signal);
-            suspend(state, begun.program, next.walk, count);
-            let_go(state, sent)
-        }
-        CommandStart::Stops(check) => {
-            let tried = next.walk.tried();
-            let cause = StatusCause::FetchFault {
-                tried,
-                check,
-                count,
-            };
-            take_end(state, ended.signal);
-            make_pending(state, &cause);
-            let_go(state, sent)
-        }
+        CommandStart::Suspends => suspend_at(state, end, program, next.walk, count, sent),
+        CommandStart::Stops(check) => check_at(state, end, next.walk.tried(), check, count, sent),
     }
 }
 
-fn go_on(storage: &Storage, state: &mut SubchannelState, ended: &Ended, sent: &mut SentDown) -> bool
-    requires made { state.old.serials.made < 2 ^ 63 }
-    requires command { ended.now.begun.transfer.command < 2 ^ 63 }
-    ensures { subchannel_stepped state.new (came_so result sent.new) ≡ spec.goes_on storage.now state.old ended.now.begun ended.now.signal }
+fn note_end(begun: &mut ActiveProgram)
+    ensures { begun.new ≡ spec.with_end begun.old }
 {
-    if ended.signal.status.has_device_end() {
-        return chain(storage, state, ended, sent);
+    begun.transfer.ended = true;
+}
+
+fn go_on(
+    storage: &Storage,
+    state: &mut SubchannelState,
+    end: &EndSignal,
+    sent: &mut SentDown,
+) -> bool
+    requires made { state.old.serials.made < 2 ^ 63 }
+    requires below { spec.IsBelow state.old.begun }
+    ensures { IfSome state.old.begun (λ b. subchannel_stepped state.new (came_so result sent.new) ≡
+        spec.goes_on storage.now state.old (spec.with_end b) end.now) }
+{
+    if end.status.has_device_end() {
+        return chain(storage, state, end, sent);
     }
-    take_end(state, ended.signal);
-    state.begun = Some(ended.begun);
+    if let Some(begun) = &mut state.begun {
+        note_end(begun);
+    }
+    take_end(state, *end);
     quiet(sent)
 }
 
-fn show_end(state: &mut SubchannelState, ended: &Ended)
+/// Shows the end of the program at work, or of its command.
+fn show_end(state: &mut SubchannelState, end: &EndSignal)
     requires { state.old.serials.made < 2 ^ 63 }
-    ensures { state.new ≡ spec.end_shown_at state.old ended.now.begun ended.now.signal }
+    ensures { IfSome state.old.begun (λ b. state.new ≡ spec.end_shown_at state.old b end.now) }
 {
+    let Some(begun) = &state.begun else {
+        return;
+    };
     let cause = StatusCause::End {
-        begun: ended.begun,
-        status: ended.signal.status,
-        more: ended.signal.more,
+        begun: *begun,
+        status: end.status,
+        more: end.more,
     };
     let before = state.dedicated;
     make_pending(state, &cause);
-    state.dedicated = dedicated_by_end(before, ended.signal);
+    state.dedicated = dedicated_by_end(before, *end);
 }
 
-fn stop_at(state: &mut SubchannelState, ended: &Ended, sent: &mut SentDown) -> bool
+fn stop_at(state: &mut SubchannelState, end: &EndSignal, sent: &mut SentDown) -> bool
     requires { state.old.serials.made < 2 ^ 63 }
-    ensures { subchannel_stepped state.new (came_so result sent.new) ≡ spec.stops_at state.old ended.now.begun ended.now.signal }
+    ensures { IfSome state.old.begun (λ b. subchannel_stepped state.new (came_so result sent.new) ≡ spec.stops_at state.old b end.now) }
 {
-    let last = is_last_end(ended.signal.status);
-    show_end(state, ended);
-    if last {
+    show_end(state, end);
+    if is_last_end(end.status) {
         let_go(state, sent)
     } else {
         quiet(sent)
     }
 }
 
+/// Whether the program at work goes on after an End.
+fn chains_at(state: &SubchannelState, end: &EndSignal) -> bool
+    ensures { result ≡ working_spec.chains_at state.now state.now.begun end.now }
+{
+    match &state.begun {
+        None => false,
+        Some(begun) => chains_command(state.scsw, begun, end.status, end.more),
+    }
+}
+
 fn command_ended(
     storage: &Storage,
     state: &mut SubchannelState,
-    ended: &Ended,
+    end: &EndSignal,
     sent: &mut SentDown,
 ) -> bool
     requires made { state.old.serials.made < 2 ^ 63 }
-    requires command { ended.now.begun.transfer.command < 2 ^ 63 }
-    ensures { subchannel_stepped state.new (came_so result sent.new) ≡ spec.command_ended storage.now state.old ended.now.begun ended.now.signal }
+    requires below { spec.IsBelow state.old.begun }
+    ensures { IfSome state.old.begun (λ b. subchannel_stepped state.new (came_so result sent.new) ≡ spec.command_ended storage.now state.old b end.now) }
 {
-    let signal = ended.signal;
-    if chains_command(state.scsw, &ended.begun, signal.status, signal.more) {
-        go_on(storage, state, &with_end(ended), sent)
+    if chains_at(state, end) {
+        go_on(storage, state, end, sent)
     } else {
-        stop_at(state, ended, sent)
+        stop_at(state, end, sent)
     }
 }
 
@@ -213,10 +264,13 @@ pub(crate) fn end_command(
 ) -> bool
     requires made { state.old.serials.made < 2 ^ 63 }
     requires below { spec.IsBelow state.old.begun }
-    ensures { subchannel_stepped state.new (came_so result sent.new) ≡ working_spec.end_met storage.now state.old (working_spec.ended_by state.old path (up_at signal.now)) }
+    ensures { subchannel_stepped state.new (came_so result sent.new) ≡ working_spec.end_taken_by storage.now state.old (working_spec.end_by path (up_at signal.now)) }
 {
-    match ended_by(state, path, signal) {
-        None => ignored(sent),
-        Some(ended) => command_ended(storage, state, &ended, sent),
+    let Some(end) = end_by(path, signal) else {
+        return ignored(sent);
+    };
+    if !Hold::of(state.hold).is_on(end.number) || !is_of_command(state, &end) {
+        return ignored(sent);
     }
+    command_ended(storage, state, &end, sent)
 }

@@ -3,11 +3,13 @@
 ghost use Rattle.std.specs.Prelude.{◌≡◌, ◌<◌, ◌≤◌, ◌^◌, IfSome, length};
 ghost use Rattle.signal_places.specs.Places.{came_so, up_at};
 ghost use Rattle.chan_model.specs.Loads.{load_length};
+ghost use Rattle.chan_model.specs.UnitReports.{is_outward as is_outward_code};
+ghost use Rattle.transfer.specs.Chunks.{brought as brought_by};
 ghost use Rattle.subchannel_model.specs.Taking as spec;
 ghost use Rattle.subchannel.specs.Working as working_spec;
 ghost use Rattle.subchannel.specs.Stepping.{subchannel_stepped};
 
-use crate::answers::{ignored, send};
+use crate::answers::ignored;
 use crate::intermediate::interrupt;
 use allegiance::allegiances::{AllegianceCause, dedicated};
 use chan_model::names::Path;
@@ -18,37 +20,9 @@ use signal_places::signals::UpPlace;
 use storage_keys::Storage;
 use subchannel_model::signals::DataSignal;
 use subchannel_model::state::{ActiveProgram, SubchannelState};
-use transfer::chunks::{absorbed, brought, is_answered, next_given};
-use transfer::commands::{is_outward, with_room};
-use transfer::{NextChunk, Transfer, WithRoom};
-
-/// A Data that the program at work takes, and the program.
-#[derive(Clone, Copy)]
-pub(crate) struct Moved {
-    pub(crate) begun: ActiveProgram,
-    pub(crate) signal: DataSignal,
-}
-
-/// The Data that a signal is. None where it is none, or not of the connection at hand, or is not to be answered.
-pub(crate) fn moved_by(state: &SubchannelState, path: Path, signal: &UpPlace) -> Option<Moved>
-    requires { spec.IsBelow state.now.begun }
-    ensures moved { result ≡ working_spec.moved_by state.now path (up_at signal.now) }
-    ensures sequence { IfSome result (λ m. m.signal.sequence < 2 ^ 63) }
-    ensures below { IfSome result (λ m. m.begun.transfer.sequence < 2 ^ 63) }
-{
-    let data = data_by(path, signal)?;
-    if !Hold::of(state.hold).is_connected(path, data.number, data.connection) {
-        return None;
-    }
-    let begun = state.begun?;
-    if !is_answered(&begun.transfer, data.command, data.sequence) {
-        return None;
-    }
-    Some(Moved {
-        begun,
-        signal: data,
-    })
-}
+use transfer::Transfer;
+use transfer::chunks::{absorb, bring, give_next, is_answered};
+use transfer::commands::{find_room, is_outward};
 
 /// The numbers of a Data. None where the signal is another.
 pub(crate) fn data_by(path: Path, signal: &UpPlace) -> Option<DataSignal>
@@ -87,62 +61,75 @@ fn dedicated_by_data(before: Option<Path>) -> Option<Path>
     dedicated(before, AllegianceCause::Data { later: true })
 }
 
-fn put_transfer(state: &mut SubchannelState, begun: &ActiveProgram, transfer: Transfer)
-    ensures { state.new ≡ spec.with_transfer state.old begun.now transfer }
-{
-    state.begun = Some(ActiveProgram { transfer, ..*begun });
-    state.dedicated = dedicated_by_data(state.dedicated);
-}
-
-/// The transfer of the program is a chunk or a command further; a block that took control may ask for an interruption.
-pub(crate) fn move_on(state: &mut SubchannelState, begun: &ActiveProgram, transfer: Transfer)
+/// The dedicated allegiance follows, and a block that took control may ask for an interruption.
+fn follow(state: &mut SubchannelState)
     requires { state.old.serials.made < 2 ^ 63 }
-    ensures { state.new ≡ spec.moving_on state.old begun.now transfer }
+    ensures { state.new ≡ working_spec.followed state.old }
 {
-    put_transfer(state, begun, transfer);
+    state.dedicated = dedicated_by_data(state.dedicated);
     interrupt(state);
 }
 
-fn give(
-    state: &mut SubchannelState,
-    moved: &Moved,
-    given: &NextChunk<'_>,
-    sent: &mut SentDown,
-) -> bool
-    requires made { state.old.serials.made < 2 ^ 63 }
-    requires sequence { moved.now.signal.sequence < 2 ^ 63 }
-    ensures { subchannel_stepped state.new (came_so result sent.new) ≡ spec.giving state.old moved.now.begun moved.now.signal given.now }
+/// The program at work is a command further; a block that took control may ask for an interruption.
+pub(crate) fn move_on(state: &mut SubchannelState, transfer: Transfer)
+    requires { state.old.serials.made < 2 ^ 63 }
+    ensures { IfSome state.old.begun (λ b. state.new ≡ spec.moving_on state.old b transfer) }
 {
-    let signal = moved.signal;
-    move_on(state, &moved.begun, given.transfer);
-    sent.put_give(
-        signal.path,
-        signal.number,
-        signal.connection,
-        signal.command,
-        signal.sequence + 1,
-        given.bytes.as_slice(),
-    );
-    true
+    if let Some(begun) = &mut state.begun {
+        begun.transfer = transfer;
+    }
+    follow(state);
 }
 
-fn answer(state: &mut SubchannelState, moved: &Moved, next: WithRoom, sent: &mut SentDown) -> bool
-    requires { state.old.serials.made < 2 ^ 63 }
-    ensures { subchannel_stepped state.new (came_so result sent.new) ≡ spec.answering state.old moved.now.begun moved.now.signal next }
+/// The device absorbed so many bytes; the next ones are given.
+fn give(
+    storage: &Storage,
+    begun: &mut ActiveProgram,
+    moved: &DataSignal,
+    count: usize,
+    sent: &mut SentDown,
+)
+    requires sequence { moved.now.sequence < 2 ^ 63 }
+    requires below { begun.old.transfer.sequence < 2 ^ 63 }
+    ensures begun { begun.new ≡ record begun.old { transfer = (working_spec.given storage.now begun.old moved.now count).transfer } }
+    ensures sent { sent.new ≡ working_spec.give_of moved.now (working_spec.given storage.now begun.old moved.now count) }
 {
-    let signal = moved.signal;
-    let WithRoom { transfer, room } = next;
-    move_on(state, &moved.begun, transfer);
-    send(
-        sent,
-        signal.path,
+    absorb(storage, &mut begun.transfer, moved.sequence, count);
+    let bytes = give_next(storage, &mut begun.transfer);
+    sent.put_give(
+        moved.path,
+        moved.number,
+        moved.connection,
+        moved.command,
+        moved.sequence + 1,
+        bytes.as_slice(),
+    );
+}
+
+/// The bytes that the device supplied are stored; it is told how many more may come.
+fn take_in(
+    storage: &mut Storage,
+    begun: &mut ActiveProgram,
+    moved: &DataSignal,
+    bytes: &[u8],
+    sent: &mut SentDown,
+)
+    requires { begun.old.transfer.sequence < 2 ^ 63 }
+    ensures storage { storage.new ≡ (brought_by storage.old begun.old.transfer moved.now.sequence bytes.now).storage }
+    ensures begun { begun.new ≡ record begun.old { transfer = (working_spec.taken_in storage.old begun.old moved.now bytes.now).transfer } }
+    ensures sent { sent.new ≡ working_spec.took_of moved.now (working_spec.taken_in storage.old begun.old moved.now bytes.now) }
+{
+    bring(storage, &mut begun.transfer, moved.sequence, bytes);
+    let room = find_room(storage, &mut begun.transfer);
+    sent.put(
+        moved.path,
         KeptDown::Took {
             room,
-            number: signal.number,
-            command: signal.command,
-            sequence: signal.sequence,
+            number: moved.number,
+            command: moved.command,
+            sequence: moved.sequence,
         },
-    )
+    );
 }
 
 /// The bytes that a Data brings.
@@ -167,26 +154,83 @@ fn count_of(signal: &UpPlace) -> usize
     }
 }
 
+/// Whether a Data is to be answered by the program at work.
+fn is_due(state: &SubchannelState, moved: &DataSignal) -> bool
+    requires { spec.IsBelow state.now.begun }
+    ensures { result ≡ working_spec.is_due state.now.begun moved.now }
+{
+    match &state.begun {
+        None => false,
+        Some(begun) => is_answered(&begun.transfer, moved.command, moved.sequence),
+    }
+}
+
+/// Whether the command at work takes bytes to the device.
+fn goes_out(state: &SubchannelState) -> bool
+    ensures { IfSome state.now.begun (λ b. result ≡ is_outward_code b.transfer.code) }
+{
+    match &state.begun {
+        None => false,
+        Some(begun) => is_outward(begun.transfer.code),
+    }
+}
+
+fn give_bytes(
+    storage: &Storage,
+    state: &mut SubchannelState,
+    moved: &DataSignal,
+    count: usize,
+    sent: &mut SentDown,
+) -> bool
+    requires made { state.old.serials.made < 2 ^ 63 }
+    requires sequence { moved.now.sequence < 2 ^ 63 }
+    requires below { spec.IsBelow state.old.begun }
+    ensures { IfSome state.old.begun (λ b. subchannel_stepped state.new (came_so result sent.new) ≡
+        spec.give_next storage.now state.old b moved.now count) }
+{
+    if let Some(begun) = &mut state.begun {
+        give(storage, begun, moved, count, sent);
+    }
+    follow(state);
+    true
+}
+
+fn take_bytes(
+    storage: &mut Storage,
+    state: &mut SubchannelState,
+    moved: &DataSignal,
+    bytes: &[u8],
+    sent: &mut SentDown,
+) -> bool
+    requires made { state.old.serials.made < 2 ^ 63 }
+    requires below { spec.IsBelow state.old.begun }
+    ensures { IfSome state.old.begun (λ b. spec.meets storage.new (subchannel_stepped state.new (came_so result sent.new)) ≡
+        spec.take_in state.old b moved.now (brought_by storage.old b.transfer moved.now.sequence bytes.now)) }
+{
+    if let Some(begun) = &mut state.begun {
+        take_in(storage, begun, moved, bytes, sent);
+    }
+    follow(state);
+    true
+}
+
 fn move_bytes(
     storage: &mut Storage,
     state: &mut SubchannelState,
-    moved: &Moved,
+    moved: &DataSignal,
     signal: &UpPlace,
     sent: &mut SentDown,
 ) -> bool
     requires made { state.old.serials.made < 2 ^ 63 }
-    requires sequence { moved.now.signal.sequence < 2 ^ 63 }
-    requires below { moved.now.begun.transfer.sequence < 2 ^ 63 }
-    ensures { spec.meets storage.new (subchannel_stepped state.new (came_so result sent.new)) ≡ spec.move_bytes storage.old state.old moved.now.begun moved.now.signal (working_spec.load_of (up_at signal.now)) }
+    requires sequence { moved.now.sequence < 2 ^ 63 }
+    requires below { spec.IsBelow state.old.begun }
+    ensures { IfSome state.old.begun (λ b. spec.meets storage.new (subchannel_stepped state.new (came_so result sent.new)) ≡
+        spec.move_bytes storage.old state.old b moved.now (working_spec.load_of (up_at signal.now))) }
 {
-    let transfer = &moved.begun.transfer;
-    let sequence = moved.signal.sequence;
-    if is_outward(transfer.code) {
-        let left = absorbed(storage, transfer, sequence, count_of(signal));
-        give(state, moved, &next_given(storage, &left), sent)
+    if goes_out(state) {
+        give_bytes(storage, state, moved, count_of(signal), sent)
     } else {
-        let taken = brought(storage, transfer, sequence, bytes_of(signal));
-        answer(state, moved, with_room(storage, &taken), sent)
+        take_bytes(storage, state, moved, bytes_of(signal), sent)
     }
 }
 
@@ -200,10 +244,15 @@ pub(crate) fn take_data(
 ) -> bool
     requires made { state.old.serials.made < 2 ^ 63 }
     requires below { spec.IsBelow state.old.begun }
-    ensures { spec.meets storage.new (subchannel_stepped state.new (came_so result sent.new)) ≡ working_spec.data_met storage.old state.old (working_spec.load_of (up_at signal.now)) (working_spec.moved_by state.old path (up_at signal.now)) }
+    ensures { spec.meets storage.new (subchannel_stepped state.new (came_so result sent.new)) ≡ working_spec.data_taken storage.old state.old (working_spec.load_of (up_at signal.now)) (working_spec.data_by path (up_at signal.now)) }
 {
-    match moved_by(state, path, signal) {
-        None => ignored(sent),
-        Some(moved) => move_bytes(storage, state, &moved, signal, sent),
+    let Some(moved) = data_by(path, signal) else {
+        return ignored(sent);
+    };
+    if !Hold::of(state.hold).is_connected(path, moved.number, moved.connection)
+        || !is_due(state, &moved)
+    {
+        return ignored(sent);
     }
+    move_bytes(storage, state, &moved, signal, sent)
 }

@@ -3,6 +3,7 @@
 ghost use Rattle.std.specs.Prelude.{◌≡◌, ◌<◌, ◌&&◌, not, slice_get};
 ghost use Rattle.allegiance.specs.Allegiances.{may_reconnect as may_reconnect_by};
 ghost use Rattle.allegiance.specs.PathUse as set_spec;
+ghost use Rattle.subchannel.specs.Usable as use_spec;
 ghost use Rattle.subchannel_model.specs.Choosing as spec;
 
 use allegiance::allegiances::may_reconnect;
@@ -35,6 +36,73 @@ fn is_engaged(subs: &Counted<'_>, sub: &Subchannel, path: usize) -> bool
         None => false,
         Some(chpid) => subs.is_engaged(*chpid),
     }
+}
+
+fn keeps_dedicated(sub: &Subchannel, path: usize) -> bool
+    ensures { result ≡ set_spec.keeps_dedicated sub.now.state.dedicated path }
+{
+    match sub.state.dedicated {
+        None => true,
+        Some(dedicated) => dedicated.index() == path,
+    }
+}
+
+/// Whether a path may be used and its engine is free. What differs most is asked first.
+#[inline(always)]
+#[tactic(auto, using(crate::proofs::Usable::usable_so))]
+fn is_usable(subs: &Counted<'_>, sub: &Subchannel, path: usize) -> bool
+    requires { path < 8 }
+    ensures { result ≡ use_spec.is_usable subs.now sub.now path }
+{
+    path < sub.setup.paths.as_slice().len()
+        && sub.state.pmcw.available[path]
+        && sub.state.pmcw.logical[path]
+        && keeps_dedicated(sub, path)
+        && !is_engaged(subs, sub, path)
+}
+
+/// The paths that may be used and whose engines are free.
+pub(crate) fn usable_paths(subs: &Counted<'_>, sub: &Subchannel) -> PathSet
+    ensures { result ≡ set_spec.usable_paths (spec.path_use sub.now) (spec.engaged_paths subs.now sub.now) }
+{
+    [
+        is_usable(subs, sub, 0),
+        is_usable(subs, sub, 1),
+        is_usable(subs, sub, 2),
+        is_usable(subs, sub, 3),
+        is_usable(subs, sub, 4),
+        is_usable(subs, sub, 5),
+        is_usable(subs, sub, 6),
+        is_usable(subs, sub, 7),
+    ]
+}
+
+/// Whether a path is found not operational. What differs most is asked first.
+#[inline(always)]
+#[tactic(auto, using(crate::proofs::Usable::lost_so))]
+fn is_lost(sub: &Subchannel, path: usize) -> bool
+    requires { path < 8 }
+    ensures { result ≡ use_spec.is_lost sub.now path }
+{
+    path < sub.setup.paths.as_slice().len()
+        && !sub.state.pmcw.available[path]
+        && sub.state.pmcw.operational[path]
+        && sub.state.pmcw.logical[path]
+        && keeps_dedicated(sub, path)
+}
+
+/// Whether some path is found not operational.
+pub(crate) fn is_any_lost(sub: &Subchannel) -> bool
+    ensures { result ≡ set_spec.is_any (set_spec.lost_paths (spec.path_use sub.now)) }
+{
+    is_lost(sub, 0)
+        || is_lost(sub, 1)
+        || is_lost(sub, 2)
+        || is_lost(sub, 3)
+        || is_lost(sub, 4)
+        || is_lost(sub, 5)
+        || is_lost(sub, 6)
+        || is_lost(sub, 7)
 }
 
 /// The paths of the subchannel whose engines serve some subchannel.

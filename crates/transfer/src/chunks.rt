@@ -71,18 +71,26 @@ fn is_next(transfer: &Transfer, sequence: u64) -> bool
     sequence == transfer.sequence + 1
 }
 
+/// The device absorbed so many bytes of a chunk.
+pub fn absorb(storage: &Storage, transfer: &mut Transfer, sequence: u64, count: usize)
+    requires { transfer.old.sequence < 2 ^ 63 }
+    ensures { transfer.new ≡ spec.taken_by_device storage.now transfer.old sequence count }
+{
+    if is_next(transfer, sequence) {
+        transfer.sequence = sequence;
+        transfer.stopped = transfer.stopped | (count < usize::from(transfer.offered));
+        let moved = count.min(usize::from(transfer.moving.room()));
+        move_on(storage, transfer, moved as u16);
+    }
+}
+
 /// The transfer after the device absorbed so many bytes of a chunk.
 pub fn absorbed(storage: &Storage, transfer: &Transfer, sequence: u64, count: usize) -> Transfer
     requires { transfer.now.sequence < 2 ^ 63 }
     ensures { result ≡ spec.taken_by_device storage.now transfer.now sequence count }
 {
     let mut next = *transfer;
-    if is_next(transfer, sequence) {
-        next.sequence = sequence;
-        next.stopped = transfer.stopped | (count < usize::from(transfer.offered));
-        let moved = count.min(usize::from(transfer.moving.room()));
-        move_on(storage, &mut next, moved as u16);
-    }
+    absorb(storage, &mut next, sequence, count);
     next
 }
 
@@ -114,13 +122,20 @@ fn give_from<'a>(storage: &'a Storage, transfer: &mut Transfer) -> ChunkSlice<'a
     }
 }
 
+/// The bytes of the next chunk as it is given to the device, as they lie in storage; the transfer takes note of them.
+pub fn give_next<'a>(storage: &'a Storage, transfer: &mut Transfer) -> ChunkSlice<'a>
+    ensures { next_chunk transfer.new result ≡ spec.next_given storage.now transfer.old }
+{
+    locate(storage, transfer);
+    give_from(storage, transfer)
+}
+
 /// The next chunk as it is given to the device: its bytes as they lie in storage.
 pub fn next_given<'a>(storage: &'a Storage, transfer: &Transfer) -> NextChunk<'a>
     ensures { result ≡ spec.next_given storage.now transfer.now }
 {
     let mut next = *transfer;
-    locate(storage, &mut next);
-    let bytes = give_from(storage, &mut next);
+    let bytes = give_next(storage, &mut next);
     NextChunk {
         transfer: next,
         bytes,
@@ -144,6 +159,19 @@ fn bring_in(storage: &mut Storage, transfer: &mut Transfer, bytes: &[u8])
     }
 }
 
+/// The device supplied a chunk: the bytes that there is room for are stored.
+pub fn bring(storage: &mut Storage, transfer: &mut Transfer, sequence: u64, bytes: &[u8])
+    requires { transfer.old.sequence < 2 ^ 63 }
+    ensures transfer { transfer.new ≡ (spec.brought storage.old transfer.old sequence bytes.now).transfer }
+    ensures storage { storage.new ≡ (spec.brought storage.old transfer.old sequence bytes.now).storage }
+{
+    if is_next(transfer, sequence) {
+        transfer.sequence = sequence;
+        let fitting = bytes.len().min(usize::from(transfer.moving.room()));
+        bring_in(storage, transfer, &bytes[..fitting]);
+    }
+}
+
 /// The transfer after a chunk that the device supplied. The bytes that there is room for are stored.
 pub fn brought(storage: &mut Storage, transfer: &Transfer, sequence: u64, bytes: &[u8]) -> Transfer
     requires { transfer.now.sequence < 2 ^ 63 }
@@ -151,11 +179,7 @@ pub fn brought(storage: &mut Storage, transfer: &Transfer, sequence: u64, bytes:
     ensures storage { storage.new ≡ (spec.brought storage.old transfer.now sequence bytes.now).storage }
 {
     let mut next = *transfer;
-    if is_next(transfer, sequence) {
-        next.sequence = sequence;
-        let fitting = bytes.len().min(usize::from(transfer.moving.room()));
-        bring_in(storage, &mut next, &bytes[..fitting]);
-    }
+    bring(storage, &mut next, sequence, bytes);
     next
 }
 

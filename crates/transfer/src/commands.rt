@@ -33,7 +33,8 @@ pub(crate) fn data_of(walk: &Walk, code: u8, ccw: Ccw) -> Move
     Move::begin(ListKind::of(&walk.orb()), ccw, is_skipped(code, ccw))
 }
 
-fn command_of(walk: Walk, command: u64, ccw: Ccw) -> Transfer
+/// The command of this number, whose block took control as the program came to where it stands.
+pub fn command_of(walk: Walk, command: u64, ccw: Ccw) -> Transfer
     ensures { result ≡ spec.transfer_of walk command ccw }
 {
     Transfer {
@@ -122,15 +123,23 @@ fn room_of(transfer: &Transfer) -> u16
     }
 }
 
+/// The room for the next chunk of a transfer, which finds the place for it.
+pub fn find_room(storage: &Storage, transfer: &mut Transfer) -> u16
+    ensures { record { transfer = transfer.new; room = result } ≡ spec.with_room storage.now transfer.old }
+{
+    locate(storage, transfer);
+    room_of(transfer)
+}
+
 /// A transfer with the room for its next chunk.
 pub fn with_room(storage: &Storage, transfer: &Transfer) -> WithRoom
     ensures { result ≡ spec.with_room storage.now transfer.now }
 {
     let mut next = *transfer;
-    locate(storage, &mut next);
+    let room = find_room(storage, &mut next);
     WithRoom {
         transfer: next,
-        room: room_of(&next),
+        room,
     }
 }
 
@@ -140,16 +149,25 @@ fn brings(class: Class) -> bool
     matches!(class, Class::Read | Class::Sense)
 }
 
+/// The room that the device of a command is told of, which is begun.
+pub fn room_to_tell(storage: &Storage, transfer: &mut Transfer) -> u16
+    ensures { record { transfer = transfer.new; room = result } ≡ spec.begun_with_room storage.now transfer.old }
+{
+    if brings(class(transfer.code)) {
+        find_room(storage, transfer)
+    } else {
+        0
+    }
+}
+
 /// A command that is begun, with the room that its device is told of.
 pub fn begun_with_room(storage: &Storage, transfer: &Transfer) -> WithRoom
     ensures { result ≡ spec.begun_with_room storage.now transfer.now }
 {
-    if brings(class(transfer.code)) {
-        with_room(storage, transfer)
-    } else {
-        WithRoom {
-            transfer: *transfer,
-            room: 0,
-        }
+    let mut next = *transfer;
+    let room = room_to_tell(storage, &mut next);
+    WithRoom {
+        transfer: next,
+        room,
     }
 }

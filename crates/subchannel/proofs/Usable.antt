@@ -1,0 +1,133 @@
+-- Of what decides whether a path is usable, or lost, each order of asking answers alike; and where no path is lost, the masks stay.
+use Rattle.std.proofs.Common.{◌≡◌, refl, ap₂, ℕ, Bool, true, false, List, [], ◌∷◌}
+use Rattle.std.specs.Prelude.{◌&&◌, ◌||◌, not, length}
+use Rattle.allegiance.specs.PathUse.{is_member, is_any, without, joined}
+
+-- logically available, of no other dedicated path, within, available, and engaged or operational
+pub usable_so : (l d i a e : Bool) → (i && (a && (l && (d && not e)))) ≡ (((l && d) && i) && (i && a)) && not e
+usable_so true true true true true = refl
+usable_so true true true true false = refl
+usable_so true true true false true = refl
+usable_so true true true false false = refl
+usable_so true true false true true = refl
+usable_so true true false true false = refl
+usable_so true true false false true = refl
+usable_so true true false false false = refl
+usable_so true false true true true = refl
+usable_so true false true true false = refl
+usable_so true false true false true = refl
+usable_so true false true false false = refl
+usable_so true false false true true = refl
+usable_so true false false true false = refl
+usable_so true false false false true = refl
+usable_so true false false false false = refl
+usable_so false true true true true = refl
+usable_so false true true true false = refl
+usable_so false true true false true = refl
+usable_so false true true false false = refl
+usable_so false true false true true = refl
+usable_so false true false true false = refl
+usable_so false true false false true = refl
+usable_so false true false false false = refl
+usable_so false false true true true = refl
+usable_so false false true true false = refl
+usable_so false false true false true = refl
+usable_so false false true false false = refl
+usable_so false false false true true = refl
+usable_so false false false true false = refl
+usable_so false false false false true = refl
+usable_so false false false false false = refl
+
+pub lost_so : (l d i a o : Bool) → (i && (not a && (o && (l && d)))) ≡ (((l && d) && i) && not (i && a)) && o
+lost_so true true true true true = refl
+lost_so true true true true false = refl
+lost_so true true true false true = refl
+lost_so true true true false false = refl
+lost_so true true false true true = refl
+lost_so true true false true false = refl
+lost_so true true false false true = refl
+lost_so true true false false false = refl
+lost_so true false true true true = refl
+lost_so true false true true false = refl
+lost_so true false true false true = refl
+lost_so true false true false false = refl
+lost_so true false false true true = refl
+lost_so true false false true false = refl
+lost_so true false false false true = refl
+lost_so true false false false false = refl
+lost_so false true true true true = refl
+lost_so false true true true false = refl
+lost_so false true true false true = refl
+lost_so false true true false false = refl
+lost_so false true false true true = refl
+lost_so false true false true false = refl
+lost_so false true false false true = refl
+lost_so false true false false false = refl
+lost_so false false true true true = refl
+lost_so false false true true false = refl
+lost_so false false true false true = refl
+lost_so false false true false false = refl
+lost_so false false false true true = refl
+lost_so false false false true false = refl
+lost_so false false false false true = refl
+lost_so false false false false false = refl
+
+or-first : (x y : Bool) → x || y ≡ false → x ≡ false
+or-first true y e = absurd (cc e)
+or-first false y e = refl
+
+or-second : (x y : Bool) → x || y ≡ false → y ≡ false
+or-second true y e = absurd (cc e)
+or-second false y e = e
+
+keeps : (x l : Bool) → l ≡ false → (x && not l) ≡ x
+keeps true true e = absurd (cc e)
+keeps true false e = refl
+keeps false l e = refl
+
+adds : (x l : Bool) → l ≡ false → (x || l) ≡ x
+adds true l e = refl
+adds false l e = e
+
+abbrev also : Bool → List Bool → List Bool
+also x xs = x ∷ xs
+
+pub kept_without : (set lost : List Bool) → length set ≡ 8 → is_any lost ≡ false → without set lost ≡ set
+kept_without [] lost whole none = absurd (cc whole)
+kept_without (a ∷ []) lost whole none = absurd (cc whole)
+kept_without (a ∷ b ∷ []) lost whole none = absurd (cc whole)
+kept_without (a ∷ b ∷ c ∷ []) lost whole none = absurd (cc whole)
+kept_without (a ∷ b ∷ c ∷ d ∷ []) lost whole none = absurd (cc whole)
+kept_without (a ∷ b ∷ c ∷ d ∷ e ∷ []) lost whole none = absurd (cc whole)
+kept_without (a ∷ b ∷ c ∷ d ∷ e ∷ f ∷ []) lost whole none = absurd (cc whole)
+kept_without (a ∷ b ∷ c ∷ d ∷ e ∷ f ∷ g ∷ []) lost whole none = absurd (cc whole)
+kept_without (a ∷ b ∷ c ∷ d ∷ e ∷ f ∷ g ∷ h ∷ []) lost whole none =
+    let r1 = or-second (is_member lost 0) _ none in
+    let r2 = or-second (is_member lost 1) _ r1 in
+    let r3 = or-second (is_member lost 2) _ r2 in
+    let r4 = or-second (is_member lost 3) _ r3 in
+    let r5 = or-second (is_member lost 4) _ r4 in
+    let r6 = or-second (is_member lost 5) _ r5 in
+    let r7 = or-second (is_member lost 6) _ r6 in
+    ap₂ also (keeps a (is_member lost 0) (or-first (is_member lost 0) _ none)) (ap₂ also (keeps b (is_member lost 1) (or-first (is_member lost 1) _ r1)) (ap₂ also (keeps c (is_member lost 2) (or-first (is_member lost 2) _ r2)) (ap₂ also (keeps d (is_member lost 3) (or-first (is_member lost 3) _ r3)) (ap₂ also (keeps e (is_member lost 4) (or-first (is_member lost 4) _ r4)) (ap₂ also (keeps f (is_member lost 5) (or-first (is_member lost 5) _ r5)) (ap₂ also (keeps g (is_member lost 6) (or-first (is_member lost 6) _ r6)) (ap₂ also (keeps h (is_member lost 7) r7) refl)))))))
+kept_without (a ∷ b ∷ c ∷ d ∷ e ∷ f ∷ g ∷ h ∷ i ∷ rest) lost whole none = absurd (cc whole)
+
+pub kept_joined : (set lost : List Bool) → length set ≡ 8 → is_any lost ≡ false → joined set lost ≡ set
+kept_joined [] lost whole none = absurd (cc whole)
+kept_joined (a ∷ []) lost whole none = absurd (cc whole)
+kept_joined (a ∷ b ∷ []) lost whole none = absurd (cc whole)
+kept_joined (a ∷ b ∷ c ∷ []) lost whole none = absurd (cc whole)
+kept_joined (a ∷ b ∷ c ∷ d ∷ []) lost whole none = absurd (cc whole)
+kept_joined (a ∷ b ∷ c ∷ d ∷ e ∷ []) lost whole none = absurd (cc whole)
+kept_joined (a ∷ b ∷ c ∷ d ∷ e ∷ f ∷ []) lost whole none = absurd (cc whole)
+kept_joined (a ∷ b ∷ c ∷ d ∷ e ∷ f ∷ g ∷ []) lost whole none = absurd (cc whole)
+kept_joined (a ∷ b ∷ c ∷ d ∷ e ∷ f ∷ g ∷ h ∷ []) lost whole none =
+    let r1 = or-second (is_member lost 0) _ none in
+    let r2 = or-second (is_member lost 1) _ r1 in
+    let r3 = or-second (is_member lost 2) _ r2 in
+    let r4 = or-second (is_member lost 3) _ r3 in
+    let r5 = or-second (is_member lost 4) _ r4 in
+    let r6 = or-second (is_member lost 5) _ r5 in
+    let r7 = or-second (is_member lost 6) _ r6 in
+    ap₂ also (adds a (is_member lost 0) (or-first (is_member lost 0) _ none)) (ap₂ also (adds b (is_member lost 1) (or-first (is_member lost 1) _ r1)) (ap₂ also (adds c (is_member lost 2) (or-first (is_member lost 2) _ r2)) (ap₂ also (adds d (is_member lost 3) (or-first (is_member lost 3) _ r3)) (ap₂ also (adds e (is_member lost 4) (or-first (is_member lost 4) _ r4)) (ap₂ also (adds f (is_member lost 5) (or-first (is_member lost 5) _ r5)) (ap₂ also (adds g (is_member lost 6) (or-first (is_member lost 6) _ r6)) (ap₂ also (adds h (is_member lost 7) r7) refl)))))))
+kept_joined (a ∷ b ∷ c ∷ d ∷ e ∷ f ∷ g ∷ h ∷ i ∷ rest) lost whole none = absurd (cc whole)
