@@ -415,9 +415,36 @@ impl Machine {
         answer.outcome = Outcome::Replied(PlainReply::Done);
     }
 
-    /// Performs one event, its answer in a place; a refusal changes nothing.
-    #[tactic(auto, using(crate::proofs::Storing::put_performs, crate::proofs::Storing::key_performs, crate::proofs::Storing::prefix_performs, crate::proofs::Storing::show_performs))]
+    /// Performs one event, its answer in a place; a refusal changes nothing. Those of a channel program are told apart here.
+    #[inline(always)]
     pub fn perform<P: PathChoice>(
+        &mut self,
+        places: &Places,
+        choice: &P,
+        event: &Event,
+        answer: &mut AnswerPlace,
+    )
+        requires fits { Fits places.now self.old.subs }
+        requires subs { All IsRoomy self.old.subs }
+        requires units { All IsUnitRoomy self.old.units }
+        requires postable { All IsPostable self.old.subs }
+        requires requests { self.old.requests.numbers ≡ 0x100 }
+        ensures performs { spec.Performs self.old event.now (answer_at answer.new) self.new }
+        ensures ruled { GoesByRule P.picks self.old event.now (answer_at answer.new) self.new }
+    {
+        match event {
+            Event::Up { subchannel, path } => self.up(places, *subchannel, *path, answer),
+            Event::Down { subchannel, path } => self.down(places, *subchannel, *path, answer),
+            Event::Report { unit, report } => self.report(places, *unit, report, answer),
+            Event::Choose { subchannel } => self.choose(places, choice, *subchannel, answer),
+            _ => self.perform_other(places, choice, event, answer),
+        }
+    }
+
+    /// Performs any event.
+    #[inline(never)]
+    #[tactic(auto, using(crate::proofs::Storing::put_performs, crate::proofs::Storing::key_performs, crate::proofs::Storing::prefix_performs, crate::proofs::Storing::show_performs))]
+    fn perform_other<P: PathChoice>(
         &mut self,
         places: &Places,
         choice: &P,

@@ -58,6 +58,7 @@ fn serve(sharing: &mut Sharing, number: u16) -> bool
 
 /// The unit is over, where its device was held and is not any more; then it may owe a control-unit end.
 #[tactic(auto, using(crate::proofs::Owing::owing_none))]
+#[inline(always)]
 fn end(sharing: &mut Sharing, number: u16, unit: &mut Unit, was_idle: bool)
     ensures members { sharing.new ≡ spec.members_over sharing.old number (not was_idle && unit_spec.is_idle «unit».old.own) }
     ensures owes { «unit».new ≡ spec.owing ((not was_idle && unit_spec.is_idle «unit».old.own)
