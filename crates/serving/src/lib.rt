@@ -11,6 +11,7 @@ ghost use Rattle.serving.specs.Serving.{IsBadLineOutput, TellsNoMemoryBy, status
 
 pub mod installation;
 pub mod performing;
+pub mod places;
 pub mod racing;
 mod running;
 pub mod tally;

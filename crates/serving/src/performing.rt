@@ -1,16 +1,18 @@
 //! Performing the actions of a script, line by line.
 
-ghost use Rattle.std.specs.Prelude.{◌≡◌, is_err};
+ghost use Rattle.std.specs.Prelude.{◌≡◌, ◌≤◌, is_err, length};
+ghost use Rattle.script_rows.specs.Places.{action_in, action_length};
 ghost use Rattle.script_text.specs.Text.{event_line};
 ghost use Rattle.serving.specs.Acting as acting_spec;
 ghost use Rattle.serving.specs.Performing.{IsDone, PerformsLines};
 ghost use Rattle.streams.specs.Sinks.{Puts};
 
 use crate::installation::{Acted, Installation};
+use crate::places::Places;
 use chan_model::fault::Fault;
 use core_lock::naming::Naming;
-use script::Line;
 use script::lines::Lines;
+use script_rows::places::KeptAction;
 use script_text::held::Held;
 use script_text::{ActionResult, put_answer_line_at_once, put_event_line_at_once};
 use scsw_irb::serials::Serials;
@@ -72,18 +74,21 @@ fn write<S: Sink>(
     }
 }
 
-/// Performs one line and writes what it prints, through places of their own.
+/// Performs one line, whose action stands there, and writes what it prints, through places of their own.
 fn perform_one<J: Naming, S: Sink>(
     installation: &mut Installation<J>,
-    line: &Line,
-    place: &mut AnswerPlace,
+    number: u64,
+    action: &KeptAction,
+    bytes: &[u8],
+    places: &mut Places,
     held: &mut Held,
     sink: &mut S,
 ) -> Written
-    ensures { IsDone installation.old line.now (S.seen sink.old) (S.seen sink.new) result installation.new }
+    requires { action_length action.now ≤ length bytes.now }
+    ensures { IsDone installation.old (record { number = number; action = action_in action.now bytes.now }) (S.seen sink.old) (S.seen sink.new) result installation.new }
 {
-    let acted = installation.act(&line.action, place);
-    write(sink, held, line.number, acted, place)
+    let acted = installation.act(action, bytes, places);
+    write(sink, held, number, acted, &places.answer)
 }
 
 /// Performs the lines in order, up to the first whose print is not written whole.
@@ -94,14 +99,22 @@ pub fn perform<J: Naming, S: Sink>(
 ) -> PerformedLines
     ensures { PerformsLines installation.old lines.now (S.seen sink.old) (S.seen sink.new) result installation.new }
 {
-    let mut answer = AnswerPlace::new();
+    let mut places = Places::new();
     let mut held = Held::new();
     let mut refused = false;
     for place in 0..lines.len() {
-        let Some(line) = lines.get(place) else {
+        let Some((number, action, bytes)) = lines.kept(place) else {
             break;
         };
-        let written = perform_one(installation, &line, &mut answer, &mut held, sink);
+        let written = perform_one(
+            installation,
+            number,
+            action,
+            bytes,
+            &mut places,
+            &mut held,
+            sink,
+        );
         refused = refused | written.refused;
         if !written.whole {
             return PerformedLines {
