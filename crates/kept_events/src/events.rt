@@ -236,42 +236,6 @@ impl KeptEvent {
         }
     }
 
-    /// Writes the event with the first of these bytes into a place.
-    #[inline(always)]
-    pub fn write(&self, bytes: &[u8], place: &mut Event)
-        requires { spec.event_length self.now ≤ length bytes.now }
-        ensures { place.new ≡ spec.event_in self.now bytes.now }
-    {
-        match self {
-            KeptEvent::Execute { cpu, instruction } => *place = Event::Execute {
-                cpu: *cpu,
-                instruction: *instruction,
-            },
-            KeptEvent::Choose { subchannel } => *place = Event::Choose {
-                subchannel: *subchannel,
-            },
-            KeptEvent::Up { subchannel, path } => *place = Event::Up {
-                subchannel: *subchannel,
-                path: *path,
-            },
-            KeptEvent::Down { subchannel, path } => *place = Event::Down {
-                subchannel: *subchannel,
-                path: *path,
-            },
-            _ => self.write_other(bytes, place),
-        }
-    }
-
-    /// The same, apart, as it is rare.
-    #[cold]
-    #[inline(never)]
-    fn write_other(&self, bytes: &[u8], place: &mut Event)
-        requires { spec.event_length self.now ≤ length bytes.now }
-        ensures { place.new ≡ spec.event_in self.now bytes.now }
-    {
-        *place = self.with(bytes);
-    }
-
     /// The event with the first of these bytes.
     pub fn with(&self, bytes: &[u8]) -> Event
         requires { spec.event_length self.now ≤ length bytes.now }

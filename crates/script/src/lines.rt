@@ -8,7 +8,7 @@ use crate::kept::{KeptLine, push};
 use script_rows::places::{ActionPlace, KeptAction};
 use std::alloc::{AllocError, Global};
 use std::marker::Model;
-use supply::{Supply, extend};
+use supply::{Supply, extend, make_room};
 
 /// Lines in order. Each takes 56 bytes and those of its event.
 #[derive(Drop)]
@@ -52,6 +52,15 @@ impl Lines {
             kept: Vec::new(alloc),
             bytes: Vec::new(alloc),
         }
+    }
+
+    /// Makes room for so many lines more; that of their bytes is not made.
+    pub fn make_room<S: Supply>(&mut self, supply: &mut S, count: usize) -> Result<(), AllocError>
+        ensures kept { self.new ≡ self.old }
+        ensures given { OnOk result (S.refused supply.new ≡ S.refused supply.old) }
+        ensures memory { OnErr result (S.refused supply.new ≡ true) }
+    {
+        make_room(supply, &mut self.kept, count)
     }
 
     /// How many lines there are.

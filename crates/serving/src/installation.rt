@@ -13,10 +13,11 @@ ghost use Rattle.core_lock.specs.Seats.{entries_by};
 ghost use Rattle.device_models.specs.AnyDevices.{device_of};
 ghost use Rattle.chan_model.specs.declared.report.Report.{Report};
 ghost use Rattle.kept_work.specs.Works.{call_in, work_in};
+ghost use Rattle.kept_events.specs.Events.{event_in, event_length};
 ghost use Rattle.script_rows.specs.Places.{action_in, action_length};
 ghost use Rattle.chan_events.specs.declared.event.Event.TheVariants as event_spec;
 
-use crate::places::{Places, no_report};
+use crate::places::{Places, no_report, write_down, write_up};
 use crate::racing::{Racers, one_seat};
 use chan_events::event::Event;
 use chan_model::fault::Fault;
@@ -31,6 +32,7 @@ use device_law::Device;
 use device_law::answering::answer_to;
 use device_models::any_device::AnyDevice;
 use glance_cell::words::Glance;
+use kept_events::events::KeptEvent;
 use kept_work::works::{KeptCall, KeptWork, Task};
 use machine_steps::kept_turns::KeptTurn;
 use path_select::Rotating;
@@ -125,8 +127,7 @@ impl<J: Naming> Installation<J> {
     {
         match action {
             KeptAction::Event(event) => {
-                event.write(bytes, &mut places.event);
-                self.enter(&places.event, &mut places.answer);
+                self.perform(event, bytes, places);
                 Acted::Answered
             }
             KeptAction::Dev(unit) => {
@@ -135,6 +136,48 @@ impl<J: Naming> Installation<J> {
             }
             KeptAction::Glance(subchannel) => Acted::Looked(self.look(*subchannel)),
         }
+    }
+
+    /// Performs the event that is kept so, whose bytes stand there, from its place.
+    fn perform(&mut self, event: &KeptEvent, bytes: &[u8], places: &mut Places)
+        requires { event_length event.now ≤ length bytes.now }
+        ensures { Happens self.old (event_in event.now bytes.now) (answer_at places.new.answer) self.new }
+    {
+        match event {
+            KeptEvent::Up { subchannel, path } => {
+                write_up(&mut places.up, *subchannel, *path);
+                self.enter(&places.up, &mut places.answer);
+            }
+            KeptEvent::Down { subchannel, path } => {
+                write_down(&mut places.down, *subchannel, *path);
+                self.enter(&places.down, &mut places.answer);
+            }
+            KeptEvent::Choose { subchannel } => {
+                places.event = Event::Choose {
+                    subchannel: *subchannel,
+                };
+                self.enter(&places.event, &mut places.answer);
+            }
+            KeptEvent::Execute { cpu, instruction } => {
+                places.event = Event::Execute {
+                    cpu: *cpu,
+                    instruction: *instruction,
+                };
+                self.enter(&places.event, &mut places.answer);
+            }
+            _ => self.perform_other(event, bytes, places),
+        }
+    }
+
+    /// The same, apart, as it is rare.
+    #[cold]
+    #[inline(never)]
+    fn perform_other(&mut self, event: &KeptEvent, bytes: &[u8], places: &mut Places)
+        requires { event_length event.now ≤ length bytes.now }
+        ensures { Happens self.old (event_in event.now bytes.now) (answer_at places.new.answer) self.new }
+    {
+        places.event = event.with(bytes);
+        self.enter(&places.event, &mut places.answer);
     }
 
     /// Whether each look showed what the subsystem had, and the seat's log is what the history has of it.
@@ -188,6 +231,8 @@ impl<J: Naming> Installation<J> {
     }
 
     /// Looks from the seat at the serials of the subchannel that a word names, and shows those that the subsystem has.
+    #[cold]
+    #[inline(never)]
     fn look(&mut self, subchannel: u32) -> Option<Serials>
         ensures { Looks self.old (serials_in (sub_of self.old.past.state subchannel)) (spec.glanced result) self.new }
     {
@@ -246,7 +291,7 @@ impl<J: Naming> Installation<J> {
             return Err(Fault::NoSuchUnit);
         };
         if let Some(kept) = kept {
-            *report = kept.copy();
+            copy_to(kept, report);
             return Ok(());
         }
         match turn {
@@ -273,6 +318,15 @@ impl<J: Naming> Installation<J> {
             }
         }
     }
+}
+
+/// Writes the same report into a place.
+#[cold]
+#[inline(never)]
+fn copy_to(kept: &Report, report: &mut Report)
+    ensures { report.new ≡ kept.now }
+{
+    *report = kept.copy();
 }
 
 /// No report is kept.
@@ -389,7 +443,9 @@ fn restart_device(devices: &mut Vec<AnyDevice>, event: &Event)
     }
 }
 
-/// The device of a unit is put back to its opening.
+/// The device of a unit is put back to its opening: apart, as it is rare.
+#[cold]
+#[inline(never)]
 fn put_back(devices: &mut Vec<AnyDevice>, unit: u32)
     ensures { devices.new.items ≡ spec.put_back devices.old.items «unit» (slice_get devices.old.items «unit») }
 {

@@ -48,7 +48,27 @@ fn glanced(own: Option<Serials>) -> Result<ActionResult, Fault>
     }
 }
 
+/// Writes what a look came to, through a place of its own: apart, as it is rare.
+#[cold]
+#[inline(never)]
+fn write_look<S: Sink>(
+    sink: &mut S,
+    held: &mut Held,
+    number: u64,
+    own: Option<Serials>,
+) -> Written
+    ensures refused { result.refused ≡ is_err (acting_spec.glanced own) }
+    ensures prints { Puts (S.seen sink.old) (event_line number (acting_spec.glanced own)) (S.seen sink.new) result.whole }
+{
+    let outcome = glanced(own);
+    Written {
+        whole: put_event_line_at_once(sink, held, number, &outcome),
+        refused: outcome.is_err(),
+    }
+}
+
 /// Writes what an action came to, through a place of its own.
+#[inline(always)]
 fn write<S: Sink>(
     sink: &mut S,
     held: &mut Held,
@@ -64,13 +84,7 @@ fn write<S: Sink>(
             whole: put_answer_line_at_once(sink, held, number, place),
             refused: !place.is_reply(),
         },
-        Acted::Looked(own) => {
-            let outcome = glanced(own);
-            Written {
-                whole: put_event_line_at_once(sink, held, number, &outcome),
-                refused: outcome.is_err(),
-            }
-        }
+        Acted::Looked(own) => write_look(sink, held, number, own),
     }
 }
 
