@@ -89,11 +89,7 @@ impl Lines {
     {
         match self.kept.as_slice().get(place) {
             None => None,
-            Some(kept) => Some((
-                kept.number,
-                &kept.action,
-                kept.bytes(self.bytes.as_slice()),
-            )),
+            Some(kept) => Some((kept.number, &kept.action, kept.bytes(self.bytes.as_slice()))),
         }
     }
 

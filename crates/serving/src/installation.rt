@@ -12,16 +12,16 @@ ghost use Rattle.core_lock.specs.Directory.{directory_of};
 ghost use Rattle.core_lock.specs.Seats.{entries_by};
 ghost use Rattle.device_models.specs.AnyDevices.{device_of};
 ghost use Rattle.chan_model.specs.declared.report.Report.{Report};
-ghost use Rattle.kept_work.specs.Works.{call_in, work_in};
 ghost use Rattle.kept_events.specs.Events.{event_in, event_length};
 ghost use Rattle.script_rows.specs.Places.{action_in, action_length};
 ghost use Rattle.chan_events.specs.declared.event.Event.TheVariants as event_spec;
 
 use crate::places::{Places, no_report, write_down, write_up};
 use crate::racing::{Racers, one_seat};
+use crate::reports::{copy_to, forget, keep, worked};
 use chan_events::event::Event;
 use chan_model::fault::Fault;
-use chan_model::report::{DeviceAnswer, Report};
+use chan_model::report::Report;
 use channel_config::config::Config;
 use channel_config::parts::UnitKind;
 use core_lock::locked::{Core, Seat, audit};
@@ -29,11 +29,9 @@ use core_lock::naming::Naming;
 use core_lock::parts::Parts;
 use core_lock::supplies::CoreSupply;
 use device_law::Device;
-use device_law::answering::answer_to;
 use device_models::any_device::AnyDevice;
 use glance_cell::words::Glance;
 use kept_events::events::KeptEvent;
-use kept_work::works::{KeptCall, KeptWork, Task};
 use machine_steps::kept_turns::KeptTurn;
 use path_select::Rotating;
 use script_rows::places::KeptAction;
@@ -320,35 +318,6 @@ impl<J: Naming> Installation<J> {
     }
 }
 
-/// Writes the same report into a place.
-#[cold]
-#[inline(never)]
-fn copy_to(kept: &Report, report: &mut Report)
-    ensures { report.new ≡ kept.now }
-{
-    *report = kept.copy();
-}
-
-/// No report is kept.
-fn forget(kept: &mut Option<Report>)
-    ensures { kept.new ≡ None }
-{
-    if kept.is_some() {
-        *kept = None;
-    }
-}
-
-/// The report that an event hands in is kept.
-#[cold]
-#[inline(never)]
-fn keep(kept: &mut Option<Report>, event: &Event)
-    ensures { (place : ℕ) (report : Report) → event.now ≡ event_spec.Report place report → kept.new ≡ Some report }
-{
-    if let Event::Report { report, .. } = event {
-        *kept = Some(report.copy());
-    }
-}
-
 /// Whether the log of a machine's one seat is what the history has of it.
 fn has_its_log<J: Naming>(core: &Core<J, Rotating>, seat: Seat<J>) -> bool
     ensures { IsTrue result ↔ (entries_by seat.value.number core.now.value.by core.now.value.history ≡ seat.value.log) }
@@ -486,49 +455,4 @@ fn opening_devices<S: Supply>(
         push(supply, &mut devices, AnyDevice::of(*kind))?;
     }
     Ok(devices)
-}
-
-/// The report of a work of a unit, written into a place. Where there is a call of its device, it is made; these bytes stand beside it.
-fn worked(
-    devices: &mut Vec<AnyDevice>,
-    unit: u32,
-    work: KeptWork,
-    bytes: &[u8],
-    report: &mut Report,
-) -> Result<(), Fault>
-    requires { length bytes.now ≤ 256 }
-    ensures report { spec.reported result report.new ≡ spec.report_of_work (slice_get devices.old.items «unit») (work_in work bytes.now) }
-    ensures calls { devices.new.items ≡ spec.devices_after devices.old.items «unit» (work_in work bytes.now) }
-{
-    work.number(report);
-    match work.task {
-        Task::Call(call) => {
-            if !called(devices, unit, call, bytes, &mut report.answer) {
-                return Err(Fault::NoSuchUnit);
-            }
-        }
-        Task::Again => report.answer = DeviceAnswer::Again,
-        Task::Ended { status, more } => report.answer = DeviceAnswer::Ended { status, more },
-    }
-    Ok(())
-}
-
-/// Calls the device of a unit, whose answer is written into a place; false where there is none.
-fn called(
-    devices: &mut Vec<AnyDevice>,
-    unit: u32,
-    call: KeptCall,
-    bytes: &[u8],
-    place: &mut DeviceAnswer,
-) -> bool
-    requires { length bytes.now ≤ 256 }
-    ensures answer { spec.answer_when result place.new ≡ spec.answer_by (slice_get devices.old.items «unit») (call_in call bytes.now) }
-    ensures calls { devices.new.items ≡
-        spec.called devices.old.items «unit» (slice_get devices.old.items «unit») (call_in call bytes.now) }
-{
-    let Some(device) = devices.get_mut(unit as usize) else {
-        return false;
-    };
-    answer_to(device, call, bytes, place);
-    true
 }

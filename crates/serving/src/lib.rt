@@ -13,6 +13,7 @@ pub mod installation;
 pub mod performing;
 pub mod places;
 pub mod racing;
+mod reports;
 mod running;
 pub mod tally;
 

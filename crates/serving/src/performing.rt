@@ -51,12 +51,7 @@ fn glanced(own: Option<Serials>) -> Result<ActionResult, Fault>
 /// Writes what a look came to, through a place of its own: apart, as it is rare.
 #[cold]
 #[inline(never)]
-fn write_look<S: Sink>(
-    sink: &mut S,
-    held: &mut Held,
-    number: u64,
-    own: Option<Serials>,
-) -> Written
+fn write_look<S: Sink>(sink: &mut S, held: &mut Held, number: u64, own: Option<Serials>) -> Written
     ensures refused { result.refused ≡ is_err (acting_spec.glanced own) }
     ensures prints { Puts (S.seen sink.old) (event_line number (acting_spec.glanced own)) (S.seen sink.new) result.whole }
 {
