@@ -35,13 +35,25 @@ pub fn answer_to<D: Device>(device: &mut D, call: KeptCall, bytes: &[u8], place:
 {
     match call {
         KeptCall::Initial { code } => initial_to(device, code, place),
-        KeptCall::Absorb => *place = DeviceAnswer::Absorbed(device.absorb(bytes) as u16),
+        KeptCall::Absorb => absorb_to(device, bytes, place),
         KeptCall::Supply { most } => supply_to(device, most, place),
         KeptCall::Finish => {
             let Finish { status, more } = device.finish();
             *place = DeviceAnswer::Ended { status, more };
         }
     }
+}
+
+/// The answer that bytes of a write were absorbed, written into its place.
+#[inline(never)]
+fn absorb_to<D: Device>(device: &mut D, bytes: &[u8], place: &mut DeviceAnswer)
+    requires { length bytes.now ≤ 256 }
+    ensures law { IsAnswer (call_spec.Absorb bytes.now) place.new }
+    ensures answers { D.answers device.old (call_spec.Absorb bytes.now) place.new device.new }
+    ensures opening { D.opening device.new ≡ D.opening device.old }
+{
+    let count = device.absorb(bytes) as u16;
+    *place = DeviceAnswer::Absorbed(count);
 }
 
 /// The answer that has bytes, written into its place.

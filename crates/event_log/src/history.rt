@@ -82,7 +82,7 @@ impl<'a> History<'a> {
     }
 }
 
-/// The bytes of an entry.
+/// The bytes of an entry; where none follow it has none.
 fn bytes_of<'a>(kept: &KeptEntry, arena: &'a [u8]) -> &'a [u8]
     requires { spec.Fits (length arena.now) kept.now }
     ensures value { result.now ≡ take (entry_length kept.now) (drop kept.now.start arena.now) }
@@ -90,6 +90,9 @@ fn bytes_of<'a>(kept: &KeptEntry, arena: &'a [u8]) -> &'a [u8]
     ensures bound { length result.now ≤ 768 }
 {
     let bytes = &arena[kept.start..];
+    if bytes.is_empty() {
+        return bytes;
+    }
     &bytes[..kept.length()]
 }
 
@@ -116,7 +119,17 @@ fn packed_same(one: &KeptEntry, bytes: &[u8], other: &KeptEntry, other_bytes: &[
     requires other { spec.Fits (length other_bytes.now) other.now }
     ensures { IsTrue result → spec.entry_at bytes.now one.now ≡ spec.entry_at other_bytes.now other.now }
 {
-    same_kept(one, other) && bytes_of(one, bytes) == bytes_of(other, other_bytes)
+    same_kept(one, other) && same_bytes(one, bytes, other, other_bytes)
+}
+
+/// Whether both, which are kept with the same numbers, have the same bytes: most have none.
+fn same_bytes(one: &KeptEntry, bytes: &[u8], other: &KeptEntry, other_bytes: &[u8]) -> bool
+    requires one { spec.Fits (length bytes.now) one.now }
+    requires other { spec.Fits (length other_bytes.now) other.now }
+    requires numbers { (one.now.event ≡ other.now.event) × (one.now.reply ≡ other.now.reply) }
+    ensures { IsTrue result → spec.entry_at bytes.now one.now ≡ spec.entry_at other_bytes.now other.now }
+{
+    one.length() == 0 || bytes_of(one, bytes) == bytes_of(other, other_bytes)
 }
 
 /// Whether both are the same entry, which each is unpacked to.

@@ -154,6 +154,9 @@ pub fn draft_of<'a, S: Supply>(
         lines: Lines::new(alloc),
         race: None,
     };
+    if draft.lines.make_room(supply, lines.len()).is_err() {
+        return Err(ScriptBad::NoMemory);
+    }
     let mut words = Vec::new(alloc);
     let mut place = ActionPlace::new();
     for (i, line) in lines.iter().enumerate() {

@@ -2,6 +2,7 @@
 
 ghost use Rattle.std.specs.Prelude.{◌≡◌, ◌≤◌, ◌<◌, ◌++◌, ◌∷◌, [], ℕ, List, length, vec_len, vec_capacity};
 ghost use Rattle.script.specs.Keeping as spec;
+ghost use Rattle.script_rows.specs.Places.{action_length};
 
 use crate::Line;
 use script_rows::places::KeptAction;
@@ -15,6 +16,16 @@ pub struct KeptLine {
 }
 
 impl KeptLine {
+    /// Its bytes, which stand from its start on.
+    pub fn bytes<'a>(&self, arena: &'a [u8]) -> &'a [u8]
+        requires { spec.Fits (length arena.now) self.now }
+        ensures line { spec.line_in self.now result.now ≡ spec.line_at arena.now self.now }
+        ensures length { length result.now ≡ action_length self.now.action }
+    {
+        let bytes = &arena[self.start..];
+        &bytes[..self.action.length()]
+    }
+
     /// The line whose bytes stand from its start on.
     pub fn at(&self, arena: &[u8]) -> Line
         requires { spec.Fits (length arena.now) self.now }

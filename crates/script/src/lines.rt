@@ -1,14 +1,14 @@
 //! The lines of a script, packed over one arena of their bytes.
 
-ghost use Rattle.std.specs.Prelude.{◌≡◌, ◌≤◌, ◌++◌, ◌∷◌, [], true, OnOk, OnErr, length, slice_get};
-ghost use Rattle.script_rows.specs.Places.{action_at};
+ghost use Rattle.std.specs.Prelude.{◌≡◌, ◌≤◌, ◌++◌, ◌∷◌, [], true, IfSome, MatchOption, Some, None, OnOk, OnErr, length, slice_get};
+ghost use Rattle.script_rows.specs.Places.{action_at, action_in, action_length};
 
 use crate::Line;
 use crate::kept::{KeptLine, push};
-use script_rows::places::ActionPlace;
+use script_rows::places::{ActionPlace, KeptAction};
 use std::alloc::{AllocError, Global};
 use std::marker::Model;
-use supply::{Supply, extend};
+use supply::{Supply, extend, make_room};
 
 /// Lines in order. Each takes 56 bytes and those of its event.
 #[derive(Drop)]
@@ -54,6 +54,15 @@ impl Lines {
         }
     }
 
+    /// Makes room for so many lines more; that of their bytes is not made.
+    pub fn make_room<S: Supply>(&mut self, supply: &mut S, count: usize) -> Result<(), AllocError>
+        ensures kept { self.new ≡ self.old }
+        ensures given { OnOk result (S.refused supply.new ≡ S.refused supply.old) }
+        ensures memory { OnErr result (S.refused supply.new ≡ true) }
+    {
+        make_room(supply, &mut self.kept, count)
+    }
+
     /// How many lines there are.
     pub fn len(&self) -> usize
         ensures { result ≡ length self.now }
@@ -68,6 +77,19 @@ impl Lines {
         match self.kept.as_slice().get(place) {
             None => None,
             Some(kept) => Some(kept.at(self.bytes.as_slice())),
+        }
+    }
+
+    /// The number of the line at this place and its action, whose bytes stand beside it; None where there is none.
+    #[inline(always)]
+    pub fn kept(&self, place: usize) -> Option<(u64, &KeptAction, &[u8])>
+        ensures line { MatchOption result (slice_get self.now place ≡ None)
+            (λ k. slice_get self.now place ≡ Some (record { number = k.0; action = action_in k.1.now k.2.now })) }
+        ensures length { IfSome result (λ k. action_length k.1.now ≤ length k.2.now) }
+    {
+        match self.kept.as_slice().get(place) {
+            None => None,
+            Some(kept) => Some((kept.number, &kept.action, kept.bytes(self.bytes.as_slice()))),
         }
     }
 

@@ -21,36 +21,36 @@ use streams::Sink;
 fn put_down_name<S: Sink>(sink: &mut S, signal: &DownPlace) -> bool
     ensures { Puts (S.seen sink.old) (spec.down_name (down_at signal.now)) (S.seen sink.new) result }
 {
-    sink.put(match &signal.kept {
-        KeptDown::Select { .. } => b"select",
-        KeptDown::Command { .. } => b"command",
-        KeptDown::Grant { .. } => b"grant",
-        KeptDown::Refuse { .. } => b"refuse",
-        KeptDown::Took { .. } => b"took",
-        KeptDown::Give { .. } => b"give",
-        KeptDown::Halt { .. } => b"halt",
-        KeptDown::Release { .. } => b"release",
-        KeptDown::Reset { .. } => b"reset",
-        KeptDown::Got { .. } => b"got",
-    })
+    match &signal.kept {
+        KeptDown::Select { .. } => sink.put(b"select"),
+        KeptDown::Command { .. } => sink.put(b"command"),
+        KeptDown::Grant { .. } => sink.put(b"grant"),
+        KeptDown::Refuse { .. } => sink.put(b"refuse"),
+        KeptDown::Took { .. } => sink.put(b"took"),
+        KeptDown::Give { .. } => sink.put(b"give"),
+        KeptDown::Halt { .. } => sink.put(b"halt"),
+        KeptDown::Release { .. } => sink.put(b"release"),
+        KeptDown::Reset { .. } => sink.put(b"reset"),
+        KeptDown::Got { .. } => sink.put(b"got"),
+    }
 }
 
 fn put_up_name<S: Sink>(sink: &mut S, signal: &UpPlace) -> bool
     ensures { Puts (S.seen sink.old) (spec.up_name (up_at signal.now)) (S.seen sink.new) result }
 {
-    sink.put(match &signal.kept {
-        KeptUp::Accept { .. } => b"accept",
-        KeptUp::Busy { .. } => b"busy",
-        KeptUp::Leave { .. } => b"leave",
-        KeptUp::Back { .. } => b"back",
-        KeptUp::Absorbed { .. } => b"data",
-        KeptUp::Bytes { .. } => b"data",
-        KeptUp::End { .. } => b"end",
-        KeptUp::Released { .. } => b"released",
-        KeptUp::Cleared { .. } => b"cleared",
-        KeptUp::Notice { .. } => b"notice",
-        KeptUp::Attn { .. } => b"attn",
-    })
+    match &signal.kept {
+        KeptUp::Accept { .. } => sink.put(b"accept"),
+        KeptUp::Busy { .. } => sink.put(b"busy"),
+        KeptUp::Leave { .. } => sink.put(b"leave"),
+        KeptUp::Back { .. } => sink.put(b"back"),
+        KeptUp::Absorbed { .. } => sink.put(b"data"),
+        KeptUp::Bytes { .. } => sink.put(b"data"),
+        KeptUp::End { .. } => sink.put(b"end"),
+        KeptUp::Released { .. } => sink.put(b"released"),
+        KeptUp::Cleared { .. } => sink.put(b"cleared"),
+        KeptUp::Notice { .. } => sink.put(b"notice"),
+        KeptUp::Attn { .. } => sink.put(b"attn"),
+    }
 }
 
 /// A signal that was met on its way up.
@@ -135,8 +135,17 @@ pub fn put_answer_line_at_once<S: Sink>(
 {
     held.clear();
     if put_pieces(held, line, place) {
-        sink.put(held.bytes.as_slice())
+        sink.put(held.bytes())
     } else {
-        put_pieces(sink, line, place)
+        put_long(sink, line, place)
     }
+}
+
+/// The line of one event that is longer: apart, as it is rare.
+#[cold]
+#[inline(never)]
+fn put_long<S: Sink>(sink: &mut S, line: u64, place: &AnswerPlace) -> bool
+    ensures { Puts (S.seen sink.old) (spec.event_line line (spec.told_of (answer_at place.now))) (S.seen sink.new) result }
+{
+    put_pieces(sink, line, place)
 }

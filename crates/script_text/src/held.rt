@@ -1,50 +1,68 @@
 //! A line that waits until it is whole.
 
-ghost use Rattle.std.specs.Prelude.{◌≡◌, [], false};
+ghost use Rattle.std.specs.Prelude.{◌≡◌, ◌≤◌, [], false, take};
 
-use arrayvec::ArrayVec;
 use streams::Sink;
+
+/// How many bytes there is room for.
+const HELD_BYTES: usize = 640;
 
 /// Up to 640 bytes, in a place of their own. It fails where there are more: then it has a beginning of them.
 #[derive(Drop)]
 pub struct Held {
-    pub bytes: ArrayVec<u8, 640>,
-    pub failed: bool,
+    room: [u8; HELD_BYTES],
+    length: usize,
+    failed: bool,
+    ghost fits: { length ≤ 640 },
 }
 
 impl Held {
     /// No bytes.
     pub fn new() -> Held
-        ensures bytes { result.bytes.items ≡ [] }
+        ensures bytes { take result.length result.room ≡ [] }
         ensures failed { result.failed ≡ false }
     {
         Held {
-            bytes: ArrayVec::new(),
+            room: [0; HELD_BYTES],
+            length: 0,
             failed: false,
         }
     }
 
     /// Forgets what it held.
     pub fn clear(&mut self)
-        ensures bytes { self.new.bytes.items ≡ [] }
+        ensures bytes { take self.new.length self.new.room ≡ [] }
         ensures failed { self.new.failed ≡ false }
     {
-        self.bytes.clear();
+        self.length = 0;
         self.failed = false;
+    }
+
+    /// The bytes.
+    pub fn bytes(&self) -> &[u8]
+        ensures { result.now ≡ take self.now.length self.now.room }
+    {
+        &self.room[..self.length]
     }
 }
 
 impl Sink for Held {
-    ghost use Rattle.std.specs.Prelude.{Some};
+    ghost use Rattle.std.specs.Prelude.{Some, take};
 
-    ghost seen = { λ h. record { bytes = Some h.bytes.items; failed = h.failed } };
+    ghost seen = { λ h. record { bytes = Some (take h.length h.room); failed = h.failed } };
 
-    #[tactic(auto, using(crate::proofs::Printing::took_none))]
     fn put(&mut self, bytes: &[u8]) -> bool {
-        if bytes.is_empty() || self.bytes.try_extend_from_slice(bytes).is_ok() {
+        if bytes.is_empty() {
             return true;
         }
-        self.failed = true;
-        false
+        let length = self.length;
+        if bytes.len() > HELD_BYTES - length {
+            self.failed = true;
+            return false;
+        }
+        let end = length + bytes.len();
+        self.room[length..end].copy_from_slice(bytes);
+        self.length = end;
+        true
     }
 }

@@ -128,12 +128,12 @@ fn put_scsw<S: Sink>(sink: &mut S, scsw: &Scsw) -> bool
 pub(crate) fn put_code<S: Sink>(sink: &mut S, code: ConditionCode) -> bool
     ensures { Puts (S.seen sink.old) (spec.code_text code) (S.seen sink.new) result }
 {
-    sink.put(match code {
-        ConditionCode::Zero => b"cc 0",
-        ConditionCode::One => b"cc 1",
-        ConditionCode::Two => b"cc 2",
-        ConditionCode::Three => b"cc 3",
-    })
+    match code {
+        ConditionCode::Zero => sink.put(b"cc 0"),
+        ConditionCode::One => sink.put(b"cc 1"),
+        ConditionCode::Two => sink.put(b"cc 2"),
+        ConditionCode::Three => sink.put(b"cc 3"),
+    }
 }
 
 pub(crate) fn put_answer<S: Sink>(sink: &mut S, answer: Answer) -> bool
@@ -283,7 +283,11 @@ fn put_up_name<S: Sink>(sink: &mut S, signal: &Up) -> bool
 pub(crate) fn put_taken<S: Sink>(sink: &mut S, taken: bool) -> bool
     ensures { Puts (S.seen sink.old) (spec.taken_text taken) (S.seen sink.new) result }
 {
-    sink.put(if taken { b"took " } else { b"ignored " })
+    if taken {
+        sink.put(b"took ")
+    } else {
+        sink.put(b"ignored ")
+    }
 }
 
 /// An answer and a status word.
@@ -455,7 +459,7 @@ pub fn put_event_line_at_once<S: Sink>(
 {
     held.clear();
     if put_pieces(held, line, outcome) {
-        sink.put(held.bytes.as_slice())
+        sink.put(held.bytes())
     } else {
         put_pieces(sink, line, outcome)
     }

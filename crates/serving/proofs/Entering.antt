@@ -8,7 +8,7 @@ use Rattle.chan_model.specs.declared.fault.Fault.TheVariants as fault
 use Rattle.core_lock.specs.Entering.{HasNoRoom, MayRefuse}
 use Rattle.core_lock.specs.Seats.{HeldSeat, Locked, LockedCore, entry}
 use Rattle.machine_model.specs.Ruled.{GoesByRule}
-use Rattle.machine_model.specs.State.{IsAsBefore, IsSpent, State}
+use Rattle.machine_model.specs.State.{IsAsBefore, State}
 use Rattle.machine_model.specs.Steps.{Step, IsRefused}
 use Rattle.path_select.specs.Choice.{TakesNext}
 use Rattle.serving.specs.Acting.{Enters, past_of}

@@ -139,6 +139,20 @@ turn_by devices place (Some None) (Some (Works w)) = worked devices place w
 abbrev pub device_turn_of : Installed → ℕ → DeviceTurn
 device_turn_of old place = turn_by old.devices place (slice_get old.kept place) (unit_turn_of old.past.state place)
 
+-- where an answer was given it stands in a place; and so does a report
+abbrev pub answer_when : Bool → DeviceAnswer → Option DeviceAnswer
+answer_when true answer = Some answer
+answer_when false answer = None
+
+abbrev pub reported : Result Unit Fault → Report → Result Report Fault
+reported (Ok done) report = Ok report
+reported (Err f) report = Err f
+
+-- the event that hands in the report of a unit stands in a place, where there is one
+abbrev pub IsWritten : ℕ → Result Unit Fault → Event → Result Report Fault → Type 0
+IsWritten place (Ok done) e r = (report : Report) × (e ≡ event.Report place report) × (r ≡ Ok report)
+IsWritten place (Err f) e r = r ≡ Err f
+
 -- a report is kept where it was refused for want of memory or of room on a wire, and only there
 abbrev pub kept_of_fault : Report → Fault → Option Report
 kept_of_fault report fault.NoMemory = Some report

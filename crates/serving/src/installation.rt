@@ -1,21 +1,27 @@
 //! A channel subsystem with a device for each of its units, a seat from which its events are entered, and seats of CPUs that
 //! are to race.
 
-ghost use Rattle.std.specs.Prelude.{◌≡◌, ◌+◌, [], Bool, IsTrue, IfOk, None, OnErr, OnOk, map, replicate, slice_get, true, ◌↔◌};
+ghost use Rattle.std.specs.Prelude.{◌≡◌, ◌+◌, [], Bool, IsTrue, IfOk, None, Some, OnErr, OnOk, length, map, replicate, slice_get, true, ◌↔◌, ◌≤◌, ℕ};
 ghost use Rattle.serving.specs.Acting as spec;
 ghost use Rattle.serving.specs.Racing.{AreMade, HasLogs, IsRaced};
-ghost use Rattle.serving.specs.Acting.{books_of, past_of, PerformsAction, Happens, IsAudited, Looks, TakesTurn, HandsIn, kept_after, opening_installed, outcome_at};
+ghost use Rattle.serving.specs.Acting.{books_of, past_of, PerformsAction, Happens, IsAudited, Looks, TakesTurn, HandsIn, opening_installed, outcome_at};
 ghost use Rattle.machine_model.specs.State.{opening_of, sub_of, serials_in};
 ghost use Rattle.subsystem.specs.Keeping.{all_serials};
 ghost use Rattle.signal_places.specs.Answers.{answer_at};
 ghost use Rattle.core_lock.specs.Directory.{directory_of};
 ghost use Rattle.core_lock.specs.Seats.{entries_by};
 ghost use Rattle.device_models.specs.AnyDevices.{device_of};
+ghost use Rattle.chan_model.specs.declared.report.Report.{Report};
+ghost use Rattle.kept_events.specs.Events.{event_in, event_length};
+ghost use Rattle.script_rows.specs.Places.{action_in, action_length};
+ghost use Rattle.chan_events.specs.declared.event.Event.TheVariants as event_spec;
 
+use crate::places::{Places, no_report, write_down, write_up};
 use crate::racing::{Racers, one_seat};
+use crate::reports::{copy_to, forget, keep, worked};
 use chan_events::event::Event;
 use chan_model::fault::Fault;
-use chan_model::report::{Call, DeviceAnswer, Report, Work};
+use chan_model::report::Report;
 use channel_config::config::Config;
 use channel_config::parts::UnitKind;
 use core_lock::locked::{Core, Seat, audit};
@@ -23,12 +29,12 @@ use core_lock::naming::Naming;
 use core_lock::parts::Parts;
 use core_lock::supplies::CoreSupply;
 use device_law::Device;
-use device_law::answering::answer;
 use device_models::any_device::AnyDevice;
 use glance_cell::words::Glance;
-use machine_model::state::UnitTurn;
+use kept_events::events::KeptEvent;
+use machine_steps::kept_turns::KeptTurn;
 use path_select::Rotating;
-use script_rows::Action;
+use script_rows::places::KeptAction;
 use script_rows::race::Race;
 use script_text::RaceCount;
 use scsw_irb::serials::Serials;
@@ -113,20 +119,63 @@ impl<J: Naming> Installation<J> {
     /// path, or it has nothing to do. A look at serials goes by the seat; what the subsystem has is told, and where the
     /// seat found anything else the audit will fail. It is refused NoSuchSubchannel where the subchannel is not configured.
     /// The answer of an event is written into a place.
-    pub fn act(&mut self, action: &Action, place: &mut AnswerPlace) -> Acted
-        ensures { PerformsAction self.old action.now (outcome_at result place.new) self.new }
+    pub fn act(&mut self, action: &KeptAction, bytes: &[u8], places: &mut Places) -> Acted
+        requires { action_length action.now ≤ length bytes.now }
+        ensures { PerformsAction self.old (action_in action.now bytes.now) (outcome_at result places.new.answer) self.new }
     {
         match action {
-            Action::Event(event) => {
-                self.enter(event, place);
+            KeptAction::Event(event) => {
+                self.perform(event, bytes, places);
                 Acted::Answered
             }
-            Action::Dev(unit) => {
-                self.take_turn(*unit, place);
+            KeptAction::Dev(unit) => {
+                self.take_turn(*unit, &mut places.report, &mut places.answer);
                 Acted::Answered
             }
-            Action::Glance(subchannel) => Acted::Looked(self.look(*subchannel)),
+            KeptAction::Glance(subchannel) => Acted::Looked(self.look(*subchannel)),
         }
+    }
+
+    /// Performs the event that is kept so, whose bytes stand there, from its place.
+    fn perform(&mut self, event: &KeptEvent, bytes: &[u8], places: &mut Places)
+        requires { event_length event.now ≤ length bytes.now }
+        ensures { Happens self.old (event_in event.now bytes.now) (answer_at places.new.answer) self.new }
+    {
+        match event {
+            KeptEvent::Up { subchannel, path } => {
+                write_up(&mut places.up, *subchannel, *path);
+                self.enter(&places.up, &mut places.answer);
+            }
+            KeptEvent::Down { subchannel, path } => {
+                write_down(&mut places.down, *subchannel, *path);
+                self.enter(&places.down, &mut places.answer);
+            }
+            KeptEvent::Choose { subchannel } => {
+                places.event = Event::Choose {
+                    subchannel: *subchannel,
+                };
+                self.enter(&places.event, &mut places.answer);
+            }
+            KeptEvent::Execute { cpu, instruction } => {
+                places.event = Event::Execute {
+                    cpu: *cpu,
+                    instruction: *instruction,
+                };
+                self.enter(&places.event, &mut places.answer);
+            }
+            _ => self.perform_other(event, bytes, places),
+        }
+    }
+
+    /// The same, apart, as it is rare.
+    #[cold]
+    #[inline(never)]
+    fn perform_other(&mut self, event: &KeptEvent, bytes: &[u8], places: &mut Places)
+        requires { event_length event.now ≤ length bytes.now }
+        ensures { Happens self.old (event_in event.now bytes.now) (answer_at places.new.answer) self.new }
+    {
+        places.event = event.with(bytes);
+        self.enter(&places.event, &mut places.answer);
     }
 
     /// Whether each look showed what the subsystem had, and the seat's log is what the history has of it.
@@ -180,6 +229,8 @@ impl<J: Naming> Installation<J> {
     }
 
     /// Looks from the seat at the serials of the subchannel that a word names, and shows those that the subsystem has.
+    #[cold]
+    #[inline(never)]
     fn look(&mut self, subchannel: u32) -> Option<Serials>
         ensures { Looks self.old (serials_in (sub_of self.old.past.state subchannel)) (spec.glanced result) self.new }
     {
@@ -189,46 +240,80 @@ impl<J: Naming> Installation<J> {
         own
     }
 
-    fn take_turn(&mut self, unit: u32, place: &mut AnswerPlace)
+    /// Takes a turn of a unit's device, whose report is written into a place.
+    fn take_turn(&mut self, unit: u32, event: &mut Event, place: &mut AnswerPlace)
         ensures { TakesTurn self.old «unit» (answer_at place.new) self.new }
     {
-        match self.next_report(unit) {
-            Ok(report) => self.hand_in(unit, report, place),
+        match self.write_report(unit, event) {
+            Ok(()) => self.hand_in(unit, event, place),
             Err(fault) => place.outcome = Outcome::Refused(fault),
         }
     }
 
-    /// The report that is kept for a unit, else the one of its next work.
-    fn next_report(&mut self, unit: u32) -> Result<Report, Fault>
-        ensures report { result ≡ (spec.device_turn_of self.old «unit»).report }
+    /// Writes the event of the report of a unit into a place.
+    fn write_report(&mut self, unit: u32, event: &mut Event) -> Result<(), Fault>
+        ensures report { spec.IsWritten «unit» result event.new (spec.device_turn_of self.old «unit»).report }
+        ensures calls { self.new ≡ record self.old { devices = (spec.device_turn_of self.old «unit»).devices } }
+    {
+        match event {
+            Event::Report { unit: of, report } => {
+                *of = unit;
+                self.next_report(unit, report)
+            }
+            _ => self.write_anew(unit, event),
+        }
+    }
+
+    /// The same, where no report stood in the place.
+    #[cold]
+    #[inline(never)]
+    fn write_anew(&mut self, unit: u32, event: &mut Event) -> Result<(), Fault>
+        ensures report { spec.IsWritten «unit» result event.new (spec.device_turn_of self.old «unit»).report }
+        ensures calls { self.new ≡ record self.old { devices = (spec.device_turn_of self.old «unit»).devices } }
+    {
+        let mut report = no_report();
+        let came = self.next_report(unit, &mut report);
+        *event = Event::Report { unit, report };
+        came
+    }
+
+    /// The report that is kept for a unit, else the one of its next work, written into a place.
+    fn next_report(&mut self, unit: u32, report: &mut Report) -> Result<(), Fault>
+        ensures report { spec.reported result report.new ≡ (spec.device_turn_of self.old «unit»).report }
         ensures calls { self.new ≡ record self.old { devices = (spec.device_turn_of self.old «unit»).devices } }
     {
         let Some(kept) = self.kept.get(unit as usize) else {
             return Err(Fault::NoSuchUnit);
         };
-        let Some(turn) = self.core.subsystem().unit_turn(unit) else {
+        let Some(turn) = self.core.subsystem().kept_turn(unit) else {
             return Err(Fault::NoSuchUnit);
         };
-        if let Some(report) = kept {
-            return Ok(report.copy());
+        if let Some(kept) = kept {
+            copy_to(kept, report);
+            return Ok(());
         }
         match turn {
-            UnitTurn::Works(work) => worked(&mut self.devices, unit, work),
-            UnitTurn::Takes { .. } | UnitTurn::Away { .. } | UnitTurn::Rests => Err(Fault::NotNow),
+            KeptTurn::Works(work) => worked(
+                &mut self.devices,
+                unit,
+                work,
+                self.core.subsystem().given(unit),
+                report,
+            ),
+            KeptTurn::Takes { .. } | KeptTurn::Away { .. } | KeptTurn::Rests => Err(Fault::NotNow),
         }
     }
 
     /// Hands in a report. It is kept where it is refused for want of memory or of room on a wire, and only there.
-    fn hand_in(&mut self, unit: u32, report: Report, place: &mut AnswerPlace)
-        ensures { HandsIn self.old «unit» report (answer_at place.new) self.new }
+    fn hand_in(&mut self, unit: u32, event: &Event, place: &mut AnswerPlace)
+        ensures { (report : Report) → event.now ≡ event_spec.Report «unit» report → HandsIn self.old «unit» report (answer_at place.new) self.new }
     {
-        let event = Event::Report {
-            unit,
-            report: report.copy(),
-        };
-        enter_from(&mut self.core, &mut self.seat, &event, place);
+        enter_from(&mut self.core, &mut self.seat, event, place);
         if let Some(kept) = self.kept.get_mut(unit as usize) {
-            *kept = kept_of(&report, place);
+            match &place.outcome {
+                Outcome::Refused(Fault::NoMemory | Fault::WireFull) => keep(kept, event),
+                _ => forget(kept),
+            }
         }
     }
 }
@@ -327,22 +412,14 @@ fn restart_device(devices: &mut Vec<AnyDevice>, event: &Event)
     }
 }
 
-/// The device of a unit is put back to its opening.
+/// The device of a unit is put back to its opening: apart, as it is rare.
+#[cold]
+#[inline(never)]
 fn put_back(devices: &mut Vec<AnyDevice>, unit: u32)
     ensures { devices.new.items ≡ spec.put_back devices.old.items «unit» (slice_get devices.old.items «unit») }
 {
     if let Some(device) = devices.get_mut(unit as usize) {
         device.restart();
-    }
-}
-
-/// What is kept of a report that was handed in.
-fn kept_of(report: &Report, place: &AnswerPlace) -> Option<Report>
-    ensures { result ≡ kept_after report.now (answer_at place.now) }
-{
-    match &place.outcome {
-        Outcome::Refused(Fault::NoMemory | Fault::WireFull) => Some(report.copy()),
-        _ => None,
     }
 }
 
@@ -378,40 +455,4 @@ fn opening_devices<S: Supply>(
         push(supply, &mut devices, AnyDevice::of(*kind))?;
     }
     Ok(devices)
-}
-
-/// The report of a work of a unit. Where there is a call of its device, it is made.
-fn worked(devices: &mut Vec<AnyDevice>, unit: u32, work: Work) -> Result<Report, Fault>
-    ensures report { result ≡ spec.report_of_work (slice_get devices.old.items «unit») work }
-    ensures calls { devices.new.items ≡ spec.devices_after devices.old.items «unit» work }
-{
-    match work {
-        Work::Report(report) => Ok(report),
-        Work::Call {
-            side,
-            number,
-            command,
-            sequence,
-            call,
-        } => {
-            let answer = called(devices, unit, &call).ok_or(Fault::NoSuchUnit)?;
-            Ok(Report {
-                side,
-                number,
-                command,
-                sequence,
-                answer,
-            })
-        }
-    }
-}
-
-/// Calls the device of a unit.
-fn called(devices: &mut Vec<AnyDevice>, unit: u32, call: &Call) -> Option<DeviceAnswer>
-    ensures answer { result ≡ spec.answer_by (slice_get devices.old.items «unit») call.now }
-    ensures calls { devices.new.items ≡
-        spec.called devices.old.items «unit» (slice_get devices.old.items «unit») call.now }
-{
-    let device = devices.get_mut(unit as usize)?;
-    Some(answer(device, call))
 }

@@ -11,7 +11,9 @@ ghost use Rattle.serving.specs.Serving.{IsBadLineOutput, TellsNoMemoryBy, status
 
 pub mod installation;
 pub mod performing;
+pub mod places;
 pub mod racing;
+mod reports;
 mod running;
 pub mod tally;
 

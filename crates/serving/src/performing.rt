@@ -1,16 +1,18 @@
 //! Performing the actions of a script, line by line.
 
-ghost use Rattle.std.specs.Prelude.{◌≡◌, is_err};
+ghost use Rattle.std.specs.Prelude.{◌≡◌, ◌≤◌, is_err, length};
+ghost use Rattle.script_rows.specs.Places.{action_in, action_length};
 ghost use Rattle.script_text.specs.Text.{event_line};
 ghost use Rattle.serving.specs.Acting as acting_spec;
 ghost use Rattle.serving.specs.Performing.{IsDone, PerformsLines};
 ghost use Rattle.streams.specs.Sinks.{Puts};
 
 use crate::installation::{Acted, Installation};
+use crate::places::Places;
 use chan_model::fault::Fault;
 use core_lock::naming::Naming;
-use script::Line;
 use script::lines::Lines;
+use script_rows::places::KeptAction;
 use script_text::held::Held;
 use script_text::{ActionResult, put_answer_line_at_once, put_event_line_at_once};
 use scsw_irb::serials::Serials;
@@ -46,7 +48,22 @@ fn glanced(own: Option<Serials>) -> Result<ActionResult, Fault>
     }
 }
 
+/// Writes what a look came to, through a place of its own: apart, as it is rare.
+#[cold]
+#[inline(never)]
+fn write_look<S: Sink>(sink: &mut S, held: &mut Held, number: u64, own: Option<Serials>) -> Written
+    ensures refused { result.refused ≡ is_err (acting_spec.glanced own) }
+    ensures prints { Puts (S.seen sink.old) (event_line number (acting_spec.glanced own)) (S.seen sink.new) result.whole }
+{
+    let outcome = glanced(own);
+    Written {
+        whole: put_event_line_at_once(sink, held, number, &outcome),
+        refused: outcome.is_err(),
+    }
+}
+
 /// Writes what an action came to, through a place of its own.
+#[inline(always)]
 fn write<S: Sink>(
     sink: &mut S,
     held: &mut Held,
@@ -62,28 +79,25 @@ fn write<S: Sink>(
             whole: put_answer_line_at_once(sink, held, number, place),
             refused: !place.is_reply(),
         },
-        Acted::Looked(own) => {
-            let outcome = glanced(own);
-            Written {
-                whole: put_event_line_at_once(sink, held, number, &outcome),
-                refused: outcome.is_err(),
-            }
-        }
+        Acted::Looked(own) => write_look(sink, held, number, own),
     }
 }
 
-/// Performs one line and writes what it prints, through places of their own.
+/// Performs one line, whose action stands there, and writes what it prints, through places of their own.
 fn perform_one<J: Naming, S: Sink>(
     installation: &mut Installation<J>,
-    line: &Line,
-    place: &mut AnswerPlace,
+    number: u64,
+    action: &KeptAction,
+    bytes: &[u8],
+    places: &mut Places,
     held: &mut Held,
     sink: &mut S,
 ) -> Written
-    ensures { IsDone installation.old line.now (S.seen sink.old) (S.seen sink.new) result installation.new }
+    requires { action_length action.now ≤ length bytes.now }
+    ensures { IsDone installation.old (record { number = number; action = action_in action.now bytes.now }) (S.seen sink.old) (S.seen sink.new) result installation.new }
 {
-    let acted = installation.act(&line.action, place);
-    write(sink, held, line.number, acted, place)
+    let acted = installation.act(action, bytes, places);
+    write(sink, held, number, acted, &places.answer)
 }
 
 /// Performs the lines in order, up to the first whose print is not written whole.
@@ -94,14 +108,22 @@ pub fn perform<J: Naming, S: Sink>(
 ) -> PerformedLines
     ensures { PerformsLines installation.old lines.now (S.seen sink.old) (S.seen sink.new) result installation.new }
 {
-    let mut answer = AnswerPlace::new();
+    let mut places = Places::new();
     let mut held = Held::new();
     let mut refused = false;
     for place in 0..lines.len() {
-        let Some(line) = lines.get(place) else {
+        let Some((number, action, bytes)) = lines.kept(place) else {
             break;
         };
-        let written = perform_one(installation, &line, &mut answer, &mut held, sink);
+        let written = perform_one(
+            installation,
+            number,
+            action,
+            bytes,
+            &mut places,
+            &mut held,
+            sink,
+        );
         refused = refused | written.refused;
         if !written.whole {
             return PerformedLines {

@@ -1,6 +1,7 @@
 -- Two texts put one after the other.
-use Rattle.std.proofs.Common.{◌≡◌, ℕ, ◌+◌, ◌<◌, zero, suc, Bool, true, false, List, [], ◌∷◌, ◌++◌, take, length, refl, sym, ap, ◌∙◌, subst, arith, length-append}
+use Rattle.std.proofs.Common.{◌≡◌, ℕ, ◌+◌, ◌<◌, zero, suc, Bool, true, false, List, [], ◌∷◌, ◌++◌, take, drop, length, ◌-◌, refl, sym, ap, ◌∙◌, subst, arith, length-append}
 use Rattle.std.proofs.Math.Seq.{take-append-add}
+use Rattle.std.proofs.lemmas.List.{take-append-drop, take_rest}
 use Rattle.std.proofs.KnownBytes.{Appends-trans}
 use Rattle.std.specs.Io.KnownBytes.{Appends}
 use Rattle.streams.specs.Sinks.{Seen, TakesText, FailsIn, Puts}
@@ -29,3 +30,10 @@ fails_then o m a b f = record {
   bytes = subst (Appends o.bytes m.bytes) (sym (front f.taken a b f.fewer)) f.bytes;
   failed = f.failed;
 }
+
+-- a text of which a front went in, and then the rest was put
+pub rest_then : (o m n : Seen) (text : List ℕ) (k : ℕ) (r : Bool) → Appends o.bytes m.bytes (take k text) → m.failed ≡ o.failed
+    → Puts m (take (length text - k) (drop k text)) n r → Puts o text n r
+rest_then o m n text k r front same p =
+    subst (λ (xs : List ℕ). Puts o xs n r) (take-append-drop k text)
+    (takes_then o m n (take k text) (drop k text) r (record { bytes = front; failed = same }) (subst (λ (xs : List ℕ). Puts m xs n r) (take_rest text k) p))

@@ -96,10 +96,40 @@ impl<W: Write + Drop> Watched<W> {
 impl<W: Write + Drop> Sink for Watched<W> {
     ghost seen = { λ w. record { bytes = W.contents w.writer; failed = w.failed } };
 
+    #[inline]
     fn put(&mut self, bytes: &[u8]) -> bool {
+        if bytes.is_empty() {
+            return true;
+        }
+        match put_some(&mut self.writer, bytes) {
+            Some(n) => n >= bytes.len() || self.put_rest(&bytes[n..]),
+            None => self.fail(),
+        }
+    }
+}
+
+impl<W: Write + Drop> Watched<W> {
+    /// Writes what is left of a text: apart, as the writer takes most texts at once.
+    #[cold]
+    #[inline(never)]
+    fn put_rest(&mut self, bytes: &[u8]) -> bool
+        ensures { Puts (record { bytes = W.contents self.old.writer; failed = self.old.failed }) bytes.now
+            (record { bytes = W.contents self.new.writer; failed = self.new.failed }) result }
+    {
         if put_all(&mut self.writer, bytes) >= bytes.len() {
             return true;
         }
+        self.failed = true;
+        false
+    }
+
+    /// The writer took nothing of a text.
+    #[cold]
+    #[inline(never)]
+    fn fail(&mut self) -> bool
+        ensures result { result ≡ false }
+        ensures failed { self.new ≡ record self.old { failed = true } }
+    {
         self.failed = true;
         false
     }

@@ -1,0 +1,79 @@
+//! Places for the events that are entered and for their answers, made once.
+
+ghost use Rattle.std.specs.Prelude.{◌≡◌, ◌≤◌, length};
+ghost use Rattle.chan_events.specs.declared.event.Event.TheVariants as event_spec;
+
+use chan_events::event::Event;
+use chan_model::names::Side;
+use chan_model::report::{DeviceAnswer, Report};
+use signal_places::answers::AnswerPlace;
+
+/// Places for the events of lines, by what is common among them, one for the event of a report, and one for an answer. An event
+/// that is of the kind that stood in its place moves no more than its numbers.
+#[derive(Drop)]
+pub struct Places {
+    pub up: Event,
+    pub down: Event,
+    pub event: Event,
+    pub report: Event,
+    pub answer: AnswerPlace,
+}
+
+impl Places {
+    /// Places, with what no one asked for.
+    pub fn new() -> Self {
+        Places {
+            up: Event::SystemReset,
+            down: Event::SystemReset,
+            event: Event::SystemReset,
+            report: Event::Report {
+                unit: 0,
+                report: no_report(),
+            },
+            answer: AnswerPlace::new(),
+        }
+    }
+}
+
+/// A report that no one made.
+pub(crate) fn no_report() -> Report {
+    Report {
+        side: Side::First,
+        number: 0,
+        command: 0,
+        sequence: 0,
+        answer: DeviceAnswer::Begins,
+    }
+}
+
+/// Writes to its place that a subchannel takes a signal.
+pub(crate) fn write_up(place: &mut Event, word: u32, index: u32)
+    ensures { place.new ≡ event_spec.Up word index }
+{
+    match place {
+        Event::Up { subchannel, path } => {
+            *subchannel = word;
+            *path = index;
+        }
+        _ => *place = Event::Up {
+            subchannel: word,
+            path: index,
+        },
+    }
+}
+
+/// Writes to its place that a unit takes a signal.
+pub(crate) fn write_down(place: &mut Event, word: u32, index: u32)
+    ensures { place.new ≡ event_spec.Down word index }
+{
+    match place {
+        Event::Down { subchannel, path } => {
+            *subchannel = word;
+            *path = index;
+        }
+        _ => *place = Event::Down {
+            subchannel: word,
+            path: index,
+        },
+    }
+}
