@@ -41,7 +41,8 @@ use Rattle.machine_model.specs.OtherSteps.{code_check, tpi_done, tpi_lent, rchp_
 use Rattle.machine_model.specs.Requests.{requests_settled, settled}
 use Rattle.machine_model.specs.Steps.{Step}
 use Rattle.step_laws.proofs.Places.{get-set}
-use Rattle.event_laws.specs.Codes.{code_by, state_of, serials_of, answer_in, IsAnswered, IsAnsweredOther, IsByTable}
+use Rattle.event_laws.proofs.Named.{state_of, IsAnswered, IsAnsweredOther}
+use Rattle.event_laws.specs.Codes.{code_by, serials_of, answer_in, IsByTable}
 
 -- the subchannel that was found
 abbrev sub_in : Option Found → Option Subchannel
@@ -311,13 +312,19 @@ module _ (s : State) where
       (subst (OkOther (other.Stcrw address)) (sym w) (stcrw-answers cpu address (operand_check s.storage cpu address 4 4))) m
   others-answer cpu (other.Stcps address) r new o w m = tt
 
+  other-by-table : (cpu : ℕ) (i : OtherInstruction) (r : Reply) (new : State) → IsAnsweredOther s i r → IsByTable s (event.ExecuteOther cpu i) r new
+  other-by-table cpu (other.Tpi mask address) r new k = k
+  other-by-table cpu (other.Rchp path) r new k = k
+  other-by-table cpu (other.Stcrw address) r new k = k
+  other-by-table cpu (other.Stcps address) r new k = k
+
   pub step-answers : (e : Event) (r : Reply) (new : State) → Step s e r new → IsByTable s e r new
   step-answers (event.Put address bytes) r new k = tt
   step-answers (event.SetKey address key) r new k = tt
   step-answers (event.SetPrefix cpu address) r new k = tt
   step-answers (event.Show address count) r new k = tt
   step-answers (event.Execute cpu i) r new (o, w, m) = executed-answers cpu i (subchannel_named s.sets (subchannel_word i)) r new o refl w m
-  step-answers (event.ExecuteOther cpu i) r new (o, w, m) = others-answer cpu i r new o w m
+  step-answers (event.ExecuteOther cpu i) r new (o, w, m) = other-by-table cpu i r new (others-answer cpu i r new o w m)
   step-answers (event.Choose word) r new k = tt
   step-answers (event.Up word path) r new k = tt
   step-answers (event.Down word path) r new k = tt

@@ -33,7 +33,8 @@ use Rattle.machine_model.specs.InstructionSteps.{code_at, test_sub, test_at, tes
 use Rattle.machine_model.specs.Steps.{Does, Step, Run, Opened, Stepped}
 use Rattle.machine_model.specs.Requests.{requests_settled, settled}
 use Rattle.step_laws.specs.Walks.{AreWalks}
-use Rattle.machine_laws.specs.Claims.{IsLaterSubchannel, is_same_id, is_id, serial_shown, serial_by, serial_of, serial_at, serials}
+use Rattle.machine_laws.proofs.Named.{is_same_id, serial_by, serial_at}
+use Rattle.machine_laws.specs.Claims.{IsLaterSubchannel, is_id, serial_shown, serial_of, serials}
 use Rattle.machine_laws.proofs.Sound.{AreNumbered}
 use Rattle.machine_laws.proofs.RunSound.{SoundSub, one-of, run-sound, step-sets, step-later}
 
