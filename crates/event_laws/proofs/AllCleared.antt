@@ -12,6 +12,7 @@ use Rattle.chan_events.specs.declared.event.Event.TheVariants as event
 use Rattle.chan_events.specs.declared.event.Instruction.{Instruction}
 use Rattle.chan_events.specs.declared.event.Instruction.TheVariants as instruction
 use Rattle.chan_events.specs.declared.reply.Reply.{Reply}
+use Rattle.chan_events.specs.declared.reply.Reply.TheVariants as reply
 use Rattle.subchannel_model.specs.declared.state.Subchannel.{Subchannel}
 use Rattle.subchannel_model.specs.declared.state.SubchannelState.{SubchannelState}
 use Rattle.subchannel_model.specs.Clear.{csch_code, cleared}
@@ -22,8 +23,9 @@ use Rattle.subchannel_model.specs.Test.{tsch_code, ends_suspended, tested}
 use Rattle.machine_model.specs.State.{State, place_of}
 use Rattle.machine_model.specs.declared.state.Sweep.TheVariants as sweep
 use Rattle.machine_model.specs.InstructionSteps.{code_at, function_sub, function_at, test_with, test_sub, tests, Executes_at, Executes_on, subchannel_word}
-use Rattle.machine_model.specs.PathSteps.{swept, system_reset_at}
-use Rattle.machine_model.specs.Requests.{requests_settled, settled}
+use Rattle.machine_model.specs.PathSteps.{swept, reset_system}
+use Rattle.machine_model.proofs.Named.{requests_settled}
+use Rattle.machine_model.specs.Requests.{settled}
 use Rattle.machine_model.specs.Steps.{Step}
 use Rattle.machine_model.specs.Turns.{Turn, Outcome, does, at_place}
 use Rattle.step_laws.proofs.Places.{get-set, map-get}
@@ -153,7 +155,7 @@ module _ (s : State) where
   instruction-cleared cpu (instruction.Rsch word) r new step = λ place sub after there left k. absurd k
   instruction-cleared cpu (instruction.Xsch word) r new step = λ place sub after there left k. absurd k
 
-  system-cleared : OkCleared event.SystemReset (system_reset_at s)
+  system-cleared : OkCleared event.SystemReset (does reply.Done (reset_system s))
   system-cleared place sub after there left k =
       let got : (x : Subchannel) × (slice_get s.subs place ≡ Some x) × (swept sweep.SystemReset x ≡ after) =
       map-get (swept sweep.SystemReset) s.subs place after left in

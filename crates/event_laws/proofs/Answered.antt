@@ -36,12 +36,16 @@ use Rattle.subchannel_model.specs.Places.{Found, found_with, found_at, is_named,
 use Rattle.subchannel_model.specs.Store.{pmcw_of, schib_of, stsch_code}
 use Rattle.machine_model.specs.State.{State}
 use Rattle.machine_model.specs.Turns.{Turn, SubTurn, Outcome, does}
-use Rattle.machine_model.specs.InstructionSteps.{code_at, function_sub, function_at, PerformsStart, with_irb, test_with, test_sub, tests, with_schib, store_answer, stores, with_enabling, Modifies_by, Modifies, Enables_with, Enables, Executes_at, Executes_on, subchannel_word}
-use Rattle.machine_model.specs.OtherSteps.{code_check, tpi_done, tpi_lent, rchp_of, rchp_lent, stcrw_done, stcrw_lent, where_stored, lent_whole, other_done, other_at}
-use Rattle.machine_model.specs.Requests.{requests_settled, settled}
+use Rattle.machine_model.proofs.Named.{store_answer, requests_settled}
+use Rattle.machine_model.specs.InstructionSteps.{code_at, function_sub, function_at, PerformsStart, with_irb, test_with, test_sub, tests, with_schib, stores, with_enabling, Modifies_by, Modifies, Enables_with, Enables, Executes_at, Executes_on, subchannel_word}
+use Rattle.machine_model.proofs.Others.{other-turned}
+use Rattle.machine_model.specs.OtherTurns.{turned_at, tpi_done, tpi_lent, rchp_of, rchp_lent, stcrw_done, stcrw_lent, lent_whole, other_done}
+use Rattle.machine_model.specs.OtherSteps.{code_check, where_stored}
+use Rattle.machine_model.specs.Requests.{settled}
 use Rattle.machine_model.specs.Steps.{Step}
 use Rattle.step_laws.proofs.Places.{get-set}
-use Rattle.event_laws.specs.Codes.{code_by, state_of, serials_of, answer_in, IsAnswered, IsAnsweredOther, IsByTable}
+use Rattle.event_laws.proofs.Named.{state_of, IsAnswered, IsAnsweredOther}
+use Rattle.event_laws.specs.Codes.{code_by, serials_of, answer_in, IsByTable}
 
 -- the subchannel that was found
 abbrev sub_in : Option Found → Option Subchannel
@@ -298,7 +302,7 @@ module _ (s : State) where
       cc m in
       subst (λ (x : Turn). IsAnsweredOther s i x.reply) (sym same) k
 
-  others-answer : (cpu : ℕ) (i : OtherInstruction) (r : Reply) (new : State) (o : Outcome) → o ≡ other_at s cpu i →
+  others-answer : (cpu : ℕ) (i : OtherInstruction) (r : Reply) (new : State) (o : Outcome) → o ≡ turned_at s cpu i →
       does r new ≡ settled s (event.ExecuteOther cpu i) o →
       IsAnsweredOther s i r
   others-answer cpu (other.Tpi mask address) r new o w m =
@@ -311,13 +315,19 @@ module _ (s : State) where
       (subst (OkOther (other.Stcrw address)) (sym w) (stcrw-answers cpu address (operand_check s.storage cpu address 4 4))) m
   others-answer cpu (other.Stcps address) r new o w m = tt
 
+  other-by-table : (cpu : ℕ) (i : OtherInstruction) (r : Reply) (new : State) → IsAnsweredOther s i r → IsByTable s (event.ExecuteOther cpu i) r new
+  other-by-table cpu (other.Tpi mask address) r new k = k
+  other-by-table cpu (other.Rchp path) r new k = k
+  other-by-table cpu (other.Stcrw address) r new k = k
+  other-by-table cpu (other.Stcps address) r new k = k
+
   pub step-answers : (e : Event) (r : Reply) (new : State) → Step s e r new → IsByTable s e r new
   step-answers (event.Put address bytes) r new k = tt
   step-answers (event.SetKey address key) r new k = tt
   step-answers (event.SetPrefix cpu address) r new k = tt
   step-answers (event.Show address count) r new k = tt
   step-answers (event.Execute cpu i) r new (o, w, m) = executed-answers cpu i (subchannel_named s.sets (subchannel_word i)) r new o refl w m
-  step-answers (event.ExecuteOther cpu i) r new (o, w, m) = others-answer cpu i r new o w m
+  step-answers (event.ExecuteOther cpu i) r new (o, w, m) = other-by-table cpu i r new (others-answer cpu i r new o (w ∙ other-turned s cpu i) m)
   step-answers (event.Choose word) r new k = tt
   step-answers (event.Up word path) r new k = tt
   step-answers (event.Down word path) r new k = tt

@@ -1,3 +1,4 @@
+pub mod Named
 mod Answered
 mod Calm
 mod Signals

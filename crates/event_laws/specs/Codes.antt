@@ -1,5 +1,5 @@
 -- Condition codes are the table's (SA22-7832, chapter 14).
-use Rattle.std.specs.Prelude.{◌≡◌, Option, None, Some}
+use Rattle.std.specs.Prelude.{◌≡◌, Option, None, Some, option_map}
 use Rattle.zbits.specs.Bits.{field_of}
 use Rattle.channel_reports.specs.Queue as reports
 use Rattle.interruptions.specs.Requests as requests
@@ -11,12 +11,10 @@ use Rattle.chan_events.specs.declared.event.Event.{Event}
 use Rattle.chan_events.specs.declared.event.Event.TheVariants as event
 use Rattle.chan_events.specs.declared.event.Instruction.{Instruction}
 use Rattle.chan_events.specs.declared.event.Instruction.TheVariants as instruction
-use Rattle.chan_events.specs.declared.event.OtherInstruction.{OtherInstruction}
 use Rattle.chan_events.specs.declared.event.OtherInstruction.TheVariants as other
 use Rattle.chan_events.specs.declared.reply.Reply.{Reply}
 use Rattle.chan_events.specs.declared.reply.Reply.TheVariants as reply
 use Rattle.subchannel_model.specs.declared.state.Subchannel.{Subchannel}
-use Rattle.subchannel_model.specs.declared.state.SubchannelState.{SubchannelState}
 use Rattle.subchannel_model.specs.declared.status.Condition.{Condition}
 use Rattle.subchannel_model.specs.Cancel.{xsch_code}
 use Rattle.subchannel_model.specs.Clear.{csch_code}
@@ -43,11 +41,6 @@ code_by (instruction.Hsch word) c = hsch_code c
 code_by (instruction.Csch word) c = csch_code c
 code_by (instruction.Xsch word) c = xsch_code c
 
--- what the instruction finds: a subchannel, or one that is not provided
-abbrev pub state_of : Option Subchannel → Option SubchannelState
-state_of None = None
-state_of (Some sub) = Some sub.state
-
 abbrev pub serials_of : Option Subchannel → Serials
 serials_of None = record { made = 0; cleared = 0 }
 serials_of (Some sub) = sub.state.serials
@@ -59,20 +52,14 @@ answer_in (reply.Status answer scsw) = Some answer
 answer_in r = None
 
 -- an instruction on a subchannel answers the code of its column for what it finds before the step, with the serials after it
-abbrev pub IsAnswered : State → Instruction → Reply → State → Type 0
-IsAnswered s i r new =
-    answer_in r ≡ Some (answer_of_code (code_by i (condition_of (state_of (sub_of s (subchannel_word i))))) (serials_of (sub_of new (subchannel_word i))))
-
 -- the others: TEST PENDING INTERRUPTION and STORE CHANNEL REPORT WORD answer 1 and 0 where their lists have what they ask for, with
 -- it, and RESET CHANNEL PATH by the state of its path and the resets that are asked for
-abbrev pub IsAnsweredOther : State → OtherInstruction → Reply → Type 0
-IsAnsweredOther s (other.Tpi mask address) r = r ≡ reply.Interruption (requests.answer s.requests mask)
-IsAnsweredOther s (other.Rchp path) r =
-    r ≡ reply.PathReset (rchp_code (is_up s.up (field_of path 24 31)) (reports.is_asked s.reports (field_of path 24 31)))
-IsAnsweredOther s (other.Stcrw address) r = r ≡ reply.ChannelReport (reports.oldest s.reports)
-IsAnsweredOther s (other.Stcps address) r = Unit {0}
-
 abbrev pub IsByTable : State → Event → Reply → State → Type 0
-IsByTable s (event.Execute cpu i) r new = IsAnswered s i r new
-IsByTable s (event.ExecuteOther cpu i) r new = IsAnsweredOther s i r
+IsByTable s (event.Execute cpu i) r new =
+    let found = condition_of (option_map (λ sub. sub.state) (sub_of s (subchannel_word i))) in
+    answer_in r ≡ Some (answer_of_code (code_by i found) (serials_of (sub_of new (subchannel_word i))))
+IsByTable s (event.ExecuteOther cpu (other.Tpi mask address)) r new = r ≡ reply.Interruption (requests.answer s.requests mask)
+IsByTable s (event.ExecuteOther cpu (other.Rchp path)) r new =
+    r ≡ reply.PathReset (rchp_code (is_up s.up (field_of path 24 31)) (reports.is_asked s.reports (field_of path 24 31)))
+IsByTable s (event.ExecuteOther cpu (other.Stcrw address)) r new = r ≡ reply.ChannelReport (reports.oldest s.reports)
 IsByTable s e r new = Unit {0}

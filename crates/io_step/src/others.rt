@@ -3,6 +3,7 @@
 ghost use Rattle.std.specs.Prelude.{◌≡◌, ◌≤◌, ◌<◌, ◌+◌, ◌*◌, Ok, Err, IfOk, IfErr, OnErr, OnOk, Some, length};
 ghost use Rattle.io_step.specs.Operands.{from_storage};
 ghost use Rattle.machine_model.specs.OtherSteps as spec;
+ghost use Rattle.machine_model.specs.OtherTurns as turns;
 
 use crate::operands::{WORD, check_operand};
 use chan_events::reply::{PATH_STATUS_BYTES, report_word};
@@ -72,9 +73,9 @@ pub fn tpi(
     mask: u8,
     address: u32,
 ) -> Result<Option<IntCode>, Fault>
-    ensures done { IfOk result (λ found. spec.tpi_turn storage.old pending.old cpu mask address ≡
+    ensures done { IfOk result (λ found. turns.tpi_turn storage.old pending.old cpu mask address ≡
         Ok (record { found = found; storage = storage.new; requests = pending.new })) }
-    ensures refused { IfErr result (λ f. spec.tpi_turn storage.old pending.old cpu mask address ≡ Err f) }
+    ensures refused { IfErr result (λ f. turns.tpi_turn storage.old pending.old cpu mask address ≡ Err f) }
     ensures storage_kept { OnErr result (storage.new ≡ storage.old) }
     ensures pending_kept { OnErr result (pending.new ≡ pending.old) }
 {
@@ -94,9 +95,9 @@ pub fn stcrw(
     cpu: Cpu,
     address: u32,
 ) -> Result<Option<Crw>, Fault>
-    ensures done { IfOk result (λ report. spec.stcrw_turn storage.old reports.old cpu address ≡
+    ensures done { IfOk result (λ report. turns.stcrw_turn storage.old reports.old cpu address ≡
         Ok (record { report = report; storage = storage.new; reports = reports.new })) }
-    ensures refused { IfErr result (λ f. spec.stcrw_turn storage.old reports.old cpu address ≡ Err f) }
+    ensures refused { IfErr result (λ f. turns.stcrw_turn storage.old reports.old cpu address ≡ Err f) }
     ensures storage_kept { OnErr result (storage.new ≡ storage.old) }
     ensures reports_kept { OnErr result (reports.new ≡ reports.old) }
 {
@@ -110,9 +111,9 @@ pub fn stcrw(
 /// RESET CHANNEL PATH of the path that the last byte of general register 1 names; its other bits must be zero. `up` has
 /// the channel paths that are configured and not down.
 pub fn rchp(reports: &mut Reports, up: &PathTable, path: u32) -> Result<ConditionCode, Fault>
-    ensures done { IfOk result (λ code. spec.rchp_turn reports.old up.now path ≡
+    ensures done { IfOk result (λ code. turns.rchp_turn reports.old up.now path ≡
         Ok (record { code = code; reports = reports.new })) }
-    ensures refused { IfErr result (λ f. spec.rchp_turn reports.old up.now path ≡ Err f) }
+    ensures refused { IfErr result (λ f. turns.rchp_turn reports.old up.now path ≡ Err f) }
     ensures kept { OnErr result (reports.new ≡ reports.old) }
 {
     if field(path, 0, 23) != 0 {
@@ -158,9 +159,9 @@ pub fn stcps(
     cpu: Cpu,
     address: u32,
 ) -> Result<[u8; PATH_STATUS_BYTES], Fault>
-    ensures done { IfOk result (λ stored. spec.stcps_turn storage.old engaged.now cpu address ≡
+    ensures done { IfOk result (λ stored. turns.stcps_turn storage.old engaged.now cpu address ≡
         Ok (record { engaged = stored; storage = storage.new })) }
-    ensures refused { IfErr result (λ f. spec.stcps_turn storage.old engaged.now cpu address ≡ Err f) }
+    ensures refused { IfErr result (λ f. turns.stcps_turn storage.old engaged.now cpu address ≡ Err f) }
     ensures kept { OnErr result (storage.new ≡ storage.old) }
 {
     check_operand(

@@ -1,3 +1,4 @@
+mod Named
 mod Sound
 mod Moves
 mod RunSound

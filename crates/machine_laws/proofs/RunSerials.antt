@@ -29,11 +29,13 @@ use Rattle.subchannel_model.specs.declared.state.SubchannelState.{SubchannelStat
 use Rattle.subchannel_model.specs.Test.{tsch_code, ends_suspended, tested_wholly, tested}
 use Rattle.subchannel_model.specs.Programs.{without_programs}
 use Rattle.machine_model.specs.Turns.{Turn, Outcome, does, with_state}
-use Rattle.machine_model.specs.InstructionSteps.{code_at, test_sub, test_at, tests, Executes_on, Executes}
+use Rattle.machine_model.proofs.Named.{test_at, requests_settled}
+use Rattle.machine_model.specs.InstructionSteps.{code_at, test_sub, tests, Executes_on, Executes}
 use Rattle.machine_model.specs.Steps.{Does, Step, Run, Opened, Stepped}
-use Rattle.machine_model.specs.Requests.{requests_settled, settled}
+use Rattle.machine_model.specs.Requests.{settled}
 use Rattle.step_laws.specs.Walks.{AreWalks}
-use Rattle.machine_laws.specs.Claims.{IsLaterSubchannel, is_same_id, is_id, serial_shown, serial_by, serial_of, serial_at, serials}
+use Rattle.machine_laws.proofs.Named.{is_same_id, serial_by, serial_at}
+use Rattle.machine_laws.specs.Claims.{IsLaterSubchannel, is_id, serial_shown, serial_of, serials}
 use Rattle.machine_laws.proofs.Sound.{AreNumbered}
 use Rattle.machine_laws.proofs.RunSound.{SoundSub, one-of, run-sound, step-sets, step-later}
 

@@ -1,15 +1,13 @@
 -- Which starts of a subchannel began a program at its device (SA22-7832, chapters 14 and 15).
-use Rattle.std.specs.Prelude.{◌<◌, AllPairs, ℕ, ◌+◌, true, false, ◌==◌, if◌then◌else◌, List, [], ◌∷◌, ◌++◌, Option, None, Some}
+use Rattle.std.specs.Prelude.{◌<◌, AllPairs, ℕ, ◌+◌, true, false, ◌==◌, if◌then◌else◌, List, [], ◌∷◌, ◌++◌, Some}
 use Rattle.chan_events.specs.declared.event.Event.{Event}
 use Rattle.chan_events.specs.declared.event.Event.TheVariants as event
-use Rattle.chan_events.specs.declared.event.Instruction.{Instruction}
 use Rattle.chan_events.specs.declared.event.Instruction.TheVariants as instruction
 use Rattle.chan_model.specs.declared.answer.Answer.TheVariants as answer
 use Rattle.chan_events.specs.declared.reply.Reply.{Reply}
 use Rattle.chan_events.specs.declared.reply.Reply.TheVariants as reply
 use Rattle.chan_events.specs.declared.reply.Entry.{Entry}
 use Rattle.chan_model.specs.declared.signal.Down.TheVariants as down
-use Rattle.chan_model.specs.declared.signal.OnPath.{OnPath}
 use Rattle.chan_model.specs.declared.signal.Up.{Up}
 use Rattle.chan_model.specs.declared.signal.Up.TheVariants as up
 use Rattle.channel_config.specs.declared.names.SubchannelId.{SubchannelId}
@@ -27,9 +25,6 @@ pub record StartCounts : Type 0 where
   pub accepted : ℕ
   pub offers : List Offer
   pub begun : List ℕ
-
-abbrev pub no_starts : StartCounts
-no_starts = record { accepted = 0; offers = []; begun = [] }
 
 -- START was accepted
 abbrev pub with_start : Reply → StartCounts → StartCounts
@@ -51,20 +46,13 @@ abbrev pub starts_with_answer : ℕ → Up → StartCounts → StartCounts
 starts_with_answer t (up.Accept u) k = with_begun t k.offers k
 starts_with_answer t signal k = k
 
-abbrev pub starts_with_sent : ℕ → Option (OnPath Up) → StartCounts → StartCounts
-starts_with_sent t None k = k
-starts_with_sent t (Some x) k = starts_with_answer t x.signal k
-
 abbrev pub with_taken : Reply → StartCounts → StartCounts
-with_taken (reply.Down (down.Select t) true sent) k = starts_with_sent t sent k
+with_taken (reply.Down (down.Select t) true (Some sent)) k = starts_with_answer t sent.signal k
 with_taken r k = k
 
-abbrev pub instructed : ℕ → SubchannelId → Instruction → Reply → StartCounts → StartCounts
-instructed sets id (instruction.Ssch word address) r k = if is_id (subchannel_named sets word) id then with_start r k else k
-instructed sets id i r k = k
-
 abbrev pub starts_after : ℕ → SubchannelId → Event → Reply → StartCounts → StartCounts
-starts_after sets id (event.Execute cpu i) r k = instructed sets id i r k
+starts_after sets id (event.Execute cpu (instruction.Ssch word address)) r k =
+    if is_id (subchannel_named sets word) id then with_start r k else k
 starts_after sets id (event.Choose word) r k = if is_id (subchannel_named sets word) id then with_offer r k else k
 starts_after sets id (event.Down word path) r k = if is_id (subchannel_named sets word) id then with_taken r k else k
 starts_after sets id e r k = k
@@ -75,7 +63,7 @@ starts_by sets id k [] = k
 starts_by sets id k (entry ∷ entries) = starts_by sets id (starts_after sets id entry.event entry.reply k) entries
 
 abbrev pub starts : ℕ → SubchannelId → List Entry → StartCounts
-starts sets id h = starts_by sets id no_starts h
+starts sets id h = starts_by sets id (record { accepted = 0; offers = []; begun = [] }) h
 
 -- each start begins at most one program: those that did, of each subchannel, rise
 abbrev pub IsBegunOnce : ℕ → List Entry → Type 0

@@ -22,14 +22,11 @@ use Rattle.subchannel_model.specs.Places.{Found}
 use Rattle.subchannel_model.specs.Sending.{carried_by, finds_full, with_any_sent}
 
 -- a signal is sent
-abbrev pub send_any : Subchannel → SubchannelState → Option (OnPath Down) → Reply → Result SubTurn Fault
-send_any sub state sent r =
-    if finds_full sub.wires.down sent then Err fault.WireFull
-    else Ok (leaves r (record sub { state = state; wires = record sub.wires { down = with_any_sent sub.wires.down sent } }))
-
 abbrev pub send_sub : Subchannel → SubchannelState → ℕ → Down → Reply → Result SubTurn Fault
 send_sub sub state path signal r =
-    send_any sub state (carried_by sub (Some (record { path = path; signal = signal }))) r
+    let sent = carried_by sub (Some (record { path = path; signal = signal })) in
+    if finds_full sub.wires.down sent then Err fault.WireFull
+    else Ok (leaves r (record sub { state = state; wires = record sub.wires { down = with_any_sent sub.wires.down sent } }))
 
 -- a status is made pending
 abbrev pub pend_sub : Subchannel → StatusCause → Result SubTurn Fault

@@ -42,21 +42,14 @@ down_sub may sub path u =
     else Err fault.NoSuchPath
 
 -- the control unit is asked where it must be, and what it keeps and owes is left as the rules of sharing say
-abbrev pub asks_front : UnitState → Side → Option Down → Bool
-asks_front u side None = false
-asks_front u side (Some signal) = is_asked_for u side signal
-
 abbrev pub asks_at : Subchannel → ℕ → UnitState → Bool
-asks_at sub path u = asks_front u sub.setup.side (slice_get (queue sub.wires.down path) 0)
-
-abbrev pub shared_turn : List Member → ℕ → Bool → UnitState → DownTurn → SharedTurn
-shared_turn members place asks u t = record {
-  turn = record t { «unit» = owing_after members place u t.«unit» };
-  members = members_after members place asks u t.«unit»;
-}
+asks_at sub path u = elim (slice_get (queue sub.wires.down path) 0) [ None ↦ false | Some signal ↦ is_asked_for u sub.setup.side signal ]
 
 abbrev pub share_with : List Member → ℕ → Bool → UnitState → Result DownTurn Fault → Result SharedTurn Fault
-share_with members place asks u (Ok t) = Ok (shared_turn members place asks u t)
+share_with members place asks u (Ok t) = Ok (record {
+  turn = record t { «unit» = owing_after members place u t.«unit» };
+  members = members_after members place asks u t.«unit»;
+})
 share_with members place asks u (Err f) = Err f
 
 abbrev pub down_shared : List Member → Subchannel → ℕ → UnitState → Result SharedTurn Fault

@@ -45,11 +45,9 @@ use Rattle.machine_model.specs.Turns.{Outcome, does, SubTurn, leaves, with_state
 abbrev pub code_at : (Condition → ConditionCode) → Subchannel → ConditionCode
 code_at code sub = code (condition_of (Some sub.state))
 
-abbrev pub function_left : Subchannel → ConditionCode → SubchannelState → SubTurn
-function_left sub code state = leaves (reply.Code (answer_of_code code state.serials)) (with_state sub state)
-
 abbrev pub function_sub : Subchannel → ConditionCode → SubchannelState → SubTurn
-function_sub sub code effect = function_left sub code (left_by code sub.state effect)
+function_sub sub code effect =
+    let state = left_by code sub.state effect in leaves (reply.Code (answer_of_code code state.serials)) (with_state sub state)
 
 -- of a subchannel that is not provided nothing is left
 abbrev pub not_provided : State → (Condition → ConditionCode) → Outcome
@@ -60,17 +58,11 @@ function_at s None code effect = not_provided s code
 function_at s (Some f) code effect = at_place s f.place (function_sub f.sub (code_at code f.sub) (effect f.sub))
 
 -- START: the contents of the ORB are tested before the condition code is
-abbrev pub start_at : State → Option Found → Orb → Outcome
-start_at s found orb = function_at s found ssch_code (λ sub. started sub.state orb)
-
-abbrev pub Starts_with : State → Option Found → List ℕ → Outcome → Type 0
-Starts_with s found image r =
-    (¬ IsAllowedOrb image × (r ≡ Err fault.Operand))
-    ⊎ ((orb : Orb) × (image ≡ image_of (tables orb)) × (r ≡ start_at s found orb))
-
 abbrev pub PerformsStart : State → Option Found → Result (List ℕ) StorageFault → Outcome → Type 0
 PerformsStart s found (Err f) r = r ≡ Err (fault.Storage f)
-PerformsStart s found (Ok image) r = Starts_with s found image r
+PerformsStart s found (Ok image) r =
+    (¬ IsAllowedOrb image × (r ≡ Err fault.Operand))
+    ⊎ ((orb : Orb) × (image ≡ image_of (tables orb)) × (r ≡ function_at s found ssch_code (λ sub. started sub.state orb)))
 
 -- TEST: with code 0 and 1 the IRB is stored, and the reply shows the status word as it was
 abbrev pub stores_irb : ConditionCode → Bool
@@ -83,39 +75,27 @@ abbrev pub with_irb : State → ℕ → ℕ → Subchannel → Bool → State
 with_irb s cpu address sub stores =
     if stores then record s { storage = operand_stored s.storage cpu address (image_of (irb_tables (irb_of sub.state))) } else s
 
-abbrev pub status_reply : ConditionCode → Answer → Scsw → Reply
-status_reply code.Zero answer scsw = reply.Status answer scsw
-status_reply code.One answer scsw = reply.Status answer scsw
-status_reply code.Two answer scsw = reply.Code answer
-status_reply code.Three answer scsw = reply.Code answer
-
-abbrev pub test_left : Subchannel → ConditionCode → SubchannelState → SubTurn
-test_left sub code state = leaves (status_reply code (answer_of_code code state.serials) sub.state.scsw) (with_state sub state)
-
 abbrev pub test_with : Subchannel → ConditionCode → SubTurn
-test_with sub code = test_left sub code (left_by code sub.state (tested_wholly sub.state))
+test_with sub code =
+    let state = left_by code sub.state (tested_wholly sub.state) in
+    let answer = answer_of_code code state.serials in
+    leaves (if stores_irb code then reply.Status answer sub.state.scsw else reply.Code answer) (with_state sub state)
 
 abbrev pub test_sub : State → ℕ → ℕ → Found → ConditionCode → Outcome
 test_sub s cpu address f code = at_place (with_irb s cpu address f.sub (stores_irb code)) f.place (test_with f.sub code)
 
-abbrev pub test_at : State → ℕ → ℕ → Option Found → Outcome
-test_at s cpu address None = not_provided s tsch_code
-test_at s cpu address (Some f) = test_sub s cpu address f (code_at tsch_code f.sub)
-
 abbrev pub tests : State → ℕ → ℕ → Option Found → Result (Unit {0}) StorageFault → Outcome
 tests s cpu address found (Err f) = Err (fault.Storage f)
-tests s cpu address found (Ok u) = test_at s cpu address found
+tests s cpu address found (Ok u) = elim found [ None ↦ not_provided s tsch_code | Some f ↦ test_sub s cpu address f (code_at tsch_code f.sub) ]
 
 -- STORE: the SCHIB is stored with code 0, the only code of a subchannel that is provided
 abbrev pub with_schib : State → ℕ → ℕ → Schib → State
 with_schib s cpu address schib = record s { storage = operand_stored s.storage cpu address (image_of (schib_tables schib)) }
 
-abbrev pub store_answer : Subchannel → Answer
-store_answer sub = answer_of_code (code_at stsch_code sub) sub.state.serials
-
 abbrev pub store_at : State → ℕ → ℕ → Option Found → Outcome
 store_at s cpu address None = not_provided s stsch_code
-store_at s cpu address (Some f) = does (reply.Status (store_answer f.sub) f.sub.state.scsw) (with_schib s cpu address (schib_of f.sub))
+store_at s cpu address (Some f) =
+    does (reply.Status (answer_of_code (code_at stsch_code f.sub) f.sub.state.serials) f.sub.state.scsw) (with_schib s cpu address (schib_of f.sub))
 
 abbrev pub stores : State → ℕ → ℕ → Option Found → Result (Unit {0}) StorageFault → Outcome
 stores s cpu address found (Err f) = Err (fault.Storage f)
@@ -125,16 +105,12 @@ stores s cpu address found (Ok u) = store_at s cpu address found
 abbrev pub modify_sub : Subchannel → block.Pmcw → SubTurn
 modify_sub sub given = function_sub sub (code_at msch_code sub) (modified_state sub given)
 
-abbrev pub modify_at : State → Option Found → block.Pmcw → Outcome
-modify_at s found given = function_at s found msch_code (λ sub. modified_state sub given)
-
-abbrev pub Modifies_with : State → Option Found → block.Pmcw → Outcome → Type 0
-Modifies_with s found given r =
-    (¬ modify.IsAllowedPmcw given × (r ≡ Err fault.Operand)) ⊎ (modify.IsAllowedPmcw given × (r ≡ modify_at s found given))
-
 -- of the SCHIB, the path-management-control word counts
 abbrev pub Modifies_by : State → Option Found → List ℕ → Outcome → Type 0
-Modifies_by s found image r = (given : block.Pmcw) × ShowsPmcw image given × Modifies_with s found given r
+Modifies_by s found image r =
+    (given : block.Pmcw) × ShowsPmcw image given
+    × ((¬ modify.IsAllowedPmcw given × (r ≡ Err fault.Operand))
+    ⊎ (modify.IsAllowedPmcw given × (r ≡ function_at s found msch_code (λ sub. modified_state sub given))))
 
 abbrev pub Modifies : State → Option Found → Result (List ℕ) StorageFault → Outcome → Type 0
 Modifies s found (Err f) r = r ≡ Err (fault.Storage f)

@@ -51,49 +51,9 @@ abbrev pub code_stored : Contents → ℕ → ℕ → Option IntCode → Content
 code_stored storage cpu address None = storage
 code_stored storage cpu address (Some code) = operand_stored storage cpu (code_place address) (bytes_of_words (code_words address code))
 
-pub record TpiTurn : Type 0 where
-  pub found : Option IntCode
-  pub storage : Contents
-  pub requests : requests.WaitingRequests
-
-abbrev pub tpi_done : Contents → requests.WaitingRequests → ℕ → ℕ → Option IntCode → TpiTurn
-tpi_done storage waiting cpu address found =
-    record { found = found; storage = code_stored storage cpu address found; requests = requests.after_answer waiting found }
-
-abbrev pub tpi_turn : Contents → requests.WaitingRequests → ℕ → ℕ → ℕ → Result TpiTurn Fault
-tpi_turn storage waiting cpu mask address =
-    where_stored (code_check storage cpu address) (tpi_done storage waiting cpu address (requests.answer waiting mask))
-
--- STORE CHANNEL REPORT WORD
-pub record StcrwTurn : Type 0 where
-  pub report : Option Crw
-  pub storage : Contents
-  pub reports : reports.WaitingReports
-
-abbrev pub stcrw_done : Contents → reports.WaitingReports → ℕ → ℕ → StcrwTurn
-stcrw_done storage waiting cpu address = record {
-  report = reports.oldest waiting;
-  storage = operand_stored storage cpu address (bytes_of_words (report_word (reports.oldest waiting) ∷ []));
-  reports = reports.without_oldest waiting;
-}
-
-abbrev pub stcrw_turn : Contents → reports.WaitingReports → ℕ → ℕ → Result StcrwTurn Fault
-stcrw_turn storage waiting cpu address = where_stored (operand_check storage cpu address 4 4) (stcrw_done storage waiting cpu address)
-
--- RESET CHANNEL PATH: of general register 1 bits 0 to 23 are zero, and bits 24 to 31 name the path
+-- up: the channel paths that are configured and not down
 abbrev pub is_up : List Bool → ℕ → Bool
 is_up up path = slice_index_or up path false
-
-pub record RchpTurn : Type 0 where
-  pub code : ConditionCode
-  pub reports : reports.WaitingReports
-
-abbrev pub rchp_of : reports.WaitingReports → List Bool → ℕ → RchpTurn
-rchp_of waiting up path =
-    record { code = rchp_code (is_up up path) (reports.is_asked waiting path); reports = reports.with_rchp waiting path (is_up up path) }
-
-abbrev pub rchp_turn : reports.WaitingReports → List Bool → ℕ → Result RchpTurn Fault
-rchp_turn waiting up path = if field_of path 0 23 == 0 then Ok (rchp_of waiting up (field_of path 24 31)) else Err fault.Operand
 
 -- STORE CHANNEL PATH STATUS: 32 bytes on a boundary of 32; bit n is one where the channel path n is engaged
 abbrev pub eight_from : List Bool → ℕ → List Bool
@@ -108,63 +68,29 @@ engaged_byte engaged place = mask_of_paths (eight_from engaged (8 * place))
 unfoldable pub engaged_bytes : List Bool → ℕ → List ℕ
 engaged_bytes engaged count = map (engaged_byte engaged) (range_with_len 0 count)
 
-pub record StcpsTurn : Type 0 where
-  pub engaged : List ℕ
-  pub storage : Contents
-
-abbrev pub stcps_done : Contents → ℕ → ℕ → List ℕ → StcpsTurn
-stcps_done storage cpu address engaged = record { engaged = engaged; storage = operand_stored storage cpu address engaged }
-
-abbrev pub stcps_turn : Contents → List Bool → ℕ → ℕ → Result StcpsTurn Fault
-stcps_turn storage engaged cpu address =
-    where_stored (operand_check storage cpu address 32 32) (stcps_done storage cpu address (engaged_bytes engaged 32))
-
--- what an instruction that names no subchannel is lent, and what it answers and leaves
-pub record LentWhole : Type 0 where
-  pub storage : Contents
-  pub requests : requests.WaitingRequests
-  pub reports : reports.WaitingReports
-
-abbrev pub lent_whole : Contents → requests.WaitingRequests → reports.WaitingReports → LentWhole
-lent_whole storage waiting queue = record { storage = storage; requests = waiting; reports = queue }
-
-pub record OtherTurn : Type 0 where
-  pub answer : Reply
-  pub left : LentWhole
-
-abbrev pub tpi_lent : LentWhole → Result TpiTurn Fault → Result OtherTurn Fault
-tpi_lent old (Ok t) = Ok (record { answer = reply.Interruption t.found; left = record old { storage = t.storage; requests = t.requests } })
-tpi_lent old (Err f) = Err f
-
-abbrev pub stcrw_lent : LentWhole → Result StcrwTurn Fault → Result OtherTurn Fault
-stcrw_lent old (Ok t) = Ok (record { answer = reply.ChannelReport t.report; left = record old { storage = t.storage; reports = t.reports } })
-stcrw_lent old (Err f) = Err f
-
-abbrev pub rchp_lent : LentWhole → Result RchpTurn Fault → Result OtherTurn Fault
-rchp_lent old (Ok t) = Ok (record { answer = reply.PathReset t.code; left = record old { reports = t.reports } })
-rchp_lent old (Err f) = Err f
-
-abbrev pub stcps_lent : LentWhole → Result StcpsTurn Fault → Result OtherTurn Fault
-stcps_lent old (Ok t) = Ok (record { answer = reply.Paths t.engaged; left = record old { storage = t.storage } })
-stcps_lent old (Err f) = Err f
-
--- up: the channel paths that are configured and not down; engaged: those whose engine serves a subchannel
-abbrev pub other_turn : LentWhole → List Bool → List Bool → ℕ → OtherInstruction → Result OtherTurn Fault
-other_turn old up engaged cpu (other.Tpi mask address) = tpi_lent old (tpi_turn old.storage old.requests cpu mask address)
-other_turn old up engaged cpu (other.Rchp path) = rchp_lent old (rchp_turn old.reports up path)
-other_turn old up engaged cpu (other.Stcrw address) = stcrw_lent old (stcrw_turn old.storage old.reports cpu address)
-other_turn old up engaged cpu (other.Stcps address) = stcps_lent old (stcps_turn old.storage engaged cpu address)
-
 -- by identifier, the channel paths whose engine serves a subchannel
 unfoldable pub engaged_chpids : List Subchannel → ℕ → List Bool
 engaged_chpids subs count = map (any_engages subs) (range_with_len 0 count)
 
-abbrev pub with_lent : State → LentWhole → State
-with_lent s left = record s { storage = left.storage; requests = left.requests; reports = left.reports }
-
-abbrev pub other_done : State → Result OtherTurn Fault → Outcome
-other_done s (Ok t) = does t.answer (with_lent s t.left)
-other_done s (Err f) = Err f
-
+-- RESET CHANNEL PATH: of general register 1 bits 0 to 23 are zero, and bits 24 to 31 name the path
 abbrev pub other_at : State → ℕ → OtherInstruction → Outcome
-other_at s cpu i = other_done s (other_turn (lent_whole s.storage s.requests s.reports) s.up (engaged_chpids s.subs 0x100) cpu i)
+other_at s cpu (other.Tpi mask address) =
+    let found = requests.answer s.requests mask in
+    where_stored (code_check s.storage cpu address) (record {
+      reply = reply.Interruption found;
+      state = record s { storage = code_stored s.storage cpu address found; requests = requests.after_answer s.requests found };
+    })
+other_at s cpu (other.Rchp path) =
+    let named = field_of path 24 31 in
+    let code = rchp_code (is_up s.up named) (reports.is_asked s.reports named) in
+    if field_of path 0 23 == 0 then does (reply.PathReset code) (record s { reports = reports.with_rchp s.reports named (is_up s.up named) })
+    else Err fault.Operand
+other_at s cpu (other.Stcrw address) =
+    let report = reports.oldest s.reports in
+    let storage = operand_stored s.storage cpu address (bytes_of_words (report_word report ∷ [])) in
+    where_stored (operand_check s.storage cpu address 4 4)
+    (record { reply = reply.ChannelReport report; state = record s { storage = storage; reports = reports.without_oldest s.reports } })
+other_at s cpu (other.Stcps address) =
+    let engaged = engaged_bytes (engaged_chpids s.subs 0x100) 32 in
+    where_stored (operand_check s.storage cpu address 32 32)
+    (record { reply = reply.Paths engaged; state = record s { storage = operand_stored s.storage cpu address engaged } })

@@ -35,29 +35,17 @@ abbrev pub down_path : State → ℕ → State
 down_path s chpid =
     record (with_swept s (sweep.GoesDown chpid)) { up = slice_set s.up chpid false; reports = reports.path_lost_reported s.reports chpid }
 
-abbrev pub path_down_at : State → ℕ → Outcome
-path_down_at s chpid = where_path s chpid (is_up s.up chpid) (does reply.Done (down_path s chpid))
-
 -- a path that is down comes up
 abbrev pub up_path : State → ℕ → State
 up_path s chpid =
     record (with_swept s (sweep.ComesUp chpid)) { up = slice_set s.up chpid true; reports = reports.path_back s.reports chpid }
 
-abbrev pub path_up_at : State → ℕ → Outcome
-path_up_at s chpid = where_path s chpid (not (is_up s.up chpid)) (does reply.Done (up_path s chpid))
-
 -- a path whose reset is asked for is reset
 abbrev pub reset_path : State → ℕ → State
 reset_path s chpid = record (with_swept s (sweep.PathReset chpid)) { reports = reports.reset_done s.reports chpid }
-
-abbrev pub path_reset_at : State → ℕ → Outcome
-path_reset_at s chpid = where_path s chpid (reports.is_asked s.reports chpid) (does reply.Done (reset_path s chpid))
 
 -- the channel subsystem is reset: no request and no report waits, and no reset of a path is asked for; storage, units, what
 -- control units keep of them, and the states of paths stay
 abbrev pub reset_system : State → State
 reset_system s =
     record (with_swept s sweep.SystemReset) { requests = requests.no_requests_wait s.requests.numbers; reports = reports.no_reports_wait }
-
-abbrev pub system_reset_at : State → Outcome
-system_reset_at s = does reply.Done (reset_system s)

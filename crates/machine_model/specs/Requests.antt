@@ -28,37 +28,16 @@ reply_code (reply.ChannelReport report) = Some (stcrw_code report)
 reply_code other = None
 
 -- TEST with code 0 and 1, and CLEAR with code 0, drop the request of their subchannel (chapter 16)
-abbrev pub is_zero : Option ConditionCode → Bool
-is_zero None = false
-is_zero (Some Zero) = true
-is_zero (Some One) = false
-is_zero (Some Two) = false
-is_zero (Some Three) = false
-
-abbrev pub is_zero_or_one : Option ConditionCode → Bool
-is_zero_or_one None = false
-is_zero_or_one (Some Zero) = true
-is_zero_or_one (Some One) = true
-is_zero_or_one (Some Two) = false
-is_zero_or_one (Some Three) = false
-
 abbrev pub drops : Instruction → Option ConditionCode → Bool
-drops (instruction.Ssch word address) code = false
-drops (instruction.Tsch word address) code = is_zero_or_one code
-drops (instruction.Stsch word address) code = false
-drops (instruction.Msch word address) code = false
-drops (instruction.Rsch word) code = false
-drops (instruction.Hsch word) code = false
-drops (instruction.Csch word) code = is_zero code
-drops (instruction.Xsch word) code = false
-drops (instruction.Enable word subclass multipath) code = false
-
-abbrev pub requests_left : requests.WaitingRequests → Subchannel → Instruction → Reply → requests.WaitingRequests
-requests_left waiting sub i r = if drops i (reply_code r) then requests.request_dropped waiting sub.setup.id.set sub.setup.id.number else waiting
+drops (instruction.Tsch word address) (Some Zero) = true
+drops (instruction.Tsch word address) (Some One) = true
+drops (instruction.Csch word) (Some Zero) = true
+drops i code = false
 
 abbrev pub requests_after : requests.WaitingRequests → Option Subchannel → Instruction → Reply → requests.WaitingRequests
 requests_after waiting None i r = waiting
-requests_after waiting (Some sub) i r = requests_left waiting sub i r
+requests_after waiting (Some sub) i r =
+    if drops i (reply_code r) then requests.request_dropped waiting sub.setup.id.set sub.setup.id.number else waiting
 
 abbrev pub requests_dropped : State → Event → Reply → requests.WaitingRequests → requests.WaitingRequests
 requests_dropped s (event.Execute cpu i) r waiting = requests_after waiting (sub_of s (subchannel_word i)) i r
@@ -76,11 +55,9 @@ request_of sub = record {
   subclass_fits = sub.state.pmcw.subclass_fits;
 }
 
-abbrev pub makes_status : Subchannel → Subchannel → Bool
-makes_status old new = nat_lt old.state.serials.made new.state.serials.made
-
 abbrev pub posted_for : Subchannel → Subchannel → requests.WaitingRequests → requests.WaitingRequests
-posted_for old new waiting = if makes_status old new then requests.posted waiting (request_of new) else waiting
+posted_for old new waiting =
+    if nat_lt old.state.serials.made new.state.serials.made then requests.posted waiting (request_of new) else waiting
 
 -- in the order of the subchannels' configuration (own)
 abbrev pub posted_all : List Subchannel → List Subchannel → requests.WaitingRequests → requests.WaitingRequests
@@ -89,9 +66,7 @@ posted_all (old ∷ olds) [] waiting = waiting
 posted_all (old ∷ olds) (new ∷ news) waiting = posted_all olds news (posted_for old new waiting)
 
 -- what an event came to, with the requests that are left of it
-abbrev pub requests_settled : State → Event → Turn → requests.WaitingRequests
-requests_settled s e t = posted_all s.subs t.state.subs (requests_dropped s e t.reply t.state.requests)
-
 abbrev pub settled : State → Event → Outcome → Outcome
-settled s e (Ok t) = Ok (record t { state = record t.state { requests = requests_settled s e t } })
+settled s e (Ok t) =
+    Ok (record t { state = record t.state { requests = posted_all s.subs t.state.subs (requests_dropped s e t.reply t.state.requests) } })
 settled s e (Err f) = Err f

@@ -15,25 +15,19 @@ use Rattle.machine_model.specs.Requests.{settled}
 
 -- the path of an offer, a Reset or a Halt is one that the rule allows, by the paths to choose from and the path of the last
 -- offer, Reset or Grant
-pub record IsRuled (picks : Rule) (s : State) (f : Found) (r : Outcome) : Type 0 where
-  pub choice : Option ℕ
-  pub member : IsChoice (paths_to_choose s.subs f.sub) choice
-  pub picked : picks (paths_to_choose s.subs f.sub) f.sub.state.last_path choice
-  pub gives : r ≡ at_sub s f.place (choose_sub (marked_sub f.sub choice) (chosen f.sub choice))
-
 abbrev pub RulesAt : Rule → State → Option Found → Outcome → Type 0
 RulesAt picks s None r = r ≡ Err fault.NoSuchSubchannel
-RulesAt picks s (Some f) r = IsRuled picks s f r
-
--- of the events, Choose alone takes a path of its own choice
-abbrev pub Rules : Rule → State → Event → Outcome → Type 0
-Rules picks s (event.Choose word) r = (t : Outcome) × RulesAt picks s (found_of s word) t × (r ≡ settled s (event.Choose word) t)
-Rules picks s other r = Unit {0}
+RulesAt picks s (Some f) r =
+    (choice : Option ℕ) × IsChoice (paths_to_choose s.subs f.sub) choice
+    × picks (paths_to_choose s.subs f.sub) f.sub.state.last_path choice
+    × (r ≡ at_sub s f.place (choose_sub (marked_sub f.sub choice) (chosen f.sub choice)))
 
 abbrev pub outcome_of : Result Reply Fault → State → Outcome
 outcome_of (Ok reply) new = does reply new
 outcome_of (Err f) new = Err f
 
--- what a call answered and left goes by the rule
+-- what a call answered and left goes by the rule; of the events, Choose alone takes a path of its own choice
 abbrev pub GoesByRule : Rule → State → Event → Result Reply Fault → State → Type 0
-GoesByRule picks old e r new = Rules picks old e (outcome_of r new)
+GoesByRule picks old (event.Choose word) r new =
+    (t : Outcome) × RulesAt picks old (found_of old word) t × (outcome_of r new ≡ settled old (event.Choose word) t)
+GoesByRule picks old other r new = Unit {0}

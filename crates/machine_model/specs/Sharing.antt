@@ -35,8 +35,5 @@ members_after members place asks old new =
 abbrev pub owing : Bool → UnitState → UnitState
 owing owed u = record u { end_owed = u.end_owed || owed }
 
-abbrev pub is_owed_after : List Member → ℕ → UnitState → UnitState → Bool
-is_owed_after members place old new = is_let_go old new && is_owed members place
-
 abbrev pub owing_after : List Member → ℕ → UnitState → UnitState → UnitState
-owing_after members place old new = owing (is_owed_after members place old new) new
+owing_after members place old new = owing (is_let_go old new && is_owed members place) new

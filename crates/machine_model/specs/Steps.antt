@@ -1,9 +1,11 @@
 -- The steps of a channel subsystem, and its runs.
-use Rattle.std.specs.Prelude.{◌≡◌, List, [], ◌∷◌, ◌++◌, slice_get, Result, Ok, Err}
+use Rattle.std.specs.Prelude.{◌≡◌, not, List, [], ◌∷◌, ◌++◌, slice_get, Result, Ok, Err}
 use Rattle.chan_model.specs.declared.fault.Fault.{Fault}
 use Rattle.chan_events.specs.declared.event.Event.{Event}
 use Rattle.chan_events.specs.declared.event.Event.TheVariants as event
 use Rattle.chan_events.specs.declared.reply.Reply.{Reply}
+use Rattle.chan_events.specs.declared.reply.Reply.TheVariants as reply
+use Rattle.channel_reports.specs.Queue as reports
 use Rattle.chan_events.specs.declared.reply.Entry.{Entry}
 use Rattle.channel_config.specs.Setup.{Setup}
 use Rattle.machine_model.specs.State.{State, opening_of, found_of}
@@ -11,14 +13,14 @@ use Rattle.machine_model.specs.Setups.{IsSetUp}
 use Rattle.machine_model.specs.Turns.{Outcome, does}
 use Rattle.machine_model.specs.StorageSteps.{put_turn, key_turn, prefix_turn, show_turn}
 use Rattle.machine_model.specs.InstructionSteps.{Executes}
-use Rattle.machine_model.specs.OtherSteps.{other_at}
+use Rattle.machine_model.specs.OtherSteps.{is_up, other_at}
 use Rattle.machine_model.specs.ChooseSteps.{Chooses}
 use Rattle.machine_model.specs.UpSteps.{up_at}
 use Rattle.machine_model.specs.DownSteps.{down_at}
 use Rattle.machine_model.specs.ReportSteps.{report_at}
 use Rattle.machine_model.specs.ActSteps.{act_at}
 use Rattle.machine_model.specs.RestartSteps.{restart_at}
-use Rattle.machine_model.specs.PathSteps.{path_down_at, path_up_at, path_reset_at, system_reset_at}
+use Rattle.machine_model.specs.PathSteps.{where_path, down_path, up_path, reset_path, reset_system}
 use Rattle.machine_model.specs.Requests.{settled}
 
 -- What an event itself comes to: its turn, or its refusal.
@@ -35,10 +37,10 @@ Does s (event.Down word path) r = r ≡ down_at s (found_of s word) path
 Does s (event.Report place report) r = r ≡ report_at s place (slice_get s.units place) report
 Does s (event.Act place act) r = r ≡ act_at s place (slice_get s.units place) act
 Does s (event.Restart place) r = r ≡ restart_at s place (slice_get s.units place)
-Does s (event.PathDown chpid) r = r ≡ path_down_at s chpid
-Does s (event.PathUp chpid) r = r ≡ path_up_at s chpid
-Does s (event.PathReset chpid) r = r ≡ path_reset_at s chpid
-Does s event.SystemReset r = r ≡ system_reset_at s
+Does s (event.PathDown chpid) r = r ≡ where_path s chpid (is_up s.up chpid) (does reply.Done (down_path s chpid))
+Does s (event.PathUp chpid) r = r ≡ where_path s chpid (not (is_up s.up chpid)) (does reply.Done (up_path s chpid))
+Does s (event.PathReset chpid) r = r ≡ where_path s chpid (reports.is_asked s.reports chpid) (does reply.Done (reset_path s chpid))
+Does s event.SystemReset r = r ≡ does reply.Done (reset_system s)
 
 -- What an event comes to, with the requests for interruptions that are left of it.
 abbrev pub Steps : State → Event → Outcome → Type 0

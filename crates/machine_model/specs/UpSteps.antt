@@ -23,14 +23,12 @@ with_met sub path step = record sub {
   wires = record { down = with_any_sent sub.wires.down (carried_by sub step.came.sent); up = taken sub.wires.up path };
 }
 
-abbrev pub up_with : Subchannel → ℕ → Up → Met → Result UpTurn Fault
-up_with sub path signal m =
-    if finds_full sub.wires.down (carried_by sub m.step.came.sent) then Err fault.WireFull
-    else Ok (record { reply = reply.Up signal m.step.came.taken m.step.came.sent; sub = with_met sub path m.step; storage = m.storage })
-
 abbrev pub up_front : Bool → Contents → Subchannel → ℕ → Option Up → Result UpTurn Fault
 up_front returns storage sub path None = Err fault.NotSent
-up_front returns storage sub path (Some signal) = up_with sub path signal (takes_up returns storage sub.state path signal)
+up_front returns storage sub path (Some signal) =
+    let m = takes_up returns storage sub.state path signal in
+    if finds_full sub.wires.down (carried_by sub m.step.came.sent) then Err fault.WireFull
+    else Ok (record { reply = reply.Up signal m.step.came.taken m.step.came.sent; sub = with_met sub path m.step; storage = m.storage })
 
 abbrev pub up_sub : Bool → Contents → Subchannel → ℕ → Result UpTurn Fault
 up_sub returns storage sub path =
@@ -41,12 +39,8 @@ up_sub returns storage sub path =
 abbrev pub may_return : List Subchannel → Subchannel → ℕ → Bool
 may_return subs sub path = is_member (return_paths sub) path && not (is_member (engaged_paths subs sub) path)
 
-abbrev pub returns_by : List Subchannel → Subchannel → ℕ → Option Up → Bool
-returns_by subs sub path (Some (up.Back t c)) = may_return subs sub path
-returns_by subs sub path other = false
-
 abbrev pub returns_at : List Subchannel → Subchannel → ℕ → Bool
-returns_at subs sub path = returns_by subs sub path (slice_get (queue sub.wires.up path) 0)
+returns_at subs sub path = elim (slice_get (queue sub.wires.up path) 0) [ Some (up.Back t c) ↦ may_return subs sub path | other ↦ false ]
 
 abbrev pub up_at : State → Option Found → ℕ → Outcome
 up_at s None path = Err fault.NoSuchSubchannel

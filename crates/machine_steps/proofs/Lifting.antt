@@ -49,8 +49,11 @@ use Rattle.machine_model.specs.UpSteps.{up_at, up_sub, up_front, returns_at}
 use Rattle.machine_model.specs.DownSteps.{at_shared, down_at, down_unit, down_shared}
 use Rattle.machine_model.specs.ReportSteps.{report_at, report_to, report_sub}
 use Rattle.machine_model.specs.ActSteps.{act_at, act_on, act_to, act_sub, side_of_act}
-use Rattle.machine_model.specs.OtherSteps.{LentWhole, OtherTurn, lent_whole, with_lent, other_done, other_turn, engaged_chpids}
-use Rattle.machine_model.specs.RestartSteps.{restart_at, restart_with}
+use Rattle.machine_model.proofs.Others.{other-turned}
+use Rattle.machine_model.specs.OtherTurns.{LentWhole, OtherTurn, lent_whole, with_lent, other_done, other_turn}
+use Rattle.machine_model.specs.OtherSteps.{engaged_chpids}
+use Rattle.machine_model.proofs.Named.{restart_with}
+use Rattle.machine_model.specs.RestartSteps.{restart_at}
 use Rattle.machine_model.specs.InstructionSteps.{Executes_at, Executes_on, subchannel_word}
 use Rattle.io_step.specs.Executing.{Executed_absent}
 use Rattle.io_step.specs.Performing.{Lent, Performed, Comes, lent}
@@ -261,7 +264,7 @@ chooses picks s seen word place sub looked new paths choice what r waiting same 
     waits-at s e r mid place sub new waiting stands refl (posts s e r mid sub new waiting (λ x w. refl) refl (kept-sub sub new turn r given) posted) in
     let does : Chooses s (found_of s word) outcome = named s word place sub (λ (f : Option Found). Chooses s f outcome) at stands (choice, fits, refl) in
     let rules : RulesAt picks s (found_of s word) outcome =
-    named s word place sub (λ (f : Option Found). RulesAt picks s f outcome) at stands (record { choice = choice; member = fits; picked = by; gives = refl }) in (
+    named s word place sub (λ (f : Option Found). RulesAt picks s f outcome) at stands (choice, fits, by, refl) in (
       subst (λ (t : State). Performs t e r after) same (performed s e outcome r mid waiting does gives waits),
       subst (λ (t : State). GoesByRule picks t e r after) same (outcome, rules, settled-is s e outcome r mid waiting gives waits),
     )
@@ -376,7 +379,7 @@ other-performs s cpu i engaged r after waiting queue alike g =
     let turn = other_turn lent s.up (engaged_chpids s.subs 0x100) cpu i in
     let left = lent_whole after waiting queue in
     let given : Comes lent turn r left = subst (λ (t : Result OtherTurn Fault). Comes lent t r left) (alike lent s.up cpu) g in
-    unchanged s (event.ExecuteOther cpu i) (other_done s turn) r (with_lent s left) refl (other-gives s turn r left given) refl (λ x w. refl)
+    unchanged s (event.ExecuteOther cpu i) (other_done s turn) r (with_lent s left) (sym (other-turned s cpu i)) (other-gives s turn r left given) refl (λ x w. refl)
 
 -- an instruction on a subchannel that is provided, and on one that is not
 abbrev IsExecuted : State → ℕ → Instruction → Option Found → Type 0

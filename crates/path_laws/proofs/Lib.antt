@@ -1,3 +1,4 @@
+mod Named
 mod PathSets
 mod Offering
 mod SameState

@@ -1,7 +1,5 @@
 -- By which paths programs go out and come back (SA22-7832, chapter 15, the dedicated and the working allegiance).
-use Rattle.std.specs.Prelude.{◌≡◌, ℕ, true, if◌then◌else◌, Option, None, Some, List, slice_get}
-use Rattle.chan_model.specs.declared.signal.Down.{Down}
-use Rattle.chan_model.specs.declared.signal.OnPath.{OnPath}
+use Rattle.std.specs.Prelude.{◌≡◌, ℕ, true, if◌then◌else◌, Option, None, Some, unwrap_or, List, slice_get}
 use Rattle.chan_model.specs.declared.signal.Up.TheVariants as up
 use Rattle.chan_model.specs.ResetCauses.{is_path}
 use Rattle.chan_events.specs.declared.event.Event.{Event}
@@ -21,13 +19,9 @@ OffersOnDedicated s (event.Choose word) (reply.Offered t path resumes) =
 OffersOnDedicated s e r = Unit {0}
 
 -- the path of the first Accept that the subchannel of a place took since a program of it was offered last, anew or resumed
-abbrev pub first_of_both : Option ℕ → ℕ → Option ℕ
-first_of_both None path = Some path
-first_of_both (Some first) path = Some first
-
 abbrev pub accepted_by : Reply → ℕ → Option ℕ → Option ℕ
 accepted_by (reply.Offered t p resumes) path before = None
-accepted_by (reply.Up (up.Accept t) true sent) path before = first_of_both before path
+accepted_by (reply.Up (up.Accept t) true sent) path before = Some (unwrap_or before path)
 accepted_by r path before = before
 
 abbrev pub accepted_after : ℕ → State → Event → Reply → Option ℕ → Option ℕ
@@ -40,12 +34,8 @@ accepted_path place opening _ _ Opened = None
 accepted_path place opening _ _ (Stepped h old e r new run step) = accepted_after place old e r (accepted_path place opening h old run)
 
 -- a reconnection is granted
-abbrev pub granted_on : Option (OnPath Down) → Option ℕ
-granted_on None = None
-granted_on (Some sent) = if is_grant sent.signal then Some sent.path else None
-
 abbrev pub granted_path : Reply → Option ℕ
-granted_path (reply.Up signal taken sent) = granted_on sent
+granted_path (reply.Up signal taken (Some sent)) = if is_grant sent.signal then Some sent.path else None
 granted_path r = None
 
 -- in single-path mode that is by the path of the first Accept since the program was started or resumed

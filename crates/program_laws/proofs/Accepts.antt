@@ -23,7 +23,7 @@ use Rattle.subchannel_model.specs.Taking as taking
 use Rattle.subchannel_model.specs.Taking.{goes_ahead, halt_done, path_used, from_start, suspended_as, standing_as, standing}
 use Rattle.program_laws.specs.Traces.{ProgramTrace}
 use Rattle.program_laws.specs.Tells.{GoesOn, beginning, IsOver, Accepted, Meets}
-use Rattle.program_laws.specs.Shows.{IsRest}
+use Rattle.program_laws.proofs.Named.{IsRest}
 use Rattle.program_laws.proofs.MachineActs.{with_acts, first_acts}
 use Rattle.program_laws.proofs.MachineTraces as stories
 use Rattle.program_laws.proofs.Ties.{AreLaws}

@@ -97,8 +97,8 @@ module _ (laws : AreLaws) (accesses : AreAccesses) where
       let after : ProgramTrace = stories.ends_alone signal.status k in
       IsCountBy (is_none s.waiting || not (is_last_end signal.status)) s x.state after →
       Meets storage storage s x.state (up.End signal.number signal.command signal.status signal.more) x.came.taken x.came.sent k after
-  stops-meets storage s b k signal shown true c r = inl (c, (refl, let_go-silent (end-left laws accesses s b signal shown true), made-more s.pmcw.enabled s.serials, r))
-  stops-meets storage s b k signal shown false c r = inl (c, (refl, refl, made-more s.pmcw.enabled s.serials, r))
+  stops-meets storage s b k signal shown true c r = inl (c, refl, let_go-silent (end-left laws accesses s b signal shown true), made-more s.pmcw.enabled s.serials, r)
+  stops-meets storage s b k signal shown false c r = inl (c, refl, refl, made-more s.pmcw.enabled s.serials, r)
 
   goes-meets : (storage : Contents) (s : SubchannelState) (b : ActiveProgram) (k : ProgramTrace) (signal : EndSignal) (x y : Bool) → chains_command s.scsw b signal.status signal.more ≡ x →
       has_device_end signal.status ≡ y → s.begun ≡ Some b → HasWork (Some b) k → signal.number ≡ k.number →

@@ -35,7 +35,8 @@ use Rattle.program_laws.proofs.MachineActs.{with_acts, with_places, with_copy, l
 use Rattle.program_laws.proofs.MachineTraces as stories
 use Rattle.program_laws.specs.Traces.{ProgramTrace, past_part}
 use Rattle.program_laws.proofs.MachineTraces.{trace_meets}
-use Rattle.program_laws.specs.Claims.{IsCopied, part_of}
+use Rattle.program_laws.proofs.Named.{IsCopied}
+use Rattle.program_laws.specs.Claims.{part_of}
 use Rattle.program_laws.proofs.Accesses.{AreAccesses, copied-bytes}
 
 abbrev pub AllCopied : CommandTrace → Type 0

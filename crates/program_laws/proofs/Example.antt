@@ -15,7 +15,7 @@ use Rattle.subchannel_model.specs.Opening.{opening_subchannel}
 use Rattle.subchannel_model.specs.Taking.{takes_up}
 use Rattle.program_laws.specs.Traces.{ProgramTrace, trace_offered, trace_resumed}
 use Rattle.program_laws.proofs.MachineTraces.{trace_meets}
-use Rattle.program_laws.specs.Claims.{codes}
+use Rattle.program_laws.proofs.Named.{codes}
 
 -- at 8 a block of format 1: code 1, count 2, address 16
 storage : Contents

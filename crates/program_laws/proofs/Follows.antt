@@ -20,7 +20,8 @@ use Rattle.subchannel_model.specs.declared.state.SubchannelState.{SubchannelStat
 use Rattle.subchannel_model.specs.Places.{found_with, found_at}
 use Rattle.subchannel_model.specs.Sending.{carried_by, finds_full}
 use Rattle.subchannel_model.specs.Taking.{Met, meets, ignoring, goes_ahead, accept, move_data, end_of, takes_up}
-use Rattle.machine_model.specs.Requests.{requests_settled, settled}
+use Rattle.machine_model.proofs.Named.{requests_settled}
+use Rattle.machine_model.specs.Requests.{settled}
 use Rattle.machine_model.specs.State.{State, place_of, with_sub}
 use Rattle.machine_model.specs.Steps.{Step}
 use Rattle.machine_model.specs.Turns.{Turn, UpTurn, Outcome, at_storage, does}

@@ -48,9 +48,9 @@ use Rattle.program_laws.proofs.MachineActs.{with_acts, goes_acts, first_acts, ne
 use Rattle.program_laws.proofs.MachineTraces as stories
 use Rattle.program_laws.specs.Traces.{ProgramTrace, past_part}
 use Rattle.program_laws.proofs.MachineTraces.{trace_meets}
-use Rattle.program_laws.specs.Claims.{IsWhole, IsBeginning, places_of, places_arrived}
+use Rattle.program_laws.specs.Claims.{IsBeginning, places_of, places_arrived}
 use Rattle.program_laws.specs.DataAreas.{data_areas, counts}
-use Rattle.program_laws.specs.Shows.{IsRest}
+use Rattle.program_laws.proofs.Named.{IsRest, IsWhole}
 use Rattle.program_laws.proofs.Accesses.{AreAccesses}
 use Rattle.program_laws.proofs.Ties.{AreLaws, Tied, changed, spot-counts}
 use Rattle.program_laws.proofs.Parts.{IsDone, IsAtWork, HasArrived, done-of, arrived-none, gives-work, takes_in-work, WentOn, goes-on, IsSame, absorbed-same, next_given-same, located-same, brought-same, room-same}

@@ -23,7 +23,7 @@ use Rattle.subchannel_model.specs.Programs.{without_programs}
 use Rattle.subchannel_model.specs.Taking.{let_go, by_hold, back, halt_done, clear_done, with_attention, reset_taken}
 use Rattle.program_laws.specs.Traces.{CommandTrace, no_trace}
 use Rattle.program_laws.specs.Traces.{ProgramTrace, past_part}
-use Rattle.program_laws.specs.Shows.{IsRest}
+use Rattle.program_laws.proofs.Named.{IsRest}
 use Rattle.program_laws.specs.Claims.{IsStored, places_of}
 use Rattle.program_laws.proofs.Lists.{begins-all}
 use Rattle.program_laws.proofs.Parts.{IsDone, IsAtWork, done-of}

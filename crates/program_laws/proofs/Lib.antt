@@ -1,3 +1,4 @@
+mod Named
 mod MachineActs
 mod MachineTraces
 mod Vanishing

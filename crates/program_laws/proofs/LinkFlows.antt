@@ -39,7 +39,8 @@ use Rattle.machine_model.specs.ReportSteps.{with_any_up, report_taken}
 use Rattle.subchannel_model.specs.Losing.{has_any, is_offered_or_held, reset_with, reset_for}
 use Rattle.subchannel_model.specs.Taking as taking
 use Rattle.step_laws.specs.Walks.{IsFound, Suits}
-use Rattle.program_laws.specs.Traces.{ProgramTrace, trace_offered, offered_for, trace_resumed, chosen_at, taken_at, reported_at}
+use Rattle.program_laws.proofs.Named.{offered_for}
+use Rattle.program_laws.specs.Traces.{ProgramTrace, trace_offered, trace_resumed, chosen_at, taken_at, reported_at}
 use Rattle.program_laws.proofs.MachineTraces.{trace_meets, met_with, met_at}
 use Rattle.program_laws.proofs.Ties.{AreLaws}
 use Rattle.program_laws.proofs.Accesses.{AreAccesses}

@@ -21,7 +21,7 @@ use Rattle.subchannel_model.specs.Opening.{opened}
 use Rattle.machine_model.specs.Steps.{Run, Opened, Stepped}
 use Rattle.program_laws.specs.Traces.{ProgramTrace}
 use Rattle.program_laws.proofs.MachineTraces.{trace, trace_after}
-use Rattle.program_laws.specs.Claims.{codes, TakesInOrder}
+use Rattle.program_laws.proofs.Named.{codes, TakesInOrder}
 use Rattle.step_laws.specs.Walks.{AreWalks}
 use Rattle.machine_laws.specs.Agreeing.{AreAbove}
 use Rattle.program_laws.proofs.Turns.{step-happens}

@@ -33,7 +33,8 @@ use Rattle.subchannel_model.specs.Taking as taking
 use Rattle.subchannel_model.specs.Taking.{bytes_of_load, let_go, with_end, without_pci, standing_still, suspended_alone}
 use Rattle.program_laws.proofs.MachineActs.{with_acts, next_acts}
 use Rattle.program_laws.specs.DataAreas.{data_areas, counts}
-use Rattle.program_laws.specs.Shows.{IsRest, IsCountBy}
+use Rattle.program_laws.proofs.Named.{IsRest}
+use Rattle.program_laws.specs.Shows.{IsCountBy}
 use Rattle.program_laws.proofs.MachineTraces as stories
 use Rattle.program_laws.specs.Traces.{ProgramTrace}
 use Rattle.program_laws.proofs.Accesses.{AreAccesses}

@@ -60,7 +60,8 @@ use Rattle.machine_model.specs.ChooseSteps.{choose_sub}
 use Rattle.machine_model.specs.Turns.{SubTurn}
 use Rattle.machine_model.specs.declared.state.Sweep.{Sweep}
 use Rattle.machine_model.specs.PathSteps.{swept}
-use Rattle.program_laws.specs.Shows.{IsCountLeft, IsCountZero, IsCountBy, is_of_program, IsCountOf}
+use Rattle.program_laws.proofs.Named.{is_of_program}
+use Rattle.program_laws.specs.Shows.{IsCountLeft, IsCountZero, IsCountBy, IsCountOf}
 use Rattle.program_laws.specs.Traces.{ProgramTrace}
 use Rattle.program_laws.proofs.Holds.{HasWork, IsStanding, HeldBy}
 use Rattle.program_laws.proofs.Shows.{status-count, counted, rest-of}

@@ -15,7 +15,8 @@ use Rattle.chan_model.specs.Loads.{load_length}
 use Rattle.chan_model.specs.UnitTable.{kept_bytes, with_given, at_hand_answered, new_command}
 use Rattle.channel_program.specs.Acts.{PlacedBytes}
 use Rattle.idaw.specs.Places.{each_below}
-use Rattle.program_laws.specs.Claims.{IsFirstOf, first_bytes}
+use Rattle.program_laws.proofs.Named.{first_bytes}
+use Rattle.program_laws.specs.Claims.{IsFirstOf}
 use Rattle.data_move.proofs.ListLemmas.{each_below_add}
 use Rattle.program_laws.proofs.Lists.{length-each_below}
 

@@ -19,19 +19,6 @@ IsBeginning {A} xs ys = (rest : List A) × (xs ++ rest ≡ ys)
 abbrev pub places_of : Orb → List Act → List (Option ℕ)
 places_of orb acts = places_of_bytes (block (kind_of orb)) (data_areas orb acts)
 
--- the codes of the commands of a program after the first so many, the first first
-abbrev pub codes : ℕ → Orb → List Act → List ℕ
-codes earlier orb acts = drop earlier (reverse (map code (commands orb acts)))
-
--- the commands that the device took under this number are consecutive commands of the program, each once, from the first on,
--- or from the first after those that were sent before it was suspended
-abbrev pub TakesInOrder : ProgramTrace → Type 0
-TakesInOrder k = IsBeginning (reverse k.taken) (codes k.earlier k.orb k.now.acts)
-
--- a chunk has the bytes at its places, as storage stood when it was copied
-abbrev pub IsCopied : PlacedBytes → Type 0
-IsCopied c = c.bytes ≡ bytes_at c.storage c.places
-
 -- each byte that was stored stands at its place, and no other byte was changed
 pub record IsStored (a : Arrival) : Type 0 where
   pub whole : length a.chunk.places ≡ length a.chunk.bytes
@@ -44,11 +31,10 @@ places_arrived [] = []
 places_arrived (a ∷ before) = places_arrived before ++ a.chunk.places
 
 -- the first bytes of a chunk
-abbrev pub first_bytes : PlacedBytes → ℕ → PlacedBytes
-first_bytes c n = record { storage = c.storage; places = take n c.places; bytes = take n c.bytes }
-
 abbrev pub IsFirstOf : List PlacedBytes → PlacedBytes → Type 0
-IsFirstOf copied c = (whole : PlacedBytes) × (n : ℕ) × Contains copied whole × (c ≡ first_bytes whole n)
+IsFirstOf copied c =
+    (whole : PlacedBytes) × (n : ℕ) × Contains copied whole
+    × (c ≡ record { storage = whole.storage; places = take n whole.places; bytes = take n whole.bytes })
 
 -- what the device absorbed for a command are the first bytes of chunks that were copied for it, and these lie side by side
 -- from the first place of the command on
@@ -66,19 +52,18 @@ abbrev pub IsSuspended : Orb → List Act → Type 0
 IsSuspended orb (Block address bytes ∷ before) = reads orb (role_of orb before) bytes ≡ Suspends
 IsSuspended orb acts = ⊥
 
--- each block that is next is fetched, but of a program that did not begin, or that was suspended before the block took control
-abbrev pub IsWhole : Orb → List Act → Type 0
-IsWhole orb acts = (acts ≡ []) ⊎ ((next orb acts ≡ None) ⊎ IsSuspended orb acts)
-
 pub record TraceCorrect (k : ProgramTrace) : Type 0 where
   -- each block is where the blocks before it say
   pub program : IsProgram k.orb k.now.acts
-  -- and each that is next was fetched
-  pub whole : IsWhole k.orb k.now.acts
-  pub takes : TakesInOrder k
+  -- and each that is next was fetched, but of a program that did not begin, or that was suspended before the block took control
+  pub whole : (k.now.acts ≡ []) ⊎ ((next k.orb k.now.acts ≡ None) ⊎ IsSuspended k.orb k.now.acts)
+  -- the commands that the device took under this number are consecutive commands of the program, each once, from the first on,
+  -- or from the first after those that were sent before it was suspended
+  pub takes : IsBeginning (reverse k.taken) (drop k.earlier (reverse (map code (commands k.orb k.now.acts))))
   -- the bytes that were moved are those at the first places of the command
   pub moves : IsBeginning k.now.moved (places_of k.orb k.now.acts)
-  pub copied : All IsCopied (part_of k).copied
+  -- each chunk has the bytes at its places, as storage stood when it was copied
+  pub copied : All (λ c. c.bytes ≡ bytes_at c.storage c.places) (part_of k).copied
   pub absorbs : AbsorbsInOrder k.orb (part_of k) k.absorbed
   pub arrived : All IsStored k.now.arrived
   pub arrives : IsBeginning (places_arrived k.now.arrived) (places_of k.orb k.now.acts)

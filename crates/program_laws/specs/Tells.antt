@@ -27,7 +27,6 @@ use Rattle.subchannel_model.specs.declared.state.Program.{Program}
 use Rattle.subchannel_model.specs.declared.state.ProgramPosition.{ProgramPosition}
 use Rattle.subchannel_model.specs.declared.state.Subchannel.{Subchannel}
 use Rattle.subchannel_model.specs.declared.state.SubchannelState.{SubchannelState}
-use Rattle.subchannel_model.specs.declared.state.Chosen.{Chosen}
 use Rattle.subchannel_model.specs.Choosing.{unsent_reset, clear_chosen}
 use Rattle.subchannel_model.specs.Ends.{has_status_modifier, breaks_chain}
 use Rattle.subchannel_model.specs.Taking.{bytes_of_load}
@@ -138,22 +137,18 @@ abbrev pub IsChained : Bool → SubchannelState → DeviceStatus → Bool → Pr
 IsChained chains s status more k = (b : ActiveProgram) × (s.begun ≡ Some b)
     × ((is_some (next k.orb (ended true status ∷ k.now.acts)) && not (b.transfer.unchained || breaks_chain s.scsw b status more)) ≡ chains)
 
--- none is, and status is made; the last End of a program while a start waits leaves the count of that start
-abbrev pub EndsAlone : SubchannelState → SubchannelState → DeviceStatus → Option (OnPath Down) → ProgramTrace → ProgramTrace → Type 0
-EndsAlone s next status sent k after =
-    (after ≡ record k { now = record k.now { acts = ended false status ∷ k.now.acts } })
-    × (command_sent sent ≡ None) × (s.pmcw.enabled ≡ true → s.serials.made < next.serials.made)
-    × IsCountBy (is_none s.waiting || not (is_last_end status)) s next after
-
 -- the program goes on as device end comes; until then the command has not ended
 abbrev pub Chains : Contents → DeviceStatus → Option (OnPath Down) → ProgramTrace → ProgramTrace → Type 0
 Chains storage status sent k after =
     ((has_device_end status ≡ true) × GoesOn storage sent (ended true status ∷ k.now.acts) k after)
     ⊎ ((has_device_end status ≡ false) × (sent ≡ None) × (after ≡ k))
 
+-- or none is, and status is made; the last End of a program while a start waits leaves the count of that start
 abbrev pub Ends : Contents → SubchannelState → SubchannelState → DeviceStatus → Bool → Option (OnPath Down) → ProgramTrace → ProgramTrace → Type 0
 Ends storage s next status more sent k after =
-    (IsChained false s status more k × EndsAlone s next status sent k after)
+    (IsChained false s status more k × (after ≡ record k { now = record k.now { acts = ended false status ∷ k.now.acts } })
+    × (command_sent sent ≡ None) × (s.pmcw.enabled ≡ true → s.serials.made < next.serials.made)
+    × IsCountBy (is_none s.waiting || not (is_last_end status)) s next after)
     ⊎ (IsChained true s status more k × Chains storage status sent k after × IsCountShown s next after)
 
 -- what a signal that is taken tells, and the count of the status that it makes
@@ -179,12 +174,9 @@ OfBoth N P None (Some after) = ⊥
 OfBoth N P (Some k) None = ⊥
 
 -- the count of the status that another event makes: of a clear that is pending where a Reset is due, Choose shows zero
-abbrev pub IsCountOfChoice : Option Chosen → SubchannelState → SubchannelState → Option ProgramTrace → Type 0
-IsCountOfChoice None s next k = IsCountOf s next k
-IsCountOfChoice (Some clear) s next k = IsCountZero s next
-
 abbrev pub ShowsBy : Event → SubchannelState → SubchannelState → Option ProgramTrace → Type 0
-ShowsBy (event.Choose word) s next k = IsCountOfChoice (clear_chosen (unsent_reset s.hold) s.scsw.activity.clear_pending) s next k
+ShowsBy (event.Choose word) s next k =
+    elim (clear_chosen (unsent_reset s.hold) s.scsw.activity.clear_pending) [ None ↦ IsCountOf s next k | Some clear ↦ IsCountZero s next ]
 ShowsBy e s next k = IsCountOf s next k
 
 -- of the subchannel at a place, before a step and after it

@@ -1,6 +1,6 @@
 -- What was done for the program that a subchannel offered last, and what offers, devices and their reports tell of it
 -- (SA22-7832, chapter 15).
-use Rattle.std.specs.Prelude.{ℕ, ◌==◌, Bool, true, false, if◌then◌else◌, Option, None, Some, List, [], ◌∷◌, ◌++◌, length, take, slice_get}
+use Rattle.std.specs.Prelude.{ℕ, ◌==◌, Bool, true, false, if◌then◌else◌, Option, None, Some, option_map, List, [], ◌∷◌, ◌++◌, length, take, slice_get}
 use Rattle.orb_block.specs.declared.Orb.{Orb}
 use Rattle.chan_model.specs.declared.signal.Down.{Down}
 use Rattle.chan_model.specs.declared.signal.Down.TheVariants as down
@@ -15,7 +15,6 @@ use Rattle.chan_events.specs.declared.reply.Reply.{Reply}
 use Rattle.chan_events.specs.declared.reply.Reply.TheVariants as reply
 use Rattle.channel_program.specs.Acts.{Act, PlacedBytes}
 use Rattle.channel_program.specs.Programs.{commands}
-use Rattle.subchannel_model.specs.declared.state.Program.{Program}
 use Rattle.subchannel_model.specs.declared.state.Subchannel.{Subchannel}
 use Rattle.subchannel_model.specs.Places.{reached_in}
 use Rattle.machine_model.specs.State.{State, place_of}
@@ -64,17 +63,10 @@ past_part p = record p { copied = []; arrived = [] }
 abbrev pub trace_resumed : ℕ → ProgramTrace → ProgramTrace
 trace_resumed t k = record (trace_offered t k.orb) { earlier = length (commands k.orb k.now.acts); now = past_part k.now }
 
-abbrev pub resumed_for : ℕ → Option ProgramTrace → Option ProgramTrace
-resumed_for t None = None
-resumed_for t (Some k) = Some (trace_resumed t k)
-
-abbrev pub offered_for : Option Program → ℕ → Option ProgramTrace → Option ProgramTrace
-offered_for None t k = k
-offered_for (Some program) t k = Some (trace_offered t program.orb)
-
 abbrev pub chosen_at : Option Subchannel → Reply → Option ProgramTrace → Option ProgramTrace
-chosen_at (Some sub) (reply.Offered t p false) k = offered_for sub.state.waiting t k
-chosen_at (Some sub) (reply.Offered t p true) k = resumed_for t k
+chosen_at (Some sub) (reply.Offered t p false) k =
+    elim sub.state.waiting [ None ↦ k | Some program ↦ Some (trace_offered t program.orb) ]
+chosen_at (Some sub) (reply.Offered t p true) k = option_map (trace_resumed t) k
 chosen_at sub r k = k
 
 -- the device takes a command of the program: one that is answered, as where its side is fresh, was not taken
@@ -89,11 +81,7 @@ taken_at r k = k
 -- the device absorbs bytes that it was given
 abbrev pub absorbs : ℕ → Option AtHand → ProgramTrace → ProgramTrace
 absorbs count None k = k
-absorbs count (Some x) k = absorbs_of count x.given k
-  where
-    absorbs_of : ℕ → Option (List ℕ) → ProgramTrace → ProgramTrace
-    absorbs_of count None k = k
-    absorbs_of count (Some bytes) k = record k { absorbed = k.absorbed ++ take count bytes }
+absorbs count (Some x) k = elim x.given [ None ↦ k | Some bytes ↦ record k { absorbed = k.absorbed ++ take count bytes } ]
 
 abbrev pub reported : UnitState → Report → DeviceAnswer → ProgramTrace → ProgramTrace
 reported u report (Absorbed count) k = if report.number == k.number then absorbs count u.at_hand k else k

@@ -60,18 +60,21 @@ use Rattle.interruptions.specs.Requests.{WaitingRequests}
 use Rattle.scsw_irb.specs.declared.code.IntCode.{IntCode}
 use Rattle.machine_model.specs.State.{State, sub_of, found_of}
 use Rattle.machine_model.specs.Turns.{Outcome, Turn, SubTurn, UpTurn, DownTurn, at_sub, at_storage, at_unit, does}
-use Rattle.machine_model.specs.StorageSteps.{storage_turn, show_turn_of}
+use Rattle.machine_model.specs.StorageSteps.{storage_turn}
 use Rattle.machine_model.specs.InstructionSteps.{function_at, PerformsStart, test_sub, tests, stores, Modifies_by, Modifies, Enables_with, Enables, with_enabling, Executes_at, Executes_on, subchannel_word}
 use Rattle.machine_model.specs.ChooseSteps.{choose_sub, Chooses}
 use Rattle.machine_model.specs.UpSteps.{returns_at, up_front, up_sub, up_at}
 use Rattle.machine_model.specs.DownSteps.{asks_at, share_with, at_shared, down_sub, down_unit, down_at}
 use Rattle.machine_model.specs.ReportSteps.{report_sub, report_to, report_at}
 use Rattle.machine_model.specs.RestartSteps.{restart_at}
-use Rattle.machine_model.specs.Requests.{reply_code, drops, requests_after, requests_dropped, posted_all, posted_for, makes_status, request_of, requests_settled, settled}
+use Rattle.machine_model.proofs.Named.{makes_status, requests_settled, show_turn_of}
+use Rattle.machine_model.specs.Requests.{reply_code, drops, requests_after, requests_dropped, posted_all, posted_for, request_of, settled}
 use Rattle.machine_model.specs.Steps.{Does, Step}
 use Rattle.machine_model.specs.Sharing.{may_take, is_let_go, members_asked, members_over, members_after}
 use Rattle.machine_model.specs.Setups.{group_of}
-use Rattle.machine_model.specs.OtherSteps.{where_stored, code_check, tpi_done, stcrw_done, stcps_done, RchpTurn, rchp_turn, lent_whole, tpi_lent, stcrw_lent, rchp_lent, stcps_lent, other_done, other_at, is_up}
+use Rattle.machine_model.proofs.Others.{other-turned}
+use Rattle.machine_model.specs.OtherTurns.{turned_at, tpi_done, stcrw_done, stcps_done, RchpTurn, rchp_turn, lent_whole, tpi_lent, stcrw_lent, rchp_lent, stcps_lent, other_done}
+use Rattle.machine_model.specs.OtherSteps.{where_stored, code_check, other_at, is_up}
 use Rattle.machine_model.specs.ActSteps.{side_of_act, act_sub, act_to, act_on, act_at}
 
 -- storage of so many blocks
@@ -375,11 +378,14 @@ stcps-kept : (s : State) (cpu address : ℕ) (engaged : List ℕ) (r : Result (U
 stcps-kept s cpu address engaged (Ok u) = (refl, refl, refl, refl)
 stcps-kept s cpu address engaged (Err f) = tt
 
+turned-kept : (s : State) (cpu : ℕ) (i : OtherInstruction) → Kept s (turned_at s cpu i)
+turned-kept s cpu (other.Tpi mask address) = tpi-kept s cpu address (code_check s.storage cpu address) (requests.answer s.requests mask)
+turned-kept s cpu (other.Rchp path) = rchp-kept s (rchp_turn s.reports s.up path)
+turned-kept s cpu (other.Stcrw address) = stcrw-kept s cpu address (operand_check s.storage cpu address 4 4)
+turned-kept s cpu (other.Stcps address) = stcps-kept s cpu address _ (operand_check s.storage cpu address 32 32)
+
 other-kept : (s : State) (cpu : ℕ) (i : OtherInstruction) → Kept s (other_at s cpu i)
-other-kept s cpu (other.Tpi mask address) = tpi-kept s cpu address (code_check s.storage cpu address) (requests.answer s.requests mask)
-other-kept s cpu (other.Rchp path) = rchp-kept s (rchp_turn s.reports s.up path)
-other-kept s cpu (other.Stcrw address) = stcrw-kept s cpu address (operand_check s.storage cpu address 4 4)
-other-kept s cpu (other.Stcps address) = stcps-kept s cpu address _ (operand_check s.storage cpu address 32 32)
+other-kept s cpu i = subst (Kept s) (sym (other-turned s cpu i)) (turned-kept s cpu i)
 
 -- an event of a path is refused, or leaves all this
 where-kept : (s : State) (there right : Bool) (o : Outcome) → Kept s o → Kept s (if there then (if right then o else Err fault.NotNow) else Err fault.NoSuchPath)

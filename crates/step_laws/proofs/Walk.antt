@@ -42,17 +42,20 @@ use Rattle.subchannel_model.specs.Choosing.{chosen, marked_sub}
 use Rattle.subchannel_model.specs.Store.{pmcw_of}
 use Rattle.subchannel_model.specs.Enable.{enabling}
 use Rattle.machine_model.specs.Turns.{Outcome, Turn, SubTurn, UpTurn, DownTurn, at_sub, at_storage, at_unit, does}
-use Rattle.machine_model.specs.InstructionSteps.{code_at, function_sub, function_at, not_provided, start_at, PerformsStart, Starts_with, test_sub, tests, store_at, stores, modify_at, Modifies_by, Modifies, Enables_with, Enables, Executes_at, Executes_on, subchannel_word}
+use Rattle.machine_model.proofs.Named.{start_at, Starts_with, modify_at, requests_settled, show_turn_of, is_owed_after}
+use Rattle.machine_model.specs.InstructionSteps.{code_at, function_sub, function_at, not_provided, PerformsStart, test_sub, tests, store_at, stores, Modifies_by, Modifies, Enables_with, Enables, Executes_at, Executes_on, subchannel_word}
 use Rattle.machine_model.specs.ChooseSteps.{choose_sub, Chooses}
 use Rattle.machine_model.specs.UpSteps.{returns_at, up_sub, up_at}
 use Rattle.machine_model.specs.DownSteps.{asks_at, share_with, at_shared, down_sub, down_unit, down_at}
 use Rattle.machine_model.specs.ReportSteps.{report_sub, report_to, report_at}
 use Rattle.machine_model.specs.RestartSteps.{restart_at}
-use Rattle.machine_model.specs.Requests.{requests_settled, settled}
-use Rattle.machine_model.specs.StorageSteps.{storage_turn, show_turn_of}
+use Rattle.machine_model.specs.Requests.{settled}
+use Rattle.machine_model.specs.StorageSteps.{storage_turn}
 use Rattle.machine_model.specs.Steps.{Does, Step}
-use Rattle.machine_model.specs.Sharing.{may_take, is_owed_after, owing_after, members_after}
-use Rattle.machine_model.specs.OtherSteps.{OtherTurn, other_done, is_up}
+use Rattle.machine_model.specs.Sharing.{may_take, owing_after, members_after}
+use Rattle.machine_model.proofs.Others.{other-turned}
+use Rattle.machine_model.specs.OtherTurns.{OtherTurn, other_done}
+use Rattle.machine_model.specs.OtherSteps.{is_up}
 use Rattle.machine_model.specs.declared.state.Sweep.TheVariants as sweep
 use Rattle.machine_model.specs.PathSteps.{down_path, up_path, reset_path}
 use Rattle.machine_model.specs.ActSteps.{side_of_act, act_sub, act_to, act_on, act_at}
@@ -323,7 +326,7 @@ module _ (s : State) where
   steps-walk (event.Up word path) o w = subst (OkAll (event.Up word path)) (sym w) (ups-walk word (found_of s word) path refl)
   steps-walk (event.Down word path) o w =
       subst (OkAll (event.Down word path)) (sym w) (downs-walk word (found_of s word) path refl)
-  steps-walk (event.ExecuteOther cpu i) o w = subst (OkAll (event.ExecuteOther cpu i)) (sym w) (others-walk cpu i _)
+  steps-walk (event.ExecuteOther cpu i) o w = subst (OkAll (event.ExecuteOther cpu i)) (sym (w ∙ other-turned s cpu i)) (others-walk cpu i _)
   steps-walk (event.Act place what) o w = subst (OkAll (event.Act place what)) (sym w) (acts-walk place (slice_get s.units place) what refl)
   steps-walk (event.Restart place) o w = subst (OkAll (event.Restart place)) (sym w) (restarts-walk place (slice_get s.units place) refl)
   steps-walk (event.PathDown chpid) o w =

@@ -43,6 +43,7 @@ use Rattle.subchannel_model.specs.Cancel.{xsch_code, cancelled}
 use Rattle.subchannel_model.specs.Places.{Found, found_at, place_in, reached_in}
 use Rattle.subchannel_model.specs.Choosing.{chosen, marked_sub, reset_sent, halt_sent, offered}
 use Rattle.machine_model.specs.StorageSteps as storage_spec
+use Rattle.machine_model.proofs.Named as named
 use Rattle.machine_model.specs.InstructionSteps as instruction_steps
 use Rattle.machine_model.specs.ChooseSteps as choose_spec
 use Rattle.subchannel_model.specs.Sending as sending_spec
@@ -52,6 +53,8 @@ use Rattle.machine_model.specs.DownSteps as down_spec
 use Rattle.machine_model.specs.ReportSteps as report_spec
 use Rattle.machine_model.specs.ActSteps as act_spec
 use Rattle.machine_model.specs.OtherSteps as other_spec
+use Rattle.machine_model.specs.OtherTurns as turned_spec
+use Rattle.machine_model.proofs.Others.{other-turned}
 use Rattle.machine_model.specs.Requests as requests_spec
 use Rattle.machine_model.specs.RestartSteps as restart_spec
 use Rattle.machine_model.specs.PathSteps as path_spec
@@ -78,7 +81,7 @@ stored : (s : State) (x : Result Contents StorageFault) → Sound (storage_spec.
 stored s (Ok storage) = tt
 stored s (Err f) = λ g. cc g
 
-told : (s : State) (x : Result (List ℕ) StorageFault) → Sound (storage_spec.show_turn_of s x)
+told : (s : State) (x : Result (List ℕ) StorageFault) → Sound (named.show_turn_of s x)
 told s (Ok bytes) = tt
 told s (Err f) = λ g. cc g
 
@@ -87,7 +90,7 @@ function_at : (s : State) (found : Option Found) (code : Condition → Condition
 function_at s None code effect = tt
 function_at s (Some f) code effect = tt
 
-started_at : (s : State) (found : Option Found) (orb : Orb) → Sound (instruction_steps.start_at s found orb)
+started_at : (s : State) (found : Option Found) (orb : Orb) → Sound (named.start_at s found orb)
 started_at s None orb = tt
 started_at s (Some f) orb = tt
 
@@ -95,10 +98,10 @@ starts : (s : State) (found : Option Found) (image : Result (List ℕ) StorageFa
 starts s found (Err f) r e = is r (Err (Storage f)) (λ g. cc g) e
 starts s found (Ok image) r e = elim e [
   | inl x ↦ is r (Err Operand) (λ g. cc g) x.1
-  | inr x ↦ is r (instruction_steps.start_at s found x.0) (started_at s found x.0) x.2
+  | inr x ↦ is r (named.start_at s found x.0) (started_at s found x.0) x.2
 ]
 
-tested_at : (s : State) (cpu address : ℕ) (found : Option Found) → Sound (instruction_steps.test_at s cpu address found)
+tested_at : (s : State) (cpu address : ℕ) (found : Option Found) → Sound (named.test_at s cpu address found)
 tested_at s cpu address None = tt
 tested_at s cpu address (Some f) = tt
 
@@ -114,14 +117,14 @@ stores : (s : State) (cpu address : ℕ) (found : Option Found) (x : Result (Uni
 stores s cpu address found (Err f) = λ g. cc g
 stores s cpu address found (Ok u) = stored_at s cpu address found
 
-modified_at : (s : State) (found : Option Found) (given : block.Pmcw) → Sound (instruction_steps.modify_at s found given)
+modified_at : (s : State) (found : Option Found) (given : block.Pmcw) → Sound (named.modify_at s found given)
 modified_at s None given = tt
 modified_at s (Some f) given = tt
 
 modifies_by : (s : State) (found : Option Found) (image : List ℕ) (r : Outcome) → instruction_steps.Modifies_by s found image r → Sound r
 modifies_by s found image r e = elim e.2 [
   | inl x ↦ is r (Err Operand) (λ g. cc g) x.1
-  | inr x ↦ is r (instruction_steps.modify_at s found e.0) (modified_at s found e.0) x.1
+  | inr x ↦ is r (named.modify_at s found e.0) (modified_at s found e.0) x.1
 ]
 
 modifies : (s : State) (found : Option Found) (image : Result (List ℕ) StorageFault) (r : Outcome) → instruction_steps.Modifies s found image r → Sound r
@@ -296,47 +299,47 @@ where_stored : {A : Type 0} (x : Result (Unit {0}) StorageFault) (done : A) → 
 where_stored (Ok u) done = tt
 where_stored (Err f) done = λ g. cc g
 
-tpi : (old : other_spec.LentWhole) (x : Result other_spec.TpiTurn Fault) → Sound x → Sound (other_spec.tpi_lent old x)
+tpi : (old : turned_spec.LentWhole) (x : Result turned_spec.TpiTurn Fault) → Sound x → Sound (turned_spec.tpi_lent old x)
 tpi old (Ok t) sound = tt
 tpi old (Err f) sound = sound
 
-stcrw : (old : other_spec.LentWhole) (x : Result other_spec.StcrwTurn Fault) → Sound x → Sound (other_spec.stcrw_lent old x)
+stcrw : (old : turned_spec.LentWhole) (x : Result turned_spec.StcrwTurn Fault) → Sound x → Sound (turned_spec.stcrw_lent old x)
 stcrw old (Ok t) sound = tt
 stcrw old (Err f) sound = sound
 
-rchp : (old : other_spec.LentWhole) (x : Result other_spec.RchpTurn Fault) → Sound x → Sound (other_spec.rchp_lent old x)
+rchp : (old : turned_spec.LentWhole) (x : Result turned_spec.RchpTurn Fault) → Sound x → Sound (turned_spec.rchp_lent old x)
 rchp old (Ok t) sound = tt
 rchp old (Err f) sound = sound
 
-stcps : (old : other_spec.LentWhole) (x : Result other_spec.StcpsTurn Fault) → Sound x → Sound (other_spec.stcps_lent old x)
+stcps : (old : turned_spec.LentWhole) (x : Result turned_spec.StcpsTurn Fault) → Sound x → Sound (turned_spec.stcps_lent old x)
 stcps old (Ok t) sound = tt
 stcps old (Err f) sound = sound
 
-rchp_turn : (reports : WaitingReports) (up : List Bool) (path : ℕ) → Sound (other_spec.rchp_turn reports up path)
+rchp_turn : (reports : WaitingReports) (up : List Bool) (path : ℕ) → Sound (turned_spec.rchp_turn reports up path)
 rchp_turn reports up path =
-    cond_both (field_of path 0 23 == 0) (Ok (other_spec.rchp_of reports up (field_of path 24 31))) (Err Operand) (λ r. Sound r) (λ e. tt) (λ e g. cc g)
+    cond_both (field_of path 0 23 == 0) (Ok (turned_spec.rchp_of reports up (field_of path 24 31))) (Err Operand) (λ r. Sound r) (λ e. tt) (λ e g. cc g)
 
-other_turn : (old : other_spec.LentWhole) (up engaged : List Bool) (cpu : ℕ) (i : OtherInstruction) → Sound (other_spec.other_turn old up engaged cpu i)
+other_turn : (old : turned_spec.LentWhole) (up engaged : List Bool) (cpu : ℕ) (i : OtherInstruction) → Sound (turned_spec.other_turn old up engaged cpu i)
 other_turn old up engaged cpu (others.Tpi mask address) =
-    tpi old (other_spec.tpi_turn old.storage old.requests cpu mask address)
-    (where_stored (other_spec.code_check old.storage cpu address) (other_spec.tpi_done old.storage old.requests cpu address (answer old.requests mask)))
-other_turn old up engaged cpu (others.Rchp path) = rchp old (other_spec.rchp_turn old.reports up path) (rchp_turn old.reports up path)
+    tpi old (turned_spec.tpi_turn old.storage old.requests cpu mask address)
+    (where_stored (other_spec.code_check old.storage cpu address) (turned_spec.tpi_done old.storage old.requests cpu address (answer old.requests mask)))
+other_turn old up engaged cpu (others.Rchp path) = rchp old (turned_spec.rchp_turn old.reports up path) (rchp_turn old.reports up path)
 other_turn old up engaged cpu (others.Stcrw address) =
-    stcrw old (other_spec.stcrw_turn old.storage old.reports cpu address)
-    (where_stored (operand_check old.storage cpu address 4 4) (other_spec.stcrw_done old.storage old.reports cpu address))
+    stcrw old (turned_spec.stcrw_turn old.storage old.reports cpu address)
+    (where_stored (operand_check old.storage cpu address 4 4) (turned_spec.stcrw_done old.storage old.reports cpu address))
 other_turn old up engaged cpu (others.Stcps address) =
-    stcps old (other_spec.stcps_turn old.storage engaged cpu address)
-    (where_stored (operand_check old.storage cpu address 32 32) (other_spec.stcps_done old.storage cpu address (other_spec.engaged_bytes engaged 32)))
+    stcps old (turned_spec.stcps_turn old.storage engaged cpu address)
+    (where_stored (operand_check old.storage cpu address 32 32) (turned_spec.stcps_done old.storage cpu address (other_spec.engaged_bytes engaged 32)))
 
-other_done : (s : State) (x : Result other_spec.OtherTurn Fault) → Sound x → Sound (other_spec.other_done s x)
+other_done : (s : State) (x : Result turned_spec.OtherTurn Fault) → Sound x → Sound (turned_spec.other_done s x)
 other_done s (Ok t) sound = tt
 other_done s (Err f) sound = sound
 
 other_at : (s : State) (cpu : ℕ) (i : OtherInstruction) → Sound (other_spec.other_at s cpu i)
 other_at s cpu i =
-    let lent = other_spec.lent_whole s.storage s.requests s.reports in
+    let lent = turned_spec.lent_whole s.storage s.requests s.reports in
     let engaged = other_spec.engaged_chpids s.subs 0x100 in
-    other_done s (other_spec.other_turn lent s.up engaged cpu i) (other_turn lent s.up engaged cpu i)
+    subst Sound (sym (other-turned s cpu i)) (other_done s (turned_spec.other_turn lent s.up engaged cpu i) (other_turn lent s.up engaged cpu i))
 
 -- channel paths
 where_path : (s : State) (chpid : ℕ) (right : Bool) (turn : Outcome) → Sound turn → Sound (path_spec.where_path s chpid right turn)
@@ -358,12 +361,12 @@ does s (event.Report place report) r e = is r (report_spec.report_at s place (sl
 does s (event.Act place act) r e = is r (act_spec.act_at s place (slice_get s.units place) act) (act_at s place (slice_get s.units place) act) e
 does s (event.Restart place) r e = is r (restart_spec.restart_at s place (slice_get s.units place)) (restart_at s place (slice_get s.units place)) e
 does s (event.PathDown chpid) r e =
-    is r (path_spec.path_down_at s chpid) (where_path s chpid (other_spec.is_up s.up chpid) (turn_spec.does reply.Done (path_spec.down_path s chpid)) tt) e
+    is r (path_spec.where_path s chpid (other_spec.is_up s.up chpid) (turn_spec.does reply.Done (path_spec.down_path s chpid))) (where_path s chpid (other_spec.is_up s.up chpid) (turn_spec.does reply.Done (path_spec.down_path s chpid)) tt) e
 does s (event.PathUp chpid) r e =
-    is r (path_spec.path_up_at s chpid) (where_path s chpid (not (other_spec.is_up s.up chpid)) (turn_spec.does reply.Done (path_spec.up_path s chpid)) tt) e
+    is r (path_spec.where_path s chpid (not (other_spec.is_up s.up chpid)) (turn_spec.does reply.Done (path_spec.up_path s chpid))) (where_path s chpid (not (other_spec.is_up s.up chpid)) (turn_spec.does reply.Done (path_spec.up_path s chpid)) tt) e
 does s (event.PathReset chpid) r e =
-    is r (path_spec.path_reset_at s chpid) (where_path s chpid (is_asked s.reports chpid) (turn_spec.does reply.Done (path_spec.reset_path s chpid)) tt) e
-does s event.SystemReset r e = is r (path_spec.system_reset_at s) tt e
+    is r (path_spec.where_path s chpid (is_asked s.reports chpid) (turn_spec.does reply.Done (path_spec.reset_path s chpid))) (where_path s chpid (is_asked s.reports chpid) (turn_spec.does reply.Done (path_spec.reset_path s chpid)) tt) e
+does s event.SystemReset r e = is r (turn_spec.does reply.Done (path_spec.reset_system s)) tt e
 
 settled : (s : State) (e : Event) (t : Outcome) → Sound t → Sound (requests_spec.settled s e t)
 settled s e (Ok t) sound = tt

@@ -1,0 +1,51 @@
+-- Parts of the definitions of this crate, by names that proofs speak of.
+use Rattle.std.specs.Prelude.{◌≡◌, ◌⊎◌, ℕ, ◌+◌, ◌&&◌, ◌||◌, Bool, true, is_none, is_some, Option, None, Some, option_map, List, [], ◌∷◌, length, map, reverse, take, drop}
+use Rattle.orb_block.specs.declared.Orb.{Orb}
+use Rattle.ccw_codec.specs.declared.Ccw.{Ccw}
+use Rattle.channel_program.specs.Acts.{Act, PlacedBytes}
+use Rattle.channel_program.specs.Programs.{Command, next, commands, code}
+use Rattle.idaw.specs.Places.{Reach, reach_with_word}
+use Rattle.data_move.specs.Accesses.{bytes_at}
+use Rattle.subchannel_model.specs.declared.state.Chosen.{Chosen}
+use Rattle.subchannel_model.specs.declared.state.Program.{Program}
+use Rattle.subchannel_model.specs.declared.state.SubchannelState.{SubchannelState}
+use Rattle.program_laws.specs.Claims.{IsBeginning, IsSuspended}
+use Rattle.program_laws.specs.DataAreas.{data_areas, reaches_with, counts}
+use Rattle.program_laws.specs.Shows.{IsCountOf, IsCountZero}
+use Rattle.program_laws.specs.Traces.{ProgramTrace, trace_offered, trace_resumed}
+
+abbrev pub resumed_for : ℕ → Option ProgramTrace → Option ProgramTrace
+resumed_for t k = option_map (trace_resumed t) k
+
+abbrev pub offered_for : Option Program → ℕ → Option ProgramTrace → Option ProgramTrace
+offered_for waiting t k = elim waiting [ None ↦ k | Some program ↦ Some (trace_offered t program.orb) ]
+
+abbrev pub IsCountOfChoice : Option Chosen → SubchannelState → SubchannelState → Option ProgramTrace → Type 0
+IsCountOfChoice clear s next k = elim clear [ None ↦ IsCountOf s next k | Some act ↦ IsCountZero s next ]
+
+abbrev pub IsRest : ℕ → ProgramTrace → Type 0
+IsRest count k = counts (data_areas k.orb k.now.acts) ≡ length k.now.moved + count
+
+abbrev pub is_of_program : SubchannelState → Bool
+is_of_program s = is_none s.waiting && (is_some s.begun || is_some s.suspended)
+
+abbrev pub chained_reach : List Command → List Reach → Ccw → List Reach
+chained_reach cs rs ccw = reaches_with true cs rs ccw
+
+abbrev pub word_after : List Reach → ℕ → List Reach
+word_after areas word = elim areas [ [] ↦ [] | r ∷ rs ↦ reach_with_word r word ∷ rs ]
+
+abbrev pub codes : ℕ → Orb → List Act → List ℕ
+codes earlier orb acts = drop earlier (reverse (map code (commands orb acts)))
+
+abbrev pub TakesInOrder : ProgramTrace → Type 0
+TakesInOrder k = IsBeginning (reverse k.taken) (codes k.earlier k.orb k.now.acts)
+
+abbrev pub IsCopied : PlacedBytes → Type 0
+IsCopied c = c.bytes ≡ bytes_at c.storage c.places
+
+abbrev pub first_bytes : PlacedBytes → ℕ → PlacedBytes
+first_bytes c n = record { storage = c.storage; places = take n c.places; bytes = take n c.bytes }
+
+abbrev pub IsWhole : Orb → List Act → Type 0
+IsWhole orb acts = (acts ≡ []) ⊎ ((next orb acts ≡ None) ⊎ IsSuspended orb acts)
