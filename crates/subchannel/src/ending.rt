@@ -135,11 +135,14 @@ fn check_at(
         spec.let_go (with_cause (spec.end_taken state.old end.now) (cause.FetchFault tried check count)) }
 {
     take_end(state, *end);
-    make_pending(state, &StatusCause::FetchFault {
-        tried,
-        check,
-        count,
-    });
+    make_pending(
+        state,
+        &StatusCause::FetchFault {
+            tried,
+            check,
+            count,
+        },
+    );
     let_go(state, sent)
 }
 
