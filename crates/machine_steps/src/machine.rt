@@ -437,6 +437,9 @@ impl Machine {
             Event::Down { subchannel, path } => self.down(places, *subchannel, *path, answer),
             Event::Report { unit, report } => self.report(places, *unit, report, answer),
             Event::Choose { subchannel } => self.choose(places, choice, *subchannel, answer),
+            Event::Execute { cpu, instruction } => {
+                self.execute(places, *cpu, *instruction, answer)
+            }
             _ => self.perform_other(places, choice, event, answer),
         }
     }

@@ -1,7 +1,9 @@
 //! The causes of status, in the order of their table: what each shows, which programs it leaves, and which status word its
 //! status joins (SA22-7832, chapter 16; own).
 
-ghost use Rattle.std.specs.Prelude.{◌≡◌, ◌<◌, ◌^◌};
+ghost use Rattle.std.specs.Prelude.{◌≡◌, ◌<◌, ◌^◌, IfSome, Some};
+ghost use Rattle.subchannel_model.specs.Ends as end_spec;
+ghost use Rattle.subchannel_model.specs.declared.cause.StatusCause.TheVariants as cause_spec;
 ghost use Rattle.subchannel_model.specs.Status as joined_spec;
 ghost use Rattle.subchannel_model.specs.Causes as spec;
 
@@ -264,6 +266,51 @@ fn scsw_joined(state: &SubchannelState, cause: &StatusCause) -> Scsw
         StatusCause::HaltDone if state.pmcw.enabled => without_intermediate(state.scsw),
         _ => state.scsw,
     }
+}
+
+fn primary_is_shown(state: &mut SubchannelState)
+    ensures state { IfSome state.old.begun (λ b. state.new ≡ record state.old { begun = Some (end_spec.has_shown b) }) }
+    ensures counts { state.new.serials ≡ state.old.serials }
+    ensures enabled { state.new.pmcw.enabled ≡ state.old.pmcw.enabled }
+    ensures word { state.new.scsw ≡ state.old.scsw }
+{
+    if let Some(begun) = &mut state.begun {
+        show_primary(begun);
+    }
+}
+
+/// The programs that are over with an End of the program at work end.
+fn leave_ended(state: &mut SubchannelState, last: bool)
+    ensures state { IfSome state.old.begun (λ b. state.new ≡ spec.programs_after_end state.old b last) }
+    ensures counts { state.new.serials ≡ state.old.serials }
+    ensures enabled { state.new.pmcw.enabled ≡ state.old.pmcw.enabled }
+    ensures word { state.new.scsw ≡ state.old.scsw }
+{
+    if last {
+        end_programs(state);
+    } else {
+        primary_is_shown(state);
+    }
+}
+
+/// What an End of the program at work shows.
+fn shown_at_end(state: &SubchannelState, status: DeviceStatus, more: bool) -> Shown
+    ensures { IfSome state.now.begun (λ b. result ≡ (spec.row_of state.now (cause_spec.End b status more)).shown) }
+{
+    match &state.begun {
+        None => plain_shown(0, 0),
+        Some(begun) => end_shown(state, begun, status, more),
+    }
+}
+
+/// An End of the program at work.
+pub(crate) fn join_end(state: &mut SubchannelState, status: DeviceStatus, more: bool)
+    requires { state.old.serials.made < 2 ^ 63 }
+    ensures { IfSome state.old.begun (λ b. state.new ≡ spec.with_cause state.old (cause_spec.End b status more)) }
+{
+    let shown = shown_at_end(state, status, more);
+    leave_ended(state, is_last_end(status));
+    add_status(state, &shown);
 }
 
 /// A cause of status.

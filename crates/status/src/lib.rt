@@ -1,10 +1,11 @@
 //! Status: what makes it pending at a subchannel, and what TEST SUBCHANNEL leaves of it (SA22-7832, chapters 14 and 16).
 #![tactic(auto)]
 
-ghost use Rattle.std.specs.Prelude.{◌≡◌, ◌<◌, ◌^◌, Some};
+ghost use Rattle.std.specs.Prelude.{◌≡◌, ◌<◌, ◌^◌, IfSome, Some};
 ghost use Rattle.subchannel_model.specs.Test as test_spec;
 ghost use Rattle.subchannel_model.specs.Status as status_spec;
 ghost use Rattle.subchannel_model.specs.Causes as cause_spec;
+ghost use Rattle.subchannel_model.specs.declared.cause.StatusCause.TheVariants as ends_spec;
 ghost use Rattle.subchannel_model.specs.Conditions as condition_spec;
 ghost use Rattle.subchannel_model.specs.Conditions.{condition_of};
 
@@ -16,6 +17,7 @@ pub mod testing;
 
 use chan_model::answer::ConditionCode;
 use functions::codes::tsch_code;
+use scsw_irb::status::DeviceStatus;
 use subchannel_model::cause::StatusCause;
 use subchannel_model::state::SubchannelState;
 
@@ -27,6 +29,14 @@ pub fn make_pending(state: &mut SubchannelState, cause: &StatusCause)
     ensures made { state.new.serials ≡ status_spec.serials_made state.old.pmcw.enabled state.old.serials }
 {
     causes::join(state, cause);
+}
+
+/// Makes the status of an End of the program at work pending, as `make_pending` does it, without a copy of the program.
+pub fn make_end_pending(state: &mut SubchannelState, status: DeviceStatus, more: bool)
+    requires { state.old.serials.made < 2 ^ 63 }
+    ensures { IfSome state.old.begun (λ b. state.new ≡ cause_spec.with_cause state.old (ends_spec.End b status more)) }
+{
+    causes::join_end(state, status, more);
 }
 
 /// TEST SUBCHANNEL: the status word that is stored is the one before.

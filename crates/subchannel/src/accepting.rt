@@ -181,11 +181,14 @@ fn check_first(
     ensures { subchannel_stepped state.new (came_so result sent.new) ≡
         spec.let_go (with_cause state.old (cause.FetchFault tried check count)) }
 {
-    make_pending(state, &StatusCause::FetchFault {
-        tried,
-        check,
-        count,
-    });
+    make_pending(
+        state,
+        &StatusCause::FetchFault {
+            tried,
+            check,
+            count,
+        },
+    );
     let_go(state, sent)
 }
 

@@ -23,7 +23,7 @@ use kept_events::signals::{KeptDown, KeptUp};
 use signal_places::sent::SentDown;
 use signal_places::signals::UpPlace;
 use status::ends::{chains_command, is_last_end};
-use status::make_pending;
+use status::{make_end_pending, make_pending};
 use storage_keys::Storage;
 use subchannel_model::cause::StatusCause;
 use subchannel_model::signals::EndSignal;
@@ -135,11 +135,14 @@ fn check_at(
         spec.let_go (with_cause (spec.end_taken state.old end.now) (cause.FetchFault tried check count)) }
 {
     take_end(state, *end);
-    make_pending(state, &StatusCause::FetchFault {
-        tried,
-        check,
-        count,
-    });
+    make_pending(
+        state,
+        &StatusCause::FetchFault {
+            tried,
+            check,
+            count,
+        },
+    );
     let_go(state, sent)
 }
 
@@ -202,16 +205,8 @@ fn show_end(state: &mut SubchannelState, end: &EndSignal)
     requires { state.old.serials.made < 2 ^ 63 }
     ensures { IfSome state.old.begun (λ b. state.new ≡ spec.end_shown_at state.old b end.now) }
 {
-    let Some(begun) = &state.begun else {
-        return;
-    };
-    let cause = StatusCause::End {
-        begun: *begun,
-        status: end.status,
-        more: end.more,
-    };
     let before = state.dedicated;
-    make_pending(state, &cause);
+    make_end_pending(state, end.status, end.more);
     state.dedicated = dedicated_by_end(before, *end);
 }
 

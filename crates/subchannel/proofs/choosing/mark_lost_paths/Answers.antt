@@ -25,10 +25,12 @@ spared sub false none first second = refl
 spared sub true none first second =
     let lost : List Bool = lost_paths (path_use sub) in
     let pmcw = sub.state.pmcw in
-    let shape : List Bool → List Bool → Bool → Subchannel = λ operational found any. record sub { state = record sub.state {
-      pmcw = record sub.state.pmcw { operational = operational; not_operational = found };
-      scsw = record sub.state.scsw { path_not_operational = if any then true else sub.state.scsw.path_not_operational };
-    } } in
+    let shape : List Bool → List Bool → Bool → Subchannel = λ operational found any. record sub {
+      state = record sub.state {
+        pmcw = record sub.state.pmcw { operational = operational; not_operational = found };
+        scsw = record sub.state.scsw { path_not_operational = if any then true else sub.state.scsw.path_not_operational };
+      };
+    } in
     sym (ap₂ (λ (o n : List Bool). shape o n (is_any lost)) (kept_without pmcw.operational lost first none) (kept_joined pmcw.not_operational lost second none)
     ∙ ap (shape pmcw.operational pmcw.not_operational) none)
 
