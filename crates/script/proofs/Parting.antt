@@ -1,8 +1,11 @@
 -- The first piece of a text, by the place of the first separator.
-use Rattle.std.proofs.Common.{◌≡◌, ℕ, ◌<◌, Bool, List, [], ◌∷◌, ◌++◌, length, take, drop, get_or, map, ap, ◌∙◌, refl, sym, suc, zero, arith, inl, inr, append-nil, ◌≤◌, ◌-◌}
+use Rattle.std.proofs.Common.{◌≡◌, ℕ, ◌<◌, Bool, true, false, ◌&&◌, subst, List, [], ◌∷◌, ◌++◌, length, take, drop, get_or, map, ap, ◌∙◌, refl, sym, suc, zero, arith, inl, inr, append-nil, ◌≤◌, ◌-◌}
 use Rattle.std.proofs.lemmas.List.{take_all}
 use Rattle.std.specs.Prelude.{if◌then◌else◌}
-use Rattle.std.proofs.lemmas.Bool.{eq-eqb}
+use Rattle.std.specs.List.{AllPass, list_all}
+use Rattle.std.proofs.lemmas.List.Folds.{list_all-map}
+use Rattle.std.proofs.lemmas.List.Sums.{AllPass-from_list_all}
+use Rattle.std.proofs.lemmas.Bool.{and_parts, eq-eqb}
 use Rattle.std.proofs.lemmas.Bool.Decides.{eqb_tells}
 use Rattle.script.specs.Pieces.{pieces, onto_first}
 
@@ -63,3 +66,27 @@ behind (x ∷ xs) h =
 pub nothing : (others : List ℕ) → length others < 1 → others ≡ []
 nothing [] h = refl
 nothing (x ∷ xs) h = absurd (omega arith)
+
+both : (a b : Bool) → a ≡ true → b ≡ true → (a && b) ≡ true
+both true b p q = q
+both false b p q = absurd (cc p)
+
+onto_all : (p : ℕ → Bool) (x : ℕ) (ps : List (List ℕ)) → p x ≡ true → list_all (list_all p) ps ≡ true → list_all (list_all p) (onto_first x ps) ≡ true
+onto_all p x [] is e = both _ _ (both _ _ is refl) refl
+onto_all p x (q ∷ qs) is e = let parts = and_parts _ _ e in both _ _ (both _ _ is parts.0) parts.1
+
+-- a test that each byte of a text passes, each byte of its pieces passes
+pub all_in : (p : ℕ → Bool) (sep : ℕ) (xs : List ℕ) → list_all p xs ≡ true → list_all (list_all p) (pieces sep xs) ≡ true
+all_in p sep [] e = refl
+all_in p sep (x ∷ xs) e =
+    let parts = and_parts _ _ e in
+    elim (eqb_tells x sep) [
+      | inl h ↦ subst (λ (ps : List (List ℕ)). list_all (list_all p) ps ≡ true) (sym (pieces_at sep x xs h.1)) (all_in p sep xs parts.1)
+      | inr h ↦ subst (λ (ps : List (List ℕ)). list_all (list_all p) ps ≡ true) (sym (ap (λ (b : Bool). if b then ([] ∷ pieces sep xs) else onto_first x (pieces sep xs)) h.0))
+          (onto_all p x (pieces sep xs) parts.0 (all_in p sep xs parts.1))
+    ]
+
+pub all_pass : {A : Type 0} (f : A → List ℕ) (items : List A) (p : ℕ → Bool) (sep : ℕ) (text : List ℕ) → map f items ≡ pieces sep text → list_all p text ≡ true
+    → AllPass (λ x. list_all p (f x)) items
+all_pass f items p sep text are e =
+    AllPass-from_list_all (λ x. list_all p (f x)) items (sym (list_all-map (list_all p) f items) ∙ ap (list_all (list_all p)) are ∙ all_in p sep text e)

@@ -1,5 +1,6 @@
 -- What one line says, by itself (own).
 use Rattle.std.specs.Prelude.{ℕ, ◌==◌, Bool, false, not, ◌||◌, nat_lt, List, [], ◌∷◌, length, Option, Some, None, Result, Ok, Err, codes, if◌then◌else◌}
+use Rattle.std.specs.List.{list_all}
 use Rattle.std.specs.Str.{is_utf8, bytes_eq}
 use Rattle.script_rows.specs.declared.settings.Setting.{Setting}
 use Rattle.script_rows.specs.declared.Action.{Action}
@@ -57,6 +58,10 @@ words_say (w ∷ ws) = setting_said (setting_row w ws) (drive_said w ws)
 abbrev pub has_words : List ℕ → Bool
 has_words [] = false
 has_words (b ∷ bs) = not (b == 35)
+
+-- all bytes are of ASCII
+abbrev pub is_ascii : List ℕ → Bool
+is_ascii bytes = list_all (λ b. nat_lt b 128) bytes
 
 -- what a line says, or the first of the rules 1 to 3 that it breaks; rule 3 is broken by a line of more than 1,024
 -- bytes, or not of UTF-8, too

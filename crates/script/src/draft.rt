@@ -1,8 +1,8 @@
 //! Reading a script line by line.
 
-ghost use Rattle.std.specs.Prelude.{◌≡◌, true, OnOk, IfErr, IfOk, None, Ok, Err, length, map};
+ghost use Rattle.std.specs.Prelude.{◌≡◌, true, OnOk, IfErr, IfOk, None, Ok, Err, All, length, map};
 ghost use Rattle.script.specs.Pieces.{words_between_blanks};
-ghost use Rattle.script.specs.Saying.{first_is_storage, said_by};
+ghost use Rattle.script.specs.Saying.{first_is_storage, is_ascii, said_by};
 ghost use Rattle.script_rows.specs.Places.{action_at};
 ghost use Rattle.script.specs.Scripts as spec;
 ghost use Rattle.script.specs.Drafts.{context, Hears, IsNext, IsDraftOf};
@@ -96,7 +96,8 @@ fn hear<S: Supply>(
     }
 }
 
-/// Takes one line, before these lines; its words are written to a list, and its action to a place.
+/// Takes one line, before these lines; its words are written to a list, and its action to a place. `plain`: it is known to be of
+/// ASCII.
 fn take_line<'a, S: Supply>(
     alloc: Global,
     supply: &mut S,
@@ -104,10 +105,12 @@ fn take_line<'a, S: Supply>(
     words: &mut Vec<&'a [u8]>,
     place: &mut ActionPlace,
     number: u64,
+    plain: bool,
     line: &'a [u8],
     races: bool,
     later: &[&[u8]],
 ) -> Result<(), LineFault>
+    requires { plain ≡ true → is_ascii line.now ≡ true }
     ensures ok { OnOk result ((spec.fault (context draft.old) (spec.may_race races (map (λ l. l.now) later.now)) line.now ≡ None) ×
         IsNext draft.old number line.now draft.new) }
     ensures err { IfErr result (λ f. BreaksRule f (spec.fault (context draft.old) (spec.may_race races (map (λ l. l.now) later.now)) line.now)) }
@@ -118,7 +121,7 @@ fn take_line<'a, S: Supply>(
     if worded && !draft.begun && !begins(alloc, supply, line)? {
         return Err(LineFault::Rule(6));
     }
-    let said = say(alloc, supply, words, place, line)?;
+    let said = say(alloc, supply, words, place, plain, line)?;
     hear(supply, draft, number, said, place, races, later)?;
     draft.begun = draft.begun | worded;
     Ok(())
@@ -135,13 +138,15 @@ fn bad_line(number: u64, fault: LineFault) -> ScriptBad
     }
 }
 
-/// Takes all lines, or answers the first bad one.
+/// Takes all lines, or answers the first bad one. `plain`: they are known to be of ASCII.
 pub fn draft_of<'a, S: Supply>(
     alloc: Global,
     supply: &mut S,
     races: bool,
+    plain: bool,
     lines: &[&'a [u8]],
 ) -> Result<Draft, ScriptBad>
+    requires { plain ≡ true → All (λ l. is_ascii l.now ≡ true) lines.now }
     ensures good { IfOk result (λ d. IsDraftOf races (map (λ l. l.now) lines.now) (length lines.now) d) }
     ensures bad { IfErr result (λ b. BadIn b races (map (λ l. l.now) lines.now)) }
     ensures given { OnOk result (S.refused supply.new ≡ S.refused supply.old) }
@@ -163,7 +168,7 @@ pub fn draft_of<'a, S: Supply>(
         let number = i as u64 + 1;
         let later = &lines[i + 1..];
         match take_line(
-            alloc, supply, &mut draft, &mut words, &mut place, number, line, races, later,
+            alloc, supply, &mut draft, &mut words, &mut place, number, plain, line, races, later,
         ) {
             Ok(()) => {}
             Err(fault) => return Err(bad_line(number, fault)),

@@ -1,9 +1,9 @@
 //! Scripts: lines that configure a machine and drive it.
 #![tactic(auto)]
 
-ghost use Rattle.std.specs.Prelude.{◌≡◌, true, Err, IfOk, IfErr, OnOk, map};
+ghost use Rattle.std.specs.Prelude.{◌≡◌, true, All, Err, IfOk, IfErr, OnOk, map};
 ghost use Rattle.std.specs.List.{list_any};
-ghost use Rattle.script.specs.Saying.{has_words as words_stand};
+ghost use Rattle.script.specs.Saying.{has_words as words_stand, is_ascii};
 ghost use Rattle.script.specs.Pieces.{lines_of};
 ghost use Rattle.script.specs.Scripts.{IsScript};
 ghost use Rattle.script.specs.Reading.{BadAt};
@@ -17,7 +17,7 @@ mod said;
 use crate::draft::draft_of;
 use crate::lines::Lines;
 use crate::pieces::pieces;
-use crate::said::has_words;
+use crate::said::{has_words, is_plain};
 use channel_config::config::Config;
 use script_rows::Action;
 use script_rows::race::Race;
@@ -94,7 +94,7 @@ impl Script {
         let Ok(lines) = pieces(alloc, supply, text, b'\n') else {
             return Err(ScriptBad::NoMemory);
         };
-        script_of(alloc, supply, races, lines.as_slice())
+        script_of(alloc, supply, races, is_plain(text), lines.as_slice())
     }
 
     /// The configuration.
@@ -127,13 +127,15 @@ impl Script {
     }
 }
 
-/// The script that these lines are.
+/// The script that these lines are. `plain`: they are known to be of ASCII.
 fn script_of<S: Supply>(
     alloc: Global,
     supply: &mut S,
     races: bool,
+    plain: bool,
     lines: &[&[u8]],
 ) -> Result<Script, ScriptBad>
+    requires { plain ≡ true → All (λ l. is_ascii l.now ≡ true) lines.now }
     ensures good { IfOk result (λ s. IsScript races (map (λ l. l.now) lines.now) s) }
     ensures bad { IfErr result (λ b. BadAt b races (map (λ l. l.now) lines.now)) }
     ensures given { OnOk result (S.refused supply.new ≡ S.refused supply.old) }
@@ -142,7 +144,7 @@ fn script_of<S: Supply>(
     if !some_have_words(lines) {
         return Err(ScriptBad::Bad { line: 1, rule: 6 });
     }
-    let draft = draft_of(alloc, supply, races, lines)?;
+    let draft = draft_of(alloc, supply, races, plain, lines)?;
     Ok(Script {
         config: draft.config,
         lines: draft.lines,

@@ -1,7 +1,6 @@
 //! What one line says.
 
-ghost use Rattle.std.specs.Prelude.{◌≡◌, nat_lt, map, true, OnOk, MatchResult, Ok, Err};
-ghost use Rattle.std.specs.List.{list_all};
+ghost use Rattle.std.specs.Prelude.{◌≡◌, map, true, OnOk, MatchResult, Ok, Err};
 ghost use Rattle.std.specs.Str.{is_utf8};
 ghost use Rattle.script.specs.Saying as spec;
 ghost use Rattle.script_rows.specs.Faults.{FaultOf};
@@ -75,16 +74,25 @@ pub fn has_words(line: &[u8]) -> bool
     }
 }
 
-/// Whether all bytes are of ASCII.
-fn is_plain(line: &[u8]) -> bool
-    ensures { result ≡ list_all (λ b. nat_lt b 128) line.now }
+/// Whether all bytes are of ASCII: no test of one ends the search, so that many are looked at in one step.
+pub fn is_plain(text: &[u8]) -> bool
+    ensures { result ≡ spec.is_ascii text.now }
 {
-    line.iter().all(|byte| *byte < 128)
+    let mut most = 0;
+    for byte in text {
+        most = most.max(*byte);
+    }
+    most < 128
 }
 
-fn is_text(line: &[u8]) -> bool
+/// Whether a line is UTF-8; `plain`: it is known to be of ASCII.
+fn is_text(plain: bool, line: &[u8]) -> bool
+    requires { plain ≡ true → spec.is_ascii line.now ≡ true }
     ensures { result ≡ is_utf8 line.now }
 {
+    if plain {
+        return true;
+    }
     if is_plain(line) {
         return true;
     }
@@ -94,19 +102,22 @@ fn is_text(line: &[u8]) -> bool
     }
 }
 
-/// What a line says, its words in a list and its action in a place, or the first of the rules 1 to 3 that it breaks.
+/// What a line says, its words in a list and its action in a place, or the first of the rules 1 to 3 that it breaks. `plain`: it
+/// is known to be of ASCII.
 pub fn say<'a, S: Supply>(
     alloc: Global,
     supply: &mut S,
     words: &mut Vec<&'a [u8]>,
     place: &mut ActionPlace,
+    plain: bool,
     line: &'a [u8],
 ) -> Result<LineKind, LineFault>
+    requires { plain ≡ true → spec.is_ascii line.now ≡ true }
     ensures says { MatchResult result (λ k. spec.said line.now ≡ Ok (spec.said_by k (action_at place.new))) (λ f. FaultOf f (spec.said line.now)) }
     ensures given { OnOk result (S.refused supply.new ≡ S.refused supply.old) }
     ensures memory { result ≡ Err LineFault.NoMemory → S.refused supply.new ≡ true }
 {
-    if line.len() > LINE_BYTES || !is_text(line) {
+    if line.len() > LINE_BYTES || !is_text(plain, line) {
         return Err(LineFault::Rule(3));
     }
     if !has_words(line) {
