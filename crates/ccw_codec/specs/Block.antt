@@ -22,18 +22,11 @@ effective_block Zero block =
     else slice_index block 0 ∷ slice_index block 1 ∷ slice_index block 2 ∷ slice_index block 3
     ∷ slice_index block 4 ∷ 0 ∷ slice_index block 6 ∷ slice_index block 7 ∷ []
 
--- an address of 24 or of 31 bits has 31
-pub address_0-lt : (first : ℕ) → field_of first 8 31 < 2 ^ 31
-address_0-lt first = lt_trans (mod_below (first / weight 31) (2 ^ 24) (lit< tt)) (lit< tt)
-
-pub address_1-lt : (second : ℕ) → field_of second 1 31 < 2 ^ 31
-address_1-lt second = mod_below (second / weight 31) (2 ^ 31) (lit< tt)
-
 -- the flag at this bit
 abbrev pub flag_of : ℕ → ℕ → Bool
 flag_of word bit = field_of word bit bit == 1
 
--- what two words of format 0 are
+-- what two words of format 0 are; an address of 24 bits has 31
 abbrev pub ccw_0 : ℕ → ℕ → Ccw
 ccw_0 first second =
     record {
@@ -47,7 +40,7 @@ ccw_0 first second =
       suspend = flag_of second 6;
       count = field_of second 16 31;
       address = field_of first 8 31;
-      address_fits = address_0-lt first;
+      address_fits = lt_trans (mod_below (first / weight 31) (2 ^ 24) (lit< tt)) (lit< tt);
     }
 
 -- what two words of format 1 are
@@ -64,16 +57,13 @@ ccw_1 first second =
       suspend = flag_of first 14;
       count = field_of first 16 31;
       address = field_of second 1 31;
-      address_fits = address_1-lt second;
+      address_fits = mod_below (second / weight 31) (2 ^ 31) (lit< tt);
     }
-
-abbrev pub ccw_of_words : Format → ℕ → ℕ → Ccw
-ccw_of_words Zero first second = ccw_0 first second
-ccw_of_words One first second = ccw_1 first second
 
 -- what a block is, whether it has a fault or not
 abbrev pub ccw_of : Format → List ℕ → Ccw
-ccw_of format block = ccw_of_words format (word_at (effective_block format block) 0) (word_at (effective_block format block) 1)
+ccw_of Zero block = ccw_0 (word_at (effective_block Zero block) 0) (word_at (effective_block Zero block) 1)
+ccw_of One block = ccw_1 (word_at block 0) (word_at block 1)
 
 -- a target is on a doubleword boundary
 abbrev pub target_fault_of : ℕ → Option CcwFault
@@ -97,10 +87,7 @@ fault_1 first second =
     else if (field_of first 16 31 == 0) && flag_of first 8 then Some ZeroCountChained
     else None
 
-abbrev pub fault_of_words : Format → ℕ → ℕ → Option CcwFault
-fault_of_words Zero first second = fault_0 first second
-fault_of_words One first second = fault_1 first second
-
 -- the fault that a block shows by itself, wherever it stands in its program
 abbrev pub fault_of : Format → List ℕ → Option CcwFault
-fault_of format block = fault_of_words format (word_at (effective_block format block) 0) (word_at (effective_block format block) 1)
+fault_of Zero block = fault_0 (word_at (effective_block Zero block) 0) (word_at (effective_block Zero block) 1)
+fault_of One block = fault_1 (word_at block 0) (word_at block 1)

@@ -66,9 +66,6 @@ is_over x = x.stopped || (not (is_outward x.code) && (x.room == 0))
 abbrev pub is_settled : AtHand → Bool
 is_settled x = is_none x.given && is_none x.unanswered
 
-abbrev pub has_moved_all : AtHand → Bool
-has_moved_all x = is_over x && is_settled x
-
 -- the device is to supply bytes of a read
 abbrev pub is_to_supply : AtHand → Bool
 is_to_supply x = not (is_outward x.code || is_over x) && is_settled x
@@ -77,7 +74,7 @@ is_to_supply x = not (is_outward x.code || is_over x) && is_settled x
 -- channel end, with device end
 abbrev pub may_end : Bool → AtHand → Progress → DeviceStatus → Bool → Bool
 may_end halted x progress.New status more = not more && (is_initial status || (halted && (status.0 == 0x0C)))
-may_end halted x progress.Working status more = (halted || has_moved_all x) && has_device_end status
+may_end halted x progress.Working status more = (halted || (is_over x && is_settled x)) && has_device_end status
 may_end halted x progress.ChannelEnded status more = has_device_end status
 may_end halted x progress.Ended status more = false
 

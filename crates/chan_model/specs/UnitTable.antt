@@ -122,10 +122,6 @@ abbrev pub answered_last : UnitState → Option AtHand → ℕ → ℕ → Optio
 answered_last u None s room = None
 answered_last u (Some x) s room = if s == x.sequence then answered_load u x x.unanswered room else None
 
-abbrev pub unit_answered : UnitState → Side → ℕ → ℕ → ℕ → ℕ → Option UnitStep
-unit_answered u side t n s room =
-    if is_owner u.own side t && (n == u.last_command) then answered_last u u.at_hand s room else None
-
 -- Grant: of the connection asked for; an older one is answered by Leave
 abbrev pub granted_at : UnitState → Side → ℕ → Place → ℕ → ℕ → Option UnitStep
 granted_at u side t (Ask q d) p c =
@@ -157,11 +153,8 @@ releasing u side p t = if is_owner u.own side t then sends (freed u) p (up.Relea
 
 -- Reset: with the unit's own restart count, where its side is fresh, or its number above the floor; a program of the
 -- other side stays
-abbrev pub without_side : UnitState → Side → UnitState
-without_side u side = if owns u.own side then freed u else u
-
 abbrev pub reset_side : UnitState → Side → ℕ → UnitState
-reset_side u side r = with_side (without_side u side) side (record { floor = r; fresh = false })
+reset_side u side r = with_side (if owns u.own side then freed u else u) side (record { floor = r; fresh = false })
 
 abbrev pub resets : UnitState → Side → ℕ → ℕ → Bool
 resets u side r b = (b == u.restarts) && ((side_of u side).fresh || nat_lt (side_of u side).floor r)
@@ -180,7 +173,8 @@ unit_works u side p (down.Select t) may = if nat_lt (side_of u side).floor t the
 unit_works u side p (down.Command t n code room) may = commanded u side t n code room
 unit_works u side p (down.Grant t c) may = granted u u.own side p t c
 unit_works u side p (down.Refuse t c) may = grant_refused u u.own side t c
-unit_works u side p (down.Took t n s room) may = unit_answered u side t n s room
+unit_works u side p (down.Took t n s room) may =
+    if is_owner u.own side t && (n == u.last_command) then answered_last u u.at_hand s room else None
 unit_works u side p (down.Give t c n s bytes) may = given u side t c n s bytes
 unit_works u side p (down.Halt t) may = unit_halting u side t
 unit_works u side p (down.Release t) may = releasing u side p t

@@ -89,14 +89,10 @@ acts_from storage old (Block address bytes) =
     with_target storage (after_block old address bytes) (reads old.orb old.role bytes) (Block address bytes ∷ [])
 acts_from storage old act = act ∷ []
 
-abbrev pub acts_at : Contents → WalkPlace → Option ℕ → List Act
-acts_at storage old None = []
-acts_at storage old (Some address) = acts_from storage old (fetch_act storage old.orb old.role address)
-
 -- the acts by which a program goes on, where a block is next: that it is fetched, and where it is a
 -- transfer in channel, that the block at its target is. That one is no transfer, so there are at most two
 abbrev pub advance_acts : Contents → WalkPlace → List Act
-advance_acts storage old = acts_at storage old old.next
+advance_acts storage old = elim old.next [ None ↦ [] | Some address ↦ acts_from storage old (fetch_act storage old.orb old.role address) ]
 
 -- what a block, an act and some acts come to; nothing as long as the program does not stand still
 abbrev pub block_advance : Reading → Option Advance

@@ -12,23 +12,17 @@ pub record WaitingReports : Type 0 where
 abbrev pub no_reports_wait : WaitingReports
 no_reports_wait = record { reports = []; asked = replicate 256 false }
 
-abbrev pub crw_of : PathReport → ℕ → Crw
-crw_of report path = record { report = report; overflow = false; path = path }
-
 -- R: a later report was lost
-abbrev pub with_overflow : Crw → Crw
-with_overflow crw = record crw { overflow = true }
-
 abbrev pub sixteenth_marked : List Crw → Option Crw → List Crw
 sixteenth_marked reports None = reports
-sixteenth_marked reports (Some last) = take 15 reports ++ with_overflow last ∷ []
+sixteenth_marked reports (Some last) = take 15 reports ++ record last { overflow = true } ∷ []
 
 -- a report comes behind the others; where sixteen wait it is lost, and the last of them says so
 abbrev pub added : List Crw → Crw → List Crw
 added reports crw = if length reports == 16 then sixteenth_marked reports (slice_get reports 15) else reports ++ crw ∷ []
 
 abbrev pub with_report : WaitingReports → PathReport → ℕ → WaitingReports
-with_report w report path = record w { reports = added w.reports (crw_of report path) }
+with_report w report path = record w { reports = added w.reports (record { report = report; overflow = false; path = path }) }
 
 -- the oldest report, where one waits
 abbrev pub oldest : WaitingReports → Option Crw

@@ -1,3 +1,4 @@
 pub mod Serving
 pub mod MapInPlace
 pub mod Keeping
+pub mod Named

@@ -30,13 +30,10 @@ abbrev pub may_serve : List Member → ℕ → Bool
 may_serve members place = may_serve_at members place (slice_get members place)
 
 -- A unit was asked for: it is refused where it may not be served.
-abbrev pub refused_at : List Member → ℕ → Option Member → List Member
-refused_at members place None = members
-refused_at members place (Some m) = slice_set members place (record m { refused = true })
-
 abbrev pub asked : List Member → ℕ → Bool → List Member
 asked members place true = members
-asked members place false = refused_at members place (slice_get members place)
+asked members place false =
+    elim (slice_get members place) [ None ↦ members | Some m ↦ slice_set members place (record m { refused = true }) ]
 
 -- A unit is begun.
 abbrev pub begun_at : List Member → ℕ → Option Member → List Member

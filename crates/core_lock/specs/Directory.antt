@@ -1,10 +1,9 @@
 -- The subchannels of a machine as they are set up, which no event changes (SA22-7832, chapter 13).
-use Rattle.std.specs.Prelude.{ℕ, ◌+◌, ◌*◌, ◌==◌, ◌&&◌, Bool, false, List, [], ◌∷◌, map, Option, None, Some, if◌then◌else◌}
+use Rattle.std.specs.Prelude.{ℕ, ◌+◌, ◌*◌, ◌==◌, ◌&&◌, Bool, false, List, [], ◌∷◌, map, Option, None, Some, option_map, if◌then◌else◌}
 use Rattle.channel_config.specs.declared.names.SubchannelId.{SubchannelId}
 use Rattle.channel_config.specs.declared.parts.SubchannelSetup.{SubchannelSetup}
 use Rattle.channel_config.specs.SubchannelWords.{subchannel_named}
 use Rattle.subchannel_model.specs.declared.state.Subchannel.{Subchannel}
-use Rattle.subchannel_model.specs.Places.{one_later}
 use Rattle.machine_model.specs.State.{State}
 
 -- how many sets of subchannels there are, and each subchannel in the order of the configuration
@@ -28,7 +27,7 @@ is_name_at id (Some setup) = is_name id setup
 -- the place of the first subchannel of this name
 abbrev pub name_place : SubchannelId → List SubchannelSetup → Option ℕ
 name_place id [] = None
-name_place id (setup ∷ setups) = if is_name id setup then Some 0 else one_later (name_place id setups)
+name_place id (setup ∷ setups) = if is_name id setup then Some 0 else option_map (λ place. place + 1) (name_place id setups)
 
 abbrev pub place_of_name : List SubchannelSetup → Option SubchannelId → Option ℕ
 place_of_name setups None = None

@@ -32,7 +32,8 @@ use Rattle.subchannel_model.specs.Clear.{csch_code, cleared}
 use Rattle.subchannel_model.specs.Cancel.{xsch_code, cancelled}
 use Rattle.subchannel_model.specs.Conditions.{condition_of}
 use Rattle.subchannel_model.specs.Enable.{enabling, enabling_schib}
-use Rattle.subchannel_model.specs.Places.{Found, found_with, found_at, is_named, one_later, place_in, place_of_id, sub_at}
+use Rattle.subchannel_model.proofs.Named.{found_with, one_later}
+use Rattle.subchannel_model.specs.Places.{Found, found_at, is_named, place_in, place_of_id, sub_at}
 use Rattle.subchannel_model.specs.Store.{pmcw_of, schib_of, stsch_code}
 use Rattle.machine_model.specs.State.{State}
 use Rattle.machine_model.specs.Turns.{Turn, SubTurn, Outcome, does}

@@ -15,10 +15,11 @@ use Rattle.subchannel_model.specs.declared.cause.StatusCause.TheVariants as caus
 use Rattle.subchannel_model.specs.declared.state.ActiveProgram.{ActiveProgram}
 use Rattle.subchannel_model.specs.declared.state.Program.{Program}
 use Rattle.subchannel_model.specs.declared.state.SubchannelState.{SubchannelState}
-use Rattle.subchannel_model.specs.Causes.{without_begun, without_waiting, programs_after_end, CauseRow, row_of, scsw_joined, with_row, with_cause}
+use Rattle.subchannel_model.proofs.Named.{with_row, with_pci_of, with_attention}
+use Rattle.subchannel_model.specs.Causes.{without_begun, without_waiting, programs_after_end, CauseRow, row_of, scsw_joined, with_cause}
 use Rattle.subchannel_model.specs.Losing.{reset_drawn, reset_with}
 use Rattle.subchannel_model.specs.Status.{scsw_made, serials_made}
-use Rattle.subchannel_model.specs.Taking.{let_go, without_pci, interrupted, with_pci_of, with_transfer, moving_on, suspended_alone, standing_still, suspending, halt_done, clear_done, with_attention}
+use Rattle.subchannel_model.specs.Taking.{let_go, without_pci, interrupted, with_transfer, moving_on, suspended_alone, standing_still, suspending, halt_done, clear_done}
 
 -- one phase is a reset under a number exactly where the other is
 pub record IsAsReset (old new : HoldPhase) : Type 0 where

@@ -37,12 +37,13 @@ use Rattle.subchannel_model.specs.declared.state.SubchannelState.{SubchannelStat
 use Rattle.subchannel_model.specs.declared.state.UpStep.{UpStep}
 use Rattle.subchannel_model.specs.Choosing.{IsFitFor, chosen, marked_sub, reset_sent, halt_sent, offered}
 use Rattle.subchannel_model.specs.Halt.{drops_status, status_dropped, halt_begun}
-use Rattle.subchannel_model.specs.Losing.{has_any, is_offered_or_held, reset_for, index_after, path_index, loses_at, loses, available_pmcw, shows_at}
+use Rattle.subchannel_model.specs.Losing.{has_any, is_offered_or_held, reset_for, path_index, loses_at, loses, available_pmcw, shows_at}
 use Rattle.subchannel_model.specs.Modify.{modified_state}
 use Rattle.subchannel_model.specs.Programs.{without_programs}
 use Rattle.subchannel_model.specs.Sending.{carried_by, finds_full}
 use Rattle.subchannel_model.specs.Start.{started}
-use Rattle.subchannel_model.specs.Taking.{ignoring, quietly, reset_taken, with_known, takes_up}
+use Rattle.subchannel_model.proofs.Named.{with_known, index_after}
+use Rattle.subchannel_model.specs.Taking.{ignoring, quietly, reset_taken, takes_up}
 use Rattle.subchannel_model.specs.Status.{intermediate_alone, without_status}
 use Rattle.subchannel_model.specs.SystemReset.{state_reset}
 use Rattle.subchannel_model.specs.Test.{ended_scsw, suspended_scsw, intermediate_cleared, ends_suspended, tested, tested_wholly}

@@ -7,7 +7,8 @@ use Rattle.std.proofs.lemmas.List.Sums.{sum_by-set, sum_by-cons}
 use Rattle.std.proofs.lemmas.Bool.{eq-eqb}
 use Rattle.chan_model.specs.ResetCauses.{engaged_path}
 use Rattle.subchannel_model.specs.declared.state.Subchannel.{Subchannel}
-use Rattle.subchannel_model.specs.Choosing.{engages, engages_at, is_chpid}
+use Rattle.subchannel_model.proofs.Named.{engages_at, is_chpid}
+use Rattle.subchannel_model.specs.Choosing.{engages}
 use Rattle.finding.specs.Tables.{Counts, one, engaged, chpid_at}
 
 -- a subchannel counts where it engages

@@ -7,7 +7,8 @@ use Rattle.chan_model.specs.Sides.{same_side}
 use Rattle.channel_config.specs.declared.names.SubchannelId.{SubchannelId}
 use Rattle.subchannel_model.specs.declared.state.Subchannel.{Subchannel}
 use Rattle.subchannel_model.specs.Places.{place_in, reached_in}
-use Rattle.subchannel_model.specs.Choosing.{engages, is_chpid}
+use Rattle.chan_model.specs.ResetCauses.{is_path}
+use Rattle.subchannel_model.specs.Choosing.{engages}
 
 -- the places of the subchannels by their names, and by the side of the unit that they reach
 pub record Tables : Type 0 where
@@ -69,7 +70,7 @@ engaged sub = chpid_at sub (engaged_path sub.state.hold.phase)
 
 -- one where this is the channel path
 abbrev pub one : Option ℕ → ℕ → ℕ
-one chpid c = cond (is_chpid chpid c) 1 0
+one chpid c = cond (is_path chpid c) 1 0
 
 -- the counts are how many of these subchannels engage each channel path
 abbrev pub Counts : List ℕ → List Subchannel → Type 0

@@ -17,13 +17,9 @@ place_of_word b words j =
     let h = b - y % b in
     if nat_lt j h then y + j else slice_index words (1 + (j - h) / b) + (j - h) % b
 
--- byte j: in the words' blocks, or from the command word's own address on
-abbrev pub address_of_byte : ℕ → Reach → ℕ → ℕ
-address_of_byte b r j = if r.ccw.indirect then place_of_word b r.words j else r.ccw.address + j
-
--- a skipped byte has no place
+-- byte j: in the words' blocks, or from the command word's own address on; a skipped byte has no place
 abbrev pub place_of_byte : ℕ → Reach → ℕ → Option ℕ
-place_of_byte b r j = if r.skipped then None else Some (address_of_byte b r j)
+place_of_byte b r j = if r.skipped then None else Some (if r.ccw.indirect then place_of_word b r.words j else r.ccw.address + j)
 
 -- f 0, f 1, and so on: n of them
 abbrev pub each_below : {X : Type 0} → (ℕ → X) → ℕ → List X

@@ -51,11 +51,8 @@ of_subclass subclass requests = filter (λ request. request.subclass == subclass
 
 -- TEST PENDING INTERRUPTION: of the requests in the order of posting those whose subclass is enabled are kept, then those of
 -- the lowest subclass among them; the first is the answer
-abbrev pub of_lowest : List IntCode → List IntCode
-of_lowest requests = of_subclass (lowest requests) requests
-
 abbrev pub answer : WaitingRequests → ℕ → Option IntCode
-answer w mask = slice_get (of_lowest (enabled mask w.requests)) 0
+answer w mask = let kept = enabled mask w.requests in slice_get (of_subclass (lowest kept) kept) 0
 
 -- what was answered no longer waits
 abbrev pub after_answer : WaitingRequests → Option IntCode → WaitingRequests

@@ -45,7 +45,8 @@ use Rattle.machine_model.specs.Turns.{SubTurn, UpTurn}
 use Rattle.machine_model.specs.ChooseSteps.{choose_sub}
 use Rattle.subchannel_model.specs.Sending.{carried_by, finds_full}
 use Rattle.machine_model.specs.UpSteps.{up_front, up_sub}
-use Rattle.subchannel_model.specs.Taking.{Met, with_known, meets, ignoring, quietly, sending, let_go, by_hold, moving_on, giving, give_next, answering, take_in, bytes_of_load, standing, goes_ahead, path_used, taking_over, interrupted, suspending, beginning, begin_standing, halt_done, accept, move_bytes, move_data, with_end, end_taken, chaining, chain_with, goes_on, end_shown_at, stops_at, command_ended, end_of, reset_taken, may_attend, with_attention, takes_up}
+use Rattle.subchannel_model.proofs.Named.{with_known, give_next, with_attention}
+use Rattle.subchannel_model.specs.Taking.{Met, meets, ignoring, quietly, sending, let_go, by_hold, moving_on, giving, answering, take_in, bytes_of_load, standing, goes_ahead, path_used, taking_over, interrupted, suspending, beginning, begin_standing, halt_done, accept, move_bytes, move_data, with_end, end_taken, chaining, chain_with, goes_on, end_shown_at, stops_at, command_ended, end_of, reset_taken, may_attend, takes_up}
 use Rattle.subchannel_model.specs.Losing.{has_any, is_offered_or_held, reset_for}
 use Rattle.machine_laws.proofs.Resetting.{reset-acted}
 use Rattle.machine_laws.proofs.SameHold.{IsSameHold, same-hold, same-then, cause-same, interrupted-same, moving-same, suspending-same, halt_done-same, clear_done-same, attention-same}

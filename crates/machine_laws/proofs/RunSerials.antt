@@ -24,7 +24,8 @@ use Rattle.subchannel_model.specs.Conditions.{is_operational, condition_of}
 use Rattle.subchannel_model.specs.declared.state.Subchannel.{Subchannel}
 use Rattle.interruptions.specs.Requests.{WaitingRequests}
 use Rattle.machine_model.specs.State.{State, opening_of}
-use Rattle.subchannel_model.specs.Places.{found_with, found_at, is_named, one_later, place_in, sub_at}
+use Rattle.subchannel_model.proofs.Named.{found_with, one_later}
+use Rattle.subchannel_model.specs.Places.{found_at, is_named, place_in, sub_at}
 use Rattle.subchannel_model.specs.declared.state.SubchannelState.{SubchannelState}
 use Rattle.subchannel_model.specs.Test.{tsch_code, ends_suspended, tested_wholly, tested}
 use Rattle.subchannel_model.specs.Programs.{without_programs}

@@ -50,7 +50,8 @@ use Rattle.subchannel_model.specs.Ends.{has_status_modifier, chains_command, has
 use Rattle.subchannel_model.specs.Losing.{has_any, is_offered_or_held, reset_drawn, reset_with, reset_for, path_lost}
 use Rattle.subchannel_model.specs.SystemReset.{scsw_reset, state_reset}
 use Rattle.chan_model.specs.ResetCauses.{rests_on}
-use Rattle.subchannel_model.specs.Taking.{with_known, Met, meets, ignoring, quietly, without_pci, with_pci_of, standing, goes_ahead, taking_over, suspended_alone, standing_still, suspending, beginning, begin_standing, halt_done, accepted_by, accept_by, with_transfer, moving_on, give_next, take_in, bytes_of_load, move_bytes, move_data, take_data, with_end, end_taken, chaining, chain_with, goes_on, end_shown_at, stops_at, command_ended, end_of, end_command, reset_taken, may_attend, takes_up, path_used, let_go}
+use Rattle.subchannel_model.proofs.Named.{with_known, with_pci_of, give_next}
+use Rattle.subchannel_model.specs.Taking.{Met, meets, ignoring, quietly, without_pci, standing, goes_ahead, taking_over, suspended_alone, standing_still, suspending, beginning, begin_standing, halt_done, accepted_by, accept_by, with_transfer, moving_on, take_in, bytes_of_load, move_bytes, move_data, take_data, with_end, end_taken, chaining, chain_with, goes_on, end_shown_at, stops_at, command_ended, end_of, end_command, reset_taken, may_attend, takes_up, path_used, let_go}
 use Rattle.subchannel_model.proofs.Cleared.{none-uncleared, tested-pending}
 use Rattle.step_laws.specs.Walks.{Function, Resumes, Halts, Clears, Cancels, effect_of}
 

@@ -21,8 +21,9 @@ use Rattle.subchannel_model.specs.declared.state.Chosen.{Chosen}
 use Rattle.subchannel_model.specs.declared.state.Chosen.TheVariants.{Idle, Resets, PerformsClear, Halts, PerformsHalt, FindsNoPath, Offers}
 use Rattle.subchannel_model.specs.declared.state.Subchannel.{Subchannel}
 use Rattle.subchannel_model.specs.declared.state.SubchannelState.{SubchannelState}
-use Rattle.subchannel_model.specs.Choosing.{candidate, chosen, chosen_of, clear_chosen, halt_chosen, halt_sent, marked_sub, offer_chosen, offered, path_use, paths_to_choose, reset_chosen, reset_sent, unsent_reset}
-use Rattle.subchannel_model.specs.Places.{Found, found_at, found_with, sub_at}
+use Rattle.subchannel_model.proofs.Named.{chosen_of, found_with}
+use Rattle.subchannel_model.specs.Choosing.{candidate, chosen, clear_chosen, halt_chosen, halt_sent, marked_sub, offer_chosen, offered, path_use, paths_to_choose, reset_chosen, reset_sent, unsent_reset}
+use Rattle.subchannel_model.specs.Places.{Found, found_at, sub_at}
 use Rattle.subchannel_model.specs.Sending.{carried_by, finds_full, with_any_sent}
 use Rattle.subchannel_model.specs.Losing.{path_index}
 use Rattle.machine_model.specs.ChooseSteps.{choose_sub, send_sub}

@@ -30,7 +30,8 @@ use Rattle.subchannel_model.specs.declared.state.Subchannel.{Subchannel}
 use Rattle.subchannel_model.specs.declared.state.SubchannelState.{SubchannelState}
 use Rattle.wires.specs.Queues.{queue}
 use Rattle.machine_model.specs.State.{State, place_of, found_of, sub_of, with_sub, state_with_unit}
-use Rattle.subchannel_model.specs.Places.{Found, found_with, found_at, place_in, reached_in, sub_at, place_of_id}
+use Rattle.subchannel_model.proofs.Named.{found_with}
+use Rattle.subchannel_model.specs.Places.{Found, found_at, place_in, reached_in, sub_at, place_of_id}
 use Rattle.subchannel_model.specs.Choosing.{chosen, engages, marked_sub, paths_to_choose}
 use Rattle.machine_model.specs.Ruled.{RulesAt, GoesByRule, outcome_of}
 use Rattle.machine_model.specs.Turns.{Outcome, SubTurn, UpTurn, DownTurn, SharedTurn, does, at_sub, at_storage, at_unit}

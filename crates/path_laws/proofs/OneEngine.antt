@@ -17,7 +17,8 @@ use Rattle.chan_model.specs.Sides.{same_side}
 use Rattle.channel_config.specs.declared.parts.SubchannelSetup.{SubchannelSetup}
 use Rattle.channel_config.specs.Setup.{Setup}
 use Rattle.subchannel_model.specs.declared.state.Subchannel.{Subchannel}
-use Rattle.subchannel_model.specs.Choosing.{is_chpid, engages_at, engages, any_engages, is_engaged}
+use Rattle.subchannel_model.proofs.Named.{is_chpid, engages_at}
+use Rattle.subchannel_model.specs.Choosing.{engages, any_engages, is_engaged}
 use Rattle.subchannel_model.specs.Opening.{opened}
 use Rattle.subchannel_model.specs.Store.{installed_paths, available_paths}
 use Rattle.machine_model.specs.declared.state.Sweep.{Sweep}

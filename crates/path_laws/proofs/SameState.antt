@@ -14,7 +14,8 @@ use Rattle.subchannel_model.specs.Causes.{without_begun, without_waiting, progra
 use Rattle.subchannel_model.specs.Programs.{without_programs}
 use Rattle.subchannel_model.specs.Test.{tested_wholly, ends_suspended, tested}
 use Rattle.subchannel_model.specs.Halt.{status_dropped, halt_begun, halted, drops_status}
-use Rattle.subchannel_model.specs.Taking.{without_pci, interrupted, with_pci_of, with_transfer, moving_on, suspended_alone, standing_still, suspending, halt_done, clear_done, with_attention}
+use Rattle.subchannel_model.proofs.Named.{with_pci_of, with_attention}
+use Rattle.subchannel_model.specs.Taking.{without_pci, interrupted, with_transfer, moving_on, suspended_alone, standing_still, suspending, halt_done, clear_done}
 
 pub record IsSame (s x : SubchannelState) : Type 0 where
   pub drawn : x.drawn ≡ s.drawn

@@ -18,7 +18,8 @@ use Rattle.channel_config.specs.Setup.{Setup, set_count, has_number, are_distinc
 use Rattle.wires.specs.Queues.{queue, lost}
 use Rattle.subchannel_model.specs.declared.state.Subchannel.{Subchannel}
 use Rattle.subchannel_model.specs.declared.state.SubchannelState.{SubchannelState}
-use Rattle.subchannel_model.specs.Losing.{path_lost, index_after, path_index, loses_at, shows_at}
+use Rattle.subchannel_model.proofs.Named.{index_after}
+use Rattle.subchannel_model.specs.Losing.{path_lost, path_index, loses_at, shows_at}
 use Rattle.subchannel_model.specs.Opening.{opened, all_paths}
 use Rattle.machine_model.specs.declared.state.Sweep.{Sweep}
 use Rattle.machine_model.specs.declared.state.Sweep.TheVariants as sweep

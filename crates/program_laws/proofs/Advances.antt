@@ -15,7 +15,8 @@ use Rattle.channel_program.specs.declared.Reading.TheVariants.{Transfers, Takes,
 use Rattle.channel_program.specs.Acts.{Act, Block, Unfetched}
 use Rattle.channel_program.specs.Blocks.{reads}
 use Rattle.channel_program.specs.Programs.{Command, next, next_after, role_of, role_after, commands, commands_after}
-use Rattle.channel_program.specs.Walks.{walk_place, after_block, is_program_misplaced, act_of_fetch, fetch_act, with_target, acts_from, acts_at, advance_acts, block_advance, advance_of}
+use Rattle.channel_program.proofs.Named.{acts_at}
+use Rattle.channel_program.specs.Walks.{walk_place, after_block, is_program_misplaced, act_of_fetch, fetch_act, with_target, acts_from, advance_acts, block_advance, advance_of}
 use Rattle.idaw.specs.Places.{Reach}
 use Rattle.program_laws.specs.DataAreas.{data_areas, reaches_after}
 

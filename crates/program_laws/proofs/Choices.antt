@@ -51,6 +51,7 @@ use Rattle.subchannel_model.specs.Start.{started}
 use Rattle.machine_model.specs.State.{State, opening_of}
 use Rattle.subchannel_model.specs.Opening.{opened}
 use Rattle.subchannel_model.specs.Taking as taking
+use Rattle.subchannel_model.proofs.Named as pieces
 use Rattle.subchannel_model.specs.Taking.{takes_up, goes_ahead, by_hold, reset_taken}
 use Rattle.machine_model.specs.Turns.{SubTurn, UpTurn, DownTurn}
 use Rattle.subchannel_model.specs.Sending.{carried_by, finds_full}
@@ -301,9 +302,9 @@ reset-untold : (s : SubchannelState) (shows : Bool) → IsUntold s → IsUntold 
 reset-untold s true u = record { phase = omega arith; begun = refl; suspended = refl }
 reset-untold s false u = record { phase = omega arith; begun = u.begun; suspended = u.suspended }
 
-noticed-untold : (s : SubchannelState) (c : ℕ) (b : Bool) → IsUntold s → IsUntold (if b then taking.quietly (reset_for (taking.with_known s c)) else taking.ignoring s).state
+noticed-untold : (s : SubchannelState) (c : ℕ) (b : Bool) → IsUntold s → IsUntold (if b then taking.quietly (reset_for (pieces.with_known s c)) else taking.ignoring s).state
 noticed-untold s c true u =
-    reset-untold (taking.with_known s c) (is_offered_or_held s.hold.phase && has_any s.waiting s.begun s.suspended) (record { phase = u.phase; begun = u.begun; suspended = u.suspended })
+    reset-untold (pieces.with_known s c) (is_offered_or_held s.hold.phase && has_any s.waiting s.begun s.suspended) (record { phase = u.phase; begun = u.begun; suspended = u.suspended })
 noticed-untold s c false u = u
 
 pub unheld-by : (P : HoldPhase → Type 0) (phase : HoldPhase) (drawn : ℕ) → IsUnheld phase drawn → P hold.Free → ((r : ℕ) → P (hold.Reset r)) → P phase
@@ -325,7 +326,7 @@ cleared-if s true u =
     (record { phase = tt; begun = u.begun; suspended = u.suspended })
 cleared-if s false u = u
 
-attention-untold : (s : SubchannelState) (shows : Bool) → IsUntold s → IsUntold (taking.with_attention s shows)
+attention-untold : (s : SubchannelState) (shows : Bool) → IsUntold s → IsUntold (pieces.with_attention s shows)
 attention-untold s true u = record { phase = u.phase; begun = u.begun; suspended = u.suspended }
 attention-untold s false u = u
 

@@ -17,7 +17,8 @@ use Rattle.chan_events.specs.declared.reply.Reply.TheVariants as reply
 use Rattle.wires.specs.Queues.{queue}
 use Rattle.subchannel_model.specs.declared.state.Subchannel.{Subchannel}
 use Rattle.subchannel_model.specs.declared.state.SubchannelState.{SubchannelState}
-use Rattle.subchannel_model.specs.Places.{found_with, found_at}
+use Rattle.subchannel_model.proofs.Named.{found_with}
+use Rattle.subchannel_model.specs.Places.{found_at}
 use Rattle.subchannel_model.specs.Sending.{carried_by, finds_full}
 use Rattle.subchannel_model.specs.Taking.{Met, meets, ignoring, goes_ahead, accept, move_data, end_of, takes_up}
 use Rattle.machine_model.proofs.Named.{requests_settled}

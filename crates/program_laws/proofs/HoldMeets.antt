@@ -40,8 +40,10 @@ use Rattle.subchannel_model.specs.declared.state.ProgramPosition.{ProgramPositio
 use Rattle.subchannel_model.specs.declared.cause.StatusCause.TheVariants as cause
 use Rattle.subchannel_model.specs.Ends.{has_status_modifier, chains_command, breaks_chain, shows_length, has_unit_exception, has_shown, end_shown}
 use Rattle.subchannel_model.specs.Causes as causes
-use Rattle.subchannel_model.specs.Causes.{with_cause, with_row, without_begun, fetch_fault_shown}
+use Rattle.subchannel_model.proofs.Named.{with_row}
+use Rattle.subchannel_model.specs.Causes.{with_cause, without_begun, fetch_fault_shown}
 use Rattle.subchannel_model.specs.Taking as taking
+use Rattle.subchannel_model.proofs.Named as pieces
 use Rattle.subchannel_model.specs.Taking.{takes_up, goes_ahead, path_used, let_go, bytes_of_load, with_end, without_pci, interrupted, taking_over, from_start, suspended_as, standing_as, standing_still, suspended_alone, suspending}
 use Rattle.program_laws.specs.Traces.{CommandTrace, no_trace}
 use Rattle.program_laws.proofs.MachineActs.{with_acts, goes_acts, first_acts, next_acts, gives, takes_in}
@@ -233,7 +235,7 @@ module _ (laws : AreLaws) (accesses : AreAccesses) where
 
   out-held : (storage : Contents) (s : SubchannelState) (b : ActiveProgram) (k : ProgramTrace) (signal : DataSignal) (load : Load) (x : Bool) → is_outward b.transfer.code ≡ x → s.begun ≡ Some b → IsHeld s k →
       IsAtWork k.earlier k.orb k.now b.transfer (is_outward b.transfer.code) → (b.transfer.command ≡ k.sent) × (1 ≤ k.sent) →
-      IsHeld (if x then taking.meets storage (taking.give_next storage s b signal (load_length load))
+      IsHeld (if x then taking.meets storage (pieces.give_next storage s b signal (load_length load))
       else taking.take_in s b signal (brought storage b.transfer signal.sequence (bytes_of_load load))).step.state
       (if x then record k { now = gives storage b.transfer signal.sequence (load_length load) k.now } else record k { now = takes_in storage b.transfer signal.sequence (bytes_of_load load) k.now })
   out-held storage s b k signal load true d e h w m =
@@ -452,9 +454,9 @@ module _ (laws : AreLaws) (accesses : AreAccesses) where
         standing = h.standing;
       }
 
-  notice-held : (s : SubchannelState) (k : ProgramTrace) (b : ℕ) (more : Bool) → IsHeld s k → IsHeld (if more then taking.quietly (reset_for (taking.with_known s b)) else taking.ignoring s).state k
+  notice-held : (s : SubchannelState) (k : ProgramTrace) (b : ℕ) (more : Bool) → IsHeld s k → IsHeld (if more then taking.quietly (reset_for (pieces.with_known s b)) else taking.ignoring s).state k
   notice-held s k b true h =
-      reset-held (taking.with_known s b) k (is_offered_or_held s.hold.phase && has_any s.waiting s.begun s.suspended) refl
+      reset-held (pieces.with_known s b) k (is_offered_or_held s.hold.phase && has_any s.waiting s.begun s.suspended) refl
       (record { number = h.number; phase = h.phase; drawn = h.drawn; work = h.work; standing = h.standing })
   notice-held s k b false h = h
 

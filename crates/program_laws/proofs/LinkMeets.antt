@@ -45,6 +45,7 @@ use Rattle.subchannel_model.specs.Causes as causes
 use Rattle.subchannel_model.specs.Causes.{with_cause}
 use Rattle.subchannel_model.specs.declared.cause.StatusCause.TheVariants as cause
 use Rattle.subchannel_model.specs.Taking as taking
+use Rattle.subchannel_model.proofs.Named as pieces
 use Rattle.subchannel_model.specs.Taking.{goes_ahead, from_start, bytes_of_load, takes_up, with_end}
 use Rattle.subchannel_model.specs.Sending.{with_any_sent}
 use Rattle.wires.specs.Queues.{taken}
@@ -247,7 +248,7 @@ module _ (laws : AreLaws) (accesses : AreAccesses) (storage : Contents) (side : 
 
     given :
         Mode side (Some (record b { transfer = x.transfer })) (with_now now) (with_any_sent downs (Some (record { path = signal.path; signal = down.Give signal.number signal.connection signal.command (signal.sequence + 1) x.bytes }))) (taken ups path) u →
-        Goes (taking.give_next storage s b signal (load_length l)) (with_now now)
+        Goes (pieces.give_next storage s b signal (load_length l)) (with_now now)
     given g =
         interrupted-mode side (taking.with_transfer s b x.transfer) (record b { transfer = x.transfer }) (with_now now) (with_any_sent downs (Some (record { path = signal.path; signal = down.Give signal.number signal.connection signal.command (signal.sequence + 1) x.bytes })))
         (taken ups path) u refl g
@@ -255,13 +256,13 @@ module _ (laws : AreLaws) (accesses : AreAccesses) (storage : Contents) (side : 
     writes-goes : (lead : Option ℕ) → s.begun ≡ Some b → signal.number ≡ k.number → signal.command ≤ m → length k.taken ≡ k.sent → is_outward b.transfer.code ≡ true →
         (signal.sequence ≡ b.transfer.sequence) ⊎ (signal.sequence ≡ b.transfer.sequence + 1) → IsData (view_of b.transfer k.now) lead signal.sequence l → Flow (view_of b.transfer k.now) k.absorbed lead →
         IsWired side k.number m (HandFlow b.transfer.code (view_of b.transfer k.now) lead) (IsGive (view_of b.transfer k.now)) (IsData (view_of b.transfer k.now) lead) downs ups u →
-        Goes (taking.give_next storage s b signal (load_length l)) (with_now (gives storage b.transfer signal.sequence (load_length l) k.now))
+        Goes (pieces.give_next storage s b signal (load_length l)) (with_now (gives storage b.transfer signal.sequence (load_length l) k.now))
     writes-goes lead e z le taken-all out at d f wired = by (signal.sequence == b.transfer.sequence + 1) refl
       where
         outward : is_outward x.transfer.code ≡ true
         outward = ap is_outward code ∙ out
 
-        by : (y : Bool) → (signal.sequence == b.transfer.sequence + 1) ≡ y → Goes (taking.give_next storage s b signal (load_length l)) (with_now now)
+        by : (y : Bool) → (signal.sequence == b.transfer.sequence + 1) ≡ y → Goes (pieces.give_next storage s b signal (load_length l)) (with_now now)
         by true y =
             let is : signal.sequence ≡ b.transfer.sequence + 1 = eqb-true signal.sequence (b.transfer.sequence + 1) y in
             let a = answers-view accesses storage b.transfer signal.sequence (load_length l) k.now y in
@@ -297,7 +298,7 @@ module _ (laws : AreLaws) (accesses : AreAccesses) (storage : Contents) (side : 
       by (Reads d h g o q w) =
           let same : d ≡ b = cc (sym h ∙ e) in
           let out : is_outward b.transfer.code ≡ false = subst (λ (x : ActiveProgram). is_outward x.transfer.code ≡ false) same o in
-          subst (λ (x : Bool). Goes (if x then taking.meets storage (taking.give_next storage s b signal (load_length l)) else taking.take_in s b signal (brought storage b.transfer signal.sequence (bytes_of_load l))).step
+          subst (λ (x : Bool). Goes (if x then taking.meets storage (pieces.give_next storage s b signal (load_length l)) else taking.take_in s b signal (brought storage b.transfer signal.sequence (bytes_of_load l))).step
           (if x then with_now (gives storage b.transfer signal.sequence (load_length l) k.now) else with_now (takes_in storage b.transfer signal.sequence (bytes_of_load l) k.now))) (sym out)
           (reads-goes b signal (brought storage b.transfer signal.sequence (bytes_of_load l)) (takes_in storage b.transfer signal.sequence (bytes_of_load l) k.now) (brought-same storage b.transfer signal.sequence (bytes_of_load l)) g out q w)
       by (Writes d h g o lead y w) =
@@ -308,7 +309,7 @@ module _ (laws : AreLaws) (accesses : AreAccesses) (storage : Contents) (side : 
           subst (λ (x : ActiveProgram). IsWired side k.number m (HandFlow x.transfer.code (view_of x.transfer k.now) lead) (IsGive (view_of x.transfer k.now)) (IsData (view_of x.transfer k.now) lead) downs ups u) same w in
           let r = data-front (IsData (view_of b.transfer k.now) lead) b signal.number signal.connection signal.command signal.sequence l e z i
           (f (HandFlow b.transfer.code (view_of b.transfer k.now) lead) (IsGive (view_of b.transfer k.now)) (IsData (view_of b.transfer k.now) lead) w') in
-          subst (λ (x : Bool). Goes (if x then taking.meets storage (taking.give_next storage s b signal (load_length l)) else taking.take_in s b signal (brought storage b.transfer signal.sequence (bytes_of_load l))).step
+          subst (λ (x : Bool). Goes (if x then taking.meets storage (pieces.give_next storage s b signal (load_length l)) else taking.take_in s b signal (brought storage b.transfer signal.sequence (bytes_of_load l))).step
           (if x then with_now (gives storage b.transfer signal.sequence (load_length l) k.now) else with_now (takes_in storage b.transfer signal.sequence (bytes_of_load l) k.now))) (sym out)
           (writes-goes b signal l lead e z r.0 g out at (r.1 (r.2 ∙ sym g)) y' w')
 

@@ -16,7 +16,7 @@ use Rattle.transfer.specs.declared.Transfer.{Transfer}
 use Rattle.transfer.specs.declared.CommandStart.TheVariants as came
 use Rattle.transfer.specs.declared.NextChunk.{NextChunk}
 use Rattle.transfer.specs.Commands.{transfer_of, command_begins, goes_to, located_transfer, with_located, has_stopped}
-use Rattle.transfer.specs.Chunks.{is_current, chains_data, chained_to, chained, with_moved, moved_on, with_answer, taken_by_device, next_chunk_of, given_from, next_given}
+use Rattle.transfer.specs.Chunks.{chains_data, chained_to, chained, with_moved, moved_on, with_answer, taken_by_device, next_chunk_of, given_from, next_given}
 use Rattle.program_laws.proofs.MachineActs as doing
 use Rattle.program_laws.specs.Traces.{CommandTrace}
 use Rattle.program_laws.proofs.MachineActs.{with_acts, with_places, with_copy, copying, located_acts, chunk_of, chained_acts, trace_answered, gives}
@@ -197,9 +197,9 @@ pub goes-new : (storage : Contents) (n : ℕ) (old : WalkPlace) (t : Transfer) �
 goes-new storage n old t e = begins-new (after_acts old (advance_acts storage old)) n (advance_of old (advance_acts storage old)) t e
 
 -- a Data that is answered is of the command at work, of its last chunk or the next
-pub current-facts : (t : Transfer) (n seq : ℕ) (x : Bool) → (is_current t n seq && x) ≡ true → (n ≡ t.command) × ((seq ≡ t.sequence) ⊎ (seq ≡ t.sequence + 1))
+pub current-facts : (t : Transfer) (n seq : ℕ) (x : Bool) → (((n == t.command) && ((seq == t.sequence) || (seq == t.sequence + 1))) && x) ≡ true → (n ≡ t.command) × ((seq ≡ t.sequence) ⊎ (seq ≡ t.sequence + 1))
 current-facts t n seq x e =
-    let a = and_parts (is_current t n seq) x e in
+    let a = and_parts ((n == t.command) && ((seq == t.sequence) || (seq == t.sequence + 1))) x e in
     let b = and_parts (n == t.command) ((seq == t.sequence) || (seq == t.sequence + 1)) a.0 in
     (eqb-true n t.command b.0, either (seq == t.sequence) (seq == t.sequence + 1) refl refl b.1)
   where

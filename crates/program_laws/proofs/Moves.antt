@@ -25,6 +25,7 @@ use Rattle.subchannel_model.specs.declared.state.SubchannelState.{SubchannelStat
 use Rattle.subchannel_model.specs.declared.cause.StatusCause.TheVariants as cause
 use Rattle.subchannel_model.specs.Causes.{with_cause}
 use Rattle.subchannel_model.specs.Taking as taking
+use Rattle.subchannel_model.proofs.Named as pieces
 use Rattle.subchannel_model.specs.Taking.{Met, bytes_of_load}
 use Rattle.program_laws.specs.Traces.{CommandTrace, ProgramTrace}
 use Rattle.program_laws.specs.DataAreas.{data_areas}
@@ -228,7 +229,7 @@ module _ (laws : AreLaws) (accesses : AreAccesses) where
 
   out-told : (storage : Contents) (s : SubchannelState) (b : ActiveProgram) (k : ProgramTrace) (signal : DataSignal) (load : Load) → s.begun ≡ Some b →
       IsAtWork k.earlier k.orb k.now b.transfer true →
-      MovesOf storage s (taking.meets storage (taking.give_next storage s b signal (load_length load))) signal.sequence load k (record k { now = gives storage b.transfer signal.sequence (load_length load) k.now })
+      MovesOf storage s (taking.meets storage (pieces.give_next storage s b signal (load_length load))) signal.sequence load k (record k { now = gives storage b.transfer signal.sequence (load_length load) k.now })
   out-told storage s b k signal load is w =
       let t : Transfer = b.transfer in
       let count : ℕ = load_length load in
@@ -238,7 +239,7 @@ module _ (laws : AreLaws) (accesses : AreAccesses) where
       let g : IsSame a given.transfer = next_given-same storage a in
       let now : CommandTrace = gives storage t signal.sequence count k.now in
       let adds : AddsFetched storage k.orb k.now.acts now.acts = gives-adds k.earlier laws storage k.orb k.now t signal.sequence count w in
-      let at : WorksAt (taking.give_next storage s b signal count).state.begun given.transfer = moved-work s b given.transfer given.transfer.pci_pending in (
+      let at : WorksAt (pieces.give_next storage s b signal count).state.begun given.transfer = moved-work s b given.transfer given.transfer.pci_pending in (
         b,
         at.0,
         is,
@@ -295,7 +296,7 @@ module _ (laws : AreLaws) (accesses : AreAccesses) where
 
   moves-meets : (storage : Contents) (s : SubchannelState) (b : ActiveProgram) (k : ProgramTrace) (signal : DataSignal) (load : Load) (x : Bool) → s.begun ≡ Some b → is_outward b.transfer.code ≡ x →
       IsAtWork k.earlier k.orb k.now b.transfer (is_outward b.transfer.code) →
-      DataBy storage s signal load (if x then taking.meets storage (taking.give_next storage s b signal (load_length load))
+      DataBy storage s signal load (if x then taking.meets storage (pieces.give_next storage s b signal (load_length load))
       else taking.take_in s b signal (brought storage b.transfer signal.sequence (bytes_of_load load))) k
       (if x then record k { now = gives storage b.transfer signal.sequence (load_length load) k.now } else record k { now = takes_in storage b.transfer signal.sequence (bytes_of_load load) k.now })
   moves-meets storage s b k signal load true is d w r =

@@ -28,8 +28,10 @@ use Rattle.subchannel_model.specs.declared.status.Shown.{Shown}
 use Rattle.subchannel_model.specs.declared.cause.StatusCause.TheVariants as cause
 use Rattle.subchannel_model.specs.Status.{no_device_status, no_subchannel_status, with_joined, scsw_made, serials_made}
 use Rattle.subchannel_model.specs.Ends.{has_status_modifier, chains_command, channel_end_shown, last_shown, end_shown}
-use Rattle.subchannel_model.specs.Causes.{scsw_joined, without_begun, fetch_fault_shown, pci_shown, suspension_shown, with_cause, with_row}
+use Rattle.subchannel_model.proofs.Named.{with_row}
+use Rattle.subchannel_model.specs.Causes.{scsw_joined, without_begun, fetch_fault_shown, pci_shown, suspension_shown, with_cause}
 use Rattle.subchannel_model.specs.Taking as taking
+use Rattle.subchannel_model.proofs.Named as pieces
 use Rattle.subchannel_model.specs.Taking.{bytes_of_load, let_go, with_end, without_pci, standing_still, suspended_alone}
 use Rattle.program_laws.proofs.MachineActs.{with_acts, next_acts}
 use Rattle.program_laws.specs.DataAreas.{data_areas, counts}
@@ -82,7 +84,7 @@ interrupted-shows s b k false h = unmade s.serials.made s k refl
 
 -- Data
 move-shows : (storage : Contents) (s : SubchannelState) (b : ActiveProgram) (signal : DataSignal) (load : Load) (k : ProgramTrace) (x : Bool) →
-    let after : SubchannelState = (if x then taking.meets storage (taking.give_next storage s b signal (load_length load))
+    let after : SubchannelState = (if x then taking.meets storage (pieces.give_next storage s b signal (load_length load))
     else taking.take_in s b signal (brought storage b.transfer signal.sequence (bytes_of_load load))).step.state in
     IsHeld after k → ShowsRest s.serials.made after k
 move-shows storage s b signal load k true h =

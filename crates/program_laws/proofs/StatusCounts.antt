@@ -21,21 +21,8 @@ use Rattle.subchannel_model.specs.declared.state.Program.{Program}
 use Rattle.subchannel_model.specs.declared.state.ProgramPosition.{ProgramPosition}
 use Rattle.subchannel_model.specs.declared.state.Subchannel.{Subchannel}
 use Rattle.subchannel_model.specs.declared.state.SubchannelState.{SubchannelState}
-use Rattle.subchannel_model.specs.Causes.{
-  attention_shown,
-  clear_scsw,
-  count_by,
-  count_shown,
-  interface_shown,
-  no_path_shown,
-  plain_shown,
-  program_shown,
-  scsw_joined,
-  with_cause,
-  with_row,
-  without_intermediate,
-  without_waiting,
-}
+use Rattle.subchannel_model.proofs.Named.{count_by, with_row, with_attention, with_known}
+use Rattle.subchannel_model.specs.Causes.{attention_shown, clear_scsw, count_shown, interface_shown, no_path_shown, plain_shown, program_shown, scsw_joined, with_cause, without_intermediate, without_waiting}
 use Rattle.subchannel_model.specs.Choosing.{
   candidate,
   chosen,
@@ -54,7 +41,7 @@ use Rattle.subchannel_model.specs.Choosing.{
 }
 use Rattle.subchannel_model.specs.Losing.{is_offered_or_held, has_any, reset_drawn, reset_with, reset_for}
 use Rattle.subchannel_model.specs.Taking as taking
-use Rattle.subchannel_model.specs.Taking.{clear_done, halt_done, reset_taken, with_attention, with_known}
+use Rattle.subchannel_model.specs.Taking.{clear_done, halt_done, reset_taken}
 use Rattle.subchannel_model.specs.SystemReset.{state_reset}
 use Rattle.machine_model.specs.ChooseSteps.{choose_sub}
 use Rattle.machine_model.specs.Turns.{SubTurn}

@@ -14,7 +14,8 @@ use Rattle.channel_program.specs.declared.Advance.TheVariants as advance
 use Rattle.channel_program.specs.declared.Reading.TheVariants.{Takes}
 use Rattle.channel_program.specs.Acts.{Act, Word}
 use Rattle.channel_program.specs.Programs.{IsProgram, Command, role_of, next, commands, commands_after, join_last, code}
-use Rattle.channel_program.specs.Walks.{WalkPlace, walk_place, after_acts, acts_at, advance_acts, advance_of}
+use Rattle.channel_program.proofs.Named.{acts_at}
+use Rattle.channel_program.specs.Walks.{WalkPlace, walk_place, after_acts, advance_acts, advance_of}
 use Rattle.idaw.specs.declared.ListKind.{ListKind}
 use Rattle.idaw.specs.declared.WordFault.{WordFault}
 use Rattle.idaw.specs.declared.WordFault.TheVariants.{LeftmostBit, OffBlock, OutsideStorage}

@@ -54,7 +54,8 @@ use Rattle.subchannel_model.specs.Start.{ssch_code, started}
 use Rattle.subchannel_model.specs.Modify.{msch_code, modified_state}
 use Rattle.wires.specs.Queues.{queue}
 use Rattle.control_units.specs.declared.Member.{Member}
-use Rattle.control_units.specs.Units.{may_serve, begun_at, refused_at, over_at, member_told}
+use Rattle.control_units.proofs.Named.{refused_at}
+use Rattle.control_units.specs.Units.{may_serve, begun_at, over_at, member_told}
 use Rattle.interruptions.specs.Requests as requests
 use Rattle.interruptions.specs.Requests.{WaitingRequests}
 use Rattle.scsw_irb.specs.declared.code.IntCode.{IntCode}

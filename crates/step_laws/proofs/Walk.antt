@@ -37,7 +37,8 @@ use Rattle.subchannel_model.specs.Cancel.{xsch_code}
 use Rattle.subchannel_model.specs.declared.state.Subchannel.{Subchannel}
 use Rattle.interruptions.specs.Requests.{WaitingRequests}
 use Rattle.machine_model.specs.State.{State, place_of, found_of, with_sub, state_with_unit}
-use Rattle.subchannel_model.specs.Places.{Found, found_with, found_at, place_in, place_of_id, reaches, reached_in}
+use Rattle.subchannel_model.proofs.Named.{found_with}
+use Rattle.subchannel_model.specs.Places.{Found, found_at, place_in, place_of_id, reaches, reached_in}
 use Rattle.subchannel_model.specs.Choosing.{chosen, marked_sub}
 use Rattle.subchannel_model.specs.Store.{pmcw_of}
 use Rattle.subchannel_model.specs.Enable.{enabling}

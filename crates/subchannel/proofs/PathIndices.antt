@@ -1,6 +1,7 @@
 -- The index of a channel path among those of a subchannel.
 use Rattle.std.proofs.Common.{◌≡◌, refl, ap, ◌∙◌, ℕ, ◌+◌, ◌<◌, ◌==◌, zero, suc, Bool, false, None, Some, List, [], ◌∷◌, length, get_or, if◌then◌else◌, eq-eqb, ne_eqb, arith}
-use Rattle.subchannel_model.specs.Losing.{index_after, path_index}
+use Rattle.subchannel_model.proofs.Named.{index_after}
+use Rattle.subchannel_model.specs.Losing.{path_index}
 
 pub path_index-at : (chpid : ℕ) (paths : List ℕ) (i : ℕ) → i < length paths → ((k : ℕ) → k < i → get_or paths k 0 ≡ chpid → ⊥) →
     get_or paths i 0 ≡ chpid → path_index chpid paths ≡ Some i

@@ -20,14 +20,11 @@ xsch_code c =
 
 -- effect: the program that waits, or that is suspended, is over, and nothing of it stays; an earlier program works on, and an
 -- offer stays until it is answered
-abbrev pub cancelled_activity : ActivityControl → ActivityControl
-cancelled_activity a = record a { resume_pending = false; start_pending = false; suspended = false }
-
 abbrev pub cancelled_scsw : Scsw → Scsw
 cancelled_scsw scsw = record scsw {
   path_not_operational = false;
   functions = no_functions;
-  activity = cancelled_activity scsw.activity;
+  activity = record scsw.activity { resume_pending = false; start_pending = false; suspended = false };
 }
 
 abbrev pub cancelled : SubchannelState → SubchannelState

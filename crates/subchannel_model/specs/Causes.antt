@@ -40,38 +40,19 @@ plain_shown address count = record {
   count = count;
 }
 
--- the command address of the program of which a status speaks: where a start waits, or no program is there, it stands as it
--- was left; otherwise it is that of the program that holds the device, or of the suspended one
-abbrev pub address_at : ℕ → Option ProgramPosition → ℕ
-address_at stands None = stands
-address_at stands (Some st) = st.walk.tried
-
-abbrev pub program_address : ℕ → Option ActiveProgram → Option ProgramPosition → ℕ
-program_address stands None suspended = address_at stands suspended
-program_address stands (Some b) suspended = b.transfer.walk.tried
-
-abbrev pub address_by : ℕ → Option Program → Option ActiveProgram → Option ProgramPosition → ℕ
-address_by stands None begun suspended = program_address stands begun suspended
-address_by stands (Some program) begun suspended = stands
+-- what stands, of the program of which a status speaks: where a start waits, or no program is there, it stands as it was left;
+-- otherwise it is that of the program that holds the device, or of the suspended one
+abbrev pub of_program : ℕ → (ActiveProgram → ℕ) → (ProgramPosition → ℕ) → Option Program → Option ActiveProgram → Option ProgramPosition → ℕ
+of_program stands at_work left None None None = stands
+of_program stands at_work left None None (Some st) = left st
+of_program stands at_work left None (Some b) suspended = at_work b
+of_program stands at_work left (Some program) begun suspended = stands
 
 abbrev pub address_shown : SubchannelState → ℕ
-address_shown s = address_by s.scsw.command_address s.waiting s.begun s.suspended
-
--- the count of the program of which a status speaks, by the same cases
-abbrev pub count_at : ℕ → Option ProgramPosition → ℕ
-count_at stands None = stands
-count_at stands (Some st) = st.count
-
-abbrev pub count_of : ℕ → Option ActiveProgram → Option ProgramPosition → ℕ
-count_of stands None suspended = count_at stands suspended
-count_of stands (Some b) suspended = residual b.transfer.moving
-
-abbrev pub count_by : ℕ → Option Program → Option ActiveProgram → Option ProgramPosition → ℕ
-count_by stands None begun suspended = count_of stands begun suspended
-count_by stands (Some program) begun suspended = stands
+address_shown s = of_program s.scsw.command_address (λ b. b.transfer.walk.tried) (λ st. st.walk.tried) s.waiting s.begun s.suspended
 
 abbrev pub count_shown : SubchannelState → ℕ
-count_shown s = count_by s.scsw.count s.waiting s.begun s.suspended
+count_shown s = of_program s.scsw.count (λ b. residual b.transfer.moving) (λ st. st.count) s.waiting s.begun s.suspended
 
 -- nothing but the address and the count of the program of which a status speaks is shown
 abbrev pub program_shown : SubchannelState → Shown
@@ -217,9 +198,7 @@ with_status s shown = record s { scsw = scsw_made s.pmcw.enabled s.scsw shown; s
 abbrev pub scsw_joined : Bool → Scsw → Scsw → Scsw
 scsw_joined enabled scsw joins = if enabled then joins else scsw
 
-abbrev pub with_row : SubchannelState → CauseRow → SubchannelState
-with_row s row = with_status (record row.left { scsw = scsw_joined s.pmcw.enabled s.scsw row.joins }) row.shown
-
 -- the subchannel after the cause
 abbrev pub with_cause : SubchannelState → StatusCause → SubchannelState
-with_cause s c = with_row s (row_of s c)
+with_cause s c =
+    let row = row_of s c in with_status (record row.left { scsw = scsw_joined s.pmcw.enabled s.scsw row.joins }) row.shown

@@ -1,11 +1,11 @@
 -- What the subsystem does of itself for a subchannel (own).
-use Rattle.std.specs.Prelude.{◌≡◌, ℕ, ◌+◌, Bool, true, false, not, ◌==◌, ◌&&◌, if◌then◌else◌, Option, None, Some, is_some, unwrap_or, List, [], ◌∷◌, slice_get}
+use Rattle.std.specs.Prelude.{◌≡◌, ℕ, ◌+◌, Bool, true, false, not, ◌==◌, ◌&&◌, if◌then◌else◌, Option, None, Some, is_some, option_map, unwrap_or, List, [], ◌∷◌, slice_get}
 use Rattle.std.specs.List.{list_any}
 use Rattle.chan_model.specs.declared.hold_state.HoldPhase.{HoldPhase}
 use Rattle.chan_model.specs.declared.hold_state.HoldPhase.TheVariants as hold
 use Rattle.chan_model.specs.declared.hold_state.HoldState.{HoldState}
 use Rattle.chan_model.specs.HoldTable.{offering, sending_reset, hold_after}
-use Rattle.chan_model.specs.ResetCauses.{engaged_path}
+use Rattle.chan_model.specs.ResetCauses.{is_path, engaged_path}
 use Rattle.scsw_irb.specs.declared.scsw.Scsw.{Scsw}
 use Rattle.allegiance.specs.Allegiances.{may_reconnect}
 use Rattle.allegiance.specs.declared.path_use.PathUse.{PathUse}
@@ -21,16 +21,8 @@ use Rattle.subchannel_model.specs.declared.state.Subchannel.{Subchannel}
 use Rattle.subchannel_model.specs.Store.{installed_paths, available_paths}
 
 -- the engine of a channel path serves one subchannel: the one whose hold is offered, connected or letting go there
-abbrev pub is_chpid : Option ℕ → ℕ → Bool
-is_chpid None chpid = false
-is_chpid (Some c) chpid = c == chpid
-
-abbrev pub engages_at : Subchannel → Option ℕ → ℕ → Bool
-engages_at sub None chpid = false
-engages_at sub (Some path) chpid = is_chpid (slice_get sub.setup.paths path) chpid
-
 abbrev pub engages : ℕ → Subchannel → Bool
-engages chpid sub = engages_at sub (engaged_path sub.state.hold.phase) chpid
+engages chpid sub = elim (engaged_path sub.state.hold.phase) [ None ↦ false | Some path ↦ is_path (slice_get sub.setup.paths path) chpid ]
 
 abbrev pub any_engages : List Subchannel → ℕ → Bool
 any_engages subs chpid = list_any (engages chpid) subs
@@ -78,12 +70,8 @@ paths_unreset subs sub =
     if sub.state.scsw.activity.halt_pending && is_away sub.state.hold.phase then return_paths sub
     else usable_paths (path_use sub) (engaged_paths subs sub)
 
-abbrev pub paths_by : Option ℕ → List Subchannel → Subchannel → List Bool
-paths_by None subs sub = paths_unreset subs sub
-paths_by (Some r) subs sub = available_paths sub
-
 abbrev pub paths_to_choose : List Subchannel → Subchannel → List Bool
-paths_to_choose subs sub = paths_by (unsent_reset sub.state.hold) subs sub
+paths_to_choose subs sub = elim (unsent_reset sub.state.hold) [ None ↦ paths_unreset subs sub | Some r ↦ available_paths sub ]
 
 -- the first that there is
 abbrev pub first_some : {A : Type 0} → List (Option A) → Option A
@@ -119,15 +107,11 @@ clear_chosen (Some r) pending = if pending then Some PerformsClear else None
 
 -- 3. a halt is pending: the program that is connected is told by the path of its connection, one that is away by the chosen
 -- path; an offer is waited for; otherwise no device is held, and the halt is performed
-abbrev pub halt_away : ℕ → Option ℕ → Option Chosen
-halt_away t None = None
-halt_away t (Some path) = Some (Halts t path)
-
 abbrev pub halt_at : HoldPhase → Option ℕ → Option Chosen
 halt_at hold.Free choice = Some PerformsHalt
 halt_at (hold.Offer t p) choice = None
 halt_at (hold.On t p c) choice = Some (Halts t p)
-halt_at (hold.Away t) choice = halt_away t choice
+halt_at (hold.Away t) choice = option_map (λ path. Halts t path) choice
 halt_at (hold.Letting t p) choice = Some PerformsHalt
 halt_at (hold.Reset r) choice = Some PerformsHalt
 
@@ -139,12 +123,8 @@ halt_chosen pending phase choice = if pending then halt_at phase choice else Non
 abbrev pub over_unless : Bool → Option Chosen
 over_unless reachable = if reachable then None else Some FindsNoPath
 
-abbrev pub offer_free : Candidate → Bool → Option ℕ → Option Chosen
-offer_free c reachable None = over_unless reachable
-offer_free c reachable (Some path) = Some (Offers c path)
-
 abbrev pub offer_at : HoldPhase → Candidate → Bool → Option ℕ → Option Chosen
-offer_at hold.Free c reachable choice = offer_free c reachable choice
+offer_at hold.Free c reachable choice = elim choice [ None ↦ over_unless reachable | Some path ↦ Some (Offers c path) ]
 offer_at (hold.Reset r) c reachable choice = over_unless reachable
 offer_at phase c reachable choice = None
 
@@ -152,21 +132,14 @@ abbrev pub offer_chosen : HoldPhase → Option Candidate → Bool → Option ℕ
 offer_chosen phase None reachable choice = None
 offer_chosen phase (Some c) reachable choice = offer_at phase c reachable choice
 
-abbrev pub offered_by : Subchannel → Option ℕ → Option Chosen
-offered_by sub choice =
-    offer_chosen sub.state.hold.phase (candidate sub.state) (is_any (reachable_paths (path_use sub))) choice
-
 -- the first that applies, otherwise nothing
-abbrev pub chosen_of : List (Option Chosen) → Chosen
-chosen_of acts = unwrap_or (first_some acts) Idle
-
 abbrev pub chosen : Subchannel → Option ℕ → Chosen
-chosen sub choice = chosen_of (
+chosen sub choice = unwrap_or (first_some (
     reset_chosen (unsent_reset sub.state.hold) choice
     ∷ clear_chosen (unsent_reset sub.state.hold) sub.state.scsw.activity.clear_pending
     ∷ halt_chosen sub.state.scsw.activity.halt_pending sub.state.hold.phase choice
-    ∷ offered_by sub choice
-    ∷ [])
+    ∷ offer_chosen sub.state.hold.phase (candidate sub.state) (is_any (reachable_paths (path_use sub))) choice
+    ∷ [])) Idle
 
 -- The fourth rule is reached where neither of the first two applies, no halt is pending and a program is to be offered. Then each
 -- path that is found not operational is marked so, whatever comes of it: it leaves the path-operational mask for the
@@ -177,18 +150,14 @@ looks_for_path s choice =
     && (not (is_some (clear_chosen (unsent_reset s.hold) s.scsw.activity.clear_pending))
     && (not s.scsw.activity.halt_pending && is_some (candidate s)))
 
-abbrev pub marked_pmcw : PmcwState → PathUse → Bool → PmcwState
-marked_pmcw pmcw used looks = record pmcw {
-  operational = if looks then (marked used).operational else pmcw.operational;
-  not_operational = if looks then (marked used).not_operational else pmcw.not_operational;
-}
-
-abbrev pub marked_scsw : Scsw → PathUse → Bool → Scsw
-marked_scsw scsw used looks =
-    record scsw { path_not_operational = if looks && is_any (lost_paths used) then true else scsw.path_not_operational }
-
 abbrev pub marked_state : SubchannelState → PathUse → Bool → SubchannelState
-marked_state s used looks = record s { pmcw = marked_pmcw s.pmcw used looks; scsw = marked_scsw s.scsw used looks }
+marked_state s used looks = record s {
+  pmcw = record s.pmcw {
+    operational = if looks then (marked used).operational else s.pmcw.operational;
+    not_operational = if looks then (marked used).not_operational else s.pmcw.not_operational;
+  };
+  scsw = record s.scsw { path_not_operational = if looks && is_any (lost_paths used) then true else s.scsw.path_not_operational };
+}
 
 abbrev pub marked_sub : Subchannel → Option ℕ → Subchannel
 marked_sub sub choice = record sub { state = marked_state sub.state (path_use sub) (looks_for_path sub.state choice) }

@@ -1,5 +1,5 @@
 -- What a subchannel loses as a path of it goes down or is reset, and how its path-available mask follows (own).
-use Rattle.std.specs.Prelude.{ℕ, ◌+◌, ◌==◌, ◌&&◌, ◌||◌, Bool, true, false, if◌then◌else◌, Option, None, Some, is_some, List, [], ◌∷◌, slice_set}
+use Rattle.std.specs.Prelude.{ℕ, ◌+◌, ◌==◌, ◌&&◌, ◌||◌, Bool, true, false, if◌then◌else◌, Option, None, Some, is_some, List, slice_set}
 use Rattle.chan_model.specs.declared.hold_state.HoldPhase.{HoldPhase}
 use Rattle.chan_model.specs.declared.hold_state.HoldPhase.TheVariants as hold
 use Rattle.chan_model.specs.HoldTable.{resetting}
@@ -13,6 +13,7 @@ use Rattle.subchannel_model.specs.declared.state.ProgramPosition.{ProgramPositio
 use Rattle.subchannel_model.specs.declared.state.Subchannel.{Subchannel}
 use Rattle.subchannel_model.specs.declared.state.SubchannelState.{SubchannelState}
 use Rattle.subchannel_model.specs.Causes.{with_cause}
+use Rattle.subchannel_model.specs.Places.{first_place}
 
 abbrev pub has_any : Option Program → Option ActiveProgram → Option ProgramPosition → Bool
 has_any waiting begun suspended = is_some waiting || (is_some begun || is_some suspended)
@@ -39,13 +40,8 @@ abbrev pub path_lost : SubchannelState → ℕ → SubchannelState
 path_lost s p = if rests_on s.hold p then reset_for s else s
 
 -- the index of a channel path, where the subchannel has it
-abbrev pub index_after : Option ℕ → Option ℕ
-index_after None = None
-index_after (Some i) = Some (i + 1)
-
 abbrev pub path_index : ℕ → List ℕ → Option ℕ
-path_index chpid [] = None
-path_index chpid (x ∷ xs) = if x == chpid then Some 0 else index_after (path_index chpid xs)
+path_index chpid paths = first_place (λ x. x == chpid) paths
 
 abbrev pub loses_at : Option ℕ → Subchannel → Subchannel
 loses_at None sub = sub

@@ -1,5 +1,5 @@
 -- Where a subchannel stands among all, by its name or by the side of a unit that it reaches.
-use Rattle.std.specs.Prelude.{ℕ, ◌+◌, ◌==◌, ◌&&◌, Bool, List, [], ◌∷◌, slice_get, Option, None, Some, if◌then◌else◌}
+use Rattle.std.specs.Prelude.{ℕ, ◌+◌, ◌==◌, ◌&&◌, Bool, List, [], ◌∷◌, slice_get, Option, None, Some, option_map, option_and_then, if◌then◌else◌}
 use Rattle.channel_config.specs.declared.names.SubchannelId.{SubchannelId}
 use Rattle.chan_model.specs.declared.names.Side.{Side}
 use Rattle.chan_model.specs.Sides.{same_side}
@@ -9,25 +9,19 @@ use Rattle.subchannel_model.specs.declared.state.Subchannel.{Subchannel}
 abbrev pub is_named : SubchannelId → Subchannel → Bool
 is_named id sub = (sub.setup.id.set == id.set) && (sub.setup.id.number == id.number)
 
-abbrev pub one_later : Option ℕ → Option ℕ
-one_later None = None
-one_later (Some place) = Some (place + 1)
-
--- the place of the first subchannel that passes a test
-abbrev pub first_place : (Subchannel → Bool) → List Subchannel → Option ℕ
+-- the place of the first that passes a test
+abbrev pub first_place : {A : Type 0} → (A → Bool) → List A → Option ℕ
 first_place test [] = None
-first_place test (sub ∷ subs) = if test sub then Some 0 else one_later (first_place test subs)
+first_place test (x ∷ xs) = if test x then Some 0 else option_map (λ place. place + 1) (first_place test xs)
 
 abbrev pub place_in : SubchannelId → List Subchannel → Option ℕ
 place_in id subs = first_place (is_named id) subs
 
 abbrev pub place_of_id : List Subchannel → Option SubchannelId → Option ℕ
-place_of_id subs None = None
-place_of_id subs (Some id) = place_in id subs
+place_of_id subs id = option_and_then (λ named. place_in named subs) id
 
 abbrev pub sub_at : List Subchannel → Option ℕ → Option Subchannel
-sub_at subs None = None
-sub_at subs (Some place) = slice_get subs place
+sub_at subs place = option_and_then (slice_get subs) place
 
 -- the subchannel that reaches a side of a unit
 abbrev pub reaches : ℕ → Side → Subchannel → Bool
@@ -44,11 +38,7 @@ pub record Found : Type 0 where
   pub place : ℕ
   pub sub : Subchannel
 
-abbrev pub found_with : ℕ → Option Subchannel → Option Found
-found_with place None = None
-found_with place (Some sub) = Some (record { place = place; sub = sub })
-
 -- the subchannel of a place, where there is one
 abbrev pub found_at : List Subchannel → Option ℕ → Option Found
 found_at subs None = None
-found_at subs (Some place) = found_with place (slice_get subs place)
+found_at subs (Some place) = option_map (λ sub. record { place = place; sub = sub }) (slice_get subs place)

@@ -76,15 +76,12 @@ by_hold s step = record { state = record s { hold = hold_after s.hold step }; ca
 abbrev pub without_pci : ActiveProgram → ActiveProgram
 without_pci b = record b { transfer = record b.transfer { pci_pending = false } }
 
-abbrev pub with_pci_of : SubchannelState → ActiveProgram → SubchannelState
-with_pci_of s b =
+abbrev pub interrupted : SubchannelState → Option ActiveProgram → SubchannelState
+interrupted s None = s
+interrupted s (Some b) =
     if b.transfer.pci_pending
     then with_cause (record s { begun = Some (without_pci b) }) (cause.Pci b.transfer.walk.tried (residual b.transfer.moving))
     else s
-
-abbrev pub interrupted : SubchannelState → Option ActiveProgram → SubchannelState
-interrupted s None = s
-interrupted s (Some b) = with_pci_of s b
 
 -- Accept: the path is the last used and is operational; the program that was offered takes the device, from its beginning
 -- where it waited, and otherwise from where it was suspended
@@ -198,9 +195,6 @@ giving s b signal given =
     sending (moving_on s b given.transfer) signal.path
     (down.Give signal.number signal.connection signal.command (signal.sequence + 1) given.bytes)
 
-abbrev pub give_next : Contents → SubchannelState → ActiveProgram → DataSignal → ℕ → UpStep
-give_next storage s b signal count = giving s b signal (next_given storage (taken_by_device storage b.transfer signal.sequence count))
-
 -- the bytes of a Data of a command that brings bytes in are stored, and the device is told how many more may come
 abbrev pub answering : SubchannelState → ActiveProgram → DataSignal → WithRoom → UpStep
 answering s b signal x =
@@ -215,7 +209,8 @@ bytes_of_load (load.Bytes bytes) = bytes
 
 abbrev pub move_bytes : Contents → SubchannelState → ActiveProgram → DataSignal → Load → Met
 move_bytes storage s b signal load =
-    if is_outward b.transfer.code then meets storage (give_next storage s b signal (load_length load))
+    if is_outward b.transfer.code
+    then meets storage (giving s b signal (next_given storage (taken_by_device storage b.transfer signal.sequence (load_length load))))
     else take_in s b signal (brought storage b.transfer signal.sequence (bytes_of_load load))
 
 abbrev pub move_data : Contents → SubchannelState → Option ActiveProgram → DataSignal → Load → Met
@@ -287,11 +282,8 @@ reset_taken s None = ignoring s
 reset_taken s (Some step) = record { state = clear_done (record s { hold = step.state }); came = came_of (Some step) }
 
 -- Notice: where it counts more restarts than are known, its count becomes known, and the hold is to be reset
-abbrev pub with_known : SubchannelState → ℕ → SubchannelState
-with_known s b = record s { hold = record s.hold { known = b } }
-
 abbrev pub notice : SubchannelState → ℕ → UpStep
-notice s b = if nat_lt s.hold.known b then quietly (reset_for (with_known s b)) else ignoring s
+notice s b = if nat_lt s.hold.known b then quietly (reset_for (record s { hold = record s.hold { known = b } })) else ignoring s
 
 -- Back: the path of a Grant is the one that was used last, and the one that was chosen last
 abbrev pub is_grant : Down → Bool
@@ -321,14 +313,10 @@ is_open a =
 abbrev pub may_attend : SubchannelState → Bool
 may_attend s = not s.scsw.status.pending && is_open s.scsw.activity
 
-abbrev pub with_attention : SubchannelState → Bool → SubchannelState
-with_attention s shows = if shows then with_cause s cause.Attention else s
-
 abbrev pub attend : SubchannelState → DeviceStatus → Option HoldStep → UpStep
-attend s status step = record {
-  state = with_attention (record s { hold = hold_after s.hold step }) ((came_of step).taken && not (status.0 == 0x20));
-  came = came_of step;
-}
+attend s status step =
+    let next = record s { hold = hold_after s.hold step } in
+    record { state = if (came_of step).taken && not (status.0 == 0x20) then with_cause next cause.Attention else next; came = came_of step }
 
 -- what a subchannel does with a signal; returns: a program that is away may come back by the path
 abbrev pub takes_up : Bool → Contents → SubchannelState → ℕ → Up → Met

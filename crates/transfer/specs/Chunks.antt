@@ -94,10 +94,6 @@ abbrev pub brought : Contents → Transfer → ℕ → List ℕ → Brought
 brought storage t s bytes =
     if s == t.sequence + 1 then brought_in storage (record t { sequence = s }) (fitting t bytes) else brings_none storage t
 
--- a Data is of this command, and its chunk the last one or the next
-abbrev pub is_current : Transfer → ℕ → ℕ → Bool
-is_current t n s = (n == t.command) && ((s == t.sequence) || (s == t.sequence + 1))
-
--- it asks for bytes, or brings them
+-- a Data is of this command, and its chunk the last one or the next; it asks for bytes, or brings them
 abbrev pub is_answered : Transfer → ℕ → ℕ → Bool
-is_answered t n s = is_current t n s && (is_outward t.code || not (s == 0))
+is_answered t n s = ((n == t.command) && ((s == t.sequence) || (s == t.sequence + 1))) && (is_outward t.code || not (s == 0))

@@ -1,5 +1,5 @@
 use Rattle.std.proofs.Common.{◌∙◌, ap}
-use Rattle.channel_program.specs.Walks.{acts_at}
+use Rattle.channel_program.proofs.Named.{acts_at}
 use Rattle.channel_program.proofs.Advances.{follows, advance_stands, rests}
 use Rattle.channel_program.proofs.law.advances.Goals as goal
 
