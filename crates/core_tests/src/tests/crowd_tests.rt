@@ -34,6 +34,33 @@ const WORKERS: u32 = 4;
 
 const UNITS_EACH: u32 = 16;
 
+/// How many hands there are: of the CPUs, of the workers of all channel paths and of all units.
+const HANDS: u64 = 24;
+
+/// What all hands did.
+#[derive(Drop)]
+pub struct Done {
+    /// How many entries were answered.
+    entries: AtomicU64,
+    /// How many hands had one answered.
+    hands: AtomicU64,
+}
+
+impl Done {
+    /// Nothing.
+    fn new() -> Self {
+        Done {
+            entries: AtomicU64::new(0),
+            hands: AtomicU64::new(0),
+        }
+    }
+
+    /// Whether there are entries enough, and each hand has one.
+    fn is_enough(&self) -> bool {
+        self.entries.load(Ordering::SeqCst) >= ENTRIES && self.hands.load(Ordering::SeqCst) >= HANDS
+    }
+}
+
 impl<J: Naming> Hand<J> {
     /// What it does in a round: how many entries were answered.
     fn round<R: Wait>(&mut self, rt: &R, machine: &Machine<J, Rotating>, round: u64) -> u64 {
@@ -49,26 +76,29 @@ impl<J: Naming> Hand<J> {
         }
     }
 
-    /// A round, whose entries are counted.
+    /// A round, whose entries are counted, and so is the hand as its first entry is answered.
     fn counted<R: Wait>(
         &mut self,
         rt: &R,
         machine: &Machine<J, Rotating>,
         round: u64,
-        entries: &AtomicU64,
+        done: &Done,
     ) {
         let more = self.round(rt, machine, round);
+        if self.answered == 0 && more > 0 {
+            done.hands.fetch_add(1, Ordering::SeqCst);
+        }
         self.answered = self.answered.saturating_add(more);
-        entries.fetch_add(more, Ordering::SeqCst);
+        done.entries.fetch_add(more, Ordering::SeqCst);
     }
 
-    /// Works until there are entries enough.
-    fn works<R: Wait>(&mut self, rt: &R, machine: &Machine<J, Rotating>, entries: &AtomicU64) {
+    /// Works until there are entries enough, and each hand has one: which thread comes to run is nobody's promise.
+    fn works<R: Wait>(&mut self, rt: &R, machine: &Machine<J, Rotating>, done: &Done) {
         for round in 0..ROUNDS {
-            if entries.load(Ordering::SeqCst) >= ENTRIES {
+            if done.is_enough() {
                 return;
             }
-            self.counted(rt, machine, round, entries);
+            self.counted(rt, machine, round, done);
         }
     }
 }
@@ -141,13 +171,13 @@ pub fn crowds<J: Naming + Send + Sync, R: Threads + Wait + Sync>(
         return false;
     };
     let machine = Machine::new(core);
-    let entries = AtomicU64::new(0);
+    let done = Done::new();
     let worked = thread::map_vec(
         rt,
         hands,
         &|hand: Hand<J>| {
             let mut hand = hand;
-            hand.works(rt, &machine, &entries);
+            hand.works(rt, &machine, &done);
             hand
         },
     );
