@@ -33,6 +33,35 @@ impl Model for Hold {
     ghost inverse = { λ s. record { state = s } };
 }
 
+/// A hold takes a signal where it stands, as `Hold::take_to` has it.
+pub fn take_at(
+    hold: &mut HoldState,
+    path: Path,
+    signal: &UpPlace,
+    may: bool,
+    sent: &mut SentDown,
+) -> bool
+    ensures state { hold.new ≡ table.hold_after hold.old (table.hold_takes hold.old path (up_at signal.now) may) }
+    ensures came { came_so result sent.new ≡ table.came_of (table.hold_takes hold.old path (up_at signal.now) may) }
+{
+    rows::takes(hold, path, signal, may, sent)
+}
+
+/// A hold lets the device go where it stands, as `Hold::let_go_to` has it.
+pub fn let_go_at(hold: &mut HoldState, sent: &mut SentDown)
+    ensures state { hold.new ≡ table.hold_after hold.old (table.letting_go hold.old hold.old.phase) }
+    ensures sent { sent.new ≡ (table.came_of (table.letting_go hold.old hold.old.phase)).sent }
+{
+    let phase = hold.phase;
+    match phase {
+        HoldPhase::On { number, path, .. } => {
+            hold.phase = HoldPhase::Letting { number, path };
+            sent.put(path, KeptDown::Release { number });
+        }
+        _ => sent.clear(),
+    }
+}
+
 impl Hold {
     /// Nothing holds the device.
     pub fn new() -> Self

@@ -8,7 +8,7 @@ ghost use Rattle.subchannel_model.specs.Taking as spec;
 ghost use Rattle.subchannel.specs.Stepping.{not_taken, subchannel_stepped, taken_with};
 
 use chan_model::names::Path;
-use hold::Hold;
+use hold::{let_go_at, take_at};
 use kept_events::signals::KeptDown;
 use signal_places::sent::SentDown;
 use signal_places::signals::UpPlace;
@@ -39,9 +39,7 @@ pub(crate) fn send(sent: &mut SentDown, path: Path, signal: KeptDown) -> bool
 pub(crate) fn let_go(state: &mut SubchannelState, sent: &mut SentDown) -> bool
     ensures { subchannel_stepped state.new (came_so result sent.new) ≡ spec.let_go state.old }
 {
-    let mut hold = Hold::of(state.hold);
-    hold.let_go_to(sent);
-    state.hold = hold.state();
+    let_go_at(&mut state.hold, sent);
     true
 }
 
@@ -55,8 +53,5 @@ pub(crate) fn by_hold(
 ) -> bool
     ensures { subchannel_stepped state.new (came_so result sent.new) ≡ spec.by_hold state.old (hold_takes state.old.hold path (up_at signal.now) may) }
 {
-    let mut hold = Hold::of(state.hold);
-    let taken = hold.take_to(path, signal, may, sent);
-    state.hold = hold.state();
-    taken
+    take_at(&mut state.hold, path, signal, may, sent)
 }
