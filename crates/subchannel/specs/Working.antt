@@ -18,7 +18,7 @@ use Rattle.subchannel_model.specs.declared.signals.EndSignal.{EndSignal}
 use Rattle.subchannel_model.specs.declared.state.ActiveProgram.{ActiveProgram}
 use Rattle.subchannel_model.specs.declared.state.SubchannelState.{SubchannelState}
 use Rattle.subchannel_model.specs.declared.state.UpStep.{UpStep}
-use Rattle.subchannel_model.specs.Taking.{Met, meets, ignoring, interrupted, dedicated_by_data, take_data, move_bytes, command_ended, end_command}
+use Rattle.subchannel_model.specs.Taking.{Met, meets, giving, ignoring, interrupted, dedicated_by_data, take_data, move_bytes, command_ended, end_command}
 use Rattle.subchannel_model.specs.Ends.{chains_command}
 
 -- a Data that the program at work takes, and the program
@@ -64,6 +64,9 @@ data_taken storage s load (Some signal) = take_data storage s signal load
 -- the chunk that is given next, and the room that is told, with their signals
 abbrev pub given : Contents → ActiveProgram → DataSignal → ℕ → NextChunk
 given storage b signal count = next_given storage (taken_by_device storage b.transfer signal.sequence count)
+
+abbrev pub give_next : Contents → SubchannelState → ActiveProgram → DataSignal → ℕ → UpStep
+give_next storage s b signal count = giving s b signal (given storage b signal count)
 
 abbrev pub give_of : DataSignal → NextChunk → Option (OnPath Down)
 give_of signal chunk = Some (record {

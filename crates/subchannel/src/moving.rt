@@ -186,7 +186,7 @@ fn give_bytes(
     requires sequence { moved.now.sequence < 2 ^ 63 }
     requires below { spec.IsBelow state.old.begun }
     ensures { IfSome state.old.begun (λ b. subchannel_stepped state.new (came_so result sent.new) ≡
-        spec.give_next storage.now state.old b moved.now count) }
+        working_spec.give_next storage.now state.old b moved.now count) }
 {
     if let Some(begun) = &mut state.begun {
         give(storage, begun, moved, count, sent);

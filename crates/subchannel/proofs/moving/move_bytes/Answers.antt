@@ -3,14 +3,14 @@ use Rattle.std.specs.Prelude.{if◌then◌else◌}
 use Rattle.chan_model.specs.UnitReports.{is_outward}
 use Rattle.subchannel_model.specs.declared.state.ActiveProgram.{ActiveProgram}
 use Rattle.subchannel_model.specs.declared.state.UpStep.{UpStep}
-use Rattle.subchannel_model.specs.Taking.{Met, meets, bytes_of_load, give_next, take_in}
+use Rattle.subchannel_model.specs.Taking.{Met, meets, bytes_of_load, take_in}
 use Rattle.storage_keys.specs.Storage.{Contents}
 use Rattle.chan_model.specs.Loads.{load_length}
 use Rattle.chan_model.specs.declared.signal.Load.{Load}
 use Rattle.signal_places.specs.Places.{came_so, up_at}
 use Rattle.transfer.specs.Chunks.{brought}
 use Rattle.subchannel.specs.Stepping.{subchannel_stepped}
-use Rattle.subchannel.specs.Working.{load_of}
+use Rattle.subchannel.specs.Working.{give_next, load_of}
 use Rattle.subchannel.proofs.moving.move_bytes.Goals as goal
 
 chosen-first : (b : Bool) (x y : Met) → b ≡ true → x ≡ (if b then x else y)
