@@ -2,14 +2,13 @@
 use Rattle.std.proofs.Common.{◌≡◌, refl, sym, ℕ, ◌==◌, Bool, true, false, if◌then◌else◌, List, Result, Ok, Err}
 use Rattle.zbits.specs.Bits.{field_of}
 use Rattle.storage_keys.specs.declared.StorageFault.{StorageFault}
-use Rattle.storage_keys.specs.Storage.{operand_check, operand_stored}
-use Rattle.zbits.specs.Words.{bytes_of_words}
+use Rattle.storage_keys.specs.Storage.{operand_check}
 use Rattle.chan_model.specs.declared.fault.Fault.TheVariants as fault
 use Rattle.chan_events.specs.declared.event.OtherInstruction.{OtherInstruction}
 use Rattle.chan_events.specs.declared.event.OtherInstruction.TheVariants as other
 use Rattle.interruptions.specs.Requests as requests
 use Rattle.machine_model.specs.State.{State}
-use Rattle.machine_model.specs.Turns.{Turn, Outcome}
+use Rattle.machine_model.specs.Turns.{Turn}
 use Rattle.machine_model.specs.OtherSteps.{where_stored, code_check, engaged_bytes, engaged_chpids, other_at}
 use Rattle.machine_model.specs.OtherTurns.{lent_whole, tpi_done, stcrw_done, rchp_of, stcps_done, tpi_lent, stcrw_lent, rchp_lent, stcps_lent, other_done, turned_at}
 

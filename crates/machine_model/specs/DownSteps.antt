@@ -13,7 +13,6 @@ use Rattle.wires.specs.Queues.{queue, taken}
 use Rattle.subchannel_model.specs.declared.state.Subchannel.{Subchannel}
 use Rattle.machine_model.specs.State.{State}
 use Rattle.control_units.specs.declared.Member.{Member}
-use Rattle.chan_model.specs.declared.names.Side.{Side}
 use Rattle.machine_model.specs.Sharing.{is_asked_for, may_take, members_after, owing_after}
 use Rattle.machine_model.specs.Turns.{Outcome, DownTurn, SharedTurn, at_unit}
 use Rattle.subchannel_model.specs.Places.{Found}

@@ -16,7 +16,6 @@ use Rattle.chan_events.specs.declared.event.Instruction.{Instruction}
 use Rattle.chan_events.specs.declared.event.Instruction.TheVariants as instruction
 use Rattle.chan_model.specs.declared.answer.ConditionCode.{ConditionCode}
 use Rattle.chan_model.specs.declared.answer.ConditionCode.TheVariants as code
-use Rattle.chan_model.specs.declared.answer.Answer.{Answer}
 use Rattle.chan_events.specs.declared.reply.Reply.TheVariants as reply
 use Rattle.subchannel_model.specs.Start.{ssch_code, started}
 use Rattle.subchannel_model.specs.Test.{tsch_code, tested_wholly, irb_of}
@@ -33,8 +32,6 @@ use Rattle.subchannel_model.specs.declared.state.SubchannelState.{SubchannelStat
 use Rattle.subchannel_model.specs.declared.state.Subchannel.{Subchannel}
 use Rattle.machine_model.specs.State.{State}
 use Rattle.subchannel_model.specs.declared.status.Condition.{Condition}
-use Rattle.scsw_irb.specs.declared.scsw.Scsw.{Scsw}
-use Rattle.chan_events.specs.declared.reply.Reply.{Reply}
 use Rattle.subchannel_model.specs.Places.{Found, place_in, found_at}
 use Rattle.subchannel_model.specs.Conditions.{condition_of, left_by}
 use Rattle.subchannel_model.specs.Enable.{enabling, enabling_schib, enabling_word}

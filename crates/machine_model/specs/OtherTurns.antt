@@ -1,28 +1,21 @@
 -- What an instruction that names no subchannel is lent, what it answers and leaves of that, and the same as a turn of the whole.
-use Rattle.std.specs.Prelude.{ℕ, ◌+◌, ◌*◌, ◌==◌, Bool, false, if◌then◌else◌, List, [], ◌∷◌, map, slice_index_or, take, Option, None, Some, Result, Ok, Err}
-use Rattle.std.specs.List.{range_with_len}
+use Rattle.std.specs.Prelude.{ℕ, ◌==◌, Bool, if◌then◌else◌, List, [], ◌∷◌, Option, Result, Ok, Err}
 use Rattle.zbits.specs.Bits.{field_of}
-use Rattle.zbits.specs.Layout.{word_of}
 use Rattle.zbits.specs.Words.{bytes_of_words}
 use Rattle.scsw_irb.specs.declared.code.IntCode.{IntCode}
 use Rattle.scsw_irb.specs.declared.crw.Crw.{Crw}
-use Rattle.scsw_irb.specs.CodeTable.{code_tables}
 use Rattle.chan_events.specs.ReportWords.{report_word}
-use Rattle.storage_keys.specs.declared.StorageFault.{StorageFault}
 use Rattle.storage_keys.specs.Storage.{Contents, operand_check, operand_stored}
 use Rattle.chan_model.specs.declared.fault.Fault.{Fault}
 use Rattle.chan_model.specs.declared.fault.Fault.TheVariants as fault
 use Rattle.chan_model.specs.declared.answer.ConditionCode.{ConditionCode}
 use Rattle.chan_model.specs.ConditionCodes.{rchp_code}
-use Rattle.chan_model.specs.PathSets.{mask_of_paths}
 use Rattle.interruptions.specs.Requests as requests
 use Rattle.channel_reports.specs.Queue as reports
 use Rattle.chan_events.specs.declared.event.OtherInstruction.{OtherInstruction}
 use Rattle.chan_events.specs.declared.event.OtherInstruction.TheVariants as other
 use Rattle.chan_events.specs.declared.reply.Reply.{Reply}
 use Rattle.chan_events.specs.declared.reply.Reply.TheVariants as reply
-use Rattle.subchannel_model.specs.declared.state.Subchannel.{Subchannel}
-use Rattle.subchannel_model.specs.Choosing.{any_engages}
 use Rattle.machine_model.specs.State.{State}
 use Rattle.machine_model.specs.Turns.{Outcome, does}
 use Rattle.machine_model.specs.OtherSteps.{where_stored, code_check, code_stored, is_up, engaged_bytes, engaged_chpids}

@@ -1,8 +1,7 @@
 -- The steps in which a channel path goes down, comes up or is reset, and in which the channel subsystem is reset (SA22-7832, chapter
 -- 17; what each does to a subchannel is this project's own choice).
-use Rattle.std.specs.Prelude.{ℕ, Bool, true, false, not, if◌then◌else◌, map, slice_set, Err}
+use Rattle.std.specs.Prelude.{ℕ, Bool, true, false, if◌then◌else◌, map, slice_set, Err}
 use Rattle.chan_model.specs.declared.fault.Fault.TheVariants as fault
-use Rattle.chan_events.specs.declared.reply.Reply.TheVariants as reply
 use Rattle.channel_config.specs.Setup.{has_number}
 use Rattle.channel_reports.specs.Queue as reports
 use Rattle.interruptions.specs.Requests as requests
@@ -12,8 +11,7 @@ use Rattle.subchannel_model.specs.SystemReset.{reset_by_system}
 use Rattle.machine_model.specs.declared.state.Sweep.{Sweep}
 use Rattle.machine_model.specs.declared.state.Sweep.TheVariants as sweep
 use Rattle.machine_model.specs.State.{State}
-use Rattle.machine_model.specs.Turns.{Outcome, does}
-use Rattle.machine_model.specs.OtherSteps.{is_up}
+use Rattle.machine_model.specs.Turns.{Outcome}
 
 -- what befalls each subchannel, in the order of their configuration (own)
 abbrev pub swept : Sweep → Subchannel → Subchannel

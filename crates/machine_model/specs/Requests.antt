@@ -4,7 +4,7 @@ use Rattle.std.proofs.lemmas.Nat.{mod_below}
 use Rattle.std.specs.Prelude.{◌%◌, Bool, true, false, nat_lt, if◌then◌else◌, Option, None, Some, List, [], ◌∷◌, Ok, Err}
 use Rattle.scsw_irb.specs.declared.code.IntCode.{IntCode}
 use Rattle.chan_model.specs.declared.answer.ConditionCode.{ConditionCode}
-use Rattle.chan_model.specs.declared.answer.ConditionCode.TheVariants.{Zero, One, Two, Three}
+use Rattle.chan_model.specs.declared.answer.ConditionCode.TheVariants.{Zero, One}
 use Rattle.chan_model.specs.ConditionCodes.{code_of, tpi_code, stcrw_code}
 use Rattle.chan_events.specs.declared.event.Event.{Event}
 use Rattle.chan_events.specs.declared.event.Event.TheVariants as event
@@ -15,7 +15,7 @@ use Rattle.chan_events.specs.declared.reply.Reply.TheVariants as reply
 use Rattle.interruptions.specs.Requests as requests
 use Rattle.subchannel_model.specs.declared.state.Subchannel.{Subchannel}
 use Rattle.machine_model.specs.State.{State, sub_of}
-use Rattle.machine_model.specs.Turns.{Turn, Outcome}
+use Rattle.machine_model.specs.Turns.{Outcome}
 use Rattle.machine_model.specs.InstructionSteps.{subchannel_word}
 
 -- the condition code that an instruction with this reply set; STORE CHANNEL PATH STATUS sets none

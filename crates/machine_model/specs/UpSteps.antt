@@ -12,7 +12,7 @@ use Rattle.wires.specs.Queues.{queue, taken}
 use Rattle.subchannel_model.specs.declared.state.Subchannel.{Subchannel}
 use Rattle.machine_model.specs.State.{State}
 use Rattle.subchannel_model.specs.declared.state.UpStep.{UpStep}
-use Rattle.subchannel_model.specs.Taking.{Met, takes_up}
+use Rattle.subchannel_model.specs.Taking.{takes_up}
 use Rattle.machine_model.specs.Turns.{Outcome, UpTurn, at_storage}
 use Rattle.subchannel_model.specs.Places.{Found}
 use Rattle.subchannel_model.specs.Sending.{carried_by, finds_full, with_any_sent}

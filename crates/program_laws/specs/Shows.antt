@@ -1,5 +1,5 @@
 -- The count that the status word shows (SA22-7832, chapter 16).
-use Rattle.std.specs.Prelude.{◌≡◌, ◌&&◌, ◌||◌, ℕ, ◌+◌, ◌<◌, Bool, true, false, is_none, is_some, Option, None, Some, length}
+use Rattle.std.specs.Prelude.{◌≡◌, ◌&&◌, ◌||◌, ◌+◌, ◌<◌, Bool, true, false, is_none, is_some, Option, None, Some, length}
 use Rattle.subchannel_model.specs.declared.state.SubchannelState.{SubchannelState}
 use Rattle.program_laws.specs.DataAreas.{data_areas, counts}
 use Rattle.program_laws.specs.Traces.{ProgramTrace}
