@@ -1,7 +1,7 @@
 //! Status: what makes it pending at a subchannel, and what TEST SUBCHANNEL leaves of it (SA22-7832, chapters 14 and 16).
 #![tactic(auto)]
 
-ghost use Rattle.std.specs.Prelude.{◌≡◌, ◌<◌, ◌^◌, IfSome, Some};
+ghost use Rattle.std.specs.Prelude.{◌≡◌, ◌<◌, ◌^◌, IfNone, IfSome, Some};
 ghost use Rattle.subchannel_model.specs.Test as test_spec;
 ghost use Rattle.subchannel_model.specs.Status as status_spec;
 ghost use Rattle.subchannel_model.specs.Causes as cause_spec;
@@ -32,11 +32,15 @@ pub fn make_pending(state: &mut SubchannelState, cause: &StatusCause)
 }
 
 /// Makes the status of an End of the program at work pending, as `make_pending` does it, without a copy of the program.
+/// Where no program is at work nothing changes.
 pub fn make_end_pending(state: &mut SubchannelState, status: DeviceStatus, more: bool)
     requires { state.old.serials.made < 2 ^ 63 }
-    ensures { IfSome state.old.begun (λ b. state.new ≡ cause_spec.with_cause state.old (ends_spec.End b status more)) }
+    ensures program { IfSome state.old.begun (λ b. state.new ≡ cause_spec.with_cause state.old (ends_spec.End b status more)) }
+    ensures none { IfNone state.old.begun (state.new ≡ state.old) }
 {
-    causes::join_end(state, status, more);
+    if state.begun.is_some() {
+        causes::join_end(state, status, more);
+    }
 }
 
 /// TEST SUBCHANNEL: the status word that is stored is the one before.
