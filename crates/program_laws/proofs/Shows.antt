@@ -27,12 +27,13 @@ use Rattle.subchannel_model.specs.declared.state.SubchannelState.{SubchannelStat
 use Rattle.subchannel_model.specs.declared.status.Shown.{Shown}
 use Rattle.subchannel_model.specs.declared.cause.StatusCause.TheVariants as cause
 use Rattle.subchannel_model.specs.Status.{no_device_status, no_subchannel_status, with_joined, scsw_made, serials_made}
-use Rattle.subchannel_model.specs.Ends.{has_status_modifier, chains_command, channel_end_shown, last_shown, end_shown}
+use Rattle.subchannel_model.specs.Ends.{has_status_modifier, chains_command, last_shown, end_shown}
+use Rattle.subchannel_model.specs.Parts.{channel_end_shown, scsw_joined, standing_still, suspended_alone}
 use Rattle.subchannel_model.proofs.Named.{with_row}
-use Rattle.subchannel_model.specs.Causes.{scsw_joined, without_begun, fetch_fault_shown, pci_shown, suspension_shown, with_cause}
+use Rattle.subchannel_model.specs.Causes.{without_begun, fetch_fault_shown, pci_shown, suspension_shown, with_cause}
 use Rattle.subchannel_model.specs.Taking as taking
 use Rattle.subchannel_model.proofs.Named as pieces
-use Rattle.subchannel_model.specs.Taking.{bytes_of_load, let_go, with_end, without_pci, standing_still, suspended_alone}
+use Rattle.subchannel_model.specs.Taking.{bytes_of_load, let_go, with_end, without_pci}
 use Rattle.program_laws.proofs.MachineActs.{with_acts, next_acts}
 use Rattle.program_laws.specs.DataAreas.{data_areas, counts}
 use Rattle.program_laws.proofs.Named.{IsRest}
@@ -126,7 +127,7 @@ suspended-shows s program walk count k false r =
 
 pub fault-shows : (s : SubchannelState) (b : Option ActiveProgram) (tried : ℕ) (check : Check) (count : ℕ) (k : ProgramTrace) → IsRest count k →
     ShowsRest s.serials.made
-    (let_go (with_row s (record { shown = fetch_fault_shown tried check count; left = without_begun b s; joins = s.scsw }))).state k
+    (let_go (with_row s (record { shown = fetch_fault_shown tried check count; left = without_begun b s }) s.scsw)).state k
 fault-shows s None tried check count k r =
     λ l. counted _ count k (status-count s.pmcw.enabled (scsw_joined s.pmcw.enabled s.scsw s.scsw) s.serials (fetch_fault_shown tried check count) l) r
 fault-shows s (Some b) tried check count k r =
