@@ -1,5 +1,5 @@
 -- Entries over an arena that grows.
-use Rattle.std.proofs.Common.{◌≡◌, ◌≤◌, ◌<◌, ℕ, ◌+◌, ◌∙◌, sym, ap, ap₂, List, [], ◌∷◌, ◌++◌, arith, length, take, drop, get_or, length-append, length-drop}
+use Rattle.std.proofs.Common.{◌≡◌, ◌≤◌, ◌<◌, ℕ, ◌+◌, ◌∙◌, sym, subst, ap, ap₂, List, [], ◌∷◌, ◌++◌, arith, length, take, drop, get_or, length-append, length-drop}
 use Rattle.std.proofs.Math.Seq.{drop-append_seam, take-length}
 use Rattle.std.proofs.lemmas.List.{same_lists, take-append-le, drop-append-le, append-nil, get_or-map, length-map, map_push}
 use Rattle.std.proofs.lemmas.List.Elements.{All-push}
@@ -9,6 +9,7 @@ use Rattle.kept_events.specs.declared.events.KeptEvent.TheVariants as kept_event
 use Rattle.kept_events.specs.declared.replies.KeptReply.TheVariants as kept_reply
 use Rattle.kept_events.specs.Entries.{entry_in, entry_length}
 use Rattle.event_log.specs.Logs.{entry_at, entries_at, Fits, AllFit}
+use Rattle.event_log.proofs.MetEntries.{IsKept}
 
 -- a piece that lies in an arena is the same in a longer one
 cut-append : (arena more : List ℕ) (start count : ℕ) → start + count ≤ length arena →
@@ -56,3 +57,17 @@ fit-added arena bytes ks k fit is =
 -- the bytes of an entry, as they are where nothing follows
 pub whole-bytes : (k : KeptEntry) (bytes : List ℕ) (e : Entry) → ((rest : List ℕ) → entry_in k (bytes ++ rest) ≡ e) → entry_in k bytes ≡ e
 whole-bytes k bytes e kept = ap (entry_in k) (sym (append-nil bytes)) ∙ kept []
+
+-- entries and their bytes, grown by one entry
+pub record Grown (arena : List ℕ) (ks : List KeptEntry) (after : List ℕ) (later : List KeptEntry) (e : Entry) : Type 0 where
+  pub fit : AllFit after later
+  pub same : entries_at after later ≡ entries_at arena ks ++ e ∷ []
+
+pub grown : (arena more after : List ℕ) (ks later : List KeptEntry) (k : KeptEntry) (e : Entry) → after ≡ arena ++ more → later ≡ ks ++ k ∷ [] →
+    AllFit arena ks → k.start ≡ length arena → IsKept k more e → Grown arena ks after later e
+grown arena more after ks later k e is grew fit start kept =
+    let added : IsAdded arena more k = record { start = start; long = kept.long } in
+    record {
+      fit = subst (λ (x : List KeptEntry). AllFit after x) (sym grew) (subst (λ (a : List ℕ). AllFit a (ks ++ k ∷ [])) (sym is) (fit-added arena more ks k fit added));
+      same = ap₂ entries_at is grew ∙ (entries-added arena more ks k fit added ∙ ap (λ (x : Entry). entries_at arena ks ++ x ∷ []) kept.same);
+    }

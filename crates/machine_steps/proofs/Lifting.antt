@@ -223,7 +223,7 @@ up-by subs storage sub path may h =
 some_inj : {A : Type 0} (x y : A) → Some x ≡ Some y → x ≡ y
 some_inj x y e = cc
 
-one_there : (subs : List Subchannel) (place : ℕ) (x y : Subchannel) → x ≡ slice_index_or subs place x → StandsAt subs place y → x ≡ y
+pub one_there : (subs : List Subchannel) (place : ℕ) (x y : Subchannel) → x ≡ slice_index_or subs place x → StandsAt subs place y → x ≡ y
 one_there subs place x y there stands = some_inj x y (sym (at_place subs place x x stands.within there) ∙ gets subs place y stands)
 
 pub up-performs : (s : State) (word path place : ℕ) (looked sub new : Subchannel) (after : Contents) (may : Bool) (r : Result Reply Fault) (waiting : WaitingRequests) →
@@ -241,6 +241,15 @@ up-performs s word path place looked sub new after may r waiting at stands there
     (lifted_storage s place sub new after outcome r stands given)
     (waits-at s e r mid place sub new waiting stands refl
     (posts s e r mid sub new waiting (λ x w. refl) refl (kept-storage s.storage after sub new outcome r given) posted))
+
+-- where the subchannel has no path of this index
+pub up-pathless : (s : State) (word path place : ℕ) (sub : Subchannel) → place_of s word ≡ Some place → StandsAt s.subs place sub → nat_lt path (length sub.setup.paths) ≡ false →
+    Performs s (event.Up word path) (Err fault.NoSuchPath) s
+up-pathless s word path place sub at stands e =
+    let front = slice_get (queue sub.wires.up path) 0 in
+    refused s (event.Up word path) fault.NoSuchPath
+    (named s word place sub (λ (f : Option Found). Err fault.NoSuchPath ≡ up_at s f path) at stands
+    (sym (ap (λ (b : Bool). at_storage s place (if b then up_front (returns_at s.subs sub path) s.storage sub path front else Err fault.NoSuchPath)) e)))
 
 -- by the choice of a path among those that may be chosen
 pub chooses : (picks : Rule) (s seen : State) (word place : ℕ) (sub looked new : Subchannel) (paths : List Bool) (choice : Option ℕ) (what : Chosen) (r : Result Reply Fault)

@@ -25,7 +25,7 @@ use crate::path_turns::turn_at;
 use crate::posting::post;
 use crate::sharing::restart;
 use crate::tables::engaged_for;
-use crate::turns::{choose_sub, down_sub, report_sub, returns_at, up_sub};
+use crate::turns::{choose_sub, down_sub, path_of, report_sub, returns_at, up_sub};
 use crate::unit_turns::turn_of_unit;
 use chan_events::event::{Event, Instruction, OtherInstruction, UnitAct};
 use chan_model::chunk::{Chunk, ChunkLength};
@@ -235,15 +235,16 @@ impl Machine {
         &mut self,
         places: &Places,
         cpu: Cpu,
-        instruction: Instruction,
+        instruction: &Instruction,
         answer: &mut AnswerPlace,
     )
         requires fits { Fits places.now self.old.subs }
         requires roomy { All IsRoomy self.old.subs }
         requires postable { All IsPostable self.old.subs }
         requires requests { self.old.requests.numbers ≡ 0x100 }
-        ensures { spec.Performs self.old (event_spec.Execute cpu instruction) (answer_at answer.new) self.new }
+        ensures { spec.Performs self.old (event_spec.Execute cpu instruction.now) (answer_at answer.new) self.new }
     {
+        let instruction = *instruction;
         let Some(id) = subchannel_named(self.sets, word_of(instruction)) else {
             answer.outcome = Outcome::Refused(Fault::Operand);
             return;
@@ -325,6 +326,10 @@ impl Machine {
     {
         let Some(place) = self.place_of(places, word) else {
             answer.outcome = Outcome::Refused(Fault::NoSuchSubchannel);
+            return;
+        };
+        let Some(path) = path_of(&self.subs[place], path) else {
+            answer.outcome = Outcome::Refused(Fault::NoSuchPath);
             return;
         };
         let counted = Counted::of(self.subs.as_slice(), &self.engines);
@@ -437,9 +442,7 @@ impl Machine {
             Event::Down { subchannel, path } => self.down(places, *subchannel, *path, answer),
             Event::Report { unit, report } => self.report(places, *unit, report, answer),
             Event::Choose { subchannel } => self.choose(places, choice, *subchannel, answer),
-            Event::Execute { cpu, instruction } => {
-                self.execute(places, *cpu, *instruction, answer)
-            }
+            Event::Execute { cpu, instruction } => self.execute(places, *cpu, instruction, answer),
             _ => self.perform_other(places, choice, event, answer),
         }
     }
@@ -463,9 +466,7 @@ impl Machine {
         ensures ruled { GoesByRule P.picks self.old event.now (answer_at answer.new) self.new }
     {
         match event {
-            Event::Execute { cpu, instruction } => {
-                self.execute(places, *cpu, *instruction, answer)
-            }
+            Event::Execute { cpu, instruction } => self.execute(places, *cpu, instruction, answer),
             Event::Choose { subchannel } => self.choose(places, choice, *subchannel, answer),
             Event::Up { subchannel, path } => self.up(places, *subchannel, *path, answer),
             Event::Down { subchannel, path } => self.down(places, *subchannel, *path, answer),

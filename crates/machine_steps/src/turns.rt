@@ -1,6 +1,6 @@
 //! What an event does at one subchannel.
 
-ghost use Rattle.std.specs.Prelude.{◌≡◌, ◌<◌, ◌^◌, Bool, Option};
+ghost use Rattle.std.specs.Prelude.{◌≡◌, ◌<◌, ◌^◌, Bool, Option, Some, false, length, nat_lt, true};
 ghost use Rattle.machine_steps.specs.Giving as giving_spec;
 ghost use Rattle.machine_model.specs.ChooseSteps as choose_spec;
 ghost use Rattle.subchannel_model.specs.Sending as sending_spec;
@@ -8,6 +8,10 @@ ghost use Rattle.machine_model.specs.UpSteps as up_spec;
 ghost use Rattle.machine_model.specs.DownSteps as down_spec;
 ghost use Rattle.machine_model.specs.ReportSteps as report_spec;
 ghost use Rattle.machine_model.specs.Turns as turn_spec;
+ghost use Rattle.subchannel.specs.Answering as answering_spec;
+ghost use Rattle.chan_model.specs.declared.signal.Down.{Down};
+ghost use Rattle.chan_model.specs.declared.signal.OnPath.{OnPath};
+ghost use Rattle.std.specs.Bool.{OnFalse};
 ghost use Rattle.subchannel_model.specs.Choosing as choosing_spec;
 ghost use Rattle.subchannel_model.specs.Taking.{IsBelow, takes_up};
 ghost use Rattle.subchannel_model.specs.declared.state.Chosen.TheVariants as chosen_spec;
@@ -36,7 +40,7 @@ use signal_places::sent::SentDown;
 use signal_places::signals::{DownPlace, UpPlace};
 use status::make_pending;
 use storage_keys::Storage;
-use subchannel::answering::answer_path;
+use subchannel::answering::{answer_path, answer_paths, standing_path};
 use subchannel::choosing::{mark_lost_paths, offer, send_halt, send_reset};
 use subchannel::paths::is_granted;
 use subchannel::taking::take_up;
@@ -162,7 +166,26 @@ pub fn choose_sub(
     answer.outcome = Outcome::Replied(reply);
 }
 
-/// Whether what comes of a signal finds its wire full.
+/// Whether the wire down of the program that is offered or connected is full.
+fn standing_finds_full(sub: &Subchannel) -> bool
+    ensures { OnFalse result ((s : OnPath Down) → answering_spec.standing_path sub.now.state.hold.phase ≡ Some s.path →
+        giving_spec.TellsFull sub.now.wires.down (sending_spec.carried_by sub.now (Some s)) false) }
+{
+    match standing_path(&sub.state.hold) {
+        None => false,
+        Some(at) => finds_down_full(sub, at),
+    }
+}
+
+/// Whether an answer to a signal of a path may find its wire full.
+fn answers_may_find_full(sub: &Subchannel, path: Path) -> bool
+    ensures { OnFalse result ((s : OnPath Down) → answering_spec.IsAnswerPath sub.now.state.hold.phase path (Some s.path) →
+        giving_spec.TellsFull sub.now.wires.down (sending_spec.carried_by sub.now (Some s)) false) }
+{
+    finds_down_full(sub, path) || standing_finds_full(sub)
+}
+
+/// Whether what comes of a signal finds its wire full. It is asked where it goes only where a wire that it may go by is full.
 fn up_finds_full(
     storage: &Storage,
     sub: &Subchannel,
@@ -174,6 +197,10 @@ fn up_finds_full(
     ensures { giving_spec.TellsFull sub.now.wires.down (sending_spec.carried_by sub.now
         (takes_up returns storage.now sub.now.state path (up_at signal.now)).step.came.sent) result }
 {
+    answer_paths();
+    if !answers_may_find_full(sub, path) {
+        return false;
+    }
     match answer_path(storage, &sub.state, path, signal, returns) {
         None => false,
         Some(at) => finds_down_full(sub, at),
@@ -192,12 +219,9 @@ pub fn path_of(sub: &Subchannel, path: u32) -> Option<Path>
 }
 
 /// Whether a program may come back by a path, where its Back waits there; no other signal asks.
-pub fn returns_at(subs: &Counted<'_>, sub: &Subchannel, path: u32) -> bool
+pub fn returns_at(subs: &Counted<'_>, sub: &Subchannel, path: Path) -> bool
     ensures { giving_spec.MayReturn subs.now sub.now path result }
 {
-    let Some(path) = path_of(sub, path) else {
-        return false;
-    };
     match sub.wires.front_up(path) {
         Some(
             UpPlace {
@@ -209,24 +233,21 @@ pub fn returns_at(subs: &Counted<'_>, sub: &Subchannel, path: u32) -> bool
     }
 }
 
-/// The subchannel takes the signal that waits longest on the wire up of a path, once it is known that what comes of it
-/// finds room. `returns`: a program that is away may come back by the path.
+/// The subchannel takes the signal that waits longest on the wire up of a path that it has, once it is known that what comes
+/// of it finds room. `returns`: a program that is away may come back by the path.
 pub fn up_sub(
     storage: &mut Storage,
     sub: &mut Subchannel,
-    path: u32,
+    path: Path,
     returns: bool,
     answer: &mut AnswerPlace,
 )
-    requires { IsRoomy sub.old }
+    requires roomy { IsRoomy sub.old }
+    requires inside { nat_lt path (length sub.old.setup.paths) ≡ true }
     ensures setup { sub.new.setup ≡ sub.old.setup }
     ensures gives { giving_spec.GivesStorage storage.old sub.old (up_spec.up_sub returns storage.old sub.old path)
         (answer_at answer.new) storage.new sub.new }
 {
-    let Some(path) = path_of(sub, path) else {
-        answer.outcome = Outcome::Refused(Fault::NoSuchPath);
-        return;
-    };
     let Some(front) = sub.wires.front_up(path) else {
         answer.outcome = Outcome::Refused(Fault::NotSent);
         return;

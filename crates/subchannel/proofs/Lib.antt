@@ -1,3 +1,4 @@
+pub mod AnswerPaths
 mod PathIndices
 mod Returned
 pub mod Answered

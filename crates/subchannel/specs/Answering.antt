@@ -1,5 +1,5 @@
 -- The path by which a subchannel answers a signal, if it does.
-use Rattle.std.specs.Prelude.{ℕ, Bool, ◌==◌, ◌&&◌, nat_lt, if◌then◌else◌, Option, None, Some}
+use Rattle.std.specs.Prelude.{ℕ, ◌≡◌, ◌⊎◌, Bool, ◌==◌, ◌&&◌, nat_lt, if◌then◌else◌, Option, None, Some}
 use Rattle.storage_keys.specs.Storage.{Contents}
 use Rattle.chan_model.specs.declared.hold_state.HoldPhase.{HoldPhase}
 use Rattle.chan_model.specs.declared.hold_state.HoldPhase.TheVariants as hold
@@ -76,3 +76,14 @@ answer_path storage s p (up.End t n status more) = end_path storage s (ended_by 
 answer_path storage s p (up.Back t c) = back_path s.hold.seen s.hold.phase p t c
 answer_path storage s p (up.Attn a status) = attention_path s.hold.phase p (may_attend s)
 answer_path storage s p signal = None
+
+-- the path of the program that is offered or connected
+abbrev pub standing_path : HoldPhase → Option ℕ
+standing_path (hold.Offer t p) = Some p
+standing_path (hold.On t p c) = Some p
+standing_path phase = None
+
+-- an answer goes by the path of its signal, or by that of the program that is offered or connected
+abbrev pub IsAnswerPath : HoldPhase → ℕ → Option ℕ → Type 0
+IsAnswerPath phase p None = Unit {0}
+IsAnswerPath phase p (Some q) = (q ≡ p) ⊎ (standing_path phase ≡ Some q)

@@ -8,9 +8,10 @@ ghost use Rattle.subchannel_model.specs.Taking as spec;
 ghost use Rattle.subchannel_model.specs.Parts as parts;
 ghost use Rattle.subchannel_model.specs.declared.cause.StatusCause.TheVariants as cause;
 ghost use Rattle.subchannel.specs.Stepping.{subchannel_stepped};
+ghost use Rattle.kept_events.specs.declared.signals.KeptDown.TheVariants as kept_down;
 ghost use Rattle.transfer.specs.Commands as transfer_spec;
 
-use crate::answers::{ignored, let_go, quiet, send};
+use crate::answers::{ignored, let_go, quiet};
 use crate::intermediate::{interrupt, suspend};
 use ccw_walk::Walk;
 use chan_model::hold_state::HoldPhase;
@@ -119,12 +120,28 @@ fn take_over(state: &mut SubchannelState, program: Program, transfer: Transfer)
 {
     work(&mut state.scsw);
     state.waiting = None;
-    state.suspended = None;
+    if state.suspended.is_some() {
+        state.suspended = None;
+    }
     state.begun = Some(ActiveProgram {
         program,
         primary_shown: false,
         transfer,
     });
+}
+
+/// The room for the first bytes of a program's first command is found, and its device is told of both.
+fn tell_first(storage: &Storage, begun: &mut ActiveProgram, number: u64) -> KeptDown
+    ensures begun { begun.new ≡ record begun.old { transfer = (transfer_spec.begun_with_room storage.now begun.old.transfer).transfer } }
+    ensures signal { result ≡ kept_down.Command begun.new.transfer.code (transfer_spec.begun_with_room storage.now begun.old.transfer).room number begun.new.transfer.command }
+{
+    let room = room_to_tell(storage, &mut begun.transfer);
+    KeptDown::Command {
+        code: begun.transfer.code,
+        room,
+        number,
+        command: begun.transfer.command,
+    }
 }
 
 /// The program takes the device with its first command, of which the device is told.
@@ -140,17 +157,13 @@ fn send_first(
     requires { state.old.serials.made < 2 ^ 63 }
     ensures { subchannel_stepped state.new (came_so result sent.new) ≡ parts.sends_first state.old path number program (transfer_spec.begun_with_room storage.now first) }
 {
-    let mut transfer = first;
-    let room = room_to_tell(storage, &mut transfer);
-    let signal = KeptDown::Command {
-        code: transfer.code,
-        room,
-        number,
-        command: transfer.command,
-    };
-    take_over(state, program, transfer);
+    take_over(state, program, first);
+    if let Some(begun) = &mut state.begun {
+        let signal = tell_first(storage, begun, number);
+        sent.put(path, signal);
+    }
     interrupt(state);
-    send(sent, path, signal)
+    true
 }
 
 /// The program is suspended before its first command.

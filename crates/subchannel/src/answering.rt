@@ -1,11 +1,14 @@
 //! Whether a signal is answered, and by which path, before anything is changed.
 
-ghost use Rattle.std.specs.Prelude.{◌≡◌, ◌<◌, ◌^◌, false};
+ghost use Rattle.std.specs.Prelude.{◌≡◌, ◌<◌, ◌^◌, ℕ, Bool, false};
+ghost use Rattle.chan_model.specs.declared.signal.Up.{Up};
 ghost use Rattle.signal_places.specs.Places.{up_at};
 ghost use Rattle.subchannel_model.specs.Taking as taking_spec;
 ghost use Rattle.subchannel_model.specs.Ends as end_spec;
 ghost use Rattle.subchannel.specs.Answering as spec;
 ghost use Rattle.subchannel.specs.Working as working_spec;
+ghost use Rattle.storage_keys.specs.Storage.{Contents};
+ghost use Rattle.subchannel_model.specs.declared.state.SubchannelState.{SubchannelState};
 ghost use Rattle.transfer.specs.Commands as transfer_spec;
 
 use crate::attending::may_attend;
@@ -23,6 +26,24 @@ use subchannel_model::state::{ActiveProgram, SubchannelState};
 use transfer::CommandStart;
 use transfer::chunks::is_answered;
 use transfer::commands::next_command;
+
+/// The path of the program that is offered or connected.
+pub fn standing_path(hold: &HoldState) -> Option<Path>
+    ensures { result ≡ spec.standing_path hold.now.phase }
+{
+    match hold.phase {
+        HoldPhase::Offer { path, .. } | HoldPhase::On { path, .. } => Some(path),
+        _ => None,
+    }
+}
+
+/// An answer goes by the path of its signal, or by that of the program that is offered or connected. A law; the call does
+/// nothing.
+#[tactic(auto, using(crate::proofs::AnswerPaths::answer_goes))]
+pub fn answer_paths()
+    ensures { (returns : Bool) (storage : Contents) (s : SubchannelState) (path : ℕ) (signal : Up) →
+        spec.IsAnswerPath s.hold.phase path (spec.path_of (taking_spec.takes_up returns storage s path signal).step.came.sent) }
+{}
 
 fn held_path(hold: &HoldState) -> Option<Path>
     ensures { result ≡ spec.held_path hold.now.phase }

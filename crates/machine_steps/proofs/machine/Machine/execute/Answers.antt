@@ -12,32 +12,32 @@ use Rattle.machine_steps.proofs.machine.Machine.execute.Goals as goal
 pub returns-in_default : goal.returns-in_default
 returns-in_default c =
     let old = the_view c.self.inside in
-    let named : subchannel_named old.sets (subchannel_word c.args.instruction) ≡ None =
+    let named : subchannel_named old.sets (subchannel_word c.args.instruction.now) ≡ None =
     ap (subchannel_named old.sets) (sym c.word_of.ensures) ∙ (sym c.subchannel_named.ensures.value ∙ c.in_default.is) in
-    rw (← c.self.view_is) (executes-unnamed old c.args.cpu c.args.instruction named)
+    rw (← c.self.view_is) (executes-unnamed old c.args.cpu c.args.instruction.now named)
 
 pub returns-in_default-place_in : goal.returns-in_default-place_in
 returns-in_default-place_in c =
     let old = the_view c.self.inside in
-    let named : subchannel_named old.sets (subchannel_word c.args.instruction) ≡ Some c.in-Some.id =
+    let named : subchannel_named old.sets (subchannel_word c.args.instruction.now) ≡ Some c.in-Some.id =
     ap (subchannel_named old.sets) (sym c.word_of.ensures) ∙ (sym c.subchannel_named.ensures.value ∙ c.in-Some.is) in
     let placed : place_in c.in-Some.id old.subs ≡ None =
     ap (place_in c.in-Some.id) (sym c.as_slice.ensures.value) ∙ (sym c.place_in.ensures.place ∙ c.in_default-place_in.is) in
-    told old c.args.self.now (event.Execute c.args.cpu c.args.instruction) (record old { storage = c.execute_absent-came.new.storage }) c.execute_absent-came.result c.tell.new.self c.tell.ensures c.self.view_is
-    (executes-absent old c.args.cpu c.args.instruction c.in-Some.id c.execute_absent-came.new.storage (plain_outcome c.execute_absent-came.result) named placed c.execute_absent-came.ensures)
+    told old c.args.self.now (event.Execute c.args.cpu c.args.instruction.now) (record old { storage = c.execute_absent-came.new.storage }) c.execute_absent-came.result c.tell.new.self c.tell.ensures c.self.view_is
+    (executes-absent old c.args.cpu c.args.instruction.now c.in-Some.id c.execute_absent-came.new.storage (plain_outcome c.execute_absent-came.result) named placed c.execute_absent-came.ensures)
 
 pub returns : goal.returns
 returns c =
     let old = the_view c.self.inside in
     let subs : c.as_slice.result.now ≡ old.subs = c.as_slice.ensures.value in
-    let named : subchannel_named old.sets (subchannel_word c.args.instruction) ≡ Some c.in-Some.id =
+    let named : subchannel_named old.sets (subchannel_word c.args.instruction.now) ≡ Some c.in-Some.id =
     ap (subchannel_named old.sets) (sym c.word_of.ensures) ∙ (sym c.subchannel_named.ensures.value ∙ c.in-Some.is) in
     let placed : place_in c.in-Some.id old.subs ≡ Some c.in-Some-place_in.place =
     ap (place_in c.in-Some.id) (sym subs) ∙ (sym c.place_in.ensures.place ∙ c.in-Some-place_in.is) in
     let stands = at_seen old.subs c.as_slice.result.now c.in-Some-place_in.place c.index_mut-sub.result.now (sym subs) c.in-Some-place_in.ensures.bound c.index_mut-sub.ensures.value in
-    told old c.args.self.now (event.Execute c.args.cpu c.args.instruction)
+    told old c.args.self.now (event.Execute c.args.cpu c.args.instruction.now)
     (record (with_sub (record old { storage = c.perform_provided-came.new.storage }) c.in-Some-place_in.place c.perform_provided-came.new.sub) { requests = c.post.new.pending }) c.perform_provided-came.result c.tell-2.new.self c.tell-2.ensures c.self.view_is
-    (executes old c.args.cpu c.in-Some-place_in.place c.args.instruction c.in-Some.id c.index_mut-sub.result.now c.perform_provided-came.new.sub c.perform_provided-came.new.storage
+    (executes old c.args.cpu c.in-Some-place_in.place c.args.instruction.now c.in-Some.id c.index_mut-sub.result.now c.perform_provided-came.new.sub c.perform_provided-came.new.storage
     c.perform_provided-came.new.pending c.post.new.pending (plain_outcome c.perform_provided-came.result) named placed stands c.perform_provided-came.ensures.done c.post.ensures)
 
 pub change-requires-clause-some : goal.change-requires-clause-some
