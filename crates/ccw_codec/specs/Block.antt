@@ -2,7 +2,7 @@
 use Rattle.std.proofs.Common.{lit<}
 use Rattle.std.proofs.Math.Nat.{lt_trans}
 use Rattle.std.proofs.lemmas.Nat.{mod_below}
-use Rattle.std.specs.Prelude.{ℕ, ◌/◌, ◌%◌, ◌^◌, ◌<◌, ◌==◌, ◌&&◌, not, Bool, List, [], ◌∷◌, slice_index, Option, Some, None, if◌then◌else◌}
+use Rattle.std.specs.Prelude.{ℕ, ◌+◌, ◌/◌, ◌%◌, ◌^◌, ◌<◌, ◌==◌, ◌&&◌, not, Bool, List, [], ◌∷◌, slice_index, Option, Some, None, if◌then◌else◌}
 use Rattle.zbits.specs.Bits.{field_of, weight}
 use Rattle.zbits.specs.Words.{word_at}
 use Rattle.ccw_codec.specs.declared.Ccw.{Ccw}
@@ -26,39 +26,30 @@ effective_block Zero block =
 abbrev pub flag_of : ℕ → ℕ → Bool
 flag_of word bit = field_of word bit bit == 1
 
+-- a block of this command code and this address, whose flags stand in a word from this bit on, and whose count at its bits 16 to 31
+abbrev pub ccw_with : ℕ → ℕ → ℕ → (address : ℕ) → address < 2 ^ 31 → Ccw
+ccw_with command word bit address fits = record {
+  command = command;
+  chain_data = flag_of word bit;
+  chain_command = flag_of word (bit + 1);
+  suppress_length = flag_of word (bit + 2);
+  skip = flag_of word (bit + 3);
+  program_controlled = flag_of word (bit + 4);
+  indirect = flag_of word (bit + 5);
+  suspend = flag_of word (bit + 6);
+  count = field_of word 16 31;
+  address = address;
+  address_fits = fits;
+}
+
 -- what two words of format 0 are; an address of 24 bits has 31
 abbrev pub ccw_0 : ℕ → ℕ → Ccw
 ccw_0 first second =
-    record {
-      command = field_of first 0 7;
-      chain_data = flag_of second 0;
-      chain_command = flag_of second 1;
-      suppress_length = flag_of second 2;
-      skip = flag_of second 3;
-      program_controlled = flag_of second 4;
-      indirect = flag_of second 5;
-      suspend = flag_of second 6;
-      count = field_of second 16 31;
-      address = field_of first 8 31;
-      address_fits = lt_trans (mod_below (first / weight 31) (2 ^ 24) (lit< tt)) (lit< tt);
-    }
+    ccw_with (field_of first 0 7) second 0 (field_of first 8 31) (lt_trans (mod_below (first / weight 31) (2 ^ 24) (lit< tt)) (lit< tt))
 
 -- what two words of format 1 are
 abbrev pub ccw_1 : ℕ → ℕ → Ccw
-ccw_1 first second =
-    record {
-      command = field_of first 0 7;
-      chain_data = flag_of first 8;
-      chain_command = flag_of first 9;
-      suppress_length = flag_of first 10;
-      skip = flag_of first 11;
-      program_controlled = flag_of first 12;
-      indirect = flag_of first 13;
-      suspend = flag_of first 14;
-      count = field_of first 16 31;
-      address = field_of second 1 31;
-      address_fits = mod_below (second / weight 31) (2 ^ 31) (lit< tt);
-    }
+ccw_1 first second = ccw_with (field_of first 0 7) first 8 (field_of second 1 31) (mod_below (second / weight 31) (2 ^ 31) (lit< tt))
 
 -- what a block is, whether it has a fault or not
 abbrev pub ccw_of : Format → List ℕ → Ccw

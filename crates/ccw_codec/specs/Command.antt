@@ -23,13 +23,9 @@ is_transfer format.One command = command == 8
 
 -- a class of commands that a device is given
 abbrev pub is_of_device : Class → Bool
-is_of_device Write = true
-is_of_device Read = true
-is_of_device Control = true
-is_of_device Sense = true
-is_of_device ReadBackward = true
 is_of_device Transfer = false
 is_of_device Invalid = false
+is_of_device class = true
 
 -- a code that a program may have
 abbrev pub is_valid : Format → ℕ → Bool

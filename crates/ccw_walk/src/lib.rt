@@ -4,7 +4,7 @@
 ghost use Rattle.std.specs.Prelude.{◌≡◌, ◌+◌, ◌<◌, ◌^◌, ◌↔◌, [], ◌∷◌, Some, IsSome, IfOk, IfErr, OnOk};
 ghost use Rattle.channel_program.specs.Acts.{Block, Unfetched, Used_up, End};
 ghost use Rattle.channel_program.specs.Blocks.{reads};
-ghost use Rattle.channel_program.specs.Walks.{walk_place, after_block, after_unfetched, after_used_up, walk_after_end, after_act, after_acts, fetch_act, advance_acts, act_advance, advance_of};
+ghost use Rattle.channel_program.specs.Walks.{walk_place, after_act, after_acts, fetch_act, advance_acts, act_advance, advance_of};
 ghost use Rattle.channel_program.specs.Walks as spec;
 ghost use Rattle.storage_keys.specs.Storage.{fetched as storage_fetched};
 ghost use Rattle.ccw_walk.specs.Going.{GoesOn};
@@ -100,7 +100,7 @@ impl Walk {
         requires next { self.old.next ≡ Some address }
         requires inside { address < 2 ^ 31 }
         ensures reading { result ≡ reads self.old.orb self.old.role bytes.now }
-        ensures after { self.new ≡ after_block self.old address bytes.now }
+        ensures after { self.new ≡ after_act self.old (Block address bytes.now) }
         ensures goes_on { GoesOn self.old (Block address bytes.now ∷ []) self.new }
     {
         let reading = reading(self.orb, self.role, bytes);
@@ -132,7 +132,7 @@ impl Walk {
     /// The next block can't be fetched from its address: the check ends the program.
     pub fn unfetched(&mut self, address: u32, check: Check)
         requires { self.old.next ≡ Some address }
-        ensures after { self.new ≡ after_unfetched self.old address }
+        ensures after { self.new ≡ after_act self.old (Unfetched address check) }
         ensures goes_on { GoesOn self.old (Unfetched address check ∷ []) self.new }
     {
         let _ = check;
@@ -143,7 +143,7 @@ impl Walk {
     /// The count of the last block that took control is used up. Where it chains data, the next
     /// block is 8 bytes on.
     pub fn used_up(&mut self)
-        ensures after { self.new ≡ after_used_up self.old }
+        ensures after { self.new ≡ after_act self.old Used_up }
         ensures goes_on { GoesOn self.old (Used_up ∷ []) self.new }
     {
         self.next = match self.latest {
@@ -155,7 +155,7 @@ impl Walk {
     /// The command ended. Where its last block chains commands and not data, and the ending status
     /// lets the program go on, the next block is 8 bytes on, or 16 with status modifier.
     pub fn device_end(&mut self, ended: Ended)
-        ensures after { self.new ≡ walk_after_end self.old ended }
+        ensures after { self.new ≡ after_act self.old (End ended) }
         ensures goes_on { GoesOn self.old (End ended ∷ []) self.new }
     {
         self.next = match self.latest {

@@ -18,7 +18,8 @@ use Rattle.channel_program.specs.Acts.{Act, Block, Unfetched, Used_up, End, Word
 use Rattle.channel_program.specs.Blocks.{reads, block_reads, command_reads, transfer_reads, is_misplaced_command, format_of}
 use Rattle.channel_program.specs.Programs.{next as next_of, next_after, role_of, role_after, IsProgram}
 use Rattle.channel_program.proofs.Named.{acts_at}
-use Rattle.channel_program.specs.Walks.{WalkPlace, walk_place, after_act, after_block, after_acts, is_program_misplaced, act_of_fetch, fetch_act, with_target, acts_from, block_advance, act_advance, advance_of}
+use Rattle.channel_program.specs.Walks.{WalkPlace, walk_place, after_act, after_acts, is_program_misplaced, fetch_act, acts_from, act_advance, advance_of}
+use Rattle.channel_program.proofs.Named.{after_block, act_of_fetch, with_target, block_advance}
 
 -- the place some acts further
 pub after-place : (orb : Orb) (before : List Act) (act : Act) → after_act (walk_place orb before) act ≡ walk_place orb (act ∷ before)

@@ -15,10 +15,6 @@ use Rattle.channel_program.specs.declared.Reading.TheVariants.{Transfers, Takes,
 abbrev pub format_of : Orb → Format
 format_of orb = if orb.format_one then One else Zero
 
--- a transfer in channel is neither the first block nor the target of another transfer
-abbrev pub is_misplaced_transfer : Role → Bool
-is_misplaced_transfer role = role.first || role.after_transfer
-
 -- another block shows a check where its code is invalid, which is ignored where data is chained to it;
 -- where data is chained to it and its count is zero; and where it may not suspend and has S one (own)
 abbrev pub is_misplaced_command : Orb → Role → Ccw → Bool
@@ -28,19 +24,16 @@ is_misplaced_command orb role ccw =
     || ccw.suspend && (not orb.suspend || role.chained)
 
 abbrev pub command_reads : Orb → Role → Ccw → Reading
-command_reads orb role ccw =
-    if is_misplaced_command orb role ccw then Shows
-    else if ccw.suspend then Suspends
-    else Takes ccw
+command_reads orb role ccw = if is_misplaced_command orb role ccw then Shows else if ccw.suspend then Suspends else Takes ccw
 
+-- a transfer in channel is neither the first block nor the target of another transfer
 abbrev pub transfer_reads : Role → Ccw → Reading
-transfer_reads role ccw = if is_misplaced_transfer role then Shows else Transfers ccw.address
+transfer_reads role ccw = if role.first || role.after_transfer then Shows else Transfers ccw.address
 
 -- a block that shows a fault by itself shows it wherever it stands
 abbrev pub block_reads : Orb → Role → Option CcwFault → Ccw → Reading
 block_reads orb role (Some fault) ccw = Shows
-block_reads orb role None ccw =
-    if is_transfer (format_of orb) ccw.command then transfer_reads role ccw else command_reads orb role ccw
+block_reads orb role None ccw = if is_transfer (format_of orb) ccw.command then transfer_reads role ccw else command_reads orb role ccw
 
 -- what a block comes to. Modified indirect words, which D of the operation-request block asks for, are
 -- not provided: the first block shows a check (own)

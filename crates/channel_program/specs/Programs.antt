@@ -7,7 +7,7 @@ use Rattle.channel_program.specs.declared.Role.{Role}
 use Rattle.channel_program.specs.declared.Latest.{Latest}
 use Rattle.channel_program.specs.declared.Ended.{Ended}
 use Rattle.channel_program.specs.declared.Reading.{Reading}
-use Rattle.channel_program.specs.declared.Reading.TheVariants.{Transfers, Takes, Suspends, Shows}
+use Rattle.channel_program.specs.declared.Reading.TheVariants.{Transfers, Takes, Suspends}
 use Rattle.channel_program.specs.Blocks.{reads}
 use Rattle.channel_program.specs.Acts.{Act, Block, Unfetched, Used_up, End}
 
@@ -15,8 +15,7 @@ use Rattle.channel_program.specs.Acts.{Act, Block, Unfetched, Used_up, End}
 abbrev pub role_after : Role → Reading → Role
 role_after role (Transfers target) = record { first = false; after_transfer = true; chained = role.chained }
 role_after role (Takes ccw) = record { first = false; after_transfer = false; chained = ccw.chain_data }
-role_after role Suspends = role
-role_after role Shows = role
+role_after role reading = role
 
 abbrev pub role_of : Orb → List Act → Role
 role_of orb [] = record { first = true; after_transfer = false; chained = false }
@@ -37,9 +36,8 @@ latest orb (act ∷ before) = latest orb before
 -- address again. A block that shows a check ends the program
 abbrev pub next_after : ℕ → Reading → Option ℕ
 next_after address (Transfers target) = Some target
-next_after address (Takes ccw) = None
 next_after address Suspends = Some address
-next_after address Shows = None
+next_after address reading = None
 
 -- where data is chained, the next block is 8 bytes on once the count is used up
 abbrev pub next_used_up : Option Latest → Option ℕ
@@ -52,8 +50,7 @@ abbrev pub next_ended : Option Latest → Ended → Option ℕ
 next_ended None ended = None
 next_ended (Some last) ended =
     if ended.goes_on && (last.ccw.chain_command && not last.ccw.chain_data)
-    then Some (if ended.modifier then last.address + 16 else last.address + 8)
-    else None
+    then Some (if ended.modifier then last.address + 16 else last.address + 8) else None
 
 -- where the next block is, if one is to be fetched now
 abbrev pub next : Orb → List Act → Option ℕ

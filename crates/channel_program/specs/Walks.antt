@@ -1,13 +1,10 @@
 -- Where a program stands, and how it goes on (SA22-7832, chapter 15).
-use Rattle.std.specs.Prelude.{ℕ, ◌+◌, ◌%◌, ◌^◌, ◌==◌, ◌&&◌, ◌||◌, not, nat_le, Bool, if◌then◌else◌, List, [], ◌∷◌, Option, None, Some, Result, Ok, Err}
+use Rattle.std.specs.Prelude.{ℕ, ◌+◌, ◌%◌, ◌^◌, ◌==◌, ◌&&◌, ◌||◌, not, nat_le, Bool, if◌then◌else◌, List, [], ◌∷◌, Option, None, Some, Ok, Err}
 use Rattle.orb_block.specs.declared.Orb.{Orb}
-use Rattle.storage_keys.specs.declared.StorageFault.{StorageFault}
 use Rattle.storage_keys.specs.Storage.{Contents, fetched}
 use Rattle.channel_program.specs.declared.check.Check.TheVariants.{Program}
 use Rattle.channel_program.specs.declared.Role.{Role}
 use Rattle.channel_program.specs.declared.Latest.{Latest}
-use Rattle.channel_program.specs.declared.Ended.{Ended}
-use Rattle.channel_program.specs.declared.Reading.{Reading}
 use Rattle.channel_program.specs.declared.Reading.TheVariants as reading
 use Rattle.channel_program.specs.declared.Advance.{Advance}
 use Rattle.channel_program.specs.declared.Advance.TheVariants.{Takes, Suspends, Stops}
@@ -28,30 +25,13 @@ abbrev pub walk_place : Orb → List Act → WalkPlace
 walk_place orb acts = record { orb = orb; role = role_of orb acts; latest = latest_of orb acts; next = next_of orb acts; tried = tried_of orb acts }
 
 -- the place one act further
-abbrev pub after_block : WalkPlace → ℕ → List ℕ → WalkPlace
-after_block old address bytes =
-    record {
-      orb = old.orb;
-      role = role_after old.role (reads old.orb old.role bytes);
-      latest = latest_after old.latest address (reads old.orb old.role bytes);
-      next = next_after address (reads old.orb old.role bytes);
-      tried = address + 8;
-    }
-
-abbrev pub after_unfetched : WalkPlace → ℕ → WalkPlace
-after_unfetched old address = record old { next = None; tried = address + 8 }
-
-abbrev pub after_used_up : WalkPlace → WalkPlace
-after_used_up old = record old { next = next_used_up old.latest }
-
-abbrev pub walk_after_end : WalkPlace → Ended → WalkPlace
-walk_after_end old ended = record old { next = next_ended old.latest ended }
-
 abbrev pub after_act : WalkPlace → Act → WalkPlace
-after_act old (Block address bytes) = after_block old address bytes
-after_act old (Unfetched address check) = after_unfetched old address
-after_act old Used_up = after_used_up old
-after_act old (End ended) = walk_after_end old ended
+after_act old (Block address bytes) =
+    let r = reads old.orb old.role bytes in
+    record old { role = role_after old.role r; latest = latest_after old.latest address r; next = next_after address r; tried = address + 8 }
+after_act old (Unfetched address check) = record old { next = None; tried = address + 8 }
+after_act old Used_up = record old { next = next_used_up old.latest }
+after_act old (End ended) = record old { next = next_ended old.latest ended }
 after_act old act = old
 
 -- the place some acts further, the latest first
@@ -65,28 +45,20 @@ after_acts old (act ∷ acts) = after_act (after_acts old acts) act
 abbrev pub is_program_misplaced : Orb → ℕ → Bool
 is_program_misplaced orb address = not (address % 8 == 0) || not orb.format_one && nat_le (2 ^ 24) address
 
-abbrev pub act_of_fetch : ℕ → Result (List ℕ) StorageFault → Act
-act_of_fetch address (Ok bytes) = Block address bytes
-act_of_fetch address (Err fault) = Unfetched address (check_of fault)
-
 -- a block is fetched with the key of the operation-request block; the first is tested first
 abbrev pub fetch_act : Contents → Orb → Role → ℕ → Act
 fetch_act storage orb role address =
     if role.first && is_program_misplaced orb address then Unfetched address Program
-    else act_of_fetch address (fetched storage orb.key address 8)
+    else elim (fetched storage orb.key address 8) [ Ok bytes ↦ Block address bytes | Err fault ↦ Unfetched address (check_of fault) ]
 
 -- Going on
 
 -- after a transfer in channel the block at its target is fetched too
-abbrev pub with_target : Contents → WalkPlace → Reading → List Act → List Act
-with_target storage now (reading.Transfers target) acts = fetch_act storage now.orb now.role target ∷ acts
-with_target storage now (reading.Takes ccw) acts = acts
-with_target storage now reading.Suspends acts = acts
-with_target storage now reading.Shows acts = acts
-
 abbrev pub acts_from : Contents → WalkPlace → Act → List Act
 acts_from storage old (Block address bytes) =
-    with_target storage (after_block old address bytes) (reads old.orb old.role bytes) (Block address bytes ∷ [])
+    let now = after_act old (Block address bytes) in
+    elim (reads old.orb old.role bytes)
+    [ reading.Transfers target ↦ fetch_act storage now.orb now.role target ∷ Block address bytes ∷ [] | r ↦ Block address bytes ∷ [] ]
 acts_from storage old act = act ∷ []
 
 -- the acts by which a program goes on, where a block is next: that it is fetched, and where it is a
@@ -95,14 +67,10 @@ abbrev pub advance_acts : Contents → WalkPlace → List Act
 advance_acts storage old = elim old.next [ None ↦ [] | Some address ↦ acts_from storage old (fetch_act storage old.orb old.role address) ]
 
 -- what a block, an act and some acts come to; nothing as long as the program does not stand still
-abbrev pub block_advance : Reading → Option Advance
-block_advance (reading.Transfers target) = None
-block_advance (reading.Takes ccw) = Some (Takes ccw)
-block_advance reading.Suspends = Some Suspends
-block_advance reading.Shows = Some (Stops Program)
-
 abbrev pub act_advance : WalkPlace → Act → Option Advance
-act_advance old (Block address bytes) = block_advance (reads old.orb old.role bytes)
+act_advance old (Block address bytes) =
+    elim (reads old.orb old.role bytes)
+    [ reading.Transfers target ↦ None | reading.Takes ccw ↦ Some (Takes ccw) | reading.Suspends ↦ Some Suspends | reading.Shows ↦ Some (Stops Program) ]
 act_advance old (Unfetched address check) = Some (Stops check)
 act_advance old act = None
 

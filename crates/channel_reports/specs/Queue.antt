@@ -2,7 +2,6 @@
 use Rattle.std.specs.Prelude.{ℕ, ◌==◌, Bool, true, false, List, [], ◌∷◌, ◌++◌, length, replicate, slice_get, slice_index_or, slice_set, take, drop, Option, None, Some, if◌then◌else◌}
 use Rattle.scsw_irb.specs.declared.crw.Crw.{Crw}
 use Rattle.scsw_irb.specs.declared.crw.PathReport.{PathReport}
-use Rattle.scsw_irb.specs.declared.crw.PathReport.TheVariants.{Lost, Back, ResetDone}
 
 -- the reports that wait, the oldest first, and for each channel-path identifier whether its reset is asked for
 pub record WaitingReports : Type 0 where
@@ -41,14 +40,3 @@ with_asked w path asked = record w { asked = slice_set w.asked path asked }
 -- RESET CHANNEL PATH asks for the reset of a path that is up
 abbrev pub with_rchp : WaitingReports → ℕ → Bool → WaitingReports
 with_rchp w path up = if up then with_asked w path true else w
-
--- a path that goes down is lost: that is reported, and its reset is no longer asked for
-abbrev pub path_lost_reported : WaitingReports → ℕ → WaitingReports
-path_lost_reported w path = with_report (with_asked w path false) Lost path
-
-abbrev pub path_back : WaitingReports → ℕ → WaitingReports
-path_back w path = with_report w Back path
-
--- a reset that was asked for is done
-abbrev pub reset_done : WaitingReports → ℕ → WaitingReports
-reset_done w path = with_report (with_asked w path false) ResetDone path

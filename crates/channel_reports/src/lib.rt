@@ -8,10 +8,11 @@
 //! which loses the reports and the resets asked for, the state is that of `Reports::new`.
 #![tactic(auto)]
 
-ghost use Rattle.std.specs.Prelude.{◌≡◌, slice_get, length};
+ghost use Rattle.std.specs.Prelude.{◌≡◌, slice_get, length, false};
 ghost use Rattle.std.specs.Bool.{OnTrue, OnFalse};
 ghost use Rattle.chan_model.specs.ConditionCodes as codes;
 ghost use Rattle.channel_reports.specs.Queue as spec;
+ghost use Rattle.scsw_irb.specs.declared.crw.PathReport.TheVariants as path_report;
 
 use arrayvec::ArrayVec;
 use chan_model::answer::ConditionCode;
@@ -138,7 +139,7 @@ impl Reports {
     /// The reset of a path is done, which is reported. False where none is asked for, and then nothing changes.
     pub fn reset_done(&mut self, path: u8) -> bool
         ensures asked { result ≡ spec.is_asked self.old path }
-        ensures done { OnTrue result (self.new ≡ spec.reset_done self.old path) }
+        ensures done { OnTrue result (self.new ≡ spec.with_report (spec.with_asked self.old path false) path_report.ResetDone path) }
         ensures refused { OnFalse result (self.new ≡ self.old) }
     {
         let asked = self.is_asked(path);
@@ -151,7 +152,7 @@ impl Reports {
 
     /// The path went down: that is reported, and its reset is no longer asked for.
     pub fn path_lost(&mut self, path: u8)
-        ensures { self.new ≡ spec.path_lost_reported self.old path }
+        ensures { self.new ≡ spec.with_report (spec.with_asked self.old path false) path_report.Lost path }
     {
         self.keep(path, false);
         self.add(PathReport::Lost, path);
@@ -159,7 +160,7 @@ impl Reports {
 
     /// The path came back, which is reported.
     pub fn path_back(&mut self, path: u8)
-        ensures { self.new ≡ spec.path_back self.old path }
+        ensures { self.new ≡ spec.with_report self.old path_report.Back path }
     {
         self.add(PathReport::Back, path);
     }

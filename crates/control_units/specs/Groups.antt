@@ -3,7 +3,8 @@ use Rattle.std.specs.Prelude.{◌≡◌, ℕ, ◌+◌, ◌-◌, Bool, true, fals
 use Rattle.std.specs.List.{list_any}
 use Rattle.control_units.specs.declared.Member.{Member}
 use Rattle.control_units.specs.declared.groups.Group.{Group}
-use Rattle.control_units.specs.Units.{is_begun_in, is_refused_in, begun_at, ended_at}
+use Rattle.control_units.specs.Parts.{begun_at, ended_at}
+use Rattle.control_units.specs.Units.{is_begun_in, is_refused_in}
 
 abbrev pub idle_group : Group
 idle_group = record { begun = 0; refused = false }

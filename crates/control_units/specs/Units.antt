@@ -22,46 +22,26 @@ abbrev pub is_refused_in : ℕ → Member → Bool
 is_refused_in group m = m.refused && (m.group == group)
 
 -- Whether the unit may be served: no other unit of its group is begun.
-abbrev pub may_serve_at : List Member → ℕ → Option Member → Bool
-may_serve_at members place None = true
-may_serve_at members place (Some m) = not (any_other (is_begun_in m.group) members place)
-
 abbrev pub may_serve : List Member → ℕ → Bool
-may_serve members place = may_serve_at members place (slice_get members place)
+may_serve members place = elim (slice_get members place) [ None ↦ true | Some m ↦ not (any_other (is_begun_in m.group) members place) ]
 
 -- A unit was asked for: it is refused where it may not be served.
 abbrev pub asked : List Member → ℕ → Bool → List Member
 asked members place true = members
-asked members place false =
-    elim (slice_get members place) [ None ↦ members | Some m ↦ slice_set members place (record m { refused = true }) ]
+asked members place false = elim (slice_get members place) [ None ↦ members | Some m ↦ slice_set members place (record m { refused = true }) ]
 
 -- A unit is begun.
-abbrev pub begun_at : List Member → ℕ → Option Member → List Member
-begun_at members place None = members
-begun_at members place (Some m) = slice_set members place (record m { begun = true })
-
 abbrev pub member_begun : List Member → ℕ → List Member
-member_begun members place = begun_at members place (slice_get members place)
+member_begun members place = elim (slice_get members place) [ None ↦ members | Some m ↦ slice_set members place (record m { begun = true }) ]
 
 -- Whether a control-unit end is owed as a unit is over: some unit of its group was refused since one was over.
-abbrev pub is_owed_at : List Member → Option Member → Bool
-is_owed_at members None = false
-is_owed_at members (Some m) = list_any (is_refused_in m.group) members
-
 abbrev pub is_owed : List Member → ℕ → Bool
-is_owed members place = is_owed_at members (slice_get members place)
+is_owed members place = elim (slice_get members place) [ None ↦ false | Some m ↦ list_any (is_refused_in m.group) members ]
 
 -- A unit is over: it is not begun, and no unit of its group is refused any more.
-abbrev pub ended_at : List Member → ℕ → Option Member → List Member
-ended_at members place None = members
-ended_at members place (Some m) = slice_set members place (record m { begun = false })
-
 abbrev pub member_told : ℕ → Member → Member
 member_told group m = if m.group == group then record m { refused = false } else m
 
-abbrev pub over_at : List Member → ℕ → Option Member → List Member
-over_at members place None = members
-over_at members place (Some m) = map (member_told m.group) (ended_at members place (Some m))
-
 abbrev pub over : List Member → ℕ → List Member
-over members place = over_at members place (slice_get members place)
+over members place =
+    elim (slice_get members place) [ None ↦ members | Some m ↦ map (member_told m.group) (slice_set members place (record m { begun = false })) ]

@@ -3,7 +3,8 @@ use Rattle.std.proofs.Common.{◌≡◌, ◌≢◌, ℕ, ◌+◌, ◌-◌, ◌<�
 use Rattle.std.specs.Prelude.{Some, None, Ok, IsTrue, nat_lt, if◌then◌else◌, slice_index}
 use Rattle.std.proofs.lemmas.Bool.{ltb-true, ltb-false}
 use Rattle.std.specs.List.{range_with_len}
-use Rattle.storage_keys.specs.Storage.{Contents, is_inside, permits_store, access_check, where_permitted, put_at, stored_bytes}
+use Rattle.storage_keys.specs.Storage.{Contents, is_inside, where_permitted, put_at, stored_bytes}
+use Rattle.storage_keys.proofs.Named.{permits_store, check_by}
 use Rattle.idaw.specs.Lists.{block}
 use Rattle.idaw.specs.Places.{Reach, place_of_byte, places_from}
 use Rattle.data_move.specs.Moving.{Moving, room, IsAt}
@@ -43,7 +44,7 @@ aside r m n place a s within apart =
     apart (place - m.piece) (omega arith) (place_at r m a s (place - m.piece) (omega arith) ∙ ap Some here))
 
 -- what a store that is permitted did
-permitted : (inside permits : Bool) (put new : Contents) → where_permitted (access_check inside permits) put ≡ Ok new → (inside ≡ true) × (put ≡ new)
+permitted : (inside permits : Bool) (put new : Contents) → where_permitted (check_by inside permits) put ≡ Ok new → (inside ≡ true) × (put ≡ new)
 permitted true true put new e = (refl, cc)
 permitted true false put new e = absurd (cc)
 permitted false permits put new e = absurd (cc)

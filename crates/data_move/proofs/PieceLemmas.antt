@@ -8,7 +8,7 @@ use Rattle.idaw.specs.declared.ListKind.TheVariants.{Short, LongByFourK, LongByT
 use Rattle.idaw.specs.Lists.{block}
 use Rattle.idaw.specs.Places.{Reach, place_of_byte, place_of_word, each_below, covered, reach_with_word}
 use Rattle.idaw.proofs.WordLemmas.{picks_true, picks_false, word_stays, word_next, word_reaches}
-use Rattle.data_move.specs.Moving.{Moving, names_list, uses_list, moving_begun, with_piece, moved, next_place, IsAt, MayFetch}
+use Rattle.data_move.specs.Moving.{Moving, uses_list, moving_begun, with_piece, moved, next_place, IsAt, MayFetch}
 use Rattle.data_move.proofs.ListLemmas.{each_below_add, each_below_same}
 
 block_positive : (kind : ListKind) → 0 < block kind
@@ -53,7 +53,7 @@ pub needed_more : (left done count : ℕ) → (left == 0 && nat_lt done count) �
 needed_more left done count e = grind (arith, nat_tests)
 
 -- a command word that took control is at its beginning
-begun_if : (kind : ListKind) (ccw : Ccw) (skipped t : Bool) → names_list ccw skipped ≡ t → IsAt (record { ccw = ccw; skipped = skipped; words = [] }) (moving_begun kind ccw skipped)
+begun_if : (kind : ListKind) (ccw : Ccw) (skipped t : Bool) → (ccw.indirect && not skipped) ≡ t → IsAt (record { ccw = ccw; skipped = skipped; words = [] }) (moving_begun kind ccw skipped)
 begun_if kind ccw skipped true e =
     let none : (moving_begun kind ccw skipped).left ≡ 0 = ap (λ x. if x then 0 else ccw.count) e in
     record {
@@ -79,7 +79,7 @@ begun_if kind ccw skipped false e =
     }
 
 pub begun_at : (kind : ListKind) (ccw : Ccw) (skipped : Bool) → IsAt (record { ccw = ccw; skipped = skipped; words = [] }) (moving_begun kind ccw skipped)
-begun_at kind ccw skipped = begun_if kind ccw skipped (names_list ccw skipped) refl
+begun_at kind ccw skipped = begun_if kind ccw skipped (ccw.indirect && not skipped) refl
 
 -- a word that is added moves no byte before
 pub word_keeps : (r : Reach) (m : Moving) (w : ℕ) → IsAt r m → uses_list m ≡ true → (j : ℕ) → j < m.done → place_of_byte (block m.kind) (reach_with_word r w) j ≡ place_of_byte (block m.kind) r j

@@ -17,15 +17,12 @@ pub record Moving : Type 0 where
   pub left : ℕ
 
 -- skipped bytes need no list
-abbrev pub names_list : Ccw → Bool → Bool
-names_list ccw skipped = ccw.indirect && not skipped
-
 abbrev pub uses_list : Moving → Bool
-uses_list m = names_list m.ccw m.skipped
+uses_list m = m.ccw.indirect && not m.skipped
 
 -- the bytes that need no word
 abbrev pub at_once : Ccw → Bool → ℕ
-at_once ccw skipped = if names_list ccw skipped then 0 else ccw.count
+at_once ccw skipped = if ccw.indirect && not skipped then 0 else ccw.count
 
 -- as the command word takes control
 abbrev pub moving_begun : ListKind → Ccw → Bool → Moving

@@ -22,7 +22,8 @@ use Rattle.subchannel_model.specs.Programs.{without_programs}
 use Rattle.subchannel_model.specs.Test.{tsch_code, ends_suspended, tested}
 use Rattle.machine_model.specs.State.{State, place_of}
 use Rattle.machine_model.specs.declared.state.Sweep.TheVariants as sweep
-use Rattle.machine_model.specs.InstructionSteps.{code_at, function_sub, function_at, test_with, test_sub, tests, Executes_at, Executes_on, subchannel_word}
+use Rattle.machine_model.specs.InstructionSteps.{code_at, function_sub, function_at, test_with, test_sub, Executes_at, subchannel_word}
+use Rattle.machine_model.proofs.Named.{tests, Executes_on}
 use Rattle.machine_model.specs.PathSteps.{swept, reset_system}
 use Rattle.machine_model.proofs.Named.{requests_settled}
 use Rattle.machine_model.specs.Requests.{settled}

@@ -38,10 +38,12 @@ use Rattle.subchannel_model.specs.Store.{pmcw_of, schib_of, stsch_code}
 use Rattle.machine_model.specs.State.{State}
 use Rattle.machine_model.specs.Turns.{Turn, SubTurn, Outcome, does}
 use Rattle.machine_model.proofs.Named.{store_answer, requests_settled}
-use Rattle.machine_model.specs.InstructionSteps.{code_at, function_sub, function_at, PerformsStart, with_irb, test_with, test_sub, tests, with_schib, stores, with_enabling, Modifies_by, Modifies, Enables_with, Enables, Executes_at, Executes_on, subchannel_word}
+use Rattle.machine_model.specs.InstructionSteps.{code_at, function_sub, function_at, with_irb, test_with, test_sub, with_schib, with_enabling, Modifies_by, Enables_with, Executes_at, subchannel_word}
+use Rattle.machine_model.proofs.Named.{PerformsStart, tests, stores, Modifies, Enables, Executes_on}
 use Rattle.machine_model.proofs.Others.{other-turned}
 use Rattle.machine_model.specs.OtherTurns.{turned_at, tpi_done, tpi_lent, rchp_of, rchp_lent, stcrw_done, stcrw_lent, lent_whole, other_done}
-use Rattle.machine_model.specs.OtherSteps.{code_check, where_stored}
+use Rattle.machine_model.specs.OtherSteps.{code_check}
+use Rattle.machine_model.specs.OtherTurns.{where_stored}
 use Rattle.machine_model.specs.Requests.{settled}
 use Rattle.machine_model.specs.Steps.{Step}
 use Rattle.step_laws.proofs.Places.{get-set}

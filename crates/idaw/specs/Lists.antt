@@ -12,36 +12,23 @@ kind_of orb = if orb.long_addresses then (if orb.small_blocks then LongByTwoK el
 
 -- how many bytes a block has
 abbrev pub block : ListKind → ℕ
-block Short = 2048
 block LongByFourK = 4096
-block LongByTwoK = 2048
+block kind = 2048
 
 -- how many bytes a word has
 abbrev pub width : ListKind → ℕ
 width Short = 4
-width LongByFourK = 8
-width LongByTwoK = 8
+width long = 8
 
 -- where word i of the list at an address stands
 abbrev pub address_of_word : ListKind → ℕ → ℕ → ℕ
 address_of_word kind list i = list + width kind * i
 
--- a short word has an address of 31 bits
-abbrev pub has_leftmost_bit : ListKind → ℕ → Bool
-has_leftmost_bit Short word = nat_le (2 ^ 31) word
-has_leftmost_bit LongByFourK word = false
-has_leftmost_bit LongByTwoK word = false
-
--- a long word has an address of 64 bits, which must be that of a byte of storage
-abbrev pub is_outside : ListKind → ℕ → ℕ → Bool
-is_outside Short word size = false
-is_outside LongByFourK word size = nat_le size word
-is_outside LongByTwoK word size = nat_le size word
-
--- what is wrong with a word, the first that applies: any but the first of its list begins a block
+-- what is wrong with a word, the first that applies: a short word has an address of 31 bits; any word but the first of its list
+-- begins a block; a long word has an address of 64 bits, which must be that of a byte of storage
 abbrev pub word_fault : ListKind → Bool → ℕ → ℕ → Option WordFault
 word_fault kind first word size =
-    if has_leftmost_bit kind word then Some LeftmostBit
+    if elim kind [ Short ↦ nat_le (2 ^ 31) word | long ↦ false ] then Some LeftmostBit
     else if not first && not (word % block kind == 0) then Some OffBlock
-    else if is_outside kind word size then Some OutsideStorage
+    else if elim kind [ Short ↦ false | long ↦ nat_le size word ] then Some OutsideStorage
     else None

@@ -25,7 +25,8 @@ use Rattle.subchannel_model.specs.Places.{Found}
 use Rattle.subchannel_model.specs.Test.{tsch_code, irb_of}
 use Rattle.machine_model.specs.Turns.{Outcome, SubTurn, leaves, does, at_place}
 use Rattle.machine_model.proofs.Named.{start_at, modify_at, store_answer}
-use Rattle.machine_model.specs.InstructionSteps.{code_at, PerformsStart, Modifies, Enables, modify_sub, enable_sub, stores, tests, test_with, with_irb, with_schib, with_enabling, stores_irb}
+use Rattle.machine_model.specs.InstructionSteps.{code_at, modify_sub, enable_sub, test_with, with_irb, with_schib, with_enabling, stores_irb}
+use Rattle.machine_model.proofs.Named.{PerformsStart, Modifies, Enables, stores, tests}
 use Rattle.io_step.specs.Executing.{state_with_storage}
 use Rattle.io_step.specs.Operands.{HasOrb, HasWord, from_storage}
 

@@ -38,7 +38,7 @@ pub type PathTable = [bool; 256];
 /// Whether the interruption code may be stored at an address.
 fn check_code(storage: &Storage, cpu: Cpu, address: u32) -> Result<(), Fault>
     ensures checked { result ≡ from_storage (spec.code_check storage.now cpu address) }
-    ensures inside { OnOk result (spec.code_place address + spec.code_size address ≤ length storage.now.bytes) }
+    ensures inside { OnOk result (spec.code_place address + turns.code_size address ≤ length storage.now.bytes) }
 {
     if address == 0 {
         check_operand(storage, cpu, CODE, LONG_CODE_BYTES, WORD)
@@ -49,7 +49,7 @@ fn check_code(storage: &Storage, cpu: Cpu, address: u32) -> Result<(), Fault>
 
 /// The interruption code is stored at an address.
 fn store_code(storage: &mut Storage, cpu: Cpu, address: u32, code: IntCode)
-    requires inside { spec.code_place address + spec.code_size address ≤ length storage.old.bytes }
+    requires inside { spec.code_place address + turns.code_size address ≤ length storage.old.bytes }
     ensures { storage.new ≡ spec.code_stored storage.old cpu address (Some code) }
 {
     let [identification, parameter, interruption] = code.words();

@@ -10,7 +10,8 @@ use Rattle.chan_events.specs.declared.reply.Entry.{Entry}
 use Rattle.chan_events.specs.declared.reply.Reply.{Reply}
 use Rattle.chan_events.specs.declared.reply.Reply.TheVariants as reply
 use Rattle.machine_laws.specs.Claims.{serial_of}
-use Rattle.machine_laws.specs.Beginnings.{StartCounts, with_taken}
+use Rattle.machine_laws.specs.Beginnings.{StartCounts, with_begun, with_taken}
+use Rattle.chan_model.specs.declared.signal.Up.TheVariants as up
 
 abbrev pub is_same_id : SubchannelId → SubchannelId → Bool
 is_same_id a b = (a.set == b.set) && (a.number == b.number)
@@ -26,3 +27,6 @@ no_starts = record { accepted = 0; offers = []; begun = [] }
 
 abbrev pub starts_with_sent : ℕ → Option (OnPath Up) → StartCounts → StartCounts
 starts_with_sent t sent k = with_taken (reply.Down (down.Select t) true sent) k
+
+abbrev pub starts_with_answer : ℕ → Up → StartCounts → StartCounts
+starts_with_answer t signal k = elim signal [ up.Accept u ↦ with_begun t k.offers k | other ↦ k ]

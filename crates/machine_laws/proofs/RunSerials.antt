@@ -30,8 +30,10 @@ use Rattle.subchannel_model.specs.declared.state.SubchannelState.{SubchannelStat
 use Rattle.subchannel_model.specs.Test.{tsch_code, ends_suspended, tested_wholly, tested}
 use Rattle.subchannel_model.specs.Programs.{without_programs}
 use Rattle.machine_model.specs.Turns.{Turn, Outcome, does, with_state}
-use Rattle.machine_model.proofs.Named.{test_at, requests_settled}
-use Rattle.machine_model.specs.InstructionSteps.{code_at, test_sub, tests, Executes_on, Executes}
+use Rattle.machine_model.proofs.Named.{requests_settled}
+use Rattle.machine_model.specs.InstructionSteps.{test_at}
+use Rattle.machine_model.specs.InstructionSteps.{code_at, test_sub, Executes}
+use Rattle.machine_model.proofs.Named.{tests, Executes_on}
 use Rattle.machine_model.specs.Steps.{Does, Step, Run, Opened, Stepped}
 use Rattle.machine_model.specs.Requests.{settled}
 use Rattle.step_laws.specs.Walks.{AreWalks}

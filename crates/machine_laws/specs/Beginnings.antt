@@ -8,7 +8,6 @@ use Rattle.chan_events.specs.declared.reply.Reply.{Reply}
 use Rattle.chan_events.specs.declared.reply.Reply.TheVariants as reply
 use Rattle.chan_events.specs.declared.reply.Entry.{Entry}
 use Rattle.chan_model.specs.declared.signal.Down.TheVariants as down
-use Rattle.chan_model.specs.declared.signal.Up.{Up}
 use Rattle.chan_model.specs.declared.signal.Up.TheVariants as up
 use Rattle.channel_config.specs.declared.names.SubchannelId.{SubchannelId}
 use Rattle.channel_config.specs.SubchannelWords.{subchannel_named}
@@ -42,12 +41,8 @@ with_begun t [] k = k
 with_begun t (x ∷ xs) k = if x.number == t then record k { begun = k.begun ++ x.start ∷ [] } else with_begun t xs k
 
 -- the unit takes a Select by an Accept
-abbrev pub starts_with_answer : ℕ → Up → StartCounts → StartCounts
-starts_with_answer t (up.Accept u) k = with_begun t k.offers k
-starts_with_answer t signal k = k
-
 abbrev pub with_taken : Reply → StartCounts → StartCounts
-with_taken (reply.Down (down.Select t) true (Some sent)) k = starts_with_answer t sent.signal k
+with_taken (reply.Down (down.Select t) true (Some sent)) k = elim sent.signal [ up.Accept u ↦ with_begun t k.offers k | other ↦ k ]
 with_taken r k = k
 
 abbrev pub starts_after : ℕ → SubchannelId → Event → Reply → StartCounts → StartCounts

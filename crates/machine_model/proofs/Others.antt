@@ -8,15 +8,16 @@ use Rattle.chan_events.specs.declared.event.OtherInstruction.{OtherInstruction}
 use Rattle.chan_events.specs.declared.event.OtherInstruction.TheVariants as other
 use Rattle.interruptions.specs.Requests as requests
 use Rattle.machine_model.specs.State.{State}
-use Rattle.machine_model.specs.Turns.{Turn}
-use Rattle.machine_model.specs.OtherSteps.{where_stored, code_check, engaged_bytes, engaged_chpids, other_at}
+use Rattle.machine_model.specs.Turns.{Turn, where_tested}
+use Rattle.machine_model.specs.OtherSteps.{code_check, engaged_bytes, engaged_chpids, other_at}
+use Rattle.machine_model.specs.OtherTurns.{where_stored}
 use Rattle.machine_model.specs.OtherTurns.{lent_whole, tpi_done, stcrw_done, rchp_of, stcps_done, tpi_lent, stcrw_lent, rchp_lent, stcps_lent, other_done, turned_at}
 
 module _ (s : State) where
   tpi-turned : (cpu address mask : ℕ) (r : Result (Unit {0}) StorageFault) (t : Turn) →
       other_done s (tpi_lent (lent_whole s.storage s.requests s.reports)
       (where_stored (Ok tt) (tpi_done s.storage s.requests cpu address (requests.answer s.requests mask)))) ≡ Ok t →
-      where_stored r t ≡ other_done s (tpi_lent (lent_whole s.storage s.requests s.reports)
+      where_tested r (Ok t) ≡ other_done s (tpi_lent (lent_whole s.storage s.requests s.reports)
       (where_stored r (tpi_done s.storage s.requests cpu address (requests.answer s.requests mask))))
   tpi-turned cpu address mask (Ok u) t e = sym e
   tpi-turned cpu address mask (Err f) t e = refl
@@ -24,7 +25,7 @@ module _ (s : State) where
   stcrw-turned : (cpu address : ℕ) (r : Result (Unit {0}) StorageFault) (t : Turn) →
       other_done s (stcrw_lent (lent_whole s.storage s.requests s.reports)
       (where_stored (Ok tt) (stcrw_done s.storage s.reports cpu address))) ≡ Ok t →
-      where_stored r t
+      where_tested r (Ok t)
       ≡ other_done s (stcrw_lent (lent_whole s.storage s.requests s.reports) (where_stored r (stcrw_done s.storage s.reports cpu address)))
   stcrw-turned cpu address (Ok u) t e = sym e
   stcrw-turned cpu address (Err f) t e = refl
@@ -38,7 +39,7 @@ module _ (s : State) where
 
   stcps-turned : (cpu address : ℕ) (engaged : List ℕ) (r : Result (Unit {0}) StorageFault) (t : Turn) →
       other_done s (stcps_lent (lent_whole s.storage s.requests s.reports) (Ok (stcps_done s.storage cpu address engaged))) ≡ Ok t →
-      where_stored r t
+      where_tested r (Ok t)
       ≡ other_done s (stcps_lent (lent_whole s.storage s.requests s.reports) (where_stored r (stcps_done s.storage cpu address engaged)))
   stcps-turned cpu address engaged (Ok u) t e = sym e
   stcps-turned cpu address engaged (Err f) t e = refl

@@ -4,28 +4,22 @@ use Rattle.chan_model.specs.declared.fault.Fault.{Fault}
 use Rattle.chan_model.specs.declared.fault.Fault.TheVariants as fault
 use Rattle.chan_model.specs.declared.names.Side.{Side}
 use Rattle.chan_model.specs.declared.names.Side.TheVariants.{First, Second}
-use Rattle.chan_model.specs.declared.unit_state.Own.{Own}
 use Rattle.chan_model.specs.declared.unit_state.Own.TheVariants.{Idle, Owned}
 use Rattle.chan_model.specs.declared.unit_state.UnitState.{UnitState}
 use Rattle.chan_events.specs.declared.event.UnitAct.{UnitAct}
 use Rattle.chan_events.specs.declared.event.UnitAct.TheVariants as act
 use Rattle.chan_model.specs.UnitTable.{UnitStep, leaving, asking, attending, noticing}
 use Rattle.subchannel_model.specs.declared.state.Subchannel.{Subchannel}
-use Rattle.subchannel_model.specs.Places.{Found, found_at, reached_in, reached_sub}
+use Rattle.subchannel_model.specs.Places.{found_at, reached_in, reached_sub}
 use Rattle.machine_model.specs.State.{State}
 use Rattle.machine_model.specs.Turns.{Outcome, DownTurn, at_unit}
 use Rattle.machine_model.specs.ReportSteps.{report_taken}
 
 -- the program that holds the device leaves its path or asks for one; the unit asks a side for attention, or tells it of a restart
-abbrev pub owner_side : Own → Option Side
-owner_side Idle = None
-owner_side (Owned side t place) = Some side
-
 abbrev pub side_of_act : UnitState → UnitAct → Option Side
-side_of_act u act.Leave = owner_side u.own
-side_of_act u (act.Ask path) = owner_side u.own
 side_of_act u (act.Attention path side) = Some side
 side_of_act u (act.Notice path side) = Some side
+side_of_act u act = elim u.own [ Idle ↦ None | Owned side t place ↦ Some side ]
 
 -- the path that an act names is one of the subchannel
 abbrev pub has_path : Subchannel → ℕ → Bool
@@ -47,12 +41,7 @@ acts u side (act.Notice path named) = noticing u side path
 abbrev pub act_sub : Subchannel → UnitState → UnitAct → Result DownTurn Fault
 act_sub sub u act = if has_path_of_act sub act then report_taken sub (acts u sub.setup.side act) else Err fault.NoSuchPath
 
--- where no subchannel reaches that side there is nothing to do, whatever path is named
-abbrev pub act_to : State → ℕ → UnitState → UnitAct → Option Found → Outcome
-act_to s place u act None = Err fault.NotNow
-act_to s place u act (Some f) = at_unit s f.place place (act_sub f.sub u act)
-
--- nor where no program holds the device; a path to ask for must be one of some side
+-- where no program holds the device there is nothing to do; a path to ask for must be one of some side
 abbrev pub has_path_at : Option Subchannel → ℕ → Bool
 has_path_at None path = false
 has_path_at (Some sub) path = has_path sub path
@@ -64,9 +53,11 @@ abbrev pub not_held : List Subchannel → ℕ → UnitAct → Fault
 not_held subs place (act.Ask path) = if is_path_of subs place path then fault.NotNow else fault.NoSuchPath
 not_held subs place other = fault.NotNow
 
+-- nor where no subchannel reaches that side, whatever path is named
 abbrev pub act_on : State → ℕ → UnitState → UnitAct → Option Side → Outcome
 act_on s place u act None = Err (not_held s.subs place act)
-act_on s place u act (Some side) = act_to s place u act (found_at s.subs (reached_in place side s.subs))
+act_on s place u act (Some side) =
+    elim (found_at s.subs (reached_in place side s.subs)) [ None ↦ Err fault.NotNow | Some f ↦ at_unit s f.place place (act_sub f.sub u act) ]
 
 abbrev pub act_at : State → ℕ → Option UnitState → UnitAct → Outcome
 act_at s place None act = Err fault.NoSuchUnit

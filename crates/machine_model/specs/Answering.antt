@@ -11,10 +11,9 @@ use Rattle.machine_model.specs.Steps.{Performs}
 
 -- the events that were accepted, with their replies
 abbrev pub accepted_entries : List Event → List (Result Reply Fault) → List Entry
-accepted_entries [] answers = []
-accepted_entries (e ∷ events) [] = []
 accepted_entries (e ∷ events) (Ok r ∷ answers) = record { event = e; reply = r } ∷ accepted_entries events answers
 accepted_entries (e ∷ events) (Err f ∷ answers) = accepted_entries events answers
+accepted_entries events answers = []
 
 -- each event in order came to its answer: a step with its reply, by a path that the rule gives, or a refusal that changed
 -- nothing
@@ -22,8 +21,7 @@ abbrev pub Answered : Rule → State → List Event → List (Result Reply Fault
 Answered picks old [] [] new = new ≡ old
 Answered picks old (e ∷ events) (a ∷ answers) new =
     (middle : State) × Performs old e a middle × GoesByRule picks old e a middle × Answered picks middle events answers new
-Answered picks old [] (a ∷ answers) new = ⊥
-Answered picks old (e ∷ events) [] new = ⊥
+Answered picks old events answers new = ⊥
 
 -- so many events were answered, and the history grew by those that were accepted
 pub record HasAnswered (picks : Rule) (old : Past) (events : List Event) (answers : List (Result Reply Fault)) (new : Past) : Type 0 where

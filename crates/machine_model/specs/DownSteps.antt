@@ -24,12 +24,9 @@ with_answer sub path sent =
 
 abbrev pub down_with : Subchannel → ℕ → Down → UnitState → Option UnitStep → Result DownTurn Fault
 down_with sub path signal u step =
-    if finds_full sub.wires.up (carried_by sub (unit_table.came_of step).sent) then Err fault.WireFull
-    else Ok (record {
-      reply = reply.Down signal (unit_table.came_of step).taken (unit_table.came_of step).sent;
-      sub = with_answer sub path (unit_table.came_of step).sent;
-      «unit» = unit_after u step;
-    })
+    let came = unit_table.came_of step in
+    if finds_full sub.wires.up (carried_by sub came.sent) then Err fault.WireFull
+    else Ok (record { reply = reply.Down signal came.taken came.sent; sub = with_answer sub path came.sent; «unit» = unit_after u step })
 
 abbrev pub down_front : Bool → Subchannel → ℕ → UnitState → Option Down → Result DownTurn Fault
 down_front may sub path u None = Err fault.NotSent
@@ -45,10 +42,8 @@ abbrev pub asks_at : Subchannel → ℕ → UnitState → Bool
 asks_at sub path u = elim (slice_get (queue sub.wires.down path) 0) [ None ↦ false | Some signal ↦ is_asked_for u sub.setup.side signal ]
 
 abbrev pub share_with : List Member → ℕ → Bool → UnitState → Result DownTurn Fault → Result SharedTurn Fault
-share_with members place asks u (Ok t) = Ok (record {
-  turn = record t { «unit» = owing_after members place u t.«unit» };
-  members = members_after members place asks u t.«unit»;
-})
+share_with members place asks u (Ok t) =
+    Ok (record { turn = record t { «unit» = owing_after members place u t.«unit» }; members = members_after members place asks u t.«unit» })
 share_with members place asks u (Err f) = Err f
 
 abbrev pub down_shared : List Member → Subchannel → ℕ → UnitState → Result SharedTurn Fault
@@ -60,10 +55,8 @@ abbrev pub at_shared : State → ℕ → ℕ → Result SharedTurn Fault → Out
 at_shared s place «unit» (Err f) = Err f
 at_shared s place «unit» (Ok t) = at_unit (record s { members = t.members }) place «unit» (Ok t.turn)
 
-abbrev pub down_unit : State → Found → ℕ → Option UnitState → Outcome
-down_unit s f path None = Err fault.NoSuchUnit
-down_unit s f path (Some u) = at_shared s f.place f.sub.setup.unit (down_shared s.members f.sub path u)
-
 abbrev pub down_at : State → Option Found → ℕ → Outcome
 down_at s None path = Err fault.NoSuchSubchannel
-down_at s (Some f) path = down_unit s f path (slice_get s.units f.sub.setup.unit)
+down_at s (Some f) path =
+    let place = f.sub.setup.unit in
+    elim (slice_get s.units place) [ None ↦ Err fault.NoSuchUnit | Some u ↦ at_shared s f.place place (down_shared s.members f.sub path u) ]

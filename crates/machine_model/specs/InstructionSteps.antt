@@ -26,7 +26,6 @@ use Rattle.subchannel_model.specs.Halt.{hsch_code, halted}
 use Rattle.subchannel_model.specs.Clear.{csch_code, cleared}
 use Rattle.subchannel_model.specs.Cancel.{xsch_code, cancelled}
 use Rattle.chan_model.specs.ConditionCodes.{answer_of_code}
-use Rattle.channel_config.specs.declared.names.SubchannelId.{SubchannelId}
 use Rattle.channel_config.specs.SubchannelWords.{subchannel_named}
 use Rattle.subchannel_model.specs.declared.state.SubchannelState.{SubchannelState}
 use Rattle.subchannel_model.specs.declared.state.Subchannel.{Subchannel}
@@ -35,7 +34,7 @@ use Rattle.subchannel_model.specs.declared.status.Condition.{Condition}
 use Rattle.subchannel_model.specs.Places.{Found, place_in, found_at}
 use Rattle.subchannel_model.specs.Conditions.{condition_of, left_by}
 use Rattle.subchannel_model.specs.Enable.{enabling, enabling_schib, enabling_word}
-use Rattle.machine_model.specs.Turns.{Outcome, does, SubTurn, leaves, with_state, at_place}
+use Rattle.machine_model.specs.Turns.{Outcome, does, where_tested, SubTurn, leaves, with_state, at_place}
 
 -- an instruction answers the condition code that its table gives for what it finds, with the serials as they are left, and with
 -- code 0 its effect is left
@@ -54,10 +53,14 @@ abbrev pub function_at : State → Option Found → (Condition → ConditionCode
 function_at s None code effect = not_provided s code
 function_at s (Some f) code effect = at_place s f.place (function_sub f.sub (code_at code f.sub) (effect f.sub))
 
+-- where the operand could be fetched, the instruction goes on with it
+abbrev pub WhereFetched : Result (List ℕ) StorageFault → (List ℕ → Outcome → Type 0) → Outcome → Type 0
+WhereFetched (Err f) P r = r ≡ Err (fault.Storage f)
+WhereFetched (Ok image) P r = P image r
+
 -- START: the contents of the ORB are tested before the condition code is
-abbrev pub PerformsStart : State → Option Found → Result (List ℕ) StorageFault → Outcome → Type 0
-PerformsStart s found (Err f) r = r ≡ Err (fault.Storage f)
-PerformsStart s found (Ok image) r =
+abbrev pub Starts_with : State → Option Found → List ℕ → Outcome → Type 0
+Starts_with s found image r =
     (¬ IsAllowedOrb image × (r ≡ Err fault.Operand))
     ⊎ ((orb : Orb) × (image ≡ image_of (tables orb)) × (r ≡ function_at s found ssch_code (λ sub. started sub.state orb)))
 
@@ -65,8 +68,7 @@ PerformsStart s found (Ok image) r =
 abbrev pub stores_irb : ConditionCode → Bool
 stores_irb code.Zero = true
 stores_irb code.One = true
-stores_irb code.Two = false
-stores_irb code.Three = false
+stores_irb other = false
 
 abbrev pub with_irb : State → ℕ → ℕ → Subchannel → Bool → State
 with_irb s cpu address sub stores =
@@ -81,9 +83,8 @@ test_with sub code =
 abbrev pub test_sub : State → ℕ → ℕ → Found → ConditionCode → Outcome
 test_sub s cpu address f code = at_place (with_irb s cpu address f.sub (stores_irb code)) f.place (test_with f.sub code)
 
-abbrev pub tests : State → ℕ → ℕ → Option Found → Result (Unit {0}) StorageFault → Outcome
-tests s cpu address found (Err f) = Err (fault.Storage f)
-tests s cpu address found (Ok u) = elim found [ None ↦ not_provided s tsch_code | Some f ↦ test_sub s cpu address f (code_at tsch_code f.sub) ]
+abbrev pub test_at : State → ℕ → ℕ → Option Found → Outcome
+test_at s cpu address found = elim found [ None ↦ not_provided s tsch_code | Some f ↦ test_sub s cpu address f (code_at tsch_code f.sub) ]
 
 -- STORE: the SCHIB is stored with code 0, the only code of a subchannel that is provided
 abbrev pub with_schib : State → ℕ → ℕ → Schib → State
@@ -93,10 +94,6 @@ abbrev pub store_at : State → ℕ → ℕ → Option Found → Outcome
 store_at s cpu address None = not_provided s stsch_code
 store_at s cpu address (Some f) =
     does (reply.Status (answer_of_code (code_at stsch_code f.sub) f.sub.state.serials) f.sub.state.scsw) (with_schib s cpu address (schib_of f.sub))
-
-abbrev pub stores : State → ℕ → ℕ → Option Found → Result (Unit {0}) StorageFault → Outcome
-stores s cpu address found (Err f) = Err (fault.Storage f)
-stores s cpu address found (Ok u) = store_at s cpu address found
 
 -- MODIFY: the contents of the SCHIB are tested before the condition code is
 abbrev pub modify_sub : Subchannel → block.Pmcw → SubTurn
@@ -108,10 +105,6 @@ Modifies_by s found image r =
     (given : block.Pmcw) × ShowsPmcw image given
     × ((¬ modify.IsAllowedPmcw given × (r ≡ Err fault.Operand))
     ⊎ (modify.IsAllowedPmcw given × (r ≡ function_at s found msch_code (λ sub. modified_state sub given))))
-
-abbrev pub Modifies : State → Option Found → Result (List ℕ) StorageFault → Outcome → Type 0
-Modifies s found (Err f) r = r ≡ Err (fault.Storage f)
-Modifies s found (Ok image) r = Modifies_by s found image r
 
 -- enabling: STORE to real F00, which is in every storage; ISC, D and E one are placed there; MODIFY from F00 (own).
 -- The SCHIB that STORE stored has what MODIFY allows.
@@ -128,26 +121,20 @@ abbrev pub Enables_with : State → ℕ → Option Found → ℕ → Bool → Li
 Enables_with s cpu None subclass multipath image r = Modifies_by (with_enabling s cpu image subclass multipath) None image r
 Enables_with s cpu (Some f) subclass multipath image r = r ≡ enable_sub s cpu f subclass multipath
 
-abbrev pub Enables : State → ℕ → Option Found → ℕ → Bool → Result (List ℕ) StorageFault → Outcome → Type 0
-Enables s cpu found subclass multipath (Err f) r = r ≡ Err (fault.Storage f)
-Enables s cpu found subclass multipath (Ok image) r = Enables_with s cpu found subclass multipath image r
-
 -- the tests of an instruction: general register 1, alignment, addressing, contents, condition code
 abbrev pub Executes_at : State → ℕ → Instruction → Option Found → Outcome → Type 0
-Executes_at s cpu (instruction.Ssch word address) found r = PerformsStart s found (operand_at s.storage cpu address 12 4) r
-Executes_at s cpu (instruction.Tsch word address) found r = r ≡ tests s cpu address found (operand_check s.storage cpu address 64 4)
-Executes_at s cpu (instruction.Stsch word address) found r = r ≡ stores s cpu address found (operand_check s.storage cpu address 52 4)
-Executes_at s cpu (instruction.Msch word address) found r = Modifies s found (operand_at s.storage cpu address 52 4) r
+Executes_at s cpu (instruction.Ssch word address) found r = WhereFetched (operand_at s.storage cpu address 12 4) (Starts_with s found) r
+Executes_at s cpu (instruction.Tsch word address) found r =
+    r ≡ where_tested (operand_check s.storage cpu address 64 4) (test_at s cpu address found)
+Executes_at s cpu (instruction.Stsch word address) found r =
+    r ≡ where_tested (operand_check s.storage cpu address 52 4) (store_at s cpu address found)
+Executes_at s cpu (instruction.Msch word address) found r = WhereFetched (operand_at s.storage cpu address 52 4) (Modifies_by s found) r
 Executes_at s cpu (instruction.Enable word subclass multipath) found r =
-    Enables s cpu found subclass multipath (operand_at s.storage cpu 0xF00 52 4) r
+    WhereFetched (operand_at s.storage cpu 0xF00 52 4) (Enables_with s cpu found subclass multipath) r
 Executes_at s cpu (instruction.Rsch word) found r = r ≡ function_at s found rsch_code (λ sub. resumed sub.state)
 Executes_at s cpu (instruction.Hsch word) found r = r ≡ function_at s found hsch_code (λ sub. halted sub.state)
 Executes_at s cpu (instruction.Csch word) found r = r ≡ function_at s found csch_code (λ sub. cleared sub.state)
 Executes_at s cpu (instruction.Xsch word) found r = r ≡ function_at s found xsch_code (λ sub. cancelled sub.state)
-
-abbrev pub Executes_on : State → ℕ → Instruction → Option SubchannelId → Outcome → Type 0
-Executes_on s cpu i None r = r ≡ Err fault.Operand
-Executes_on s cpu i (Some id) r = Executes_at s cpu i (found_at s.subs (place_in id s.subs)) r
 
 abbrev pub subchannel_word : Instruction → ℕ
 subchannel_word (instruction.Ssch word address) = word
@@ -161,4 +148,6 @@ subchannel_word (instruction.Csch word) = word
 subchannel_word (instruction.Xsch word) = word
 
 abbrev pub Executes : State → ℕ → Instruction → Outcome → Type 0
-Executes s cpu i r = Executes_on s cpu i (subchannel_named s.sets (subchannel_word i)) r
+Executes s cpu i r =
+    elim (subchannel_named s.sets (subchannel_word i))
+    [ None ↦ r ≡ Err fault.Operand | Some id ↦ Executes_at s cpu i (found_at s.subs (place_in id s.subs)) r ]

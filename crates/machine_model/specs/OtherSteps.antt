@@ -1,5 +1,5 @@
 -- The steps in which a CPU executes an instruction that names no subchannel (SA22-7832, chapter 14).
-use Rattle.std.specs.Prelude.{ℕ, ◌+◌, ◌*◌, ◌==◌, Bool, false, if◌then◌else◌, List, [], ◌∷◌, map, slice_index_or, take, Option, None, Some, Result, Ok, Err}
+use Rattle.std.specs.Prelude.{ℕ, ◌+◌, ◌*◌, ◌==◌, Bool, false, if◌then◌else◌, List, [], ◌∷◌, map, slice_index_or, take, Option, None, Some, Result, Err}
 use Rattle.std.specs.List.{range_with_len}
 use Rattle.zbits.specs.Bits.{field_of}
 use Rattle.zbits.specs.Layout.{word_of}
@@ -9,10 +9,10 @@ use Rattle.scsw_irb.specs.CodeTable.{code_tables}
 use Rattle.chan_events.specs.ReportWords.{report_word}
 use Rattle.storage_keys.specs.declared.StorageFault.{StorageFault}
 use Rattle.storage_keys.specs.Storage.{Contents, operand_check, operand_stored}
-use Rattle.chan_model.specs.declared.fault.Fault.{Fault}
 use Rattle.chan_model.specs.declared.fault.Fault.TheVariants as fault
 use Rattle.chan_model.specs.ConditionCodes.{rchp_code}
 use Rattle.chan_model.specs.PathSets.{mask_of_paths}
+use Rattle.allegiance.specs.PathUse.{each_path}
 use Rattle.interruptions.specs.Requests as requests
 use Rattle.channel_reports.specs.Queue as reports
 use Rattle.chan_events.specs.declared.event.OtherInstruction.{OtherInstruction}
@@ -21,23 +21,15 @@ use Rattle.chan_events.specs.declared.reply.Reply.TheVariants as reply
 use Rattle.subchannel_model.specs.declared.state.Subchannel.{Subchannel}
 use Rattle.subchannel_model.specs.Choosing.{any_engages}
 use Rattle.machine_model.specs.State.{State}
-use Rattle.machine_model.specs.Turns.{Outcome, does}
-
--- what an act comes to where its operand was tested
-abbrev pub where_stored : {A : Type 0} → Result (Unit {0}) StorageFault → A → Result A Fault
-where_stored (Ok u) done = Ok done
-where_stored (Err f) done = Err (fault.Storage f)
+use Rattle.machine_model.specs.Turns.{Outcome, does, where_tested}
 
 -- TEST PENDING INTERRUPTION: two words at the address, which is on a word boundary; with address 0 three words at real 184.
 -- They are tested even where nothing will be stored.
 abbrev pub code_place : ℕ → ℕ
 code_place address = if address == 0 then 184 else address
 
-abbrev pub code_size : ℕ → ℕ
-code_size address = if address == 0 then 12 else 8
-
 abbrev pub code_check : Contents → ℕ → ℕ → Result (Unit {0}) StorageFault
-code_check storage cpu address = operand_check storage cpu (code_place address) (code_size address) 4
+code_check storage cpu address = operand_check storage cpu (code_place address) (if address == 0 then 12 else 8) 4
 
 -- the subsystem-identification word and the parameter; at 188 and beyond the interruption-identification word too
 abbrev pub code_words : ℕ → IntCode → List ℕ
@@ -53,14 +45,8 @@ abbrev pub is_up : List Bool → ℕ → Bool
 is_up up path = slice_index_or up path false
 
 -- STORE CHANNEL PATH STATUS: 32 bytes on a boundary of 32; bit n is one where the channel path n is engaged
-abbrev pub eight_from : List Bool → ℕ → List Bool
-eight_from engaged first =
-    slice_index_or engaged first false ∷ slice_index_or engaged (first + 1) false ∷ slice_index_or engaged (first + 2) false
-    ∷ slice_index_or engaged (first + 3) false ∷ slice_index_or engaged (first + 4) false ∷ slice_index_or engaged (first + 5) false
-    ∷ slice_index_or engaged (first + 6) false ∷ slice_index_or engaged (first + 7) false ∷ []
-
 abbrev pub engaged_byte : List Bool → ℕ → ℕ
-engaged_byte engaged place = mask_of_paths (eight_from engaged (8 * place))
+engaged_byte engaged place = mask_of_paths (each_path (λ p. slice_index_or engaged (8 * place + p) false))
 
 unfoldable pub engaged_bytes : List Bool → ℕ → List ℕ
 engaged_bytes engaged count = map (engaged_byte engaged) (range_with_len 0 count)
@@ -73,10 +59,8 @@ engaged_chpids subs count = map (any_engages subs) (range_with_len 0 count)
 abbrev pub other_at : State → ℕ → OtherInstruction → Outcome
 other_at s cpu (other.Tpi mask address) =
     let found = requests.answer s.requests mask in
-    where_stored (code_check s.storage cpu address) (record {
-      reply = reply.Interruption found;
-      state = record s { storage = code_stored s.storage cpu address found; requests = requests.after_answer s.requests found };
-    })
+    where_tested (code_check s.storage cpu address) (does (reply.Interruption found)
+    (record s { storage = code_stored s.storage cpu address found; requests = requests.after_answer s.requests found }))
 other_at s cpu (other.Rchp path) =
     let named = field_of path 24 31 in
     let code = rchp_code (is_up s.up named) (reports.is_asked s.reports named) in
@@ -85,9 +69,9 @@ other_at s cpu (other.Rchp path) =
 other_at s cpu (other.Stcrw address) =
     let report = reports.oldest s.reports in
     let storage = operand_stored s.storage cpu address (bytes_of_words (report_word report ∷ [])) in
-    where_stored (operand_check s.storage cpu address 4 4)
-    (record { reply = reply.ChannelReport report; state = record s { storage = storage; reports = reports.without_oldest s.reports } })
+    where_tested (operand_check s.storage cpu address 4 4)
+    (does (reply.ChannelReport report) (record s { storage = storage; reports = reports.without_oldest s.reports }))
 other_at s cpu (other.Stcps address) =
     let engaged = engaged_bytes (engaged_chpids s.subs 0x100) 32 in
-    where_stored (operand_check s.storage cpu address 32 32)
-    (record { reply = reply.Paths engaged; state = record s { storage = operand_stored s.storage cpu address engaged } })
+    where_tested (operand_check s.storage cpu address 32 32)
+    (does (reply.Paths engaged) (record s { storage = operand_stored s.storage cpu address engaged }))

@@ -5,6 +5,7 @@ use Rattle.zbits.specs.Words.{bytes_of_words}
 use Rattle.scsw_irb.specs.declared.code.IntCode.{IntCode}
 use Rattle.scsw_irb.specs.declared.crw.Crw.{Crw}
 use Rattle.chan_events.specs.ReportWords.{report_word}
+use Rattle.storage_keys.specs.declared.StorageFault.{StorageFault}
 use Rattle.storage_keys.specs.Storage.{Contents, operand_check, operand_stored}
 use Rattle.chan_model.specs.declared.fault.Fault.{Fault}
 use Rattle.chan_model.specs.declared.fault.Fault.TheVariants as fault
@@ -18,7 +19,16 @@ use Rattle.chan_events.specs.declared.reply.Reply.{Reply}
 use Rattle.chan_events.specs.declared.reply.Reply.TheVariants as reply
 use Rattle.machine_model.specs.State.{State}
 use Rattle.machine_model.specs.Turns.{Outcome, does}
-use Rattle.machine_model.specs.OtherSteps.{where_stored, code_check, code_stored, is_up, engaged_bytes, engaged_chpids}
+use Rattle.machine_model.specs.OtherSteps.{code_check, code_stored, is_up, engaged_bytes, engaged_chpids}
+
+-- how many bytes of the interruption code are stored at an address
+abbrev pub code_size : ℕ → ℕ
+code_size address = if address == 0 then 12 else 8
+
+-- what an act comes to where its operand was tested
+abbrev pub where_stored : {A : Type 0} → Result (Unit {0}) StorageFault → A → Result A Fault
+where_stored (Ok u) done = Ok done
+where_stored (Err f) done = Err (fault.Storage f)
 
 pub record TpiTurn : Type 0 where
   pub found : Option IntCode

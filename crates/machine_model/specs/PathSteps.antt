@@ -3,6 +3,7 @@
 use Rattle.std.specs.Prelude.{ℕ, Bool, true, false, if◌then◌else◌, map, slice_set, Err}
 use Rattle.chan_model.specs.declared.fault.Fault.TheVariants as fault
 use Rattle.channel_config.specs.Setup.{has_number}
+use Rattle.scsw_irb.specs.declared.crw.PathReport.TheVariants as report
 use Rattle.channel_reports.specs.Queue as reports
 use Rattle.interruptions.specs.Requests as requests
 use Rattle.subchannel_model.specs.declared.state.Subchannel.{Subchannel}
@@ -25,22 +26,24 @@ with_swept s what = record s { subs = map (swept what) s.subs }
 
 -- a path that is not configured is refused first, then one that is not so as the event wants it
 abbrev pub where_path : State → ℕ → Bool → Outcome → Outcome
-where_path s chpid right turn =
-    if has_number s.chpids chpid then (if right then turn else Err fault.NotNow) else Err fault.NoSuchPath
+where_path s chpid right turn = if has_number s.chpids chpid then (if right then turn else Err fault.NotNow) else Err fault.NoSuchPath
 
--- a path that is up goes down: it is lost, and its reset is no longer asked for
+-- a path that is up goes down: that it is lost is reported, and its reset is no longer asked for
 abbrev pub down_path : State → ℕ → State
 down_path s chpid =
-    record (with_swept s (sweep.GoesDown chpid)) { up = slice_set s.up chpid false; reports = reports.path_lost_reported s.reports chpid }
+    let lost = reports.with_report (reports.with_asked s.reports chpid false) report.Lost chpid in
+    record (with_swept s (sweep.GoesDown chpid)) { up = slice_set s.up chpid false; reports = lost }
 
 -- a path that is down comes up
 abbrev pub up_path : State → ℕ → State
 up_path s chpid =
-    record (with_swept s (sweep.ComesUp chpid)) { up = slice_set s.up chpid true; reports = reports.path_back s.reports chpid }
+    record (with_swept s (sweep.ComesUp chpid)) { up = slice_set s.up chpid true; reports = reports.with_report s.reports report.Back chpid }
 
 -- a path whose reset is asked for is reset
 abbrev pub reset_path : State → ℕ → State
-reset_path s chpid = record (with_swept s (sweep.PathReset chpid)) { reports = reports.reset_done s.reports chpid }
+reset_path s chpid =
+    let done = reports.with_report (reports.with_asked s.reports chpid false) report.ResetDone chpid in
+    record (with_swept s (sweep.PathReset chpid)) { reports = done }
 
 -- the channel subsystem is reset: no request and no report waits, and no reset of a path is asked for; storage, units, what
 -- control units keep of them, and the states of paths stay

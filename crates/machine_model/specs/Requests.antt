@@ -56,8 +56,7 @@ request_of sub = record {
 }
 
 abbrev pub posted_for : Subchannel → Subchannel → requests.WaitingRequests → requests.WaitingRequests
-posted_for old new waiting =
-    if nat_lt old.state.serials.made new.state.serials.made then requests.posted waiting (request_of new) else waiting
+posted_for old new waiting = if nat_lt old.state.serials.made new.state.serials.made then requests.posted waiting (request_of new) else waiting
 
 -- in the order of the subchannels' configuration (own)
 abbrev pub posted_all : List Subchannel → List Subchannel → requests.WaitingRequests → requests.WaitingRequests

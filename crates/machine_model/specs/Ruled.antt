@@ -22,12 +22,8 @@ RulesAt picks s (Some f) r =
     × picks (paths_to_choose s.subs f.sub) f.sub.state.last_path choice
     × (r ≡ at_sub s f.place (choose_sub (marked_sub f.sub choice) (chosen f.sub choice)))
 
-abbrev pub outcome_of : Result Reply Fault → State → Outcome
-outcome_of (Ok reply) new = does reply new
-outcome_of (Err f) new = Err f
-
 -- what a call answered and left goes by the rule; of the events, Choose alone takes a path of its own choice
 abbrev pub GoesByRule : Rule → State → Event → Result Reply Fault → State → Type 0
 GoesByRule picks old (event.Choose word) r new =
-    (t : Outcome) × RulesAt picks old (found_of old word) t × (outcome_of r new ≡ settled old (event.Choose word) t)
+    (t : Outcome) × RulesAt picks old (found_of old word) t × (elim r [ Ok reply ↦ does reply new | Err f ↦ Err f ] ≡ settled old (event.Choose word) t)
 GoesByRule picks old other r new = Unit {0}

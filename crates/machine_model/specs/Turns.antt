@@ -1,7 +1,9 @@
 -- What an event answers and leaves, or why it is refused: of the whole, and of one subchannel.
 use Rattle.std.specs.Prelude.{ℕ, List, Result, Ok, Err}
+use Rattle.storage_keys.specs.declared.StorageFault.{StorageFault}
 use Rattle.storage_keys.specs.Storage.{Contents}
 use Rattle.chan_model.specs.declared.fault.Fault.{Fault}
+use Rattle.chan_model.specs.declared.fault.Fault.TheVariants as fault
 use Rattle.chan_model.specs.declared.unit_state.UnitState.{UnitState}
 use Rattle.chan_events.specs.declared.reply.Reply.{Reply}
 use Rattle.control_units.specs.declared.Member.{Member}
@@ -19,6 +21,11 @@ Outcome = Result Turn Fault
 
 abbrev pub does : Reply → State → Outcome
 does r s = Ok (record { reply = r; state = s })
+
+-- what an act whose operand is tested comes to: its turn, or storage's fault
+abbrev pub where_tested : Result (Unit {0}) StorageFault → Outcome → Outcome
+where_tested (Ok u) turn = turn
+where_tested (Err f) turn = Err (fault.Storage f)
 
 -- what an event at one subchannel answers and leaves of it
 pub record SubTurn : Type 0 where

@@ -18,10 +18,8 @@ use Rattle.subchannel_model.specs.Places.{Found}
 use Rattle.subchannel_model.specs.Sending.{carried_by, finds_full, with_any_sent}
 
 abbrev pub with_met : Subchannel → ℕ → UpStep → Subchannel
-with_met sub path step = record sub {
-  state = step.state;
-  wires = record { down = with_any_sent sub.wires.down (carried_by sub step.came.sent); up = taken sub.wires.up path };
-}
+with_met sub path step =
+    record sub { state = step.state; wires = record { down = with_any_sent sub.wires.down (carried_by sub step.came.sent); up = taken sub.wires.up path } }
 
 abbrev pub up_front : Bool → Contents → Subchannel → ℕ → Option Up → Result UpTurn Fault
 up_front returns storage sub path None = Err fault.NotSent

@@ -8,7 +8,8 @@ use Rattle.std.proofs.lemmas.List.FromFn.{map-range_with_len_more, length-range_
 use Rattle.std.proofs.lemmas.Option.{slice_get-get_or, slice_get_past, get_or_from_slice_get, slice_get_within}
 use Rattle.storage_keys.specs.declared.StorageFault.{StorageFault}
 use Rattle.storage_keys.specs.Storage as keys
-use Rattle.storage_keys.specs.Storage.{Contents, is_inside, permits_store, access_check, where_permitted, fetched, put_at}
+use Rattle.storage_keys.specs.Storage.{Contents, is_inside, where_permitted, fetched, put_at}
+use Rattle.storage_keys.proofs.Named.{permits_store, check_by}
 use Rattle.idaw.specs.Places.{each_below}
 use Rattle.data_move.specs.Moving.{Moving, room, next_place}
 use Rattle.data_move.specs.Accesses as access
@@ -73,7 +74,7 @@ was-checked : {A : Type 0} → (r : Result A StorageFault) (x : A) → checked r
 was-checked (Ok y) x e = let same : y ≡ x = cc e in ap Ok same
 was-checked (Err f) x e = absurd (cc e)
 
-was-permitted : {A : Type 0} → (inside permits : Bool) (value x : A) → where_permitted (access_check inside permits) value ≡ Ok x → (inside ≡ true) × (value ≡ x)
+was-permitted : {A : Type 0} → (inside permits : Bool) (value x : A) → where_permitted (check_by inside permits) value ≡ Ok x → (inside ≡ true) × (value ≡ x)
 was-permitted true true value x e = (refl, cc e)
 was-permitted true false value x e = absurd (cc e)
 was-permitted false permits value x e = absurd (cc e)

@@ -16,7 +16,8 @@ use Rattle.channel_program.specs.Acts.{Act, Block, Unfetched}
 use Rattle.channel_program.specs.Blocks.{reads}
 use Rattle.channel_program.specs.Programs.{Command, next, next_after, role_of, role_after, commands, commands_after}
 use Rattle.channel_program.proofs.Named.{acts_at}
-use Rattle.channel_program.specs.Walks.{walk_place, after_block, is_program_misplaced, act_of_fetch, fetch_act, with_target, acts_from, advance_acts, block_advance, advance_of}
+use Rattle.channel_program.specs.Walks.{walk_place, is_program_misplaced, fetch_act, acts_from, advance_acts, advance_of}
+use Rattle.channel_program.proofs.Named.{after_block, act_of_fetch, with_target, block_advance}
 use Rattle.idaw.specs.Places.{Reach}
 use Rattle.program_laws.specs.DataAreas.{data_areas, reaches_after}
 

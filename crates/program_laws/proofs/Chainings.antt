@@ -13,7 +13,8 @@ use Rattle.channel_program.specs.declared.Reading.TheVariants.{Takes}
 use Rattle.channel_program.specs.Acts.{Act, Used_up}
 use Rattle.channel_program.specs.Programs.{IsProgram, Command, role_of, latest, next, tried, commands, commands_after, join_last}
 use Rattle.channel_program.proofs.Named.{acts_at}
-use Rattle.channel_program.specs.Walks.{WalkPlace, walk_place, after_acts, after_used_up, advance_acts, advance_of}
+use Rattle.channel_program.specs.Walks.{WalkPlace, walk_place, after_acts, advance_acts, advance_of}
+use Rattle.channel_program.proofs.Named.{after_used_up}
 use Rattle.idaw.specs.Lists.{block, kind_of}
 use Rattle.idaw.specs.Places.{Reach, place_of_byte, each_below, places_of_bytes}
 use Rattle.data_move.specs.Moving as movement

@@ -69,7 +69,8 @@ use Rattle.step_laws.specs.Walks.{IsFound, Suits}
 use Rattle.machine_laws.proofs.TaleEvents.{reset-phase}
 use Rattle.program_laws.specs.Traces as traced
 use Rattle.program_laws.proofs.Named.{offered_for, resumed_for, IsCopied}
-use Rattle.program_laws.specs.Traces.{ProgramTrace, chosen_at, takes, taken_at, absorbs, reported, reported_at}
+use Rattle.program_laws.specs.Traces.{ProgramTrace, chosen_at, taken_at, absorbs, reported_at}
+use Rattle.program_laws.proofs.Named.{takes, reported}
 use Rattle.program_laws.proofs.MachineTraces.{met_with, met_at, trace, trace_after}
 use Rattle.program_laws.proofs.Turns.{PlaceStep, Stays, Starts_with_orb, Is_tested, Is_resumed, Is_halted, Is_cleared, Is_cancelled, Is_modified, Is_chosen, Meets, Sinks, Is_reported, Other_sinks, Other_reported, Unit_acts, Is_swept, step-happens}
 use Rattle.program_laws.proofs.Accesses.{AreAccesses}

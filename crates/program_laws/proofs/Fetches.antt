@@ -15,7 +15,8 @@ use Rattle.channel_program.specs.Acts.{Act, Block, Unfetched, Used_up, End}
 use Rattle.channel_program.specs.Blocks.{reads}
 use Rattle.channel_program.specs.Programs.{IsProgram, role_of, next, commands}
 use Rattle.channel_program.proofs.Named.{acts_at}
-use Rattle.channel_program.specs.Walks.{WalkPlace, walk_place, after_block, after_used_up, walk_after_end, is_program_misplaced, act_of_fetch, fetch_act, with_target, acts_from, advance_acts}
+use Rattle.channel_program.specs.Walks.{WalkPlace, walk_place, is_program_misplaced, fetch_act, acts_from, advance_acts}
+use Rattle.channel_program.proofs.Named.{after_block, after_used_up, walk_after_end, act_of_fetch, with_target}
 use Rattle.idaw.specs.declared.ListKind.{ListKind}
 use Rattle.idaw.specs.Lists.{kind_of, width, address_of_word}
 use Rattle.idaw.specs.Places.{Reach}

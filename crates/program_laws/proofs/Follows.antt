@@ -28,7 +28,8 @@ use Rattle.machine_model.specs.Steps.{Step}
 use Rattle.machine_model.specs.Turns.{Turn, UpTurn, Outcome, at_storage, does}
 use Rattle.machine_model.specs.UpSteps.{returns_at, up_front, up_sub, up_at}
 use Rattle.step_laws.proofs.Places.{get-set, get-other}
-use Rattle.program_laws.specs.Traces.{ProgramTrace, is_place}
+use Rattle.program_laws.specs.Traces.{ProgramTrace}
+use Rattle.chan_model.specs.ResetCauses.{is_path}
 use Rattle.program_laws.specs.Shows.{IsCountLeft}
 use Rattle.program_laws.specs.Tells.{Meets, MeetsNone, OfBoth, ShowsBy, AtPlace, GoesBy}
 use Rattle.program_laws.proofs.MachineTraces.{met_with, met_at, trace_meets, trace_after}
@@ -120,10 +121,10 @@ module _ (laws : AreLaws) (accesses : AreAccesses) where
     Goes e r new = GoesBy place s e r new k (trace_after place s e r k)
 
     -- at another place no status is made
-    elsewhere-made : (word at : ℕ) (sub after : Subchannel) → place_of s word ≡ Some at → is_place (place_of s word) place ≡ false → (x next : Subchannel) →
+    elsewhere-made : (word at : ℕ) (sub after : Subchannel) → place_of s word ≡ Some at → is_path (place_of s word) place ≡ false → (x next : Subchannel) →
         slice_get s.subs place ≡ Some x → slice_get (slice_set s.subs at after) place ≡ Some next → next.state.serials.made ≡ x.state.serials.made
     elsewhere-made word at sub after named e x next f g =
-        let apart : place ≡ at → ⊥ = λ i. eqb-false at place (sym (ap (λ (o : Option ℕ). is_place o place) named) ∙ e) (sym i) in
+        let apart : place ≡ at → ⊥ = λ i. eqb-false at place (sym (ap (λ (o : Option ℕ). is_path o place) named) ∙ e) (sym i) in
         let same : x ≡ next = cc (sym f ∙ sym (get-other s.subs at after place apart) ∙ g) in
         ap (λ (y : Subchannel). y.state.serials.made) (sym same)
 
@@ -147,7 +148,7 @@ module _ (laws : AreLaws) (accesses : AreAccesses) where
               elsewhere-made word at sub t.sub named e,
             )),
             (λ e x next f g.
-                let here : at ≡ place = eqb-true at place (sym (ap (λ (o : Option ℕ). is_place o place) named) ∙ e) in
+                let here : at ≡ place = eqb-true at place (sym (ap (λ (o : Option ℕ). is_path o place) named) ∙ e) in
                 let found : slice_get s.subs place ≡ Some sub = subst (λ (i : ℕ). slice_get s.subs i ≡ Some sub) here there in
                 let old : sub ≡ x = cc (sym found ∙ f) in
                 let left : slice_get (slice_set s.subs at t.sub) place ≡ Some t.sub =

@@ -21,7 +21,8 @@ use Rattle.channel_program.specs.declared.check.Check.{Check}
 use Rattle.channel_program.specs.declared.Ended.{Ended}
 use Rattle.channel_program.specs.Acts.{Act, End}
 use Rattle.channel_program.specs.Programs.{IsProgram, role_of, commands}
-use Rattle.channel_program.specs.Walks.{WalkPlace, walk_place, walk_after_end}
+use Rattle.channel_program.specs.Walks.{WalkPlace, walk_place}
+use Rattle.channel_program.proofs.Named.{walk_after_end}
 use Rattle.idaw.specs.Lists.{block, kind_of}
 use Rattle.idaw.specs.Places.{places_of_bytes}
 use Rattle.data_move.specs.Moving.{residual}

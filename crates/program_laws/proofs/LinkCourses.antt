@@ -31,7 +31,8 @@ use Rattle.subchannel_model.specs.declared.state.SubchannelState.{SubchannelStat
 use Rattle.subchannel_model.specs.Sending.{carried, with_any_sent}
 use Rattle.program_laws.specs.Traces.{CommandTrace}
 use Rattle.program_laws.specs.DataAreas.{data_areas}
-use Rattle.program_laws.specs.Traces.{ProgramTrace, takes, taken_at, absorbs, reported}
+use Rattle.program_laws.specs.Traces.{ProgramTrace, taken_at, absorbs}
+use Rattle.program_laws.proofs.Named.{takes, reported}
 use Rattle.program_laws.proofs.MachineTraces.{ends_alone}
 use Rattle.program_laws.specs.Claims.{AbsorbsInOrder, IsBeginning, IsFirstOf, places_of}
 use Rattle.program_laws.proofs.Ties.{AreLaws, Tied, spot-begins, with_moved-tied}

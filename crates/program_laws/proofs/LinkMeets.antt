@@ -24,7 +24,8 @@ use Rattle.chan_model.specs.Loads.{load_length}
 use Rattle.chan_model.specs.UnitReports.{is_outward, is_last_end, has_device_end}
 use Rattle.channel_program.specs.Acts.{Act, End}
 use Rattle.channel_program.specs.Programs.{commands}
-use Rattle.channel_program.specs.Walks.{WalkPlace, walk_after_end}
+use Rattle.channel_program.specs.Walks.{WalkPlace}
+use Rattle.channel_program.proofs.Named.{walk_after_end}
 use Rattle.idaw.specs.Places.{each_below}
 use Rattle.data_move.specs.Moving.{residual, room}
 use Rattle.transfer.specs.declared.Transfer.{Transfer}

@@ -8,7 +8,8 @@ use Rattle.channel_program.specs.declared.check.Check.{Check}
 use Rattle.channel_program.specs.declared.Advance.{Advance}
 use Rattle.channel_program.specs.declared.Advance.TheVariants as advance
 use Rattle.channel_program.specs.Acts.{PlacedBytes}
-use Rattle.channel_program.specs.Walks.{WalkPlace, after_acts, after_used_up, advance_acts, advance_of}
+use Rattle.channel_program.specs.Walks.{WalkPlace, after_acts, advance_acts, advance_of}
+use Rattle.channel_program.proofs.Named.{after_used_up}
 use Rattle.idaw.specs.Places.{each_below}
 use Rattle.data_move.specs.Moving.{Moving, next_place, needs_word, room}
 use Rattle.data_move.specs.Accesses as access
@@ -16,7 +17,8 @@ use Rattle.transfer.specs.declared.Transfer.{Transfer}
 use Rattle.transfer.specs.declared.CommandStart.TheVariants as came
 use Rattle.transfer.specs.declared.NextChunk.{NextChunk}
 use Rattle.transfer.specs.Commands.{transfer_of, command_begins, goes_to, located_transfer, with_located, has_stopped}
-use Rattle.transfer.specs.Chunks.{chains_data, chained_to, chained, with_moved, moved_on, with_answer, taken_by_device, next_chunk_of, given_from, next_given}
+use Rattle.transfer.specs.Chunks.{chains_data, chained_to, chained, with_moved, moved_on, with_answer, taken_by_device, given_from, next_given}
+use Rattle.transfer.proofs.Named.{next_chunk_of}
 use Rattle.program_laws.proofs.MachineActs as doing
 use Rattle.program_laws.specs.Traces.{CommandTrace}
 use Rattle.program_laws.proofs.MachineActs.{with_acts, with_places, with_copy, copying, located_acts, chunk_of, chained_acts, trace_answered, gives}

@@ -6,7 +6,8 @@ use Rattle.storage_keys.specs.Storage.{Contents}
 use Rattle.channel_program.specs.declared.check.Check.{Check}
 use Rattle.channel_program.specs.declared.Ended.{Ended}
 use Rattle.channel_program.specs.Acts.{Act, PlacedBytes, Used_up, End, Word}
-use Rattle.channel_program.specs.Walks.{WalkPlace, after_used_up, walk_after_end, advance_acts}
+use Rattle.channel_program.specs.Walks.{WalkPlace, advance_acts}
+use Rattle.channel_program.proofs.Named.{after_used_up, walk_after_end}
 use Rattle.idaw.specs.Places.{each_below}
 use Rattle.data_move.specs.Moving.{Moving, needs_word, next_place, room}
 use Rattle.data_move.specs.Accesses as access

@@ -36,7 +36,8 @@ use Rattle.subchannel_model.specs.Ends.{has_status_modifier, chains_command}
 use Rattle.subchannel_model.specs.Taking.{goes_ahead, bytes_of_load}
 use Rattle.machine_model.specs.Steps.{Run, Opened, Stepped}
 use Rattle.program_laws.proofs.MachineActs.{with_acts, first_acts, next_acts, gives, takes_in}
-use Rattle.program_laws.specs.Traces.{no_trace, ProgramTrace, past_part, chosen_at, taken_at, reported_at, is_place}
+use Rattle.program_laws.specs.Traces.{no_trace, ProgramTrace, past_part, chosen_at, taken_at, reported_at}
+use Rattle.chan_model.specs.ResetCauses.{is_path}
 
 -- a command begins, or can't, or the program is suspended
 abbrev pub trace_goes_on : CommandStart → List Act → ProgramTrace → ProgramTrace
@@ -121,11 +122,11 @@ abbrev pub silent : Taken Up → Bool
 silent c = silent_by c.taken c.sent
 
 abbrev pub trace_after : ℕ → State → Event → Reply → Option ProgramTrace → Option ProgramTrace
-trace_after walk_place s (event.Choose word) r k = if is_place (place_of s word) walk_place then chosen_at (slice_get s.subs walk_place) r k else k
-trace_after walk_place s (event.Up word path) r k = if is_place (place_of s word) walk_place then met_at s.storage (slice_get s.subs walk_place) path k else k
-trace_after walk_place s (event.Down word path) r k = if is_place (place_of s word) walk_place then taken_at r k else k
+trace_after walk_place s (event.Choose word) r k = if is_path (place_of s word) walk_place then chosen_at (slice_get s.subs walk_place) r k else k
+trace_after walk_place s (event.Up word path) r k = if is_path (place_of s word) walk_place then met_at s.storage (slice_get s.subs walk_place) path k else k
+trace_after walk_place s (event.Down word path) r k = if is_path (place_of s word) walk_place then taken_at r k else k
 trace_after walk_place s (event.Report u report) r k =
-    if is_place (reached_in u report.side s.subs) walk_place then reported_at (slice_get s.units u) report k else k
+    if is_path (reached_in u report.side s.subs) walk_place then reported_at (slice_get s.units u) report k else k
 trace_after walk_place s e r k = k
 
 -- the story of the subchannel at a place; none where nothing was offered

@@ -18,7 +18,8 @@ use Rattle.data_move.specs.Moving.{next_place, residual, room}
 use Rattle.transfer.specs.declared.NextChunk.{NextChunk}
 use Rattle.transfer.specs.declared.Transfer.{Transfer}
 use Rattle.transfer.specs.Commands.{with_located, located_transfer, has_stopped}
-use Rattle.transfer.specs.Chunks.{Brought, with_moved, chains_data, with_answer, taken_by_device, given_bytes, next_chunk_of, next_given, fitting, brought_by, brought_in, brought, is_answered}
+use Rattle.transfer.specs.Chunks.{Brought, with_moved, chains_data, with_answer, taken_by_device, given_bytes, next_given, fitting, brought_by, brought_in, brought, is_answered}
+use Rattle.transfer.proofs.Named.{next_chunk_of}
 use Rattle.subchannel_model.specs.declared.signals.DataSignal.{DataSignal}
 use Rattle.subchannel_model.specs.declared.state.ActiveProgram.{ActiveProgram}
 use Rattle.subchannel_model.specs.declared.state.SubchannelState.{SubchannelState}

@@ -1,10 +1,12 @@
 -- Parts of the definitions of this crate, by names that proofs speak of.
-use Rattle.std.specs.Prelude.{◌≡◌, ◌⊎◌, ℕ, ◌+◌, ◌&&◌, ◌||◌, Bool, true, is_none, is_some, Option, None, Some, option_map, List, [], ◌∷◌, length, map, reverse, take, drop}
+use Rattle.std.specs.Prelude.{◌≡◌, ◌⊎◌, ℕ, ◌+◌, ◌^◌, ◌==◌, ◌&&◌, ◌||◌, nat_le, if◌then◌else◌, Result, Ok, Err, Bool, true, false, is_none, is_some, Option, None, Some, option_map, List, [], ◌∷◌, length, map, reverse, take, drop}
 use Rattle.orb_block.specs.declared.Orb.{Orb}
 use Rattle.ccw_codec.specs.declared.Ccw.{Ccw}
 use Rattle.channel_program.specs.Acts.{Act, PlacedBytes}
 use Rattle.channel_program.specs.Programs.{Command, next, commands, code}
 use Rattle.idaw.specs.Places.{Reach, reach_with_word}
+use Rattle.idaw.specs.declared.ListKind.{ListKind}
+use Rattle.idaw.specs.declared.ListKind.TheVariants.{Short}
 use Rattle.data_move.specs.Accesses.{bytes_at}
 use Rattle.subchannel_model.specs.declared.state.Chosen.{Chosen}
 use Rattle.subchannel_model.specs.declared.state.Program.{Program}
@@ -12,7 +14,17 @@ use Rattle.subchannel_model.specs.declared.state.SubchannelState.{SubchannelStat
 use Rattle.program_laws.specs.Claims.{IsBeginning, IsSuspended}
 use Rattle.program_laws.specs.DataAreas.{data_areas, reaches_with, counts}
 use Rattle.program_laws.specs.Shows.{IsCountOf, IsCountZero}
-use Rattle.program_laws.specs.Traces.{ProgramTrace, trace_offered, trace_resumed}
+use Rattle.program_laws.specs.Traces.{ProgramTrace, trace_offered, trace_resumed, absorbs}
+use Rattle.idaw.specs.declared.WordFault.{WordFault}
+use Rattle.data_move.specs.Moving.{Moving}
+use Rattle.channel_program.specs.declared.check.Check.{Check}
+use Rattle.channel_program.specs.declared.check.Check.TheVariants as check
+use Rattle.chan_model.specs.declared.signal.Down.{Down}
+use Rattle.chan_model.specs.declared.signal.Down.TheVariants as down
+use Rattle.chan_model.specs.declared.unit_state.UnitState.{UnitState}
+use Rattle.chan_model.specs.declared.report.Report.{Report}
+use Rattle.chan_model.specs.declared.report.DeviceAnswer.{DeviceAnswer}
+use Rattle.chan_model.specs.declared.report.DeviceAnswer.TheVariants.{Absorbed}
 
 abbrev pub resumed_for : ℕ → Option ProgramTrace → Option ProgramTrace
 resumed_for t k = option_map (trace_resumed t) k
@@ -49,3 +61,21 @@ first_bytes c n = record { storage = c.storage; places = take n c.places; bytes 
 
 abbrev pub IsWhole : Orb → List Act → Type 0
 IsWhole orb acts = (acts ≡ []) ⊎ ((next orb acts ≡ None) ⊎ IsSuspended orb acts)
+
+abbrev pub has_leftmost_bit : ListKind → ℕ → Bool
+has_leftmost_bit kind word = elim kind [ Short ↦ nat_le (2 ^ 31) word | long ↦ false ]
+
+abbrev pub is_outside : ListKind → ℕ → ℕ → Bool
+is_outside kind word size = elim kind [ Short ↦ false | long ↦ nat_le size word ]
+
+-- a word with a fault is a program check
+abbrev pub where_right : Option WordFault → Moving → Result Moving Check
+where_right fault m = elim fault [ None ↦ Ok m | Some w ↦ Err check.Program ]
+
+abbrev pub takes : Down → ProgramTrace → ProgramTrace
+takes signal k =
+    elim signal [ down.Command t n code room ↦ if t == k.number then record k { taken = code ∷ k.taken; absorbed = [] } else k | other ↦ k ]
+
+abbrev pub reported : UnitState → Report → DeviceAnswer → ProgramTrace → ProgramTrace
+reported u report told k =
+    elim told [ Absorbed count ↦ if report.number == k.number then absorbs count u.at_hand k else k | answer ↦ k ]

@@ -13,7 +13,8 @@ use Rattle.channel_program.specs.declared.Advance.{Advance}
 use Rattle.channel_program.specs.declared.Advance.TheVariants as advance
 use Rattle.channel_program.specs.Acts.{Act}
 use Rattle.channel_program.specs.Programs.{IsProgram, Command, role_of, next, commands, code}
-use Rattle.channel_program.specs.Walks.{WalkPlace, walk_place, advance_acts, after_acts, advance_of, after_used_up}
+use Rattle.channel_program.specs.Walks.{WalkPlace, walk_place, advance_acts, after_acts, advance_of}
+use Rattle.channel_program.proofs.Named.{after_used_up}
 use Rattle.idaw.specs.Places.{each_below}
 use Rattle.data_move.specs.Moving.{Moving, next_place, room, needs_word}
 use Rattle.data_move.specs.Accesses as access
@@ -22,7 +23,8 @@ use Rattle.transfer.specs.declared.Beginning.{Beginning}
 use Rattle.transfer.specs.declared.CommandStart.{CommandStart}
 use Rattle.transfer.specs.declared.CommandStart.TheVariants as came
 use Rattle.transfer.specs.Commands.{goes_to, located_transfer, with_located, begun_with_room, with_room, brings, has_stopped}
-use Rattle.transfer.specs.Chunks.{chains_data, chained_to, chained, with_moved, moved_on, with_answer, taken_by_device, given_bytes, next_chunk_of, given_from, next_given, brought_by, brought_in, brought, fitting}
+use Rattle.transfer.specs.Chunks.{chains_data, chained_to, chained, with_moved, moved_on, with_answer, taken_by_device, given_bytes, given_from, next_given, brought_by, brought_in, brought, fitting}
+use Rattle.transfer.proofs.Named.{next_chunk_of}
 use Rattle.program_laws.specs.DataAreas.{data_areas}
 use Rattle.program_laws.proofs.MachineActs as doing
 use Rattle.program_laws.specs.Traces.{CommandTrace, Arrival}

@@ -13,9 +13,10 @@ use Rattle.channel_program.specs.declared.Role.{Role}
 use Rattle.channel_program.specs.declared.Reading.{Reading}
 use Rattle.channel_program.specs.declared.Reading.TheVariants.{Transfers, Takes, Suspends, Shows}
 use Rattle.channel_program.specs.Acts.{Act, Block, Unfetched, Used_up, End, Word}
-use Rattle.channel_program.specs.Blocks.{format_of, is_misplaced_transfer, block_reads, transfer_reads, command_reads, reads}
+use Rattle.channel_program.specs.Blocks.{format_of, block_reads, transfer_reads, command_reads, reads}
 use Rattle.channel_program.specs.Programs.{next, next_after, role_of, role_after}
-use Rattle.channel_program.specs.Walks.{WalkPlace, walk_place, after_acts, block_advance, advance_of}
+use Rattle.channel_program.specs.Walks.{WalkPlace, walk_place, after_acts, advance_of}
+use Rattle.channel_program.proofs.Named.{block_advance}
 use Rattle.program_laws.specs.Claims.{IsSuspended}
 
 -- a block to which data is chained does not suspend the program
@@ -32,7 +33,7 @@ transfer-unchained role ccw true e = absurd (cc e)
 transfer-unchained role ccw false e = absurd (cc e)
 
 kind-unchained : (orb : Orb) (role : Role) (ccw : Ccw) (b : Bool) → (if b then transfer_reads role ccw else command_reads orb role ccw) ≡ Suspends → role.chained ≡ false
-kind-unchained orb role ccw true e = transfer-unchained role ccw (is_misplaced_transfer role) e
+kind-unchained orb role ccw true e = transfer-unchained role ccw (role.first || role.after_transfer) e
 kind-unchained orb role ccw false e =
     command-unchained (not role.chained && not (is_valid (format_of orb) ccw.command)) (role.chained && (ccw.count == 0)) ccw.suspend (not orb.suspend) role.chained ccw e
 

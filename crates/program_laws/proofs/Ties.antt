@@ -19,7 +19,7 @@ use Rattle.channel_program.specs.Walks.{WalkPlace, walk_place, after_acts, advan
 use Rattle.idaw.specs.declared.ListKind.{ListKind}
 use Rattle.idaw.specs.declared.WordFault.{WordFault}
 use Rattle.idaw.specs.declared.WordFault.TheVariants.{LeftmostBit, OffBlock, OutsideStorage}
-use Rattle.idaw.specs.Lists.{block, kind_of, word_fault, has_leftmost_bit, is_outside}
+use Rattle.idaw.specs.Lists.{block, kind_of, word_fault}
 use Rattle.idaw.specs.Places.{Reach, place_of_byte, each_below, places_of_bytes, reach_with_word, covered}
 use Rattle.data_move.specs.Moving as movement
 use Rattle.data_move.specs.Moving.{Moving, moving_begun, with_piece, moved, next_place, needs_word, residual, uses_list, room, IsAt, MayFetch}
@@ -37,7 +37,7 @@ use Rattle.channel_config.specs.Lawful.{IsLawful}
 use Rattle.channel_config.specs.Setup.{Setup}
 use Rattle.machine_model.specs.State.{State, opening_of}
 use Rattle.machine_model.specs.Steps.{Run}
-use Rattle.program_laws.proofs.Named.{word_after}
+use Rattle.program_laws.proofs.Named.{word_after, has_leftmost_bit, is_outside, where_right}
 use Rattle.program_laws.specs.DataAreas.{reach, data_areas, reaches_after, reaches_with, counts}
 use Rattle.program_laws.proofs.MachineActs.{act_of_word, word_acts, located_acts, room_acts}
 use Rattle.program_laws.specs.Claims.{IsBeginning, IsSuspended}
@@ -311,7 +311,7 @@ module _ (earlier : ℕ) where
 
     right-tied : (orb : Orb) (acts : List Act) (ps : List (Option ℕ)) (t : Transfer) (word size : ℕ) (w : Option WordFault) →
         word_fault t.moving.kind (t.moving.words == 0) word size ≡ w → is_some t.fault ≡ false → needs_word t.moving ≡ true → Tied orb acts ps t →
-        Tied orb (Word word ∷ acts) ps (with_located t (access.where_right w (with_piece t.moving word)))
+        Tied orb (Word word ∷ acts) ps (with_located t (where_right w (with_piece t.moving word)))
     right-tied orb acts ps t word size None e f n k = record {
       walk = k.walk;
       program = k.program;

@@ -54,7 +54,8 @@ use Rattle.machine_model.specs.declared.state.Sweep.{Sweep}
 use Rattle.machine_model.specs.PathSteps.{swept}
 use Rattle.step_laws.specs.Walks as walked
 use Rattle.step_laws.specs.Walks.{Walked, IsQuiet, Suits, OneSub, OneUnit, Function, effect_of}
-use Rattle.program_laws.specs.Traces.{ProgramTrace, is_place, chosen_at, taken_at, reported_at}
+use Rattle.program_laws.specs.Traces.{ProgramTrace, chosen_at, taken_at, reported_at}
+use Rattle.chan_model.specs.ResetCauses.{is_path}
 use Rattle.program_laws.proofs.MachineTraces.{met_at, trace_after}
 use Rattle.step_laws.proofs.Places.{same-or-not, get-set, get-other, map-get}
 use Rattle.program_laws.proofs.UnitHands as hands
@@ -171,11 +172,11 @@ module _ (s : State) (one : IsOneSided s) (place : ℕ) where
       × PlaceStep s.storage sub x (slice_get s.units sub.setup.«unit») (slice_get new.units sub.setup.«unit») f
 
   -- the event at a place, and at another
-  here : (p : Option ℕ) (at : ℕ) (f : Option ProgramTrace → Option ProgramTrace) → p ≡ Some at → (at == place) ≡ true → (k : Option ProgramTrace) → (if is_place p place then f k else k) ≡ f k
-  here p at f n e k = ap (λ (b : Bool). if b then f k else k) (ap (λ (q : Option ℕ). is_place q place) n ∙ e)
+  here : (p : Option ℕ) (at : ℕ) (f : Option ProgramTrace → Option ProgramTrace) → p ≡ Some at → (at == place) ≡ true → (k : Option ProgramTrace) → (if is_path p place then f k else k) ≡ f k
+  here p at f n e k = ap (λ (b : Bool). if b then f k else k) (ap (λ (q : Option ℕ). is_path q place) n ∙ e)
 
-  elsewhere : (p : Option ℕ) (at : ℕ) (f : Option ProgramTrace → Option ProgramTrace) → p ≡ Some at → (at == place) ≡ false → (k : Option ProgramTrace) → (if is_place p place then f k else k) ≡ k
-  elsewhere p at f n e k = ap (λ (b : Bool). if b then f k else k) (ap (λ (q : Option ℕ). is_place q place) n ∙ e)
+  elsewhere : (p : Option ℕ) (at : ℕ) (f : Option ProgramTrace → Option ProgramTrace) → p ≡ Some at → (at == place) ≡ false → (k : Option ProgramTrace) → (if is_path p place then f k else k) ≡ k
+  elsewhere p at f n e k = ap (λ (b : Bool). if b then f k else k) (ap (λ (q : Option ℕ). is_path q place) n ∙ e)
 
   -- the subchannels stay
   stays : (new : State) (f : Option ProgramTrace → Option ProgramTrace) → new.subs ≡ s.subs → new.units ≡ s.units → ((k : Option ProgramTrace) → f k ≡ k) → At new f

@@ -32,7 +32,8 @@ use Rattle.subchannel_model.specs.Ends.{has_status_modifier, breaks_chain}
 use Rattle.subchannel_model.specs.Taking.{bytes_of_load}
 use Rattle.machine_model.specs.State.{State, place_of}
 use Rattle.machine_model.specs.Steps.{Run, Opened, Stepped}
-use Rattle.program_laws.specs.Traces.{CommandTrace, no_trace, ProgramTrace, past_part, is_place, told_after}
+use Rattle.program_laws.specs.Traces.{CommandTrace, no_trace, ProgramTrace, past_part, told_after}
+use Rattle.chan_model.specs.ResetCauses.{is_path}
 use Rattle.program_laws.specs.Fetches.{AddsFetched}
 use Rattle.program_laws.specs.Claims.{IsBeginning, places_of, TraceCorrect}
 use Rattle.program_laws.specs.Shows.{IsCountShown, IsCountLeft, IsCountZero, IsCountBy, IsCountOf}
@@ -43,13 +44,10 @@ pub record SentCommand : Type 0 where
   pub command : ℕ
   pub sent_code : ℕ
 
-abbrev pub command_of : Down → Option SentCommand
-command_of (down.Command t n code room) = Some (record { number = t; command = n; sent_code = code })
-command_of signal = None
-
 abbrev pub command_sent : Option (OnPath Down) → Option SentCommand
 command_sent None = None
-command_sent (Some sent) = command_of sent.signal
+command_sent (Some sent) =
+    elim sent.signal [ down.Command t n code room ↦ Some (record { number = t; command = n; sent_code = code }) | other ↦ None ]
 
 -- a program goes as far as these acts: the command that is sent is the one that came to it with them, or none is sent and none
 -- came
@@ -170,8 +168,7 @@ MeetsNone s next signal = IsCountLeft s next
 abbrev pub OfBoth : Type 0 → (ProgramTrace → ProgramTrace → Type 0) → Option ProgramTrace → Option ProgramTrace → Type 0
 OfBoth N P None None = N
 OfBoth N P (Some k) (Some after) = P k after
-OfBoth N P None (Some after) = ⊥
-OfBoth N P (Some k) None = ⊥
+OfBoth N P k after = ⊥
 
 -- the count of the status that another event makes: of a clear that is pending where a Reset is due, Choose shows zero
 abbrev pub ShowsBy : Event → SubchannelState → SubchannelState → Option ProgramTrace → Type 0
@@ -186,8 +183,8 @@ AtPlace place s new P = (sub next : Subchannel) → slice_get s.subs place ≡ S
 -- each event: a signal that comes up is of the subchannel that meets it, and makes no status at another
 abbrev pub GoesBy : ℕ → State → Event → Reply → State → Option ProgramTrace → Option ProgramTrace → Type 0
 GoesBy place s (event.Up word path) (reply.Up signal taken sent) new k after =
-    (is_place (place_of s word) place ≡ false → (after ≡ k) × AtPlace place s new (λ sub next. next.serials.made ≡ sub.serials.made))
-    × (is_place (place_of s word) place ≡ true →
+    (is_path (place_of s word) place ≡ false → (after ≡ k) × AtPlace place s new (λ sub next. next.serials.made ≡ sub.serials.made))
+    × (is_path (place_of s word) place ≡ true →
     AtPlace place s new (λ sub next. OfBoth (MeetsNone sub next signal) (Meets s.storage new.storage sub next signal taken sent) k after))
 GoesBy place s e r new k after = (after ≡ told_after place s e r k) × AtPlace place s new (λ sub next. ShowsBy e sub next k)
 

@@ -1,14 +1,13 @@
 -- What was done for the program that a subchannel offered last, and what offers, devices and their reports tell of it
 -- (SA22-7832, chapter 15).
-use Rattle.std.specs.Prelude.{ℕ, ◌==◌, Bool, true, false, if◌then◌else◌, Option, None, Some, option_map, List, [], ◌∷◌, ◌++◌, length, take, slice_get}
+use Rattle.std.specs.Prelude.{ℕ, ◌==◌, true, false, if◌then◌else◌, Option, None, Some, option_map, List, [], ◌∷◌, ◌++◌, length, take, slice_get}
 use Rattle.orb_block.specs.declared.Orb.{Orb}
-use Rattle.chan_model.specs.declared.signal.Down.{Down}
 use Rattle.chan_model.specs.declared.signal.Down.TheVariants as down
-use Rattle.chan_model.specs.declared.report.DeviceAnswer.{DeviceAnswer}
 use Rattle.chan_model.specs.declared.report.DeviceAnswer.TheVariants.{Absorbed}
 use Rattle.chan_model.specs.declared.report.Report.{Report}
 use Rattle.chan_model.specs.declared.unit_state.AtHand.{AtHand}
 use Rattle.chan_model.specs.declared.unit_state.UnitState.{UnitState}
+use Rattle.chan_model.specs.ResetCauses.{is_path}
 use Rattle.chan_events.specs.declared.event.Event.{Event}
 use Rattle.chan_events.specs.declared.event.Event.TheVariants as event
 use Rattle.chan_events.specs.declared.reply.Reply.{Reply}
@@ -64,18 +63,14 @@ abbrev pub trace_resumed : ℕ → ProgramTrace → ProgramTrace
 trace_resumed t k = record (trace_offered t k.orb) { earlier = length (commands k.orb k.now.acts); now = past_part k.now }
 
 abbrev pub chosen_at : Option Subchannel → Reply → Option ProgramTrace → Option ProgramTrace
-chosen_at (Some sub) (reply.Offered t p false) k =
-    elim sub.state.waiting [ None ↦ k | Some program ↦ Some (trace_offered t program.orb) ]
+chosen_at (Some sub) (reply.Offered t p false) k = elim sub.state.waiting [ None ↦ k | Some program ↦ Some (trace_offered t program.orb) ]
 chosen_at (Some sub) (reply.Offered t p true) k = option_map (trace_resumed t) k
 chosen_at sub r k = k
 
 -- the device takes a command of the program: one that is answered, as where its side is fresh, was not taken
-abbrev pub takes : Down → ProgramTrace → ProgramTrace
-takes (down.Command t n code room) k = if t == k.number then record k { taken = code ∷ k.taken; absorbed = [] } else k
-takes signal k = k
-
 abbrev pub taken_at : Reply → Option ProgramTrace → Option ProgramTrace
-taken_at (reply.Down signal true None) (Some k) = Some (takes signal k)
+taken_at (reply.Down signal true None) (Some k) =
+    Some (elim signal [ down.Command t n code room ↦ if t == k.number then record k { taken = code ∷ k.taken; absorbed = [] } else k | other ↦ k ])
 taken_at r k = k
 
 -- the device absorbs bytes that it was given
@@ -83,23 +78,15 @@ abbrev pub absorbs : ℕ → Option AtHand → ProgramTrace → ProgramTrace
 absorbs count None k = k
 absorbs count (Some x) k = elim x.given [ None ↦ k | Some bytes ↦ record k { absorbed = k.absorbed ++ take count bytes } ]
 
-abbrev pub reported : UnitState → Report → DeviceAnswer → ProgramTrace → ProgramTrace
-reported u report (Absorbed count) k = if report.number == k.number then absorbs count u.at_hand k else k
-reported u report answer k = k
-
 abbrev pub reported_at : Option UnitState → Report → Option ProgramTrace → Option ProgramTrace
-reported_at (Some u) report (Some k) = Some (reported u report report.answer k)
+reported_at (Some u) report (Some k) =
+    Some (elim report.answer [ Absorbed count ↦ if report.number == k.number then absorbs count u.at_hand k else k | answer ↦ k ])
 reported_at u report k = k
 
--- an event at the subchannel of a place
-abbrev pub is_place : Option ℕ → ℕ → Bool
-is_place None place = false
-is_place (Some i) place = i == place
-
--- what an offer, a command that the device takes, and a report tell
+-- what an offer, a command that the device takes, and a report tell, where the subchannel is that of the place
 abbrev pub told_after : ℕ → State → Event → Reply → Option ProgramTrace → Option ProgramTrace
-told_after place s (event.Choose word) r k = if is_place (place_of s word) place then chosen_at (slice_get s.subs place) r k else k
-told_after place s (event.Down word path) r k = if is_place (place_of s word) place then taken_at r k else k
+told_after place s (event.Choose word) r k = if is_path (place_of s word) place then chosen_at (slice_get s.subs place) r k else k
+told_after place s (event.Down word path) r k = if is_path (place_of s word) place then taken_at r k else k
 told_after place s (event.Report at report) r k =
-    if is_place (reached_in at report.side s.subs) place then reported_at (slice_get s.units at) report k else k
+    if is_path (reached_in at report.side s.subs) place then reported_at (slice_get s.units at) report k else k
 told_after place s e r k = k

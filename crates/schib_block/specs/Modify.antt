@@ -8,13 +8,12 @@ IsAllowedPmcw given = (given.limit_mode ≡ 0) × (given.measurement_mode ≡ 0)
 
 -- the word with the parameter, ISC, E, D, LPM and POM of the given one (own)
 abbrev pub modified : Pmcw → Pmcw → Pmcw
-modified pmcw given =
-    record pmcw {
-      parameter = given.parameter;
-      subclass = given.subclass;
-      subclass_fits = given.subclass_fits;
-      enabled = given.enabled;
-      multipath = given.multipath;
-      logical = given.logical;
-      operational = given.operational;
-    }
+modified pmcw given = record pmcw {
+  parameter = given.parameter;
+  subclass = given.subclass;
+  subclass_fits = given.subclass_fits;
+  enabled = given.enabled;
+  multipath = given.multipath;
+  logical = given.logical;
+  operational = given.operational;
+}

@@ -2,7 +2,7 @@
 -- path-management-control word beside its fields are reserved: zero in what is written, ignored in what is read.
 use Rattle.std.specs.Prelude.{ℕ, ◌≡◌, List, [], ◌∷◌, ◌++◌, map, replicate, slice_index}
 use Rattle.zbits.specs.declared.layout.BitField.{BitField}
-use Rattle.zbits.specs.Layout.{AllShow, at, flag_at, word_of}
+use Rattle.zbits.specs.Layout.{AllShow, at, flag_at, flags_from, word_of}
 use Rattle.zbits.specs.Words.{words_from, words_of}
 use Rattle.scsw_irb.specs.ScswTable.{IsScsw, scsw_tables, zero_word}
 use Rattle.schib_block.specs.declared.pmcw.Pmcw.{Pmcw}
@@ -17,10 +17,7 @@ word_1 pmcw =
     ∷ flag_at 8 pmcw.enabled
     ∷ at 9 10 pmcw.limit_mode
     ∷ at 11 12 pmcw.measurement_mode
-    ∷ flag_at 13 pmcw.multipath
-    ∷ flag_at 14 pmcw.timing
-    ∷ flag_at 15 pmcw.valid
-    ∷ at 16 31 pmcw.device_number
+    ∷ flags_from 13 (pmcw.multipath ∷ pmcw.timing ∷ pmcw.valid ∷ []) ++ at 16 31 pmcw.device_number
     ∷ []
 
 -- a byte each

@@ -9,16 +9,13 @@ use Rattle.scsw_irb.specs.declared.code.IntCode.{IntCode}
 abbrev pub identification : IntCode → List BitField
 identification code = zeros 0 12 ∷ at 13 14 code.set ∷ flag_at 15 true ∷ at 16 31 code.subchannel ∷ []
 
-abbrev pub parameter : IntCode → List BitField
-parameter code = at 0 31 code.parameter ∷ []
-
 -- the interruption-identification word
 abbrev pub interruption : IntCode → List BitField
 interruption code = zeros 0 1 ∷ at 2 4 code.subclass ∷ zeros 5 31 ∷ []
 
 -- the table of the code's three words
 abbrev pub code_tables : IntCode → List (List BitField)
-code_tables code = identification code ∷ parameter code ∷ interruption code ∷ []
+code_tables code = identification code ∷ (at 0 31 code.parameter ∷ []) ∷ interruption code ∷ []
 
 -- the bits that are the same in each code are as they must be
 abbrev pub IsCode : List ℕ → Type 0

@@ -7,7 +7,7 @@ use Rattle.storage_keys.specs.declared.key.Key.{Key}
 use Rattle.storage_keys.specs.declared.StorageFault.{StorageFault}
 use Rattle.storage_keys.specs.declared.StorageFault.TheVariants.{Addressing, Specification}
 use Rattle.storage_keys.specs.Storage as keys
-use Rattle.storage_keys.specs.Storage.{Contents, put, put_at, key_set, prefix_set, is_inside, store_check, where_permitted, operand_at, operand_check}
+use Rattle.storage_keys.specs.Storage.{Contents, put, put_at, key_set, prefix_set, is_inside, access_check, key_permits_store, where_permitted, operand_at, operand_check}
 use Rattle.chan_events.specs.declared.event.Event.{Event}
 use Rattle.chan_events.specs.declared.event.Event.TheVariants as event
 use Rattle.chan_events.specs.declared.event.Instruction.{Instruction}
@@ -36,7 +36,8 @@ use Rattle.channel_config.specs.SubchannelWords.{subchannel_named}
 use Rattle.channel_reports.specs.Queue.{is_asked}
 use Rattle.data_move.specs.Accesses as access
 use Rattle.transfer.specs.declared.Transfer.{Transfer}
-use Rattle.transfer.specs.Chunks.{Brought, brought_by, brought_in, brings_none, brought, fitting, is_answered}
+use Rattle.transfer.specs.Chunks.{Brought, brought_by, brought_in, brought, fitting, is_answered}
+use Rattle.transfer.proofs.Named.{brings_none}
 use Rattle.subchannel_model.specs.declared.signals.DataSignal.{DataSignal}
 use Rattle.subchannel_model.specs.declared.state.ActiveProgram.{ActiveProgram}
 use Rattle.subchannel_model.specs.declared.state.Subchannel.{Subchannel}
@@ -55,17 +56,20 @@ use Rattle.subchannel_model.specs.Modify.{msch_code, modified_state}
 use Rattle.wires.specs.Queues.{queue}
 use Rattle.control_units.specs.declared.Member.{Member}
 use Rattle.control_units.proofs.Named.{refused_at}
-use Rattle.control_units.specs.Units.{may_serve, begun_at, over_at, member_told}
+use Rattle.control_units.specs.Units.{may_serve, member_told}
+use Rattle.control_units.specs.Parts.{begun_at, over_at}
 use Rattle.interruptions.specs.Requests as requests
 use Rattle.interruptions.specs.Requests.{WaitingRequests}
 use Rattle.scsw_irb.specs.declared.code.IntCode.{IntCode}
 use Rattle.machine_model.specs.State.{State, sub_of, found_of}
 use Rattle.machine_model.specs.Turns.{Outcome, Turn, SubTurn, UpTurn, DownTurn, at_sub, at_storage, at_unit, does}
 use Rattle.machine_model.specs.StorageSteps.{storage_turn}
-use Rattle.machine_model.specs.InstructionSteps.{function_at, PerformsStart, test_sub, tests, stores, Modifies_by, Modifies, Enables_with, Enables, with_enabling, Executes_at, Executes_on, subchannel_word}
+use Rattle.machine_model.specs.InstructionSteps.{function_at, test_sub, Modifies_by, Enables_with, with_enabling, Executes_at, subchannel_word}
+use Rattle.machine_model.proofs.Named.{PerformsStart, tests, stores, Modifies, Enables, Executes_on}
 use Rattle.machine_model.specs.ChooseSteps.{choose_sub, Chooses}
 use Rattle.machine_model.specs.UpSteps.{returns_at, up_front, up_sub, up_at}
-use Rattle.machine_model.specs.DownSteps.{asks_at, share_with, at_shared, down_sub, down_unit, down_at}
+use Rattle.machine_model.specs.DownSteps.{asks_at, share_with, at_shared, down_sub, down_at}
+use Rattle.machine_model.proofs.Named.{down_unit}
 use Rattle.machine_model.specs.ReportSteps.{report_sub, report_to, report_at}
 use Rattle.machine_model.specs.RestartSteps.{restart_at}
 use Rattle.machine_model.proofs.Named.{makes_status, requests_settled, show_turn_of}
@@ -75,8 +79,10 @@ use Rattle.machine_model.specs.Sharing.{may_take, is_let_go, members_asked, memb
 use Rattle.machine_model.specs.Setups.{group_of}
 use Rattle.machine_model.proofs.Others.{other-turned}
 use Rattle.machine_model.specs.OtherTurns.{turned_at, tpi_done, stcrw_done, stcps_done, RchpTurn, rchp_turn, lent_whole, tpi_lent, stcrw_lent, rchp_lent, stcps_lent, other_done}
-use Rattle.machine_model.specs.OtherSteps.{where_stored, code_check, other_at, is_up}
-use Rattle.machine_model.specs.ActSteps.{side_of_act, act_sub, act_to, act_on, act_at}
+use Rattle.machine_model.specs.OtherSteps.{code_check, other_at, is_up}
+use Rattle.machine_model.specs.OtherTurns.{where_stored}
+use Rattle.machine_model.specs.ActSteps.{side_of_act, act_sub, act_on, act_at}
+use Rattle.machine_model.proofs.Named.{act_to}
 
 -- storage of so many blocks
 abbrev IsOf : ℕ → Contents → Type 0
@@ -125,7 +131,7 @@ brought_in-of n storage t bytes k =
     (brought_by-of n storage t (length bytes) (access.stored_or_skipped storage t.walk.orb.key t.moving bytes) k
     (either (AreOf n) t.moving.skipped (Ok storage) _ k
     (checked-of n (keys.stored_bytes storage t.walk.orb.key t.moving.piece bytes)
-    (stored-of n storage t.moving.piece bytes (store_check storage t.walk.orb.key t.moving.piece (length bytes)) k))))
+    (stored-of n storage t.moving.piece bytes (access_check (key_permits_store t.walk.orb.key) storage t.moving.piece (length bytes)) k))))
 
 brought-of : (n : ℕ) (storage : Contents) (t : Transfer) (s : ℕ) (bytes : List ℕ) → IsOf n storage → IsOf n (brought storage t s bytes).storage
 brought-of n storage t s bytes k =

@@ -43,11 +43,14 @@ use Rattle.subchannel_model.specs.Choosing.{chosen, marked_sub}
 use Rattle.subchannel_model.specs.Store.{pmcw_of}
 use Rattle.subchannel_model.specs.Enable.{enabling}
 use Rattle.machine_model.specs.Turns.{Outcome, Turn, SubTurn, UpTurn, DownTurn, at_sub, at_storage, at_unit, does}
-use Rattle.machine_model.proofs.Named.{start_at, Starts_with, modify_at, requests_settled, show_turn_of, is_owed_after}
-use Rattle.machine_model.specs.InstructionSteps.{code_at, function_sub, function_at, not_provided, PerformsStart, test_sub, tests, store_at, stores, Modifies_by, Modifies, Enables_with, Enables, Executes_at, Executes_on, subchannel_word}
+use Rattle.machine_model.proofs.Named.{start_at, modify_at, requests_settled, show_turn_of, is_owed_after}
+use Rattle.machine_model.specs.InstructionSteps.{Starts_with}
+use Rattle.machine_model.specs.InstructionSteps.{code_at, function_sub, function_at, not_provided, test_sub, store_at, Modifies_by, Enables_with, Executes_at, subchannel_word}
+use Rattle.machine_model.proofs.Named.{PerformsStart, tests, stores, Modifies, Enables, Executes_on}
 use Rattle.machine_model.specs.ChooseSteps.{choose_sub, Chooses}
 use Rattle.machine_model.specs.UpSteps.{returns_at, up_sub, up_at}
-use Rattle.machine_model.specs.DownSteps.{asks_at, share_with, at_shared, down_sub, down_unit, down_at}
+use Rattle.machine_model.specs.DownSteps.{asks_at, share_with, at_shared, down_sub, down_at}
+use Rattle.machine_model.proofs.Named.{down_unit}
 use Rattle.machine_model.specs.ReportSteps.{report_sub, report_to, report_at}
 use Rattle.machine_model.specs.RestartSteps.{restart_at}
 use Rattle.machine_model.specs.Requests.{settled}
@@ -59,7 +62,8 @@ use Rattle.machine_model.specs.OtherTurns.{OtherTurn, other_done}
 use Rattle.machine_model.specs.OtherSteps.{is_up}
 use Rattle.machine_model.specs.declared.state.Sweep.TheVariants as sweep
 use Rattle.machine_model.specs.PathSteps.{down_path, up_path, reset_path}
-use Rattle.machine_model.specs.ActSteps.{side_of_act, act_sub, act_to, act_on, act_at}
+use Rattle.machine_model.specs.ActSteps.{side_of_act, act_sub, act_on, act_at}
+use Rattle.machine_model.proofs.Named.{act_to}
 use Rattle.step_laws.specs.Walks as walked
 use Rattle.step_laws.proofs.Suiting.{chosen-suits}
 use Rattle.step_laws.specs.Walks.{Walked, OneSub, OneUnit, IsQuiet, IsExecuted, Function, Resumes, Halts, Clears, Cancels, instruction_of, effect_of}

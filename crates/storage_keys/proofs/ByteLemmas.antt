@@ -5,7 +5,8 @@ use Rattle.std.specs.List.{range_with_len}
 use Rattle.std.proofs.lemmas.Bool.Decides.{nat_tests}
 use Rattle.std.proofs.lemmas.Grind.{common_steps}
 use Rattle.std.proofs.lemmas.List.{take-append-drop, get_or-set_other, get_or-set_same, length-set}
-use Rattle.storage_keys.specs.Storage.{Contents, IsStorage, absolute_under, absolute, absolute_places, is_inside, access_check, where_permitted, permits_fetch, fetched, with_values, operand_stored, put_at}
+use Rattle.storage_keys.specs.Storage.{Contents, IsStorage, absolute_under, absolute, absolute_places, is_inside, where_permitted, fetched, with_values, operand_stored, put_at}
+use Rattle.storage_keys.proofs.Named.{check_by, permits_fetch}
 use Rattle.storage_keys.proofs.OperandLemmas.{map-slice_index-range}
 
 -- what is_inside tells of some bytes
@@ -13,7 +14,7 @@ inside_le : (address count size : ℕ) → IsTrue (count == 0 || nat_le (address
 inside_le address count size h some = grind (arith, nat_tests)
 
 bytes_found : (bytes found : List ℕ) (address count : ℕ) (inside permitted : Bool) → (IsTrue inside → 0 < count → address + count ≤ length bytes)
-    → where_permitted (access_check inside permitted) (slice_range bytes address (address + count)) ≡ Ok found → found ≡ map (slice_index bytes) (range_with_len address count)
+    → where_permitted (check_by inside permitted) (slice_range bytes address (address + count)) ≡ Ok found → found ≡ map (slice_index bytes) (range_with_len address count)
 bytes_found bytes found address count true true h e =
     let same : slice_range bytes address (address + count) ≡ found = cc in
     sym same ∙ sym (map-slice_index-range bytes address count (h refl))

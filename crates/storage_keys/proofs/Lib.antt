@@ -1,3 +1,4 @@
+pub mod Named
 pub mod KeyLemmas
 pub mod OperandLemmas
 pub mod ByteLemmas

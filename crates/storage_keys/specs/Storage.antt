@@ -73,25 +73,13 @@ is_inside storage address count = count == 0 || nat_le (address + count) (length
 
 -- the keys of the blocks in which so many bytes lie: from the first byte's to the last byte's
 abbrev pub keys_of : Contents → ℕ → ℕ → List Key
-keys_of storage address count =
-    if count == 0 then [] else slice_range storage.keys (address / 4096) ((address + (count - 1)) / 4096 + 1)
+keys_of storage address count = if count == 0 then [] else slice_range storage.keys (address / 4096) ((address + (count - 1)) / 4096 + 1)
 
--- whether the keys of all these blocks permit an access
-abbrev pub permits_fetch : Contents → ℕ → ℕ → ℕ → Bool
-permits_fetch storage key address count = list_all (key_permits_fetch key) (keys_of storage address count)
-
-abbrev pub permits_store : Contents → ℕ → ℕ → ℕ → Bool
-permits_store storage key address count = list_all (key_permits_store key) (keys_of storage address count)
-
--- whether an access is permitted, or why not: addressing comes before protection
-abbrev pub access_check : Bool → Bool → Result (Unit {0}) StorageFault
-access_check inside permitted = if not inside then Err Addressing else (if permitted then Ok tt else Err Protection)
-
-abbrev pub fetch_check : Contents → ℕ → ℕ → ℕ → Result (Unit {0}) StorageFault
-fetch_check storage key address count = access_check (is_inside storage address count) (permits_fetch storage key address count)
-
-abbrev pub store_check : Contents → ℕ → ℕ → ℕ → Result (Unit {0}) StorageFault
-store_check storage key address count = access_check (is_inside storage address count) (permits_store storage key address count)
+-- whether an access is permitted by the keys of all its blocks, or why not: addressing comes before protection
+abbrev pub access_check : (Key → Bool) → Contents → ℕ → ℕ → Result (Unit {0}) StorageFault
+access_check permits storage address count =
+    if not (is_inside storage address count) then Err Addressing
+    else (if list_all permits (keys_of storage address count) then Ok tt else Err Protection)
 
 -- the value where a check permits, otherwise the check's fault
 abbrev pub where_permitted : {X : Type 0} → Result (Unit {0}) StorageFault → X → Result X StorageFault
@@ -101,17 +89,15 @@ where_permitted (Err fault) value = Err fault
 -- the bytes that a fetch answers
 abbrev pub fetched : Contents → ℕ → ℕ → ℕ → Result (List ℕ) StorageFault
 fetched storage key address count =
-    where_permitted (fetch_check storage key address count) (slice_range storage.bytes address (address + count))
+    where_permitted (access_check (key_permits_fetch key) storage address count) (slice_range storage.bytes address (address + count))
 
 -- storage with these bytes from this address on
 abbrev pub put_at : Contents → ℕ → List ℕ → Contents
-put_at storage address bytes =
-    record storage { bytes = take address storage.bytes ++ (bytes ++ drop (address + length bytes) storage.bytes) }
+put_at storage address bytes = record storage { bytes = take address storage.bytes ++ (bytes ++ drop (address + length bytes) storage.bytes) }
 
 -- storage after a store
 abbrev pub stored_bytes : Contents → ℕ → ℕ → List ℕ → Result Contents StorageFault
-stored_bytes storage key address bytes =
-    where_permitted (store_check storage key address (length bytes)) (put_at storage address bytes)
+stored_bytes storage key address bytes = where_permitted (access_check (key_permits_store key) storage address (length bytes)) (put_at storage address bytes)
 
 -- Prefixing
 
@@ -148,9 +134,8 @@ operand_at storage cpu address count boundary =
 
 -- bytes with each of these values at its place, in order
 abbrev pub with_values : List ℕ → List ℕ → List ℕ → List ℕ
-with_values bytes [] values = bytes
-with_values bytes (place ∷ absolute_places) [] = bytes
-with_values bytes (place ∷ absolute_places) (value ∷ values) = with_values (slice_set bytes place value) absolute_places values
+with_values bytes (place ∷ places) (value ∷ values) = with_values (slice_set bytes place value) places values
+with_values bytes places values = bytes
 
 -- storage with an operand stored
 abbrev pub operand_stored : Contents → ℕ → ℕ → List ℕ → Contents
@@ -165,8 +150,7 @@ put storage address bytes = if is_inside storage address (length bytes) then Ok 
 
 -- the bytes that are shown
 abbrev pub shown : Contents → ℕ → ℕ → Result (List ℕ) StorageFault
-shown storage address count =
-    if is_inside storage address count then Ok (slice_range storage.bytes address (address + count)) else Err Addressing
+shown storage address count = if is_inside storage address count then Ok (slice_range storage.bytes address (address + count)) else Err Addressing
 
 -- the key of the block in which an address lies
 abbrev pub key_at : Contents → ℕ → Result Key StorageFault

@@ -2,6 +2,7 @@
 #![tactic(auto)]
 
 ghost use Rattle.std.specs.Prelude.{◌≡◌, ℕ, ◌+◌, ◌-◌, ◌%◌, ◌^◌, ◌<◌, ◌≤◌, length, IsTrue, IfOk, IfErr, OnOk, OnErr, Ok, Err, min, map, replicate, slice_index, slice_range, true};
+ghost use Rattle.std.specs.List.{list_all};
 ghost use Rattle.storage_keys.specs.Storage as spec;
 ghost use Rattle.supply.specs.Requests.{IsModest};
 
@@ -102,7 +103,7 @@ impl Storage {
     /// Whether an access key may store so many bytes from an absolute address on, or the fault
     /// that `store` answers.
     pub fn check_store(&self, key: u8, address: u32, count: usize) -> Result<(), StorageFault>
-        ensures { result ≡ spec.store_check self.now key address count }
+        ensures { result ≡ spec.access_check (spec.key_permits_store key) self.now address count }
     {
         if !self.is_inside(address, count) {
             return Err(StorageFault::Addressing);
@@ -322,7 +323,7 @@ impl Storage {
     }
 
     fn check_fetch(&self, key: u8, address: u32, count: usize) -> Result<(), StorageFault>
-        ensures { result ≡ spec.fetch_check self.now key address count }
+        ensures { result ≡ spec.access_check (spec.key_permits_fetch key) self.now address count }
     {
         if !self.is_inside(address, count) {
             return Err(StorageFault::Addressing);
@@ -357,7 +358,7 @@ impl Storage {
 
     fn permits_fetch(&self, key: u8, address: u32, count: usize) -> bool
         requires { IsTrue (spec.is_inside self.now address count) }
-        ensures { result ≡ spec.permits_fetch self.now key address count }
+        ensures { result ≡ list_all (spec.key_permits_fetch key) (spec.keys_of self.now address count) }
     {
         self.keys_of(address, count)
             .iter()
@@ -366,7 +367,7 @@ impl Storage {
 
     fn permits_store(&self, key: u8, address: u32, count: usize) -> bool
         requires { IsTrue (spec.is_inside self.now address count) }
-        ensures { result ≡ spec.permits_store self.now key address count }
+        ensures { result ≡ list_all (spec.key_permits_store key) (spec.keys_of self.now address count) }
     {
         self.keys_of(address, count)
             .iter()

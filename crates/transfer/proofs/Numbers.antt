@@ -7,13 +7,15 @@ use Rattle.storage_keys.specs.Storage.{Contents}
 use Rattle.channel_program.specs.declared.check.Check.{Check}
 use Rattle.channel_program.specs.declared.Advance.{Advance}
 use Rattle.channel_program.specs.declared.Advance.TheVariants.{Takes, Suspends, Stops}
-use Rattle.channel_program.specs.Walks.{WalkPlace, after_acts, after_used_up, advance_acts, advance_of}
+use Rattle.channel_program.specs.Walks.{WalkPlace, after_acts, advance_acts, advance_of}
+use Rattle.channel_program.proofs.Named.{after_used_up}
 use Rattle.data_move.specs.Moving as movement
 use Rattle.data_move.specs.Moving.{Moving}
 use Rattle.data_move.specs.Accesses as access
 use Rattle.transfer.specs.declared.Transfer.{Transfer}
 use Rattle.transfer.specs.Commands.{command_begins, goes_to, with_located, located_transfer, with_room, brings, begun_with_room, has_stopped}
-use Rattle.transfer.specs.Chunks.{Brought, brings_none, chains_data, chained_to, chained, with_moved, moved_on, with_answer, taken_by_device, given_bytes, next_chunk_of, given_from, next_given, brought_by, fitting, brought_in, brought}
+use Rattle.transfer.specs.Chunks.{Brought, chains_data, chained_to, chained, with_moved, moved_on, with_answer, taken_by_device, given_bytes, given_from, next_given, brought_by, fitting, brought_in, brought}
+use Rattle.transfer.proofs.Named.{brings_none, next_chunk_of}
 use Rattle.transfer.specs.Numbers.{IsSame, IsLaterTransfer, IsNew, IfBegins}
 
 -- how a command begins

@@ -6,7 +6,8 @@ use Rattle.channel_program.specs.declared.check.Check.{Check}
 use Rattle.channel_program.specs.declared.check.Check.TheVariants.{Program}
 use Rattle.channel_program.specs.declared.Advance.{Advance}
 use Rattle.channel_program.specs.declared.Advance.TheVariants.{Takes, Suspends, Stops}
-use Rattle.channel_program.specs.Walks.{WalkPlace, after_acts, after_used_up, advance_acts, advance_of}
+use Rattle.channel_program.specs.Acts.{Used_up}
+use Rattle.channel_program.specs.Walks.{WalkPlace, after_act, after_acts, advance_acts, advance_of}
 use Rattle.data_move.specs.Moving as movement
 use Rattle.data_move.specs.Accesses as access
 use Rattle.transfer.specs.declared.Transfer.{Transfer}
@@ -30,7 +31,7 @@ chained_from storage t old =
     chained_to t (after_acts old acts) (advance_of old acts)
 
 abbrev pub chained : Contents → Transfer → Transfer
-chained storage t = chained_from storage t (after_used_up t.walk)
+chained storage t = chained_from storage t (after_act t.walk Used_up)
 
 -- so many bytes of the chunk at hand were moved
 abbrev pub with_moved : Transfer → ℕ → Transfer
@@ -56,15 +57,11 @@ next_chunk t bytes = record { transfer = t; bytes = bytes }
 abbrev pub given_bytes : Transfer → List ℕ → NextChunk
 given_bytes t bytes = record { transfer = record t { offered = length bytes }; bytes = bytes }
 
-abbrev pub given_fault : Transfer → Check → NextChunk
-given_fault t check = record { transfer = record t { offered = 0; fault = Some check }; bytes = [] }
-
-abbrev pub next_chunk_of : Transfer → Result (List ℕ) Check → NextChunk
-next_chunk_of t (Ok bytes) = given_bytes t bytes
-next_chunk_of t (Err check) = given_fault t check
-
 abbrev pub given_from : Contents → Transfer → NextChunk
-given_from storage t = if has_stopped t then given_bytes t [] else next_chunk_of t (access.copied storage t.walk.orb.key t.moving)
+given_from storage t =
+    if has_stopped t then given_bytes t []
+    else elim (access.copied storage t.walk.orb.key t.moving)
+    [ Ok bytes ↦ given_bytes t bytes | Err check ↦ record { transfer = record t { offered = 0; fault = Some check }; bytes = [] } ]
 
 abbrev pub next_given : Contents → Transfer → NextChunk
 next_given storage t = given_from storage (located_transfer storage t)
@@ -75,9 +72,6 @@ pub record Brought : Type 0 where
   pub transfer : Transfer
   pub storage : Contents
 
-abbrev pub brings_none : Contents → Transfer → Brought
-brings_none storage t = record { transfer = t; storage = storage }
-
 abbrev pub brought_by : Contents → Transfer → ℕ → Result Contents Check → Brought
 brought_by storage t n (Ok after) = record { transfer = moved_on after t n; storage = after }
 brought_by storage t n (Err check) = record { transfer = record t { fault = Some check }; storage = storage }
@@ -87,12 +81,12 @@ fitting t bytes = take (movement.room t.moving) bytes
 
 abbrev pub brought_in : Contents → Transfer → List ℕ → Brought
 brought_in storage t bytes =
-    if is_some t.fault then brings_none storage t
+    if is_some t.fault then record { transfer = t; storage = storage }
     else brought_by storage t (length bytes) (access.stored_or_skipped storage t.walk.orb.key t.moving bytes)
 
 abbrev pub brought : Contents → Transfer → ℕ → List ℕ → Brought
 brought storage t s bytes =
-    if s == t.sequence + 1 then brought_in storage (record t { sequence = s }) (fitting t bytes) else brings_none storage t
+    if s == t.sequence + 1 then brought_in storage (record t { sequence = s }) (fitting t bytes) else record { transfer = t; storage = storage }
 
 -- a Data is of this command, and its chunk the last one or the next; it asks for bytes, or brings them
 abbrev pub is_answered : Transfer → ℕ → ℕ → Bool

@@ -10,7 +10,8 @@ use Rattle.channel_program.specs.declared.check.Check.{Check}
 use Rattle.channel_program.specs.declared.check.Check.TheVariants.{Program}
 use Rattle.channel_program.specs.declared.Advance.{Advance}
 use Rattle.channel_program.specs.declared.Advance.TheVariants.{Takes, Suspends, Stops}
-use Rattle.channel_program.specs.Walks.{WalkPlace, after_acts, walk_after_end, advance_acts, advance_of}
+use Rattle.channel_program.specs.Acts.{End}
+use Rattle.channel_program.specs.Walks.{WalkPlace, after_act, after_acts, advance_acts, advance_of}
 use Rattle.idaw.specs.Lists.{kind_of}
 use Rattle.data_move.specs.Moving as movement
 use Rattle.data_move.specs.Moving.{Moving}
@@ -51,14 +52,11 @@ command_begins walk n (Some Suspends) = came.Suspends
 command_begins walk n (Some (Stops check)) = came.Stops check
 command_begins walk n None = came.Stops Program
 
-abbrev pub beginning_of : WalkPlace → ℕ → Option Advance → Beginning
-beginning_of walk n advance = record { walk = walk; came = command_begins walk n advance }
-
 -- the command that a program goes on to from a place
 abbrev pub goes_to : Contents → ℕ → WalkPlace → Beginning
 goes_to storage n old =
     let acts = advance_acts storage old in
-    beginning_of (after_acts old acts) n (advance_of old acts)
+    record { walk = after_acts old acts; came = command_begins (after_acts old acts) n (advance_of old acts) }
 
 -- the first command of a program from where it stands: at its beginning, or where it was suspended; and the next after one
 -- that ended, with status modifier or without
@@ -66,7 +64,7 @@ abbrev pub first_command : Contents → WalkPlace → Beginning
 first_command storage walk = goes_to storage 1 walk
 
 abbrev pub next_command : Contents → Transfer → Bool → Beginning
-next_command storage t modifier = goes_to storage (t.command + 1) (walk_after_end t.walk (record { goes_on = true; modifier = modifier }))
+next_command storage t modifier = goes_to storage (t.command + 1) (after_act t.walk (End (record { goes_on = true; modifier = modifier })))
 
 -- the next word of an indirect list is fetched where it is needed; where it can't be, that is a fault
 abbrev pub with_located : Transfer → Result Moving Check → Transfer
@@ -90,11 +88,7 @@ with_room storage t = record { transfer = located_transfer storage t; room = roo
 abbrev pub brings : Class → Bool
 brings class.Read = true
 brings class.Sense = true
-brings class.Write = false
-brings class.Control = false
-brings class.ReadBackward = false
-brings class.Transfer = false
-brings class.Invalid = false
+brings other = false
 
 abbrev pub begun_with_room : Contents → Transfer → WithRoom
 begun_with_room storage t = if brings (class_of t.code) then with_room storage t else record { transfer = t; room = 0 }

@@ -1,6 +1,6 @@
 //! How the bytes of a command move, chunk by chunk.
 
-ghost use Rattle.std.specs.Prelude.{◌≡◌, ◌<◌, ◌≤◌, ◌^◌, ◌+◌, ◌==◌, length};
+ghost use Rattle.std.specs.Prelude.{◌≡◌, ◌<◌, ◌≤◌, ◌^◌, ◌+◌, ◌==◌, Some, [], length};
 ghost use Rattle.transfer.specs.Chunks as spec;
 ghost use Rattle.transfer.specs.Chunks.{next_chunk};
 
@@ -103,7 +103,7 @@ fn give_bytes<'a>(transfer: &mut Transfer, bytes: ChunkSlice<'a>) -> ChunkSlice<
 }
 
 fn give_fault<'a>(transfer: &mut Transfer, check: Check) -> ChunkSlice<'a>
-    ensures { next_chunk transfer.new result ≡ spec.given_fault transfer.old check }
+    ensures { next_chunk transfer.new result ≡ record { transfer = record transfer.old { offered = 0; fault = Some check }; bytes = [] } }
 {
     transfer.offered = 0;
     transfer.fault = Some(check);
