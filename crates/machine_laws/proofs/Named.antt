@@ -1,6 +1,7 @@
 -- Parts of the definitions of this crate, by names that proofs speak of.
-use Rattle.std.specs.Prelude.{ℕ, ◌==◌, ◌&&◌, Bool, true, Option, List, []}
+use Rattle.std.specs.Prelude.{ℕ, ◌+◌, ◌==◌, ◌&&◌, Bool, true, Option, List, [], ◌∷◌}
 use Rattle.channel_config.specs.declared.names.SubchannelId.{SubchannelId}
+use Rattle.chan_model.specs.declared.answer.Answer.TheVariants as answer
 use Rattle.chan_model.specs.declared.signal.Down.TheVariants as down
 use Rattle.chan_model.specs.declared.signal.OnPath.{OnPath}
 use Rattle.chan_model.specs.declared.signal.Up.{Up}
@@ -30,3 +31,9 @@ starts_with_sent t sent k = with_taken (reply.Down (down.Select t) true sent) k
 
 abbrev pub starts_with_answer : ℕ → Up → StartCounts → StartCounts
 starts_with_answer t signal k = elim signal [ up.Accept u ↦ with_begun t k.offers k | other ↦ k ]
+
+abbrev pub with_start : Reply → StartCounts → StartCounts
+with_start r k = elim r [ reply.Code (answer.Zero serials) ↦ record k { accepted = k.accepted + 1 } | other ↦ k ]
+
+abbrev pub serial_shown : Reply → List ℕ
+serial_shown r = elim r [ reply.Status (answer.Zero serials) scsw ↦ serials.made ∷ [] | other ↦ [] ]

@@ -38,7 +38,8 @@ use Rattle.machine_model.specs.Steps.{Does, Step, Run, Opened, Stepped}
 use Rattle.machine_model.specs.Requests.{settled}
 use Rattle.step_laws.specs.Walks.{AreWalks}
 use Rattle.machine_laws.proofs.Named.{is_same_id, serial_by, serial_at}
-use Rattle.machine_laws.specs.Claims.{IsLaterSubchannel, is_id, serial_shown, serial_of, serials}
+use Rattle.machine_laws.specs.Claims.{IsLaterSubchannel, is_id, serial_of, serials}
+use Rattle.machine_laws.proofs.Named.{serial_shown}
 use Rattle.machine_laws.proofs.Sound.{AreNumbered}
 use Rattle.machine_laws.proofs.RunSound.{SoundSub, one-of, run-sound, step-sets, step-later}
 

@@ -51,7 +51,8 @@ use Rattle.subchannel_model.specs.Sending.{carried_by, finds_full}
 use Rattle.machine_model.specs.UpSteps.{up_front, up_sub}
 use Rattle.subchannel_model.specs.Taking.{takes_up}
 use Rattle.machine_laws.proofs.Named.{starts_with_sent}
-use Rattle.machine_laws.specs.Beginnings.{StartCounts, with_start, with_offer, with_taken}
+use Rattle.machine_laws.specs.Beginnings.{StartCounts, with_offer, with_taken}
+use Rattle.machine_laws.proofs.Named.{with_start}
 use Rattle.machine_laws.proofs.Named.{starts_with_answer}
 use Rattle.machine_laws.proofs.Moves.{if-ok}
 use Rattle.machine_laws.proofs.Tales.{IsAccepted, AreSpent, AreSpentBut, IsTold, told-wider, told-same, told-turned, told-start, told-offer, told-resume, busy-spent, begun-of}

@@ -25,11 +25,6 @@ pub record StartCounts : Type 0 where
   pub offers : List Offer
   pub begun : List ℕ
 
--- START was accepted
-abbrev pub with_start : Reply → StartCounts → StartCounts
-with_start (reply.Code (answer.Zero serials)) k = record k { accepted = k.accepted + 1 }
-with_start r k = k
-
 -- an offer belongs to the latest start that was accepted before it
 abbrev pub with_offer : Reply → StartCounts → StartCounts
 with_offer (reply.Offered t p false) k = record k { offers = record { number = t; start = k.accepted } ∷ k.offers }
@@ -47,7 +42,7 @@ with_taken r k = k
 
 abbrev pub starts_after : ℕ → SubchannelId → Event → Reply → StartCounts → StartCounts
 starts_after sets id (event.Execute cpu (instruction.Ssch word address)) r k =
-    if is_id (subchannel_named sets word) id then with_start r k else k
+    if is_id (subchannel_named sets word) id then elim r [ reply.Code (answer.Zero serials) ↦ record k { accepted = k.accepted + 1 } | other ↦ k ] else k
 starts_after sets id (event.Choose word) r k = if is_id (subchannel_named sets word) id then with_offer r k else k
 starts_after sets id (event.Down word path) r k = if is_id (subchannel_named sets word) id then with_taken r k else k
 starts_after sets id e r k = k

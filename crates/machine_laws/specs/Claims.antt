@@ -30,13 +30,10 @@ is_id None id = false
 is_id (Some named) id = (named.set == id.set) && (named.number == id.number)
 
 -- TEST SUBCHANNEL clears status where it answers 0 (SA22-7832, chapter 14): how many statuses were made by then
-abbrev pub serial_shown : Reply → List ℕ
-serial_shown (reply.Status (answer.Zero serials) scsw) = serials.made ∷ []
-serial_shown r = []
-
--- the serial that an event cleared of a subchannel, where there are so many sets
+-- the serial that an event so cleared of a subchannel, where there are so many sets
 abbrev pub serial_of : ℕ → SubchannelId → Event → Reply → List ℕ
-serial_of sets id (event.Execute cpu (instruction.Tsch word address)) r = if is_id (subchannel_named sets word) id then serial_shown r else []
+serial_of sets id (event.Execute cpu (instruction.Tsch word address)) r =
+    if is_id (subchannel_named sets word) id then elim r [ reply.Status (answer.Zero serials) scsw ↦ serials.made ∷ [] | other ↦ [] ] else []
 serial_of sets id e r = []
 
 -- the serials that were cleared of a subchannel, in their order

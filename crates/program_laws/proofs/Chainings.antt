@@ -23,7 +23,8 @@ use Rattle.transfer.specs.declared.Transfer.{Transfer}
 use Rattle.transfer.specs.Commands.{is_skipped, data_of}
 use Rattle.transfer.specs.Chunks.{chains_data, chained_to, chained_from, chained, with_moved, moved_on}
 use Rattle.program_laws.proofs.Named.{chained_reach}
-use Rattle.program_laws.specs.DataAreas.{reach, data_areas, reaches_after, reaches_with}
+use Rattle.program_laws.specs.DataAreas.{reach, data_areas, reaches_after}
+use Rattle.program_laws.proofs.Named.{reaches_with}
 use Rattle.program_laws.proofs.MachineActs as doing
 use Rattle.program_laws.specs.Traces.{CommandTrace}
 use Rattle.program_laws.proofs.MachineActs.{chained_acts, with_acts, with_places}

@@ -12,7 +12,7 @@ use Rattle.subchannel_model.specs.declared.state.Chosen.{Chosen}
 use Rattle.subchannel_model.specs.declared.state.Program.{Program}
 use Rattle.subchannel_model.specs.declared.state.SubchannelState.{SubchannelState}
 use Rattle.program_laws.specs.Claims.{IsBeginning, IsSuspended}
-use Rattle.program_laws.specs.DataAreas.{data_areas, reaches_with, counts}
+use Rattle.program_laws.specs.DataAreas.{reach, data_areas, counts}
 use Rattle.program_laws.specs.Shows.{IsCountOf, IsCountZero}
 use Rattle.program_laws.specs.Traces.{ProgramTrace, trace_offered, trace_resumed, absorbs}
 use Rattle.idaw.specs.declared.WordFault.{WordFault}
@@ -40,6 +40,9 @@ IsRest count k = counts (data_areas k.orb k.now.acts) ≡ length k.now.moved + c
 
 abbrev pub is_of_program : SubchannelState → Bool
 is_of_program s = is_none s.waiting && (is_some s.begun || is_some s.suspended)
+
+abbrev pub reaches_with : Bool → List Command → List Reach → Ccw → List Reach
+reaches_with chained cs rs ccw = if chained then elim cs [ [] ↦ rs | command ∷ before ↦ reach (code command) ccw ∷ rs ] else reach ccw.command ccw ∷ []
 
 abbrev pub chained_reach : List Command → List Reach → Ccw → List Reach
 chained_reach cs rs ccw = reaches_with true cs rs ccw

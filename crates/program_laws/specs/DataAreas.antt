@@ -1,5 +1,5 @@
 -- The data of the command at work, block by block (SA22-7832, chapter 15).
-use Rattle.std.specs.Prelude.{ℕ, ◌+◌, Bool, true, false, List, [], ◌∷◌}
+use Rattle.std.specs.Prelude.{ℕ, ◌+◌, Bool, if◌then◌else◌, List, [], ◌∷◌}
 use Rattle.orb_block.specs.declared.Orb.{Orb}
 use Rattle.ccw_codec.specs.declared.Ccw.{Ccw}
 use Rattle.channel_program.specs.declared.Reading.{Reading}
@@ -15,13 +15,9 @@ abbrev pub reach : ℕ → Ccw → Reach
 reach code ccw = record { ccw = ccw; skipped = is_skipped code ccw; words = [] }
 
 -- data that is chained is of the command at work, whose code it has; otherwise a command begins
-abbrev pub reaches_with : Bool → List Command → List Reach → Ccw → List Reach
-reaches_with true [] rs ccw = rs
-reaches_with true (command ∷ before) rs ccw = reach (code command) ccw ∷ rs
-reaches_with false cs rs ccw = reach ccw.command ccw ∷ []
-
 abbrev pub reaches_after : Bool → List Command → List Reach → Reading → List Reach
-reaches_after chained cs rs (Takes ccw) = reaches_with chained cs rs ccw
+reaches_after chained cs rs (Takes ccw) =
+    if chained then elim cs [ [] ↦ rs | command ∷ before ↦ reach (code command) ccw ∷ rs ] else reach ccw.command ccw ∷ []
 reaches_after chained cs rs reading = rs
 
 -- the blocks of the command at work that took control, with the words fetched for them, the latest first

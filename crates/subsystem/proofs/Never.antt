@@ -101,7 +101,7 @@ starts s found (Ok image) r e = elim e [
   | inr x ↦ is r (named.start_at s found x.0) (started_at s found x.0) x.2
 ]
 
-tested_at : (s : State) (cpu address : ℕ) (found : Option Found) → Sound (named.test_at s cpu address found)
+tested_at : (s : State) (cpu address : ℕ) (found : Option Found) → Sound (instruction_steps.test_at s cpu address found)
 tested_at s cpu address None = tt
 tested_at s cpu address (Some f) = tt
 
