@@ -1,11 +1,13 @@
 -- Parts of the definitions of this crate, by names that proofs speak of.
-use Rattle.std.specs.Prelude.{ℕ, ◌<◌, ◌==◌, ◌&&◌, nat_le, false, if◌then◌else◌, Option, None, option_and_then, List, length}
+use Rattle.std.specs.Prelude.{ℕ, ◌<◌, ◌==◌, ◌&&◌, nat_le, false, if◌then◌else◌, Option, None, Some, option_and_then, List, length}
 use Rattle.chan_model.specs.declared.names.Side.{Side}
 use Rattle.chan_model.specs.declared.hold_state.HoldPhase.{HoldPhase}
 use Rattle.chan_model.specs.declared.hold_state.HoldPhase.TheVariants as hold
 use Rattle.chan_model.specs.declared.signal.Load.{Load}
 use Rattle.chan_model.specs.declared.signal.Load.TheVariants as load
 use Rattle.chan_model.specs.declared.unit_state.AtHand.{AtHand}
+use Rattle.chan_model.specs.declared.unit_state.Place.{Place}
+use Rattle.chan_model.specs.declared.unit_state.Place.TheVariants.{On}
 use Rattle.chan_model.specs.declared.unit_state.UnitState.{UnitState}
 use Rattle.chan_model.specs.UnitReports.{data_sent, with_absorbed}
 use Rattle.chan_model.specs.UnitTable.{UnitStep, answered_last, freed, is_owner, owns}
@@ -16,6 +18,9 @@ unit_answered u side t n s room =
 
 abbrev pub without_side : UnitState → Side → UnitState
 without_side u side = if owns u.own side then freed u else u
+
+abbrev pub path_of_place : Place → Option ℕ
+path_of_place place = elim place [ On p c ↦ Some p | other ↦ None ]
 
 abbrev pub IsAboveFloor : HoldPhase → ℕ → Type 0
 IsAboveFloor phase floor = elim phase [ hold.Reset r ↦ floor < r | other ↦ ⊥ ]

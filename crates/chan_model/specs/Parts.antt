@@ -9,9 +9,6 @@ use Rattle.chan_model.specs.declared.unit_state.Own.TheVariants.{Owned}
 use Rattle.chan_model.specs.declared.unit_state.UnitState.{UnitState}
 use Rattle.chan_model.specs.UnitTable.{UnitStep, changes, freed, is_owner, owns, sends, with_side}
 
-abbrev pub path_of_place : Place → Option ℕ
-path_of_place place = elim place [ On p c ↦ Some p | other ↦ None ]
-
 abbrev pub is_place_on : Place → ℕ → Bool
 is_place_on place c = elim place [ On p d ↦ c == d | other ↦ false ]
 

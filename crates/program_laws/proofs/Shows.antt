@@ -28,7 +28,7 @@ use Rattle.subchannel_model.specs.declared.status.Shown.{Shown}
 use Rattle.subchannel_model.specs.declared.cause.StatusCause.TheVariants as cause
 use Rattle.subchannel_model.specs.Status.{no_device_status, no_subchannel_status, with_joined, scsw_made, serials_made}
 use Rattle.subchannel_model.specs.Ends.{has_status_modifier, chains_command, last_shown, end_shown}
-use Rattle.subchannel_model.specs.Parts.{channel_end_shown, scsw_joined, standing_still, suspended_alone}
+use Rattle.subchannel_model.specs.Parts.{chain_with, channel_end_shown, scsw_joined, standing_still, suspended_alone}
 use Rattle.subchannel_model.proofs.Named.{with_row}
 use Rattle.subchannel_model.specs.Causes.{without_begun, fetch_fault_shown, pci_shown, suspension_shown, with_cause}
 use Rattle.subchannel_model.specs.Taking as taking
@@ -172,7 +172,7 @@ module _ (laws : AreLaws) (accesses : AreAccesses) where
   pub next-shows : (storage : Contents) (s : SubchannelState) (b : ActiveProgram) (k : ProgramTrace) (signal : EndSignal) → chains_command s.scsw b signal.status signal.more ≡ true →
       HasWork (Some b) k →
       let next : Beginning = next_command storage b.transfer (has_status_modifier signal.status) in
-      let after : SubchannelState = (taking.chain_with storage s (with_end b) signal next).state in
+      let after : SubchannelState = (chain_with storage s (with_end b) signal next).state in
       let now : ProgramTrace = stories.trace_goes_on next.came (next_acts storage b.transfer (has_status_modifier signal.status)) k in
       IsHeld after now → ShowsRest s.serials.made after now
   next-shows storage s b k signal c w h =
