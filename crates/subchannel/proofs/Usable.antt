@@ -1,5 +1,5 @@
 -- Of what decides whether a path is usable, or lost, each order of asking answers alike; and where no path is lost, the masks stay.
-use Rattle.std.proofs.Common.{◌≡◌, refl, ap₂, ℕ, Bool, true, false, List, [], ◌∷◌}
+use Rattle.std.proofs.Common.{◌≡◌, refl, ap₂, Bool, true, false, List, [], ◌∷◌}
 use Rattle.std.specs.Prelude.{◌&&◌, ◌||◌, not, length}
 use Rattle.allegiance.specs.PathUse.{each_path, is_member, is_any, without, joined}
 
