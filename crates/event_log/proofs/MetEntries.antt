@@ -1,5 +1,5 @@
 -- The entry of a signal that was met: its bytes, and then those of the signal that was sent.
-use Rattle.std.proofs.Common.{◌≡◌, ℕ, ◌+◌, ◌∙◌, sym, ap, ap₂, Bool, Option, None, Some, List, [], ◌∷◌, ◌++◌, arith, length, drop, length-append}
+use Rattle.std.proofs.Common.{◌≡◌, ℕ, ◌∙◌, sym, ap, ap₂, Bool, Option, None, Some, List, [], ◌++◌, arith, length, drop, length-append}
 use Rattle.std.proofs.Math.Seq.{drop-append_seam}
 use Rattle.std.proofs.lemmas.List.{append-nil}
 use Rattle.chan_events.specs.declared.event.Event.TheVariants as event

@@ -1,4 +1,4 @@
-use Rattle.std.proofs.Common.{Bool, false, subst, List, Some}
+use Rattle.std.proofs.Common.{Bool, false, subst, Some}
 use Rattle.std.specs.Bool.{OnFalse}
 use Rattle.chan_model.specs.declared.signal.Down.{Down}
 use Rattle.chan_model.specs.declared.signal.OnPath.{OnPath}
