@@ -17,7 +17,8 @@ use Rattle.chan_model.specs.declared.unit_state.Place.TheVariants.{On, Ask, Away
 use Rattle.chan_model.specs.declared.unit_state.UnitState.{UnitState}
 use Rattle.chan_model.specs.Sides.{same_side}
 use Rattle.chan_model.proofs.Named.{without_side}
-use Rattle.chan_model.specs.UnitTable.{UnitStep, marked_again, unit_after, side_of, owns, is_owner, is_owner_on, is_idle, resets, reset_side, raised, selected, given_next, answered_last, answered_load, granted, granted_at, grant_refused, grant_refused_at, forgetting, unit_works, unit_takes, telling, leaving, leaving_from, asking, asking_from, attending, changes, with_given, freed}
+use Rattle.chan_model.specs.UnitTable.{UnitStep, marked_again, unit_after, side_of, owns, is_owner, is_owner_on, is_idle, resets, raised, selected, given_next, answered_last, answered_load, granted, granted_at, grant_refused, grant_refused_at, forgetting, unit_works, unit_takes, telling, leaving, leaving_from, asking, asking_from, attending, changes, with_given, freed}
+use Rattle.chan_model.specs.Parts.{reset_side}
 use Rattle.chan_model.specs.UnitReports.{unit_reports}
 use Rattle.unit.specs.UnitWords.{connection_of, last_connection, last_sequence}
 use Rattle.agreement_laws.specs.Moving.{UnitAct, Takes_down, Leaves, Asks, Attends, Restarts, Notices, Reports, unit_steps}

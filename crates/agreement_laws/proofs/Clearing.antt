@@ -23,8 +23,10 @@ use Rattle.chan_model.specs.declared.unit_state.Progress.{Progress}
 use Rattle.chan_model.specs.declared.unit_state.Progress.TheVariants as progress
 use Rattle.chan_model.specs.declared.unit_state.UnitState.{UnitState}
 use Rattle.chan_model.specs.Sides.{same_side}
-use Rattle.chan_model.specs.UnitTable.{UnitStep, side_of, is_owner, is_owner_on, is_idle, selected, raised, given_next, answered_load, answered_last, granted_at, granted, grant_refused_at, grant_refused, forgetting, telling, resets, reset_side, sends, unit_works, unit_takes, leaving, asking, attending, noticing}
-use Rattle.chan_model.specs.UnitReports.{report_absorbed, is_to_supply, most_of, sent_again, answer_taken, report_on, report_of, is_outward, may_end}
+use Rattle.chan_model.specs.UnitTable.{UnitStep, side_of, is_owner, is_owner_on, is_idle, selected, raised, given_next, answered_load, answered_last, granted_at, granted, grant_refused_at, grant_refused, forgetting, telling, resets, sends, unit_works, unit_takes, leaving, asking, attending, noticing}
+use Rattle.chan_model.specs.Parts.{reset_side}
+use Rattle.chan_model.proofs.Named.{report_absorbed, sent_again}
+use Rattle.chan_model.specs.UnitReports.{is_to_supply, most_of, answer_taken, report_on, report_of, is_outward, may_end}
 use Rattle.agreement_laws.specs.Moving.{UnitAct, Takes_down, Leaves, Asks, Attends, Restarts, Notices, Reports, is_owner_side, sent_by, sent_to, up_sent}
 use Rattle.agreement_laws.specs.Claims.{IsReset, IsTakenBy}
 use Rattle.agreement_laws.proofs.UnitActs.{same-sides}

@@ -3,8 +3,7 @@ use Rattle.std.specs.Prelude.{◌≡◌, ◌<◌, ◌⊎◌, ℕ, true, if◌the
 use Rattle.chan_model.specs.declared.names.Side.{Side}
 use Rattle.chan_model.specs.declared.hold_state.HoldPhase.{HoldPhase}
 use Rattle.chan_model.specs.declared.hold_state.HoldPhase.TheVariants as hold
-use Rattle.chan_model.specs.declared.unit_state.Place.{Place}
-use Rattle.chan_model.specs.declared.unit_state.Place.TheVariants.{On, Ask, Away}
+use Rattle.chan_model.specs.declared.unit_state.Place.TheVariants.{On, Away}
 use Rattle.chan_model.specs.declared.unit_state.Own.{Own}
 use Rattle.chan_model.specs.declared.unit_state.Own.TheVariants.{Idle, Owned}
 use Rattle.chan_model.specs.declared.unit_state.SideState.{SideState}
@@ -18,20 +17,15 @@ owner_of (Owned k t place) side = if same_side k side then Some t else None
 -- where the hold is held by a program, so is the device, and by the same; where the device is held by one, the hold
 -- offers it, is held by it, or lets it go
 abbrev pub Agrees : HoldPhase → Option ℕ → Type 0
-Agrees hold.Free owner = owner ≡ None
-Agrees (hold.Offer t p) owner = (owner ≡ None) ⊎ (owner ≡ Some t)
 Agrees (hold.On t p c) owner = owner ≡ Some t
 Agrees (hold.Away t) owner = owner ≡ Some t
+Agrees (hold.Offer t p) owner = (owner ≡ None) ⊎ (owner ≡ Some t)
 Agrees (hold.Letting t p) owner = (owner ≡ None) ⊎ (owner ≡ Some t)
-Agrees (hold.Reset r) owner = owner ≡ None
+Agrees phase owner = owner ≡ None
 
 -- a reset that isn't yet taken: the device's side is fresh, or the hold is to be reset under a number above its floor
-abbrev pub IsAboveFloor : HoldPhase → ℕ → Type 0
-IsAboveFloor (hold.Reset r) floor = floor < r
-IsAboveFloor phase floor = ⊥
-
 abbrev pub IsOutstanding : HoldPhase → SideState → Type 0
-IsOutstanding phase side = (side.fresh ≡ true) ⊎ IsAboveFloor phase side.floor
+IsOutstanding phase side = (side.fresh ≡ true) ⊎ elim phase [ hold.Reset r ↦ side.floor < r | other ↦ ⊥ ]
 
 -- the path that moves data at the subsystem
 abbrev pub moving_path : HoldPhase → Option ℕ
@@ -39,11 +33,6 @@ moving_path (hold.On t p c) = Some p
 moving_path phase = None
 
 -- the path that moves data at the device, of this side
-abbrev pub path_of_place : Place → Option ℕ
-path_of_place (On p c) = Some p
-path_of_place (Ask p c) = None
-path_of_place (Away c) = None
-
 abbrev pub device_path : Own → Side → Option ℕ
 device_path Idle side = None
-device_path (Owned k t place) side = if same_side k side then path_of_place place else None
+device_path (Owned k t place) side = if same_side k side then elim place [ On p c ↦ Some p | other ↦ None ] else None

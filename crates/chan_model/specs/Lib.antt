@@ -7,3 +7,4 @@ pub mod UnitTable
 pub mod Agreement
 pub mod UnitReports
 pub mod ConditionCodes
+pub mod Parts

@@ -2,7 +2,7 @@
 -- accepted CLEAR SUBCHANNEL, a Notice of more restarts than are known, and a reset of the subsystem.
 use Rattle.std.specs.Prelude.{ℕ, Bool, true, false, ◌==◌, ◌&&◌, ◌||◌, if◌then◌else◌, Option, None, Some}
 use Rattle.chan_model.specs.declared.hold_state.HoldPhase.{HoldPhase}
-use Rattle.chan_model.specs.declared.hold_state.HoldPhase.TheVariants.{Free, Offer, On, Away, Letting, Reset}
+use Rattle.chan_model.specs.declared.hold_state.HoldPhase.TheVariants.{Offer, On, Away, Letting, Reset}
 use Rattle.chan_model.specs.declared.hold_state.HoldState.{HoldState}
 use Rattle.chan_model.specs.HoldTable.{resetting}
 
@@ -12,21 +12,16 @@ is_path (Some q) p = q == p
 
 -- the path whose engine the hold engages: the active allegiance (SA22-7832, chapter 15)
 abbrev pub engaged_path : HoldPhase → Option ℕ
-engaged_path Free = None
 engaged_path (Offer t p) = Some p
 engaged_path (On t p c) = Some p
-engaged_path (Away t) = None
 engaged_path (Letting t p) = Some p
-engaged_path (Reset r) = None
+engaged_path phase = None
 
 -- a program holds the device
 abbrev pub is_held : HoldPhase → Bool
-is_held Free = false
-is_held (Offer t p) = false
 is_held (On t p c) = true
 is_held (Away t) = true
-is_held (Letting t p) = false
-is_held (Reset r) = false
+is_held phase = false
 
 abbrev pub is_reset : HoldPhase → Bool
 is_reset (Reset r) = true

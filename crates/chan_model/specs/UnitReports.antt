@@ -1,5 +1,5 @@
 -- What a unit asks of its device, and what it does with the device's answer (own).
-use Rattle.std.specs.Prelude.{ℕ, ◌+◌, ◌%◌, Bool, false, not, ◌==◌, ◌&&◌, ◌||◌, nat_lt, nat_le, if◌then◌else◌, Option, None, Some, is_none, List, length}
+use Rattle.std.specs.Prelude.{ℕ, ◌+◌, ◌%◌, Bool, false, not, ◌==◌, ◌&&◌, ◌||◌, nat_lt, nat_le, if◌then◌else◌, Option, None, Some, is_none, option_and_then, List, length}
 use Rattle.std.specs.Int.RustNames.{bit_and}
 use Rattle.scsw_irb.specs.Status.{has}
 use Rattle.scsw_irb.specs.declared.status.DeviceStatus.{DeviceStatus}
@@ -33,9 +33,6 @@ use Rattle.chan_model.specs.UnitTable.{UnitStep, changes, sends}
 abbrev pub has_channel_end : DeviceStatus → Bool
 has_channel_end status = has status.0 0x08
 
-abbrev pub without_channel_end : DeviceStatus → DeviceStatus
-without_channel_end status = record { 0 = bit_and status.0 0xF7 }
-
 abbrev pub has_device_end : DeviceStatus → Bool
 has_device_end status = has status.0 0x04
 
@@ -49,10 +46,6 @@ is_outward code = code % 2 == 1
 -- an End after which no other comes: any but channel end alone
 abbrev pub is_last_end : DeviceStatus → Bool
 is_last_end status = not (has_channel_end status) || (has_device_end status || has_unit_check status)
-
--- the statuses that a device may give at first: channel end alone, or unit check alone
-abbrev pub is_initial : DeviceStatus → Bool
-is_initial status = (status.0 == 0x08) || (status.0 == 0x02)
 
 -- how many bytes of a read are asked for: the room at hand, at most 256
 abbrev pub most_of : AtHand → ℕ
@@ -70,10 +63,10 @@ is_settled x = is_none x.given && is_none x.unanswered
 abbrev pub is_to_supply : AtHand → Bool
 is_to_supply x = not (is_outward x.code || is_over x) && is_settled x
 
--- when a command may end with this status: at once, or where it is halted before it began; after its bytes, a halt or its
--- channel end, with device end
+-- when a command may end with this status: at once, with channel end alone or unit check alone, or where it is halted before it
+-- began; after its bytes, a halt or its channel end, with device end
 abbrev pub may_end : Bool → AtHand → Progress → DeviceStatus → Bool → Bool
-may_end halted x progress.New status more = not more && (is_initial status || (halted && (status.0 == 0x0C)))
+may_end halted x progress.New status more = not more && (((status.0 == 0x08) || (status.0 == 0x02)) || (halted && (status.0 == 0x0C)))
 may_end halted x progress.Working status more = (halted || (is_over x && is_settled x)) && has_device_end status
 may_end halted x progress.ChannelEnded status more = has_device_end status
 may_end halted x progress.Ended status more = false
@@ -91,12 +84,6 @@ command_begun u p t c x =
     if is_outward x.code then data_sent u p t c (with_absorbed x 0) (load.Absorbed 0)
     else changes (record u { at_hand = Some (record x { progress = progress.Working }) })
 
--- at most the bytes that were given are absorbed
-abbrev pub report_absorbed : UnitState → ℕ → ℕ → ℕ → AtHand → Option (List ℕ) → ℕ → Option UnitStep
-report_absorbed u p t c x None count = None
-report_absorbed u p t c x (Some bytes) count =
-    if nat_le count (length bytes) then data_sent u p t c (with_absorbed x count) (load.Absorbed count) else None
-
 -- the next chunk of a read: no more bytes than are asked for
 abbrev pub with_supplied : AtHand → List ℕ → AtHand
 with_supplied x bytes = record x { sequence = x.sequence + 1; unanswered = Some (load.Bytes bytes); asked = most_of x }
@@ -105,17 +92,10 @@ abbrev pub report_supplied : UnitState → ℕ → ℕ → ℕ → AtHand → Li
 report_supplied u p t c x bytes =
     if is_to_supply x && nat_le (length bytes) (most_of x) then data_sent u p t c (with_supplied x bytes) (load.Bytes bytes) else None
 
--- a Data that was not answered before a leave, on the connection at hand
-abbrev pub sent_again : UnitState → ℕ → ℕ → ℕ → AtHand → Option Load → Option UnitStep
-sent_again u p t c x None = None
-sent_again u p t c x (Some load) = if x.again then data_sent u p t c (record x { again = false }) load else None
-
 -- what an End shows of the status that the device gave: channel end that was sent already is left out of the later status
 abbrev pub shown_end : Progress → DeviceStatus → DeviceStatus
-shown_end progress.New status = status
-shown_end progress.Working status = status
-shown_end progress.ChannelEnded status = without_channel_end status
-shown_end progress.Ended status = status
+shown_end progress.ChannelEnded status = record { 0 = bit_and status.0 0xF7 }
+shown_end at status = status
 
 abbrev pub progress_after_end : DeviceStatus → Progress
 progress_after_end status = if is_last_end status then progress.Ended else progress.ChannelEnded
@@ -124,13 +104,16 @@ abbrev pub end_sent : UnitState → ℕ → ℕ → AtHand → DeviceStatus → 
 end_sent u p t x status more =
     sends (record u { at_hand = Some (record x { progress = progress_after_end status }) }) p (up.End t u.last_command status more)
 
--- an answer of the device, at each progress of the command at hand
+-- an answer of the device, at each progress of the command at hand: at most the bytes that were given are absorbed, and a Data that
+-- was not answered before a leave is sent again on the connection at hand
 abbrev pub answer_taken : UnitState → ℕ → ℕ → ℕ → AtHand → Progress → DeviceAnswer → Option UnitStep
 answer_taken u p t c x at (Ended status more) = if may_end u.halted x at status more then end_sent u p t x (shown_end at status) more else None
 answer_taken u p t c x progress.New Begins = command_begun u p t c x
-answer_taken u p t c x progress.Working (Absorbed count) = report_absorbed u p t c x x.given count
+answer_taken u p t c x progress.Working (Absorbed count) =
+    option_and_then (λ bytes. if nat_le count (length bytes) then data_sent u p t c (with_absorbed x count) (load.Absorbed count) else None) x.given
 answer_taken u p t c x progress.Working (Supplied bytes) = report_supplied u p t c x bytes
-answer_taken u p t c x progress.Working Again = sent_again u p t c x x.unanswered
+answer_taken u p t c x progress.Working Again =
+    option_and_then (λ load. if x.again then data_sent u p t c (record x { again = false }) load else None) x.unanswered
 answer_taken u p t c x at answer = None
 
 abbrev pub report_on : UnitState → ℕ → Place → Option AtHand → Report → Option UnitStep

@@ -1,7 +1,8 @@
 -- What every device keeps to, and what its unit may so report (own).
 use Rattle.std.specs.Prelude.{◌≡◌, ◌≤◌, ◌⊎◌, false, IsTrue, length}
 use Rattle.scsw_irb.specs.declared.status.DeviceStatus.{DeviceStatus}
-use Rattle.chan_model.specs.UnitReports.{is_initial, has_device_end}
+use Rattle.chan_model.specs.UnitReports.{has_device_end}
+use Rattle.chan_model.specs.Parts.{is_initial}
 use Rattle.chan_model.specs.declared.report.Call.{Call}
 use Rattle.chan_model.specs.declared.report.Call.TheVariants.{Initial, Absorb, Supply, Finish}
 use Rattle.chan_model.specs.declared.report.DeviceAnswer.{DeviceAnswer}

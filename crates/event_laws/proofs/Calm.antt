@@ -16,10 +16,12 @@ use Rattle.subchannel_model.specs.declared.state.ActiveProgram.{ActiveProgram}
 use Rattle.subchannel_model.specs.declared.state.Program.{Program}
 use Rattle.subchannel_model.specs.declared.state.SubchannelState.{SubchannelState}
 use Rattle.subchannel_model.proofs.Named.{with_row, with_pci_of, with_attention}
-use Rattle.subchannel_model.specs.Causes.{without_begun, without_waiting, programs_after_end, CauseRow, row_of, scsw_joined, with_cause}
+use Rattle.scsw_irb.specs.declared.scsw.Scsw.{Scsw}
+use Rattle.subchannel_model.specs.Causes.{without_begun, without_waiting, programs_after_end, CauseRow, row_of, scsw_before, with_cause}
+use Rattle.subchannel_model.specs.Parts.{scsw_joined, suspended_alone, standing_still}
 use Rattle.subchannel_model.specs.Losing.{reset_drawn, reset_with}
 use Rattle.subchannel_model.specs.Status.{scsw_made, serials_made}
-use Rattle.subchannel_model.specs.Taking.{let_go, without_pci, interrupted, with_transfer, moving_on, suspended_alone, standing_still, suspending, halt_done, clear_done}
+use Rattle.subchannel_model.specs.Taking.{let_go, without_pci, interrupted, with_transfer, moving_on, suspending, halt_done, clear_done}
 
 -- one phase is a reset under a number exactly where the other is
 pub record IsAsReset (old new : HoldPhase) : Type 0 where
@@ -83,18 +85,19 @@ made-cleared : (enabled : Bool) (serials : Serials) → (serials_made enabled se
 made-cleared true serials = refl
 made-cleared false serials = refl
 
-row-counts : (s : SubchannelState) (row : CauseRow) (x y : Bool) → x ≡ y → s.serials.made ≤ row.left.serials.made →
-    IsCounted s.serials.made s.scsw.count (serials_made x row.left.serials).made (scsw_made x (scsw_joined y s.scsw row.joins) row.shown).count
-row-counts s row true y e l = record { rises = omega (arith, l); kept = λ m. absurd (omega (arith, l, m)) }
-row-counts s row false true e l = absurd (cc e)
-row-counts s row false false e l = record { rises = l; kept = λ m. inl refl }
+row-counts : (s : SubchannelState) (row : CauseRow) (joins : Scsw) (x y : Bool) → x ≡ y → s.serials.made ≤ row.left.serials.made →
+    IsCounted s.serials.made s.scsw.count (serials_made x row.left.serials).made (scsw_made x (scsw_joined y s.scsw joins) row.shown).count
+row-counts s row joins true y e l = record { rises = omega (arith, l); kept = λ m. absurd (omega (arith, l, m)) }
+row-counts s row joins false true e l = absurd (cc e)
+row-counts s row joins false false e l = record { rises = l; kept = λ m. inl refl }
 
-row-calm : (s : SubchannelState) (row : CauseRow) → row.left.pmcw.enabled ≡ s.pmcw.enabled → IsCalm s row.left → IsCalm s (with_row s row)
-row-calm s row e k =
+row-calm : (s : SubchannelState) (row : CauseRow) (joins : Scsw) → row.left.pmcw.enabled ≡ s.pmcw.enabled → IsCalm s row.left →
+    IsCalm s (with_row s row joins)
+row-calm s row joins e k =
     record {
       cleared = made-cleared row.left.pmcw.enabled row.left.serials ∙ k.cleared;
       reset = k.reset;
-      counts = row-counts s row row.left.pmcw.enabled s.pmcw.enabled e k.counts.rises;
+      counts = row-counts s row joins row.left.pmcw.enabled s.pmcw.enabled e k.counts.rises;
     }
 
 after_end-calm : (s : SubchannelState) (b : ActiveProgram) (last : Bool) → IsCalm s (programs_after_end s b last)
@@ -145,7 +148,7 @@ left-enabled s cause.ClearDone = refl
 left-enabled s cause.HaltDone = refl
 
 pub cause-calm : (s : SubchannelState) (c : StatusCause) → IsCalm s (with_cause s c)
-cause-calm s c = row-calm s (row_of s c) (left-enabled s c) (left-calm s c)
+cause-calm s c = row-calm s (row_of s c) (scsw_before s.scsw c) (left-enabled s c) (left-calm s c)
 
 -- an interruption by the program, and a program that goes on or is suspended
 pci-calm : (s : SubchannelState) (b : ActiveProgram) → IsCalm s (with_pci_of s b)

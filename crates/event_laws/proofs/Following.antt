@@ -37,7 +37,8 @@ use Rattle.subchannel_model.specs.declared.state.SubchannelState.{SubchannelStat
 use Rattle.subchannel_model.specs.declared.state.UpStep.{UpStep}
 use Rattle.subchannel_model.specs.Choosing.{IsFitFor, chosen, marked_sub, reset_sent, halt_sent, offered}
 use Rattle.subchannel_model.specs.Halt.{drops_status, status_dropped, halt_begun}
-use Rattle.subchannel_model.specs.Losing.{has_any, is_offered_or_held, reset_for, path_index, loses_at, loses, available_pmcw, shows_at}
+use Rattle.subchannel_model.specs.Losing.{is_offered_or_held, reset_for, path_index, loses_at, loses, shows_at}
+use Rattle.subchannel_model.specs.Parts.{has_any, available_pmcw}
 use Rattle.subchannel_model.specs.Modify.{modified_state}
 use Rattle.subchannel_model.specs.Programs.{without_programs}
 use Rattle.subchannel_model.specs.Sending.{carried_by, finds_full}
@@ -59,7 +60,7 @@ use Rattle.machine_model.specs.ReportSteps.{report_taken}
 use Rattle.machine_model.specs.Turns.{SubTurn, UpTurn, DownTurn}
 use Rattle.machine_model.specs.UpSteps.{up_front, up_sub}
 use Rattle.step_laws.specs.Walks as walked
-use Rattle.step_laws.specs.Walks.{Walked, OneSub, OneUnit, Function, Resumes, Halts, Clears, Cancels, instruction_of, effect_of, sweep_event}
+use Rattle.step_laws.specs.Walks.{Walked, Function, Resumes, Halts, Clears, Cancels, instruction_of, effect_of, sweep_event}
 use Rattle.step_laws.proofs.Places.{set-get, map-get}
 use Rattle.event_laws.specs.Clearing.{IsClearing}
 use Rattle.event_laws.specs.Resets.{RestsOn, IsResetCause, IsCleared}

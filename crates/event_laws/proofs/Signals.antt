@@ -27,7 +27,8 @@ use Rattle.subchannel_model.specs.declared.cause.StatusCause.TheVariants as caus
 use Rattle.subchannel_model.specs.Causes.{with_cause}
 use Rattle.subchannel_model.specs.Ends.{has_status_modifier, chains_command}
 use Rattle.subchannel_model.proofs.Named.{give_next, with_attention}
-use Rattle.subchannel_model.specs.Taking.{Met, meets, ignoring, quietly, let_go, by_hold, interrupted, path_used, taking_over, suspending, standing, goes_ahead, beginning, begin_standing, halt_done, accept, take_in, bytes_of_load, move_bytes, move_data, with_end, end_taken, chaining, chain_with, goes_on, end_shown_at, stops_at, command_ended, end_of, may_attend, takes_up}
+use Rattle.subchannel_model.specs.Taking.{Met, meets, ignoring, quietly, let_go, by_hold, interrupted, path_used, taking_over, suspending, standing, goes_ahead, beginning, begin_standing, halt_done, accept, take_in, bytes_of_load, move_bytes, move_data, with_end, end_taken, chaining, goes_on, stops_at, command_ended, end_of, may_attend, takes_up}
+use Rattle.subchannel_model.specs.Parts.{chain_with, end_shown_at}
 use Rattle.event_laws.proofs.Calm.{IsAsReset, as-same, IsCalm, calm-same, calm-then, counts-same, cause-calm, interrupted-calm, moving-calm, suspending-calm, halt_done-calm, attention-calm, let_go-calm}
 
 -- what the hold alone does with a signal

@@ -4,6 +4,7 @@ ghost use Rattle.std.specs.Prelude.{◌≡◌, ◌<◌, ◌^◌};
 ghost use Rattle.subchannel_model.specs.Status as status_spec;
 ghost use Rattle.subchannel_model.specs.Conditions as condition_spec;
 ghost use Rattle.subchannel_model.specs.Resume as resume_spec;
+ghost use Rattle.subchannel_model.specs.Parts as parts;
 ghost use Rattle.subchannel_model.specs.Halt as halt_spec;
 ghost use Rattle.subchannel_model.specs.Clear as clear_spec;
 ghost use Rattle.subchannel_model.specs.Cancel as cancel_spec;
@@ -49,7 +50,7 @@ fn start_scsw(scsw: &mut Scsw, orb: &Orb)
 }
 
 fn start_pmcw(pmcw: &mut PmcwState, orb: &Orb)
-    ensures { pmcw.new ≡ start_spec.started_pmcw pmcw.old orb.now }
+    ensures { pmcw.new ≡ parts.started_pmcw pmcw.old orb.now }
 {
     pmcw.parameter = orb.parameter;
     pmcw.logical = paths_of_mask(orb.paths);
@@ -80,7 +81,7 @@ fn find_operational(pmcw: &mut PmcwState)
 }
 
 fn resume_scsw(scsw: &mut Scsw)
-    ensures { scsw.new ≡ resume_spec.resumed_scsw scsw.old }
+    ensures { scsw.new ≡ parts.resumed_scsw scsw.old }
 {
     scsw.activity.resume_pending = true;
 }
@@ -148,7 +149,7 @@ pub(crate) fn halt(state: &mut SubchannelState)
 }
 
 fn cleared_scsw() -> Scsw
-    ensures { result ≡ clear_spec.cleared_scsw }
+    ensures { result ≡ parts.cleared_scsw }
 {
     let mut scsw = Scsw::zero();
     scsw.functions.clear = true;
@@ -157,7 +158,7 @@ fn cleared_scsw() -> Scsw
 }
 
 fn clear_pmcw(pmcw: &mut PmcwState)
-    ensures { pmcw.new ≡ clear_spec.cleared_pmcw pmcw.old }
+    ensures { pmcw.new ≡ parts.cleared_pmcw pmcw.old }
 {
     pmcw.not_operational = [false; 8];
     pmcw.last_used = None;

@@ -46,8 +46,9 @@ use Rattle.machine_model.specs.ChooseSteps.{choose_sub}
 use Rattle.subchannel_model.specs.Sending.{carried_by, finds_full}
 use Rattle.machine_model.specs.UpSteps.{up_front, up_sub}
 use Rattle.subchannel_model.proofs.Named.{with_known, give_next, with_attention}
-use Rattle.subchannel_model.specs.Taking.{Met, meets, ignoring, quietly, sending, let_go, by_hold, moving_on, giving, answering, take_in, bytes_of_load, standing, goes_ahead, path_used, taking_over, interrupted, suspending, beginning, begin_standing, halt_done, accept, move_bytes, move_data, with_end, end_taken, chaining, chain_with, goes_on, end_shown_at, stops_at, command_ended, end_of, reset_taken, may_attend, takes_up}
-use Rattle.subchannel_model.specs.Losing.{has_any, is_offered_or_held, reset_for}
+use Rattle.subchannel_model.specs.Taking.{Met, meets, ignoring, quietly, sending, let_go, by_hold, moving_on, giving, answering, take_in, bytes_of_load, standing, goes_ahead, path_used, taking_over, interrupted, suspending, beginning, begin_standing, halt_done, accept, move_bytes, move_data, with_end, end_taken, chaining, goes_on, stops_at, command_ended, end_of, reset_taken, may_attend, takes_up}
+use Rattle.subchannel_model.specs.Parts.{chain_with, end_shown_at, has_any}
+use Rattle.subchannel_model.specs.Losing.{is_offered_or_held, reset_for}
 use Rattle.machine_laws.proofs.Resetting.{reset-acted}
 use Rattle.machine_laws.proofs.SameHold.{IsSameHold, same-hold, same-then, cause-same, interrupted-same, moving-same, suspending-same, halt_done-same, clear_done-same, attention-same}
 use Rattle.machine_laws.proofs.Growth.{covers-taken, covers-first, IsLink, Keeps, IsAt, Reaches, stays, acts, chain, IsReached, reached}

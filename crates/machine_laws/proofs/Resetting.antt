@@ -8,7 +8,8 @@ use Rattle.subchannel_model.specs.declared.state.ActiveProgram.{ActiveProgram}
 use Rattle.subchannel_model.specs.declared.state.Program.{Program}
 use Rattle.subchannel_model.specs.declared.state.ProgramPosition.{ProgramPosition}
 use Rattle.subchannel_model.specs.declared.state.SubchannelState.{SubchannelState}
-use Rattle.subchannel_model.specs.Losing.{has_any, is_offered_or_held, reset_drawn, reset_with, reset_for}
+use Rattle.subchannel_model.specs.Losing.{is_offered_or_held, reset_drawn, reset_with, reset_for}
+use Rattle.subchannel_model.specs.Parts.{has_any}
 use Rattle.subchannel_model.proofs.Named.{with_known}
 use Rattle.subchannel_model.specs.Taking.{quietly, ignoring}
 use Rattle.machine_laws.proofs.Waits.{WaitsAs, IsBegunHeld, Waits, Turned, moved-as}

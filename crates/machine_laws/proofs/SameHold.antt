@@ -15,7 +15,8 @@ use Rattle.subchannel_model.specs.Programs.{without_programs}
 use Rattle.subchannel_model.specs.Test.{tested_wholly, ends_suspended, tested}
 use Rattle.subchannel_model.specs.Halt.{status_dropped, halt_begun, halted, drops_status}
 use Rattle.subchannel_model.proofs.Named.{with_pci_of, with_attention}
-use Rattle.subchannel_model.specs.Taking.{without_pci, interrupted, with_transfer, moving_on, suspended_alone, standing_still, suspending, halt_done, clear_done}
+use Rattle.subchannel_model.specs.Taking.{without_pci, interrupted, with_transfer, moving_on, suspending, halt_done, clear_done}
+use Rattle.subchannel_model.specs.Parts.{suspended_alone, standing_still}
 
 pub record IsSameHold (s x : SubchannelState) : Type 0 where
   pub drawn : x.drawn ≡ s.drawn

@@ -23,9 +23,9 @@ use Rattle.chan_model.specs.declared.unit_state.Progress.TheVariants as progress
 use Rattle.chan_model.specs.declared.unit_state.SideState.{SideState}
 use Rattle.chan_model.specs.declared.unit_state.UnitState.{UnitState}
 use Rattle.chan_model.specs.Sides.{same_side}
-use Rattle.chan_model.proofs.Named.{without_side}
+use Rattle.chan_model.proofs.Named.{without_side, report_absorbed, sent_again}
 use Rattle.chan_model.specs.UnitTable.{UnitStep, changes, with_given, at_hand_answered, side_of, with_side, owns, is_owner, is_owner_on, freed, raised, selected, given_next, answered_load, answered_last, granted_at, granted, grant_refused_at, grant_refused, resets, forgetting, unit_works, unit_takes, unit_after, telling, is_idle, marked_again, leaving_from, leaving, asking_from, asking, restarted}
-use Rattle.chan_model.specs.UnitReports.{is_outward, is_to_supply, most_of, may_end, shown_end, end_sent, command_begun, report_absorbed, with_supplied, report_supplied, sent_again, answer_taken, report_on, report_of, unit_reports}
+use Rattle.chan_model.specs.UnitReports.{is_outward, is_to_supply, most_of, may_end, shown_end, end_sent, command_begun, with_supplied, report_supplied, answer_taken, report_on, report_of, unit_reports}
 use Rattle.chan_events.specs.declared.event.UnitAct.{UnitAct}
 use Rattle.chan_events.specs.declared.event.UnitAct.TheVariants as act
 use Rattle.machine_model.specs.Bounds.{IsAtWithin, IsPlaceWithin, IsOwnWithin}

@@ -13,7 +13,8 @@ use Rattle.subchannel_model.specs.declared.cause.StatusCause.TheVariants as caus
 use Rattle.subchannel_model.specs.declared.state.SubchannelState.{SubchannelState}
 use Rattle.subchannel_model.specs.declared.state.UpStep.{UpStep}
 use Rattle.subchannel_model.specs.Causes.{with_cause}
-use Rattle.subchannel_model.specs.Losing.{has_any, is_offered_or_held, reset_drawn, reset_with}
+use Rattle.subchannel_model.specs.Losing.{is_offered_or_held, reset_drawn, reset_with}
+use Rattle.subchannel_model.specs.Parts.{has_any}
 use Rattle.subchannel_model.proofs.Named.{with_known, with_attention}
 use Rattle.subchannel_model.specs.Taking.{ignoring, quietly, let_go, by_hold, clear_done, reset_taken, notice}
 use Rattle.path_laws.proofs.SameState.{IsSame, cause-same, clear_done-same, attention-same}

@@ -37,7 +37,8 @@ use Rattle.subchannel_model.specs.declared.state.UpStep.{UpStep}
 use Rattle.subchannel_model.specs.Causes.{with_cause}
 use Rattle.subchannel_model.specs.Ends.{has_status_modifier, chains_command}
 use Rattle.subchannel_model.proofs.Named.{give_next}
-use Rattle.subchannel_model.specs.Taking.{Met, meets, ignoring, quietly, let_go, interrupted, standing, goes_ahead, path_used, taking_over, suspending, beginning, begin_standing, halt_done, accept, moving_on, giving, answering, take_in, bytes_of_load, move_bytes, move_data, with_end, end_taken, chaining, chain_with, goes_on, end_shown_at, stops_at, command_ended, end_of, back, may_attend, takes_up}
+use Rattle.subchannel_model.specs.Taking.{Met, meets, ignoring, quietly, let_go, interrupted, standing, goes_ahead, path_used, taking_over, suspending, beginning, begin_standing, halt_done, accept, moving_on, giving, answering, take_in, bytes_of_load, move_bytes, move_data, with_end, end_taken, chaining, goes_on, stops_at, command_ended, end_of, back, may_attend, takes_up}
+use Rattle.subchannel_model.specs.Parts.{chain_with, end_shown_at}
 use Rattle.path_laws.proofs.Named.{first_of_both, granted_on}
 use Rattle.path_laws.specs.Returns.{accepted_by}
 use Rattle.path_laws.proofs.SameState.{IsSame, is-same, same-then, cause-same, interrupted-same, moving-same, suspending-same, halt_done-same}

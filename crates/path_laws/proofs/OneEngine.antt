@@ -11,7 +11,8 @@ use Rattle.chan_model.specs.declared.names.Side.{Side}
 use Rattle.chan_model.specs.declared.unit_state.Own.{Own}
 use Rattle.chan_model.specs.declared.unit_state.Own.TheVariants as own
 use Rattle.chan_model.specs.declared.unit_state.Place.{Place}
-use Rattle.chan_model.specs.Agreement.{path_of_place, device_path}
+use Rattle.chan_model.specs.Agreement.{device_path}
+use Rattle.chan_model.proofs.Named.{path_of_place}
 use Rattle.chan_model.specs.ResetCauses.{engaged_path}
 use Rattle.chan_model.specs.Sides.{same_side}
 use Rattle.channel_config.specs.declared.parts.SubchannelSetup.{SubchannelSetup}

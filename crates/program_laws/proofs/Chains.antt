@@ -24,6 +24,7 @@ use Rattle.subchannel_model.specs.declared.status.Shown.{Shown}
 use Rattle.subchannel_model.specs.Ends.{has_status_modifier, breaks_chain, chains_command, end_shown}
 use Rattle.subchannel_model.specs.Status.{serials_made}
 use Rattle.subchannel_model.specs.Taking as taking
+use Rattle.subchannel_model.specs.Parts as taking_parts
 use Rattle.subchannel_model.specs.Taking.{let_go, with_end}
 use Rattle.program_laws.specs.Traces.{ProgramTrace}
 use Rattle.program_laws.specs.Shows.{IsCountBy}
@@ -72,7 +73,7 @@ module _ (laws : AreLaws) (accesses : AreAccesses) where
       has_device_end signal.status ≡ true → HasWork (Some b) k → signal.number ≡ k.number →
       let next : Beginning = next_command storage b.transfer (has_status_modifier signal.status) in
       let acts : List Act = next_acts storage b.transfer (has_status_modifier signal.status) in
-      Chains storage signal.status (taking.chain_with storage s (with_end b) signal next).came.sent k (stories.trace_goes_on next.came acts k)
+      Chains storage signal.status (taking_parts.chain_with storage s (with_end b) signal next).came.sent k (stories.trace_goes_on next.came acts k)
   chains-on storage s b k signal c d w m =
       let modifier : Bool = has_status_modifier signal.status in
       let f = chains-facts laws accesses s.scsw b signal.status signal.more c in
@@ -103,14 +104,14 @@ module _ (laws : AreLaws) (accesses : AreAccesses) where
   goes-meets : (storage : Contents) (s : SubchannelState) (b : ActiveProgram) (k : ProgramTrace) (signal : EndSignal) (x y : Bool) → chains_command s.scsw b signal.status signal.more ≡ x →
       has_device_end signal.status ≡ y → s.begun ≡ Some b → HasWork (Some b) k → signal.number ≡ k.number →
       EndBy storage s signal
-      (if x then (if y then taking.chain_with storage s (with_end b) signal (next_command storage (with_end b).transfer (has_status_modifier signal.status))
+      (if x then (if y then taking_parts.chain_with storage s (with_end b) signal (next_command storage (with_end b).transfer (has_status_modifier signal.status))
       else taking.quietly (record (taking.end_taken s signal) { begun = Some (with_end b) }))
       else taking.stops_at s b signal) k
       (if x then (if y then stories.trace_goes_on (next_command storage b.transfer (has_status_modifier signal.status)).came (next_acts storage b.transfer (has_status_modifier signal.status)) k else k)
       else stories.ends_alone signal.status k)
   goes-meets storage s b k signal true true c d e w m r =
       let next : Beginning = next_command storage b.transfer (has_status_modifier signal.status) in
-      let x : UpStep = taking.chain_with storage s (with_end b) signal next in
+      let x : UpStep = taking_parts.chain_with storage s (with_end b) signal next in
       let after : ProgramTrace = stories.trace_goes_on next.came (next_acts storage b.transfer (has_status_modifier signal.status)) k in
       subst (λ (t : Bool). Meets storage storage s x.state (up.End signal.number signal.command signal.status signal.more) t x.came.sent k after)
       (sym (chaining-taken storage s (with_end b) signal next.walk next.came)) (inr (is-chained s b k signal.status signal.more true e w c, chains-on storage s b k signal c d w m, next-shows laws accesses storage s b k signal c w r))

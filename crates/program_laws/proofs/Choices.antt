@@ -60,7 +60,8 @@ use Rattle.machine_model.specs.UpSteps.{up_front, up_sub}
 use Rattle.machine_model.specs.DownSteps.{down_front, down_sub}
 use Rattle.machine_model.specs.ReportSteps.{report_taken, report_sub}
 use Rattle.machine_model.specs.Steps.{Run, Opened, Stepped}
-use Rattle.subchannel_model.specs.Losing.{has_any, is_offered_or_held, reset_with, reset_for}
+use Rattle.subchannel_model.specs.Losing.{is_offered_or_held, reset_with, reset_for}
+use Rattle.subchannel_model.specs.Parts.{has_any}
 use Rattle.subchannel_model.specs.SystemReset.{state_reset}
 use Rattle.machine_model.specs.declared.state.Sweep.{Sweep}
 use Rattle.machine_model.specs.PathSteps.{swept}

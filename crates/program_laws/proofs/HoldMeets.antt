@@ -43,8 +43,10 @@ use Rattle.subchannel_model.specs.Causes as causes
 use Rattle.subchannel_model.proofs.Named.{with_row}
 use Rattle.subchannel_model.specs.Causes.{with_cause, without_begun, fetch_fault_shown}
 use Rattle.subchannel_model.specs.Taking as taking
+use Rattle.subchannel_model.specs.Parts as taking_parts
 use Rattle.subchannel_model.proofs.Named as pieces
-use Rattle.subchannel_model.specs.Taking.{takes_up, goes_ahead, path_used, let_go, bytes_of_load, with_end, without_pci, interrupted, taking_over, from_start, suspended_as, standing_as, standing_still, suspended_alone, suspending}
+use Rattle.subchannel_model.specs.Taking.{takes_up, goes_ahead, path_used, let_go, bytes_of_load, with_end, without_pci, interrupted, taking_over, from_start, suspended_as, standing_as, suspending}
+use Rattle.subchannel_model.specs.Parts.{standing_still, suspended_alone, has_any}
 use Rattle.program_laws.specs.Traces.{CommandTrace, no_trace}
 use Rattle.program_laws.proofs.MachineActs.{with_acts, goes_acts, first_acts, next_acts, gives, takes_in}
 use Rattle.program_laws.proofs.MachineTraces as stories
@@ -56,7 +58,7 @@ use Rattle.program_laws.proofs.Named.{IsRest, IsWhole}
 use Rattle.program_laws.proofs.Accesses.{AreAccesses}
 use Rattle.program_laws.proofs.Ties.{AreLaws, Tied, changed, spot-counts}
 use Rattle.program_laws.proofs.Parts.{IsDone, IsAtWork, HasArrived, done-of, arrived-none, gives-work, takes_in-work, WentOn, goes-on, IsSame, absorbed-same, next_given-same, located-same, brought-same, room-same}
-use Rattle.subchannel_model.specs.Losing.{has_any, is_offered_or_held, reset_with, reset_for}
+use Rattle.subchannel_model.specs.Losing.{is_offered_or_held, reset_with, reset_for}
 use Rattle.program_laws.proofs.Holds.{IsPhase, IsDrawn, HasWork, IsStanding, IsHeld, IsHold, done-held, phase-some, phase-none, busy-phase, left-phase, back-phase, released-phase, attended-phase, by_hold-held, back-held, attention-held, let_go-held, standing-some, none-stands, halt_done-held, reset_taken-held, nothing-done, past-done}
 use Rattle.program_laws.proofs.Endings.{ended-held, ended-work}
 
@@ -112,7 +114,7 @@ module _ (laws : AreLaws) (accesses : AreAccesses) where
 
   abbrev fault-left : SubchannelState → Option ActiveProgram → ℕ → Check → ℕ → SubchannelState
   fault-left s b tried check count =
-      with_row s (record { shown = fetch_fault_shown tried check count; left = without_begun b s; joins = s.scsw })
+      with_row s (record { shown = fetch_fault_shown tried check count; left = without_begun b s }) s.scsw
 
   fault-by : (s : SubchannelState) (b : Option ActiveProgram) (tried : ℕ) (check : Check) (count : ℕ) (k : ProgramTrace) → s.begun ≡ b → k.number ≤ s.drawn →
       IsHold s.drawn k.number s.begun k.sent s.hold.phase → IsDone k.orb k.now → ((c : ActiveProgram) → s.begun ≡ Some c → s.suspended ≡ None) →
@@ -378,7 +380,7 @@ module _ (laws : AreLaws) (accesses : AreAccesses) where
 
   abbrev pub end-left : SubchannelState → ActiveProgram → EndSignal → Shown → Bool → SubchannelState
   end-left s b signal shown last =
-      record (with_row s (record { shown = shown; left = causes.programs_after_end s b last; joins = s.scsw })) {
+      record (with_row s (record { shown = shown; left = causes.programs_after_end s b last }) s.scsw) {
         dedicated = taking.dedicated_by_end s.dedicated signal;
       }
 
@@ -393,7 +395,7 @@ module _ (laws : AreLaws) (accesses : AreAccesses) where
 
   goes-held : (storage : Contents) (s : SubchannelState) (b : ActiveProgram) (k : ProgramTrace) (signal : EndSignal) (x y : Bool) → chains_command s.scsw b signal.status signal.more ≡ x →
       s.begun ≡ Some b → IsHeld s k → IsAtWork k.earlier k.orb k.now b.transfer (is_outward b.transfer.code) → (b.transfer.command ≡ k.sent) × (1 ≤ k.sent) →
-      IsHeld (if x then (if y then taking.chain_with storage s (with_end b) signal (next_command storage (with_end b).transfer (has_status_modifier signal.status))
+      IsHeld (if x then (if y then taking_parts.chain_with storage s (with_end b) signal (next_command storage (with_end b).transfer (has_status_modifier signal.status))
       else taking.quietly (record (taking.end_taken s signal) { begun = Some (with_end b) }))
       else taking.stops_at s b signal).state
       (if x then (if y then stories.trace_goes_on (next_command storage b.transfer (has_status_modifier signal.status)).came (next_acts storage b.transfer (has_status_modifier signal.status)) k else k)

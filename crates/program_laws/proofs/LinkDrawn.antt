@@ -27,7 +27,8 @@ use Rattle.subchannel_model.specs.declared.state.SubchannelState.{SubchannelStat
 use Rattle.subchannel_model.specs.declared.state.UpStep.{UpStep}
 use Rattle.subchannel_model.specs.Ends.{has_status_modifier, chains_command}
 use Rattle.subchannel_model.specs.Taking.{Met, goes_ahead, standing, path_used, taking_over, with_transfer, moving_on, reset_taken, beginning, begin_standing, accepted_by, accept, move_bytes, move_data, with_end, end_taken, chaining, goes_on, stops_at, end_of, takes_up}
-use Rattle.subchannel_model.specs.Losing.{has_any, is_offered_or_held, reset_with, reset_for}
+use Rattle.subchannel_model.specs.Losing.{is_offered_or_held, reset_with, reset_for}
+use Rattle.subchannel_model.specs.Parts.{has_any}
 use Rattle.subchannel_model.specs.Taking as taking
 use Rattle.subchannel_model.proofs.Named as pieces
 use Rattle.program_laws.proofs.Caused.{cause-kept, interrupted-work, suspending-workless, halt-kept, clear-kept}

@@ -36,7 +36,8 @@ use Rattle.machine_model.specs.ChooseSteps.{choose_sub}
 use Rattle.machine_model.specs.UpSteps.{up_front, up_sub}
 use Rattle.machine_model.specs.DownSteps.{down_front, down_sub}
 use Rattle.machine_model.specs.ReportSteps.{with_any_up, report_taken}
-use Rattle.subchannel_model.specs.Losing.{has_any, is_offered_or_held, reset_with, reset_for}
+use Rattle.subchannel_model.specs.Losing.{is_offered_or_held, reset_with, reset_for}
+use Rattle.subchannel_model.specs.Parts.{has_any}
 use Rattle.subchannel_model.specs.Taking as taking
 use Rattle.subchannel_model.proofs.Named as pieces
 use Rattle.step_laws.specs.Walks.{IsFound, Suits}

@@ -45,6 +45,7 @@ use Rattle.subchannel_model.specs.Causes as causes
 use Rattle.subchannel_model.specs.Causes.{with_cause}
 use Rattle.subchannel_model.specs.declared.cause.StatusCause.TheVariants as cause
 use Rattle.subchannel_model.specs.Taking as taking
+use Rattle.subchannel_model.specs.Parts as taking_parts
 use Rattle.subchannel_model.proofs.Named as pieces
 use Rattle.subchannel_model.specs.Taking.{goes_ahead, from_start, bytes_of_load, takes_up, with_end}
 use Rattle.subchannel_model.specs.Sending.{with_any_sent}
@@ -427,7 +428,7 @@ module _ (laws : AreLaws) (accesses : AreAccesses) (storage : Contents) (side : 
           (fault-begun (taking.end_taken s signal) s.begun refl) o (subst Went c went).1
 
   end-begun : (b : ActiveProgram) (signal : EndSignal) (last : Bool) → is_last_end signal.status ≡ last →
-      (taking.end_shown_at s b signal).begun ≡ (if last then None else Some (has_shown b))
+      (taking_parts.end_shown_at s b signal).begun ≡ (if last then None else Some (has_shown b))
   end-begun b signal last e = ap (λ (x : Bool). (causes.programs_after_end s b x).begun) e ∙ by last
     where
       by : (x : Bool) → (causes.programs_after_end s b x).begun ≡ (if x then None else Some (has_shown b))
@@ -436,7 +437,7 @@ module _ (laws : AreLaws) (accesses : AreAccesses) (storage : Contents) (side : 
 
   ends-by : (b : ActiveProgram) (signal : EndSignal) (x y : Bool) → chains_command s.scsw b signal.status signal.more ≡ x → s.begun ≡ Some b → IsOver b →
       Goes
-      (if x then (if y then taking.chain_with storage s (with_end b) signal (next_command storage (with_end b).transfer (has_status_modifier signal.status))
+      (if x then (if y then taking_parts.chain_with storage s (with_end b) signal (next_command storage (with_end b).transfer (has_status_modifier signal.status))
       else taking.quietly (record (taking.end_taken s signal) { begun = Some (with_end b) }))
       else taking.stops_at s b signal)
       (if x then (if y then stories.trace_goes_on (next_command storage b.transfer (has_status_modifier signal.status)).came (next_acts storage b.transfer (has_status_modifier signal.status)) k else k) else stories.ends_alone signal.status k)
@@ -447,7 +448,7 @@ module _ (laws : AreLaws) (accesses : AreAccesses) (storage : Contents) (side : 
   ends-by b signal false y c e o = stops (is_last_end signal.status) refl
     where
       x : SubchannelState
-      x = taking.end_shown_at s b signal
+      x = taking_parts.end_shown_at s b signal
 
       stops : (last : Bool) → is_last_end signal.status ≡ last → Goes (if last then taking.let_go x else taking.quietly x) (stories.ends_alone signal.status k)
       stops true l = next-over b x (End (record { goes_on = false; modifier = has_status_modifier signal.status }) ∷ []) (end-begun b signal true l) o refl

@@ -27,12 +27,13 @@ use Rattle.subchannel_model.specs.declared.state.SubchannelState.{SubchannelStat
 use Rattle.subchannel_model.specs.declared.status.Shown.{Shown}
 use Rattle.subchannel_model.specs.declared.cause.StatusCause.TheVariants as cause
 use Rattle.subchannel_model.specs.Status.{no_device_status, no_subchannel_status, with_joined, scsw_made, serials_made}
-use Rattle.subchannel_model.specs.Ends.{has_status_modifier, chains_command, channel_end_shown, last_shown, end_shown}
+use Rattle.subchannel_model.specs.Ends.{has_status_modifier, chains_command, last_shown, end_shown}
+use Rattle.subchannel_model.specs.Parts.{chain_with, channel_end_shown, scsw_joined, standing_still, suspended_alone}
 use Rattle.subchannel_model.proofs.Named.{with_row}
-use Rattle.subchannel_model.specs.Causes.{scsw_joined, without_begun, fetch_fault_shown, pci_shown, suspension_shown, with_cause}
+use Rattle.subchannel_model.specs.Causes.{without_begun, fetch_fault_shown, pci_shown, suspension_shown, with_cause}
 use Rattle.subchannel_model.specs.Taking as taking
 use Rattle.subchannel_model.proofs.Named as pieces
-use Rattle.subchannel_model.specs.Taking.{bytes_of_load, let_go, with_end, without_pci, standing_still, suspended_alone}
+use Rattle.subchannel_model.specs.Taking.{bytes_of_load, let_go, with_end, without_pci}
 use Rattle.program_laws.proofs.MachineActs.{with_acts, next_acts}
 use Rattle.program_laws.specs.DataAreas.{data_areas, counts}
 use Rattle.program_laws.proofs.Named.{IsRest}
@@ -126,7 +127,7 @@ suspended-shows s program walk count k false r =
 
 pub fault-shows : (s : SubchannelState) (b : Option ActiveProgram) (tried : ℕ) (check : Check) (count : ℕ) (k : ProgramTrace) → IsRest count k →
     ShowsRest s.serials.made
-    (let_go (with_row s (record { shown = fetch_fault_shown tried check count; left = without_begun b s; joins = s.scsw }))).state k
+    (let_go (with_row s (record { shown = fetch_fault_shown tried check count; left = without_begun b s }) s.scsw)).state k
 fault-shows s None tried check count k r =
     λ l. counted _ count k (status-count s.pmcw.enabled (scsw_joined s.pmcw.enabled s.scsw s.scsw) s.serials (fetch_fault_shown tried check count) l) r
 fault-shows s (Some b) tried check count k r =
@@ -171,7 +172,7 @@ module _ (laws : AreLaws) (accesses : AreAccesses) where
   pub next-shows : (storage : Contents) (s : SubchannelState) (b : ActiveProgram) (k : ProgramTrace) (signal : EndSignal) → chains_command s.scsw b signal.status signal.more ≡ true →
       HasWork (Some b) k →
       let next : Beginning = next_command storage b.transfer (has_status_modifier signal.status) in
-      let after : SubchannelState = (taking.chain_with storage s (with_end b) signal next).state in
+      let after : SubchannelState = (chain_with storage s (with_end b) signal next).state in
       let now : ProgramTrace = stories.trace_goes_on next.came (next_acts storage b.transfer (has_status_modifier signal.status)) k in
       IsHeld after now → ShowsRest s.serials.made after now
   next-shows storage s b k signal c w h =

@@ -22,26 +22,12 @@ use Rattle.subchannel_model.specs.declared.state.ProgramPosition.{ProgramPositio
 use Rattle.subchannel_model.specs.declared.state.Subchannel.{Subchannel}
 use Rattle.subchannel_model.specs.declared.state.SubchannelState.{SubchannelState}
 use Rattle.subchannel_model.proofs.Named.{count_by, with_row, with_attention, with_known}
-use Rattle.subchannel_model.specs.Causes.{attention_shown, clear_scsw, count_shown, interface_shown, no_path_shown, plain_shown, program_shown, scsw_joined, with_cause, without_intermediate, without_waiting}
-use Rattle.subchannel_model.specs.Choosing.{
-  candidate,
-  chosen,
-  clear_chosen,
-  first_some,
-  halt_chosen,
-  halt_sent,
-  marked_sub,
-  offer_chosen,
-  offered,
-  over_unless,
-  path_use,
-  reset_chosen,
-  reset_sent,
-  unsent_reset,
-}
-use Rattle.subchannel_model.specs.Losing.{is_offered_or_held, has_any, reset_drawn, reset_with, reset_for}
+use Rattle.subchannel_model.specs.Causes.{attention_shown, count_shown, interface_shown, no_path_shown, plain_shown, program_shown, with_cause, without_waiting}
+use Rattle.subchannel_model.specs.Parts.{clear_scsw, scsw_joined, without_intermediate, halt_chosen, offer_chosen, has_any}
+use Rattle.subchannel_model.specs.Choosing.{candidate, chosen, clear_chosen, first_some, halt_sent, marked_sub, offered, over_unless, path_use, reset_chosen, reset_sent, unsent_reset}
+use Rattle.subchannel_model.specs.Losing.{is_offered_or_held, reset_drawn, reset_with, reset_for}
 use Rattle.subchannel_model.specs.Taking as taking
-use Rattle.subchannel_model.specs.Taking.{clear_done, halt_done, reset_taken}
+use Rattle.subchannel_model.specs.Taking.{halt_done, reset_taken}
 use Rattle.subchannel_model.specs.SystemReset.{state_reset}
 use Rattle.machine_model.specs.ChooseSteps.{choose_sub}
 use Rattle.machine_model.specs.Turns.{SubTurn}
@@ -231,7 +217,7 @@ other-shows : (clear : Option Chosen) (s next : SubchannelState) → clear ≡ N
 other-shows None s next e f = f
 other-shows (Some c) s next e f = absurd (cc e)
 
-path-shows : (s : SubchannelState) (w : Option Program) → ShowsCount s (with_row s (record { shown = no_path_shown s; left = without_waiting w s; joins = s.scsw }))
+path-shows : (s : SubchannelState) (w : Option Program) → ShowsCount s (with_row s (record { shown = no_path_shown s; left = without_waiting w s }) s.scsw)
 path-shows s None = λ l. status-count s.pmcw.enabled (scsw_joined s.pmcw.enabled s.scsw s.scsw) s.serials (no_path_shown s) l
 path-shows s (Some program) = λ l. status-count s.pmcw.enabled (scsw_joined s.pmcw.enabled s.scsw s.scsw) s.serials (no_path_shown s) l
 

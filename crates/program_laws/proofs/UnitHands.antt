@@ -19,7 +19,8 @@ use Rattle.chan_model.specs.declared.unit_state.SideState.{SideState}
 use Rattle.chan_model.specs.declared.unit_state.UnitState.{UnitState}
 use Rattle.chan_model.specs.Sides.{same_side}
 use Rattle.chan_model.proofs.Named.{without_side}
-use Rattle.chan_model.specs.UnitTable.{UnitStep, came_of, changes, sends, with_given, at_hand_answered, new_command, side_of, with_side, owns, is_owner, is_owner_on, is_place_on, freed, raised, selected, given_next, answered_load, answered_last, granted_at, granted, grant_refused_at, grant_refused, reset_side, resets, forgetting, unit_works, unit_takes, unit_after, telling}
+use Rattle.chan_model.specs.UnitTable.{UnitStep, came_of, changes, sends, with_given, at_hand_answered, new_command, side_of, with_side, owns, is_owner, is_owner_on, freed, raised, selected, given_next, answered_load, answered_last, granted_at, granted, grant_refused_at, grant_refused, resets, forgetting, unit_works, unit_takes, unit_after, telling}
+use Rattle.chan_model.specs.Parts.{is_place_on, reset_side}
 use Rattle.program_laws.proofs.MachineTraces.{silent}
 use Rattle.program_laws.proofs.UnitPlaces.{IsOfPlace, granted-leaves, refused-leaves, forgetting-leaves}
 use Rattle.program_laws.proofs.UnitSides.{side-own, one-owner, other-owner}

@@ -21,10 +21,11 @@ use Rattle.chan_model.specs.declared.unit_state.Progress.TheVariants as progress
 use Rattle.chan_model.specs.declared.unit_state.SideState.{SideState}
 use Rattle.chan_model.specs.declared.unit_state.UnitState.{UnitState}
 use Rattle.chan_model.specs.Sides.{same_side}
-use Rattle.chan_model.proofs.Named.{without_side}
-use Rattle.chan_model.specs.UnitTable.{UnitStep, changes, with_given, side_of, with_side, owns, is_owner, is_owner_on, freed, raised, selected, given_next, answered_load, answered_last, reset_side, resets, unit_works, unit_takes, unit_after, telling}
+use Rattle.chan_model.proofs.Named.{without_side, report_absorbed, sent_again}
+use Rattle.chan_model.specs.UnitTable.{UnitStep, changes, with_given, side_of, with_side, owns, is_owner, is_owner_on, freed, raised, selected, given_next, answered_load, answered_last, resets, unit_works, unit_takes, unit_after, telling}
+use Rattle.chan_model.specs.Parts.{reset_side}
 use Rattle.program_laws.proofs.UnitPlaces.{IsOfPlace, granted-leaves, refused-leaves, forgetting-leaves}
-use Rattle.chan_model.specs.UnitReports.{is_outward, is_to_supply, most_of, may_end, shown_end, end_sent, command_begun, report_absorbed, report_supplied, sent_again, answer_taken, report_on, report_of, unit_reports}
+use Rattle.chan_model.specs.UnitReports.{is_outward, is_to_supply, most_of, may_end, shown_end, end_sent, command_begun, report_supplied, answer_taken, report_on, report_of, unit_reports}
 
 -- what is kept of a side is as it was, and a program of it that holds the device held it before, with the same last command
 pub record IsStill (side : Side) (u v : UnitState) : Type 0 where

@@ -6,6 +6,7 @@ ghost use Rattle.subchannel_model.specs.Ends as end_spec;
 ghost use Rattle.subchannel_model.specs.declared.cause.StatusCause.TheVariants as cause_spec;
 ghost use Rattle.subchannel_model.specs.Status as joined_spec;
 ghost use Rattle.subchannel_model.specs.Causes as spec;
+ghost use Rattle.subchannel_model.specs.Parts as parts;
 
 use crate::ends::{end_shown, is_last_end, show_primary};
 use crate::shown::{add_status, check_status, conditions, shows_primary};
@@ -89,7 +90,7 @@ fn fetch_fault_shown(tried: u32, check: Check, count: u16) -> Shown
 }
 
 fn attention_deferred(waiting: Option<Program>) -> Option<DeferredCode>
-    ensures { result ≡ spec.attention_deferred waiting }
+    ensures { result ≡ parts.attention_deferred waiting }
 {
     match waiting {
         None => None,
@@ -242,7 +243,7 @@ fn leave_programs(state: &mut SubchannelState, cause: &StatusCause)
 }
 
 fn clear_scsw() -> Scsw
-    ensures { result ≡ spec.clear_scsw }
+    ensures { result ≡ parts.clear_scsw }
 {
     let mut scsw = Scsw::zero();
     scsw.functions.clear = true;
@@ -250,7 +251,7 @@ fn clear_scsw() -> Scsw
 }
 
 fn without_intermediate(scsw: Scsw) -> Scsw
-    ensures { result ≡ spec.without_intermediate scsw }
+    ensures { result ≡ parts.without_intermediate scsw }
 {
     let mut next = scsw;
     next.status.intermediate = false;
@@ -259,7 +260,7 @@ fn without_intermediate(scsw: Scsw) -> Scsw
 
 /// The status word that the status of a cause joins; that of a subchannel that is not enabled stays as it is.
 fn scsw_joined(state: &SubchannelState, cause: &StatusCause) -> Scsw
-    ensures { result ≡ spec.scsw_joined state.now.pmcw.enabled state.now.scsw (spec.row_of state.now cause.now).joins }
+    ensures { result ≡ parts.scsw_joined state.now.pmcw.enabled state.now.scsw (spec.scsw_before state.now.scsw cause.now) }
 {
     match cause {
         StatusCause::ClearDone if state.pmcw.enabled => clear_scsw(),

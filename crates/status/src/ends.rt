@@ -3,6 +3,7 @@
 ghost use Rattle.std.specs.Prelude.{◌≡◌};
 ghost use Rattle.chan_model.specs.UnitReports as report_spec;
 ghost use Rattle.subchannel_model.specs.Ends as spec;
+ghost use Rattle.subchannel_model.specs.Parts as parts;
 
 use crate::shown::{check_status, conditions, shows_primary};
 use scsw_irb::scsw::{ActivityControl, DeferredCode, Scsw};
@@ -18,7 +19,7 @@ pub fn is_last_end(status: DeviceStatus) -> bool
 }
 
 fn length_status(shows: bool) -> SubchannelStatus
-    ensures { result.0 ≡ spec.length_bits shows }
+    ensures { result.0 ≡ parts.length_bits shows }
 {
     if shows {
         SubchannelStatus::INCORRECT_LENGTH
@@ -48,7 +49,7 @@ fn shows_immediate(begun: &ActiveProgram, status: DeviceStatus) -> bool
 }
 
 fn suppresses_length(begun: &ActiveProgram) -> bool
-    ensures { result ≡ spec.suppresses_length begun.now }
+    ensures { result ≡ parts.suppresses_length begun.now }
 {
     let ccw = begun.transfer.moving.ccw();
     ccw.suppress_length && !ccw.chain_data
@@ -71,7 +72,7 @@ fn end_status(
     status: DeviceStatus,
     more: bool,
 ) -> SubchannelStatus
-    ensures { result ≡ spec.end_bits scsw begun.now status more }
+    ensures { result ≡ parts.end_bits scsw begun.now status more }
 {
     length_status(shows_length(scsw, begun, status, more)).joined(check_status(
         begun.transfer.fault,
@@ -100,14 +101,14 @@ pub fn chains_command(scsw: Scsw, begun: &ActiveProgram, status: DeviceStatus, m
 }
 
 fn is_alert(begun: &ActiveProgram, status: DeviceStatus) -> bool
-    ensures { result ≡ spec.is_alert begun.now status }
+    ensures { result ≡ parts.is_alert begun.now status }
 {
     status.has_check() || begun.transfer.fault.is_some()
 }
 
 /// Channel end alone: the device works on.
 fn channel_end_shown(scsw: Scsw, begun: &ActiveProgram, status: DeviceStatus, more: bool) -> Shown
-    ensures { result ≡ spec.channel_end_shown scsw begun.now status more }
+    ensures { result ≡ parts.channel_end_shown scsw begun.now status more }
 {
     Shown {
         conditions: conditions(
@@ -129,7 +130,7 @@ fn channel_end_shown(scsw: Scsw, begun: &ActiveProgram, status: DeviceStatus, mo
 
 /// The last End of a program.
 fn last_end_shown(scsw: Scsw, begun: &ActiveProgram, status: DeviceStatus, more: bool) -> Shown
-    ensures { result ≡ spec.last_end_shown scsw begun.now status more }
+    ensures { result ≡ parts.last_end_shown scsw begun.now status more }
 {
     Shown {
         conditions: conditions(
@@ -148,7 +149,7 @@ fn last_end_shown(scsw: Scsw, begun: &ActiveProgram, status: DeviceStatus, more:
 
 /// The last End of an earlier program while a start waits.
 fn earlier_end_shown(scsw: Scsw, begun: &ActiveProgram, status: DeviceStatus, more: bool) -> Shown
-    ensures { result ≡ spec.earlier_end_shown scsw begun.now status more }
+    ensures { result ≡ parts.earlier_end_shown scsw begun.now status more }
 {
     Shown {
         conditions: conditions(true, false, false),

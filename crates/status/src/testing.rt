@@ -2,6 +2,7 @@
 
 ghost use Rattle.std.specs.Prelude.{◌≡◌};
 ghost use Rattle.subchannel_model.specs.Test as test_spec;
+ghost use Rattle.subchannel_model.specs.Parts as parts;
 ghost use Rattle.subchannel_model.specs.Programs as program_spec;
 
 use functions::codes::is_intermediate_alone;
@@ -10,7 +11,7 @@ use scsw_irb::scsw::{ActivityControl, DeferredCode, FunctionControl, Scsw, Statu
 use subchannel_model::state::SubchannelState;
 
 fn active_alone(activity: ActivityControl) -> ActivityControl
-    ensures { result ≡ test_spec.active_alone activity }
+    ensures { result ≡ parts.active_alone activity }
 {
     ActivityControl {
         subchannel_active: activity.subchannel_active,

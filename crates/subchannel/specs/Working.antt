@@ -18,7 +18,8 @@ use Rattle.subchannel_model.specs.declared.signals.EndSignal.{EndSignal}
 use Rattle.subchannel_model.specs.declared.state.ActiveProgram.{ActiveProgram}
 use Rattle.subchannel_model.specs.declared.state.SubchannelState.{SubchannelState}
 use Rattle.subchannel_model.specs.declared.state.UpStep.{UpStep}
-use Rattle.subchannel_model.specs.Taking.{Met, meets, giving, ignoring, interrupted, dedicated_by_data, take_data, move_bytes, command_ended, end_command}
+use Rattle.subchannel_model.specs.Taking.{Met, meets, giving, ignoring, interrupted, take_data, move_bytes, command_ended, end_command}
+use Rattle.subchannel_model.specs.Parts.{dedicated_by_data}
 use Rattle.subchannel_model.specs.Ends.{chains_command}
 
 -- a Data that the program at work takes, and the program

@@ -5,6 +5,7 @@ ghost use Rattle.chan_model.specs.HoldTable.{hold_takes};
 ghost use Rattle.signal_places.specs.Places.{came_so, up_at};
 ghost use Rattle.subchannel_model.specs.Causes.{with_cause};
 ghost use Rattle.subchannel_model.specs.Taking as spec;
+ghost use Rattle.subchannel_model.specs.Parts as parts;
 ghost use Rattle.subchannel_model.specs.declared.cause.StatusCause.TheVariants as cause;
 ghost use Rattle.subchannel.specs.Stepping.{subchannel_stepped};
 ghost use Rattle.transfer.specs.Commands as transfer_spec;
@@ -104,7 +105,7 @@ fn use_path(pmcw: &mut PmcwState, path: Path)
 }
 
 fn work(scsw: &mut Scsw)
-    ensures { scsw.new ≡ spec.working_scsw scsw.old }
+    ensures { scsw.new ≡ parts.working_scsw scsw.old }
 {
     scsw.activity.start_pending = false;
     scsw.activity.resume_pending = false;
@@ -137,7 +138,7 @@ fn send_first(
     sent: &mut SentDown,
 ) -> bool
     requires { state.old.serials.made < 2 ^ 63 }
-    ensures { subchannel_stepped state.new (came_so result sent.new) ≡ spec.sends_first state.old path number program (transfer_spec.begun_with_room storage.now first) }
+    ensures { subchannel_stepped state.new (came_so result sent.new) ≡ parts.sends_first state.old path number program (transfer_spec.begun_with_room storage.now first) }
 {
     let mut transfer = first;
     let room = room_to_tell(storage, &mut transfer);
@@ -201,7 +202,7 @@ fn begin_with(
     sent: &mut SentDown,
 ) -> bool
     requires { state.old.serials.made < 2 ^ 63 }
-    ensures { subchannel_stepped state.new (came_so result sent.new) ≡ spec.begin_with storage.now state.old path number standing.now (transfer_spec.first_command storage.now standing.now.walk) }
+    ensures { subchannel_stepped state.new (came_so result sent.new) ≡ parts.begin_with storage.now state.old path number standing.now (transfer_spec.first_command storage.now standing.now.walk) }
 {
     let mut walk = standing.walk;
     let advance = walk.advance(storage);

@@ -4,6 +4,7 @@ ghost use Rattle.std.specs.Prelude.{◌≡◌, ◌<◌, ◌+◌, ◌^◌, if◌t
 ghost use Rattle.chan_model.specs.HoldTable.{came_of, offering, sending_reset};
 ghost use Rattle.allegiance.specs.PathUse as set_spec;
 ghost use Rattle.subchannel_model.specs.Choosing as spec;
+ghost use Rattle.subchannel_model.specs.Parts as parts;
 ghost use Rattle.chan_model.specs.declared.hold_state.HoldPhase.TheVariants as phase;
 
 use crate::paths::{is_any_lost, path_use, return_paths, usable_paths};
@@ -59,7 +60,7 @@ pub fn paths_to_choose(subs: &Counted<'_>, sub: &Subchannel) -> PathSet
 }
 
 fn starting(start: bool, waiting: Option<Program>) -> Option<Candidate>
-    ensures { result ≡ spec.starting start waiting }
+    ensures { result ≡ parts.starting start waiting }
 {
     match waiting {
         Some(program) if start => Some(Candidate {
@@ -71,7 +72,7 @@ fn starting(start: bool, waiting: Option<Program>) -> Option<Candidate>
 }
 
 fn resuming(resume: bool, suspended: Option<ProgramPosition>) -> Option<Candidate>
-    ensures { result ≡ spec.resuming resume suspended }
+    ensures { result ≡ parts.resuming resume suspended }
 {
     match suspended {
         Some(standing) if resume => Some(Candidate {
@@ -117,7 +118,7 @@ fn clear_chosen(hold: &HoldState, pending: bool) -> Option<Chosen>
 
 /// A halt that is pending.
 fn halt_chosen(pending: bool, hold: &HoldState, choice: &Option<Path>) -> Option<Chosen>
-    ensures chosen { result ≡ spec.halt_chosen pending hold.now.phase choice.now }
+    ensures chosen { result ≡ parts.halt_chosen pending hold.now.phase choice.now }
     ensures fits { IfSome result (λ c. spec.IsFitFor c hold.now) }
 {
     if !pending {
@@ -149,7 +150,7 @@ fn offer_chosen(
     candidate: Option<Candidate>,
     choice: &Option<Path>,
 ) -> Option<Chosen>
-    ensures chosen { result ≡ spec.offer_chosen sub.now.state.hold.phase candidate (set_spec.is_any (set_spec.reachable_paths (spec.path_use sub.now))) choice.now }
+    ensures chosen { result ≡ parts.offer_chosen sub.now.state.hold.phase candidate (set_spec.is_any (set_spec.reachable_paths (spec.path_use sub.now))) choice.now }
     ensures fits { IfSome result (λ c. spec.IsFitFor c sub.now.state.hold) }
 {
     let candidate = candidate?;
@@ -261,7 +262,7 @@ pub fn send_reset(state: &mut SubchannelState, path: Path, sent: &mut SentDown)
 }
 
 fn tell_halt(scsw: &mut Scsw)
-    ensures { scsw.new ≡ spec.halt_sent_scsw scsw.old }
+    ensures { scsw.new ≡ parts.halt_sent_scsw scsw.old }
 {
     scsw.activity.halt_pending = false;
 }

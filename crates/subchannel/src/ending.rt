@@ -5,6 +5,7 @@ ghost use Rattle.signal_places.specs.Places.{came_so, up_at};
 ghost use Rattle.subchannel_model.specs.Causes.{with_cause};
 ghost use Rattle.subchannel_model.specs.Ends as end_spec;
 ghost use Rattle.subchannel_model.specs.Taking as spec;
+ghost use Rattle.subchannel_model.specs.Parts as parts;
 ghost use Rattle.subchannel.specs.Stepping.{subchannel_stepped};
 ghost use Rattle.subchannel.specs.Working as working_spec;
 ghost use Rattle.subchannel_model.specs.declared.cause.StatusCause.TheVariants as cause;
@@ -90,7 +91,7 @@ fn send_next(
 ) -> bool
     requires { state.old.serials.made < 2 ^ 63 }
     ensures { IfSome state.old.begun (λ b. subchannel_stepped state.new (came_so result sent.new) ≡
-        spec.sends_next state.old (spec.with_end b) end.now command) }
+        parts.sends_next state.old (spec.with_end b) end.now command) }
 {
     let WithRoom { transfer, room } = command;
     let next = KeptDown::Command {
@@ -155,7 +156,7 @@ fn chain(
     requires made { state.old.serials.made < 2 ^ 63 }
     requires below { spec.IsBelow state.old.begun }
     ensures { IfSome state.old.begun (λ b. subchannel_stepped state.new (came_so result sent.new) ≡
-        spec.chain_with storage.now state.old (spec.with_end b) end.now (transfer_spec.next_command storage.now b.transfer (end_spec.has_status_modifier end.now.status))) }
+        parts.chain_with storage.now state.old (spec.with_end b) end.now (transfer_spec.next_command storage.now b.transfer (end_spec.has_status_modifier end.now.status))) }
 {
     let Some(begun) = &state.begun else {
         return ignored(sent);
@@ -203,7 +204,7 @@ fn go_on(
 /// Shows the end of the program at work, or of its command.
 fn show_end(state: &mut SubchannelState, end: &EndSignal)
     requires { state.old.serials.made < 2 ^ 63 }
-    ensures { IfSome state.old.begun (λ b. state.new ≡ spec.end_shown_at state.old b end.now) }
+    ensures { IfSome state.old.begun (λ b. state.new ≡ parts.end_shown_at state.old b end.now) }
 {
     let before = state.dedicated;
     make_end_pending(state, end.status, end.more);

@@ -4,6 +4,7 @@ ghost use Rattle.std.specs.Prelude.{◌≡◌, ◌<◌, ◌^◌};
 ghost use Rattle.data_move.specs.Moving.{residual};
 ghost use Rattle.subchannel_model.specs.declared.cause.StatusCause.TheVariants as cause;
 ghost use Rattle.subchannel_model.specs.Taking as spec;
+ghost use Rattle.subchannel_model.specs.Parts as parts;
 
 use ccw_walk::Walk;
 use scsw_irb::scsw::{ActivityControl, Scsw};
@@ -43,7 +44,7 @@ pub(crate) fn interrupt(state: &mut SubchannelState)
 }
 
 fn suspend_alone(scsw: &mut Scsw)
-    ensures { scsw.new ≡ spec.suspended_alone scsw.old }
+    ensures { scsw.new ≡ parts.suspended_alone scsw.old }
 {
     scsw.activity = ActivityControl {
         suspended: true,
@@ -52,7 +53,7 @@ fn suspend_alone(scsw: &mut Scsw)
 }
 
 fn stand_still(state: &mut SubchannelState, program: Program, walk: Walk, count: u16)
-    ensures state { state.new ≡ spec.standing_still state.old program walk count }
+    ensures state { state.new ≡ parts.standing_still state.old program walk count }
 {
     state.waiting = None;
     state.begun = None;

@@ -2,6 +2,7 @@
 
 ghost use Rattle.std.specs.Prelude.{◌≡◌, ◌<◌, ◌≤◌, ◌^◌, length};
 ghost use Rattle.subchannel_model.specs.Losing as spec;
+ghost use Rattle.subchannel_model.specs.Parts as parts;
 
 use chan_model::hold_state::HoldPhase;
 use chan_model::names::Path;
@@ -21,7 +22,7 @@ fn is_offered_or_held(phase: HoldPhase) -> bool
 
 /// Whether some program of the subchannel is not over.
 fn has_program(state: &SubchannelState) -> bool
-    ensures { result ≡ spec.has_any state.now.waiting state.now.begun state.now.suspended }
+    ensures { result ≡ parts.has_any state.now.waiting state.now.begun state.now.suspended }
 {
     state.waiting.is_some() || state.begun.is_some() || state.suspended.is_some()
 }
@@ -91,7 +92,7 @@ pub fn lose_path(sub: &mut Subchannel, chpid: u8)
 }
 
 fn show_available(pmcw: &mut PmcwState, path: Path, up: bool)
-    ensures { pmcw.new ≡ spec.available_pmcw pmcw.old path up }
+    ensures { pmcw.new ≡ parts.available_pmcw pmcw.old path up }
 {
     pmcw.available[path.index()] = up;
 }

@@ -6,6 +6,7 @@ ghost use Rattle.chan_model.specs.Loads.{load_length};
 ghost use Rattle.chan_model.specs.UnitReports.{is_outward as is_outward_code};
 ghost use Rattle.transfer.specs.Chunks.{brought as brought_by};
 ghost use Rattle.subchannel_model.specs.Taking as spec;
+ghost use Rattle.subchannel_model.specs.Parts as parts;
 ghost use Rattle.subchannel.specs.Working as working_spec;
 ghost use Rattle.subchannel.specs.Stepping.{subchannel_stepped};
 
@@ -56,7 +57,7 @@ pub(crate) fn data_by(path: Path, signal: &UpPlace) -> Option<DataSignal>
 /// What a Data leaves of the dedicated allegiance. Where one stands, the Data is of a later program than the one whose unit
 /// check brought it.
 fn dedicated_by_data(before: Option<Path>) -> Option<Path>
-    ensures { result ≡ spec.dedicated_by_data before }
+    ensures { result ≡ parts.dedicated_by_data before }
 {
     dedicated(before, AllegianceCause::Data { later: true })
 }

@@ -2,6 +2,7 @@
 
 ghost use Rattle.std.specs.Prelude.{◌≡◌, ◌<◌, ◌^◌};
 ghost use Rattle.subchannel_model.specs.SystemReset as spec;
+ghost use Rattle.subchannel_model.specs.Parts as parts;
 
 use crate::losing::draw_reset;
 use crate::opening::opening_pmcw;
@@ -12,7 +13,7 @@ use subchannel_model::state::{PmcwState, Subchannel, SubchannelState};
 
 /// A path that is down stays so.
 fn reset_pmcw(pmcw: &mut PmcwState)
-    ensures { pmcw.new ≡ spec.pmcw_reset pmcw.old }
+    ensures { pmcw.new ≡ parts.pmcw_reset pmcw.old }
 {
     let available = pmcw.available;
     *pmcw = opening_pmcw();
@@ -20,7 +21,7 @@ fn reset_pmcw(pmcw: &mut PmcwState)
 }
 
 fn reset_scsw(scsw: &mut Scsw)
-    ensures { scsw.new ≡ spec.scsw_reset scsw.old }
+    ensures { scsw.new ≡ parts.scsw_reset scsw.old }
 {
     scsw.functions = FunctionControl::none();
     scsw.activity = ActivityControl::none();

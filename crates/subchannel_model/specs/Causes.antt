@@ -1,6 +1,6 @@
 -- The causes of status as one table: what each shows, which programs it leaves, and which status word its status joins
 -- (SA22-7832, chapter 16; the bits are this project's own choice). What an End shows is in `Ends`.
-use Rattle.std.specs.Prelude.{ℕ, Bool, true, false, if◌then◌else◌, Option, None, Some}
+use Rattle.std.specs.Prelude.{ℕ, Bool, true, false, if◌then◌else◌, Option, None, Some, option_map}
 use Rattle.scsw_irb.specs.declared.scsw.DeferredCode.{DeferredCode}
 use Rattle.scsw_irb.specs.declared.scsw.DeferredCode.TheVariants as deferred
 use Rattle.scsw_irb.specs.declared.scsw.Scsw.{Scsw}
@@ -40,13 +40,12 @@ plain_shown address count = record {
   count = count;
 }
 
--- what stands, of the program of which a status speaks: where a start waits, or no program is there, it stands as it was left;
--- otherwise it is that of the program that holds the device, or of the suspended one
+-- the address or the count that a status shows: that of the program that holds the device, or else of the suspended one; where a
+-- start waits, and where there is no program, it stays as it stands in the status word
 abbrev pub of_program : ℕ → (ActiveProgram → ℕ) → (ProgramPosition → ℕ) → Option Program → Option ActiveProgram → Option ProgramPosition → ℕ
-of_program stands at_work left None None None = stands
-of_program stands at_work left None None (Some st) = left st
 of_program stands at_work left None (Some b) suspended = at_work b
-of_program stands at_work left (Some program) begun suspended = stands
+of_program stands at_work left None None (Some st) = left st
+of_program stands at_work left waiting begun suspended = stands
 
 abbrev pub address_shown : SubchannelState → ℕ
 address_shown s = of_program s.scsw.command_address (λ b. b.transfer.walk.tried) (λ st. st.walk.tried) s.waiting s.begun s.suspended
@@ -60,9 +59,8 @@ program_shown s = plain_shown (address_shown s) (count_shown s)
 
 -- whether the program of which a status speaks showed its primary status; one that waits or is suspended did not
 abbrev pub was_shown : Option Program → Option ActiveProgram → Bool
-was_shown None None = false
 was_shown None (Some b) = b.primary_shown
-was_shown (Some program) begun = false
+was_shown waiting begun = false
 
 -- a command could not be fetched, or may not take control; the count is that of the command before, where there is one
 abbrev pub fetch_fault_shown : ℕ → Check → ℕ → Shown
@@ -72,15 +70,11 @@ fetch_fault_shown tried check count = record (plain_shown tried count) {
 }
 
 -- attention: deferred condition code 1 where a start waits
-abbrev pub attention_deferred : Option Program → Option DeferredCode
-attention_deferred None = None
-attention_deferred (Some program) = Some deferred.One
-
 abbrev pub attention_shown : SubchannelState → Shown
 attention_shown s = record (plain_shown s.scsw.command_address s.scsw.count) {
   conditions = conditions true false false;
   device = record { 0 = 0x80 };
-  deferred = attention_deferred s.waiting;
+  deferred = option_map (λ program. deferred.One) s.waiting;
 }
 
 -- a program that is to be offered found no path: deferred condition code 3
@@ -99,18 +93,11 @@ intermediate = record no_status { intermediate = true }
 
 -- an interruption by the program: the activity is as before
 abbrev pub pci_shown : SubchannelState → ℕ → ℕ → Shown
-pci_shown s tried count = record (plain_shown tried count) {
-  conditions = intermediate;
-  activity = s.scsw.activity;
-  subchannel = record { 0 = 0x80 };
-}
+pci_shown s tried count = record (plain_shown tried count) { conditions = intermediate; activity = s.scsw.activity; subchannel = record { 0 = 0x80 } }
 
 -- a program is suspended: no activity but that is left
 abbrev pub suspension_shown : ℕ → ℕ → Shown
-suspension_shown tried count = record (plain_shown tried count) {
-  conditions = intermediate;
-  activity = record no_activity { suspended = true };
-}
+suspension_shown tried count = record (plain_shown tried count) { conditions = intermediate; activity = record no_activity { suspended = true } }
 
 -- after the last End of a program all programs are over; after channel end alone the program works on
 abbrev pub programs_after_end : SubchannelState → ActiveProgram → Bool → SubchannelState
@@ -126,79 +113,37 @@ abbrev pub without_waiting : Option Program → SubchannelState → SubchannelSt
 without_waiting None s = record s { suspended = None }
 without_waiting (Some program) s = record s { waiting = None }
 
--- with a clear nothing but the clear function is left of the status word
-abbrev pub clear_scsw : Scsw
-clear_scsw = record zero_scsw { functions = record no_functions { clear = true } }
-
--- with a halt an intermediate status that stands is turned off
-abbrev pub without_intermediate : Scsw → Scsw
-without_intermediate scsw = record scsw { status = record scsw.status { intermediate = false } }
-
--- a row of the table: what the status shows, the subchannel without the programs that are over, and the status word that the
--- status joins
+-- a row of the table: what the status shows, and the subchannel without the programs that are over
 pub record CauseRow : Type 0 where
   pub shown : Shown
   pub left : SubchannelState
-  pub joins : Scsw
 
 -- the table
 abbrev pub row_of : SubchannelState → StatusCause → CauseRow
-row_of s (cause.End b status more) = record {
-  shown = end_shown s b status more;
-  left = programs_after_end s b (is_last_end status);
-  joins = s.scsw;
-}
-row_of s (cause.FetchFault tried check count) = record {
-  shown = fetch_fault_shown tried check count;
-  left = without_begun s.begun s;
-  joins = s.scsw;
-}
-row_of s cause.Attention = record {
-  shown = attention_shown s;
-  left = record s { waiting = None };
-  joins = s.scsw;
-}
-row_of s cause.NoPath = record {
-  shown = no_path_shown s;
-  left = without_waiting s.waiting s;
-  joins = s.scsw;
-}
-row_of s cause.InterfaceControlCheck = record {
-  shown = interface_shown s;
-  left = without_programs s;
-  joins = s.scsw;
-}
-row_of s (cause.Pci tried count) = record {
-  shown = pci_shown s tried count;
-  left = s;
-  joins = s.scsw;
-}
-row_of s (cause.Suspension tried count) = record {
-  shown = suspension_shown tried count;
-  left = s;
-  joins = s.scsw;
-}
-row_of s cause.ClearDone = record {
-  shown = plain_shown 0 0;
-  left = s;
-  joins = clear_scsw;
-}
-row_of s cause.HaltDone = record {
-  shown = program_shown s;
-  left = without_programs s;
-  joins = without_intermediate s.scsw;
-}
+row_of s (cause.End b status more) = record { shown = end_shown s b status more; left = programs_after_end s b (is_last_end status) }
+row_of s (cause.FetchFault tried check count) = record { shown = fetch_fault_shown tried check count; left = without_begun s.begun s }
+row_of s cause.Attention = record { shown = attention_shown s; left = record s { waiting = None } }
+row_of s cause.NoPath = record { shown = no_path_shown s; left = without_waiting s.waiting s }
+row_of s cause.InterfaceControlCheck = record { shown = interface_shown s; left = without_programs s }
+row_of s (cause.Pci tried count) = record { shown = pci_shown s tried count; left = s }
+row_of s (cause.Suspension tried count) = record { shown = suspension_shown tried count; left = s }
+row_of s cause.ClearDone = record { shown = plain_shown 0 0; left = s }
+row_of s cause.HaltDone = record { shown = program_shown s; left = without_programs s }
+
+-- the status word that the status of a cause joins: with a clear nothing but the clear function is left of it; with a halt an
+-- intermediate status that stands is turned off
+abbrev pub scsw_before : Scsw → StatusCause → Scsw
+scsw_before scsw cause.ClearDone = record zero_scsw { functions = record no_functions { clear = true } }
+scsw_before scsw cause.HaltDone = record scsw { status = record scsw.status { intermediate = false } }
+scsw_before scsw c = scsw
 
 -- a status is made pending, and counted
 abbrev pub with_status : SubchannelState → Shown → SubchannelState
 with_status s shown = record s { scsw = scsw_made s.pmcw.enabled s.scsw shown; serials = serials_made s.pmcw.enabled s.serials }
 
--- a subchannel that is not enabled gets no status, and joins none to its status word; its programs and its activity change
--- as if it were enabled (own)
-abbrev pub scsw_joined : Bool → Scsw → Scsw → Scsw
-scsw_joined enabled scsw joins = if enabled then joins else scsw
-
--- the subchannel after the cause
+-- the subchannel after the cause; one that is not enabled gets no status, and joins none to its status word: its programs and its
+-- activity change as if it were enabled (own)
 abbrev pub with_cause : SubchannelState → StatusCause → SubchannelState
 with_cause s c =
-    let row = row_of s c in with_status (record row.left { scsw = scsw_joined s.pmcw.enabled s.scsw row.joins }) row.shown
+    let row = row_of s c in
+    with_status (record row.left { scsw = if s.pmcw.enabled then scsw_before s.scsw c else s.scsw }) row.shown

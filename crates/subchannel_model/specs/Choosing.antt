@@ -1,12 +1,11 @@
 -- What the subsystem does of itself for a subchannel (own).
-use Rattle.std.specs.Prelude.{◌≡◌, ℕ, ◌+◌, Bool, true, false, not, ◌&&◌, if◌then◌else◌, Option, None, Some, is_some, option_map, unwrap_or, List, [], ◌∷◌, slice_get}
+use Rattle.std.specs.Prelude.{◌≡◌, ℕ, ◌+◌, Bool, true, false, not, ◌&&◌, if◌then◌else◌, Option, None, Some, is_some, option_and_then, option_map, unwrap_or, List, [], ◌∷◌, slice_get}
 use Rattle.std.specs.List.{list_any}
 use Rattle.chan_model.specs.declared.hold_state.HoldPhase.{HoldPhase}
 use Rattle.chan_model.specs.declared.hold_state.HoldPhase.TheVariants as hold
 use Rattle.chan_model.specs.declared.hold_state.HoldState.{HoldState}
 use Rattle.chan_model.specs.HoldTable.{offering, sending_reset, hold_after}
 use Rattle.chan_model.specs.ResetCauses.{is_path, engaged_path}
-use Rattle.scsw_irb.specs.declared.scsw.Scsw.{Scsw}
 use Rattle.allegiance.specs.Allegiances.{may_reconnect}
 use Rattle.allegiance.specs.declared.path_use.PathUse.{PathUse}
 use Rattle.allegiance.specs.PathUse.{is_member, each_path, is_any, reachable_paths, usable_paths, lost_paths, marked}
@@ -50,13 +49,8 @@ abbrev pub return_paths : Subchannel → List Bool
 return_paths sub = each_path (λ p. is_member (available_paths sub) p && may_reconnect sub.state.hold (available_paths sub) p)
 
 -- a Reset that was not sent yet, by its number
-abbrev pub unsent_at : HoldPhase → Option ℕ → Option ℕ
-unsent_at (hold.Reset r) None = Some r
-unsent_at (hold.Reset r) (Some path) = None
-unsent_at phase path = None
-
 abbrev pub unsent_reset : HoldState → Option ℕ
-unsent_reset h = unsent_at h.phase h.reset_path
+unsent_reset h = elim h.phase [ hold.Reset r ↦ elim h.reset_path [ None ↦ Some r | Some path ↦ None ] | other ↦ None ]
 
 abbrev pub is_away : HoldPhase → Bool
 is_away (hold.Away t) = true
@@ -79,25 +73,15 @@ first_some (None ∷ later) = first_some later
 first_some (Some x ∷ later) = Some x
 
 -- the program that is to be offered: with start pending the one that waits, or else with resume pending the suspended one
-abbrev pub starting : Bool → Option Program → Option Candidate
-starting false waiting = None
-starting true None = None
-starting true (Some program) = Some (record { program = program; resumes = false })
-
-abbrev pub resuming : Bool → Option ProgramPosition → Option Candidate
-resuming false suspended = None
-resuming true None = None
-resuming true (Some st) = Some (record { program = st.program; resumes = true })
-
 abbrev pub candidate : SubchannelState → Option Candidate
-candidate s =
-    first_some (starting s.scsw.activity.start_pending s.waiting ∷ resuming s.scsw.activity.resume_pending s.suspended ∷ [])
+candidate s = first_some (
+    (if s.scsw.activity.start_pending then option_map (λ program. record { program = program; resumes = false }) s.waiting else None)
+    ∷ (if s.scsw.activity.resume_pending then option_map (λ (st : ProgramPosition). record { program = st.program; resumes = true }) s.suspended else None)
+    ∷ [])
 
 -- 1. a Reset is due, and there is a path for it: it is sent
 abbrev pub reset_chosen : Option ℕ → Option ℕ → Option Chosen
-reset_chosen None choice = None
-reset_chosen (Some r) None = None
-reset_chosen (Some r) (Some path) = Some (Resets r path)
+reset_chosen due choice = option_and_then (λ r. option_map (λ path. Resets r path) choice) due
 
 -- 2. a Reset is due without a path for it, and a clear is pending: it is performed at once, and the hold stays as it is
 abbrev pub clear_chosen : Option ℕ → Bool → Option Chosen
@@ -107,15 +91,10 @@ clear_chosen (Some r) pending = if pending then Some PerformsClear else None
 -- 3. a halt is pending: the program that is connected is told by the path of its connection, one that is away by the chosen
 -- path; an offer is waited for; otherwise no device is held, and the halt is performed
 abbrev pub halt_at : HoldPhase → Option ℕ → Option Chosen
-halt_at hold.Free choice = Some PerformsHalt
-halt_at (hold.Offer t p) choice = None
 halt_at (hold.On t p c) choice = Some (Halts t p)
 halt_at (hold.Away t) choice = option_map (λ path. Halts t path) choice
-halt_at (hold.Letting t p) choice = Some PerformsHalt
-halt_at (hold.Reset r) choice = Some PerformsHalt
-
-abbrev pub halt_chosen : Bool → HoldPhase → Option ℕ → Option Chosen
-halt_chosen pending phase choice = if pending then halt_at phase choice else None
+halt_at (hold.Offer t p) choice = None
+halt_at phase choice = Some PerformsHalt
 
 -- 4. a program is to be offered: it is, on the chosen path, where the hold is free; where the hold is free or to be reset and
 -- no path is within reach, the program is over
@@ -127,17 +106,13 @@ offer_at hold.Free c reachable choice = elim choice [ None ↦ over_unless reach
 offer_at (hold.Reset r) c reachable choice = over_unless reachable
 offer_at phase c reachable choice = None
 
-abbrev pub offer_chosen : HoldPhase → Option Candidate → Bool → Option ℕ → Option Chosen
-offer_chosen phase None reachable choice = None
-offer_chosen phase (Some c) reachable choice = offer_at phase c reachable choice
-
 -- the first that applies, otherwise nothing
 abbrev pub chosen : Subchannel → Option ℕ → Chosen
 chosen sub choice = unwrap_or (first_some (
     reset_chosen (unsent_reset sub.state.hold) choice
     ∷ clear_chosen (unsent_reset sub.state.hold) sub.state.scsw.activity.clear_pending
-    ∷ halt_chosen sub.state.scsw.activity.halt_pending sub.state.hold.phase choice
-    ∷ offer_chosen sub.state.hold.phase (candidate sub.state) (is_any (reachable_paths (path_use sub))) choice
+    ∷ (if sub.state.scsw.activity.halt_pending then halt_at sub.state.hold.phase choice else None)
+    ∷ option_and_then (λ c. offer_at sub.state.hold.phase c (is_any (reachable_paths (path_use sub))) choice) (candidate sub.state)
     ∷ [])) Idle
 
 -- The fourth rule is reached where neither of the first two applies, no halt is pending and a program is to be offered. Then each
@@ -181,11 +156,8 @@ abbrev pub reset_sent : SubchannelState → ℕ → SubchannelState
 reset_sent s path = record s { hold = hold_after s.hold (sending_reset s.hold s.hold.phase path); last_path = Some path }
 
 -- the Halt is sent, and no longer pending
-abbrev pub halt_sent_scsw : Scsw → Scsw
-halt_sent_scsw scsw = record scsw { activity = record scsw.activity { halt_pending = false } }
-
 abbrev pub halt_sent : SubchannelState → SubchannelState
-halt_sent s = record s { scsw = halt_sent_scsw s.scsw }
+halt_sent s = record s { scsw = record s.scsw { activity = record s.scsw.activity { halt_pending = false } } }
 
 -- the program is offered under a fresh number
 abbrev pub offered : SubchannelState → Program → ℕ → SubchannelState

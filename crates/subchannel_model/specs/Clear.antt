@@ -1,17 +1,16 @@
 -- CLEAR SUBCHANNEL (SA22-7832, chapter 14; the effect is this project's own choice). The reply is the code.
-use Rattle.std.specs.Prelude.{◌+◌, true, false, None}
+use Rattle.std.specs.Prelude.{true, false, None}
 use Rattle.allegiance.specs.Allegiances.{dedicated_after}
 use Rattle.allegiance.specs.declared.allegiances.AllegianceCause.TheVariants as allegiance
-use Rattle.scsw_irb.specs.declared.scsw.Scsw.{Scsw}
 use Rattle.scsw_irb.specs.Empty.{no_functions, no_activity, zero_scsw}
 use Rattle.chan_model.specs.declared.answer.ConditionCode.{ConditionCode}
 use Rattle.chan_model.specs.ConditionCodes.{in_order}
-use Rattle.chan_model.specs.HoldTable.{resetting}
 use Rattle.subchannel_model.specs.declared.status.Condition.{Condition}
-use Rattle.subchannel_model.specs.declared.state.PmcwState.{PmcwState}
 use Rattle.subchannel_model.specs.declared.state.SubchannelState.{SubchannelState}
 use Rattle.subchannel_model.specs.Conditions.{is_operational}
 use Rattle.subchannel_model.specs.Opening.{all_paths, no_paths}
+use Rattle.subchannel_model.specs.Losing.{reset_drawn}
+use Rattle.subchannel_model.specs.Programs.{without_programs}
 use Rattle.subchannel_model.specs.Status.{serials_cleared}
 
 -- condition code: it is never 1 or 2
@@ -20,24 +19,10 @@ csch_code c = in_order (is_operational c) false false
 
 -- effect: of the status word the clear function and clear pending alone are left; all programs are over, all status counts as
 -- cleared, no allegiance is dedicated, and the hold is to be reset under a fresh number
-abbrev pub cleared_scsw : Scsw
-cleared_scsw = record zero_scsw {
-  functions = record no_functions { clear = true };
-  activity = record no_activity { clear_pending = true };
-}
-
-abbrev pub cleared_pmcw : PmcwState → PmcwState
-cleared_pmcw pmcw = record pmcw { not_operational = no_paths; last_used = None; operational = all_paths }
-
 abbrev pub cleared : SubchannelState → SubchannelState
-cleared s = record s {
-  pmcw = cleared_pmcw s.pmcw;
-  scsw = cleared_scsw;
+cleared s = record (reset_drawn (without_programs s)) {
+  pmcw = record s.pmcw { not_operational = no_paths; last_used = None; operational = all_paths };
+  scsw = record zero_scsw { functions = record no_functions { clear = true }; activity = record no_activity { clear_pending = true } };
   serials = serials_cleared s.serials;
-  drawn = s.drawn + 1;
-  waiting = None;
-  begun = None;
-  suspended = None;
-  hold = resetting s.hold (s.drawn + 1);
   dedicated = dedicated_after s.dedicated allegiance.Clear;
 }

@@ -4,7 +4,7 @@ use Rattle.std.specs.Prelude.{Bool, true, false, not, ◌&&◌, ◌||◌, Option
 use Rattle.scsw_irb.specs.declared.scsw.FunctionControl.{FunctionControl}
 use Rattle.scsw_irb.specs.Empty.{no_functions, no_activity, no_status}
 use Rattle.chan_model.specs.declared.answer.ConditionCode.{ConditionCode}
-use Rattle.chan_model.specs.declared.answer.ConditionCode.TheVariants.{Zero, One, Two, Three}
+use Rattle.chan_model.specs.declared.answer.ConditionCode.TheVariants.{Zero}
 use Rattle.subchannel_model.specs.declared.status.Condition.{Condition}
 use Rattle.subchannel_model.specs.declared.state.PmcwState.{PmcwState}
 use Rattle.subchannel_model.specs.declared.state.SubchannelState.{SubchannelState}
@@ -12,14 +12,7 @@ use Rattle.subchannel_model.specs.Opening.{no_paths}
 
 -- what an instruction finds of a subchannel, which may not be provided
 abbrev pub condition_of : Option SubchannelState → Condition
-condition_of None = record {
-  provided = false;
-  enabled = false;
-  functions = no_functions;
-  activity = no_activity;
-  status = no_status;
-  may_suspend = false;
-}
+condition_of None = record { provided = false; enabled = false; functions = no_functions; activity = no_activity; status = no_status; may_suspend = false }
 condition_of (Some s) = record {
   provided = true;
   enabled = s.pmcw.enabled;
@@ -42,9 +35,7 @@ start_alone f = f.start && (not f.halt && not f.clear)
 -- an instruction that answered this code leaves its effect with code 0, and nothing changed otherwise
 abbrev pub left_by : ConditionCode → SubchannelState → SubchannelState → SubchannelState
 left_by Zero before effect = effect
-left_by One before effect = before
-left_by Two before effect = before
-left_by Three before effect = before
+left_by code before effect = before
 
 -- no path was found not operational
 abbrev pub found_operational : PmcwState → PmcwState

@@ -11,12 +11,7 @@ use Rattle.subchannel_model.specs.Store.{pmcw_of}
 
 -- in a word; ISC has three bits
 abbrev pub enabling : block.Pmcw → ℕ → Bool → block.Pmcw
-enabling word subclass multipath = record word {
-  subclass = subclass % 8;
-  subclass_fits = mod_below subclass 8 (lit< tt);
-  enabled = true;
-  multipath = multipath;
-}
+enabling word subclass multipath = record word { subclass = subclass % 8; subclass_fits = mod_below subclass 8 (lit< tt); enabled = true; multipath = multipath }
 
 abbrev pub enabling_schib : Subchannel → ℕ → Bool → Schib
 enabling_schib sub subclass multipath = record { pmcw = enabling (pmcw_of sub) subclass multipath; scsw = sub.state.scsw }

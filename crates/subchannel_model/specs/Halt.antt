@@ -18,10 +18,7 @@ hsch_code c = in_order (is_operational c) (shows_end c.status) (c.functions.halt
 
 -- effect: the halt function beside what is in progress, and halt pending
 abbrev pub halted_scsw : Scsw → Scsw
-halted_scsw scsw = record scsw {
-  functions = record scsw.functions { halt = true };
-  activity = record scsw.activity { halt_pending = true };
-}
+halted_scsw scsw = record scsw { functions = record scsw.functions { halt = true }; activity = record scsw.activity { halt_pending = true } }
 
 abbrev pub halt_begun : SubchannelState → SubchannelState
 halt_begun s = record s { pmcw = found_operational s.pmcw; scsw = halted_scsw s.scsw }

@@ -19,3 +19,4 @@ pub mod Sending
 pub mod Losing
 pub mod SystemReset
 pub mod Taking
+pub mod Parts

@@ -6,25 +6,16 @@ use Rattle.chan_model.specs.HoldTable.{resetting}
 use Rattle.chan_model.specs.ResetCauses.{rests_on}
 use Rattle.wires.specs.Queues.{lost}
 use Rattle.subchannel_model.specs.declared.cause.StatusCause.TheVariants as cause
-use Rattle.subchannel_model.specs.declared.state.ActiveProgram.{ActiveProgram}
-use Rattle.subchannel_model.specs.declared.state.PmcwState.{PmcwState}
-use Rattle.subchannel_model.specs.declared.state.Program.{Program}
-use Rattle.subchannel_model.specs.declared.state.ProgramPosition.{ProgramPosition}
 use Rattle.subchannel_model.specs.declared.state.Subchannel.{Subchannel}
 use Rattle.subchannel_model.specs.declared.state.SubchannelState.{SubchannelState}
 use Rattle.subchannel_model.specs.Causes.{with_cause}
 use Rattle.subchannel_model.specs.Places.{first_place}
 
-abbrev pub has_any : Option Program → Option ActiveProgram → Option ProgramPosition → Bool
-has_any waiting begun suspended = is_some waiting || (is_some begun || is_some suspended)
-
 abbrev pub is_offered_or_held : HoldPhase → Bool
-is_offered_or_held hold.Free = false
 is_offered_or_held (hold.Offer t p) = true
 is_offered_or_held (hold.On t p c) = true
 is_offered_or_held (hold.Away t) = true
-is_offered_or_held (hold.Letting t p) = false
-is_offered_or_held (hold.Reset r) = false
+is_offered_or_held phase = false
 
 -- the hold is to be reset under a fresh number; where a program was offered or held the device, its status is made
 abbrev pub reset_drawn : SubchannelState → SubchannelState
@@ -34,7 +25,7 @@ abbrev pub reset_with : SubchannelState → Bool → SubchannelState
 reset_with s shows = if shows then with_cause (reset_drawn s) cause.InterfaceControlCheck else reset_drawn s
 
 abbrev pub reset_for : SubchannelState → SubchannelState
-reset_for s = reset_with s (is_offered_or_held s.hold.phase && has_any s.waiting s.begun s.suspended)
+reset_for s = reset_with s (is_offered_or_held s.hold.phase && (is_some s.waiting || (is_some s.begun || is_some s.suspended)))
 
 abbrev pub path_lost : SubchannelState → ℕ → SubchannelState
 path_lost s p = if rests_on s.hold p then reset_for s else s
@@ -51,12 +42,9 @@ abbrev pub loses : ℕ → Subchannel → Subchannel
 loses chpid sub = loses_at (path_index chpid sub.setup.paths) sub
 
 -- the path-available mask shows whether a channel path is up
-abbrev pub available_pmcw : PmcwState → ℕ → Bool → PmcwState
-available_pmcw pmcw p up = record pmcw { available = slice_set pmcw.available p up }
-
 abbrev pub shows_at : Option ℕ → Bool → Subchannel → Subchannel
 shows_at None up sub = sub
-shows_at (Some p) up sub = record sub { state = record sub.state { pmcw = available_pmcw sub.state.pmcw p up } }
+shows_at (Some p) up sub = record sub { state = record sub.state { pmcw = record sub.state.pmcw { available = slice_set sub.state.pmcw.available p up } } }
 
 abbrev pub shows_path : ℕ → Bool → Subchannel → Subchannel
 shows_path chpid up sub = shows_at (path_index chpid sub.setup.paths) up sub

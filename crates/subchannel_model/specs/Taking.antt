@@ -3,7 +3,6 @@ use Rattle.std.specs.Prelude.{ℕ, nat_lt, ◌+◌, ◌<◌, ◌^◌, Bool, true
 use Rattle.allegiance.specs.Allegiances.{dedicated_after}
 use Rattle.allegiance.specs.declared.allegiances.AllegianceCause.TheVariants as allegiance
 use Rattle.scsw_irb.specs.declared.scsw.ActivityControl.{ActivityControl}
-use Rattle.scsw_irb.specs.declared.scsw.Scsw.{Scsw}
 use Rattle.scsw_irb.specs.declared.status.DeviceStatus.{DeviceStatus}
 use Rattle.storage_keys.specs.Storage.{Contents}
 use Rattle.chan_model.specs.declared.hold_state.HoldPhase.{HoldPhase}
@@ -24,7 +23,6 @@ use Rattle.chan_model.specs.UnitReports.{is_last_end, is_outward, has_device_end
 use Rattle.channel_program.specs.Walks.{WalkPlace, walk_place}
 use Rattle.data_move.specs.Moving.{residual}
 use Rattle.transfer.specs.declared.Transfer.{Transfer}
-use Rattle.transfer.specs.declared.Beginning.{Beginning}
 use Rattle.transfer.specs.declared.CommandStart.{CommandStart}
 use Rattle.transfer.specs.declared.CommandStart.TheVariants as came
 use Rattle.transfer.specs.declared.WithRoom.{WithRoom}
@@ -109,12 +107,9 @@ path_used pmcw p = record pmcw { last_used = Some p; operational = slice_set pmc
 abbrev pub working : ActivityControl → ActivityControl
 working a = record a { start_pending = false; resume_pending = false; suspended = false; subchannel_active = true; device_active = true }
 
-abbrev pub working_scsw : Scsw → Scsw
-working_scsw scsw = record scsw { activity = working scsw.activity }
-
 abbrev pub taking_over : SubchannelState → Program → Transfer → SubchannelState
 taking_over s program transfer = record s {
-  scsw = working_scsw s.scsw;
+  scsw = record s.scsw { activity = working s.scsw.activity };
   waiting = None;
   suspended = None;
   begun = Some (record { program = program; primary_shown = false; transfer = transfer });
@@ -122,35 +117,26 @@ taking_over s program transfer = record s {
 
 -- a program is suspended before its next block takes control: intermediate status, unless U is one; a resume that is
 -- pending is turned off (own). No start waits behind a program that goes on
-abbrev pub suspended_alone : Scsw → Scsw
-suspended_alone scsw = record scsw { activity = record no_activity { suspended = true } }
-
-abbrev pub standing_still : SubchannelState → Program → WalkPlace → ℕ → SubchannelState
-standing_still s program walk count = record s { waiting = None; begun = None; suspended = Some (record { program = program; walk = walk; count = count }) }
-
 abbrev pub suspending : SubchannelState → Program → WalkPlace → ℕ → SubchannelState
 suspending s program walk count =
-    if program.orb.suppress_suspended then record (standing_still s program walk count) { scsw = suspended_alone s.scsw }
-    else with_cause (standing_still s program walk count) (cause.Suspension walk.tried count)
+    let still : SubchannelState = record s { waiting = None; begun = None; suspended = Some (record { program = program; walk = walk; count = count }) } in
+    if program.orb.suppress_suspended then record still { scsw = record s.scsw { activity = record no_activity { suspended = true } } }
+    else with_cause still (cause.Suspension walk.tried count)
 
--- the first command of the program is sent, with the room for what it brings; where it cannot be, the program is suspended or
--- over, and lets the device go
-abbrev pub sends_first : SubchannelState → ℕ → ℕ → Program → WithRoom → UpStep
-sends_first s p t program x =
-    let next = taking_over s program x.transfer in
-    sending (interrupted next next.begun) p (down.Command t x.transfer.command x.transfer.code x.room)
+-- a command of the program at work, which has the number t, is sent by p, with the room for what it brings
+abbrev pub sends_command : SubchannelState → ℕ → ℕ → WithRoom → UpStep
+sends_command s p t x = sending (interrupted s s.begun) p (down.Command t x.transfer.command x.transfer.code x.room)
 
+-- the first command of the program is sent; where it cannot be, the program is suspended or over, and lets the device go
 abbrev pub beginning : Contents → SubchannelState → ℕ → ℕ → ProgramPosition → WalkPlace → CommandStart → UpStep
-beginning storage s p t st walk (came.Begins transfer) = sends_first s p t st.program (begun_with_room storage transfer)
+beginning storage s p t st walk (came.Begins transfer) =
+    let x = begun_with_room storage transfer in sends_command (taking_over s st.program x.transfer) p t x
 beginning storage s p t st walk came.Suspends = let_go (suspending s st.program walk st.count)
 beginning storage s p t st walk (came.Stops check) = let_go (with_cause s (cause.FetchFault walk.tried check st.count))
 
-abbrev pub begin_with : Contents → SubchannelState → ℕ → ℕ → ProgramPosition → Beginning → UpStep
-begin_with storage s p t st first = beginning storage s p t st first.walk first.came
-
 abbrev pub begin_standing : Contents → SubchannelState → ℕ → ℕ → Option ProgramPosition → UpStep
 begin_standing storage s p t None = quietly s
-begin_standing storage s p t (Some st) = begin_with storage s p t st (first_command storage st.walk)
+begin_standing storage s p t (Some st) = let first = first_command storage st.walk in beginning storage s p t st first.walk first.came
 
 -- a halt that is pending is performed as the device is let go
 abbrev pub halt_done : SubchannelState → SubchannelState
@@ -172,19 +158,16 @@ abbrev pub IsBelow : Option ActiveProgram → Type 0
 IsBelow None = Unit {0}
 IsBelow (Some b) = (b.transfer.sequence + 1 < 2 ^ 63) × (b.transfer.command + 1 < 2 ^ 63)
 
--- what a Data and an End that are taken leave of the dedicated allegiance, as `allegiance` defines it. While one stands, the
--- program whose unit check brought it is over, since unit check comes with the last End of a program: each Data and each End
--- that is taken then is of a later program
-abbrev pub dedicated_by_data : Option ℕ → Option ℕ
-dedicated_by_data dedicated = dedicated_after dedicated (allegiance.Data true)
-
+-- what an End that is taken leaves of the dedicated allegiance, as `allegiance` defines it. While one stands, the program whose unit
+-- check brought it is over, since unit check comes with the last End of a program: each Data and each End that is taken then is of a
+-- later program
 abbrev pub dedicated_by_end : Option ℕ → EndSignal → Option ℕ
 dedicated_by_end dedicated signal = dedicated_after dedicated (allegiance.End signal.path (has_unit_check signal.status) true)
 
 -- Data: bytes were moved, and the transfer of the program is a chunk further
 abbrev pub with_transfer : SubchannelState → ActiveProgram → Transfer → SubchannelState
 with_transfer s b transfer =
-    record s { begun = Some (record b { transfer = transfer }); dedicated = dedicated_by_data s.dedicated }
+    record s { begun = Some (record b { transfer = transfer }); dedicated = dedicated_after s.dedicated (allegiance.Data true) }
 
 abbrev pub moving_on : SubchannelState → ActiveProgram → Transfer → SubchannelState
 moving_on s b transfer = let next = with_transfer s b transfer in interrupted next next.begun
@@ -231,34 +214,25 @@ abbrev pub end_taken : SubchannelState → EndSignal → SubchannelState
 end_taken s signal = record s { dedicated = dedicated_by_end s.dedicated signal }
 
 -- after an End the program goes on: the next command is sent as device end comes
-abbrev pub sends_next : SubchannelState → ActiveProgram → EndSignal → WithRoom → UpStep
-sends_next s b signal x =
-    sending (moving_on s b x.transfer) signal.path (down.Command signal.number x.transfer.command x.transfer.code x.room)
-
 abbrev pub chaining : Contents → SubchannelState → ActiveProgram → EndSignal → WalkPlace → CommandStart → UpStep
-chaining storage s b signal walk (came.Begins transfer) = sends_next s b signal (begun_with_room storage transfer)
+chaining storage s b signal walk (came.Begins transfer) =
+    let x = begun_with_room storage transfer in sends_command (with_transfer s b x.transfer) signal.path signal.number x
 chaining storage s b signal walk came.Suspends =
     let_go (suspending (end_taken s signal) b.program walk (residual b.transfer.moving))
 chaining storage s b signal walk (came.Stops check) =
     let_go (with_cause (end_taken s signal) (cause.FetchFault walk.tried check (residual b.transfer.moving)))
 
-abbrev pub chain_with : Contents → SubchannelState → ActiveProgram → EndSignal → Beginning → UpStep
-chain_with storage s b signal next = chaining storage s b signal next.walk next.came
-
 abbrev pub goes_on : Contents → SubchannelState → ActiveProgram → EndSignal → UpStep
 goes_on storage s b signal =
-    if has_device_end signal.status
-    then chain_with storage s b signal (next_command storage b.transfer (has_status_modifier signal.status))
+    let next = next_command storage b.transfer (has_status_modifier signal.status) in
+    if has_device_end signal.status then chaining storage s b signal next.walk next.came
     else quietly (record (end_taken s signal) { begun = Some b })
 
 -- an End after which nothing is chained makes status; the last End of a program lets the device go too
-abbrev pub end_shown_at : SubchannelState → ActiveProgram → EndSignal → SubchannelState
-end_shown_at s b signal =
-    record (with_cause s (cause.End b signal.status signal.more)) { dedicated = dedicated_by_end s.dedicated signal }
-
 abbrev pub stops_at : SubchannelState → ActiveProgram → EndSignal → UpStep
 stops_at s b signal =
-    if is_last_end signal.status then let_go (end_shown_at s b signal) else quietly (end_shown_at s b signal)
+    let shown : SubchannelState = record (with_cause s (cause.End b signal.status signal.more)) { dedicated = dedicated_by_end s.dedicated signal } in
+    if is_last_end signal.status then let_go shown else quietly shown
 
 abbrev pub command_ended : Contents → SubchannelState → ActiveProgram → EndSignal → UpStep
 command_ended storage s b signal =

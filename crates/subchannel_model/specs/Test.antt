@@ -4,7 +4,6 @@ use Rattle.std.specs.Prelude.{Bool, false, not, ◌&&◌, if◌then◌else◌}
 use Rattle.scsw_irb.specs.Empty.{no_functions, no_activity, no_status}
 use Rattle.scsw_irb.specs.declared.irb.Irb.{Irb}
 use Rattle.scsw_irb.specs.declared.scsw.DeferredCode.TheVariants as deferred
-use Rattle.scsw_irb.specs.declared.scsw.ActivityControl.{ActivityControl}
 use Rattle.scsw_irb.specs.declared.scsw.Scsw.{Scsw}
 use Rattle.chan_model.specs.declared.answer.ConditionCode.{ConditionCode}
 use Rattle.chan_model.specs.ConditionCodes.{in_order}
@@ -24,13 +23,10 @@ abbrev pub irb_of : SubchannelState → Irb
 irb_of s = record { scsw = s.scsw; last_path_used = mask_of_path s.pmcw.last_used }
 
 -- effect: the whole is cleared but what is active
-abbrev pub active_alone : ActivityControl → ActivityControl
-active_alone a = record no_activity { subchannel_active = a.subchannel_active; device_active = a.device_active }
-
 abbrev pub ended_scsw : Scsw → Scsw
 ended_scsw scsw = record scsw {
   functions = no_functions;
-  activity = active_alone scsw.activity;
+  activity = record no_activity { subchannel_active = scsw.activity.subchannel_active; device_active = scsw.activity.device_active };
   status = no_status;
   path_not_operational = false;
   deferred = deferred.Zero;

@@ -13,7 +13,8 @@ use Rattle.chan_model.specs.declared.unit_state.AtHand.{AtHand}
 use Rattle.chan_model.specs.declared.unit_state.Attention.{Attention}
 use Rattle.chan_model.specs.declared.unit_state.UnitState.{UnitState}
 use Rattle.chan_model.specs.Sides.{same_side}
-use Rattle.chan_model.specs.UnitTable.{UnitStep, unit_takes, unit_works, came_of, side_of, raised, selected, granted, granted_at, grant_refused, grant_refused_at, given_next, answered_load, answered_last, forgetting, is_owner, is_owner_on, freed, sends, telling, resets, reset_side}
+use Rattle.chan_model.specs.UnitTable.{UnitStep, unit_takes, unit_works, came_of, side_of, raised, selected, granted, granted_at, grant_refused, grant_refused_at, given_next, answered_load, answered_last, forgetting, is_owner, is_owner_on, freed, sends, telling, resets}
+use Rattle.chan_model.specs.Parts.{reset_side}
 
 -- what is sent goes by the path that the signal came by
 abbrev pub OnPathOf : ℕ → Option UnitStep → Type 0

@@ -16,7 +16,8 @@ use Rattle.chan_model.specs.declared.unit_state.Attention.{Attention}
 use Rattle.chan_model.specs.declared.unit_state.UnitState.{UnitState}
 use Rattle.chan_model.specs.Sides.{same_side}
 use Rattle.chan_model.proofs.Named.{unit_answered, without_side}
-use Rattle.chan_model.specs.UnitTable.{UnitStep, unit_after, side_of, with_side, is_owner, is_owner_on, is_place_on, owns, freed, raised, held, selected, commanded, given_next, given, answered_load, answered_last, granted_at, granted, grant_refused_at, grant_refused, unit_halting, releasing, reset_side, resets, forgetting, telling, unit_works, unit_takes}
+use Rattle.chan_model.specs.UnitTable.{UnitStep, unit_after, side_of, with_side, is_owner, is_owner_on, owns, freed, raised, selected, commanded, given_next, given, answered_load, answered_last, granted_at, granted, grant_refused_at, grant_refused, resets, forgetting, telling, unit_works, unit_takes}
+use Rattle.chan_model.specs.Parts.{is_place_on, held, unit_halting, releasing, reset_side}
 use Rattle.unit.specs.UnitWords.{other_of, IsSameProgram, LeavesOther}
 
 -- the step leaves the other side as it was, and its program

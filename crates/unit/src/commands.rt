@@ -2,6 +2,7 @@
 
 ghost use Rattle.std.specs.Prelude.{◌≡◌, ◌≤◌, IfSome, None, length};
 ghost use Rattle.chan_model.specs.UnitTable as table;
+ghost use Rattle.chan_model.specs.Parts as table_parts;
 ghost use Rattle.signal_places.specs.Places.{down_at};
 ghost use Rattle.unit.specs.UnitWords as words;
 
@@ -103,7 +104,7 @@ fn give(command: &mut AtHand, sequence: u64, bytes: &[u8])
 /// The bytes are kept, where there are any.
 fn keep(kept: &mut Option<Chunk>, bytes: &[u8])
     requires { length bytes.now ≤ 256 }
-    ensures { kept.new ≡ table.kept_bytes bytes.now }
+    ensures { kept.new ≡ table_parts.kept_bytes bytes.now }
 {
     match bytes {
         [] => forget(kept),

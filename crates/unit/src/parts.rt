@@ -2,6 +2,7 @@
 
 ghost use Rattle.std.specs.Prelude.{◌≡◌, ◌==◌, ◌+◌, [], None, Some, true};
 ghost use Rattle.chan_model.specs.UnitTable as table;
+ghost use Rattle.chan_model.specs.Parts as table_parts;
 ghost use Rattle.kept_events.specs.Signals as kept_spec;
 ghost use Rattle.unit.specs.UnitWords as words;
 
@@ -72,7 +73,7 @@ pub fn is_owner_on(unit: &UnitState, side: Side, number: u64, connection: u64) -
 
 /// Whether a place is on a path by this connection.
 fn is_place_on(place: Place, connection: u64) -> bool
-    ensures { result ≡ table.is_place_on place connection }
+    ensures { result ≡ table_parts.is_place_on place connection }
 {
     match place {
         Place::On {

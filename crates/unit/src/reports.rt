@@ -2,6 +2,7 @@
 
 ghost use Rattle.std.specs.Prelude.{◌≡◌, ◌<◌, ◌≤◌, ◌==◌, ◌&&◌, ◌^◌, ℕ, None, Some, IfSome, MatchOption, is_some, length, true};
 ghost use Rattle.chan_model.specs.UnitReports as reports;
+ghost use Rattle.chan_model.specs.Parts as parts;
 ghost use Rattle.chan_model.specs.Sides.{same_side};
 ghost use Rattle.chan_model.specs.UnitTable as table;
 ghost use Rattle.chan_model.specs.declared.signal.Load.TheVariants as load;
@@ -44,7 +45,7 @@ fn is_last_end(status: DeviceStatus) -> bool
 
 /// Whether a device may give this status at first.
 fn is_initial(status: DeviceStatus) -> bool
-    ensures { result ≡ reports.is_initial status }
+    ensures { result ≡ parts.is_initial status }
 {
     status == DeviceStatus::CHANNEL_END || status == DeviceStatus::UNIT_CHECK
 }

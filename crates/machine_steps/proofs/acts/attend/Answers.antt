@@ -2,7 +2,8 @@ use Rattle.std.proofs.Common.{◌≡◌, refl, sym, ◌∙◌, ap, ◌+◌, Bool
 use Rattle.chan_model.specs.declared.signal.Up.TheVariants as up
 use Rattle.chan_model.specs.declared.unit_state.SideState.{SideState}
 use Rattle.chan_model.specs.declared.unit_state.UnitState.{UnitState}
-use Rattle.chan_model.specs.UnitTable.{attention_status, is_idle, side_of}
+use Rattle.chan_model.specs.UnitTable.{is_idle, side_of}
+use Rattle.chan_model.specs.Parts.{attention_status}
 use Rattle.machine_steps.proofs.Acting.{sends-full}
 use Rattle.machine_steps.proofs.acts.attend.Goals as goal
 

@@ -12,7 +12,8 @@ use Rattle.subchannel_model.specs.declared.cause.StatusCause.TheVariants as caus
 use Rattle.subchannel_model.specs.declared.state.ActiveProgram.{ActiveProgram}
 use Rattle.subchannel_model.specs.declared.state.Program.{Program}
 use Rattle.subchannel_model.specs.declared.state.SubchannelState.{SubchannelState}
-use Rattle.subchannel_model.specs.Causes.{CauseRow, row_of, scsw_joined, without_begun, without_waiting}
+use Rattle.subchannel_model.specs.Causes.{CauseRow, row_of, scsw_before, without_begun, without_waiting}
+use Rattle.subchannel_model.specs.Parts.{scsw_joined}
 use Rattle.subchannel_model.specs.Programs.{without_programs}
 use Rattle.subchannel_model.specs.Ends.{has_shown}
 use Rattle.subchannel_model.proofs.Cleared.{tested-pending}
@@ -74,7 +75,7 @@ pub returns-clause-made : goal.returns-clause-made
 returns-clause-made c = λ s x k.
     let row : CauseRow = row_of s x in
     let kept : Same s row.left = same s x in
-    made-after s row.joins row.shown row.left.pmcw.enabled row.left.serials kept.0 kept.1 k
+    made-after s (scsw_before s.scsw x) row.shown row.left.pmcw.enabled row.left.serials kept.0 kept.1 k
 
 -- TEST clears all status
 tested-counted : (s : SubchannelState) → IsCounted (tested s)
