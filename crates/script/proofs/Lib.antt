@@ -1,4 +1,5 @@
 pub mod Parting
+pub mod Seeking
 pub mod Drafting
 pub mod Keeping
 pub mod Plain

@@ -1,6 +1,6 @@
 -- The first piece of a text, by the place of the first separator.
-use Rattle.std.proofs.Common.{◌≡◌, ℕ, ◌<◌, Bool, true, false, ◌&&◌, subst, List, [], ◌∷◌, ◌++◌, length, take, drop, get_or, map, ap, ◌∙◌, refl, sym, suc, zero, arith, inl, inr, append-nil, ◌≤◌, ◌-◌}
-use Rattle.std.proofs.lemmas.List.{take_all}
+use Rattle.std.proofs.Common.{◌≡◌, ℕ, ◌+◌, ◌<◌, Bool, true, false, ◌&&◌, subst, List, [], ◌∷◌, ◌++◌, length, take, drop, get_or, map, ap, ◌∙◌, refl, sym, suc, zero, arith, inl, inr, append-nil, ◌≤◌, ◌-◌}
+use Rattle.std.proofs.lemmas.List.{take_all, drop_all, drop_more, drop-drop, get_or-drop}
 use Rattle.std.specs.Prelude.{if◌then◌else◌}
 use Rattle.std.specs.List.{AllPass, list_all}
 use Rattle.std.proofs.lemmas.List.Folds.{list_all-map}
@@ -55,6 +55,26 @@ pub parted : {A : Type 0} (f : A → List ℕ) (items new : List A) (x : A) (sep
 parted f items new x sep k rest after bytes e g inv w =
     ap (λ (t : List _). map f t ++ pieces sep after) e ∙ pushed f items x (pieces sep after) ∙ ap (λ (t : List ℕ). map f items ++ (t ∷ pieces sep after)) g
     ∙ ap (λ (t : List (List ℕ)). map f items ++ t) (sym w) ∙ inv
+
+-- the piece between a place and the next separator
+pub next : (sep : ℕ) (xs : List ℕ) (start place : ℕ) → start ≤ place → place < length xs → ((k : ℕ) → start ≤ k → k < place → get_or xs k 0 ≡ sep → ⊥)
+    → get_or xs place 0 ≡ sep → pieces sep (drop start xs) ≡ take (place - start) (drop start xs) ∷ pieces sep (drop (place + 1) xs)
+next sep xs start place le lt before found =
+    let at : start + (place - start) ≡ place = omega arith in
+    let rest = drop-drop (place - start) start xs ∙ ap (λ (n : ℕ). drop n xs) at ∙ drop_more xs place 0 lt in
+    cut sep (drop start xs) (place - start) (get_or xs place 0) (drop (place + 1) xs)
+    (λ j less e. before (start + j) (omega arith) (omega arith) (sym (get_or-drop start xs j 0) ∙ e))
+    (λ less. get_or-drop start xs (place - start) 0 ∙ ap (λ (n : ℕ). get_or xs n 0) at ∙ found)
+    rest
+
+-- the piece behind the last separator
+pub last : (sep : ℕ) (xs : List ℕ) (start : ℕ) → start ≤ length xs → ((k : ℕ) → start ≤ k → k < length xs → get_or xs k 0 ≡ sep → ⊥)
+    → pieces sep (drop start xs) ≡ take (length xs - start) (drop start xs) ∷ []
+last sep xs start le before =
+    let at : start + (length xs - start) ≡ length xs = omega arith in
+    whole sep (drop start xs) (length xs - start)
+    (λ j less e. before (start + j) (omega arith) (omega arith) (sym (get_or-drop start xs j 0) ∙ e))
+    (drop-drop (length xs - start) start xs ∙ ap (λ (n : ℕ). drop n xs) at ∙ drop_all (length xs) xs (omega arith))
 
 -- what stands behind the separator
 pub behind : (others : List ℕ) → 1 ≤ length others → others ≡ get_or others 0 0 ∷ take (length others - 1) (drop 1 others)

@@ -6,7 +6,7 @@ ghost use Rattle.script.specs.Saying as spec;
 ghost use Rattle.script_rows.specs.Faults.{FaultOf};
 ghost use Rattle.script_rows.specs.Places.{action_at};
 
-use crate::pieces::pieces_to;
+use crate::pieces::short_pieces_to;
 use script_rows::actions::action_row;
 use script_rows::places::ActionPlace;
 use script_rows::race::{Race, race_row};
@@ -123,7 +123,7 @@ pub fn say<'a, S: Supply>(
     if !has_words(line) {
         return Ok(LineKind::Nothing);
     }
-    if pieces_to(supply, words, line, b' ').is_err() {
+    if short_pieces_to(supply, words, line, b' ').is_err() {
         return Err(LineFault::NoMemory);
     }
     words_say(alloc, supply, place, words.as_slice())

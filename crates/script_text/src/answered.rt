@@ -133,8 +133,8 @@ pub fn put_answer_line_at_once<S: Sink>(
 ) -> bool
     ensures { Puts (S.seen sink.old) (spec.event_line line (spec.told_of (answer_at place.now))) (S.seen sink.new) result }
 {
-    held.clear();
-    if put_pieces(held, line, place) {
+    held.begin(line);
+    if put_spaced(held, place) && held.put(b"\n") {
         sink.put(held.bytes())
     } else {
         put_long(sink, line, place)

@@ -1,18 +1,21 @@
 //! A line that waits until it is whole.
 
-ghost use Rattle.std.specs.Prelude.{◌≡◌, ◌≤◌, [], false, take};
+ghost use Rattle.std.specs.Prelude.{◌≡◌, ◌≤◌, [], decimal, false, take};
 
+use crate::number::{LineNumber, MOST_DIGITS};
 use streams::Sink;
 
 /// How many bytes there is room for.
 const HELD_BYTES: usize = 640;
 
-/// Up to 640 bytes, in a place of their own. It fails where there are more: then it has a beginning of them.
+/// Up to 640 bytes, in a place of their own. It fails where there are more: then it has a beginning of them. The number with which
+/// the last line began is kept.
 #[derive(Drop)]
 pub struct Held {
     room: [u8; HELD_BYTES],
     length: usize,
     failed: bool,
+    line: LineNumber,
     ghost fits: { length ≤ 640 },
 }
 
@@ -26,6 +29,7 @@ impl Held {
             room: [0; HELD_BYTES],
             length: 0,
             failed: false,
+            line: LineNumber::new(),
         }
     }
 
@@ -35,6 +39,18 @@ impl Held {
         ensures failed { self.new.failed ≡ false }
     {
         self.length = 0;
+        self.failed = false;
+    }
+
+    /// Forgets what it held, and holds the decimal digits of a line's number.
+    pub(crate) fn begin(&mut self, number: u64)
+        ensures bytes { take self.new.length self.new.room ≡ decimal number }
+        ensures failed { self.new.failed ≡ false }
+    {
+        self.line.set(number);
+        let digits = self.line.digits;
+        self.length = self.line.count;
+        self.room[0..MOST_DIGITS].copy_from_slice(&digits);
         self.failed = false;
     }
 

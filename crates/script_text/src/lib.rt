@@ -12,6 +12,7 @@ ghost use Rattle.streams.specs.Sinks.{Puts};
 
 mod answered;
 pub mod held;
+mod number;
 mod race;
 
 pub use crate::answered::put_answer_line_at_once;

@@ -96,7 +96,7 @@ impl<W: Write + Drop> Watched<W> {
 impl<W: Write + Drop> Sink for Watched<W> {
     ghost seen = { λ w. record { bytes = W.contents w.writer; failed = w.failed } };
 
-    #[inline]
+    #[inline(always)]
     fn put(&mut self, bytes: &[u8]) -> bool {
         if bytes.is_empty() {
             return true;
@@ -157,6 +157,7 @@ pub fn put_all<W: Write>(writer: &mut W, bytes: &[u8]) -> usize
 /// Writes some of the bytes, and answers how many, which are none where the write was interrupted;
 /// nothing where the writer fails.
 #[tactic(auto, using(crate::proofs::Putting::put_none))]
+#[inline(always)]
 fn put_some<W: Write>(writer: &mut W, bytes: &[u8]) -> Option<usize>
     ensures some { IfSome result (λ n. (n ≤ length bytes.now) × Appends (W.contents writer.old) (W.contents writer.new) (take n bytes.now)) }
     ensures none { IfNone result (Keeps (W.contents writer.old) (W.contents writer.new)) }

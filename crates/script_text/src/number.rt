@@ -1,0 +1,71 @@
+//! The number of a line in decimal digits, which are counted up where they stand.
+
+ghost use Rattle.std.specs.Prelude.{◌≡◌, ◌≤◌, decimal, length, take, IsTrue};
+
+use itoa::Buffer;
+
+/// As many digits as a number has at most.
+pub(crate) const MOST_DIGITS: usize = 20;
+
+/// A number and its decimal digits, of which there are so many.
+#[derive(Drop)]
+pub(crate) struct LineNumber {
+    number: u64,
+    pub(crate) digits: [u8; MOST_DIGITS],
+    pub(crate) count: usize,
+    ghost some: { 1 ≤ count },
+    ghost fits: { count ≤ 20 },
+    ghost long: { length digits ≡ 20 },
+    ghost told: { take count digits ≡ decimal number },
+}
+
+impl LineNumber {
+    /// The number 0.
+    pub(crate) fn new() -> Self {
+        LineNumber {
+            number: 0,
+            digits: [b'0'; MOST_DIGITS],
+            count: 1,
+        }
+    }
+
+    /// It becomes this number.
+    pub(crate) fn set(&mut self, number: u64)
+        ensures { self.new.number ≡ number }
+    {
+        if !self.counts_up(number) {
+            self.write(number);
+        }
+    }
+
+    /// It becomes this number, where that is the next one and has but another last digit.
+    fn counts_up(&mut self, number: u64) -> bool
+        ensures { IsTrue result → self.new.number ≡ number }
+    {
+        let last = self.count - 1;
+        let digit = self.digits[last];
+        if number == 0 || self.number != number - 1 || digit >= b'9' {
+            return false;
+        }
+        self.digits[last] = digit + 1;
+        self.number = number;
+        true
+    }
+
+    /// It becomes this number, whose digits are written anew: apart, as it is rare.
+    #[cold]
+    #[inline(never)]
+    fn write(&mut self, number: u64)
+        ensures { self.new.number ≡ number }
+    {
+        let mut buffer = Buffer::new();
+        let text = buffer.format(number).as_bytes();
+        let mut digits = [b'0'; MOST_DIGITS];
+        digits[..text.len()].copy_from_slice(text);
+        *self = LineNumber {
+            number,
+            digits,
+            count: text.len(),
+        };
+    }
+}
