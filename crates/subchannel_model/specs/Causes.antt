@@ -1,7 +1,6 @@
 -- The causes of status as one table: what each shows, which programs it leaves, and which status word its status joins
 -- (SA22-7832, chapter 16; the bits are this project's own choice). What an End shows is in `Ends`.
 use Rattle.std.specs.Prelude.{ℕ, Bool, true, false, if◌then◌else◌, Option, None, Some, option_map}
-use Rattle.scsw_irb.specs.declared.scsw.DeferredCode.{DeferredCode}
 use Rattle.scsw_irb.specs.declared.scsw.DeferredCode.TheVariants as deferred
 use Rattle.scsw_irb.specs.declared.scsw.Scsw.{Scsw}
 use Rattle.scsw_irb.specs.declared.scsw.StatusControl.{StatusControl}
