@@ -19,7 +19,7 @@ use Rattle.subchannel_model.specs.declared.state.SubchannelState.{SubchannelStat
 use Rattle.subchannel_model.specs.Ends.{has_status_modifier, chains_command}
 use Rattle.subchannel_model.specs.Taking.{may_attend, takes_up, with_end}
 use Rattle.subchannel.specs.Answering.{IsAnswerPath, accept_path, answer_path, attention_path, back_path, chained_path, data_path, end_path, ended_path, going_path, held_path, only_if, path_of, standing_path}
-use Rattle.subchannel.specs.Working.{Ended, Moved, ended_of, moved_of}
+use Rattle.working.specs.Working.{Ended, Moved, ended_of, moved_of}
 use Rattle.subchannel.proofs.Answered.{takes_answers}
 
 own-if : (b : Bool) (phase : HoldPhase) (p : ℕ) → IsAnswerPath phase p (only_if b p)

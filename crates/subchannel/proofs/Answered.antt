@@ -32,7 +32,7 @@ use Rattle.subchannel_model.specs.Ends.{has_status_modifier, chains_command}
 use Rattle.subchannel_model.specs.Taking.{end_taken, Met, let_go, suspending, standing, goes_ahead, may_attend, path_used, beginning, begin_standing, accepted_by, accept_by, take_data, chaining, goes_on, with_end, stops_at, command_ended, end_command, reset_taken, notice, takes_up}
 use Rattle.subchannel_model.specs.Parts.{end_shown_at}
 use Rattle.subchannel.specs.Answering.{path_of, only_if, held_path, accept_path, back_path, attention_path, data_path, chained_path, going_path, ended_path, end_path, answer_path}
-use Rattle.subchannel.specs.Working.{Moved, Ended, moved_at, data_met, ended_at, end_met}
+use Rattle.working.specs.Working.{Moved, Ended, moved_at, data_met, ended_at, end_met}
 use Rattle.subchannel.proofs.Working.{data_takes, end_takes}
 
 abbrev answers : UpStep → Option ℕ

@@ -8,7 +8,7 @@ use Rattle.signal_places.specs.Places.{came_so}
 use Rattle.subchannel_model.specs.declared.state.SubchannelState.{SubchannelState}
 use Rattle.subchannel_model.specs.declared.state.UpStep.{UpStep}
 use Rattle.subchannel_model.specs.Taking.{back, by_hold, is_granted, returned}
-use Rattle.subchannel.specs.Stepping.{subchannel_stepped}
+use Rattle.working.specs.Stepping.{subchannel_stepped}
 
 ungranted : (s : SubchannelState) (came : Taken Down) (p : ℕ) (b : Bool) → b ≡ false → subchannel_stepped s came ≡ subchannel_stepped (returned s p b) came
 ungranted s came p false e = refl

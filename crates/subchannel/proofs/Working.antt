@@ -13,7 +13,7 @@ use Rattle.subchannel_model.specs.declared.state.ActiveProgram.{ActiveProgram}
 use Rattle.subchannel_model.specs.declared.state.SubchannelState.{SubchannelState}
 use Rattle.subchannel_model.specs.declared.state.UpStep.{UpStep}
 use Rattle.subchannel_model.specs.Taking.{Met, meets, ignoring, move_data, take_data, end_of, end_command, takes_up}
-use Rattle.subchannel.specs.Working.{load_of, moved_of, moved_at, data_by, data_taken, data_met, ended_of, ended_at, end_met}
+use Rattle.working.specs.Working.{load_of, moved_of, moved_at, data_by, data_taken, data_met, ended_of, ended_at, end_met}
 
 either : {A : Type 0} {B : Type 0} (f : A → B) (b : Bool) (x y : A) → (if b then f x else f y) ≡ f (if b then x else y)
 either f true x y = refl

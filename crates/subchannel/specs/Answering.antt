@@ -16,7 +16,7 @@ use Rattle.subchannel_model.specs.declared.state.ActiveProgram.{ActiveProgram}
 use Rattle.subchannel_model.specs.declared.state.SubchannelState.{SubchannelState}
 use Rattle.subchannel_model.specs.Ends.{has_status_modifier, chains_command}
 use Rattle.subchannel_model.specs.Taking.{with_end, may_attend}
-use Rattle.subchannel.specs.Working.{Moved, Ended, moved_by, ended_by}
+use Rattle.working.specs.Working.{Moved, Ended, moved_by, ended_by}
 
 abbrev pub path_of : Option (OnPath Down) → Option ℕ
 path_of None = None

@@ -1,4 +1,2 @@
 pub mod Answering
-pub mod Stepping
 pub mod Usable
-pub mod Working

@@ -6,14 +6,12 @@ ghost use Rattle.signal_places.specs.Places.{up_at};
 ghost use Rattle.subchannel_model.specs.Taking as taking_spec;
 ghost use Rattle.subchannel_model.specs.Ends as end_spec;
 ghost use Rattle.subchannel.specs.Answering as spec;
-ghost use Rattle.subchannel.specs.Working as working_spec;
+ghost use Rattle.working.specs.Working as working_spec;
 ghost use Rattle.storage_keys.specs.Storage.{Contents};
 ghost use Rattle.subchannel_model.specs.declared.state.SubchannelState.{SubchannelState};
 ghost use Rattle.transfer.specs.Commands as transfer_spec;
 
 use crate::attending::may_attend;
-use crate::ending::end_by;
-use crate::moving::data_by;
 use chan_model::hold_state::{HoldPhase, HoldState};
 use chan_model::names::Path;
 use hold::Hold;
@@ -26,6 +24,8 @@ use subchannel_model::state::{ActiveProgram, SubchannelState};
 use transfer::CommandStart;
 use transfer::chunks::is_answered;
 use transfer::commands::next_command;
+use working::ending::end_by;
+use working::moving::data_by;
 
 /// The path of the program that is offered or connected.
 pub fn standing_path(hold: &HoldState) -> Option<Path>

@@ -4,9 +4,8 @@ ghost use Rattle.std.specs.Prelude.{◌≡◌, ◌<◌, ◌^◌};
 ghost use Rattle.chan_model.specs.HoldTable.{hold_takes};
 ghost use Rattle.signal_places.specs.Places.{came_so, up_at};
 ghost use Rattle.subchannel_model.specs.Taking as spec;
-ghost use Rattle.subchannel.specs.Stepping.{subchannel_stepped};
+ghost use Rattle.working.specs.Stepping.{subchannel_stepped};
 
-use crate::answers::by_hold;
 use chan_model::names::Path;
 use scsw_irb::scsw::ActivityControl;
 use scsw_irb::status::DeviceStatus;
@@ -15,6 +14,7 @@ use signal_places::signals::UpPlace;
 use status::make_pending;
 use subchannel_model::cause::StatusCause;
 use subchannel_model::state::SubchannelState;
+use working::answers::by_hold;
 
 /// Whether nothing goes on but a start that waits.
 fn is_open(activity: &ActivityControl) -> bool

@@ -4,14 +4,14 @@ ghost use Rattle.std.specs.Prelude.{◌≡◌, Some};
 ghost use Rattle.chan_model.specs.HoldTable.{hold_takes};
 ghost use Rattle.signal_places.specs.Places.{came_so, up_at};
 ghost use Rattle.subchannel_model.specs.Taking as spec;
-ghost use Rattle.subchannel.specs.Stepping.{subchannel_stepped};
+ghost use Rattle.working.specs.Stepping.{subchannel_stepped};
 
-use crate::answers::by_hold;
 use chan_model::names::Path;
 use kept_events::signals::KeptDown;
 use signal_places::sent::SentDown;
 use signal_places::signals::UpPlace;
 use subchannel_model::state::{PmcwState, SubchannelState};
+use working::answers::by_hold;
 
 /// Back: the path of a Grant is the one that was used last, and the one that was chosen last.
 pub(crate) fn come_back(

@@ -3,15 +3,11 @@
 ghost use Rattle.std.specs.Prelude.{◌≡◌, ◌<◌, ◌^◌, false};
 ghost use Rattle.chan_model.specs.HoldTable.{hold_takes};
 ghost use Rattle.signal_places.specs.Places.{came_so, up_at};
-ghost use Rattle.subchannel.specs.Stepping.{subchannel_stepped};
+ghost use Rattle.working.specs.Stepping.{subchannel_stepped};
 ghost use Rattle.subchannel_model.specs.Taking as spec;
 
-use crate::accepting::accept;
-use crate::answers::{by_hold, ignored, quiet};
 use crate::attending::attend;
-use crate::ending::end_command;
 use crate::losing::reset_for;
-use crate::moving::take_data;
 use crate::returning::come_back;
 use chan_model::names::Path;
 use hold::Hold;
@@ -22,6 +18,10 @@ use status::make_pending;
 use storage_keys::Storage;
 use subchannel_model::cause::StatusCause;
 use subchannel_model::state::SubchannelState;
+use working::accepting::accept;
+use working::answers::{by_hold, ignored, quiet};
+use working::ending::end_command;
+use working::moving::take_data;
 
 /// A clear that is pending is performed.
 fn do_clear(state: &mut SubchannelState)

@@ -5,7 +5,7 @@ ghost use Rattle.chan_model.specs.HoldTable.{hold_takes};
 ghost use Rattle.kept_events.specs.Signals as kept_spec;
 ghost use Rattle.signal_places.specs.Places.{came_so, up_at};
 ghost use Rattle.subchannel_model.specs.Taking as spec;
-ghost use Rattle.subchannel.specs.Stepping.{not_taken, subchannel_stepped, taken_with};
+ghost use Rattle.working.specs.Stepping.{not_taken, subchannel_stepped, taken_with};
 
 use chan_model::names::Path;
 use hold::{let_go_at, take_at};
@@ -14,14 +14,14 @@ use signal_places::sent::SentDown;
 use signal_places::signals::UpPlace;
 use subchannel_model::state::SubchannelState;
 
-pub(crate) fn ignored(sent: &mut SentDown) -> bool
+pub fn ignored(sent: &mut SentDown) -> bool
     ensures { came_so result sent.new ≡ not_taken }
 {
     sent.clear();
     false
 }
 
-pub(crate) fn quiet(sent: &mut SentDown) -> bool
+pub fn quiet(sent: &mut SentDown) -> bool
     ensures { came_so result sent.new ≡ taken_with None }
 {
     sent.clear();
@@ -44,7 +44,7 @@ pub(crate) fn let_go(state: &mut SubchannelState, sent: &mut SentDown) -> bool
 }
 
 /// What the hold does with a signal; `may`: it may be taken, as the hold's table asks.
-pub(crate) fn by_hold(
+pub fn by_hold(
     state: &mut SubchannelState,
     path: Path,
     signal: &UpPlace,

@@ -9,9 +9,9 @@ use Rattle.chan_model.specs.Loads.{load_length}
 use Rattle.chan_model.specs.declared.signal.Load.{Load}
 use Rattle.signal_places.specs.Places.{came_so, up_at}
 use Rattle.transfer.specs.Chunks.{brought}
-use Rattle.subchannel.specs.Stepping.{subchannel_stepped}
-use Rattle.subchannel.specs.Working.{give_next, load_of}
-use Rattle.subchannel.proofs.moving.move_bytes.Goals as goal
+use Rattle.working.specs.Stepping.{subchannel_stepped}
+use Rattle.working.specs.Working.{give_next, load_of}
+use Rattle.working.proofs.moving.move_bytes.Goals as goal
 
 chosen-first : (b : Bool) (x y : Met) → b ≡ true → x ≡ (if b then x else y)
 chosen-first true x y e = refl

@@ -6,8 +6,8 @@ ghost use Rattle.subchannel_model.specs.Causes.{with_cause};
 ghost use Rattle.subchannel_model.specs.Ends as end_spec;
 ghost use Rattle.subchannel_model.specs.Taking as spec;
 ghost use Rattle.subchannel_model.specs.Parts as parts;
-ghost use Rattle.subchannel.specs.Stepping.{subchannel_stepped};
-ghost use Rattle.subchannel.specs.Working as working_spec;
+ghost use Rattle.working.specs.Stepping.{subchannel_stepped};
+ghost use Rattle.working.specs.Working as working_spec;
 ghost use Rattle.subchannel_model.specs.declared.cause.StatusCause.TheVariants as cause;
 ghost use Rattle.transfer.specs.Commands as transfer_spec;
 
@@ -33,7 +33,7 @@ use transfer::commands::{begun_with_room, next_command};
 use transfer::{CommandStart, WithRoom};
 
 /// The numbers of an End. None where the signal is another.
-pub(crate) fn end_by(path: Path, signal: &UpPlace) -> Option<EndSignal>
+pub fn end_by(path: Path, signal: &UpPlace) -> Option<EndSignal>
     ensures { result ≡ working_spec.end_by path (up_at signal.now) }
 {
     match signal.kept {
@@ -251,7 +251,7 @@ fn command_ended(
 }
 
 /// End: the command ended.
-pub(crate) fn end_command(
+pub fn end_command(
     storage: &Storage,
     state: &mut SubchannelState,
     path: Path,

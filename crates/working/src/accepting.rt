@@ -7,7 +7,7 @@ ghost use Rattle.subchannel_model.specs.Causes.{with_cause};
 ghost use Rattle.subchannel_model.specs.Taking as spec;
 ghost use Rattle.subchannel_model.specs.Parts as parts;
 ghost use Rattle.subchannel_model.specs.declared.cause.StatusCause.TheVariants as cause;
-ghost use Rattle.subchannel.specs.Stepping.{subchannel_stepped};
+ghost use Rattle.working.specs.Stepping.{subchannel_stepped};
 ghost use Rattle.kept_events.specs.declared.signals.KeptDown.TheVariants as kept_down;
 ghost use Rattle.transfer.specs.Commands as transfer_spec;
 
@@ -92,7 +92,7 @@ fn is_standing(state: &SubchannelState) -> bool
 }
 
 /// Whether the program that was offered takes the device.
-pub(crate) fn goes_ahead(state: &SubchannelState) -> bool
+fn goes_ahead(state: &SubchannelState) -> bool
     ensures { result ≡ spec.goes_ahead state.now }
 {
     is_standing(state) && !state.scsw.activity.halt_pending
@@ -284,7 +284,7 @@ fn accepted_by(
 }
 
 /// Accept: the program that was offered takes the device.
-pub(crate) fn accept(
+pub fn accept(
     storage: &Storage,
     state: &mut SubchannelState,
     path: Path,

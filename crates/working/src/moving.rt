@@ -7,8 +7,8 @@ ghost use Rattle.chan_model.specs.UnitReports.{is_outward as is_outward_code};
 ghost use Rattle.transfer.specs.Chunks.{brought as brought_by};
 ghost use Rattle.subchannel_model.specs.Taking as spec;
 ghost use Rattle.subchannel_model.specs.Parts as parts;
-ghost use Rattle.subchannel.specs.Working as working_spec;
-ghost use Rattle.subchannel.specs.Stepping.{subchannel_stepped};
+ghost use Rattle.working.specs.Working as working_spec;
+ghost use Rattle.working.specs.Stepping.{subchannel_stepped};
 
 use crate::answers::ignored;
 use crate::intermediate::interrupt;
@@ -26,7 +26,7 @@ use transfer::chunks::{absorb, bring, give_next, is_answered};
 use transfer::commands::{find_room, is_outward};
 
 /// The numbers of a Data. None where the signal is another.
-pub(crate) fn data_by(path: Path, signal: &UpPlace) -> Option<DataSignal>
+pub fn data_by(path: Path, signal: &UpPlace) -> Option<DataSignal>
     ensures { result ≡ working_spec.data_by path (up_at signal.now) }
 {
     match signal.kept {
@@ -236,7 +236,7 @@ fn move_bytes(
 }
 
 /// Data: bytes were moved.
-pub(crate) fn take_data(
+pub fn take_data(
     storage: &mut Storage,
     state: &mut SubchannelState,
     path: Path,
