@@ -3,13 +3,12 @@
 use chan_events::event::Event;
 use chan_model::fault::Fault;
 use chan_model::names::Side;
-use chan_model::report::{DeviceAnswer, Report, Work};
+use chan_model::report::{DeviceAnswer, Report};
 use core_lock::locked::{Core, Seat};
 use core_lock::naming::Naming;
-use device_law::answering::{answer, answer_to};
+use device_law::answering::answer_to;
 use device_models::any_device::AnyDevice;
 use kept_work::works::Task;
-use machine_model::state::UnitTurn;
 use machine_steps::kept_turns::KeptTurn;
 use path_select::Rotating;
 use signal_places::answers::AnswerPlace;
@@ -28,62 +27,17 @@ pub trait Floor {
     fn subsystem(&self) -> &Subsystem<Rotating>;
 }
 
-/// The report of a unit's next work; None where it has none.
-fn report_of(subsystem: &Subsystem<Rotating>, unit: u32, device: &mut AnyDevice) -> Option<Event> {
-    let UnitTurn::Works(work) = subsystem.unit_turn(unit)? else {
-        return None;
-    };
-    let report = match work {
-        Work::Report(report) => report,
-        Work::Call {
-            side,
-            number,
-            command,
-            sequence,
-            call,
-        } => Report {
-            side,
-            number,
-            command,
-            sequence,
-            answer: answer(device, &call),
-        },
-    };
-    Some(Event::Report { unit, report })
-}
-
-impl Floor for Subsystem<Rotating> {
-    fn accepts(&mut self, event: &Event) -> bool {
-        self.step(event).is_ok()
-    }
-
-    fn reports(&mut self, unit: u32, device: &mut AnyDevice) -> bool {
-        match report_of(self, unit, device) {
-            Some(event) => self.step(&event).is_ok(),
-            None => false,
-        }
-    }
-
-    fn subsystem(&self) -> &Subsystem<Rotating> {
-        self
-    }
-}
-
-/// A channel subsystem with a place for the answer of each event, and one for the event of each report.
+/// The event of a report, in a place that is made once.
 #[derive(Drop)]
-pub struct Placed {
-    subsystem: Subsystem<Rotating>,
-    answer: AnswerPlace,
-    report: Event,
+pub struct ReportPlace {
+    event: Event,
 }
 
-impl Placed {
-    /// This subsystem, with its places.
-    pub fn of(subsystem: Subsystem<Rotating>) -> Self {
-        Placed {
-            subsystem,
-            answer: AnswerPlace::new(),
-            report: Event::Report {
+impl ReportPlace {
+    /// A place, with a report that no device gave.
+    pub fn new() -> Self {
+        ReportPlace {
+            event: Event::Report {
                 unit: 0,
                 report: Report {
                     side: Side::First,
@@ -96,24 +50,81 @@ impl Placed {
         }
     }
 
-    /// Writes the report of a unit's next work into its place; false where it has none.
-    fn write_report(&mut self, of: u32, device: &mut AnyDevice) -> bool {
-        let Some(KeptTurn::Works(work)) = self.subsystem.kept_turn(of) else {
+    /// Writes the report of a unit's next work, its device having been called where the work is a call; false where it has
+    /// none.
+    fn write(
+        &mut self,
+        subsystem: &Subsystem<Rotating>,
+        of: u32,
+        device: &mut AnyDevice,
+    ) -> bool {
+        let Some(KeptTurn::Works(work)) = subsystem.kept_turn(of) else {
             return false;
         };
-        let Event::Report { unit, report } = &mut self.report else {
+        let Event::Report { unit, report } = &mut self.event else {
             return false;
         };
         *unit = of;
         work.number(report);
         match work.task {
-            Task::Call(call) => {
-                answer_to(device, call, self.subsystem.given(of), &mut report.answer);
-            }
+            Task::Call(call) => answer_to(device, call, subsystem.given(of), &mut report.answer),
             Task::Again => report.answer = DeviceAnswer::Again,
             Task::Ended { status, more } => report.answer = DeviceAnswer::Ended { status, more },
         }
         true
+    }
+}
+
+/// A channel subsystem whose answers are values.
+#[derive(Drop)]
+pub struct Answering {
+    subsystem: Subsystem<Rotating>,
+    report: ReportPlace,
+}
+
+impl Answering {
+    /// This subsystem.
+    pub fn of(subsystem: Subsystem<Rotating>) -> Self {
+        Answering {
+            subsystem,
+            report: ReportPlace::new(),
+        }
+    }
+}
+
+impl Floor for Answering {
+    fn accepts(&mut self, event: &Event) -> bool {
+        self.subsystem.step(event).is_ok()
+    }
+
+    fn reports(&mut self, unit: u32, device: &mut AnyDevice) -> bool {
+        if !self.report.write(&self.subsystem, unit, device) {
+            return false;
+        }
+        self.subsystem.step(&self.report.event).is_ok()
+    }
+
+    fn subsystem(&self) -> &Subsystem<Rotating> {
+        &self.subsystem
+    }
+}
+
+/// A channel subsystem with a place for the answer of each event.
+#[derive(Drop)]
+pub struct Placed {
+    subsystem: Subsystem<Rotating>,
+    answer: AnswerPlace,
+    report: ReportPlace,
+}
+
+impl Placed {
+    /// This subsystem, with its place.
+    pub fn of(subsystem: Subsystem<Rotating>) -> Self {
+        Placed {
+            subsystem,
+            answer: AnswerPlace::new(),
+            report: ReportPlace::new(),
+        }
     }
 }
 
@@ -124,10 +135,11 @@ impl Floor for Placed {
     }
 
     fn reports(&mut self, unit: u32, device: &mut AnyDevice) -> bool {
-        if !self.write_report(unit, device) {
+        if !self.report.write(&self.subsystem, unit, device) {
             return false;
         }
-        self.subsystem.step_place(&self.report, &mut self.answer);
+        self.subsystem
+            .step_place(&self.report.event, &mut self.answer);
         self.answer.is_reply()
     }
 
@@ -141,27 +153,26 @@ impl Floor for Placed {
 pub struct Seated<J: Naming> {
     pub core: Core<J, Rotating>,
     pub seat: Seat<J>,
+    pub report: ReportPlace,
 }
 
-impl<J: Naming> Seated<J> {
-    /// Whether an event is accepted; as `Core::enter` does it, with an answer of its own, but for an event that stays.
-    fn enters(&mut self, event: &Event) -> bool {
-        let mut answer = Err(Fault::NotNow);
-        self.core.enter_to(&mut self.seat, event, &mut answer);
-        answer.is_ok()
-    }
+/// Whether an event is accepted; as `Core::enter` does it, with an answer of its own, but for an event that stays.
+fn enters<J: Naming>(core: &mut Core<J, Rotating>, seat: &mut Seat<J>, event: &Event) -> bool {
+    let mut answer = Err(Fault::NotNow);
+    core.enter_to(seat, event, &mut answer);
+    answer.is_ok()
 }
 
 impl<J: Naming> Floor for Seated<J> {
     fn accepts(&mut self, event: &Event) -> bool {
-        self.enters(event)
+        enters(&mut self.core, &mut self.seat, event)
     }
 
     fn reports(&mut self, unit: u32, device: &mut AnyDevice) -> bool {
-        match report_of(self.core.subsystem(), unit, device) {
-            Some(event) => self.enters(&event),
-            None => false,
+        if !self.report.write(self.core.subsystem(), unit, device) {
+            return false;
         }
+        enters(&mut self.core, &mut self.seat, &self.report.event)
     }
 
     fn subsystem(&self) -> &Subsystem<Rotating> {

@@ -5,8 +5,7 @@
 //!
 //! - `step KIND SUBCHANNELS CYCLES`: so many cycles by `Subsystem::step`, at the last of so many subchannels. The kind is
 //!   `write`, `read`, `chain`, `reconnect`, or `test`, which is one TEST SUBCHANNEL.
-//! - `place KIND SUBCHANNELS CYCLES`: the same by `Subsystem::step_place`, with one place for all answers and one for
-//!   all reports.
+//! - `place KIND SUBCHANNELS CYCLES`: the same by `Subsystem::step_place`, with one place for all answers.
 //! - `enter KIND SUBCHANNELS CYCLES`: the same by `Core::enter_to`, of which `Core::enter` is a thin call that takes its event
 //!   with it, from the first seat of a core that no lock guards.
 //! - `race CPUS LOOKERS TIMES`: so many CPUs, each on a thread of its own, execute TEST SUBCHANNEL under the lock, so many times
@@ -24,7 +23,7 @@ mod seats;
 
 use crate::bench::{Bench, Count, config_of};
 use crate::cycle::Kind;
-use crate::floor::Placed;
+use crate::floor::{Answering, Placed};
 use crate::race::{Race, RaceCount};
 use crate::seats::{Outcome, Task};
 use path_select::Rotating;
@@ -108,11 +107,11 @@ impl Wanted {
 fn stepped(alloc: Global, kind: Kind, subchannels: u32, cycles: u64) -> Option<Count> {
     let config = config_of(alloc, subchannels, kind.paths())?;
     let subsystem = Subsystem::new(alloc, config, Rotating).ok()?;
-    let mut bench = Bench::at(alloc, subsystem, kind, subchannels)?;
+    let mut bench = Bench::at(alloc, Answering::of(subsystem), kind, subchannels)?;
     bench.measure(alloc, kind, cycles).ok()
 }
 
-/// The same, with one place for all answers and one for all reports.
+/// The same, with one place for all answers.
 fn placed(alloc: Global, kind: Kind, subchannels: u32, cycles: u64) -> Option<Count> {
     let config = config_of(alloc, subchannels, kind.paths())?;
     let subsystem = Subsystem::new(alloc, config, Rotating).ok()?;

@@ -161,7 +161,11 @@ pub fn run_race<J: Naming + Send + Sync, R: Threads + Wait + Sync>(
     race: Race,
 ) -> Option<RaceCount> {
     let bench = Bench::at(alloc, seated, Kind::Test, 1)?;
-    let Seated { mut core, seat } = bench.into_floor();
+    let Seated {
+        mut core,
+        seat,
+        report: _,
+    } = bench.into_floor();
     let mut runners = runners_of(alloc, &mut core, race)?;
     let machine = Machine::new(core);
     for_each_mut(

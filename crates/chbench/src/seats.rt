@@ -6,7 +6,7 @@ ghost use Rattle.core_lock.specs.Directory.{directory_of};
 
 use crate::bench::{Bench, Count, config_of};
 use crate::cycle::Kind;
-use crate::floor::Seated;
+use crate::floor::{ReportPlace, Seated};
 use crate::race::{Race, RaceCount, run_race};
 use core_lock::locked::Core;
 use core_lock::naming::Naming;
@@ -70,7 +70,11 @@ fn seated<J: Naming>(
     };
     let mut core = core;
     let seat = core.seat().ok()?;
-    Some(Seated { core, seat })
+    Some(Seated {
+        core,
+        seat,
+        report: ReportPlace::new(),
+    })
 }
 
 /// Cycles at a core, by its first seat.

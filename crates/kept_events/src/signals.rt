@@ -188,24 +188,35 @@ impl KeptDown {
         requires { spec.down_length self.now ≤ length bytes.now }
         ensures { result ≡ spec.down_in self.now bytes.now }
     {
+        let mut signal = Down::Select { number: 0 };
+        self.with_to(bytes, &mut signal);
+        signal
+    }
+
+    /// The signal with the first of these bytes, written where it is wanted.
+    #[inline(always)]
+    pub fn with_to(&self, bytes: &[u8], signal: &mut Down)
+        requires { spec.down_length self.now ≤ length bytes.now }
+        ensures { signal.new ≡ spec.down_in self.now bytes.now }
+    {
         match self {
-            KeptDown::Select { number } => Down::Select { number: *number },
+            KeptDown::Select { number } => *signal = Down::Select { number: *number },
             KeptDown::Command {
                 code,
                 room,
                 number,
                 command,
-            } => Down::Command {
+            } => *signal = Down::Command {
                 number: *number,
                 command: *command,
                 code: *code,
                 room: *room,
             },
-            KeptDown::Grant { number, connection } => Down::Grant {
+            KeptDown::Grant { number, connection } => *signal = Down::Grant {
                 number: *number,
                 connection: *connection,
             },
-            KeptDown::Refuse { number, connection } => Down::Refuse {
+            KeptDown::Refuse { number, connection } => *signal = Down::Refuse {
                 number: *number,
                 connection: *connection,
             },
@@ -214,7 +225,7 @@ impl KeptDown {
                 number,
                 command,
                 sequence,
-            } => Down::Took {
+            } => *signal = Down::Took {
                 number: *number,
                 command: *command,
                 sequence: *sequence,
@@ -226,20 +237,20 @@ impl KeptDown {
                 connection,
                 command,
                 sequence,
-            } => Down::Give {
+            } => *signal = Down::Give {
                 number: *number,
                 connection: *connection,
                 command: *command,
                 sequence: *sequence,
                 bytes: chunk_of(*length, bytes),
             },
-            KeptDown::Halt { number } => Down::Halt { number: *number },
-            KeptDown::Release { number } => Down::Release { number: *number },
-            KeptDown::Reset { number, restarts } => Down::Reset {
+            KeptDown::Halt { number } => *signal = Down::Halt { number: *number },
+            KeptDown::Release { number } => *signal = Down::Release { number: *number },
+            KeptDown::Reset { number, restarts } => *signal = Down::Reset {
                 number: *number,
                 restarts: *restarts,
             },
-            KeptDown::Got { attention } => Down::Got {
+            KeptDown::Got { attention } => *signal = Down::Got {
                 attention: *attention,
             },
         }
@@ -330,14 +341,25 @@ impl KeptUp {
         requires { spec.up_length self.now ≤ length bytes.now }
         ensures { result ≡ spec.up_in self.now bytes.now }
     {
+        let mut signal = Up::Accept { number: 0 };
+        self.with_to(bytes, &mut signal);
+        signal
+    }
+
+    /// The signal with the first of these bytes, written where it is wanted.
+    #[inline(always)]
+    pub fn with_to(&self, bytes: &[u8], signal: &mut Up)
+        requires { spec.up_length self.now ≤ length bytes.now }
+        ensures { signal.new ≡ spec.up_in self.now bytes.now }
+    {
         match self {
-            KeptUp::Accept { number } => Up::Accept { number: *number },
-            KeptUp::Busy { number } => Up::Busy { number: *number },
-            KeptUp::Leave { number, connection } => Up::Leave {
+            KeptUp::Accept { number } => *signal = Up::Accept { number: *number },
+            KeptUp::Busy { number } => *signal = Up::Busy { number: *number },
+            KeptUp::Leave { number, connection } => *signal = Up::Leave {
                 number: *number,
                 connection: *connection,
             },
-            KeptUp::Back { number, connection } => Up::Back {
+            KeptUp::Back { number, connection } => *signal = Up::Back {
                 number: *number,
                 connection: *connection,
             },
@@ -347,7 +369,7 @@ impl KeptUp {
                 connection,
                 command,
                 sequence,
-            } => Up::Data {
+            } => *signal = Up::Data {
                 number: *number,
                 connection: *connection,
                 command: *command,
@@ -360,7 +382,7 @@ impl KeptUp {
                 connection,
                 command,
                 sequence,
-            } => Up::Data {
+            } => *signal = Up::Data {
                 number: *number,
                 connection: *connection,
                 command: *command,
@@ -372,18 +394,18 @@ impl KeptUp {
                 more,
                 number,
                 command,
-            } => Up::End {
+            } => *signal = Up::End {
                 number: *number,
                 command: *command,
                 status: *status,
                 more: *more,
             },
-            KeptUp::Released { number } => Up::Released { number: *number },
-            KeptUp::Cleared { number } => Up::Cleared { number: *number },
-            KeptUp::Notice { restarts } => Up::Notice {
+            KeptUp::Released { number } => *signal = Up::Released { number: *number },
+            KeptUp::Cleared { number } => *signal = Up::Cleared { number: *number },
+            KeptUp::Notice { restarts } => *signal = Up::Notice {
                 restarts: *restarts,
             },
-            KeptUp::Attn { status, attention } => Up::Attn {
+            KeptUp::Attn { status, attention } => *signal = Up::Attn {
                 attention: *attention,
                 status: *status,
             },

@@ -1,8 +1,9 @@
 //! A place for the answer of an event.
 
-ghost use Rattle.std.specs.Prelude.{◌≡◌, ◌≤◌, ◌++◌, Ok, Err, IsErr, ℕ, List, length};
+ghost use Rattle.std.specs.Prelude.{◌≡◌, ◌≤◌, ◌++◌, Ok, Err, IsErr, ℕ, List, length, take};
 ghost use Rattle.std.specs.Bool.{OnTrue, OnFalse};
 ghost use Rattle.signal_places.specs.Answers.{answer_at, reply_at};
+ghost use Rattle.signal_places.specs.Places.{down_at, up_at};
 ghost use Rattle.signal_places.specs.Plain.{plain_outcome};
 ghost use Rattle.chan_events.specs.declared.reply.Reply.TheVariants as reply_spec;
 
@@ -12,6 +13,7 @@ use crate::sent::{SentDown, SentUp};
 use crate::signals::{DownPlace, UpPlace};
 use chan_events::reply::Reply;
 use chan_model::fault::Fault;
+use chan_model::signal::{Down, Up};
 use kept_events::lengths::{Length, chunk_of};
 
 /// Which answer stands in a place.
@@ -87,19 +89,55 @@ impl AnswerPlace {
         match &self.outcome {
             Outcome::Refused(fault) => *answer = Err(*fault),
             Outcome::Replied(plain) => plain.reply_to(answer),
-            Outcome::Shown { length } => *answer = Ok(Reply::Shown {
-                bytes: chunk_of(*length, &self.up.bytes),
-            }),
-            Outcome::MetUp { taken } => *answer = Ok(Reply::Up {
-                signal: self.up.signal(),
-                taken: *taken,
-                sent: self.sent_down.signal(),
-            }),
-            Outcome::MetDown { taken } => *answer = Ok(Reply::Down {
-                signal: self.down.signal(),
-                taken: *taken,
-                sent: self.sent_up.signal(),
-            }),
+            Outcome::Shown { length } => self.shown_to(*length, answer),
+            Outcome::MetUp { taken } => self.met_up_to(*taken, answer),
+            Outcome::MetDown { taken } => self.met_down_to(*taken, answer),
+        }
+    }
+
+    /// The reply that shows bytes of storage, written where it is wanted.
+    #[inline(never)]
+    fn shown_to(&self, length: Length, answer: &mut Result<Reply, Fault>)
+        ensures { answer.new ≡ Ok (reply_spec.Shown (take length.bytes self.now.up.bytes)) }
+    {
+        *answer = Ok(Reply::Shown {
+            bytes: chunk_of(length, &self.up.bytes),
+        });
+    }
+
+    /// The reply that a subchannel met the signal up, written where it is wanted.
+    #[inline(never)]
+    fn met_up_to(&self, taken: bool, answer: &mut Result<Reply, Fault>)
+        ensures { answer.new ≡ Ok (reply_spec.Up (up_at self.now.up) taken self.now.sent_down) }
+    {
+        *answer = Ok(Reply::Up {
+            signal: Up::Accept { number: 0 },
+            taken,
+            sent: None,
+        });
+        if let Ok(reply) = answer
+            && let Reply::Up { signal, sent, .. } = reply
+        {
+            self.up.signal_to(signal);
+            self.sent_down.signal_to(sent);
+        }
+    }
+
+    /// The reply that a unit met the signal down, written where it is wanted.
+    #[inline(never)]
+    fn met_down_to(&self, taken: bool, answer: &mut Result<Reply, Fault>)
+        ensures { answer.new ≡ Ok (reply_spec.Down (down_at self.now.down) taken self.now.sent_up) }
+    {
+        *answer = Ok(Reply::Down {
+            signal: Down::Select { number: 0 },
+            taken,
+            sent: None,
+        });
+        if let Ok(reply) = answer
+            && let Reply::Down { signal, sent, .. } = reply
+        {
+            self.down.signal_to(signal);
+            self.sent_up.signal_to(sent);
         }
     }
 }

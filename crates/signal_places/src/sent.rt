@@ -117,6 +117,24 @@ impl SentDown {
             }),
         }
     }
+
+    /// The signal that is sent, written where there was none.
+    #[inline(always)]
+    pub fn signal_to(&self, sent: &mut Option<OnPath<Down>>)
+        requires { sent.old ≡ None }
+        ensures { sent.new ≡ self.now }
+    {
+        let Some(path) = self.path else {
+            return;
+        };
+        *sent = Some(OnPath {
+            path,
+            signal: Down::Select { number: 0 },
+        });
+        if let Some(on) = sent {
+            self.place.signal_to(&mut on.signal);
+        }
+    }
 }
 
 /// A signal up that is sent on a path, or none.
@@ -219,6 +237,24 @@ impl SentUp {
                 path,
                 signal: self.place.signal(),
             }),
+        }
+    }
+
+    /// The signal that is sent, written where there was none.
+    #[inline(always)]
+    pub fn signal_to(&self, sent: &mut Option<OnPath<Up>>)
+        requires { sent.old ≡ None }
+        ensures { sent.new ≡ self.now }
+    {
+        let Some(path) = self.path else {
+            return;
+        };
+        *sent = Some(OnPath {
+            path,
+            signal: Up::Accept { number: 0 },
+        });
+        if let Some(on) = sent {
+            self.place.signal_to(&mut on.signal);
         }
     }
 }

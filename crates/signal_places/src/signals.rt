@@ -66,6 +66,14 @@ impl DownPlace {
         self.kept.with(&self.bytes)
     }
 
+    /// The signal that stands there, written where it is wanted.
+    #[inline(always)]
+    pub fn signal_to(&self, signal: &mut Down)
+        ensures { signal.new ≡ down_at self.now }
+    {
+        self.kept.with_to(&self.bytes, signal)
+    }
+
     /// Its numbers.
     pub fn kept(&self) -> KeptDown
         ensures kept { (rest : List ℕ) → kept_spec.down_in result (kept_spec.down_bytes (down_at self.now) ++ rest) ≡ down_at self.now }
@@ -124,6 +132,14 @@ impl UpPlace {
         ensures { result ≡ up_at self.now }
     {
         self.kept.with(&self.bytes)
+    }
+
+    /// The signal that stands there, written where it is wanted.
+    #[inline(always)]
+    pub fn signal_to(&self, signal: &mut Up)
+        ensures { signal.new ≡ up_at self.now }
+    {
+        self.kept.with_to(&self.bytes, signal)
     }
 
     /// Its numbers.
