@@ -437,8 +437,9 @@ fn names_no_instruction(word: &[u8]) -> bool
     ensures { result ≡ true → (cpu : Option ℕ) → (words : List (List ℕ)) → spec.executed_row cpu word.now words ≡ None }
 {
     match word {
-        [] => false,
-        [first, ..] => *first == b'd' || *first == b'u',
+        [b'd' | b'u', ..] => true,
+        [b'c', b'h', ..] => true,
+        _ => false,
     }
 }
 

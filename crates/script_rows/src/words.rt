@@ -103,8 +103,11 @@ fn hex_value(byte: u8) -> Option<u8>
     ensures value { result ≡ spec.hex_value byte }
     ensures small { IfSome result (λ d. d < 16) }
 {
+    let digit = byte.wrapping_sub(b'0');
+    if digit < 10 {
+        return Some(digit);
+    }
     match byte {
-        b'0'..=b'9' => Some(byte - b'0'),
         b'A'..=b'F' => Some(byte - b'A' + 10),
         b'a'..=b'f' => Some(byte - b'a' + 10),
         _ => None,
@@ -126,8 +129,9 @@ fn hex_from(word: &[u8]) -> Option<u32>
     Some(value)
 }
 
-/// A number of 1 to 8 hexadecimal digits.
-pub(crate) fn number(word: &[u8]) -> Option<u32>
+/// A number of 1 to 8 hexadecimal digits, of which most that come here have several.
+#[inline(never)]
+fn long_number(word: &[u8]) -> Option<u32>
     ensures value { result ≡ spec.number word.now }
     ensures short { IfSome result (λ n. length word.now ≤ 4 → n < 0x10000) }
 {
@@ -135,6 +139,20 @@ pub(crate) fn number(word: &[u8]) -> Option<u32>
         return None;
     }
     hex_from(word)
+}
+
+/// A number of 1 to 8 hexadecimal digits; most have one.
+pub(crate) fn number(word: &[u8]) -> Option<u32>
+    ensures value { result ≡ spec.number word.now }
+    ensures short { IfSome result (λ n. length word.now ≤ 4 → n < 0x10000) }
+{
+    match word {
+        [digit] => match hex_value(*digit) {
+            Some(digit) => Some(u32::from(digit)),
+            None => None,
+        },
+        _ => long_number(word),
+    }
 }
 
 /// A number that is at most `most`.
