@@ -1,20 +1,21 @@
 //! Reading a script line by line.
 
-ghost use Rattle.std.specs.Prelude.{◌≡◌, ◌≢◌, ◌∷◌, ℕ, Bool, List, true, MatchOption, IfSome, IfNone, OnOk, OnErr, IfErr, IfOk, None, Ok, Err, length, map};
+ghost use Rattle.std.specs.Prelude.{◌≡◌, ◌≢◌, ◌∷◌, ℕ, Bool, List, true, Some, OnOk, OnErr, IfErr, IfOk, None, Ok, Err, length, map};
 ghost use Rattle.script.specs.Pieces.{lines_of, words_between_blanks};
 ghost use Rattle.script.specs.Saying.{Sets, action_said, first_is_storage, has_words as words_stand, is_ascii, race_said, words_say};
 ghost use Rattle.script_rows.specs.Actions.{action_row};
+ghost use Rattle.script_rows.specs.Places.{action_at, row_at};
 ghost use Rattle.script.specs.Scripts as spec;
 ghost use Rattle.script.specs.Drafts.{context, Hears, IsNext, IsDraftOf};
 ghost use Rattle.script.specs.Reading.{BreaksRule, BadIn, bad_by};
 
 use crate::lines::Lines;
 use crate::pieces::{STEP, count, find};
-use crate::said::{has_words, is_readable, names_action};
+use crate::said::{has_words, is_readable};
 use crate::text::{TextLine, some_have_words};
 use crate::{RaceLine, ScriptBad};
 use channel_config::config::{Config, ConfigFault};
-use script_rows::actions::action_row;
+use script_rows::actions::{action_row, common_row};
 use script_rows::places::ActionPlace;
 use script_rows::race::{Race, race_row};
 use script_rows::settings::{Setting, configure, setting_row};
@@ -91,41 +92,33 @@ fn race(
     Ok(())
 }
 
-/// Takes what the words of a line say before a text of more lines, where the first of them is one of a configuration line or of a
-/// race: apart, as most lines are neither.
-#[cold]
-#[inline(never)]
-fn hear_other<S: Supply>(
-    alloc: Global,
+/// Takes the action that stands in a place, or the rule that its line breaks.
+#[inline(always)]
+fn act<S: Supply>(
     supply: &mut S,
     draft: &mut Draft,
+    place: &ActionPlace,
     number: u64,
-    word: &[u8],
-    words: &[&[u8]],
-    races: bool,
-    later: &[u8],
-) -> Option<Result<(), LineFault>>
-    ensures ok { IfSome result (λ heard. OnOk heard ((spec.broken_by (context draft.old) (spec.may_race races (lines_of later.now)) (words_say (word.now ∷ map (λ w. w.now) words.now)) ≡ None) ×
-        Hears draft.old number (words_say (word.now ∷ map (λ w. w.now) words.now)) draft.new)) }
-    ensures err { IfSome result (λ heard. IfErr heard (λ f. BreaksRule f (spec.broken_by (context draft.old) (spec.may_race races (lines_of later.now)) (words_say (word.now ∷ map (λ w. w.now) words.now))))) }
-    ensures none { IfNone result ((words_say (word.now ∷ map (λ w. w.now) words.now) ≡ action_said (action_row word.now (map (λ w. w.now) words.now))) ×
-        (draft.new ≡ draft.old)) }
-    ensures given { MatchOption result (S.refused supply.new ≡ S.refused supply.old) (λ heard. OnOk heard (S.refused supply.new ≡ S.refused supply.old)) }
-    ensures memory { IfSome result (λ heard. heard ≡ Err LineFault.NoMemory → S.refused supply.new ≡ true) }
+    said: Result<(), u8>,
+) -> Result<(), LineFault>
+    ensures ok { OnOk result ((may : Bool) → (spec.broken_by (context draft.old) may (action_said (Some (row_at said (action_at place.now)))) ≡ None) ×
+        Hears draft.old number (action_said (Some (row_at said (action_at place.now)))) draft.new) }
+    ensures err { IfErr result (λ f. (may : Bool) → BreaksRule f (spec.broken_by (context draft.old) may (action_said (Some (row_at said (action_at place.now)))))) }
+    ensures given { OnOk result (S.refused supply.new ≡ S.refused supply.old) }
+    ensures memory { result ≡ Err LineFault.NoMemory → S.refused supply.new ≡ true }
 {
-    match setting_row(alloc, supply, word, words) {
-        Some(Ok(setting)) => return Some(set(supply, draft, &setting)),
-        Some(Err(fault)) => return Some(Err(fault)),
-        None => {}
+    match said {
+        Ok(()) => {
+            draft.lines.add(supply, number, place)?;
+            draft.acted = true;
+            Ok(())
+        }
+        Err(rule) => Err(LineFault::Rule(rule)),
     }
-    if is_name(word, b"race".as_slice()) {
-        return Some(race(draft, number, race_row(words), races, later));
-    }
-    None
 }
 
 /// Takes what the words of a line ask the machine for, by the first of them; the action is written to a place.
-fn act<S: Supply>(
+fn drive<S: Supply>(
     supply: &mut S,
     draft: &mut Draft,
     place: &mut ActionPlace,
@@ -140,17 +133,43 @@ fn act<S: Supply>(
     ensures memory { result ≡ Err LineFault.NoMemory → S.refused supply.new ≡ true }
 {
     match action_row(place, word, words) {
-        Some(Ok(())) => {
-            draft.lines.add(supply, number, place)?;
-            draft.acted = true;
-            Ok(())
-        }
-        Some(Err(rule)) => Err(LineFault::Rule(rule)),
+        Some(said) => act(supply, draft, place, number, said),
         None => Err(LineFault::Rule(1)),
     }
 }
 
-/// Takes what the words of a line say before a text of more lines, by the first of them.
+/// Takes what the words of a line say before a text of more lines, by the first of them: apart, as most lines are common ones.
+#[cold]
+#[inline(never)]
+fn hear_other<S: Supply>(
+    alloc: Global,
+    supply: &mut S,
+    draft: &mut Draft,
+    place: &mut ActionPlace,
+    number: u64,
+    word: &[u8],
+    words: &[&[u8]],
+    races: bool,
+    later: &[u8],
+) -> Result<(), LineFault>
+    ensures ok { OnOk result ((spec.broken_by (context draft.old) (spec.may_race races (lines_of later.now)) (words_say (word.now ∷ map (λ w. w.now) words.now)) ≡ None) ×
+        Hears draft.old number (words_say (word.now ∷ map (λ w. w.now) words.now)) draft.new) }
+    ensures err { IfErr result (λ f. BreaksRule f (spec.broken_by (context draft.old) (spec.may_race races (lines_of later.now)) (words_say (word.now ∷ map (λ w. w.now) words.now)))) }
+    ensures given { OnOk result (S.refused supply.new ≡ S.refused supply.old) }
+    ensures memory { result ≡ Err LineFault.NoMemory → S.refused supply.new ≡ true }
+{
+    match setting_row(alloc, supply, word, words) {
+        Some(Ok(setting)) => return set(supply, draft, &setting),
+        Some(Err(fault)) => return Err(fault),
+        None => {}
+    }
+    if is_name(word, b"race".as_slice()) {
+        return race(draft, number, race_row(words), races, later);
+    }
+    drive(supply, draft, place, number, word, words)
+}
+
+/// Takes what the words of a line say, by the first of them.
 fn hear<S: Supply>(
     alloc: Global,
     supply: &mut S,
@@ -159,24 +178,26 @@ fn hear<S: Supply>(
     number: u64,
     words: &[&[u8]],
     races: bool,
-    later: &[u8],
+    line: &TextLine<'_>,
 ) -> Result<(), LineFault>
-    ensures ok { OnOk result ((spec.broken_by (context draft.old) (spec.may_race races (lines_of later.now)) (words_say (map (λ w. w.now) words.now)) ≡ None) ×
+    ensures ok { OnOk result ((spec.broken_by (context draft.old) (spec.may_race races line.now.later) (words_say (map (λ w. w.now) words.now)) ≡ None) ×
         Hears draft.old number (words_say (map (λ w. w.now) words.now)) draft.new) }
-    ensures err { IfErr result (λ f. BreaksRule f (spec.broken_by (context draft.old) (spec.may_race races (lines_of later.now)) (words_say (map (λ w. w.now) words.now)))) }
+    ensures err { IfErr result (λ f. BreaksRule f (spec.broken_by (context draft.old) (spec.may_race races line.now.later) (words_say (map (λ w. w.now) words.now)))) }
     ensures given { OnOk result (S.refused supply.new ≡ S.refused supply.old) }
     ensures memory { result ≡ Err LineFault.NoMemory → S.refused supply.new ≡ true }
 {
     let [first, others @ ..] = words else {
         return Err(LineFault::Rule(1));
     };
-    if !names_action(first) {
-        let heard = hear_other(alloc, supply, draft, number, first, others, races, later);
-        if let Some(heard) = heard {
-            return heard;
+    match common_row(place, first, others) {
+        Some(said) => act(supply, draft, place, number, said),
+        None => {
+            let later = line.later();
+            hear_other(
+                alloc, supply, draft, place, number, first, others, races, later,
+            )
         }
     }
-    act(supply, draft, place, number, first, others)
 }
 
 /// Takes a line that has words: they are written to a list, and its action to a place. `plain`: it is known to be of ASCII.
@@ -206,7 +227,6 @@ fn take_words<'a, S: Supply>(
         return Err(LineFault::Rule(3));
     }
     line.words_to(supply, words)?;
-    let later = line.later();
     hear(
         alloc,
         supply,
@@ -215,7 +235,7 @@ fn take_words<'a, S: Supply>(
         number,
         words.as_slice(),
         races,
-        later,
+        line,
     )?;
     draft.begun = true;
     Ok(())

@@ -3,7 +3,6 @@
 ghost use Rattle.std.specs.Prelude.{◌≡◌, ◌||◌, ◌∷◌, ℕ, List, length, nat_lt, not, true};
 ghost use Rattle.std.specs.Str.{is_utf8};
 ghost use Rattle.script.specs.Saying as spec;
-ghost use Rattle.script_rows.specs.Actions.{action_row};
 
 use std::str::from_utf8;
 
@@ -63,15 +62,4 @@ pub fn is_readable(plain: bool, line: &[u8]) -> bool
     ensures { result ≡ not (nat_lt 1024 (length line.now) || not (is_utf8 line.now)) }
 {
     line.len() <= LINE_BYTES && is_text(plain, line)
-}
-
-/// Whether a word begins as no name of a configuration line or of a race does, and the first words of most lines do.
-pub fn names_action(word: &[u8]) -> bool
-    ensures { result ≡ true → (words : List (List ℕ)) → spec.words_say (word.now ∷ words) ≡ spec.action_said (action_row word.now words) }
-{
-    match word {
-        [b'c' | b'd' | b't', ..] => true,
-        [b'u', b'p', ..] => true,
-        _ => false,
-    }
 }

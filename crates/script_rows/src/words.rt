@@ -103,11 +103,8 @@ fn hex_value(byte: u8) -> Option<u8>
     ensures value { result ≡ spec.hex_value byte }
     ensures small { IfSome result (λ d. d < 16) }
 {
-    let digit = byte.wrapping_sub(b'0');
-    if digit < 10 {
-        return Some(digit);
-    }
     match byte {
+        b'0'..=b'9' => Some(byte - b'0'),
         b'A'..=b'F' => Some(byte - b'A' + 10),
         b'a'..=b'f' => Some(byte - b'a' + 10),
         _ => None,
@@ -141,16 +138,14 @@ fn long_number(word: &[u8]) -> Option<u32>
     hex_from(word)
 }
 
-/// A number of 1 to 8 hexadecimal digits; most have one.
+/// A number of 1 to 8 hexadecimal digits; most have one, which is decimal.
+#[inline(always)]
 pub(crate) fn number(word: &[u8]) -> Option<u32>
     ensures value { result ≡ spec.number word.now }
     ensures short { IfSome result (λ n. length word.now ≤ 4 → n < 0x10000) }
 {
     match word {
-        [digit] => match hex_value(*digit) {
-            Some(digit) => Some(u32::from(digit)),
-            None => None,
-        },
+        [digit @ b'0'..=b'9'] => Some(u32::from(*digit - b'0')),
         _ => long_number(word),
     }
 }
@@ -270,13 +265,25 @@ pub(crate) fn hex_bytes(word: &[u8]) -> Option<Chunk>
     bytes_from(word)
 }
 
+/// The subsystem-identification word of a subchannel, of which most that come here have several digits.
+#[inline(never)]
+fn long_subchannel(word: &[u8]) -> Option<u32>
+    ensures { result ≡ spec.subchannel word.now }
+{
+    match long_number(word) {
+        Some(n) if word.len() <= 4 => Some(0x1_0000 + n),
+        other => other,
+    }
+}
+
 /// The subsystem-identification word of a subchannel: 5 to 8 digits are the whole word, up to 4 digits its right half.
+#[inline(always)]
 pub(crate) fn subchannel(word: &[u8]) -> Option<u32>
     ensures { result ≡ spec.subchannel word.now }
 {
-    match number(word) {
-        Some(n) if word.len() <= 4 => Some(0x1_0000 + n),
-        other => other,
+    match word {
+        [digit @ b'0'..=b'9'] => Some(0x1_0000 + u32::from(*digit - b'0')),
+        _ => long_subchannel(word),
     }
 }
 
