@@ -1,8 +1,8 @@
 -- One more line of a draft.
-use Rattle.std.proofs.Common.{◌≡◌, ℕ, ◌+◌, ◌-◌, ◌<◌, Bool, true, false, ◌||◌, List, [], ◌∷◌, ◌++◌, length, take, drop, get_or, map, ap, ◌∙◌, refl, sym, suc, zero, arith, append_assoc, append-nil, subst, inl, inr}
-use Rattle.std.specs.Prelude.{Option, None, Some, Result, Ok, Err, IfErr, IsErrAnd}
+use Rattle.std.proofs.Common.{◌≡◌, ℕ, ◌+◌, ◌<◌, Bool, true, false, ◌||◌, List, [], ◌∷◌, ◌++◌, length, take, drop, get_or, ap, ◌∙◌, refl, sym, suc, arith, append_assoc, append-nil, subst, inl, inr}
+use Rattle.std.specs.Prelude.{not, ◌&&◌, nat_lt, if◌then◌else◌, Option, None, Some, Result, Ok, Err, IfErr, OnOk}
 use Rattle.std.specs.List.{list_any, flat_map}
-use Rattle.std.proofs.lemmas.List.{take_all, take_more, length-drop, length-take-le}
+use Rattle.std.proofs.lemmas.List.{take_more, length-drop, length-take-le}
 use Rattle.std.proofs.lemmas.List.Folds.{list_any-append}
 use Rattle.std.proofs.lemmas.Grind.{flat_map-append}
 use Rattle.std.proofs.lemmas.Bool.Decides.{eqb_tells}
@@ -12,14 +12,15 @@ use Rattle.script_rows.specs.Settings.{configured}
 use Rattle.script.specs.declared.Line.{Line}
 use Rattle.script.specs.declared.RaceLine.{RaceLine}
 use Rattle.script.specs.declared.draft.Draft.{Draft}
-use Rattle.script.specs.Saying.{said, has_words}
-use Rattle.script.specs.Scripts.{setup_kept, setting_of, action_of, race_of, is_action, set_up, actions_from, latest, race_from, may_race, AreClean, fault_at, fault, IsScript}
+use Rattle.script.specs.Saying.{Said, Nothing, Sets, first_is_storage, said, has_words, words_say}
+use Rattle.script.specs.Pieces.{words_between_blanks}
+use Rattle.script_rows.specs.Faults.{Says}
+use Rattle.std.specs.Str.{is_utf8}
+use Rattle.script.specs.Scripts.{setup_kept, setting_of, action_of, race_of, is_action, set_up, actions_from, latest, race_from, may_race, broken_by, AreClean, fault_at, fault}
 use Rattle.script_rows.specs.declared.words.LineFault.{LineFault}
 use Rattle.script_rows.specs.declared.words.LineFault.TheVariants as line_fault
-use Rattle.script.specs.Reading.{BadIn, BadAt, BreaksRule, bad_by}
-use Rattle.script.specs.declared.ScriptBad.{ScriptBad}
-use Rattle.script.specs.declared.ScriptBad.TheVariants.{NoMemory, Bad}
-use Rattle.script.specs.Drafts.{context, IsNext, IsDraftOf}
+use Rattle.script.specs.Reading.{BadIn, BreaksRule, bad_by}
+use Rattle.script.specs.Drafts.{context, Hears, IsNext, IsDraftOf}
 
 or-false : (a : Bool) → (a || false) ≡ a
 or-false true = refl
@@ -112,41 +113,63 @@ drafted races lines i n old new line later lt num e after h f t =
           ∙ sym (race-more 1 (take i lines) line) ∙ ap (race_from 1) (sym grown);
     }
 
-pub get-map_at : {A : Type 0} (f : A → List ℕ) (xs : List A) (i : ℕ) (d : A) → i < length xs → f (get_or xs i d) ≡ get_or (map f xs) i []
-get-map_at f [] i d lt = absurd (omega arith)
-get-map_at f (y ∷ ys) zero d lt = refl
-get-map_at f (y ∷ ys) (suc i) d lt = get-map_at f ys i d (omega arith)
+-- a setting that is taken or refused is what the line says
+pub set-ok : (r : Result Unit LineFault) (old new : Draft) (setting : Setting) (number : ℕ) (may : Bool) (what : Result Said ℕ) → what ≡ Ok (Sets setting) →
+    OnOk r ((n : ℕ) (m : Bool) → (broken_by (context old) m (Ok (Sets setting)) ≡ None) × Hears old n (Ok (Sets setting)) new) →
+    OnOk r ((broken_by (context old) may what ≡ None) × Hears old number what new)
+set-ok (Ok done) old new setting number may what e h =
+    subst (λ (w : Result Said ℕ). (broken_by (context old) may w ≡ None) × Hears old number w new) (sym e) (h number may)
+set-ok (Err fault) old new setting number may what e h = tt
 
-drop-map : {A : Type 0} (f : A → List ℕ) (n : ℕ) (xs : List A) → map f (drop n xs) ≡ drop n (map f xs)
-drop-map f zero xs = refl
-drop-map f (suc n) [] = refl
-drop-map f (suc n) (x ∷ xs) = drop-map f n xs
+pub set-err : (r : Result Unit LineFault) (old : Draft) (setting : Setting) (may : Bool) (what : Result Said ℕ) → what ≡ Ok (Sets setting) →
+    IfErr r (λ f. (m : Bool) → BreaksRule f (broken_by (context old) m (Ok (Sets setting)))) →
+    IfErr r (λ f. BreaksRule f (broken_by (context old) may what))
+set-err (Ok done) old setting may what e h = tt
+set-err (Err fault) old setting may what e h = subst (λ (w : Result Said ℕ). BreaksRule fault (broken_by (context old) may w)) (sym e) (h may)
 
-pub rest-map : {A : Type 0} (f : A → List ℕ) (n : ℕ) (xs : List A) → map f (take (length xs - n) (drop n xs)) ≡ drop n (map f xs)
-rest-map f n xs = ap (map f) (take_all (length xs - n) (drop n xs) (omega (arith, length-drop n xs))) ∙ drop-map f n xs
+pub says-of : (r : Result Setting LineFault) (setting : Setting) (said : Option (Result Setting ℕ)) → r ≡ Ok setting → Says r said → said ≡ Some (Ok setting)
+says-of r setting said e h = subst (λ (x : Result Setting LineFault). Says x said) e h
 
-pub list_any-map : {A B : Type 0} (p : B → Bool) (f : A → B) (xs : List A) → list_any p (map f xs) ≡ list_any (λ x. p (f x)) xs
-list_any-map p f [] = refl
-list_any-map p f (x ∷ xs) = ap (λ (b : Bool). p (f x) || b) (list_any-map p f xs)
+or-true : (b : Bool) → (b || true) ≡ true
+or-true true = refl
+or-true false = refl
 
--- the draft of all lines is the script
-pub script_of-draft : (races : Bool) (text : List (List ℕ)) (i : ℕ) (d : Draft) → i ≡ length text → list_any has_words text ≡ true → IsDraftOf races text i d
-    → IsScript races text (record { setup = d.config; lines = d.lines; race = d.race })
-script_of-draft races text i d e begun h =
-    let whole : take i text ≡ text = take_all i text (omega arith) in
+-- a line that has words, and breaks no rule, is taken as its words say
+pub record IsWorded (old : Draft) (line : List ℕ) (parts : List (List ℕ)) : Type 0 where
+  pub worded : has_words line ≡ true
+  pub begun : (not old.begun && not (first_is_storage (words_between_blanks line))) ≡ false
+  pub readable : (nat_lt 1024 (length line) || not (is_utf8 line)) ≡ false
+  pub words : parts ≡ words_between_blanks line
+
+said-worded : (old : Draft) (line : List ℕ) (words : List (List ℕ)) → IsWorded old line words → said line ≡ words_say words
+said-worded old line words is =
+    ap (λ (b : Bool). if b then Err 3 else (if has_words line then words_say (words_between_blanks line) else Ok Nothing)) is.readable
+    ∙ ap (λ (b : Bool). if b then words_say (words_between_blanks line) else Ok Nothing) is.worded ∙ ap words_say (sym is.words)
+
+pub taken-clean : (old : Draft) (line : List ℕ) (words : List (List ℕ)) (may : Bool) → IsWorded old line words →
+    broken_by (context old) may (words_say words) ≡ None → fault (context old) may line ≡ None
+taken-clean old line words may is none =
+    let other = broken_by (context old) may (said line) in
+    ap (λ (b : Bool). if b && (not old.begun && not (first_is_storage (words_between_blanks line))) then Some 6 else other) is.worded
+    ∙ ap (λ (b : Bool). if b then Some 6 else other) is.begun
+    ∙ ap (broken_by (context old) may) (said-worded old line words is) ∙ none
+
+pub taken-next : (old mid : Draft) (n : ℕ) (line : List ℕ) (words : List (List ℕ)) → IsWorded old line words → Hears old n (words_say words) mid →
+    IsNext old n line (record { config = mid.config; begun = true; acted = mid.acted; lines = mid.lines; race = mid.race })
+taken-next old mid n line words is h =
+    let what = sym (said-worded old line words is) in
     record {
-      clean = subst (AreClean races text) e h.clean;
-      begun = begun;
-      setup = h.setup ∙ ap (λ (ls : List (List ℕ)). set_up no_setup (flat_map (λ line. setting_of (said line)) ls)) whole;
-      lines = h.lines ∙ ap (actions_from 1) whole;
-      race = h.race ∙ ap (race_from 1) whole;
+      begun = sym (ap (λ (b : Bool). old.begun || b) is.worded ∙ or-true old.begun);
+      acted = h.acted ∙ ap (λ (w : Result Said ℕ). old.acted || is_action w) what;
+      setup = h.setup ∙ ap (λ (w : Result Said ℕ). set_up old.config (setting_of w)) what;
+      lines = h.lines ∙ ap (λ (w : Result Said ℕ). old.lines ++ action_of n w) what;
+      race = h.race ∙ ap (λ (w : Result Said ℕ). latest old.race (race_of n w)) what;
     }
 
--- what is bad in lines some of which have words
-pub bad_at : (bad : ScriptBad) (races : Bool) (text : List (List ℕ)) → list_any has_words text ≡ true → BadIn bad races text → BadAt bad races text
-bad_at NoMemory races text words h = tt
-bad_at (Bad line rule) races text words h = inl (words, h)
-
-pub err_of : {A B : Type 0} (r : Result A B) (x : B) (P : B → Type 0) → IsErrAnd r (λ e. e ≡ x) → P x → IfErr r P
-err_of (Ok a) x P h p = tt
-err_of (Err e) x P h p = subst P (sym h) p
+-- the draft of all lines, behind the last of which no line follows
+pub all-drafted : (races : Bool) (lines : List (List ℕ)) (i : ℕ) (d : Draft) → i < length lines → [] ≡ drop (i + 1) lines → IsDraftOf races lines (i + 1) d →
+    IsDraftOf races lines (length lines) d
+all-drafted races lines i d less e h =
+    let none : 0 ≡ length (drop (i + 1) lines) = ap length e in
+    let at : i + 1 ≡ length lines = omega (arith, none, length-drop (i + 1) lines) in
+    subst (λ (n : ℕ). IsDraftOf races lines n d) at h

@@ -1,12 +1,10 @@
 -- The first piece of a text, by the place of the first separator.
 use Rattle.std.proofs.Common.{◌≡◌, ℕ, ◌+◌, ◌<◌, Bool, true, false, ◌&&◌, subst, List, [], ◌∷◌, ◌++◌, length, take, drop, get_or, map, ap, ◌∙◌, refl, sym, suc, zero, arith, inl, inr, append-nil, ◌≤◌, ◌-◌}
-use Rattle.std.proofs.lemmas.List.{take_all, drop_all, drop_more, drop-drop, get_or-drop}
+use Rattle.std.proofs.lemmas.List.{length-drop, take_all, drop_all, drop_more, drop-drop, get_or-drop}
 use Rattle.std.specs.Prelude.{if◌then◌else◌}
-use Rattle.std.specs.List.{AllPass, list_all}
-use Rattle.std.proofs.lemmas.List.Folds.{list_all-map}
-use Rattle.std.proofs.lemmas.List.Sums.{AllPass-from_list_all}
+use Rattle.std.specs.List.{list_all}
 use Rattle.std.proofs.lemmas.Bool.{and_parts, eq-eqb}
-use Rattle.std.proofs.lemmas.Bool.Decides.{eqb_tells}
+use Rattle.std.proofs.lemmas.Bool.Decides.{eqb_tells, leb_tells}
 use Rattle.script.specs.Pieces.{pieces, onto_first}
 
 pieces_at : (sep x : ℕ) (xs : List ℕ) → x ≡ sep → pieces sep (x ∷ xs) ≡ [] ∷ pieces sep xs
@@ -40,6 +38,17 @@ whole sep (x ∷ xs) (suc k) b e =
     let rest = whole sep xs k (λ j lt. let more : suc j < suc k = omega arith in b (suc j) more) e in
     pieces_past sep x xs (b 0 first) ∙ ap (onto_first x) rest
 
+leading : (ps : List (List ℕ)) (p : List ℕ) (qs : List (List ℕ)) → ps ≡ p ∷ qs → ps ≡ p ∷ drop 1 ps
+leading ps p qs e = e ∙ ap (λ (t : List (List ℕ)). p ∷ t) (sym (ap (drop 1) e))
+
+-- the first piece reaches to the first separator
+pub headed : (sep : ℕ) (xs : List ℕ) (k : ℕ) → k ≤ length xs → ((j : ℕ) → j < k → get_or xs j 0 ≡ sep → ⊥) → (k < length xs → get_or xs k 0 ≡ sep)
+    → pieces sep xs ≡ take k xs ∷ drop 1 (pieces sep xs)
+headed sep xs k within before found = elim (leb_tells (length xs) k) [
+  | inl h ↦ leading _ _ _ (whole sep xs k before (drop_all k xs h.1))
+  | inr h ↦ let less : k < length xs = h.1 in leading _ _ _ (cut sep xs k _ _ before found (drop_more xs k 0 less))
+]
+
 pushed : {A : Type 0} (f : A → List ℕ) (xs : List A) (x : A) (qs : List (List ℕ)) → map f (xs ++ x ∷ []) ++ qs ≡ map f xs ++ (f x ∷ qs)
 pushed f [] x qs = refl
 pushed f (y ∷ ys) x qs = ap (λ (t : List (List ℕ)). f y ∷ t) (pushed f ys x qs)
@@ -50,11 +59,16 @@ ended f items new x sep k rest bytes e g inv w =
     ap (map f) e ∙ sym (append-nil (map f (items ++ x ∷ []))) ∙ pushed f items x [] ∙ ap (λ (t : List ℕ). map f items ++ (t ∷ [])) g
     ∙ ap (λ (t : List (List ℕ)). map f items ++ t) (sym w) ∙ inv
 
+pub joined : {A : Type 0} (f : A → List ℕ) (items new : List A) (x : A) (sep : ℕ) (rest after bytes : List ℕ) → new ≡ items ++ x ∷ []
+    → map f items ++ pieces sep rest ≡ pieces sep bytes → pieces sep rest ≡ f x ∷ pieces sep after → map f new ++ pieces sep after ≡ pieces sep bytes
+joined f items new x sep rest after bytes e inv w =
+    ap (λ (t : List _). map f t ++ pieces sep after) e ∙ pushed f items x (pieces sep after)
+    ∙ ap (λ (t : List (List ℕ)). map f items ++ t) (sym w) ∙ inv
+
 pub parted : {A : Type 0} (f : A → List ℕ) (items new : List A) (x : A) (sep k : ℕ) (rest after bytes : List ℕ) → new ≡ items ++ x ∷ [] → f x ≡ take k rest
     → map f items ++ pieces sep rest ≡ pieces sep bytes → pieces sep rest ≡ take k rest ∷ pieces sep after → map f new ++ pieces sep after ≡ pieces sep bytes
 parted f items new x sep k rest after bytes e g inv w =
-    ap (λ (t : List _). map f t ++ pieces sep after) e ∙ pushed f items x (pieces sep after) ∙ ap (λ (t : List ℕ). map f items ++ (t ∷ pieces sep after)) g
-    ∙ ap (λ (t : List (List ℕ)). map f items ++ t) (sym w) ∙ inv
+    joined f items new x sep rest after bytes e inv (w ∙ ap (λ (t : List ℕ). t ∷ pieces sep after) (sym g))
 
 -- the piece between a place and the next separator
 pub next : (sep : ℕ) (xs : List ℕ) (start place : ℕ) → start ≤ place → place < length xs → ((k : ℕ) → start ≤ k → k < place → get_or xs k 0 ≡ sep → ⊥)
@@ -87,6 +101,22 @@ pub nothing : (others : List ℕ) → length others < 1 → others ≡ []
 nothing [] h = refl
 nothing (x ∷ xs) h = absurd (omega arith)
 
+-- all that is left of a text
+pub left : (xs : List ℕ) (count : ℕ) → take (length xs - count) (drop count xs) ≡ drop count xs
+left xs count = take_all (length xs - count) (drop count xs) (omega (arith, length-drop count xs))
+
+one_longer : (x : ℕ) (ps : List (List ℕ)) → length (onto_first x ps) ≤ length ps + 1
+one_longer x [] = omega arith
+one_longer x (p ∷ ps) = omega arith
+
+-- there is at most one piece more than bytes
+pub few-pieces : (sep : ℕ) (xs : List ℕ) → length (pieces sep xs) ≤ length xs + 1
+few-pieces sep [] = omega arith
+few-pieces sep (x ∷ xs) = elim (eqb_tells x sep) [
+  | inl h ↦ omega (arith, ap length (pieces_at sep x xs h.1), few-pieces sep xs)
+  | inr h ↦ omega (arith, ap length (pieces_past sep x xs h.1), one_longer x (pieces sep xs), few-pieces sep xs)
+]
+
 both : (a b : Bool) → a ≡ true → b ≡ true → (a && b) ≡ true
 both true b p q = q
 both false b p q = absurd (cc p)
@@ -105,8 +135,3 @@ all_in p sep (x ∷ xs) e =
       | inr h ↦ subst (λ (ps : List (List ℕ)). list_all (list_all p) ps ≡ true) (sym (ap (λ (b : Bool). if b then ([] ∷ pieces sep xs) else onto_first x (pieces sep xs)) h.0))
           (onto_all p x (pieces sep xs) parts.0 (all_in p sep xs parts.1))
     ]
-
-pub all_pass : {A : Type 0} (f : A → List ℕ) (items : List A) (p : ℕ → Bool) (sep : ℕ) (text : List ℕ) → map f items ≡ pieces sep text → list_all p text ≡ true
-    → AllPass (λ x. list_all p (f x)) items
-all_pass f items p sep text are e =
-    AllPass-from_list_all (λ x. list_all p (f x)) items (sym (list_all-map (list_all p) f items) ∙ ap (list_all (list_all p)) are ∙ all_in p sep text e)

@@ -4,3 +4,4 @@ pub mod Scripts
 pub mod Reading
 pub mod Drafts
 pub mod Keeping
+pub mod Following

@@ -5,8 +5,6 @@ use Rattle.std.specs.Str.{is_utf8, bytes_eq}
 use Rattle.script_rows.specs.declared.settings.Setting.{Setting}
 use Rattle.script_rows.specs.declared.Action.{Action}
 use Rattle.script_rows.specs.declared.race.Race.{Race}
-use Rattle.script.specs.declared.said.LineKind.{LineKind}
-use Rattle.script.specs.declared.said.LineKind.TheVariants as kind
 use Rattle.script.specs.Pieces.{words_between_blanks}
 use Rattle.script_rows.specs.Settings.{setting_row}
 use Rattle.script_rows.specs.Actions.{action_row}
@@ -18,18 +16,6 @@ pub data Said : Type 0 where
   Sets : (setting : Setting) → Said
   Does : (asked : Action) → Said
   Races : (race : Race) → Said
-
--- what a line of this kind says, whose action stands in a place
-abbrev pub said_by : LineKind → Action → Said
-said_by kind.Nothing asked = Nothing
-said_by (kind.Sets setting) asked = Sets setting
-said_by kind.Does asked = Does asked
-said_by (kind.Races race) asked = Races race
-
--- the kind of a line, or the rule that it breaks
-abbrev pub told_by : Result LineKind ℕ → Action → Result Said ℕ
-told_by (Ok line) asked = Ok (said_by line asked)
-told_by (Err rule) asked = Err rule
 
 -- rule 1: the first word is unknown
 abbrev pub action_said : Option (Result Action ℕ) → Result Said ℕ

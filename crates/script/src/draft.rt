@@ -1,22 +1,26 @@
 //! Reading a script line by line.
 
-ghost use Rattle.std.specs.Prelude.{◌≡◌, true, OnOk, IfErr, IfOk, None, Ok, Err, All, length, map};
-ghost use Rattle.script.specs.Pieces.{words_between_blanks};
-ghost use Rattle.script.specs.Saying.{first_is_storage, is_ascii, said_by};
-ghost use Rattle.script_rows.specs.Places.{action_at};
+ghost use Rattle.std.specs.Prelude.{◌≡◌, ◌≢◌, ◌∷◌, ℕ, Bool, List, true, Some, OnOk, OnErr, IfErr, IfOk, None, Ok, Err, length, map};
+ghost use Rattle.script.specs.Pieces.{lines_of, words_between_blanks};
+ghost use Rattle.script.specs.Saying.{Sets, action_said, first_is_storage, has_words as words_stand, is_ascii, race_said, words_say};
+ghost use Rattle.script_rows.specs.Actions.{action_row};
+ghost use Rattle.script_rows.specs.Places.{action_at, row_at};
 ghost use Rattle.script.specs.Scripts as spec;
 ghost use Rattle.script.specs.Drafts.{context, Hears, IsNext, IsDraftOf};
 ghost use Rattle.script.specs.Reading.{BreaksRule, BadIn, bad_by};
 
 use crate::lines::Lines;
-use crate::pieces::pieces;
-use crate::said::{LineKind, has_words, say};
-use crate::{RaceLine, ScriptBad, some_have_words};
+use crate::pieces::{STEP, count, find};
+use crate::said::{has_words, is_readable};
+use crate::text::{TextLine, some_have_words};
+use crate::{RaceLine, ScriptBad};
 use channel_config::config::{Config, ConfigFault};
+use script_rows::actions::{action_row, common_row};
 use script_rows::places::ActionPlace;
-use script_rows::settings::configure;
+use script_rows::race::{Race, race_row};
+use script_rows::settings::{Setting, configure, setting_row};
 use script_rows::words::{LineFault, is_name};
-use std::alloc::Global;
+use std::alloc::{AllocError, Global};
 use supply::Supply;
 
 /// What the lines so far have made.
@@ -30,74 +34,214 @@ pub struct Draft {
 }
 
 /// Whether the line's first word is `storage`.
-fn begins<S: Supply>(alloc: Global, supply: &mut S, line: &[u8]) -> Result<bool, LineFault>
-    ensures ok { IfOk result (λ b. b ≡ first_is_storage (words_between_blanks line.now)) }
-    ensures err { IfErr result (λ f. f ≡ LineFault.NoMemory) }
+#[cold]
+#[inline(never)]
+fn begins(line: &[u8]) -> bool
+    ensures { result ≡ first_is_storage (words_between_blanks line.now) }
+{
+    is_name(&line[..find(line, b' ')], b"storage".as_slice())
+}
+
+/// Takes a setting.
+fn set<S: Supply>(supply: &mut S, draft: &mut Draft, setting: &Setting) -> Result<(), LineFault>
+    ensures ok { OnOk result ((number : ℕ) (may : Bool) → (spec.broken_by (context draft.old) may (Ok (Sets setting.now)) ≡ None) ×
+        Hears draft.old number (Ok (Sets setting.now)) draft.new) }
+    ensures err { IfErr result (λ f. (may : Bool) → BreaksRule f (spec.broken_by (context draft.old) may (Ok (Sets setting.now)))) }
     ensures given { OnOk result (S.refused supply.new ≡ S.refused supply.old) }
     ensures memory { result ≡ Err LineFault.NoMemory → S.refused supply.new ≡ true }
 {
-    let Ok(words) = pieces(alloc, supply, line, b' ') else {
-        return Err(LineFault::NoMemory);
-    };
-    match words.as_slice() {
-        [] => Ok(false),
-        [first, ..] => Ok(is_name(first, b"storage".as_slice())),
+    if draft.acted {
+        return Err(LineFault::Rule(4));
+    }
+    match configure(supply, &mut draft.config, setting) {
+        Ok(()) => Ok(()),
+        Err(ConfigFault::NoMemory) => Err(LineFault::NoMemory),
+        Err(ConfigFault::Rule(_)) => Err(LineFault::Rule(5)),
     }
 }
 
-/// Whether a race may be, before these lines; `races` says that the command lets it.
-fn may_race(races: bool, later: &[&[u8]]) -> bool
-    ensures { result ≡ spec.may_race races (map (λ l. l.now) later.now) }
+/// Whether a race may be, before a text of more lines; `races` says that the command lets it.
+fn may_race(races: bool, later: &[u8]) -> bool
+    ensures { result ≡ spec.may_race races (lines_of later.now) }
 {
     races && !some_have_words(later)
 }
 
-/// Takes what a line says, whose action stands in a place, before these lines.
-fn hear<S: Supply>(
-    supply: &mut S,
+/// Takes a race before a text of more lines, or the rule that its words break.
+fn race(
     draft: &mut Draft,
     number: u64,
-    said: LineKind,
-    place: &ActionPlace,
+    said: Result<Race, u8>,
     races: bool,
-    later: &[&[u8]],
+    later: &[u8],
 ) -> Result<(), LineFault>
-    ensures ok { OnOk result ((spec.broken_by (context draft.old) (spec.may_race races (map (λ l. l.now) later.now)) (Ok (said_by said (action_at place.now))) ≡ None) ×
-        Hears draft.old number (Ok (said_by said (action_at place.now))) draft.new) }
-    ensures err { IfErr result (λ f. BreaksRule f (spec.broken_by (context draft.old) (spec.may_race races (map (λ l. l.now) later.now)) (Ok (said_by said (action_at place.now))))) }
+    ensures ok { OnOk result ((spec.broken_by (context draft.old) (spec.may_race races (lines_of later.now)) (race_said said) ≡ None) ×
+        Hears draft.old number (race_said said) draft.new) }
+    ensures err { IfErr result (λ f. BreaksRule f (spec.broken_by (context draft.old) (spec.may_race races (lines_of later.now)) (race_said said))) }
+    ensures memory { result ≢ Err LineFault.NoMemory }
+{
+    let race = match said {
+        Ok(race) => race,
+        Err(rule) => return Err(LineFault::Rule(rule)),
+    };
+    if !may_race(races, later) {
+        return Err(LineFault::Rule(7));
+    }
+    draft.race = Some(RaceLine { number, race });
+    draft.acted = true;
+    Ok(())
+}
+
+/// Takes the action that stands in a place, or the rule that its line breaks.
+#[inline(always)]
+fn act<S: Supply>(
+    supply: &mut S,
+    draft: &mut Draft,
+    place: &ActionPlace,
+    number: u64,
+    said: Result<(), u8>,
+) -> Result<(), LineFault>
+    ensures ok { OnOk result ((may : Bool) → (spec.broken_by (context draft.old) may (action_said (Some (row_at said (action_at place.now)))) ≡ None) ×
+        Hears draft.old number (action_said (Some (row_at said (action_at place.now)))) draft.new) }
+    ensures err { IfErr result (λ f. (may : Bool) → BreaksRule f (spec.broken_by (context draft.old) may (action_said (Some (row_at said (action_at place.now)))))) }
     ensures given { OnOk result (S.refused supply.new ≡ S.refused supply.old) }
     ensures memory { result ≡ Err LineFault.NoMemory → S.refused supply.new ≡ true }
 {
     match said {
-        LineKind::Nothing => Ok(()),
-        LineKind::Sets(setting) => {
-            if draft.acted {
-                return Err(LineFault::Rule(4));
-            }
-            match configure(supply, &mut draft.config, &setting) {
-                Ok(()) => Ok(()),
-                Err(ConfigFault::NoMemory) => Err(LineFault::NoMemory),
-                Err(ConfigFault::Rule(_)) => Err(LineFault::Rule(5)),
-            }
-        }
-        LineKind::Does => {
+        Ok(()) => {
             draft.lines.add(supply, number, place)?;
             draft.acted = true;
             Ok(())
         }
-        LineKind::Races(race) => {
-            if !may_race(races, later) {
-                return Err(LineFault::Rule(7));
-            }
-            draft.race = Some(RaceLine { number, race });
-            draft.acted = true;
-            Ok(())
+        Err(rule) => Err(LineFault::Rule(rule)),
+    }
+}
+
+/// Takes what the words of a line ask the machine for, by the first of them; the action is written to a place.
+fn drive<S: Supply>(
+    supply: &mut S,
+    draft: &mut Draft,
+    place: &mut ActionPlace,
+    number: u64,
+    word: &[u8],
+    words: &[&[u8]],
+) -> Result<(), LineFault>
+    ensures ok { OnOk result ((may : Bool) → (spec.broken_by (context draft.old) may (action_said (action_row word.now (map (λ w. w.now) words.now))) ≡ None) ×
+        Hears draft.old number (action_said (action_row word.now (map (λ w. w.now) words.now))) draft.new) }
+    ensures err { IfErr result (λ f. (may : Bool) → BreaksRule f (spec.broken_by (context draft.old) may (action_said (action_row word.now (map (λ w. w.now) words.now))))) }
+    ensures given { OnOk result (S.refused supply.new ≡ S.refused supply.old) }
+    ensures memory { result ≡ Err LineFault.NoMemory → S.refused supply.new ≡ true }
+{
+    match action_row(place, word, words) {
+        Some(said) => act(supply, draft, place, number, said),
+        None => Err(LineFault::Rule(1)),
+    }
+}
+
+/// Takes what the words of a line say before a text of more lines, by the first of them: apart, as most lines are common ones.
+#[cold]
+#[inline(never)]
+fn hear_other<S: Supply>(
+    alloc: Global,
+    supply: &mut S,
+    draft: &mut Draft,
+    place: &mut ActionPlace,
+    number: u64,
+    word: &[u8],
+    words: &[&[u8]],
+    races: bool,
+    later: &[u8],
+) -> Result<(), LineFault>
+    ensures ok { OnOk result ((spec.broken_by (context draft.old) (spec.may_race races (lines_of later.now)) (words_say (word.now ∷ map (λ w. w.now) words.now)) ≡ None) ×
+        Hears draft.old number (words_say (word.now ∷ map (λ w. w.now) words.now)) draft.new) }
+    ensures err { IfErr result (λ f. BreaksRule f (spec.broken_by (context draft.old) (spec.may_race races (lines_of later.now)) (words_say (word.now ∷ map (λ w. w.now) words.now)))) }
+    ensures given { OnOk result (S.refused supply.new ≡ S.refused supply.old) }
+    ensures memory { result ≡ Err LineFault.NoMemory → S.refused supply.new ≡ true }
+{
+    match setting_row(alloc, supply, word, words) {
+        Some(Ok(setting)) => return set(supply, draft, &setting),
+        Some(Err(fault)) => return Err(fault),
+        None => {}
+    }
+    if is_name(word, b"race".as_slice()) {
+        return race(draft, number, race_row(words), races, later);
+    }
+    drive(supply, draft, place, number, word, words)
+}
+
+/// Takes what the words of a line say, by the first of them.
+fn hear<S: Supply>(
+    alloc: Global,
+    supply: &mut S,
+    draft: &mut Draft,
+    place: &mut ActionPlace,
+    number: u64,
+    words: &[&[u8]],
+    races: bool,
+    line: &TextLine<'_>,
+) -> Result<(), LineFault>
+    ensures ok { OnOk result ((spec.broken_by (context draft.old) (spec.may_race races line.now.later) (words_say (map (λ w. w.now) words.now)) ≡ None) ×
+        Hears draft.old number (words_say (map (λ w. w.now) words.now)) draft.new) }
+    ensures err { IfErr result (λ f. BreaksRule f (spec.broken_by (context draft.old) (spec.may_race races line.now.later) (words_say (map (λ w. w.now) words.now)))) }
+    ensures given { OnOk result (S.refused supply.new ≡ S.refused supply.old) }
+    ensures memory { result ≡ Err LineFault.NoMemory → S.refused supply.new ≡ true }
+{
+    let [first, others @ ..] = words else {
+        return Err(LineFault::Rule(1));
+    };
+    match common_row(place, first, others) {
+        Some(said) => act(supply, draft, place, number, said),
+        None => {
+            let later = line.later();
+            hear_other(
+                alloc, supply, draft, place, number, first, others, races, later,
+            )
         }
     }
 }
 
-/// Takes one line, before these lines; its words are written to a list, and its action to a place. `plain`: it is known to be of
-/// ASCII.
+/// Takes a line that has words: they are written to a list, and its action to a place. `plain`: it is known to be of ASCII.
+fn take_words<'a, S: Supply>(
+    alloc: Global,
+    supply: &mut S,
+    draft: &mut Draft,
+    words: &mut Vec<&'a [u8]>,
+    place: &mut ActionPlace,
+    number: u64,
+    plain: bool,
+    line: &TextLine<'a>,
+    races: bool,
+) -> Result<(), LineFault>
+    requires worded { words_stand line.now.line ≡ true }
+    requires plain { plain ≡ true → is_ascii line.now.line ≡ true }
+    ensures ok { OnOk result ((spec.fault (context draft.old) (spec.may_race races line.now.later) line.now.line ≡ None) ×
+        IsNext draft.old number line.now.line draft.new) }
+    ensures err { IfErr result (λ f. BreaksRule f (spec.fault (context draft.old) (spec.may_race races line.now.later) line.now.line)) }
+    ensures given { OnOk result (S.refused supply.new ≡ S.refused supply.old) }
+    ensures memory { result ≡ Err LineFault.NoMemory → S.refused supply.new ≡ true }
+{
+    if !draft.begun && !begins(line.bytes()) {
+        return Err(LineFault::Rule(6));
+    }
+    if !is_readable(plain, line.bytes()) {
+        return Err(LineFault::Rule(3));
+    }
+    line.words_to(supply, words)?;
+    hear(
+        alloc,
+        supply,
+        draft,
+        place,
+        number,
+        words.as_slice(),
+        races,
+        line,
+    )?;
+    draft.begun = true;
+    Ok(())
+}
+
+/// Takes one line. `plain`: it is known to be of ASCII.
 fn take_line<'a, S: Supply>(
     alloc: Global,
     supply: &mut S,
@@ -106,25 +250,26 @@ fn take_line<'a, S: Supply>(
     place: &mut ActionPlace,
     number: u64,
     plain: bool,
-    line: &'a [u8],
+    line: &TextLine<'a>,
     races: bool,
-    later: &[&[u8]],
 ) -> Result<(), LineFault>
-    requires { plain ≡ true → is_ascii line.now ≡ true }
-    ensures ok { OnOk result ((spec.fault (context draft.old) (spec.may_race races (map (λ l. l.now) later.now)) line.now ≡ None) ×
-        IsNext draft.old number line.now draft.new) }
-    ensures err { IfErr result (λ f. BreaksRule f (spec.fault (context draft.old) (spec.may_race races (map (λ l. l.now) later.now)) line.now)) }
+    requires { plain ≡ true → is_ascii line.now.line ≡ true }
+    ensures ok { OnOk result ((spec.fault (context draft.old) (spec.may_race races line.now.later) line.now.line ≡ None) ×
+        IsNext draft.old number line.now.line draft.new) }
+    ensures err { IfErr result (λ f. BreaksRule f (spec.fault (context draft.old) (spec.may_race races line.now.later) line.now.line)) }
     ensures given { OnOk result (S.refused supply.new ≡ S.refused supply.old) }
     ensures memory { result ≡ Err LineFault.NoMemory → S.refused supply.new ≡ true }
 {
-    let worded = has_words(line);
-    if worded && !draft.begun && !begins(alloc, supply, line)? {
-        return Err(LineFault::Rule(6));
+    if has_words(line.bytes()) {
+        return take_words(
+            alloc, supply, draft, words, place, number, plain, line, races,
+        );
     }
-    let said = say(alloc, supply, words, place, plain, line)?;
-    hear(supply, draft, number, said, place, races, later)?;
-    draft.begun = draft.begun | worded;
-    Ok(())
+    if is_readable(plain, line.bytes()) {
+        Ok(())
+    } else {
+        Err(LineFault::Rule(3))
+    }
 }
 
 /// What is bad in the line of this number.
@@ -138,41 +283,57 @@ fn bad_line(number: u64, fault: LineFault) -> ScriptBad
     }
 }
 
-/// Takes all lines, or answers the first bad one. `plain`: they are known to be of ASCII.
-pub fn draft_of<'a, S: Supply>(
+/// What no lines have made, with room for those of a text.
+fn opening<S: Supply>(alloc: Global, supply: &mut S, text: &[u8]) -> Result<Draft, AllocError>
+    ensures made { IfOk result (λ d. (races : Bool) (lines : List (List ℕ)) → IsDraftOf races lines 0 d) }
+    ensures given { OnOk result (S.refused supply.new ≡ S.refused supply.old) }
+    ensures memory { OnErr result (S.refused supply.new ≡ true) }
+{
+    let mut lines = Lines::new(alloc);
+    lines.make_room(supply, count(text, b'\n') + STEP)?;
+    Ok(Draft {
+        config: Config::new(alloc),
+        begun: false,
+        acted: false,
+        lines,
+        race: None,
+    })
+}
+
+/// Takes all lines of a text, or answers the first bad one. `plain`: it is known to be of ASCII.
+pub fn draft_of<S: Supply>(
     alloc: Global,
     supply: &mut S,
     races: bool,
     plain: bool,
-    lines: &[&'a [u8]],
+    text: &[u8],
 ) -> Result<Draft, ScriptBad>
-    requires { plain ≡ true → All (λ l. is_ascii l.now ≡ true) lines.now }
-    ensures good { IfOk result (λ d. IsDraftOf races (map (λ l. l.now) lines.now) (length lines.now) d) }
-    ensures bad { IfErr result (λ b. BadIn b races (map (λ l. l.now) lines.now)) }
+    requires { plain ≡ true → is_ascii text.now ≡ true }
+    ensures good { IfOk result (λ d. IsDraftOf races (lines_of text.now) (length (lines_of text.now)) d) }
+    ensures bad { IfErr result (λ b. BadIn b races (lines_of text.now)) }
     ensures given { OnOk result (S.refused supply.new ≡ S.refused supply.old) }
     ensures memory { result ≡ Err ScriptBad.NoMemory → S.refused supply.new ≡ true }
 {
-    let mut draft = Draft {
-        config: Config::new(alloc),
-        begun: false,
-        acted: false,
-        lines: Lines::new(alloc),
-        race: None,
-    };
-    if draft.lines.make_room(supply, lines.len()).is_err() {
+    let Ok(draft) = opening(alloc, supply, text) else {
         return Err(ScriptBad::NoMemory);
-    }
+    };
+    let mut draft = draft;
     let mut words = Vec::new(alloc);
     let mut place = ActionPlace::new();
-    for (i, line) in lines.iter().enumerate() {
-        let number = i as u64 + 1;
-        let later = &lines[i + 1..];
+    let mut number = 0;
+    let mut rest = text;
+    'lines: loop {
+        let line = TextLine::first(rest);
+        number += 1;
         match take_line(
-            alloc, supply, &mut draft, &mut words, &mut place, number, plain, line, races, later,
+            alloc, supply, &mut draft, &mut words, &mut place, number, plain, &line, races,
         ) {
             Ok(()) => {}
             Err(fault) => return Err(bad_line(number, fault)),
         }
+        match line.rest() {
+            None => return Ok(draft),
+            Some(later) => rest = later,
+        }
     }
-    Ok(draft)
 }

@@ -10,9 +10,9 @@ use script_rows::places::KeptAction;
 /// A line: the bytes of its action stand from `start` on.
 #[derive(Clone, Copy)]
 pub struct KeptLine {
+    pub action: KeptAction,
     pub number: u64,
     pub start: usize,
-    pub action: KeptAction,
 }
 
 impl KeptLine {
@@ -45,9 +45,9 @@ pub fn push(kept: &mut Vec<KeptLine>, number: u64, start: usize, action: KeptAct
     ensures { kept.new.items ≡ kept.old.items ++ record { number = number; start = start; action = action } ∷ [] }
 {
     kept.push_reserved(KeptLine {
+        action,
         number,
         start,
-        action,
     });
 }
 

@@ -1,9 +1,7 @@
 //! Scripts: lines that configure a machine and drive it.
 #![tactic(auto)]
 
-ghost use Rattle.std.specs.Prelude.{◌≡◌, true, All, Err, IfOk, IfErr, OnOk, map};
-ghost use Rattle.std.specs.List.{list_any};
-ghost use Rattle.script.specs.Saying.{has_words as words_stand, is_ascii};
+ghost use Rattle.std.specs.Prelude.{◌≡◌, true, Err, IfOk, IfErr, OnOk};
 ghost use Rattle.script.specs.Pieces.{lines_of};
 ghost use Rattle.script.specs.Scripts.{IsScript};
 ghost use Rattle.script.specs.Reading.{BadAt};
@@ -13,11 +11,12 @@ mod kept;
 pub mod lines;
 mod pieces;
 mod said;
+mod text;
 
 use crate::draft::draft_of;
 use crate::lines::Lines;
-use crate::pieces::pieces;
-use crate::said::{has_words, is_plain};
+use crate::said::is_plain;
+use crate::text::some_have_words;
 use channel_config::config::Config;
 use script_rows::Action;
 use script_rows::race::Race;
@@ -91,10 +90,15 @@ impl Script {
         ensures given { OnOk result (S.refused supply.new ≡ S.refused supply.old) }
         ensures memory { result ≡ Err ScriptBad.NoMemory → S.refused supply.new ≡ true }
     {
-        let Ok(lines) = pieces(alloc, supply, text, b'\n') else {
-            return Err(ScriptBad::NoMemory);
-        };
-        script_of(alloc, supply, races, is_plain(text), lines.as_slice())
+        if !some_have_words(text) {
+            return Err(ScriptBad::Bad { line: 1, rule: 6 });
+        }
+        let draft = draft_of(alloc, supply, races, is_plain(text), text)?;
+        Ok(Script {
+            config: draft.config,
+            lines: draft.lines,
+            race: draft.race,
+        })
     }
 
     /// The configuration.
@@ -125,36 +129,4 @@ impl Script {
     {
         (self.config, self.lines)
     }
-}
-
-/// The script that these lines are. `plain`: they are known to be of ASCII.
-fn script_of<S: Supply>(
-    alloc: Global,
-    supply: &mut S,
-    races: bool,
-    plain: bool,
-    lines: &[&[u8]],
-) -> Result<Script, ScriptBad>
-    requires { plain ≡ true → All (λ l. is_ascii l.now ≡ true) lines.now }
-    ensures good { IfOk result (λ s. IsScript races (map (λ l. l.now) lines.now) s) }
-    ensures bad { IfErr result (λ b. BadAt b races (map (λ l. l.now) lines.now)) }
-    ensures given { OnOk result (S.refused supply.new ≡ S.refused supply.old) }
-    ensures memory { result ≡ Err ScriptBad.NoMemory → S.refused supply.new ≡ true }
-{
-    if !some_have_words(lines) {
-        return Err(ScriptBad::Bad { line: 1, rule: 6 });
-    }
-    let draft = draft_of(alloc, supply, races, plain, lines)?;
-    Ok(Script {
-        config: draft.config,
-        lines: draft.lines,
-        race: draft.race,
-    })
-}
-
-/// Whether some line has words.
-pub(crate) fn some_have_words(lines: &[&[u8]]) -> bool
-    ensures { result ≡ list_any (λ l. words_stand l.now) lines.now }
-{
-    lines.iter().any(|line| has_words(line))
 }

@@ -1,9 +1,11 @@
 //! The lines that drive a machine.
 
-ghost use Rattle.std.specs.Prelude.{◌≡◌, ℕ, List, Option, true, map, Some, None, Ok, Err};
+ghost use Rattle.std.specs.Prelude.{◌≡◌, ℕ, List, Option, IfSome, codes, true, false, map, Some, None, Ok, Err};
+ghost use Rattle.std.specs.Str.{bytes_eq};
 ghost use Rattle.script_rows.specs.Words.{number_up_to};
 ghost use Rattle.script_rows.specs.Actions as spec;
 ghost use Rattle.script_rows.specs.Places.{action_at, rows_at, row_at};
+ghost use Rattle.script_rows.specs.Settings.{setting_row};
 
 use crate::acts::act_row;
 use crate::paths::path_row;
@@ -30,6 +32,7 @@ fn enable_row(words: &[&[u8]]) -> Result<Instruction, u8>
 }
 
 /// A subchannel and the address of an operand.
+#[inline(always)]
 fn operand_row(words: &[&[u8]]) -> Result<(u32, u32), u8>
     ensures { result ≡ spec.operand_row (map (λ w. w.now) words.now) }
 {
@@ -39,6 +42,7 @@ fn operand_row(words: &[&[u8]]) -> Result<(u32, u32), u8>
     Ok((subchannel, address))
 }
 
+#[inline(always)]
 fn ssch_row(words: &[&[u8]]) -> Result<Instruction, u8>
     ensures { result ≡ spec.ssch_row (map (λ w. w.now) words.now) }
 {
@@ -49,6 +53,7 @@ fn ssch_row(words: &[&[u8]]) -> Result<Instruction, u8>
     })
 }
 
+#[inline(always)]
 fn tsch_row(words: &[&[u8]]) -> Result<Instruction, u8>
     ensures { result ≡ spec.tsch_row (map (λ w. w.now) words.now) }
 {
@@ -326,6 +331,7 @@ fn show_row(place: &mut ActionPlace, words: &[&[u8]]) -> Result<(), u8>
     Ok(())
 }
 
+#[inline(always)]
 fn choose_row(place: &mut ActionPlace, words: &[&[u8]]) -> Result<(), u8>
     ensures { row_at result (action_at place.new) ≡ spec.choose_row (map (λ w. w.now) words.now) }
 {
@@ -335,6 +341,7 @@ fn choose_row(place: &mut ActionPlace, words: &[&[u8]]) -> Result<(), u8>
     Ok(())
 }
 
+#[inline(always)]
 fn up_row(place: &mut ActionPlace, words: &[&[u8]]) -> Result<(), u8>
     ensures { row_at result (action_at place.new) ≡ spec.up_row (map (λ w. w.now) words.now) }
 {
@@ -345,6 +352,7 @@ fn up_row(place: &mut ActionPlace, words: &[&[u8]]) -> Result<(), u8>
     Ok(())
 }
 
+#[inline(always)]
 fn down_row(place: &mut ActionPlace, words: &[&[u8]]) -> Result<(), u8>
     ensures { row_at result (action_at place.new) ≡ spec.down_row (map (λ w. w.now) words.now) }
 {
@@ -355,6 +363,7 @@ fn down_row(place: &mut ActionPlace, words: &[&[u8]]) -> Result<(), u8>
     Ok(())
 }
 
+#[inline(always)]
 fn dev_row(place: &mut ActionPlace, words: &[&[u8]]) -> Result<(), u8>
     ensures { row_at result (action_at place.new) ≡ spec.dev_row (map (λ w. w.now) words.now) }
 {
@@ -459,5 +468,24 @@ pub fn action_row(place: &mut ActionPlace, word: &[u8], words: &[&[u8]]) -> Opti
     match told_row(place, word, words) {
         Some(said) => Some(said),
         None => event_row(place, word, words),
+    }
+}
+
+/// Writes to a place what the words of a line ask the machine for, where it is one of those of a start, of its signals, of its
+/// device's turns and of its end: most lines are such, and their names are told from all others at one look. None where it is
+/// another line.
+#[inline(always)]
+pub fn common_row(place: &mut ActionPlace, word: &[u8], words: &[&[u8]]) -> Option<Result<(), u8>>
+    ensures says { IfSome result (λ said. spec.action_row word.now (map (λ w. w.now) words.now) ≡ Some (row_at said (action_at place.new))) }
+    ensures sole { IfSome result (λ said. (setting_row word.now (map (λ w. w.now) words.now) ≡ None) × (bytes_eq word.now (codes "race") ≡ false)) }
+{
+    match word {
+        [b'u', b'p'] => Some(up_row(place, words)),
+        [b'd', b'o', b'w', b'n'] => Some(down_row(place, words)),
+        [b'd', b'e', b'v'] => Some(dev_row(place, words)),
+        [b's', b's', b'c', b'h'] => Some(on_cpu(place, Cpu::new(0), ssch_row(words))),
+        [b't', b's', b'c', b'h'] => Some(on_cpu(place, Cpu::new(0), tsch_row(words))),
+        _ if is_name(word, b"choose".as_slice()) => Some(choose_row(place, words)),
+        _ => None,
     }
 }

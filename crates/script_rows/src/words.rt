@@ -126,8 +126,9 @@ fn hex_from(word: &[u8]) -> Option<u32>
     Some(value)
 }
 
-/// A number of 1 to 8 hexadecimal digits.
-pub(crate) fn number(word: &[u8]) -> Option<u32>
+/// A number of 1 to 8 hexadecimal digits, of which most that come here have several.
+#[inline(never)]
+fn long_number(word: &[u8]) -> Option<u32>
     ensures value { result ≡ spec.number word.now }
     ensures short { IfSome result (λ n. length word.now ≤ 4 → n < 0x10000) }
 {
@@ -135,6 +136,18 @@ pub(crate) fn number(word: &[u8]) -> Option<u32>
         return None;
     }
     hex_from(word)
+}
+
+/// A number of 1 to 8 hexadecimal digits; most have one, which is decimal.
+#[inline(always)]
+pub(crate) fn number(word: &[u8]) -> Option<u32>
+    ensures value { result ≡ spec.number word.now }
+    ensures short { IfSome result (λ n. length word.now ≤ 4 → n < 0x10000) }
+{
+    match word {
+        [digit @ b'0'..=b'9'] => Some(u32::from(*digit - b'0')),
+        _ => long_number(word),
+    }
 }
 
 /// A number that is at most `most`.
@@ -252,13 +265,25 @@ pub(crate) fn hex_bytes(word: &[u8]) -> Option<Chunk>
     bytes_from(word)
 }
 
+/// The subsystem-identification word of a subchannel, of which most that come here have several digits.
+#[inline(never)]
+fn long_subchannel(word: &[u8]) -> Option<u32>
+    ensures { result ≡ spec.subchannel word.now }
+{
+    match long_number(word) {
+        Some(n) if word.len() <= 4 => Some(0x1_0000 + n),
+        other => other,
+    }
+}
+
 /// The subsystem-identification word of a subchannel: 5 to 8 digits are the whole word, up to 4 digits its right half.
+#[inline(always)]
 pub(crate) fn subchannel(word: &[u8]) -> Option<u32>
     ensures { result ≡ spec.subchannel word.now }
 {
-    match number(word) {
-        Some(n) if word.len() <= 4 => Some(0x1_0000 + n),
-        other => other,
+    match word {
+        [digit @ b'0'..=b'9'] => Some(0x1_0000 + u32::from(*digit - b'0')),
+        _ => long_subchannel(word),
     }
 }
 
