@@ -1,8 +1,9 @@
 -- A seat's log against the history, one entry after another.
-use Rattle.std.proofs.Common.{◌≡◌, ◌≢◌, ℕ, zero, suc, ◌+◌, ◌<◌, ◌≤◌, Bool, false, List, [], ◌∷◌, length, get_or, drop, add-one, Some, refl, sym, ap, ◌∙◌, subst, eqb, eq-eqb, ne_eqb, arith, ◌-◌, length-drop, true≢false}
+use Rattle.std.proofs.Common.{◌≡◌, ◌≢◌, ℕ, zero, suc, ◌+◌, ◌<◌, ◌≤◌, Bool, true, false, List, [], ◌∷◌, length, get_or, drop, add-one, Some, refl, sym, ap, ◌∙◌, subst, eqb, eq-eqb, ne_eqb, arith, ◌-◌, length-drop, true≢false}
 use Rattle.std.proofs.lemmas.Bool.{eqb-true}
 use Rattle.std.proofs.lemmas.Option.{slice_get-get_or}
-use Rattle.std.specs.Prelude.{if◌then◌else◌, ◌==◌, ◌↔◌}
+use Rattle.std.specs.Prelude.{if◌then◌else◌, ◌==◌, ◌&&◌, ◌↔◌}
+use Rattle.std.specs.List.{list_all}
 use Rattle.std.specs.Bool.{IsTrue}
 use Rattle.chan_events.specs.declared.event.Event.TheVariants.{SystemReset}
 use Rattle.chan_events.specs.declared.reply.Reply.TheVariants.{Done}
@@ -137,3 +138,17 @@ pub whole_where : (number : ℕ) (by : List ℕ) (history log : List Entry) (pla
 whole_where number by history log place next all is le f =
     subst (λ (n : ℕ). IsTrue (eqb next n) ↔ (entries_by number by history ≡ log)) (sym is)
     (whole number by history log place next le f, short number by history log place next le f)
+
+both_true : (a b : Bool) → (a && b) ≡ true → (a ≡ true) × (b ≡ true)
+both_true true b e = (refl, e)
+both_true false b e = absurd (true≢false (sym e))
+
+-- all entries are of one seat
+pub of_one_seat : (number : ℕ) (by : List ℕ) (history : List Entry) → length by ≡ length history → list_all (λ n. n == number) by ≡ true → entries_by number by history ≡ history
+of_one_seat number [] [] e all = refl
+of_one_seat number [] (h ∷ history) e all = absurd (omega arith)
+of_one_seat number (n ∷ by) [] e all = absurd (omega arith)
+of_one_seat number (n ∷ by) (h ∷ history) e all =
+    let both = both_true (n == number) (list_all (λ m. m == number) by) all in
+    ap (λ (b : Bool). if b then h ∷ entries_by number by history else entries_by number by history) both.0
+    ∙ ap (λ (l : List Entry). h ∷ l) (of_one_seat number by history (omega arith) both.1)

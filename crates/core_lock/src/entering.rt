@@ -35,7 +35,7 @@ pub(crate) fn came(place: &AnswerPlace) -> Result<(), Fault>
 
 /// One step at a subsystem, entered from a seat: its entry in the history with the number of its seat beside it, and in the
 /// seat's log, and the serials that it changed in the glance cells.
-#[inline(never)]
+#[inline(always)]
 pub(crate) fn keep_entry<J: Naming, P: PathChoice + Drop>(
     subsystem: &mut Subsystem<P>,
     by: &mut Vec<u16>,
@@ -69,12 +69,12 @@ pub(crate) fn keep_entry<J: Naming, P: PathChoice + Drop>(
     ensures seat_room { seat.old.room ≤ seat.new.room + 1 }
     ensures kept { OnErr (answer_at place.new) ((room_of subsystem.old by.old ≤ room_of subsystem.new by.new) × (seat.old.room ≤ seat.new.room)) }
 {
+    let touched = touched_by(subsystem, event);
     if by.reserve(1).is_err() || seat.log.make_room().is_err() {
         place.outcome = Outcome::Refused(Fault::NoMemory);
         return;
     }
     touches();
-    let touched = touched_by(subsystem, event);
     subsystem.step_place(event, place);
     if place.is_reply() {
         publish(writers, subsystem, touched);

@@ -377,6 +377,7 @@ impl<J: Naming, P: PathChoice + Drop> Core<J, P> {
     }
 
     /// One step, as `enter` has it, with its answer in a place that is made once: no more bytes move than its signals have.
+    #[inline(always)]
     pub fn enter_place(
         &mut self,
         seat: &mut Seat<J>,

@@ -1,12 +1,39 @@
 //! Whether a log is what a history has of a seat.
 
-ghost use Rattle.std.specs.Prelude.{◌≡◌, ◌↔◌, IsTrue, length};
+ghost use Rattle.std.specs.Prelude.{◌≡◌, ◌==◌, ◌↔◌, IsTrue, length};
+ghost use Rattle.std.specs.List.{list_all};
 ghost use Rattle.core_lock.specs.Seats.{entries_by};
 
 use event_log::history::History;
 
 /// Whether the log is what the history has of the seat of this number.
 pub(crate) fn is_log(number: u16, by: &[u16], history: &History, log: &History) -> bool
+    requires { length by.now ≡ length history.now }
+    ensures { IsTrue result ↔ (entries_by number by.now history.now ≡ log.now) }
+{
+    is_whole(number, by, history, log) || is_part(number, by, history, log)
+}
+
+/// Whether the seat of this number made all entries, and the log is kept as they are.
+#[tactic(auto, using(crate::proofs::Auditing::of_one_seat))]
+fn is_whole(number: u16, by: &[u16], history: &History, log: &History) -> bool
+    requires { length by.now ≡ length history.now }
+    ensures { IsTrue result → entries_by number by.now history.now ≡ log.now }
+{
+    made_all(number, by) && log.is_kept_as(history)
+}
+
+/// Whether the seat of this number made all entries.
+fn made_all(number: u16, by: &[u16]) -> bool
+    ensures { result ≡ list_all (λ n. n == number) by.now }
+{
+    by.iter().all(|seat| *seat == number)
+}
+
+/// Whether the log is what the history has of the seat of this number, which others may stand between: apart, as a machine of one
+/// seat has none.
+#[inline(never)]
+fn is_part(number: u16, by: &[u16], history: &History, log: &History) -> bool
     requires { length by.now ≡ length history.now }
     ensures { IsTrue result ↔ (entries_by number by.now history.now ≡ log.now) }
 {

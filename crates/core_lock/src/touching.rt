@@ -49,6 +49,7 @@ fn word_of(instruction: Instruction) -> u32
 }
 
 /// The subchannel that a word names.
+#[inline(always)]
 fn at_word<P: PathChoice + Drop>(subsystem: &Subsystem<P>, word: u32) -> Touched
     ensures value { result ≡ spec.touched_word subsystem.now.state word }
     ensures there { spec.IsThere result (length (all_serials subsystem.now.state)) }
@@ -60,6 +61,7 @@ fn at_word<P: PathChoice + Drop>(subsystem: &Subsystem<P>, word: u32) -> Touched
 }
 
 /// The subchannels whose serials an event may change.
+#[inline(always)]
 pub(crate) fn touched_by<P: PathChoice + Drop>(subsystem: &Subsystem<P>, event: &Event) -> Touched
     ensures value { result ≡ spec.touched subsystem.now.state event.now }
     ensures there { spec.IsThere result (length (all_serials subsystem.now.state)) }

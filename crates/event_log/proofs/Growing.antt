@@ -1,7 +1,7 @@
 -- Entries over an arena that grows.
 use Rattle.std.proofs.Common.{◌≡◌, ◌≤◌, ◌<◌, ℕ, ◌+◌, ◌∙◌, sym, subst, ap, ap₂, List, [], ◌∷◌, ◌++◌, arith, length, take, drop, get_or, length-append, length-drop}
 use Rattle.std.proofs.Math.Seq.{drop-append_seam, take-length}
-use Rattle.std.proofs.lemmas.List.{same_lists, take-append-le, drop-append-le, append-nil, get_or-map, length-map, map_push}
+use Rattle.std.proofs.lemmas.List.{same_lists, take_more, take_all, take-append-le, drop-append-le, append-nil, get_or-map, length-map, map_push}
 use Rattle.std.proofs.lemmas.List.Elements.{All-push}
 use Rattle.chan_events.specs.declared.reply.Entry.{Entry}
 use Rattle.kept_events.specs.declared.entries.KeptEntry.{KeptEntry}
@@ -71,3 +71,13 @@ grown arena more after ks later k e is grew fit start kept =
       fit = subst (λ (x : List KeptEntry). AllFit after x) (sym grew) (subst (λ (a : List ℕ). AllFit a (ks ++ k ∷ [])) (sym is) (fit-added arena more ks k fit added));
       same = ap₂ entries_at is grew ∙ (entries-added arena more ks k fit added ∙ ap (λ (x : Entry). entries_at arena ks ++ x ∷ []) kept.same);
     }
+
+-- fronts of two lists that are the same, with one more that is the same
+pub alike_more : (xs ys : List KeptEntry) (i : ℕ) (x y : KeptEntry) → i < length xs → length xs ≡ length ys → x ≡ get_or xs i x → y ≡ get_or ys i y → x ≡ y
+    → take i xs ≡ take i ys → take (i + 1) xs ≡ take (i + 1) ys
+alike_more xs ys i x y lt long one other same front =
+    take_more xs i x lt ∙ ap₂ (λ (ks : List KeptEntry) (k : KeptEntry). ks ++ k ∷ []) front (sym one ∙ same ∙ other) ∙ sym (take_more ys i y (omega (arith, lt, long)))
+
+-- and at the end
+pub alike_whole : (xs ys : List KeptEntry) (i : ℕ) → length xs ≡ length ys → length xs ≤ i → take i xs ≡ take i ys → xs ≡ ys
+alike_whole xs ys i long all front = sym (take_all i xs all) ∙ front ∙ take_all i ys (omega (arith, long, all))

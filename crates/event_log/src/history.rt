@@ -67,6 +67,13 @@ impl<'a> History<'a> {
         }
     }
 
+    /// Whether both are kept as the same, entry for entry, with the same bytes in the same places.
+    pub fn is_kept_as(&self, other: &History<'_>) -> bool
+        ensures { IsTrue result → self.now ≡ other.now }
+    {
+        self.bytes == other.bytes && are_kept_as(self.entries, other.entries)
+    }
+
     /// Adds the last entry, where there is one, to a log that has room for it.
     pub fn add_last(&self, log: &mut Log)
         requires { 1 ≤ log.old.room }
@@ -102,6 +109,29 @@ fn entry_at(kept: &KeptEntry, arena: &[u8]) -> Entry
     ensures { result ≡ spec.entry_at arena.now kept.now }
 {
     kept.with(bytes_of(kept, arena))
+}
+
+/// Whether all are kept as the others.
+#[inline(never)]
+fn are_kept_as(entries: &[KeptEntry], others: &[KeptEntry]) -> bool
+    ensures { IsTrue result → entries.now ≡ others.now }
+{
+    if entries.len() != others.len() {
+        return false;
+    }
+    for place in 0..entries.len() {
+        if !is_kept_as(&entries[place], &others[place]) {
+            return false;
+        }
+    }
+    true
+}
+
+/// Whether both are kept with the same numbers, and their bytes stand in the same places.
+fn is_kept_as(one: &KeptEntry, other: &KeptEntry) -> bool
+    ensures { IsTrue result ↔ (one.now ≡ other.now) }
+{
+    one.start == other.start && same_kept(one, other)
 }
 
 /// Whether both are the same entry, each with its bytes.

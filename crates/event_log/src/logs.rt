@@ -233,8 +233,8 @@ impl Log {
         ensures room { self.old.room ≤ self.new.room + 1 }
     {
         let start = self.bytes.len();
+        push_same(&mut self.entries, start, kept);
         add_bytes(&mut self.bytes, bytes);
-        push(&mut self.entries, start, kept.event, kept.reply);
     }
 
     /// The entries.
@@ -275,4 +275,28 @@ fn push(entries: &mut Vec<KeptEntry>, start: usize, event: KeptEvent, reply: Kep
         event,
         reply,
     });
+}
+
+/// Adds an entry that is kept with the same numbers, for which there is room.
+#[inline(always)]
+fn push_same(entries: &mut Vec<KeptEntry>, start: usize, kept: &KeptEntry)
+    requires { vec_len entries.old < vec_capacity entries.old }
+    ensures items { entries.new.items ≡ entries.old.items ++ record kept.now { start = start } ∷ [] }
+    ensures len { vec_len entries.new ≡ vec_len entries.old + 1 }
+    ensures capacity { vec_capacity entries.old ≤ vec_capacity entries.new }
+{
+    let number = entries.len();
+    push_copy(entries, kept);
+    entries[number].start = start;
+}
+
+/// Adds a copy, for which there is room.
+#[inline(always)]
+fn push_copy<T: Copy + Drop>(items: &mut Vec<T>, item: &T)
+    requires { vec_len items.old < vec_capacity items.old }
+    ensures items { items.new.items ≡ items.old.items ++ item.now ∷ [] }
+    ensures len { vec_len items.new ≡ vec_len items.old + 1 }
+    ensures capacity { vec_capacity items.old ≤ vec_capacity items.new }
+{
+    items.push_reserved(*item);
 }

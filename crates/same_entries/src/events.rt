@@ -30,8 +30,8 @@ pub fn same_key(one: Key, other: Key) -> bool
 }
 
 /// Whether both instructions are the same.
-pub fn same_instruction(one: Instruction, other: Instruction) -> bool
-    ensures { IsTrue result ↔ (one ≡ other) }
+pub fn same_instruction(one: &Instruction, other: &Instruction) -> bool
+    ensures { IsTrue result ↔ (one.now ≡ other.now) }
 {
     match (one, other) {
         (
@@ -43,7 +43,7 @@ pub fn same_instruction(one: Instruction, other: Instruction) -> bool
                 subchannel: b,
                 address: y,
             },
-        ) => a == b && x == y,
+        ) => *a == *b && *x == *y,
         (
             Instruction::Tsch {
                 subchannel: a,
@@ -53,7 +53,7 @@ pub fn same_instruction(one: Instruction, other: Instruction) -> bool
                 subchannel: b,
                 address: y,
             },
-        ) => a == b && x == y,
+        ) => *a == *b && *x == *y,
         (
             Instruction::Stsch {
                 subchannel: a,
@@ -63,7 +63,7 @@ pub fn same_instruction(one: Instruction, other: Instruction) -> bool
                 subchannel: b,
                 address: y,
             },
-        ) => a == b && x == y,
+        ) => *a == *b && *x == *y,
         (
             Instruction::Msch {
                 subchannel: a,
@@ -73,11 +73,11 @@ pub fn same_instruction(one: Instruction, other: Instruction) -> bool
                 subchannel: b,
                 address: y,
             },
-        ) => a == b && x == y,
-        (Instruction::Rsch { subchannel: a }, Instruction::Rsch { subchannel: b }) => a == b,
-        (Instruction::Hsch { subchannel: a }, Instruction::Hsch { subchannel: b }) => a == b,
-        (Instruction::Csch { subchannel: a }, Instruction::Csch { subchannel: b }) => a == b,
-        (Instruction::Xsch { subchannel: a }, Instruction::Xsch { subchannel: b }) => a == b,
+        ) => *a == *b && *x == *y,
+        (Instruction::Rsch { subchannel: a }, Instruction::Rsch { subchannel: b }) => *a == *b,
+        (Instruction::Hsch { subchannel: a }, Instruction::Hsch { subchannel: b }) => *a == *b,
+        (Instruction::Csch { subchannel: a }, Instruction::Csch { subchannel: b }) => *a == *b,
+        (Instruction::Xsch { subchannel: a }, Instruction::Xsch { subchannel: b }) => *a == *b,
         (
             Instruction::Enable {
                 subchannel: a,
@@ -89,14 +89,14 @@ pub fn same_instruction(one: Instruction, other: Instruction) -> bool
                 subclass: d,
                 multipath: n,
             },
-        ) => a == b && c == d && m == n,
+        ) => *a == *b && *c == *d && *m == *n,
         _ => false,
     }
 }
 
 /// Whether both instructions are the same.
-pub fn same_other_instruction(one: OtherInstruction, other: OtherInstruction) -> bool
-    ensures { IsTrue result ↔ (one ≡ other) }
+pub fn same_other_instruction(one: &OtherInstruction, other: &OtherInstruction) -> bool
+    ensures { IsTrue result ↔ (one.now ≡ other.now) }
 {
     match (one, other) {
         (
@@ -108,25 +108,28 @@ pub fn same_other_instruction(one: OtherInstruction, other: OtherInstruction) ->
                 mask: b,
                 address: y,
             },
-        ) => a == b && x == y,
-        (OtherInstruction::Rchp { path: a }, OtherInstruction::Rchp { path: b }) => a == b,
-        (OtherInstruction::Stcrw { address: a }, OtherInstruction::Stcrw { address: b }) => a == b,
-        (OtherInstruction::Stcps { address: a }, OtherInstruction::Stcps { address: b }) => a == b,
+        ) => *a == *b && *x == *y,
+        (OtherInstruction::Rchp { path: a }, OtherInstruction::Rchp { path: b }) => *a == *b,
+        (OtherInstruction::Stcrw { address: a }, OtherInstruction::Stcrw { address: b }) => *a
+            == *b,
+        (OtherInstruction::Stcps { address: a }, OtherInstruction::Stcps { address: b }) => *a
+            == *b,
         _ => false,
     }
 }
 
 /// Whether both acts are the same.
-pub fn same_act(one: UnitAct, other: UnitAct) -> bool
-    ensures { IsTrue result ↔ (one ≡ other) }
+pub fn same_act(one: &UnitAct, other: &UnitAct) -> bool
+    ensures { IsTrue result ↔ (one.now ≡ other.now) }
 {
     match (one, other) {
         (UnitAct::Leave, UnitAct::Leave) => true,
-        (UnitAct::Ask { path: a }, UnitAct::Ask { path: b }) => a == b,
-        (UnitAct::Attention { path: a, side: s }, UnitAct::Attention { path: b, side: t }) => a == b
-            && same_side(s, t),
+        (UnitAct::Ask { path: a }, UnitAct::Ask { path: b }) => *a == *b,
+        (UnitAct::Attention { path: a, side: s }, UnitAct::Attention { path: b, side: t }) => *a
+            == *b
+            && same_side(*s, *t),
         (UnitAct::Notice { path: a, side: s }, UnitAct::Notice { path: b, side: t }) => {
-            a == b && same_side(s, t)
+            *a == *b && same_side(*s, *t)
         }
         _ => false,
     }
@@ -198,7 +201,7 @@ pub fn same_event(one: &Event, other: &Event) -> bool
                 cpu: d,
                 instruction: y,
             },
-        ) => c.number() == d.number() && same_instruction(*x, *y),
+        ) => c.number() == d.number() && same_instruction(x, y),
         (
             Event::ExecuteOther {
                 cpu: c,
@@ -208,7 +211,7 @@ pub fn same_event(one: &Event, other: &Event) -> bool
                 cpu: d,
                 instruction: y,
             },
-        ) => c.number() == d.number() && same_other_instruction(*x, *y),
+        ) => c.number() == d.number() && same_other_instruction(x, y),
         (Event::Choose { subchannel: a }, Event::Choose { subchannel: b }) => *a == *b,
         (
             Event::Up {
@@ -234,7 +237,7 @@ pub fn same_event(one: &Event, other: &Event) -> bool
             *u == *v && same_report(x, y)
         }
         (Event::Act { unit: u, act: x }, Event::Act { unit: v, act: y }) => {
-            *u == *v && same_act(*x, *y)
+            *u == *v && same_act(x, y)
         }
         (Event::Restart { unit: u }, Event::Restart { unit: v }) => *u == *v,
         (Event::PathDown { chpid: a }, Event::PathDown { chpid: b }) => *a == *b,

@@ -49,7 +49,7 @@ pub fn same_kept_event(one: &KeptEvent, other: &KeptEvent) -> bool
                 cpu: d,
                 instruction: y,
             },
-        ) => c.number() == d.number() && same_instruction(*x, *y),
+        ) => c.number() == d.number() && same_instruction(x, y),
         (
             KeptEvent::ExecuteOther {
                 cpu: c,
@@ -59,7 +59,7 @@ pub fn same_kept_event(one: &KeptEvent, other: &KeptEvent) -> bool
                 cpu: d,
                 instruction: y,
             },
-        ) => c.number() == d.number() && same_other_instruction(*x, *y),
+        ) => c.number() == d.number() && same_other_instruction(x, y),
         (KeptEvent::Choose { subchannel: a }, KeptEvent::Choose { subchannel: b }) => *a == *b,
         (
             KeptEvent::Up {
@@ -181,7 +181,7 @@ pub fn same_kept_event(one: &KeptEvent, other: &KeptEvent) -> bool
             && *n == *m
             && *s == *p,
         (KeptEvent::Act { unit: u, act: x }, KeptEvent::Act { unit: v, act: y }) => *u == *v
-            && same_act(*x, *y),
+            && same_act(x, y),
         (KeptEvent::Restart { unit: u }, KeptEvent::Restart { unit: v }) => *u == *v,
         (KeptEvent::PathDown { chpid: a }, KeptEvent::PathDown { chpid: b }) => *a == *b,
         (KeptEvent::PathUp { chpid: a }, KeptEvent::PathUp { chpid: b }) => *a == *b,
@@ -198,12 +198,12 @@ pub fn same_kept_reply(one: &KeptReply, other: &KeptReply) -> bool
     match (one, other) {
         (KeptReply::Done, KeptReply::Done) => true,
         (KeptReply::Shown { length: a }, KeptReply::Shown { length: b }) => same_length(*a, *b),
-        (KeptReply::Code(a), KeptReply::Code(b)) => same_answer(*a, *b),
+        (KeptReply::Code(a), KeptReply::Code(b)) => same_answer(a, b),
         (KeptReply::Status { answer: a, scsw: x }, KeptReply::Status { answer: b, scsw: y }) =>
-            same_answer(*a, *b) && same_scsw(x, y),
-        (KeptReply::Interruption(a), KeptReply::Interruption(b)) => same_interruption(*a, *b),
+            same_answer(a, b) && same_scsw(x, y),
+        (KeptReply::Interruption(a), KeptReply::Interruption(b)) => same_interruption(a, b),
         (KeptReply::PathReset(a), KeptReply::PathReset(b)) => same_code(*a, *b),
-        (KeptReply::ChannelReport(a), KeptReply::ChannelReport(b)) => same_report(*a, *b),
+        (KeptReply::ChannelReport(a), KeptReply::ChannelReport(b)) => same_report(a, b),
         (KeptReply::Paths { engaged: a }, KeptReply::Paths { engaged: b }) => *a == *b,
         (
             KeptReply::Offered {

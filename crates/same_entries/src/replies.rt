@@ -19,12 +19,12 @@ pub fn same_code(one: ConditionCode, other: ConditionCode) -> bool
 }
 
 /// Whether both answers are the same.
-pub fn same_answer(one: Answer, other: Answer) -> bool
-    ensures { IsTrue result ↔ (one ≡ other) }
+pub fn same_answer(one: &Answer, other: &Answer) -> bool
+    ensures { IsTrue result ↔ (one.now ≡ other.now) }
 {
     match (one, other) {
-        (Answer::Zero(a), Answer::Zero(b)) => a == b,
-        (Answer::One(a), Answer::One(b)) => a == b,
+        (Answer::Zero(a), Answer::Zero(b)) => *a == *b,
+        (Answer::One(a), Answer::One(b)) => *a == *b,
         (Answer::Two, Answer::Two) => true,
         (Answer::Three, Answer::Three) => true,
         _ => false,
@@ -106,8 +106,8 @@ pub fn same_scsw(one: &Scsw, other: &Scsw) -> bool
 
 /// Whether both codes are the same.
 #[tactic(auto, using(crate::proofs::Fields::codes_same))]
-fn same_interruption_code(one: IntCode, other: IntCode) -> bool
-    ensures { IsTrue result ↔ (one ≡ other) }
+fn same_interruption_code(one: &IntCode, other: &IntCode) -> bool
+    ensures { IsTrue result ↔ (one.now ≡ other.now) }
 {
     one.set == other.set
         && one.subchannel == other.subchannel
@@ -116,8 +116,8 @@ fn same_interruption_code(one: IntCode, other: IntCode) -> bool
 }
 
 /// Whether both codes are the same, or neither is there.
-pub fn same_interruption(one: Option<IntCode>, other: Option<IntCode>) -> bool
-    ensures { IsTrue result ↔ (one ≡ other) }
+pub fn same_interruption(one: &Option<IntCode>, other: &Option<IntCode>) -> bool
+    ensures { IsTrue result ↔ (one.now ≡ other.now) }
 {
     match (one, other) {
         (None, None) => true,
@@ -127,12 +127,12 @@ pub fn same_interruption(one: Option<IntCode>, other: Option<IntCode>) -> bool
 }
 
 /// Whether both reports are the same, or neither is there.
-pub fn same_report(one: Option<Crw>, other: Option<Crw>) -> bool
-    ensures { IsTrue result ↔ (one ≡ other) }
+pub fn same_report(one: &Option<Crw>, other: &Option<Crw>) -> bool
+    ensures { IsTrue result ↔ (one.now ≡ other.now) }
 {
     match (one, other) {
         (None, None) => true,
-        (Some(a), Some(b)) => a == b,
+        (Some(a), Some(b)) => *a == *b,
         _ => false,
     }
 }
@@ -144,13 +144,13 @@ pub fn same_reply(one: &Reply, other: &Reply) -> bool
     match (one, other) {
         (Reply::Done, Reply::Done) => true,
         (Reply::Shown { bytes: a }, Reply::Shown { bytes: b }) => same_chunk(a, b),
-        (Reply::Code(a), Reply::Code(b)) => same_answer(*a, *b),
-        (Reply::Status { answer: a, scsw: x }, Reply::Status { answer: b, scsw: y }) => same_answer(
-            *a, *b,
-        ) && same_scsw(x, y),
-        (Reply::Interruption(a), Reply::Interruption(b)) => same_interruption(*a, *b),
+        (Reply::Code(a), Reply::Code(b)) => same_answer(a, b),
+        (Reply::Status { answer: a, scsw: x }, Reply::Status { answer: b, scsw: y }) => {
+            same_answer(a, b) && same_scsw(x, y)
+        }
+        (Reply::Interruption(a), Reply::Interruption(b)) => same_interruption(a, b),
         (Reply::PathReset(a), Reply::PathReset(b)) => same_code(*a, *b),
-        (Reply::ChannelReport(a), Reply::ChannelReport(b)) => same_report(*a, *b),
+        (Reply::ChannelReport(a), Reply::ChannelReport(b)) => same_report(a, b),
         (Reply::Paths { engaged: a }, Reply::Paths { engaged: b }) => *a == *b,
         (
             Reply::Offered {

@@ -1,6 +1,6 @@
 //! The line of an event whose answer stands in a place.
 
-ghost use Rattle.std.specs.Prelude.{◌≡◌, ◌++◌, ◌∷◌, decimal};
+ghost use Rattle.std.specs.Prelude.{◌≡◌, ◌++◌, ◌∷◌, [], decimal, true};
 ghost use Rattle.signal_places.specs.Answers.{answer_at};
 ghost use Rattle.signal_places.specs.Places.{down_at, up_at};
 ghost use Rattle.signal_places.specs.Plain.{reply_of};
@@ -90,6 +90,7 @@ fn put_plain<S: Sink>(sink: &mut S, reply: &PlainReply) -> bool
 }
 
 /// What an answer prints.
+#[inline(never)]
 fn put_came<S: Sink>(sink: &mut S, place: &AnswerPlace) -> bool
     ensures { Puts (S.seen sink.old) (spec.outcome_text (spec.told_of (answer_at place.now))) (S.seen sink.new) result }
 {
@@ -124,6 +125,55 @@ fn put_pieces<S: Sink>(sink: &mut S, line: u64, place: &AnswerPlace) -> bool
     put_numbered(sink, line, place) && sink.put(b"\n")
 }
 
+/// The rest of the line of a signal that was taken on its way down.
+fn put_down_taken<S: Sink>(sink: &mut S, signal: &DownPlace) -> bool
+    ensures { Puts (S.seen sink.old) (spec.taken_text true ++ spec.down_name (down_at signal.now) ++ 10 ∷ []) (S.seen sink.new) result }
+{
+    match &signal.kept {
+        KeptDown::Select { .. } => sink.put(b"took select\n"),
+        KeptDown::Command { .. } => sink.put(b"took command\n"),
+        KeptDown::Grant { .. } => sink.put(b"took grant\n"),
+        KeptDown::Refuse { .. } => sink.put(b"took refuse\n"),
+        KeptDown::Took { .. } => sink.put(b"took took\n"),
+        KeptDown::Give { .. } => sink.put(b"took give\n"),
+        KeptDown::Halt { .. } => sink.put(b"took halt\n"),
+        KeptDown::Release { .. } => sink.put(b"took release\n"),
+        KeptDown::Reset { .. } => sink.put(b"took reset\n"),
+        KeptDown::Got { .. } => sink.put(b"took got\n"),
+    }
+}
+
+/// The rest of the line of a signal that was taken on its way up.
+fn put_up_taken<S: Sink>(sink: &mut S, signal: &UpPlace) -> bool
+    ensures { Puts (S.seen sink.old) (spec.taken_text true ++ spec.up_name (up_at signal.now) ++ 10 ∷ []) (S.seen sink.new) result }
+{
+    match &signal.kept {
+        KeptUp::Accept { .. } => sink.put(b"took accept\n"),
+        KeptUp::Busy { .. } => sink.put(b"took busy\n"),
+        KeptUp::Leave { .. } => sink.put(b"took leave\n"),
+        KeptUp::Back { .. } => sink.put(b"took back\n"),
+        KeptUp::Absorbed { .. } => sink.put(b"took data\n"),
+        KeptUp::Bytes { .. } => sink.put(b"took data\n"),
+        KeptUp::End { .. } => sink.put(b"took end\n"),
+        KeptUp::Released { .. } => sink.put(b"took released\n"),
+        KeptUp::Cleared { .. } => sink.put(b"took cleared\n"),
+        KeptUp::Notice { .. } => sink.put(b"took notice\n"),
+        KeptUp::Attn { .. } => sink.put(b"took attn\n"),
+    }
+}
+
+/// The rest of a line after its number and a space: what occurs most is put at once.
+fn put_rest<S: Sink>(sink: &mut S, place: &AnswerPlace) -> bool
+    ensures { Puts (S.seen sink.old) (spec.outcome_text (spec.told_of (answer_at place.now)) ++ 10 ∷ []) (S.seen sink.new) result }
+{
+    match &place.outcome {
+        Outcome::MetUp { taken: true } => put_up_taken(sink, &place.up),
+        Outcome::MetDown { taken: true } => put_down_taken(sink, &place.down),
+        Outcome::Replied(PlainReply::Done) => sink.put(b"done\n"),
+        _ => put_came(sink, place) && sink.put(b"\n"),
+    }
+}
+
 /// The line of an event, as `put_event_line_at_once` writes it, by the place where its answer stands.
 pub fn put_answer_line_at_once<S: Sink>(
     sink: &mut S,
@@ -134,7 +184,7 @@ pub fn put_answer_line_at_once<S: Sink>(
     ensures { Puts (S.seen sink.old) (spec.event_line line (spec.told_of (answer_at place.now))) (S.seen sink.new) result }
 {
     held.begin(line);
-    if put_spaced(held, place) && held.put(b"\n") {
+    if put_rest(held, place) {
         sink.put(held.bytes())
     } else {
         put_long(sink, line, place)

@@ -1,6 +1,6 @@
 //! A line that waits until it is whole.
 
-ghost use Rattle.std.specs.Prelude.{◌≡◌, ◌≤◌, [], decimal, false, take};
+ghost use Rattle.std.specs.Prelude.{◌≡◌, ◌≤◌, ◌++◌, ◌∷◌, [], decimal, false, take};
 
 use crate::number::{LineNumber, MOST_DIGITS};
 use streams::Sink;
@@ -42,15 +42,17 @@ impl Held {
         self.failed = false;
     }
 
-    /// Forgets what it held, and holds the decimal digits of a line's number.
+    /// Forgets what it held, and holds the decimal digits of a line's number and a space.
     pub(crate) fn begin(&mut self, number: u64)
-        ensures bytes { take self.new.length self.new.room ≡ decimal number }
+        ensures bytes { take self.new.length self.new.room ≡ decimal number ++ 32 ∷ [] }
         ensures failed { self.new.failed ≡ false }
     {
         self.line.set(number);
         let digits = self.line.digits;
-        self.length = self.line.count;
+        let count = self.line.count;
         self.room[0..MOST_DIGITS].copy_from_slice(&digits);
+        self.room[count] = b' ';
+        self.length = count + 1;
         self.failed = false;
     }
 

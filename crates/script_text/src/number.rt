@@ -1,6 +1,6 @@
 //! The number of a line in decimal digits, which are counted up where they stand.
 
-ghost use Rattle.std.specs.Prelude.{◌≡◌, ◌≤◌, decimal, length, take, IsTrue};
+ghost use Rattle.std.specs.Prelude.{◌≡◌, ◌≤◌, ◌+◌, decimal, length, take, IsTrue};
 
 use itoa::Buffer;
 
@@ -38,16 +38,38 @@ impl LineNumber {
         }
     }
 
-    /// It becomes this number, where that is the next one and has but another last digit.
+    /// It becomes this number, where that is the next one and differs in its last digit or its last two.
     fn counts_up(&mut self, number: u64) -> bool
         ensures { IsTrue result → self.new.number ≡ number }
     {
-        let last = self.count - 1;
-        let digit = self.digits[last];
-        if number == 0 || self.number != number - 1 || digit >= b'9' {
+        if number == 0 || self.number != number - 1 {
             return false;
         }
+        let last = self.count - 1;
+        let digit = self.digits[last];
+        if digit >= b'9' {
+            return self.carries(number);
+        }
         self.digits[last] = digit + 1;
+        self.number = number;
+        true
+    }
+
+    /// It becomes this number, which is the next one, where its last digit is 9 and the one before is not.
+    fn carries(&mut self, number: u64) -> bool
+        requires { number ≡ self.old.number + 1 }
+        ensures { IsTrue result → self.new.number ≡ number }
+    {
+        if self.count < 2 {
+            return false;
+        }
+        let last = self.count - 1;
+        let digit = self.digits[last - 1];
+        if self.digits[last] != b'9' || digit >= b'9' {
+            return false;
+        }
+        self.digits[last - 1] = digit + 1;
+        self.digits[last] = b'0';
         self.number = number;
         true
     }

@@ -1,6 +1,6 @@
 use Rattle.std.proofs.Common.{rules, sym, ◌∙◌}
 use Rattle.core_lock.proofs.Auditing.{any_entry, skips, goes_on_at, has_next, whole_where, no_true}
-use Rattle.core_lock.proofs.same_log.is_log.Goals as goal
+use Rattle.core_lock.proofs.same_log.is_part.Goals as goal
 
 pub loop-place-preserved-then-by-place : goal.loop-place-preserved-then-by-place
 loop-place-preserved-then-by-place c =
