@@ -1,5 +1,5 @@
 -- What an event comes to that is entered from the one seat of a machine.
-use Rattle.std.proofs.Common.{◌≡◌, ◌≢◌, ◌≤◌, ◌+◌, [], ◌∷◌, ◌++◌, Result, Ok, Err, refl, arith, ap, inl, inr}
+use Rattle.std.proofs.Common.{◌≡◌, ◌≢◌, ◌≤◌, ◌+◌, List, [], ◌∷◌, ◌++◌, Result, Ok, Err, refl, sym, arith, ap, inl, inr}
 use Rattle.std.specs.Prelude.{IfOk, IfErr, OnErr}
 use Rattle.chan_events.specs.declared.event.Event.{Event}
 use Rattle.chan_events.specs.declared.reply.Reply.{Reply}
@@ -11,7 +11,8 @@ use Rattle.machine_model.specs.Ruled.{GoesByRule}
 use Rattle.machine_model.specs.State.{IsAsBefore, State}
 use Rattle.machine_model.specs.Steps.{Step, IsRefused}
 use Rattle.path_select.specs.Choice.{TakesNext}
-use Rattle.serving.specs.Acting.{Enters, past_of}
+use Rattle.device_models.specs.declared.any_device.AnyDevice.{AnyDevice}
+use Rattle.serving.specs.Acting.{Enters, devices_left, devices_restarted, past_of}
 
 -- what the core says of the answer, before and after
 pub record Came (c n : LockedCore) (s t : HeldSeat) (e : Event) (r : Result Reply Fault) : Type 0 where
@@ -56,3 +57,8 @@ enters c n s t e (Err (fault.ConfigBad rule)) came = told c n s t e (fault.Confi
 enters c n s t e (Err (fault.ScriptBad line rule)) came = told c n s t e (fault.ScriptBad line rule) (λ x. absurd (cc)) (λ x. absurd (cc)) came
 enters c n s t e (Err (fault.Storage kind)) came = told c n s t e (fault.Storage kind) (λ x. absurd (cc)) (λ x. absurd (cc)) came
 enters c n s t e (Err fault.Operand) came = told c n s t e fault.Operand (λ x. absurd (cc)) (λ x. absurd (cc)) came
+
+-- the devices after an event that restarts none of them
+pub left_alone : (devices : List AnyDevice) (e : Event) (r : Result Reply Fault) → devices_restarted devices e ≡ devices → devices ≡ devices_left devices e r
+left_alone devices e (Ok x) same = sym same
+left_alone devices e (Err f) same = refl

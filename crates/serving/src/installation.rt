@@ -1,7 +1,7 @@
 //! A channel subsystem with a device for each of its units, a seat from which its events are entered, and seats of CPUs that
 //! are to race.
 
-ghost use Rattle.std.specs.Prelude.{◌≡◌, ◌+◌, [], Bool, IsTrue, IfOk, None, Some, OnErr, OnOk, length, map, replicate, slice_get, true, ◌↔◌, ◌≤◌, ℕ};
+ghost use Rattle.std.specs.Prelude.{◌≡◌, ◌+◌, [], Bool, IsTrue, IfOk, List, None, Some, OnErr, OnOk, length, map, replicate, slice_get, true, ◌↔◌, ◌≤◌, ℕ};
 ghost use Rattle.serving.specs.Acting as spec;
 ghost use Rattle.serving.specs.Racing.{AreMade, HasLogs, IsRaced};
 ghost use Rattle.serving.specs.Acting.{books_of, past_of, PerformsAction, Happens, IsAudited, Looks, TakesTurn, HandsIn, opening_installed, outcome_at};
@@ -11,12 +11,13 @@ ghost use Rattle.signal_places.specs.Answers.{answer_at};
 ghost use Rattle.core_lock.specs.Directory.{directory_of};
 ghost use Rattle.core_lock.specs.Seats.{entries_by};
 ghost use Rattle.device_models.specs.AnyDevices.{device_of};
+ghost use Rattle.device_models.specs.declared.any_device.AnyDevice.{AnyDevice};
 ghost use Rattle.chan_model.specs.declared.report.Report.{Report};
 ghost use Rattle.kept_events.specs.Events.{event_in, event_length};
 ghost use Rattle.script_rows.specs.Places.{action_in, action_length};
 ghost use Rattle.chan_events.specs.declared.event.Event.TheVariants as event_spec;
 
-use crate::places::{Places, no_report, write_down, write_up};
+use crate::places::{Places, no_report, write_choose, write_down, write_execute, write_up};
 use crate::racing::{Racers, one_seat};
 use crate::reports::{copy_to, forget, keep, worked};
 use chan_events::event::Event;
@@ -144,24 +145,19 @@ impl<J: Naming> Installation<J> {
         match event {
             KeptEvent::Up { subchannel, path } => {
                 write_up(&mut places.up, *subchannel, *path);
-                self.enter(&places.up, &mut places.answer);
+                self.enter_plain(&places.up, &mut places.answer);
             }
             KeptEvent::Down { subchannel, path } => {
                 write_down(&mut places.down, *subchannel, *path);
-                self.enter(&places.down, &mut places.answer);
+                self.enter_plain(&places.down, &mut places.answer);
             }
             KeptEvent::Choose { subchannel } => {
-                places.event = Event::Choose {
-                    subchannel: *subchannel,
-                };
-                self.enter(&places.event, &mut places.answer);
+                write_choose(&mut places.choose, *subchannel);
+                self.enter_plain(&places.choose, &mut places.answer);
             }
             KeptEvent::Execute { cpu, instruction } => {
-                places.event = Event::Execute {
-                    cpu: *cpu,
-                    instruction: *instruction,
-                };
-                self.enter(&places.event, &mut places.answer);
+                write_execute(&mut places.execute, *cpu, *instruction);
+                self.enter_plain(&places.execute, &mut places.answer);
             }
             _ => self.perform_other(event, bytes, places),
         }
@@ -228,10 +224,18 @@ impl<J: Naming> Installation<J> {
         }
     }
 
+    /// Performs an event that restarts no unit.
+    #[inline(always)]
+    #[tactic(auto, using(crate::proofs::Entering::left_alone))]
+    fn enter_plain(&mut self, event: &Event, place: &mut AnswerPlace)
+        requires { (devices : List AnyDevice) → spec.devices_restarted devices event.now ≡ devices }
+        ensures { Happens self.old event.now (answer_at place.new) self.new }
+    {
+        enter_from(&mut self.core, &mut self.seat, event, place);
+    }
+
     /// Looks from the seat at the serials of the subchannel that a word names, and shows those that the subsystem has.
-    #[cold]
-    #[inline(never)]
-    fn look(&mut self, subchannel: u32) -> Option<Serials>
+    pub(crate) fn look(&mut self, subchannel: u32) -> Option<Serials>
         ensures { Looks self.old (serials_in (sub_of self.old.past.state subchannel)) (spec.glanced result) self.new }
     {
         let own = self.core.subsystem().serials(subchannel);
@@ -327,6 +331,7 @@ fn has_its_log<J: Naming>(core: &Core<J, Rotating>, seat: Seat<J>) -> bool
 }
 
 /// An event is entered from a seat.
+#[inline(always)]
 fn enter_from<J: Naming>(
     core: &mut Core<J, Rotating>,
     seat: &mut Seat<J>,

@@ -2,6 +2,7 @@
 
 ghost use Rattle.std.specs.Prelude.{◌≡◌, ◌≤◌, is_err, length};
 ghost use Rattle.script_rows.specs.Places.{action_in, action_length};
+ghost use Rattle.script_rows.specs.declared.Action.TheVariants as action_spec;
 ghost use Rattle.script_text.specs.Text.{event_line};
 ghost use Rattle.serving.specs.Acting as acting_spec;
 ghost use Rattle.serving.specs.Performing.{IsDone, PerformsLines};
@@ -48,9 +49,7 @@ fn glanced(own: Option<Serials>) -> Result<ActionResult, Fault>
     }
 }
 
-/// Writes what a look came to, through a place of its own: apart, as it is rare.
-#[cold]
-#[inline(never)]
+/// Writes what a look came to, through a place of its own.
 fn write_look<S: Sink>(sink: &mut S, held: &mut Held, number: u64, own: Option<Serials>) -> Written
     ensures refused { result.refused ≡ is_err (acting_spec.glanced own) }
     ensures prints { Puts (S.seen sink.old) (event_line number (acting_spec.glanced own)) (S.seen sink.new) result.whole }
@@ -83,6 +82,22 @@ fn write<S: Sink>(
     }
 }
 
+/// Performs a look and writes what it prints: apart, as it is rare.
+#[cold]
+#[inline(never)]
+fn perform_look<J: Naming, S: Sink>(
+    installation: &mut Installation<J>,
+    number: u64,
+    subchannel: u32,
+    held: &mut Held,
+    sink: &mut S,
+) -> Written
+    ensures { IsDone installation.old (record { number = number; action = action_spec.Glance subchannel }) (S.seen sink.old) (S.seen sink.new) result installation.new }
+{
+    let own = installation.look(subchannel);
+    write_look(sink, held, number, own)
+}
+
 /// Performs one line, whose action stands there, and writes what it prints, through places of their own.
 fn perform_one<J: Naming, S: Sink>(
     installation: &mut Installation<J>,
@@ -96,8 +111,15 @@ fn perform_one<J: Naming, S: Sink>(
     requires { action_length action.now ≤ length bytes.now }
     ensures { IsDone installation.old (record { number = number; action = action_in action.now bytes.now }) (S.seen sink.old) (S.seen sink.new) result installation.new }
 {
-    let acted = installation.act(action, bytes, places);
-    write(sink, held, number, acted, &places.answer)
+    match action {
+        KeptAction::Glance(subchannel) => {
+            perform_look(installation, number, *subchannel, held, sink)
+        }
+        _ => {
+            let acted = installation.act(action, bytes, places);
+            write(sink, held, number, acted, &places.answer)
+        }
+    }
 }
 
 /// Performs the lines in order, up to the first whose print is not written whole.

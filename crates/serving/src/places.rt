@@ -3,8 +3,8 @@
 ghost use Rattle.std.specs.Prelude.{◌≡◌, ◌≤◌, length};
 ghost use Rattle.chan_events.specs.declared.event.Event.TheVariants as event_spec;
 
-use chan_events::event::Event;
-use chan_model::names::Side;
+use chan_events::event::{Event, Instruction};
+use chan_model::names::{Cpu, Side};
 use chan_model::report::{DeviceAnswer, Report};
 use signal_places::answers::AnswerPlace;
 
@@ -14,6 +14,8 @@ use signal_places::answers::AnswerPlace;
 pub struct Places {
     pub up: Event,
     pub down: Event,
+    pub choose: Event,
+    pub execute: Event,
     pub event: Event,
     pub report: Event,
     pub answer: AnswerPlace,
@@ -25,6 +27,8 @@ impl Places {
         Places {
             up: Event::SystemReset,
             down: Event::SystemReset,
+            choose: Event::SystemReset,
+            execute: Event::SystemReset,
             event: Event::SystemReset,
             report: Event::Report {
                 unit: 0,
@@ -74,6 +78,32 @@ pub(crate) fn write_down(place: &mut Event, word: u32, index: u32)
         _ => *place = Event::Down {
             subchannel: word,
             path: index,
+        },
+    }
+}
+
+/// Writes to its place that a path is chosen for a subchannel.
+pub(crate) fn write_choose(place: &mut Event, word: u32)
+    ensures { place.new ≡ event_spec.Choose word }
+{
+    match place {
+        Event::Choose { subchannel } => *subchannel = word,
+        _ => *place = Event::Choose { subchannel: word },
+    }
+}
+
+/// Writes to its place that a CPU executes an instruction.
+pub(crate) fn write_execute(place: &mut Event, by: Cpu, given: Instruction)
+    ensures { place.new ≡ event_spec.Execute by given }
+{
+    match place {
+        Event::Execute { cpu, instruction } => {
+            *cpu = by;
+            *instruction = given;
+        }
+        _ => *place = Event::Execute {
+            cpu: by,
+            instruction: given,
         },
     }
 }
