@@ -5,13 +5,13 @@ use Rattle.std.proofs.Math.Nat.{div-div-eq-div-mul, div-one, mod-eq_of_lt, mod-o
 use Rattle.std.proofs.Math.Arith.{mod-mul}
 use Rattle.std.proofs.Math.Pow.{pow-lt}
 use Rattle.std.proofs.lemmas.Nat.{pow_pos}
-use Rattle.std.proofs.lemmas.List.{length-take, take-take}
-use Rattle.std.proofs.lemmas.Simd.{length-chunk, trailing_mask_l, leading_from_mask_l, none_from_empty_mask, ones-mask_l, run_in_chunk_fails, run_in_chunk_stops}
-use Rattle.std.proofs.lemmas.List.Sums.{count_by-le-length, prefix_len-le-length, prefix_len_passes, prefix_len_stops}
+use Rattle.std.proofs.lemmas.List.{take-take}
+use Rattle.std.proofs.lemmas.Simd.{length-chunk, trailing_mask_l, leading_from_mask_l, none_from_empty_mask, run_in_chunk_fails, run_in_chunk_stops}
+use Rattle.std.proofs.lemmas.List.Sums.{prefix_len-le-length, prefix_len_passes, prefix_len_stops}
 use Rattle.std.proofs.lemmas.Bool.{eqb-true, eqb-false}
 use Rattle.std.proofs.lemmas.Bool.Decides.{leb_tells}
 use lib.Lanes.{chunk, mask_l}
-use lib.Count.{count_trailing_zeros, ones as count_ones}
+use lib.Count.{count_trailing_zeros}
 
 abbrev is : ℕ → ℕ → Bool
 is b x = eqb x b
@@ -102,12 +102,6 @@ pub none_of : (xs : List ℕ) (b m : ℕ) → m ≡ mask_l (map (is b) xs) → m
 none_of xs b m marks none k lt =
     let all = leading_from_mask_l (is b) xs (sym marks ∙ none) in
     eqb-false _ b (was-false _ (prefix_len_passes (λ x. not (is b x)) xs k 0 (omega (arith, lt, all))))
-
-pub few_ones : (xs : List ℕ) (b i m : ℕ) → m ≡ mask_l (map (is b) (take 16 (drop i xs))) → count_ones m ≤ 16
-few_ones xs b i m marks =
-    let ys = take 16 (drop i xs) in
-    let counted = ap count_ones marks ∙ ones-mask_l (is b) ys in
-    omega (arith, counted, count_by-le-length (is b) ys, length-take 16 (drop i xs))
 
 half : (b : Bool) (m : ℕ) → (cond b 1 0 + 2 * m) / 2 ≡ m
 half true m = omega arith

@@ -10,7 +10,7 @@ ghost use Rattle.script.specs.Drafts.{context, Hears, IsNext, IsDraftOf};
 ghost use Rattle.script.specs.Reading.{BreaksRule, BadIn, bad_by};
 
 use crate::lines::Lines;
-use crate::pieces::{STEP, count, find};
+use crate::pieces::find;
 use crate::said::{has_words, is_readable};
 use crate::text::{TextLine, some_have_words};
 use crate::{RaceLine, ScriptBad};
@@ -22,6 +22,9 @@ use script_rows::settings::{Setting, configure, setting_row};
 use script_rows::words::{LineFault, is_name};
 use std::alloc::{AllocError, Global};
 use supply::Supply;
+
+/// How many bytes a line has with its line feed, as it is thought when room is made: where they are fewer it grows.
+const COMMON: usize = 8;
 
 /// What the lines so far have made.
 #[derive(Drop)]
@@ -290,7 +293,7 @@ fn opening<S: Supply>(alloc: Global, supply: &mut S, text: &[u8]) -> Result<Draf
     ensures memory { OnErr result (S.refused supply.new ≡ true) }
 {
     let mut lines = Lines::new(alloc);
-    lines.make_room(supply, count(text, b'\n') + STEP)?;
+    lines.make_room(supply, text.len() / COMMON + 1)?;
     Ok(Draft {
         config: Config::new(alloc),
         begun: false,
