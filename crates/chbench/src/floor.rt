@@ -52,12 +52,7 @@ impl ReportPlace {
 
     /// Writes the report of a unit's next work, its device having been called where the work is a call; false where it has
     /// none.
-    fn write(
-        &mut self,
-        subsystem: &Subsystem<Rotating>,
-        of: u32,
-        device: &mut AnyDevice,
-    ) -> bool {
+    fn write(&mut self, subsystem: &Subsystem<Rotating>, of: u32, device: &mut AnyDevice) -> bool {
         let Some(KeptTurn::Works(work)) = subsystem.kept_turn(of) else {
             return false;
         };
