@@ -94,6 +94,7 @@ impl Lines {
     }
 
     /// Adds a line with the action that stands in a place. Where the growth is refused the lines stay as they were.
+    #[inline(always)]
     pub fn add<S: Supply>(
         &mut self,
         supply: &mut S,
