@@ -6,21 +6,16 @@ ghost use Rattle.core_lock.specs.Seats.{entries_by};
 
 use event_log::history::History;
 
-/// Whether the log is what the history has of the seat of this number.
+/// Whether the log is what the history has of the seat of this number: where this seat made all entries, the whole history.
+#[tactic(auto, using(crate::proofs::Auditing::of_one_seat))]
 pub(crate) fn is_log(number: u16, by: &[u16], history: &History, log: &History) -> bool
     requires { length by.now ≡ length history.now }
     ensures { IsTrue result ↔ (entries_by number by.now history.now ≡ log.now) }
 {
-    is_whole(number, by, history, log) || is_part(number, by, history, log)
-}
-
-/// Whether the seat of this number made all entries, and the log is kept as they are.
-#[tactic(auto, using(crate::proofs::Auditing::of_one_seat))]
-fn is_whole(number: u16, by: &[u16], history: &History, log: &History) -> bool
-    requires { length by.now ≡ length history.now }
-    ensures { IsTrue result → entries_by number by.now history.now ≡ log.now }
-{
-    made_all(number, by) && log.is_kept_as(history)
+    if made_all(number, by) {
+        return log.is_same(history);
+    }
+    is_part(number, by, history, log)
 }
 
 /// Whether the seat of this number made all entries.

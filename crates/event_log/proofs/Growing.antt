@@ -1,8 +1,10 @@
 -- Entries over an arena that grows.
-use Rattle.std.proofs.Common.{◌≡◌, ◌≤◌, ◌<◌, ℕ, ◌+◌, ◌∙◌, sym, subst, ap, ap₂, List, [], ◌∷◌, ◌++◌, arith, length, take, drop, get_or, length-append, length-drop}
+use Rattle.std.proofs.Common.{◌≡◌, ◌≤◌, ◌<◌, ℕ, zero, suc, ◌+◌, ◌∙◌, refl, sym, subst, ap, ap₂, add-one, List, [], ◌∷◌, ◌++◌, Some, arith, length, take, drop, get_or, length-append, length-drop}
 use Rattle.std.proofs.Math.Seq.{drop-append_seam, take-length}
-use Rattle.std.proofs.lemmas.List.{same_lists, take_more, take_all, take-append-le, drop-append-le, append-nil, get_or-map, length-map, map_push}
+use Rattle.std.proofs.lemmas.List.{same_lists, take_all, take-append-le, drop-append-le, append-nil, get_or-map, length-map, map_push}
 use Rattle.std.proofs.lemmas.List.Elements.{All-push}
+use Rattle.std.proofs.lemmas.Option.{slice_get_read}
+use Rattle.std.specs.List.{slice_get}
 use Rattle.chan_events.specs.declared.reply.Entry.{Entry}
 use Rattle.kept_events.specs.declared.entries.KeptEntry.{KeptEntry}
 use Rattle.kept_events.specs.declared.events.KeptEvent.TheVariants as kept_event
@@ -72,12 +74,31 @@ grown arena more after ks later k e is grew fit start kept =
       same = ap₂ entries_at is grew ∙ (entries-added arena more ks k fit added ∙ ap (λ (x : Entry). entries_at arena ks ++ x ∷ []) kept.same);
     }
 
+same_items : {A : Type 0} (x y : A) → Some x ≡ Some y → x ≡ y
+same_items x y e = cc
+
+same_heads : {A : Type 0} (x y : A) (xs ys : List A) → x ∷ xs ≡ y ∷ ys → x ≡ y
+same_heads x y xs ys e = cc
+
+same_rests : {A : Type 0} (x y : A) (xs ys : List A) → x ∷ xs ≡ y ∷ ys → xs ≡ ys
+same_rests x y xs ys e = cc
+
 -- fronts of two lists that are the same, with one more that is the same
-pub alike_more : (xs ys : List KeptEntry) (i : ℕ) (x y : KeptEntry) → i < length xs → length xs ≡ length ys → x ≡ get_or xs i x → y ≡ get_or ys i y → x ≡ y
-    → take i xs ≡ take i ys → take (i + 1) xs ≡ take (i + 1) ys
-alike_more xs ys i x y lt long one other same front =
-    take_more xs i x lt ∙ ap₂ (λ (ks : List KeptEntry) (k : KeptEntry). ks ++ k ∷ []) front (sym one ∙ same ∙ other) ∙ sym (take_more ys i y (omega (arith, lt, long)))
+alike_suc : {A : Type 0} (xs ys : List A) (i : ℕ) → length xs ≡ length ys → i < length xs → slice_get xs i ≡ slice_get ys i → take i xs ≡ take i ys → take (suc i) xs ≡ take (suc i) ys
+alike_suc [] ys i long lt same front = absurd (omega arith)
+alike_suc (x ∷ xs) [] i long lt same front = absurd (omega arith)
+alike_suc (x ∷ xs) (y ∷ ys) zero long lt same front = ap (λ z. z ∷ []) (same_items x y same)
+alike_suc (x ∷ xs) (y ∷ ys) (suc i) long lt same front =
+    ap₂ (λ z zs. z ∷ zs) (same_heads _ _ _ _ front) (alike_suc xs ys i (omega arith) (omega arith) same (same_rests _ _ _ _ front))
+
+pub alike_more : {A : Type 0} (xs ys : List A) (i : ℕ) → length xs ≡ length ys → i < length xs → slice_get xs i ≡ slice_get ys i → take i xs ≡ take i ys → take (i + 1) xs ≡ take (i + 1) ys
+alike_more xs ys i long lt same front = subst (λ (k : ℕ). take k xs ≡ take k ys) (sym (add-one i)) (alike_suc xs ys i long lt same front)
 
 -- and at the end
-pub alike_whole : (xs ys : List KeptEntry) (i : ℕ) → length xs ≡ length ys → length xs ≤ i → take i xs ≡ take i ys → xs ≡ ys
+pub alike_whole : {A : Type 0} (xs ys : List A) (i : ℕ) → length xs ≡ length ys → length xs ≤ i → take i xs ≡ take i ys → xs ≡ ys
 alike_whole xs ys i long all front = sym (take_all i xs all) ∙ front ∙ take_all i ys (omega (arith, long, all))
+
+-- items that were read are those of the lists, where the items are the same
+pub read_alike : {A : Type 0} (xs ys : List A) (i : ℕ) (x y : A) → length xs ≡ length ys → i < length xs → x ≡ get_or xs i x → y ≡ get_or ys i y → x ≡ y → slice_get xs i ≡ slice_get ys i
+read_alike xs ys i x y long lt one other same =
+    slice_get_read xs (length xs) i x refl lt one ∙ ap Some same ∙ sym (slice_get_read ys (length ys) i y refl (omega (arith, lt, long)) other)

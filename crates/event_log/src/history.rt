@@ -67,11 +67,13 @@ impl<'a> History<'a> {
         }
     }
 
-    /// Whether both are kept as the same, entry for entry, with the same bytes in the same places.
-    pub fn is_kept_as(&self, other: &History<'_>) -> bool
-        ensures { IsTrue result → self.now ≡ other.now }
+    /// Whether both have the same entries in the same order. Where they are kept as the same, with the same bytes in the same
+    /// places, no entry is looked up.
+    pub fn is_same(&self, other: &History<'_>) -> bool
+        ensures { IsTrue result ↔ (self.now ≡ other.now) }
     {
-        self.bytes == other.bytes && are_kept_as(self.entries, other.entries)
+        (self.bytes == other.bytes && are_kept_as(self.entries, other.entries))
+            || are_same(self, other)
     }
 
     /// Adds the last entry, where there is one, to a log that has room for it.
@@ -111,10 +113,26 @@ fn entry_at(kept: &KeptEntry, arena: &[u8]) -> Entry
     kept.with(bytes_of(kept, arena))
 }
 
+/// Whether each entry is the same as the other's of its number, and there are as many.
+#[inline(never)]
+fn are_same(one: &History<'_>, other: &History<'_>) -> bool
+    ensures { IsTrue result ↔ (one.now ≡ other.now) }
+{
+    if one.len() != other.len() {
+        return false;
+    }
+    for number in 0..one.len() {
+        if !one.has_same(number, other, number) {
+            return false;
+        }
+    }
+    true
+}
+
 /// Whether all are kept as the others.
 #[inline(never)]
 fn are_kept_as(entries: &[KeptEntry], others: &[KeptEntry]) -> bool
-    ensures { IsTrue result → entries.now ≡ others.now }
+    ensures { IsTrue result ↔ (entries.now ≡ others.now) }
 {
     if entries.len() != others.len() {
         return false;

@@ -1,5 +1,5 @@
 -- The rows of the lines that drive a machine (own).
-use Rattle.std.specs.Prelude.{ℕ, ◌%◌, ◌==◌, ◌&&◌, nat_le, List, [], ◌∷◌, Option, Some, None, Result, Ok, Err, codes, if◌then◌else◌}
+use Rattle.std.specs.Prelude.{ℕ, Bool, ◌%◌, ◌==◌, ◌&&◌, ◌||◌, nat_le, List, [], ◌∷◌, Option, Some, None, Result, Ok, Err, codes, if◌then◌else◌}
 use Rattle.std.specs.Str.{bytes_eq}
 use Rattle.chan_events.specs.declared.event.Instruction.{Instruction}
 use Rattle.chan_events.specs.declared.event.Instruction.TheVariants.{Ssch, Tsch, Stsch, Msch, Rsch, Hsch, Csch, Xsch, Enable}
@@ -274,3 +274,7 @@ event_row w ws = or_row (storage_row w ws) (or_row (subsystem_row w ws) (or_row 
 -- an instruction without `cpu` is of CPU 0
 abbrev pub action_row : List ℕ → List (List ℕ) → Option (Result Action ℕ)
 action_row w ws = or_row (executed_row (Some 0) w ws) (event_row w ws)
+
+-- the first word of a line of a start, of its signals, of its device's turns or of its end
+abbrev pub is_common : List ℕ → Bool
+is_common w = bytes_eq w (codes "up") || bytes_eq w (codes "down") || bytes_eq w (codes "dev") || bytes_eq w (codes "ssch") || bytes_eq w (codes "tsch") || bytes_eq w (codes "choose")

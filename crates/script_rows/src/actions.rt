@@ -1,6 +1,6 @@
 //! The lines that drive a machine.
 
-ghost use Rattle.std.specs.Prelude.{◌≡◌, ℕ, List, Option, IfSome, codes, true, false, map, Some, None, Ok, Err};
+ghost use Rattle.std.specs.Prelude.{◌≡◌, ℕ, List, Option, IfSome, is_some, codes, true, false, map, Some, None, Ok, Err};
 ghost use Rattle.std.specs.Str.{bytes_eq};
 ghost use Rattle.script_rows.specs.Words.{number_up_to};
 ghost use Rattle.script_rows.specs.Actions as spec;
@@ -441,31 +441,11 @@ fn event_row(place: &mut ActionPlace, word: &[u8], words: &[&[u8]]) -> Option<Re
     }
 }
 
-/// Whether a word begins as no instruction's name does, and most lines do.
-fn names_no_instruction(word: &[u8]) -> bool
-    ensures { result ≡ true → (cpu : Option ℕ) → (words : List (List ℕ)) → spec.executed_row cpu word.now words ≡ None }
-{
-    match word {
-        [] => false,
-        [first, ..] => *first == b'd' || *first == b'u',
-    }
-}
-
-/// What CPU 0 executes, where a line's first word names an instruction.
-fn told_row(place: &mut ActionPlace, word: &[u8], words: &[&[u8]]) -> Option<Result<(), u8>>
-    ensures { rows_at result (action_at place.new) ≡ spec.executed_row (Some 0) word.now (map (λ w. w.now) words.now) }
-{
-    if names_no_instruction(word) {
-        return None;
-    }
-    executed_row(place, Cpu::new(0), word, words)
-}
-
 /// Writes to a place what a line's words ask the machine for, where its first word is known. An instruction without `cpu` is of CPU 0.
 pub fn action_row(place: &mut ActionPlace, word: &[u8], words: &[&[u8]]) -> Option<Result<(), u8>>
     ensures { rows_at result (action_at place.new) ≡ spec.action_row word.now (map (λ w. w.now) words.now) }
 {
-    match told_row(place, word, words) {
+    match executed_row(place, Cpu::new(0), word, words) {
         Some(said) => Some(said),
         None => event_row(place, word, words),
     }
@@ -476,6 +456,7 @@ pub fn action_row(place: &mut ActionPlace, word: &[u8], words: &[&[u8]]) -> Opti
 /// another line.
 #[inline(always)]
 pub fn common_row(place: &mut ActionPlace, word: &[u8], words: &[&[u8]]) -> Option<Result<(), u8>>
+    ensures known { is_some result ≡ spec.is_common word.now }
     ensures says { IfSome result (λ said. spec.action_row word.now (map (λ w. w.now) words.now) ≡ Some (row_at said (action_at place.new))) }
     ensures sole { IfSome result (λ said. (setting_row word.now (map (λ w. w.now) words.now) ≡ None) × (bytes_eq word.now (codes "race") ≡ false)) }
 {

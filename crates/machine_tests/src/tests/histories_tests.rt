@@ -51,6 +51,14 @@ fn another_address_or_another_byte_is_told(rt: HostRuntime) {
 }
 
 #[test]
+fn histories_of_the_same_entries_are_the_same(rt: HostRuntime) {
+    let (two, again) = (two_puts(rt.alloc()), two_puts(rt.alloc()));
+    let one = one_put(rt.alloc(), 0x400, &[9, 8, 7, 6]);
+    assert!(rt; two.history().is_same(&again.history()));
+    assert!(rt; !two.history().is_same(&one.history()));
+}
+
+#[test]
 fn an_entry_that_is_not_there_is_the_same_as_none(rt: HostRuntime) {
     let two = two_puts(rt.alloc());
     assert!(rt; !two.history().has_same(2, &two.history(), 2));
