@@ -5,7 +5,7 @@ use Rattle.std.specs.Prelude.{slice_get, slice_set, count_by}
 use Rattle.std.proofs.lemmas.Bool.{and_right, or_from, or_left, or_right, or_parts, eq-eqb, eqb-true, ne_eqb}
 use Rattle.std.proofs.lemmas.List.Folds.{list_any-append}
 use Rattle.std.proofs.lemmas.List.Sums.{sum_by-cons, sum_by-set, sum_by-append, sum_by-take-drop, sum_by-drop_more, get_or-le-sum_by}
-use Rattle.std.proofs.lemmas.Option.{slice_get_within, slice_get_read, get_or_from_slice_get}
+use Rattle.std.proofs.lemmas.Option.{slice_get_within, slice_get_read, get_or_from_slice_get, same_Some}
 use Rattle.std.proofs.Math.Bool.{and-true}
 use Rattle.std.specs.Cmp.{both_ways}
 use mir.Val.{bool_byte}
@@ -23,14 +23,11 @@ made begun refused = record { begun = begun; refused = refused }
 same-group : (b c : ℕ) (r s : Bool) → b ≡ c → r ≡ s → made b r ≡ made c s
 same-group b c r s e f = ap (λ (n : ℕ). made n r) e ∙ ap (λ (t : Bool). made c t) f
 
-same-some : (g h : Group) → Some g ≡ Some h → h ≡ g
-same-some g h e = cc e
-
 -- an entry is written
 entry-set : (f g : ℕ → Group) (table : List Group) (i : ℕ) (v : Group) → ((k : ℕ) (a : Group) → slice_get table k ≡ Some a → a ≡ f k) → v ≡ g i →
     ((k : ℕ) → k ≢ i → f k ≡ g k) → (k : ℕ) (a : Group) → slice_get (slice_set table i v) k ≡ Some a → a ≡ g k
 entry-set f g [] i v t here other k a h = absurd (cc h)
-entry-set f g (x ∷ xs) zero v t here other zero a h = same-some v a h ∙ here
+entry-set f g (x ∷ xs) zero v t here other zero a h = sym (same_Some v a h) ∙ here
 entry-set f g (x ∷ xs) zero v t here other (suc k) a h = t (suc k) a h ∙ other (suc k) (λ e. absurd (omega (arith, e)))
 entry-set f g (x ∷ xs) (suc i) v t here other zero a h = t zero a h ∙ other zero (λ e. absurd (omega (arith, e)))
 entry-set f g (x ∷ xs) (suc i) v t here other (suc k) a h =
@@ -192,7 +189,7 @@ none-idle test (g ∷ gs) none = sym (or_from (test (idle_member g)) (list_any t
 
 entry-idle : (n k : ℕ) (g : Group) → slice_get (replicate n idle_group) k ≡ Some g → g ≡ idle_group
 entry-idle zero k g h = absurd (cc h)
-entry-idle (suc n) zero g h = same-some idle_group g h
+entry-idle (suc n) zero g h = sym (same_Some idle_group g h)
 entry-idle (suc n) (suc k) g h = entry-idle n k g h
 
 all-idle : (groups : List ℕ) (n : ℕ) → AreGroupsOf (map idle_member groups) (replicate n idle_group)

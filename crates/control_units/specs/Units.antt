@@ -1,7 +1,7 @@
 -- Units that share a control unit: one of a group is served at a time (own). What a control unit keeps is told by unit, in
 -- the order of their numbers: the number of its group, whether it is begun, and whether it was refused since a unit of its
 -- group was over. Units of the same number share; a unit with a number of its own shares with none.
-use Rattle.std.specs.Prelude.{ℕ, ◌+◌, ◌==◌, ◌&&◌, ◌||◌, Bool, true, false, not, if◌then◌else◌, Option, None, Some, List, take, drop, map, slice_get, slice_set}
+use Rattle.std.specs.Prelude.{ℕ, ◌+◌, ◌==◌, ◌&&◌, ◌||◌, Bool, true, false, not, if◌then◌else◌, None, Some, List, take, drop, map, slice_get, slice_set}
 use Rattle.std.specs.List.{list_any}
 use Rattle.control_units.specs.declared.Member.{Member}
 

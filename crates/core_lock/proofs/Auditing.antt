@@ -1,7 +1,7 @@
 -- A seat's log against the history, one entry after another.
 use Rattle.std.proofs.Common.{◌≡◌, ◌≢◌, ℕ, zero, suc, ◌+◌, ◌<◌, ◌≤◌, Bool, true, false, List, [], ◌∷◌, length, get_or, drop, add-one, Some, refl, sym, ap, ◌∙◌, subst, eqb, eq-eqb, ne_eqb, arith, ◌-◌, length-drop, true≢false}
 use Rattle.std.proofs.lemmas.Bool.{eqb-true}
-use Rattle.std.proofs.lemmas.Option.{slice_get-get_or}
+use Rattle.std.proofs.lemmas.Option.{slice_get-get_or, same_Some}
 use Rattle.std.specs.Prelude.{if◌then◌else◌, ◌==◌, ◌&&◌, ◌↔◌}
 use Rattle.std.specs.List.{list_all}
 use Rattle.std.specs.Bool.{IsTrue}
@@ -9,6 +9,7 @@ use Rattle.chan_events.specs.declared.event.Event.TheVariants.{SystemReset}
 use Rattle.chan_events.specs.declared.reply.Reply.TheVariants.{Done}
 use Rattle.chan_events.specs.declared.reply.Entry.{Entry}
 use Rattle.event_log.specs.Logs.{HasSame}
+use Rattle.event_log.proofs.Growing.{same_heads, same_rests}
 use Rattle.core_lock.specs.Seats.{entries_by, entry}
 
 -- an entry, where any will do
@@ -60,12 +61,6 @@ at_drop_suc (x ∷ log) (suc next) d lt = at_drop_suc log next d (omega arith)
 at_drop : (log : List Entry) (next : ℕ) (d : Entry) → next < length log → drop next log ≡ get_or log next d ∷ drop (next + 1) log
 at_drop log next d lt = at_drop_suc log next d lt ∙ ap (λ k. get_or log next d ∷ drop k log) (sym (add-one next))
 
-tail_same : (x : Entry) (xs ys : List Entry) → x ∷ xs ≡ x ∷ ys → xs ≡ ys
-tail_same x xs ys e = cc
-
-head_same : (x y : Entry) (xs ys : List Entry) → x ∷ xs ≡ y ∷ ys → x ≡ y
-head_same x y xs ys e = cc
-
 -- an entry of this seat, which the log has next
 goes_on : (number : ℕ) (by : List ℕ) (history log : List Entry) (place next : ℕ) (d : Entry) → length by ≡ length history → place < length by → get_or by place 0 ≡ number → next < length log → get_or log next d ≡ get_or history place d → Fits number by history log place next → Fits number by history log (place + 1) (next + 1)
 goes_on number by history log place next d e lt is here same f =
@@ -74,7 +69,7 @@ goes_on number by history log place next d e lt is here same f =
     let c : drop next log ≡ get_or history place d ∷ drop (next + 1) log = b ∙ ap (λ x. x ∷ drop (next + 1) log) same in
     record {
       within = omega arith;
-      there = λ h. tail_same (get_or history place d) _ _ (sym a ∙ f.there h ∙ c);
+      there = λ h. same_rests (get_or history place d) (get_or history place d) _ _ (sym a ∙ f.there h ∙ c);
       back = λ h. f.back (a ∙ ap (λ l. get_or history place d ∷ l) h ∙ sym c);
     }
 
@@ -85,7 +80,7 @@ has_next number by history log place next d e lt is f h =
     let n : length (drop next log) ≡ length log - next = length-drop next log in
     let l = ap length left in
     let here : next < length log = omega (arith, l, n) in
-    let same = head_same _ _ _ _ (sym (at_drop log next d here) ∙ left) in
+    let same = same_heads _ _ _ _ (sym (at_drop log next d here) ∙ left) in
     (here, slice_get-get_or log next d here ∙ ap Some same ∙ sym (slice_get-get_or history place d (omega (arith, e, lt))))
 
 entries_nil : (number : ℕ) (by : List ℕ) → entries_by number by [] ≡ []
@@ -125,13 +120,10 @@ whole number by history log place next le f t = ends_well number by history log 
 short : (number : ℕ) (by : List ℕ) (history log : List Entry) (place next : ℕ) → length by ≤ place → Fits number by history log place next → entries_by number by history ≡ log → IsTrue (eqb next (length log))
 short number by history log place next le f h = eq-eqb next (length log) (ends_short number by history log place next le f h)
 
-some_same : (x y : Entry) → Some x ≡ Some y → x ≡ y
-some_same x y e = cc
-
 pub goes_on_at : (number : ℕ) (by : List ℕ) (history log : List Entry) (place next : ℕ) (d : Entry) → length by ≡ length history → place < length by → get_or by place 0 ≡ number → HasSame log next history place → Fits number by history log place next → Fits number by history log (place + 1) (next + 1)
 goes_on_at number by history log place next d e lt is (here, same) f =
     let there : place < length history = omega (arith, e, lt) in
-    goes_on number by history log place next d e lt is here (some_same _ _ (sym (slice_get-get_or log next d here) ∙ same ∙ slice_get-get_or history place d there)) f
+    goes_on number by history log place next d e lt is here (same_Some _ _ (sym (slice_get-get_or log next d here) ∙ same ∙ slice_get-get_or history place d there)) f
 
 -- at the end the log is whole exactly where all of it was passed
 pub whole_where : (number : ℕ) (by : List ℕ) (history log : List Entry) (place next all : ℕ) → all ≡ length log → length by ≤ place → Fits number by history log place next → IsTrue (eqb next all) ↔ (entries_by number by history ≡ log)

@@ -66,6 +66,3 @@ among_end s chpid [] zero le = refl
 among_end s chpid [] (suc i) le = refl
 among_end s chpid (x ∷ xs) zero le = absurd (omega arith)
 among_end s chpid (x ∷ xs) (suc i) le = among_end s chpid xs i (omega arith)
-
-pub among_none : (s : State) (chpid : ℕ) (setups : List SubchannelSetup) (i : ℕ) → length setups ≤ i → path_turn_among s chpid setups ≡ path_turn_among s chpid (drop i setups) → path_turn_among s chpid setups ≡ None
-among_none s chpid setups i le so = so ∙ among_end s chpid setups i le

@@ -43,9 +43,6 @@ shown_at [] k w lt e = absurd (omega arith)
 shown_at (x ∷ ws) zero w lt e = ap (λ (u : Words). Some (counts_of u)) (sym e)
 shown_at (x ∷ ws) (suc k) w lt e = shown_at ws k w (omega arith) e
 
-same_some : (a b : Serials) → Some a ≡ Some b → a ≡ b
-same_some a b e = cc
-
 -- a place's new numbers are no less than what its words show while the first ones are rewritten
 pub rises_at : (ws olds : List Words) (new : List Serials) (k : ℕ) (now : Serials) → shown ws ≡ mix k new (shown olds) → Rises (shown olds) new → slice_get new k ≡ Some now → (s : Serials) → slice_get (shown ws) k ≡ Some s → (s.made ≤ now.made) × (s.cleared ≤ now.cleared)
 rises_at ws olds new k now is r g s h =

@@ -1,5 +1,6 @@
 -- What clears status of a subchannel clears all that was made before.
 use Rattle.std.proofs.Common.{◌≡◌, refl, sym, ◌∙◌, ap, subst, ℕ, Bool, true, false, Option, None, Some, Result, Ok, Err}
+use Rattle.std.proofs.lemmas.Option.{same_Some}
 use Rattle.std.specs.Prelude.{slice_get, slice_set, if◌then◌else◌, IfOk}
 use Rattle.storage_keys.specs.declared.StorageFault.{StorageFault}
 use Rattle.storage_keys.specs.Storage.{operand_check}
@@ -33,7 +34,7 @@ use Rattle.step_laws.proofs.Places.{get-set, map-get}
 use Rattle.event_laws.specs.Clearing.{IsClearing, ClearsByCause}
 use Rattle.step_laws.specs.Walks.{Walked}
 use Rattle.event_laws.proofs.Answered.{found-place}
-use Rattle.event_laws.proofs.Following.{same-sub, step-follows}
+use Rattle.event_laws.proofs.Following.{step-follows}
 
 -- TEST, and HALT where it drops the status
 wholly-cleared : (s : SubchannelState) (ends : Bool) → (if ends then without_programs (tested s) else tested s).serials.cleared ≡ s.serials.made
@@ -44,9 +45,6 @@ dropped-cleared : (s : SubchannelState) (drops : Bool) → drops ≡ true →
     (if drops then status_dropped (halt_begun s) else halt_begun s).serials.cleared ≡ s.serials.made
 dropped-cleared s true e = refl
 dropped-cleared s false e = absurd (cc e)
-
-same-place : (i k : ℕ) → Some i ≡ Some k → i ≡ k
-same-place i k e = cc e
 
 module _ (s : State) where
   abbrev IsAllCleared : Event → Reply → State → Type 0
@@ -65,10 +63,10 @@ module _ (s : State) where
       p ≡ Some place → If sub → after.state.serials.cleared ≡ sub.state.serials.made
   one-cleared If p f y place sub after found clears there left at k =
       let was : (p ≡ Some f.place) × (slice_get s.subs f.place ≡ Some f.sub) = found-place s.subs p f found in
-      let same : f.place ≡ place = same-place f.place place (sym was.0 ∙ at) in
-      let sub-same : f.sub ≡ sub = same-sub f.sub sub (sym was.1 ∙ ap (λ (i : ℕ). slice_get s.subs i) same ∙ there) in
+      let same : f.place ≡ place = same_Some f.place place (sym was.0 ∙ at) in
+      let sub-same : f.sub ≡ sub = same_Some f.sub sub (sym was.1 ∙ ap (λ (i : ℕ). slice_get s.subs i) same ∙ there) in
       let new-same : y ≡ after =
-      same-sub y after (sym (get-set s.subs f.place f.sub y was.1) ∙ ap (λ (i : ℕ). slice_get (slice_set s.subs f.place y) i) same ∙ left) in
+      same_Some y after (sym (get-set s.subs f.place f.sub y was.1) ∙ ap (λ (i : ℕ). slice_get (slice_set s.subs f.place y) i) same ∙ left) in
       ap (λ (x : Subchannel). x.state.serials.cleared) (sym new-same)
       ∙ clears (subst If (sym sub-same) k)
       ∙ ap (λ (x : Subchannel). x.state.serials.made) sub-same
@@ -161,7 +159,7 @@ module _ (s : State) where
       let got : (x : Subchannel) × (slice_get s.subs place ≡ Some x) × (swept sweep.SystemReset x ≡ after) =
       map-get (swept sweep.SystemReset) s.subs place after left in
       ap (λ (x : Subchannel). x.state.serials.cleared) (sym got.2)
-      ∙ ap (λ (x : Subchannel). x.state.serials.made) (same-sub got.0 sub (sym got.1 ∙ there))
+      ∙ ap (λ (x : Subchannel). x.state.serials.made) (same_Some got.0 sub (sym got.1 ∙ there))
 
   step-cleared : (e : Event) (r : Reply) (new : State) → Step s e r new → IsAllCleared e r new
   step-cleared (event.Put address bytes) r new step = λ place sub after there left k. absurd k

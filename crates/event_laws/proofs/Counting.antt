@@ -1,5 +1,6 @@
 -- The count after each step.
 use Rattle.std.proofs.Common.{◌≡◌, sym, ◌∙◌, ap, ℕ, true, Some, List, refl}
+use Rattle.std.proofs.lemmas.Option.{same_Some}
 use Rattle.std.specs.Prelude.{slice_get}
 use Rattle.orb_block.specs.declared.Orb.{Orb}
 use Rattle.chan_model.specs.declared.answer.Answer.TheVariants as answer
@@ -18,7 +19,7 @@ use Rattle.step_laws.specs.Walks as walked
 use Rattle.step_laws.specs.Walks.{Walked, IsQuiet, is_start}
 use Rattle.step_laws.proofs.Places.{get-set}
 use Rattle.event_laws.specs.Counts.{IsStart, CountsByStatus}
-use Rattle.event_laws.proofs.Following.{same-sub, step-follows}
+use Rattle.event_laws.proofs.Following.{step-follows}
 
 module _ (s : State) where
   -- the reply is code 0
@@ -77,17 +78,14 @@ module _ (s : State) where
   start-zero sub orb code.Two k = absurd (cc k)
   start-zero sub orb code.Three k = absurd (cc k)
 
-  same-place : (i k : ℕ) → Some i ≡ Some k → i ≡ k
-  same-place i k e = cc e
-
   started-zero : (e : Event) (r : Reply) (new : State) → Walked s e r new → (place : ℕ) (after : Subchannel) → slice_get new.subs place ≡ Some after →
       IsStart s e r place → after.state.scsw.count ≡ 0
   started-zero _ _ _ (walked.Started cpu word address at sub orb c new named one) place after left k =
       let x : Subchannel = (function_sub sub c (started sub.state orb)).sub in
       let start = accepted cpu word address (function_sub sub c (started sub.state orb)).reply place k in
-      let here : at ≡ place = same-place at place (sym named ∙ start.1) in
+      let here : at ≡ place = same_Some at place (sym named ∙ start.1) in
       let same : x ≡ after =
-      same-sub x after (sym (get-set s.subs at sub x one.there) ∙ sym (ap (λ (xs : List Subchannel). slice_get xs at) one.subs)
+      same_Some x after (sym (get-set s.subs at sub x one.there) ∙ sym (ap (λ (xs : List Subchannel). slice_get xs at) one.subs)
       ∙ ap (λ (i : ℕ). slice_get new.subs i) here ∙ left) in
       ap (λ (y : Subchannel). y.state.scsw.count) (sym same) ∙ start-zero sub orb c start.0
   started-zero _ _ _ (walked.Stays e r new q sets subs units up) place after left k = absurd (not-start e r place q k)

@@ -2,6 +2,7 @@
 use Rattle.std.proofs.Common.{◌≡◌, refl, sym, ◌∙◌, ap, subst, ℕ, suc, ◌+◌, ◌==◌, ◌&&◌, nat_lt, not, Bool, true, false, Option, None, Some, Result, List, [], ◌∷◌, map, inl, inr, length, arith}
 use Rattle.std.specs.Prelude.{◌⊎◌, slice_get, slice_set, if◌then◌else◌, IfOk}
 use Rattle.std.proofs.lemmas.Bool.{eqb-true, ltb-true}
+use Rattle.std.proofs.lemmas.Option.{same_Some}
 use Rattle.schib_block.specs.declared.pmcw.Pmcw as block
 use Rattle.scsw_irb.specs.declared.scsw.Scsw.{Scsw}
 use Rattle.orb_block.specs.declared.Orb.{Orb}
@@ -82,9 +83,6 @@ pub record Follows (s : State) (e : Event) (r : Reply) (place : ℕ) (sub : Subc
 if-ok : {A : Type 0} (P : A → Type 0) (b : Bool) (x y : Result A Fault) → IfOk x P → IfOk y P → IfOk (if b then x else y) P
 if-ok P true x y e f = e
 if-ok P false x y e f = f
-
-pub same-sub : (x y : Subchannel) → Some x ≡ Some y → x ≡ y
-same-sub x y e = cc e
 
 -- the index of a channel path of a subchannel
 index-there : (chpid x p : ℕ) (xs : List ℕ) (same : Bool) (o : Option ℕ) → (x == chpid) ≡ same →
@@ -408,24 +406,24 @@ module _ (s : State) where
   same-followed : (e : Event) (r : Reply) (new : State) → new.subs ≡ s.subs → Followed e r new
   same-followed e r new same place sub after there left =
       same-follows e r place sub after.state
-      (ap (λ (x : Subchannel). x.state) (same-sub after sub (sym left ∙ ap (λ (xs : List Subchannel). slice_get xs place) same ∙ there)))
+      (ap (λ (x : Subchannel). x.state) (same_Some after sub (sym left ∙ ap (λ (xs : List Subchannel). slice_get xs place) same ∙ there)))
 
   one-followed : (e : Event) (r : Reply) (new : State) (at : ℕ) (x y : Subchannel) → slice_get s.subs at ≡ Some x → new.subs ≡ slice_set s.subs at y →
       Follows s e r at x y.state → Followed e r new
   one-followed e r new at x y found set k place sub after there left =
       elim (set-get s.subs at y place after (sym (ap (λ (xs : List Subchannel). slice_get xs place) set) ∙ left)) [
         | inl p ↦
-            let same : x ≡ sub = same-sub x sub (sym found ∙ ap (λ (i : ℕ). slice_get s.subs i) (sym p.0) ∙ there) in
+            let same : x ≡ sub = same_Some x sub (sym found ∙ ap (λ (i : ℕ). slice_get s.subs i) (sym p.0) ∙ there) in
             subst (λ (z : Subchannel). Follows s e r place sub z.state) (sym p.1)
             (subst (λ (z : Subchannel). Follows s e r place z y.state) same (subst (λ (i : ℕ). Follows s e r i x y.state) (sym p.0) k))
-        | inr p ↦ same-follows e r place sub after.state (ap (λ (z : Subchannel). z.state) (same-sub after sub (sym p.1 ∙ there)))
+        | inr p ↦ same-follows e r place sub after.state (ap (λ (z : Subchannel). z.state) (same_Some after sub (sym p.1 ∙ there)))
       ]
 
   swept-followed : (e : Event) (r : Reply) (what : Sweep) (new : State) → new.subs ≡ map (swept what) s.subs → e ≡ sweep_event what → Followed e r new
   swept-followed e r what new set k place sub after there left =
       let got : (x : Subchannel) × (slice_get s.subs place ≡ Some x) × (swept what x ≡ after) =
       map-get (swept what) s.subs place after (sym (ap (λ (xs : List Subchannel). slice_get xs place) set) ∙ left) in
-      let same : got.0 ≡ sub = same-sub got.0 sub (sym got.1 ∙ there) in
+      let same : got.0 ≡ sub = same_Some got.0 sub (sym got.1 ∙ there) in
       subst (λ (v : Event). Follows s v r place sub after.state) (sym k)
       (subst (λ (z : Subchannel). Follows s (sweep_event what) r place sub z.state) got.2
       (subst (λ (z : Subchannel). Follows s (sweep_event what) r place z (swept what got.0).state) same (swept-follows r what place got.0)))

@@ -3,7 +3,7 @@ use Rattle.std.proofs.Common.{◌≡◌, ◌≤◌, ◌<◌, ℕ, zero, suc, ◌
 use Rattle.std.proofs.Math.Seq.{drop-append_seam, take-length}
 use Rattle.std.proofs.lemmas.List.{same_lists, take_all, take-append-le, drop-append-le, append-nil, get_or-map, length-map, map_push}
 use Rattle.std.proofs.lemmas.List.Elements.{All-push}
-use Rattle.std.proofs.lemmas.Option.{slice_get_read}
+use Rattle.std.proofs.lemmas.Option.{same_Some, slice_get_read}
 use Rattle.std.specs.List.{slice_get}
 use Rattle.chan_events.specs.declared.reply.Entry.{Entry}
 use Rattle.kept_events.specs.declared.entries.KeptEntry.{KeptEntry}
@@ -74,20 +74,17 @@ grown arena more after ks later k e is grew fit start kept =
       same = ap₂ entries_at is grew ∙ (entries-added arena more ks k fit added ∙ ap (λ (x : Entry). entries_at arena ks ++ x ∷ []) kept.same);
     }
 
-same_items : {A : Type 0} (x y : A) → Some x ≡ Some y → x ≡ y
-same_items x y e = cc
-
-same_heads : {A : Type 0} (x y : A) (xs ys : List A) → x ∷ xs ≡ y ∷ ys → x ≡ y
+pub same_heads : {A : Type 0} (x y : A) (xs ys : List A) → x ∷ xs ≡ y ∷ ys → x ≡ y
 same_heads x y xs ys e = cc
 
-same_rests : {A : Type 0} (x y : A) (xs ys : List A) → x ∷ xs ≡ y ∷ ys → xs ≡ ys
+pub same_rests : {A : Type 0} (x y : A) (xs ys : List A) → x ∷ xs ≡ y ∷ ys → xs ≡ ys
 same_rests x y xs ys e = cc
 
 -- fronts of two lists that are the same, with one more that is the same
 alike_suc : {A : Type 0} (xs ys : List A) (i : ℕ) → length xs ≡ length ys → i < length xs → slice_get xs i ≡ slice_get ys i → take i xs ≡ take i ys → take (suc i) xs ≡ take (suc i) ys
 alike_suc [] ys i long lt same front = absurd (omega arith)
 alike_suc (x ∷ xs) [] i long lt same front = absurd (omega arith)
-alike_suc (x ∷ xs) (y ∷ ys) zero long lt same front = ap (λ z. z ∷ []) (same_items x y same)
+alike_suc (x ∷ xs) (y ∷ ys) zero long lt same front = ap (λ z. z ∷ []) (same_Some x y same)
 alike_suc (x ∷ xs) (y ∷ ys) (suc i) long lt same front =
     ap₂ (λ z zs. z ∷ zs) (same_heads _ _ _ _ front) (alike_suc xs ys i (omega arith) (omega arith) same (same_rests _ _ _ _ front))
 

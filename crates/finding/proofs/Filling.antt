@@ -4,6 +4,7 @@ use Rattle.std.specs.Prelude.{slice_set}
 use Rattle.std.proofs.lemmas.List.{append_assoc, drop_more, drop_all, length-set, length-replicate, replicate-append-replicate}
 use Rattle.std.proofs.lemmas.Bool.{and_parts, and_from, and_right, ltb-true, ltb-false, eqb-true, eq-eqb, ne_eqb}
 use Rattle.std.proofs.Math.Bool.{and-true}
+use Rattle.std.proofs.lemmas.Option.{same_Some}
 use Rattle.std.specs.Cmp.{both_ways}
 use Rattle.chan_model.specs.declared.names.Side.{Side}
 use Rattle.chan_model.specs.declared.names.Side.TheVariants.{First, Second}
@@ -27,13 +28,10 @@ pub record FitsFrom (n : ℕ) (t : Tables) (subs : List Subchannel) : Type 0 whe
   pub named : IsTable (place_from (λ k. is_named (id_at k)) n subs) t.named
   pub sides : (side : Side) → IsTable (place_from (λ u. reaches u side) n subs) (of_side side t)
 
-some-same : (p q : Option ℕ) → Some p ≡ Some q → q ≡ p
-some-same p q e = cc e
-
 -- an entry is written
 table-set : (f g : ℕ → Option ℕ) (table : List (Option ℕ)) (i : ℕ) (v : Option ℕ) → IsTable f table → v ≡ g i → ((k : ℕ) → k ≢ i → f k ≡ g k) → IsTable g (slice_set table i v)
 table-set f g [] i v t here other k p h = absurd (cc h)
-table-set f g (x ∷ xs) zero v t here other zero p h = some-same v p h ∙ here
+table-set f g (x ∷ xs) zero v t here other zero p h = sym (same_Some v p h) ∙ here
 table-set f g (x ∷ xs) zero v t here other (suc k) p h = t (suc k) p h ∙ other (suc k) (λ e. absurd (omega (arith, e)))
 table-set f g (x ∷ xs) (suc i) v t here other zero p h = t zero p h ∙ other zero (λ e. absurd (omega (arith, e)))
 table-set f g (x ∷ xs) (suc i) v t here other (suc k) p h =
@@ -113,7 +111,7 @@ fits-entered n t subs sub within there f =
 -- at the end no subchannel is left, and the entries are empty
 table-empty : (f : ℕ → Option ℕ) (entries : ℕ) → ((k : ℕ) → None ≡ f k) → IsTable f (replicate entries None)
 table-empty f zero none k p h = absurd (cc h)
-table-empty f (suc n) none zero p h = some-same None p h ∙ none zero
+table-empty f (suc n) none zero p h = sym (same_Some None p h) ∙ none zero
 table-empty f (suc n) none (suc k) p h = table-empty (λ j. f (suc j)) n (λ j. none (suc j)) k p h
 
 none-left : (test : Subchannel → Bool) (subs : List Subchannel) →

@@ -1,5 +1,6 @@
 -- What an instruction answers and leaves of storage and of its subchannel, as what the machine's definitions give.
 use Rattle.std.proofs.Common.{◌≡◌, refl, sym, ◌∙◌, ap, subst, ℕ, zero, suc, Bool, true, false, Option, Some, Result, Ok, Err, List, [], ◌∷◌, inl, inr}
+use Rattle.std.proofs.lemmas.Option.{same_Some}
 use Rattle.std.specs.Prelude.{map, slice_get, slice_index, slice_set, is_ok, OnOk}
 use Rattle.zbits.specs.Layout.{image_of}
 use Rattle.zbits.specs.Words.{bytes_of_words, word_at}
@@ -63,13 +64,10 @@ fetched before cpu address count u checked =
     let image : List ℕ = map (slice_index before.bytes) (absolute_places before cpu address count) in
     (image, ap (λ (x : Result (Unit {0}) StorageFault). where_permitted x image) checked)
 
-some_inj : {A : Type 0} (x y : A) → Some x ≡ Some y → x ≡ y
-some_inj x y e = cc
-
 -- an element written to the place where it stands
 set_there : {A : Type 0} (xs : List A) (i : ℕ) (x : A) → slice_get xs i ≡ Some x → slice_set xs i x ≡ xs
 set_there [] i x e = refl
-set_there (y ∷ ys) zero x e = ap (λ z. z ∷ ys) (sym (some_inj y x e))
+set_there (y ∷ ys) zero x e = ap (λ z. z ∷ ys) (sym (same_Some y x e))
 set_there (y ∷ ys) (suc i) x e = ap (λ zs. y ∷ zs) (set_there ys i x e)
 
 pub tests-sub : (s : State) (before after : Contents) (cpu address place : ℕ) (old new : Subchannel) (u : Unit {0}) (r : Reply) →

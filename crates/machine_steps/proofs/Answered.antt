@@ -1,6 +1,5 @@
 -- Whether a signal that is sent finds its wire full, where that was asked of its path.
-use Rattle.std.proofs.Common.{◌≡◌, refl, ℕ, Bool, true, false, ◌&&◌, IfSome, Option, None, Some, List}
-use Rattle.std.specs.Prelude.{is_some}
+use Rattle.std.proofs.Common.{◌≡◌, refl, ℕ, Bool, false, IfSome, Option, None, Some, List}
 use Rattle.chan_model.specs.declared.signal.Down.{Down}
 use Rattle.chan_model.specs.declared.signal.OnPath.{OnPath}
 use Rattle.chan_model.specs.declared.signal.Up.{Up}
@@ -20,14 +19,6 @@ pub tells_none : (available : List Bool) (queues : List (List Down)) (sends : Op
     ((s : OnPath Down) → IsAnswerPath phase p (Some s.path) → TellsFull queues (carried available (Some s)) false) → TellsFull queues (carried available sends) false
 tells_none available queues None phase p goes f = (refl, tt)
 tells_none available queues (Some s) phase p goes f = f s goes
-
--- the same of an answer, where it was asked first of its path
-pub tells_answer : (available : List Bool) (queues : List (List Up)) (sends : Option (OnPath Up)) (p : ℕ) (full : Bool) → IfSome sends (λ s. s.path ≡ p) →
-    ((s : OnPath Up) → s.path ≡ p → TellsFull queues (carried available (Some s)) full) → TellsFull queues (carried available sends) (full && is_some sends)
-tells_answer available queues None p true e f = (refl, tt)
-tells_answer available queues None p false e f = (refl, tt)
-tells_answer available queues (Some s) p true e f = f s e
-tells_answer available queues (Some s) p false e f = f s e
 
 -- where a path has room, so has an answer that goes by it, if there is one
 pub tells_room : (available : List Bool) (queues : List (List Up)) (sends : Option (OnPath Up)) (p : ℕ) (full : Bool) → full ≡ false → IfSome sends (λ s. s.path ≡ p) →

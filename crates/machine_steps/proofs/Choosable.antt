@@ -3,7 +3,7 @@ use Rattle.std.proofs.Common.{◌≡◌, refl, sym, ◌∙◌, ap, subst, ℕ, z
 use Rattle.std.specs.Prelude.{◌≢◌, IfOk, slice_get}
 use Rattle.std.proofs.Math.Nat.{mod-eq_of_lt}
 use Rattle.std.proofs.lemmas.Bool.{cond_both}
-use Rattle.std.proofs.lemmas.Option.{get_or_from_slice_get}
+use Rattle.std.proofs.lemmas.Option.{get_or_from_slice_get, same_Some}
 use Rattle.allegiance.specs.PathUse.{is_any, is_member, reachable_paths}
 use Rattle.path_select.specs.Choice.{IsChoice, IsUsable}
 use Rattle.chan_model.specs.declared.fault.Fault.{Fault}
@@ -35,13 +35,10 @@ use Rattle.machine_model.specs.Turns.{Outcome, SubTurn, at_sub, leaves}
 use Rattle.machine_steps.specs.PathTurns.{has_to_choose, is_idle, lowest_path, path_turn_of, turn_at, turn_by, turn_on, waits_up}
 
 -- the first path of a set, in cyclic order, is a path of it, and there is one where the set has any
-some-inj : (p q : ℕ) → Some p ≡ Some q → p ≡ q
-some-inj p q e = cc e
-
 found-by : (paths : List Bool) (n from q : ℕ) (here : Bool) → is_member paths (from % 8) ≡ here → cyclic_path paths (suc n) from ≡ Some q →
     (cyclic_path paths n (from + 1) ≡ Some q → (is_member paths q ≡ true) × (q < 8)) → (is_member paths q ≡ true) × (q < 8)
 found-by paths n from q true h e later =
-    let same : from % 8 ≡ q = some-inj (from % 8) q (sym (ap (λ (b : Bool). if b then Some (from % 8) else cyclic_path paths n (from + 1)) h) ∙ e) in
+    let same : from % 8 ≡ q = same_Some (from % 8) q (sym (ap (λ (b : Bool). if b then Some (from % 8) else cyclic_path paths n (from + 1)) h) ∙ e) in
     (subst (λ (k : ℕ). is_member paths k ≡ true) same h, omega (arith, same))
 found-by paths n from q false h e later = later (sym (ap (λ (b : Bool). if b then Some (from % 8) else cyclic_path paths n (from + 1)) h) ∙ e)
 

@@ -4,6 +4,7 @@ use Rattle.std.specs.Prelude.{◌^◌, slice_get, slice_set, slice_index, All, I
 use Rattle.std.proofs.lemmas.List.{set-get_or}
 use Rattle.std.proofs.lemmas.List.Elements.{All-get_or}
 use Rattle.std.proofs.lemmas.List.Sums.{count_by-le-length}
+use Rattle.std.proofs.lemmas.Option.{same_Some}
 use Rattle.storage_keys.specs.Storage.{Contents}
 use Rattle.control_units.specs.declared.Member.{Member}
 use Rattle.interruptions.specs.Requests.{WaitingRequests}
@@ -224,11 +225,8 @@ up-by subs storage sub path may h =
     (λ t. ap (λ (b : Bool). up_front b storage sub path front) (h t))
 
 -- there is one element at a place
-some_inj : {A : Type 0} (x y : A) → Some x ≡ Some y → x ≡ y
-some_inj x y e = cc
-
 pub one_there : (subs : List Subchannel) (place : ℕ) (x y : Subchannel) → x ≡ slice_index_or subs place x → StandsAt subs place y → x ≡ y
-one_there subs place x y there stands = some_inj x y (sym (at_place subs place x x stands.within there) ∙ gets subs place y stands)
+one_there subs place x y there stands = same_Some x y (sym (at_place subs place x x stands.within there) ∙ gets subs place y stands)
 
 pub up-performs : (s : State) (word path place : ℕ) (looked sub new : Subchannel) (after : Contents) (may : Bool) (r : Result Reply Fault) (waiting : WaitingRequests) →
     place_of s word ≡ Some place → StandsAt s.subs place sub → looked ≡ slice_index_or s.subs place looked → MayReturn s.subs looked path may →
@@ -347,7 +345,7 @@ act-does s k act u side o at is e =
 
 -- the unit is read before it is lent
 one_unit : (units : List UnitState) (k : ℕ) (x y : UnitState) → k < length units → x ≡ slice_index_or units k x → y ≡ slice_index_or units k y → x ≡ y
-one_unit units k x y inside there here = some_inj x y (sym (at_place units k x x inside there) ∙ at_place units k y y inside here)
+one_unit units k x y inside there here = same_Some x y (sym (at_place units k x x inside there) ∙ at_place units k y y inside here)
 
 pub act-performs : (s : State) (k place : ℕ) (act : UnitAct) (side : Side) (sub new : Subchannel) (looked u v : UnitState) (r : Result Reply Fault) →
     k < length s.units → looked ≡ slice_index_or s.units k looked → side_of_act looked act ≡ Some side → reached_in k side s.subs ≡ Some place →

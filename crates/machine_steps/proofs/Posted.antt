@@ -2,6 +2,7 @@
 use Rattle.std.proofs.Common.{◌≡◌, refl, ◌∙◌, ap, ℕ, zero, suc, Bool, false, nat_lt, Some, List, [], ◌∷◌, if◌then◌else◌, arith}
 use Rattle.std.specs.Prelude.{slice_get, slice_set}
 use Rattle.std.proofs.lemmas.Bool.{le-ltb}
+use Rattle.std.proofs.lemmas.Option.{same_Some}
 use Rattle.interruptions.specs.Requests.{WaitingRequests, posted}
 use Rattle.subchannel_model.specs.declared.state.Subchannel.{Subchannel}
 use Rattle.machine_model.specs.Requests.{posted_all, posted_for, request_of}
@@ -19,14 +20,11 @@ pub posted-still : (subs : List Subchannel) (w : WaitingRequests) → posted_all
 posted-still [] w = refl
 posted-still (x ∷ xs) w = ap (posted_all xs xs) (none-made x.state.serials.made x w refl) ∙ posted-still xs w
 
-some_inj : {A : Type 0} (x y : A) → Some x ≡ Some y → x ≡ y
-some_inj x y e = cc
-
 -- by the subchannel that changed, alone
 pub posted-at : (subs : List Subchannel) (place : ℕ) (sub new : Subchannel) (w : WaitingRequests) → slice_get subs place ≡ Some sub →
     posted_all subs (slice_set subs place new) w ≡ posted_since sub.state.serials.made new w
 posted-at [] place sub new w e = absurd (cc e)
 posted-at (x ∷ xs) zero sub new w e =
-    posted-still xs (posted_for x new w) ∙ ap (λ (y : Subchannel). posted_for y new w) (some_inj x sub e)
+    posted-still xs (posted_for x new w) ∙ ap (λ (y : Subchannel). posted_for y new w) (same_Some x sub e)
 posted-at (x ∷ xs) (suc i) sub new w e =
     ap (posted_all xs (slice_set xs i new)) (none-made x.state.serials.made x w refl) ∙ posted-at xs i sub new w e

@@ -7,7 +7,7 @@ use Rattle.chan_model.specs.declared.hold_state.HoldPhase.{HoldPhase}
 use Rattle.chan_model.specs.declared.hold_state.HoldPhase.TheVariants as hold
 use Rattle.chan_model.specs.declared.signal.Up.TheVariants as up
 use Rattle.chan_model.specs.HoldTable as hold_table
-use Rattle.chan_model.specs.HoldTable.{HoldStep, came_of}
+use Rattle.chan_model.specs.HoldTable.{HoldStep}
 use Rattle.channel_program.specs.Acts.{Act}
 use Rattle.channel_program.specs.Programs.{IsProgram, role_of, commands}
 use Rattle.channel_program.specs.Walks.{WalkPlace, walk_place}

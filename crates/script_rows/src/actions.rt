@@ -1,6 +1,6 @@
 //! The lines that drive a machine.
 
-ghost use Rattle.std.specs.Prelude.{◌≡◌, ℕ, List, Option, IfSome, is_some, codes, true, false, map, Some, None, Ok, Err};
+ghost use Rattle.std.specs.Prelude.{◌≡◌, IfSome, is_some, codes, true, false, map, Some, None, Ok, Err};
 ghost use Rattle.std.specs.Str.{bytes_eq};
 ghost use Rattle.script_rows.specs.Words.{number_up_to};
 ghost use Rattle.script_rows.specs.Actions as spec;

@@ -1,10 +1,8 @@
 -- Texts of a list's items, put one after the other.
-use Rattle.std.proofs.Common.{◌≡◌, refl, ℕ, zero, suc, ◌+◌, ◌-◌, ◌<◌, arith, add-one, Bool, true, false, List, [], ◌∷◌, ◌++◌, take, drop, length, get_or, sym, ap, ◌∙◌, subst, append-nil}
+use Rattle.std.proofs.Common.{◌≡◌, refl, ℕ, zero, suc, ◌+◌, ◌-◌, ◌<◌, arith, add-one, Bool, false, List, [], ◌∷◌, ◌++◌, take, drop, length, get_or, sym, ap, ◌∙◌, subst, append-nil}
 use Rattle.std.specs.List.{flat_map}
 use Rattle.std.proofs.lemmas.List.{take_more, take-append-drop}
 use Rattle.std.proofs.lemmas.Grind.{flat_map-append}
-use Rattle.std.specs.Prelude.{Option}
-use Rattle.std.specs.Io.KnownBytes.{Appends}
 use Rattle.std.proofs.KnownBytes.{Appends-nil}
 use Rattle.streams.specs.Sinks.{Seen, TakesText, FailsIn, Puts}
 use Rattle.streams.proofs.Sinking.{takes_then, fails_then}
@@ -29,15 +27,6 @@ failed_within o m n f xs i lt t p =
     ap (flat_map f) (sym (take-append-drop (i + 1) xs)) ∙ flat_map-append f (take (i + 1) xs) (drop (i + 1) xs)
     ∙ ap (λ (text : List ℕ). text ++ flat_map f (drop (i + 1) xs)) (front f xs i lt) in
     subst (λ (text : List ℕ). Puts o text n false) (sym whole) (fails_then o n _ _ (takes_then o m n _ _ false t p))
-
--- a sink that fails and takes none of a text
-pub took_none : (o n : Seen) (text : List ℕ) → 0 < length text → o.bytes ≡ n.bytes → n.failed ≡ true → FailsIn o text n
-took_none o n text lt same failed = record {
-  taken = 0;
-  fewer = lt;
-  bytes = subst (λ (b : Option (List ℕ)). Appends o.bytes b []) same (Appends-nil o.bytes);
-  failed = failed;
-}
 
 -- the text of the channel paths below a number, as it grows
 pub took_nothing : (o : Seen) (engaged : List ℕ) → TakesText o (engaged_text engaged 0) o

@@ -1,5 +1,5 @@
 -- What is counted of the instructions of one CPU.
-use Rattle.std.proofs.Common.{◌≡◌, ◌≤◌, ◌<◌, ℕ, ◌+◌, Bool, true, List, [], ◌∷◌, ◌++◌, length, Option, None, Some, Ok, Err, Result, refl, sym, ap, subst, ◌∙◌, append-nil, append_assoc, length-append, arith}
+use Rattle.std.proofs.Common.{◌≡◌, ◌≤◌, ◌<◌, ℕ, ◌+◌, Bool, true, List, [], ◌∷◌, ◌++◌, length, Option, None, Some, Ok, Err, Result, refl, sym, ap, subst, ◌∙◌, append_assoc, length-append, arith}
 use Rattle.std.specs.Prelude.{IsTrue, ◌↔◌, MatchResult}
 use Rattle.chan_events.specs.declared.reply.Entry.{Entry}
 use Rattle.chan_events.specs.declared.reply.Reply.{Reply}
@@ -60,17 +60,6 @@ tested_below race cpu n old new t h =
   where
     within : (a l n : ℕ) → a < 1 + l → l ≤ n → a < n + 1
     within a l n x y = omega arith
-
--- no instruction, one that is accepted, one that is refused
-pub tested_none : (race : Race) (cpu : ℕ) (log : List Entry) → HasTested race cpu 0 log log no_tally
-tested_none race cpu log = record {
-  more = [];
-  log = sym (append-nil log);
-  tests = tt;
-  most = omega arith;
-  counts = refl;
-  refused = ((λ e. absurd (cc e)), (λ lt. absurd (omega arith)));
-}
 
 rises : (b : Bool) (l m n : ℕ) → IsTrue b ↔ (l < n) → m ≡ l + 1 → IsTrue b ↔ (m < n + 1)
 rises b l m n h is = ((λ e. less m l n (h.0 e) is), (λ lt. h.1 (back m l n lt is)))

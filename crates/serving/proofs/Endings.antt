@@ -15,7 +15,7 @@ use Rattle.serving.specs.declared.Ending.TheVariants.{NotRead, Bad, NoMemory, Do
 use Rattle.serving.specs.Acting.{Installed, IsAudited}
 use Rattle.serving.specs.Performing.{HasPerformed, HasStopped, PerformsTo}
 use Rattle.serving.specs.Racing.{IsRaced}
-use Rattle.serving.specs.Serving.{EndsBy, FailsAudit, PerformsAll, Races, RacesAfter, TellsAudit, ending_of, RunsOrRaces, IsRun, IsRunOrRaced, Serves, ServesRace}
+use Rattle.serving.specs.Serving.{EndsBy, FailsAudit, PerformsAll, Races, RacesAfter, TellsAudit, ending_of, RunsOrRaces, IsRun, Serves, ServesRace}
 
 -- what is so of the script that was read is so of a script of the text, where the text is known
 of_script : (races : Bool) (input : Option (List ℕ)) (s : ScriptContents) (P : ScriptContents → Type 0) → IfSome input (λ text. IsScript races (lines_of text) s) → P s →
@@ -32,28 +32,10 @@ serves_script input s held now (Done refused) is h = of_script false input s (λ
 serves_script input s held now (Stopped refused) is h = of_script false input s (λ t. IsRun t held now (Stopped refused)) is h
 serves_script input s held now (AuditFailed whole) is h = of_script false input s (λ t. IsRun t held now (AuditFailed whole)) is h
 
--- there was a race or none: some endings do not come, and want of memory is told alike
-not_read : (race : Option RaceLine) (setup : Setup) (lines : List Line) (held now : Seen) → RunsOrRaces race setup lines held now NotRead → ⊥
-not_read None setup lines held now h = h
-not_read (Some line) setup lines held now h = h
-
-not_bad : (race : Option RaceLine) (setup : Setup) (lines : List Line) (held now : Seen) (whole : Bool) → RunsOrRaces race setup lines held now (Bad whole) → ⊥
-not_bad None setup lines held now whole h = h
-not_bad (Some line) setup lines held now whole h = h
-
 no_room : (input : Option (List ℕ)) (race : Option RaceLine) (setup : Setup) (lines : List Line) (held now : Seen) (whole : Bool) →
     RunsOrRaces race setup lines held now (NoMemory whole) → ServesRace input held now (NoMemory whole)
 no_room input None setup lines held now whole h = h
 no_room input (Some line) setup lines held now whole h = h
-
-pub serves_race : (input : Option (List ℕ)) (s : ScriptContents) (held now : Seen) (e : Ending) → IfSome input (λ text. IsScript true (lines_of text) s) →
-    IsRunOrRaced s held now e → ServesRace input held now e
-serves_race input s held now NotRead is h = absurd (not_read s.race s.setup s.lines held now h)
-serves_race input s held now (NoMemory whole) is h = no_room input s.race s.setup s.lines held now whole h
-serves_race input s held now (Bad whole) is h = absurd (not_bad s.race s.setup s.lines held now whole h)
-serves_race input s held now (Done refused) is h = of_script true input s (λ t. IsRunOrRaced t held now (Done refused)) is h
-serves_race input s held now (Stopped refused) is h = of_script true input s (λ t. IsRunOrRaced t held now (Stopped refused)) is h
-serves_race input s held now (AuditFailed whole) is h = of_script true input s (λ t. IsRunOrRaced t held now (AuditFailed whole)) is h
 
 -- the audit failed, and the line that says so was written or not
 fails : (old last : Installed) (lines : List Line) (held now : Seen) (whole : Bool) → TellsAudit old lines held now whole last → FailsAudit old lines held now whole last

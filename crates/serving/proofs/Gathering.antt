@@ -1,9 +1,8 @@
 -- CPUs that race, one after another.
-use Rattle.std.proofs.Common.{◌≡◌, ◌≤◌, ◌<◌, ℕ, ◌+◌, ◌*◌, List, [], ◌∷◌, ◌++◌, Result, Ok, Err, length, refl, sym, ap, subst, ◌∙◌, append_assoc, arith}
-use Rattle.std.specs.Prelude.{IfOk}
+use Rattle.std.proofs.Common.{◌≡◌, ◌≤◌, ◌<◌, ℕ, ◌+◌, ◌*◌, List, [], ◌∷◌, ◌++◌, length, refl, sym, ap, subst, ◌∙◌, append_assoc, arith}
 use Rattle.core_lock.specs.Seats.{HeldSeat, Locked}
 use Rattle.serving.specs.declared.tally.Tally.{Tally}
-use Rattle.serving.specs.Racing.{plus, IsBelow, IsSeatedIn, Runner, AreReady, AreMade, total_after, seats_of}
+use Rattle.serving.specs.Racing.{plus, IsBelow, Runner, AreReady, total_after, seats_of}
 
 ready_more : (n : ℕ) (rs : List Runner) (r : Runner) → AreReady n rs → r.cpu ≡ n + length rs → r.seat.value.log ≡ [] → AreReady n (rs ++ r ∷ [])
 ready_more n [] r h is none =
@@ -12,13 +11,6 @@ ready_more n [] r h is none =
 ready_more n (x ∷ rs) r h is none =
     let sum : n + length (x ∷ rs) ≡ n + 1 + length rs = omega arith in
     (h.0, h.1, ready_more (n + 1) rs r h.2 (is ∙ sum) none)
-
-pub made_of : {E : Type 0} (r : Result (List Runner) E) (items : List Runner) (count : ℕ) → IfOk r (λ rs. rs ≡ items) → AreMade count items → IfOk r (λ rs. AreMade count rs)
-made_of (Ok rs) items count is h = subst (AreMade count) (sym is) h
-made_of (Err e) items count is h = tt
-
-pub seated_in : (old new : Locked) (n : ℕ) → new ≡ record old { seats = n } → IsSeatedIn old new
-seated_in old new n is = is ∙ ap (λ (k : ℕ). record old { seats = k }) (sym (ap (λ (l : Locked). l.seats) is))
 
 total-last : (t : Tally) (rs : List Runner) (r : Runner) → total_after t (rs ++ r ∷ []) ≡ total_after (plus t r.tally) rs
 total-last t [] r = refl

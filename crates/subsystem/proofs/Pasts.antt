@@ -1,7 +1,7 @@
 -- A history that leads to a state, as it opens and grows.
-use Rattle.std.proofs.Common.{◌≡◌, refl, ℕ, ◌∙◌, ap, sym, subst, List, [], ◌∷◌, ◌++◌, ◌^◌, ◌≤◌, map, length, arith, Option, None, Some, Result, Ok, Err}
+use Rattle.std.proofs.Common.{◌≡◌, refl, ℕ, ◌∙◌, ap, sym, subst, List, [], ◌∷◌, ◌++◌, map, length, arith, Result, Ok, Err}
 use Rattle.std.proofs.lemmas.List.{length-map, length-replicate}
-use Rattle.std.proofs.lemmas.List.Elements.{All-cons, All-head, All-nil, All-tail, All-weaker}
+use Rattle.std.proofs.lemmas.List.Elements.{All-cons, All-head, All-nil, All-tail}
 use Rattle.std.specs.Prelude.{unwrap_or, All}
 use Rattle.storage_keys.specs.Storage.{cleared_storage}
 use Rattle.channel_config.specs.declared.parts.SubchannelSetup.{SubchannelSetup}
@@ -15,18 +15,12 @@ use Rattle.chan_events.specs.declared.event.Event.{Event}
 use Rattle.chan_events.specs.declared.reply.Entry.{Entry}
 use Rattle.chan_events.specs.declared.reply.Reply.{Reply}
 use Rattle.chan_model.specs.declared.fault.Fault.{Fault}
-use Rattle.chan_model.specs.declared.unit_state.AtHand.{AtHand}
-use Rattle.chan_model.specs.declared.unit_state.Own.{Own}
-use Rattle.chan_model.specs.declared.unit_state.Own.TheVariants.{Idle, Owned}
-use Rattle.chan_model.specs.declared.unit_state.Place.{Place}
-use Rattle.chan_model.specs.declared.unit_state.Place.TheVariants.{On, Ask, Away}
 use Rattle.chan_model.specs.declared.unit_state.UnitState.{UnitState}
 use Rattle.subchannel_model.specs.Opening.{opened}
 use Rattle.subchannel_model.specs.declared.state.Subchannel.{Subchannel}
 use Rattle.machine_laws.specs.Agreeing.{AllAgree}
 use Rattle.machine_laws.specs.Beginnings.{IsBegunOnce}
 use Rattle.machine_laws.specs.Claims.{IsClearedOnce}
-use Rattle.machine_model.specs.Bounds.{IsAtWithin, IsOwnWithin, IsPlaceWithin, IsUnitWithin, IsUnitRoomy}
 use Rattle.machine_steps.specs.Postable.{IsPostable}
 use Rattle.machine_model.specs.State.{State, configured_paths, opening_of, idle_of}
 use Rattle.machine_model.specs.Setups.{IsSetUp, group_of}
@@ -130,34 +124,6 @@ pub past-agrees : ((setup : Setup) (h : List Entry) (s : State) → IsLawful set
     (h : List Entry) (s : State) → HasRun h s → AllAgree s
 past-agrees agrees h s past = agrees past.0.0 h s past.0.1.lawful (past.1 past.0.0 past.0.1)
 
-at-wider : (n m : ℕ) (x : Option AtHand) → n ≤ m → IsAtWithin n x → IsAtWithin m x
-at-wider n m None le k = tt
-at-wider n m (Some x) le k = omega (arith, le, k)
-
-place-wider : (n m : ℕ) (place : Place) → n ≤ m → IsPlaceWithin n place → IsPlaceWithin m place
-place-wider n m (On p c) le k = omega (arith, le, k)
-place-wider n m (Ask p c) le k = omega (arith, le, k)
-place-wider n m (Away c) le k = omega (arith, le, k)
-
-own-wider : (n m : ℕ) (own : Own) → n ≤ m → IsOwnWithin n own → IsOwnWithin m own
-own-wider n m Idle le k = tt
-own-wider n m (Owned side t place) le k = place-wider n m place le k
-
-unit-wider : (n m : ℕ) (u : UnitState) → n ≤ m → IsUnitWithin n u → IsUnitWithin m u
-unit-wider n m u le k = record {
-  at_hand = at-wider n m u.at_hand le k.at_hand;
-  connection = own-wider n m u.own le k.connection;
-  attentions = omega (arith, le, k.attentions);
-  restarts = omega (arith, le, k.restarts);
-}
-
--- the units have room for the numbers of another event
-pub past-roomy : ((setup : Setup) (h : List Entry) (s : State) → Run (opening_of setup) h s → All (IsUnitWithin (length h)) s.units) →
-    (h : List Entry) (s : State) → HasRun h s → length h ≤ 2 ^ 62 → All IsUnitRoomy s.units
-past-roomy within h s past few =
-    All-weaker (IsUnitWithin (length h)) IsUnitRoomy (λ u k. unit-wider (length h) (2 ^ 62) u few k) s.units
-    (within past.0.0 h s (past.1 past.0.0 past.0.1))
-
 -- there is room for a request of each subchannel
 placed-postable : (sets units : ℕ) (known : List ℕ) (subs : List Subchannel) → All (IsPlaced sets units known) (map (λ sub. sub.setup) subs) → All IsPostable subs
 placed-postable sets units known [] k = All-nil IsPostable
@@ -172,6 +138,3 @@ past-postable h s past =
     let up = past.0.1 in
     placed-postable (set_count setup) (length setup.units) setup.paths s.subs
     (subst (λ (xs : List SubchannelSetup). All (IsPlaced (set_count setup) (length setup.units) setup.paths) xs) (sym up.subs) up.lawful.subchannels)
-
-pub past-requests : (h : List Entry) (s : State) → HasRun h s → s.requests.numbers ≡ 0x100
-past-requests h s past = past.0.1.requests

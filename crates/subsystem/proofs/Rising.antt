@@ -1,9 +1,9 @@
 -- The serials of all subchannels after a step.
 use Rattle.std.proofs.Common.{◌≡◌, refl, sym, ◌∙◌, ap, subst, ℕ, zero, suc, ◌≤◌, arith, List, [], ◌∷◌, ◌++◌, length, map, Option, None, Some, Result, Ok, Err}
-use Rattle.std.specs.Prelude.{All, IfOk, IfSome, slice_get, unwrap_or}
+use Rattle.std.specs.Prelude.{All, IfOk, IfSome, slice_get}
 use Rattle.std.specs.List.{AllZip}
 use Rattle.std.proofs.lemmas.List.Elements.{All-contains, All-map, All-weaker}
-use Rattle.std.proofs.lemmas.Option.{slice_get_within, get_or_from_slice_get}
+use Rattle.std.proofs.lemmas.Option.{slice_get_within, get_or_from_slice_get, same_Some}
 use Rattle.scsw_irb.specs.declared.serials.Serials.{Serials}
 use Rattle.chan_model.specs.declared.answer.Answer.{Answer}
 use Rattle.chan_model.specs.declared.answer.ConditionCode.{ConditionCode}
@@ -37,9 +37,6 @@ abbrev GoesByTable : Type 0
 GoesByTable = (s : State) (e : Event) (r : Reply) (new : State) → Step s e r new → IsByTable s e r new
 
 -- no step lowers a serial
-same-some : (x y : Serials) → Some x ≡ Some y → x ≡ y
-same-some x y e = ap (λ (o : Option Serials). unwrap_or o x) e
-
 count-stays : (xs ys : List Subchannel) → AllZip IsLaterSubchannel xs ys → length (map (λ (sub : Subchannel). sub.state.serials) ys) ≡ length (map (λ (sub : Subchannel). sub.state.serials) xs)
 count-stays [] [] z = refl
 count-stays [] (y ∷ ys) z = absurd z
@@ -52,8 +49,8 @@ one-later : (xs ys : List Subchannel) (place : ℕ) (a b : Serials) → AllZip I
 one-later [] ys place a b z p q = absurd (cc p)
 one-later (x ∷ xs) [] place a b z p q = absurd z
 one-later (x ∷ xs) (y ∷ ys) zero a b z p q =
-    let m : x.state.serials ≡ a = same-some x.state.serials a p in
-    let n : y.state.serials ≡ b = same-some y.state.serials b q in (
+    let m : x.state.serials ≡ a = same_Some x.state.serials a p in
+    let n : y.state.serials ≡ b = same_Some y.state.serials b q in (
       omega (arith, z.0.made, ap (λ (u : Serials). u.made) m, ap (λ (u : Serials). u.made) n),
       omega (arith, z.0.cleared, ap (λ (u : Serials). u.cleared) m, ap (λ (u : Serials). u.cleared) n),
     )
@@ -69,8 +66,8 @@ later-rises old new z = record {
 same-rises : (xs : List Serials) → Rises xs xs
 same-rises xs = record {
   count = refl;
-  made = λ place a b p q. omega (arith, ap (λ (u : Serials). u.made) (same-some a b (sym p ∙ q)));
-  cleared = λ place a b p q. omega (arith, ap (λ (u : Serials). u.cleared) (same-some a b (sym p ∙ q)));
+  made = λ place a b p q. omega (arith, ap (λ (u : Serials). u.made) (same_Some a b (sym p ∙ q)));
+  cleared = λ place a b p q. omega (arith, ap (λ (u : Serials). u.cleared) (same_Some a b (sym p ∙ q)));
 }
 
 pub performed-rises : StepsLater → (h : List Entry) (old : State) (e : Event) (a : Result Reply Fault) (new : State) → HasRun h old → Performs old e a new →
