@@ -8,7 +8,6 @@ use chan_model::paths::PathSet;
 use channel_config::config::Config;
 use event_log::history::History;
 use path_select::{Lowest, PathChoice};
-use same_entries::same;
 use std::alloc::Global;
 use std::cell::Cell;
 use subsystem::subsystem::Subsystem;
@@ -50,19 +49,6 @@ fn path_of(reply: &Reply) -> Option<Path> {
     }
 }
 
-/// Whether two histories are the same, entry by entry.
-fn are_same(one: &History<'_>, other: &History<'_>) -> bool {
-    for number in 0..one.len() {
-        let (Some(entry), Some(again)) = (one.get(number), other.get(number)) else {
-            return false;
-        };
-        if !same(&entry, &again) {
-            return false;
-        }
-    }
-    one.len() == other.len()
-}
-
 /// Whether a fresh subsystem that is set up so answers all events of a history as they were answered.
 pub fn replays(alloc: Global, config: Config, history: &History<'_>) -> bool {
     let shown = Cell::new(None);
@@ -78,5 +64,5 @@ pub fn replays(alloc: Global, config: Config, history: &History<'_>) -> bool {
             return false;
         }
     }
-    are_same(&subsystem.history(), history)
+    subsystem.history().is_same(history)
 }
