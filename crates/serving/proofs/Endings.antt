@@ -2,7 +2,6 @@
 use Rattle.std.proofs.Common.{◌≡◌, ℕ, Bool, true, false, ◌||◌, Option, None, Some, Ok, List, inl, inr, refl, sym, subst, ◌∙◌, true≢false}
 use Rattle.std.specs.Prelude.{IfSome, IsTrue, ◌↔◌, not}
 use Rattle.streams.specs.Sinks.{Seen, Puts}
-use Rattle.channel_config.specs.Setup.{Setup}
 use Rattle.script.specs.declared.Line.{Line}
 use Rattle.script.specs.declared.RaceLine.{RaceLine}
 use Rattle.script.specs.Pieces.{lines_of}
@@ -15,7 +14,7 @@ use Rattle.serving.specs.declared.Ending.TheVariants.{NotRead, Bad, NoMemory, Do
 use Rattle.serving.specs.Acting.{Installed, IsAudited}
 use Rattle.serving.specs.Performing.{HasPerformed, HasStopped, PerformsTo}
 use Rattle.serving.specs.Racing.{IsRaced}
-use Rattle.serving.specs.Serving.{EndsBy, FailsAudit, PerformsAll, Races, RacesAfter, TellsAudit, ending_of, RunsOrRaces, IsRun, Serves, ServesRace}
+use Rattle.serving.specs.Serving.{EndsBy, FailsAudit, PerformsAll, Races, RacesAfter, TellsAudit, ending_of, IsRun, Serves}
 
 -- what is so of the script that was read is so of a script of the text, where the text is known
 of_script : (races : Bool) (input : Option (List ℕ)) (s : ScriptContents) (P : ScriptContents → Type 0) → IfSome input (λ text. IsScript races (lines_of text) s) → P s →
@@ -31,11 +30,6 @@ serves_script input s held now (Bad whole) is h = absurd h
 serves_script input s held now (Done refused) is h = of_script false input s (λ t. IsRun t held now (Done refused)) is h
 serves_script input s held now (Stopped refused) is h = of_script false input s (λ t. IsRun t held now (Stopped refused)) is h
 serves_script input s held now (AuditFailed whole) is h = of_script false input s (λ t. IsRun t held now (AuditFailed whole)) is h
-
-no_room : (input : Option (List ℕ)) (race : Option RaceLine) (setup : Setup) (lines : List Line) (held now : Seen) (whole : Bool) →
-    RunsOrRaces race setup lines held now (NoMemory whole) → ServesRace input held now (NoMemory whole)
-no_room input None setup lines held now whole h = h
-no_room input (Some line) setup lines held now whole h = h
 
 -- the audit failed, and the line that says so was written or not
 fails : (old last : Installed) (lines : List Line) (held now : Seen) (whole : Bool) → TellsAudit old lines held now whole last → FailsAudit old lines held now whole last
