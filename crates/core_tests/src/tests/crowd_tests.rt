@@ -1,7 +1,7 @@
 //! Many threads enter many events, and nothing is lost.
 
 use crate::tests::crowds::instruction_of;
-use crate::tests::hands::{Hand, Task, add_hand, closed, seats_of, stores};
+use crate::tests::hands::{Hand, Task, add_hand, add_worker, closed_all};
 use crate::tests::machines::{accepts, accepts_all, enable, loads, word_of};
 use crate::tests::replaying::replays;
 use crate::tests::stories::{Story, goes, setting};
@@ -118,11 +118,7 @@ fn all_hands<J: Naming>(alloc: Global, core: &mut Core<J, Rotating>) -> Option<V
         }
     }
     for worker in 0..WORKERS {
-        let task = Task::Units {
-            first: UNITS_EACH * worker,
-            devices: stores(alloc, UNITS_EACH as usize).ok()?,
-        };
-        if !add_hand(core, &mut hands, task) {
+        if !add_worker(alloc, core, &mut hands, UNITS_EACH * worker, UNITS_EACH) {
             return None;
         }
     }
@@ -143,6 +139,13 @@ fn begins<J: Naming>(core: &mut Core<J, Rotating>, seat: &mut Seat<J>) -> Option
     Some(3 + u64::from(WORKERS * UNITS_EACH))
 }
 
+/// A seat from which that was entered, and how many entries it made.
+fn begun<J: Naming>(core: &mut Core<J, Rotating>) -> Option<(Seat<J>, u64)> {
+    let mut seat = core.seat().ok()?;
+    let entries = begins(core, &mut seat)?;
+    Some((seat, entries))
+}
+
 /// How many entries were answered to these hands; None where one of them has none.
 fn answered<J: Naming>(hands: &[Hand<J>]) -> Option<u64> {
     let mut sum = 0u64;
@@ -155,6 +158,77 @@ fn answered<J: Naming>(hands: &[Hand<J>]) -> Option<u64> {
     Some(sum)
 }
 
+/// Whether there are entries enough in the end, all of them counted, and a fresh subsystem answers them in the same way.
+fn ends<J: Naming>(
+    alloc: Global,
+    core: Core<J, Rotating>,
+    first: Seat<J>,
+    hands: Vec<Hand<J>>,
+    entries: u64,
+) -> bool {
+    let config = setting(alloc, Story::Crowds);
+    let replayed = replays(alloc, config, &core.subsystem().history());
+    let counted = closed_all(alloc, core, first, hands);
+    replayed && entries >= ENTRIES && counted == Some(entries)
+}
+
+/// All hands work, each on a thread of its own, until there are entries enough.
+fn at_once<J: Naming + Send + Sync, R: Threads + Wait + Sync>(
+    rt: &R,
+    machine: &Machine<J, Rotating>,
+    hands: Vec<Hand<J>>,
+) -> Option<Vec<Hand<J>>> {
+    let done = Done::new();
+    let worked = thread::map_vec(
+        rt,
+        hands,
+        &|hand: Hand<J>| {
+            let mut hand = hand;
+            hand.works(rt, machine, &done);
+            hand
+        },
+    );
+    worked.ok()
+}
+
+/// These hands work, where this seat has made so many entries.
+fn crowds_from<J: Naming + Send + Sync, R: Threads + Wait + Sync>(
+    rt: &R,
+    alloc: Global,
+    core: Core<J, Rotating>,
+    first: Seat<J>,
+    hands: Vec<Hand<J>>,
+    before: u64,
+) -> bool {
+    let machine = Machine::new(core);
+    match at_once(rt, &machine, hands) {
+        Some(hands) => {
+            let after = answered(hands.as_slice());
+            let entries = match after {
+                Some(after) => before.saturating_add(after),
+                None => 0,
+            };
+            ends(alloc, machine.into_core(), first, hands, entries)
+        }
+        None => false,
+    }
+}
+
+/// The same as `crowds`, where this seat has made so many entries.
+fn crowds_after<J: Naming + Send + Sync, R: Threads + Wait + Sync>(
+    rt: &R,
+    alloc: Global,
+    core: Core<J, Rotating>,
+    first: Seat<J>,
+    before: u64,
+) -> bool {
+    let mut core = core;
+    match all_hands(alloc, &mut core) {
+        Some(hands) => crowds_from(rt, alloc, core, first, hands, before),
+        None => false,
+    }
+}
+
 /// All hands work at once until there are entries enough. Then each log is what the history has of it, all entries are counted,
 /// none is lost, and a fresh subsystem answers them in the same way.
 pub fn crowds<J: Naming + Send + Sync, R: Threads + Wait + Sync>(
@@ -163,59 +237,10 @@ pub fn crowds<J: Naming + Send + Sync, R: Threads + Wait + Sync>(
     core: Core<J, Rotating>,
 ) -> bool {
     let mut core = core;
-    let Ok(mut first) = core.seat() else {
-        return false;
-    };
-    let (Some(before), Some(hands)) = (begins(&mut core, &mut first), all_hands(alloc, &mut core))
-    else {
-        return false;
-    };
-    let machine = Machine::new(core);
-    let done = Done::new();
-    let worked = thread::map_vec(
-        rt,
-        hands,
-        &|hand: Hand<J>| {
-            let mut hand = hand;
-            hand.works(rt, &machine, &done);
-            hand
-        },
-    );
-    let Ok(hands) = worked else {
-        return false;
-    };
-    let Some(after) = answered(hands.as_slice()) else {
-        return false;
-    };
-    ends(
-        alloc,
-        machine.into_core(),
-        first,
-        hands,
-        before.saturating_add(after),
-    )
-}
-
-/// Whether all is there in the end.
-fn ends<J: Naming>(
-    alloc: Global,
-    core: Core<J, Rotating>,
-    first: Seat<J>,
-    hands: Vec<Hand<J>>,
-    entries: u64,
-) -> bool {
-    let replayed = replays(
-        alloc,
-        setting(alloc, Story::Crowds),
-        &core.subsystem().history(),
-    );
-    let Ok(mut seats) = seats_of(alloc, hands) else {
-        return false;
-    };
-    if seats.push(first).is_err() {
-        return false;
+    match begun(&mut core) {
+        Some((first, before)) => crowds_after(rt, alloc, core, first, before),
+        None => false,
     }
-    replayed && entries >= ENTRIES && closed(core, seats) == Some(entries)
 }
 
 #[test]

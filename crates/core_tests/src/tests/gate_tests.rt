@@ -1,6 +1,6 @@
 //! A device is called outside the lock: calls of two devices meet.
 
-use crate::tests::hands::{Hand, Task, add_hand, stores};
+use crate::tests::hands::{Hand, add_worker};
 use crate::tests::machines::{accepts, accepts_all, enable, loads, ssch, word_of};
 use crate::tests::stories::{Story, goes};
 use chan_events::event::Event;
@@ -57,12 +57,10 @@ impl Gate for Meeting {
 }
 
 /// A program is begun at a subchannel, until its unit has a command to take.
-fn begins<J: Naming>(
-    core: &mut Core<J, Rotating>,
-    seat: &mut Seat<J>,
-    cpu: Cpu,
-    subchannel: u32,
-) -> bool {
+fn begins<J: Naming>(core: &mut Core<J, Rotating>, seat: &mut Seat<J>, subchannel: u32) -> bool {
+    let Some(cpu) = Cpu::new(0) else {
+        return false;
+    };
     let path = 0;
     let events = [
         Event::Choose { subchannel },
@@ -77,6 +75,28 @@ fn begins<J: Naming>(
     ) && accepts_all(core, seat, &events)
 }
 
+/// Programs are begun at both subchannels, from one seat.
+fn begins_both<J: Naming>(core: &mut Core<J, Rotating>) -> bool {
+    match core.seat() {
+        Ok(mut program) => {
+            accepts_all(core, &mut program, &loads())
+                && begins(core, &mut program, word_of(0))
+                && begins(core, &mut program, word_of(1))
+        }
+        Err(_) => false,
+    }
+}
+
+/// The workers of both units.
+fn workers<J: Naming>(alloc: Global, core: &mut Core<J, Rotating>) -> Option<Vec<Hand<J>>> {
+    let mut hands = Vec::new(alloc);
+    if add_worker(alloc, core, &mut hands, 0, 1) && add_worker(alloc, core, &mut hands, 1, 1) {
+        Some(hands)
+    } else {
+        None
+    }
+}
+
 /// Two units have a command to take, and their workers meet at the gate.
 pub fn meets<J: Naming + Send + Sync, R: Threads + Wait + Sync>(
     rt: &R,
@@ -84,29 +104,13 @@ pub fn meets<J: Naming + Send + Sync, R: Threads + Wait + Sync>(
     core: Core<J, Rotating>,
 ) -> bool {
     let mut core = core;
-    let (Ok(mut program), Some(cpu)) = (core.seat(), Cpu::new(0)) else {
-        return false;
-    };
-    if !accepts_all(&mut core, &mut program, &loads()) {
+    if !begins_both(&mut core) {
         return false;
     }
-    let mut hands = Vec::new(alloc);
-    for unit in 0..2 {
-        let Ok(devices) = stores(alloc, 1) else {
-            return false;
-        };
-        let task = Task::Units {
-            first: unit,
-            devices,
-        };
-        if !begins(&mut core, &mut program, cpu, word_of(unit))
-            || !add_hand(&mut core, &mut hands, task)
-        {
-            return false;
-        }
+    match workers(alloc, &mut core) {
+        Some(hands) => at_once(rt, core, hands),
+        None => false,
     }
-    drop(program);
-    at_once(rt, core, hands)
 }
 
 /// Whether the first calls of all hands meet.

@@ -4,6 +4,7 @@ ghost use Rattle.std.specs.Prelude.{◌≡◌, []};
 ghost use Rattle.subsystem.specs.Keeping.{all_serials};
 ghost use Rattle.core_lock.specs.Directory.{directory_of};
 
+use crate::tests::hands::closed_alone;
 use crate::tests::stories::{Story, goes, setting};
 use chan_model::fault::Fault;
 use core_lock::locked::{Core, NotMade, Seat};
@@ -49,14 +50,27 @@ fn seat_in_turn<J: Naming>(core: &mut Core<J, Rotating>) -> Option<(Seat<J>, u64
 /// one is no seat of the core.
 fn seats_in_turn<J: Naming>(alloc: Global, core: Core<J, Rotating>) -> bool {
     let mut core = core;
-    let Some((seat, requests)) = seat_in_turn(&mut core) else {
-        return false;
-    };
-    let mut seats = Vec::new(alloc);
-    if seats.push(seat).is_err() {
-        return false;
+    match seat_in_turn(&mut core) {
+        Some((seat, requests)) => {
+            let entries = closed_alone(alloc, core, seat);
+            requests == 4 && entries == Some(0)
+        }
+        None => false,
     }
-    requests == 4 && core.close(seats) == Some(0)
+}
+
+/// What was handed back makes a core.
+fn grows_from<J: Naming>(alloc: Global, given: NotMade<Rotating>) -> bool
+    requires fresh { given.subsystem.history ≡ [] }
+    requires named { given.parts.name ≡ J.name }
+    requires directory { given.parts.name.directory ≡ directory_of given.subsystem.state }
+    requires serials { given.parts.serials ≡ all_serials given.subsystem.state }
+{
+    let NotMade { subsystem, parts } = given;
+    match Core::<J, Rotating>::new(alloc, subsystem, parts) {
+        Ok(core) => seats_in_turn(alloc, core),
+        Err(_) => false,
+    }
 }
 
 /// A core that is refused hands back what it was to be made of.
@@ -67,18 +81,12 @@ pub fn grows<J: Naming>(alloc: Global, subsystem: Subsystem<Rotating>, parts: Pa
     requires serials { parts.serials ≡ all_serials subsystem.state }
 {
     let mut supply = granting(0);
-    let NotMade { subsystem, parts } = match Core::<J, Rotating>::new_with(
-        alloc,
-        &mut supply,
-        subsystem,
-        parts,
-    ) {
-        Ok(_) => return false,
-        Err(given) => given,
-    };
-    match Core::<J, Rotating>::new(alloc, subsystem, parts) {
-        Ok(core) => supply.refused && seats_in_turn(alloc, core),
-        Err(_) => false,
+    match Core::<J, Rotating>::new_with(alloc, &mut supply, subsystem, parts) {
+        Ok(_) => false,
+        Err(given) => {
+            let made = grows_from::<J>(alloc, given);
+            supply.refused && made
+        }
     }
 }
 

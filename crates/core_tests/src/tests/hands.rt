@@ -35,7 +35,7 @@ pub struct Hand<J: Naming> {
 }
 
 /// The devices of so many units, each a store of blocks.
-pub fn stores(alloc: Global, count: usize) -> Result<Vec<AnyDevice>, AllocError> {
+fn stores(alloc: Global, count: usize) -> Result<Vec<AnyDevice>, AllocError> {
     let mut devices = Vec::new(alloc);
     for _device in 0..count {
         devices.push(AnyDevice::of(UnitKind::Block))?;
@@ -58,6 +58,20 @@ pub fn add_hand<J: Naming>(
         answered: 0,
     };
     hands.push(hand).is_ok()
+}
+
+/// The worker of so many units, from this one on, with a seat of its own.
+pub fn add_worker<J: Naming>(
+    alloc: Global,
+    core: &mut Core<J, Rotating>,
+    hands: &mut Vec<Hand<J>>,
+    first: u32,
+    count: u32,
+) -> bool {
+    match stores(alloc, count as usize) {
+        Ok(devices) => add_hand(core, hands, Task::Units { first, devices }),
+        Err(_) => false,
+    }
 }
 
 impl<J: Naming> Hand<J> {
@@ -124,13 +138,20 @@ fn unit_turns<J: Naming, G: Gate, R: Wait>(
     added
 }
 
+/// These seats and one more.
+pub fn with_seat<J: Naming>(seats: Vec<Seat<J>>, seat: Seat<J>) -> Option<Vec<Seat<J>>> {
+    let mut seats = seats;
+    seats.push(seat).ok()?;
+    Some(seats)
+}
+
 /// The seats of these hands.
-pub fn seats_of<J: Naming>(alloc: Global, hands: Vec<Hand<J>>) -> Result<Vec<Seat<J>>, AllocError> {
+fn seats_of<J: Naming>(alloc: Global, hands: Vec<Hand<J>>) -> Option<Vec<Seat<J>>> {
     let mut seats = Vec::new(alloc);
     for hand in hands {
-        seats.push(hand.into_seat())?;
+        seats.push(hand.into_seat()).ok()?;
     }
-    Ok(seats)
+    Some(seats)
 }
 
 /// How many entries the history has, where it has those of the logs and all seats are given; None where not.
@@ -139,4 +160,25 @@ pub fn closed<J: Naming>(core: Core<J, Rotating>, seats: Vec<Seat<J>>) -> Option
         return None;
     }
     core.close(seats)
+}
+
+/// The same, where there is one seat.
+pub fn closed_alone<J: Naming>(
+    alloc: Global,
+    core: Core<J, Rotating>,
+    seat: Seat<J>,
+) -> Option<u64> {
+    let seats = with_seat(Vec::new(alloc), seat)?;
+    closed(core, seats)
+}
+
+/// The same, where there are the seats of hands and one more.
+pub fn closed_all<J: Naming>(
+    alloc: Global,
+    core: Core<J, Rotating>,
+    seat: Seat<J>,
+    hands: Vec<Hand<J>>,
+) -> Option<u64> {
+    let seats = with_seat(seats_of(alloc, hands)?, seat)?;
+    closed(core, seats)
 }

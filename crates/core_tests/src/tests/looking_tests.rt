@@ -2,7 +2,7 @@
 
 ghost use Rattle.std.specs.Prelude.{◌≡◌, None};
 
-use crate::tests::hands::{Hand, Task, closed};
+use crate::tests::hands::{Hand, Task, closed, with_seat};
 use crate::tests::machines::{WORD, accepts, accepts_all, enable, tsch};
 use crate::tests::seats_tests::seen;
 use crate::tests::stories::{Story, goes};
@@ -57,8 +57,10 @@ fn makes_all<J: Naming, R: Wait>(
     rt: &R,
     machine: &Machine<J, Rotating>,
     hand: &mut Hand<J>,
-    cpu: Cpu,
 ) -> bool {
+    let Some(cpu) = Cpu::new(0) else {
+        return false;
+    };
     for _status in 0..STATUSES {
         if !makes(rt, machine, &mut hand.seat, cpu) {
             return false;
@@ -86,9 +88,102 @@ fn never_falls<J: Naming>(seat: &mut Seat<J>) -> bool {
 }
 
 /// The subchannel is enabled, and its path goes down.
-fn begins<J: Naming>(core: &mut Core<J, Rotating>, seat: &mut Seat<J>, cpu: Cpu) -> bool {
+fn begins<J: Naming>(core: &mut Core<J, Rotating>, seat: &mut Seat<J>) -> bool {
+    let Some(cpu) = Cpu::new(0) else {
+        return false;
+    };
     accepts(core, seat, cpu, &[enable(WORD, false)])
         && accepts_all(core, seat, &[Event::PathDown { chpid: 0x10 }])
+}
+
+/// A seat from which that was entered.
+fn begun<J: Naming>(core: &mut Core<J, Rotating>) -> Option<Seat<J>> {
+    let mut seat = core.seat().ok()?;
+    if begins(core, &mut seat) {
+        Some(seat)
+    } else {
+        None
+    }
+}
+
+/// A hand that makes statuses, and a seat that looks.
+fn sides<J: Naming>(core: &mut Core<J, Rotating>) -> Option<(Hand<J>, Seat<J>)> {
+    let seat = core.seat().ok()?;
+    let looker = core.seat().ok()?;
+    let maker = Hand {
+        seat,
+        task: Task::Path(0x10),
+        answered: 0,
+    };
+    Some((maker, looker))
+}
+
+/// One thread makes and clears, and another looks: their seats, and whether both went well.
+fn at_once<J: Naming + Send + Sync, R: Threads + Wait + Sync>(
+    rt: &R,
+    machine: &Machine<J, Rotating>,
+    maker: Hand<J>,
+    looker: Seat<J>,
+) -> (Seat<J>, Seat<J>, bool) {
+    let ((maker, made), (looker, saw)) = join(
+        rt,
+        move || {
+            let mut maker = maker;
+            let made = makes_all(rt, machine, &mut maker);
+            (maker, made)
+        },
+        move || {
+            let mut looker = looker;
+            let saw = never_falls(&mut looker);
+            (looker, saw)
+        },
+    );
+    (maker.into_seat(), looker, made && saw)
+}
+
+/// How many entries the history has in the end, where there are these three seats.
+fn closed_three<J: Naming>(
+    alloc: Global,
+    core: Core<J, Rotating>,
+    first: Seat<J>,
+    second: Seat<J>,
+    third: Seat<J>,
+) -> Option<u64> {
+    let seats = with_seat(Vec::new(alloc), first)?;
+    let seats = with_seat(seats, second)?;
+    let seats = with_seat(seats, third)?;
+    closed(core, seats)
+}
+
+/// The two at once, where the first seat has begun: whether all statuses are seen in the end, and all entries are there.
+fn looks_from<J: Naming + Send + Sync, R: Threads + Wait + Sync>(
+    rt: &R,
+    alloc: Global,
+    core: Core<J, Rotating>,
+    first: Seat<J>,
+    maker: Hand<J>,
+    looker: Seat<J>,
+) -> bool {
+    let machine = Machine::new(core);
+    let (maker, looker, well) = at_once(rt, &machine, maker, looker);
+    let mut looker = looker;
+    let last = seen(&mut looker);
+    let entries = closed_three(alloc, machine.into_core(), first, maker, looker);
+    well && last == Some((STATUSES, STATUSES)) && entries == Some(2 + 3 * STATUSES)
+}
+
+/// The same as `looks`, where this seat has begun.
+fn looks_after<J: Naming + Send + Sync, R: Threads + Wait + Sync>(
+    rt: &R,
+    alloc: Global,
+    core: Core<J, Rotating>,
+    first: Seat<J>,
+) -> bool {
+    let mut core = core;
+    match sides(&mut core) {
+        Some((maker, looker)) => looks_from(rt, alloc, core, first, maker, looker),
+        None => false,
+    }
 }
 
 /// One thread makes and clears statuses, and another looks.
@@ -98,47 +193,10 @@ pub fn looks<J: Naming + Send + Sync, R: Threads + Wait + Sync>(
     core: Core<J, Rotating>,
 ) -> bool {
     let mut core = core;
-    let (Ok(mut first), Some(cpu)) = (core.seat(), Cpu::new(0)) else {
-        return false;
-    };
-    if !begins(&mut core, &mut first, cpu) {
-        return false;
+    match begun(&mut core) {
+        Some(first) => looks_after(rt, alloc, core, first),
+        None => false,
     }
-    let (Ok(second), Ok(third)) = (core.seat(), core.seat()) else {
-        return false;
-    };
-    let maker = Hand {
-        seat: second,
-        task: Task::Path(0x10),
-        answered: 0,
-    };
-    let machine = Machine::new(core);
-    let shared = &machine;
-    let ((maker, made), (looker, saw)) = join(
-        rt,
-        move || {
-            let mut maker = maker;
-            let made = makes_all(rt, shared, &mut maker, cpu);
-            (maker, made)
-        },
-        move || {
-            let mut looker = third;
-            let saw = never_falls(&mut looker);
-            (looker, saw)
-        },
-    );
-    let mut looker = looker;
-    let last = seen(&mut looker);
-    let mut seats = Vec::new(alloc);
-    if seats.push(first).is_err()
-        || seats.push(maker.into_seat()).is_err()
-        || seats.push(looker).is_err()
-    {
-        return false;
-    }
-    made && saw
-        && last == Some((STATUSES, STATUSES))
-        && closed(machine.into_core(), seats) == Some(2 + 3 * STATUSES)
 }
 
 #[test]

@@ -49,12 +49,12 @@ fn path_of(reply: &Reply) -> Option<Path> {
     }
 }
 
-/// Whether a fresh subsystem that is set up so answers all events of a history as they were answered.
-pub fn replays(alloc: Global, config: Config, history: &History<'_>) -> bool {
-    let shown = Cell::new(None);
-    let Ok(mut subsystem) = Subsystem::new(alloc, config, Recorded { shown: &shown }) else {
-        return false;
-    };
+/// Whether all events of a history are accepted, one after another, where the choices of its replies are shown.
+fn performs<'a>(
+    subsystem: &mut Subsystem<Recorded<'a>>,
+    shown: &Cell<Option<Path>>,
+    history: &History<'_>,
+) -> bool {
     for number in 0..history.len() {
         let Some(entry) = history.get(number) else {
             return false;
@@ -64,5 +64,16 @@ pub fn replays(alloc: Global, config: Config, history: &History<'_>) -> bool {
             return false;
         }
     }
-    subsystem.history().is_same(history)
+    true
+}
+
+/// Whether a fresh subsystem that is set up so answers all events of a history as they were answered.
+pub fn replays(alloc: Global, config: Config, history: &History<'_>) -> bool {
+    let shown = Cell::new(None);
+    match Subsystem::new(alloc, config, Recorded { shown: &shown }) {
+        Ok(mut subsystem) => {
+            performs(&mut subsystem, &shown, history) && subsystem.history().is_same(history)
+        }
+        Err(_) => false,
+    }
 }

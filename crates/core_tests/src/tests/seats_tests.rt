@@ -1,11 +1,12 @@
 //! Seats: how many there are, what they see, and that all of them are given back.
 
+use crate::tests::hands::{closed, closed_alone, with_seat};
 use crate::tests::machines::{WORD, accepts, accepts_all, enable, tsch};
 use crate::tests::stories::{Story, goes};
 use chan_events::event::{Event, Instruction};
 use chan_model::fault::Fault;
 use chan_model::names::Cpu;
-use core_lock::locked::{Core, MOST_SEATS, Seat, audit};
+use core_lock::locked::{Core, MOST_SEATS, Seat};
 use core_lock::naming::Naming;
 use path_select::Rotating;
 use signal_places::answers::AnswerPlace;
@@ -30,76 +31,122 @@ pub fn seen<J: Naming>(seat: &mut Seat<J>) -> Option<(u64, u64)> {
     Some((glance.made, glance.cleared))
 }
 
-/// A seat sees what another made and cleared.
-pub fn sees<J: Naming>(alloc: Global, core: Core<J, Rotating>) -> bool {
-    let mut core = core;
-    let (Ok(mut first), Ok(mut second)) = (core.seat(), core.seat()) else {
-        return false;
-    };
-    let before = seen(&mut second);
-    let done = makes_and_clears(&mut core, &mut first);
-    let after = seen(&mut second);
-    let unknown = second.glance(WORD + 1);
-    let mut seats = Vec::new(alloc);
-    if seats.push(first).is_err() || seats.push(second).is_err() {
-        return false;
-    }
-    let audited = audit(&core, seats.as_slice());
+/// Whether a seat sees what another makes and clears, and no subchannel that is not there.
+fn sees_other<J: Naming>(
+    core: &mut Core<J, Rotating>,
+    maker: &mut Seat<J>,
+    looker: &mut Seat<J>,
+) -> bool {
+    let before = seen(looker);
+    let done = makes_and_clears(core, maker);
+    let after = seen(looker);
+    let unknown = looker.glance(WORD + 1);
     before == Some((0, 0))
         && done
         && after == Some((1, 1))
         && matches!(unknown, Err(Fault::NoSuchSubchannel))
-        && audited
-        && core.close(seats) == Some(5)
+}
+
+/// How many entries the history has in the end, where there are these two seats.
+fn closed_both<J: Naming>(
+    alloc: Global,
+    core: Core<J, Rotating>,
+    first: Seat<J>,
+    second: Seat<J>,
+) -> Option<u64> {
+    let seats = with_seat(Vec::new(alloc), first)?;
+    let seats = with_seat(seats, second)?;
+    closed(core, seats)
+}
+
+/// The same as `sees`, from this seat.
+fn sees_from<J: Naming>(alloc: Global, core: Core<J, Rotating>, first: Seat<J>) -> bool {
+    let mut core = core;
+    let mut first = first;
+    match core.seat() {
+        Ok(mut second) => {
+            let seen = sees_other(&mut core, &mut first, &mut second);
+            let entries = closed_both(alloc, core, first, second);
+            seen && entries == Some(5)
+        }
+        Err(_) => false,
+    }
+}
+
+/// A seat sees what another made and cleared.
+pub fn sees<J: Naming>(alloc: Global, core: Core<J, Rotating>) -> bool {
+    let mut core = core;
+    match core.seat() {
+        Ok(first) => sees_from(alloc, core, first),
+        Err(_) => false,
+    }
+}
+
+/// Whether one place has the reply of an event that is accepted, and then the refusal of another.
+fn places_both<J: Naming>(core: &mut Core<J, Rotating>, seat: &mut Seat<J>) -> bool {
+    let Some(cpu) = Cpu::new(0) else {
+        return false;
+    };
+    let mut place = AnswerPlace::new();
+    let instruction = tsch(WORD);
+    let tested = core.enter_place(seat, &Event::Execute { cpu, instruction }, &mut place);
+    let replied = tested.is_ok() && place.is_reply();
+    let subchannel = WORD + 1;
+    let refusal = core.enter_place(seat, &Event::Choose { subchannel }, &mut place);
+    replied && matches!(refusal, Err(Fault::NoSuchSubchannel)) && !place.is_reply()
 }
 
 /// An event is accepted and another is refused, and one place has the answer of each.
 pub fn answers<J: Naming>(alloc: Global, core: Core<J, Rotating>) -> bool {
     let mut core = core;
-    let (Ok(mut seat), Some(cpu)) = (core.seat(), Cpu::new(0)) else {
-        return false;
-    };
-    let mut place = AnswerPlace::new();
-    let instruction = tsch(WORD);
-    let tested = core.enter_place(&mut seat, &Event::Execute { cpu, instruction }, &mut place);
-    let replied = tested.is_ok() && place.is_reply();
-    let subchannel = WORD + 1;
-    let refusal = core.enter_place(&mut seat, &Event::Choose { subchannel }, &mut place);
-    let refused = matches!(refusal, Err(Fault::NoSuchSubchannel)) && !place.is_reply();
-    let mut seats = Vec::new(alloc);
-    if seats.push(seat).is_err() {
-        return false;
+    match core.seat() {
+        Ok(mut seat) => {
+            let placed = places_both(&mut core, &mut seat);
+            let entries = closed_alone(alloc, core, seat);
+            placed && entries == Some(1)
+        }
+        Err(_) => false,
     }
-    replied && refused && audit(&core, seats.as_slice()) && core.close(seats) == Some(1)
+}
+
+/// So many seats; None where one of them is refused.
+fn seated<J: Naming>(
+    alloc: Global,
+    core: &mut Core<J, Rotating>,
+    count: u16,
+) -> Option<Vec<Seat<J>>> {
+    let mut seats = Vec::new(alloc);
+    for _ in 0..count {
+        let seat = core.seat().ok()?;
+        seats.push(seat).ok()?;
+    }
+    Some(seats)
 }
 
 /// A seat is left out at the end.
 pub fn leaves_out<J: Naming>(alloc: Global, core: Core<J, Rotating>) -> bool {
     let mut core = core;
-    let (Ok(first), Ok(second)) = (core.seat(), core.seat()) else {
-        return false;
-    };
-    let mut seats = Vec::new(alloc);
-    if seats.push(second).is_err() {
-        return false;
+    let made = core.seat().is_ok();
+    match seated(alloc, &mut core, 1) {
+        Some(others) => {
+            let entries = core.close(others);
+            made && entries.is_none()
+        }
+        None => false,
     }
-    drop(first);
-    core.close(seats).is_none()
 }
 
 /// As many seats are made as there can be, and one more is refused.
 pub fn fills<J: Naming>(alloc: Global, core: Core<J, Rotating>) -> bool {
     let mut core = core;
-    let mut seats = Vec::new(alloc);
-    for _ in 0..MOST_SEATS {
-        let Ok(seat) = core.seat() else {
-            return false;
-        };
-        if seats.push(seat).is_err() {
-            return false;
+    match seated(alloc, &mut core, MOST_SEATS) {
+        Some(seats) => {
+            let refused = matches!(core.seat(), Err(Fault::NotNow));
+            let entries = core.close(seats);
+            refused && entries == Some(0)
         }
+        None => false,
     }
-    matches!(core.seat(), Err(Fault::NotNow)) && core.close(seats) == Some(0)
 }
 
 #[test]

@@ -61,7 +61,28 @@ pub fn setting(alloc: Global, story: Story) -> Config {
     }
 }
 
+/// Whether a story goes as it is told, on this core.
 fn tell<J: Naming + Send + Sync, R: Threads + Wait + Sync>(
+    rt: &R,
+    alloc: Global,
+    core: Core<J, Rotating>,
+    story: Story,
+) -> bool {
+    match story {
+        Story::Sees => sees(alloc, core),
+        Story::Answers => answers(alloc, core),
+        Story::LeavesOut => leaves_out(alloc, core),
+        Story::Fills => fills(alloc, core),
+        Story::Meets => meets(rt, alloc, core),
+        Story::Looks => looks(rt, alloc, core),
+        Story::Roams => roams(rt, alloc, core),
+        Story::Crowds => crowds(rt, alloc, core),
+        Story::Grows => false,
+    }
+}
+
+/// The same, on a core that is made of these; the story of requests for memory makes its own.
+fn make_and_tell<J: Naming + Send + Sync, R: Threads + Wait + Sync>(
     rt: &R,
     alloc: Global,
     subsystem: Subsystem<Rotating>,
@@ -76,19 +97,9 @@ fn tell<J: Naming + Send + Sync, R: Threads + Wait + Sync>(
     if let Story::Grows = story {
         return grows::<J>(alloc, subsystem, parts);
     }
-    let Ok(core) = Core::<J, Rotating>::new(alloc, subsystem, parts) else {
-        return false;
-    };
-    match story {
-        Story::Sees => sees(alloc, core),
-        Story::Answers => answers(alloc, core),
-        Story::LeavesOut => leaves_out(alloc, core),
-        Story::Fills => fills(alloc, core),
-        Story::Meets => meets(rt, alloc, core),
-        Story::Looks => looks(rt, alloc, core),
-        Story::Roams => roams(rt, alloc, core),
-        Story::Crowds => crowds(rt, alloc, core),
-        Story::Grows => false,
+    match Core::<J, Rotating>::new(alloc, subsystem, parts) {
+        Ok(core) => tell(rt, alloc, core, story),
+        Err(_) => false,
     }
 }
 
@@ -101,5 +112,5 @@ pub fn goes<R: Threads + Wait + Sync>(rt: &R, alloc: Global, story: Story) -> bo
     let Ok(subsystem) = Subsystem::new(alloc, config, Rotating) else {
         return false;
     };
-    tell::<Brand, R>(rt, alloc, subsystem, parts, story)
+    make_and_tell::<Brand, R>(rt, alloc, subsystem, parts, story)
 }

@@ -1,6 +1,6 @@
 //! Workers of eight channel paths and of a unit that roams bring a program to its end, on threads of their own.
 
-use crate::tests::hands::{Hand, Task, add_hand, closed, seats_of, stores};
+use crate::tests::hands::{Hand, Task, add_hand, add_worker, closed_all};
 use crate::tests::machines::{WORD, accepts, accepts_all, enable, loads, ssch, tsch};
 use crate::tests::stories::{Story, goes};
 use chan_events::event::{Event, UnitAct};
@@ -29,8 +29,21 @@ const ROUNDS: u64 = 1_000;
 const STATUS: [u32; 3] = [0x0080_4007, 0x0000_1008, 0x0C00_0000];
 
 /// A write command of four bytes is started, in multipath mode.
-fn starts<J: Naming>(core: &mut Core<J, Rotating>, seat: &mut Seat<J>, cpu: Cpu) -> bool {
+fn starts<J: Naming>(core: &mut Core<J, Rotating>, seat: &mut Seat<J>) -> bool {
+    let Some(cpu) = Cpu::new(0) else {
+        return false;
+    };
     accepts_all(core, seat, &loads()) && accepts(core, seat, cpu, &[enable(WORD, true), ssch(WORD)])
+}
+
+/// A seat from which that was entered.
+fn started<J: Naming>(core: &mut Core<J, Rotating>) -> Option<Seat<J>> {
+    let mut seat = core.seat().ok()?;
+    if starts(core, &mut seat) {
+        Some(seat)
+    } else {
+        None
+    }
 }
 
 /// The hands of the eight paths and of the unit.
@@ -41,14 +54,11 @@ fn all_hands<J: Naming>(alloc: Global, core: &mut Core<J, Rotating>) -> Option<V
             return None;
         }
     }
-    let task = Task::Units {
-        first: 0,
-        devices: stores(alloc, 1).ok()?,
-    };
-    if !add_hand(core, &mut hands, task) {
-        return None;
+    if add_worker(alloc, core, &mut hands, 0, 1) {
+        Some(hands)
+    } else {
+        None
     }
-    Some(hands)
 }
 
 /// Whether a status is the one that is due.
@@ -62,8 +72,8 @@ fn cleared<J: Naming, R: Wait>(
     rt: &R,
     machine: &Machine<J, Rotating>,
     program: &mut Seat<J>,
-    cpu: Cpu,
 ) -> Option<bool> {
+    let cpu = Cpu::new(0)?;
     let tested = machine.instruct(rt, program, cpu, CpuInstruction::OnSubchannel(tsch(WORD)));
     match tested {
         Ok(
@@ -99,13 +109,12 @@ fn works<J: Naming + Send + Sync, R: Threads + Wait + Sync>(
     rt: &R,
     machine: &Machine<J, Rotating>,
     program: &mut Seat<J>,
-    cpu: Cpu,
     hands: Vec<Hand<J>>,
 ) -> Option<(bool, Vec<Hand<J>>)> {
     let mut hands = hands;
     for _round in 0..ROUNDS {
         hands = round(rt, machine, hands)?;
-        if let Some(due) = cleared(rt, machine, program, cpu) {
+        if let Some(due) = cleared(rt, machine, program) {
             return Some((due, hands));
         }
     }
@@ -134,30 +143,7 @@ fn has_roamed(history: &History<'_>) -> bool {
     false
 }
 
-/// A program is started, and brought to its end.
-pub fn roams<J: Naming + Send + Sync, R: Threads + Wait + Sync>(
-    rt: &R,
-    alloc: Global,
-    core: Core<J, Rotating>,
-) -> bool {
-    let mut core = core;
-    let (Ok(mut program), Some(cpu)) = (core.seat(), Cpu::new(0)) else {
-        return false;
-    };
-    let Some(hands) = all_hands(alloc, &mut core) else {
-        return false;
-    };
-    if !starts(&mut core, &mut program, cpu) {
-        return false;
-    }
-    let machine = Machine::new(core);
-    let Some((due, hands)) = works(rt, &machine, &mut program, cpu, hands) else {
-        return false;
-    };
-    due && ends(alloc, machine.into_core(), program, hands)
-}
-
-/// Whether all entries are in the logs, as the history has them.
+/// Whether the unit roamed, and all entries are in the logs, as the history has them.
 fn ends<J: Naming>(
     alloc: Global,
     core: Core<J, Rotating>,
@@ -165,10 +151,54 @@ fn ends<J: Naming>(
     hands: Vec<Hand<J>>,
 ) -> bool {
     let roamed = has_roamed(&core.subsystem().history());
-    let Ok(mut seats) = seats_of(alloc, hands) else {
-        return false;
-    };
-    roamed && seats.push(program).is_ok() && closed(core, seats).is_some()
+    let entries = closed_all(alloc, core, program, hands);
+    roamed && entries.is_some()
+}
+
+/// These hands bring the program to its end that this seat has started.
+fn roams_from<J: Naming + Send + Sync, R: Threads + Wait + Sync>(
+    rt: &R,
+    alloc: Global,
+    core: Core<J, Rotating>,
+    program: Seat<J>,
+    hands: Vec<Hand<J>>,
+) -> bool {
+    let machine = Machine::new(core);
+    let mut program = program;
+    match works(rt, &machine, &mut program, hands) {
+        Some((due, hands)) => {
+            let ended = ends(alloc, machine.into_core(), program, hands);
+            due && ended
+        }
+        None => false,
+    }
+}
+
+/// The same as `roams`, where this seat has started the program.
+fn roams_after<J: Naming + Send + Sync, R: Threads + Wait + Sync>(
+    rt: &R,
+    alloc: Global,
+    core: Core<J, Rotating>,
+    program: Seat<J>,
+) -> bool {
+    let mut core = core;
+    match all_hands(alloc, &mut core) {
+        Some(hands) => roams_from(rt, alloc, core, program, hands),
+        None => false,
+    }
+}
+
+/// A program is started, and brought to its end.
+pub fn roams<J: Naming + Send + Sync, R: Threads + Wait + Sync>(
+    rt: &R,
+    alloc: Global,
+    core: Core<J, Rotating>,
+) -> bool {
+    let mut core = core;
+    match started(&mut core) {
+        Some(program) => roams_after(rt, alloc, core, program),
+        None => false,
+    }
 }
 
 #[test]
