@@ -1,5 +1,5 @@
 -- Searches among the subchannels of a machine, one after another.
-use Rattle.std.proofs.Common.{◌≡◌, refl, sym, ◌∙◌, ap, subst, ℕ, ◌+◌, ◌<◌, ◌≤◌, zero, suc, Bool, true, false, Option, None, Some, List, [], ◌∷◌, length, take, drop, add-one, arith}
+use Rattle.std.proofs.Common.{◌≡◌, refl, sym, ◌∙◌, ap, subst, ℕ, ◌+◌, ◌<◌, zero, suc, Bool, true, false, Option, None, Some, List, [], ◌∷◌, length, take, drop, add-one, arith}
 use Rattle.std.specs.Prelude.{if◌then◌else◌, slice_get}
 use Rattle.channel_config.specs.declared.names.SubchannelId.{SubchannelId}
 use Rattle.channel_config.specs.declared.parts.SubchannelSetup.{SubchannelSetup}
@@ -60,9 +60,3 @@ among_found s chpid setups i e lt is so = so ∙ among_at s chpid setups i lt �
 
 pub among_more : (s : State) (chpid : ℕ) (setups : List SubchannelSetup) (i : ℕ) → i < length setups → path_turn_at s chpid (slice_get setups i) ≡ None → path_turn_among s chpid setups ≡ path_turn_among s chpid (drop i setups) → path_turn_among s chpid setups ≡ path_turn_among s chpid (drop (i + 1) setups)
 among_more s chpid setups i lt is so = so ∙ among_at s chpid setups i lt ∙ ap (λ (o : Option Event). or_turn o (path_turn_among s chpid (drop (i + 1) setups))) is
-
-among_end : (s : State) (chpid : ℕ) (setups : List SubchannelSetup) (i : ℕ) → length setups ≤ i → path_turn_among s chpid (drop i setups) ≡ None
-among_end s chpid [] zero le = refl
-among_end s chpid [] (suc i) le = refl
-among_end s chpid (x ∷ xs) zero le = absurd (omega arith)
-among_end s chpid (x ∷ xs) (suc i) le = among_end s chpid xs i (omega arith)

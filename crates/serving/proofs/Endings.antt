@@ -17,19 +17,19 @@ use Rattle.serving.specs.Racing.{IsRaced}
 use Rattle.serving.specs.Serving.{EndsBy, FailsAudit, PerformsAll, Races, RacesAfter, TellsAudit, ending_of, IsRun, Serves}
 
 -- what is so of the script that was read is so of a script of the text, where the text is known
-of_script : (races : Bool) (input : Option (List ℕ)) (s : ScriptContents) (P : ScriptContents → Type 0) → IfSome input (λ text. IsScript races (lines_of text) s) → P s →
-    IfSome input (λ text. (t : ScriptContents) × IsScript races (lines_of text) t × P t)
-of_script races None s P is p = tt
-of_script races (Some text) s P is p = (s, is, p)
+of_script : (input : Option (List ℕ)) (s : ScriptContents) (P : ScriptContents → Type 0) → IfSome input (λ text. IsScript false (lines_of text) s) → P s →
+    IfSome input (λ text. (t : ScriptContents) × IsScript false (lines_of text) t × P t)
+of_script None s P is p = tt
+of_script (Some text) s P is p = (s, is, p)
 
 pub serves_script : (input : Option (List ℕ)) (s : ScriptContents) (held now : Seen) (e : Ending) → IfSome input (λ text. IsScript false (lines_of text) s) →
     IsRun s held now e → Serves input held now e
 serves_script input s held now NotRead is h = absurd h
 serves_script input s held now (NoMemory whole) is h = h
 serves_script input s held now (Bad whole) is h = absurd h
-serves_script input s held now (Done refused) is h = of_script false input s (λ t. IsRun t held now (Done refused)) is h
-serves_script input s held now (Stopped refused) is h = of_script false input s (λ t. IsRun t held now (Stopped refused)) is h
-serves_script input s held now (AuditFailed whole) is h = of_script false input s (λ t. IsRun t held now (AuditFailed whole)) is h
+serves_script input s held now (Done refused) is h = of_script input s (λ t. IsRun t held now (Done refused)) is h
+serves_script input s held now (Stopped refused) is h = of_script input s (λ t. IsRun t held now (Stopped refused)) is h
+serves_script input s held now (AuditFailed whole) is h = of_script input s (λ t. IsRun t held now (AuditFailed whole)) is h
 
 -- the audit failed, and the line that says so was written or not
 fails : (old last : Installed) (lines : List Line) (held now : Seen) (whole : Bool) → TellsAudit old lines held now whole last → FailsAudit old lines held now whole last
