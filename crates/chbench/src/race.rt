@@ -153,28 +153,13 @@ fn gathered<J: Naming>(
     Ok((seats, instructions, looks))
 }
 
-/// All run at one locked core; None where there are not so many CPUs or seats, or no memory.
-pub fn run_race<J: Naming + Send + Sync, R: Threads + Wait + Sync>(
-    rt: &R,
+/// What the runners did, and whether the audit found all of it in the history.
+fn counted<J: Naming>(
     alloc: Global,
-    seated: Seated<J>,
-    race: Race,
+    core: Core<J, Rotating>,
+    seat: Seat<J>,
+    runners: Vec<Runner<J>>,
 ) -> Option<RaceCount> {
-    let bench = Bench::at(alloc, seated, Kind::Test, 1)?;
-    let Seated {
-        mut core,
-        seat,
-        report: _,
-    } = bench.into_floor();
-    let mut runners = runners_of(alloc, &mut core, race)?;
-    let machine = Machine::new(core);
-    for_each_mut(
-        rt,
-        runners.as_mut_slice(),
-        32,
-        &|_, runner| { runner.run(rt, &machine, race.times) },
-    );
-    let core = machine.into_core();
     let (seats, instructions, looks) = gathered(alloc, seat, runners).ok()?;
     let entries = core.subsystem().history().len() as u64;
     let audited = audit(&core, seats.as_slice());
@@ -184,4 +169,40 @@ pub fn run_race<J: Naming + Send + Sync, R: Threads + Wait + Sync>(
         looks,
         audited: audited && closed == Some(entries),
     })
+}
+
+/// All runners run at this core, once the seat has made it ready.
+fn race_from<J: Naming + Send + Sync, R: Threads + Wait + Sync>(
+    rt: &R,
+    alloc: Global,
+    core: Core<J, Rotating>,
+    seat: Seat<J>,
+    race: Race,
+) -> Option<RaceCount> {
+    let mut core = core;
+    let mut runners = runners_of(alloc, &mut core, race)?;
+    let machine = Machine::new(core);
+    for_each_mut(
+        rt,
+        runners.as_mut_slice(),
+        32,
+        &|_, runner| { runner.run(rt, &machine, race.times) },
+    );
+    counted(alloc, machine.into_core(), seat, runners)
+}
+
+/// All run at one locked core; None where there are not so many CPUs or seats, or no memory.
+pub fn run_race<J: Naming + Send + Sync, R: Threads + Wait + Sync>(
+    rt: &R,
+    alloc: Global,
+    seated: Seated<J>,
+    race: Race,
+) -> Option<RaceCount> {
+    let bench = Bench::at(alloc, seated, Kind::Test, 1)?;
+    let Seated {
+        core,
+        seat,
+        report: _,
+    } = bench.into_floor();
+    race_from(rt, alloc, core, seat, race)
 }

@@ -54,6 +54,17 @@ impl Task {
     }
 }
 
+/// A core with its first seat.
+fn with_seat<J: Naming>(core: Core<J, Rotating>) -> Option<Seated<J>> {
+    let mut core = core;
+    let seat = core.seat().ok()?;
+    Some(Seated {
+        core,
+        seat,
+        report: ReportPlace::new(),
+    })
+}
+
 /// A core of this name, with its first seat.
 fn seated<J: Naming>(
     alloc: Global,
@@ -65,16 +76,10 @@ fn seated<J: Naming>(
     requires directory { parts.name.directory ≡ directory_of subsystem.state }
     requires serials { parts.serials ≡ all_serials subsystem.state }
 {
-    let Ok(core) = Core::<J, Rotating>::new(alloc, subsystem, parts) else {
-        return None;
-    };
-    let mut core = core;
-    let seat = core.seat().ok()?;
-    Some(Seated {
-        core,
-        seat,
-        report: ReportPlace::new(),
-    })
+    match Core::<J, Rotating>::new(alloc, subsystem, parts) {
+        Ok(core) => with_seat(core),
+        Err(_) => None,
+    }
 }
 
 /// Cycles at a core, by its first seat.

@@ -28,20 +28,26 @@ const PROGRAMS: [[u8; 8]; 3] = [
 ];
 
 fn main(rt: HostRuntime) -> io::Result<()> {
-    let Some(mut host) = Host::new(rt.alloc(), Clock::new()) else {
-        return println!(rt; "there is no memory");
-    };
+    match Host::new(rt.alloc(), Clock::new()) {
+        Some(mut host) => run_all(&rt, &mut host),
+        None => println!(rt; "there is no memory"),
+    }
+}
+
+/// The clock goes on by three; the guest enables its subchannel and runs its programs, and then starts one whose block does
+/// not stand at a word.
+fn run_all(rt: &HostRuntime, host: &mut Host) -> io::Result<()> {
     host.time_goes_on(3);
     let enable = Instruction::Enable {
         subchannel: SUBCHANNEL,
         subclass: 3,
         multipath: false,
     };
-    show_reply(&rt, "enable", execute(&mut host, enable))?;
+    show_reply(rt, "enable", execute(host, enable))?;
     for program in PROGRAMS {
-        run(&rt, &mut host, program)?;
+        run(rt, host, program)?;
     }
-    show_reply(&rt, "start", execute(&mut host, start(0x502)))
+    show_reply(rt, "start", execute(host, start(0x502)))
 }
 
 /// Runs one of the guest's programs: its blocks are put into storage, it is started and turned until nothing is due, and the

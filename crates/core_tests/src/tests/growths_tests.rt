@@ -4,7 +4,7 @@ ghost use Rattle.std.specs.Prelude.{◌≡◌, []};
 ghost use Rattle.subsystem.specs.Keeping.{all_serials};
 ghost use Rattle.core_lock.specs.Directory.{directory_of};
 
-use crate::tests::hands::closed_alone;
+use crate::tests::hands::closed_with;
 use crate::tests::stories::{Story, goes, setting};
 use chan_model::fault::Fault;
 use core_lock::locked::{Core, NotMade, Seat};
@@ -52,7 +52,7 @@ fn seats_in_turn<J: Naming>(alloc: Global, core: Core<J, Rotating>) -> bool {
     let mut core = core;
     match seat_in_turn(&mut core) {
         Some((seat, requests)) => {
-            let entries = closed_alone(alloc, core, seat);
+            let entries = closed_with(core, Vec::new(alloc), seat);
             requests == 4 && entries == Some(0)
         }
         None => false,

@@ -162,14 +162,29 @@ pub fn closed<J: Naming>(core: Core<J, Rotating>, seats: Vec<Seat<J>>) -> Option
     core.close(seats)
 }
 
-/// The same, where there is one seat.
-pub fn closed_alone<J: Naming>(
-    alloc: Global,
+/// The same, where there is one seat more.
+pub fn closed_with<J: Naming>(
     core: Core<J, Rotating>,
+    seats: Vec<Seat<J>>,
     seat: Seat<J>,
 ) -> Option<u64> {
-    let seats = with_seat(Vec::new(alloc), seat)?;
-    closed(core, seats)
+    match with_seat(seats, seat) {
+        Some(seats) => closed(core, seats),
+        None => None,
+    }
+}
+
+/// The same, where there are two seats more.
+pub fn closed_with_both<J: Naming>(
+    core: Core<J, Rotating>,
+    seats: Vec<Seat<J>>,
+    first: Seat<J>,
+    second: Seat<J>,
+) -> Option<u64> {
+    match with_seat(seats, first) {
+        Some(seats) => closed_with(core, seats, second),
+        None => None,
+    }
 }
 
 /// The same, where there are the seats of hands and one more.
@@ -179,6 +194,8 @@ pub fn closed_all<J: Naming>(
     seat: Seat<J>,
     hands: Vec<Hand<J>>,
 ) -> Option<u64> {
-    let seats = with_seat(seats_of(alloc, hands)?, seat)?;
-    closed(core, seats)
+    match seats_of(alloc, hands) {
+        Some(seats) => closed_with(core, seats, seat),
+        None => None,
+    }
 }

@@ -2,7 +2,7 @@
 
 ghost use Rattle.std.specs.Prelude.{◌≡◌, None};
 
-use crate::tests::hands::{Hand, Task, closed, with_seat};
+use crate::tests::hands::{Hand, Task, closed_with_both, with_seat};
 use crate::tests::machines::{WORD, accepts, accepts_all, enable, tsch};
 use crate::tests::seats_tests::seen;
 use crate::tests::stories::{Story, goes};
@@ -149,10 +149,10 @@ fn closed_three<J: Naming>(
     second: Seat<J>,
     third: Seat<J>,
 ) -> Option<u64> {
-    let seats = with_seat(Vec::new(alloc), first)?;
-    let seats = with_seat(seats, second)?;
-    let seats = with_seat(seats, third)?;
-    closed(core, seats)
+    match with_seat(Vec::new(alloc), first) {
+        Some(seats) => closed_with_both(core, seats, second, third),
+        None => None,
+    }
 }
 
 /// The two at once, where the first seat has begun: whether all statuses are seen in the end, and all entries are there.

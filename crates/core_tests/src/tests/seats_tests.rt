@@ -1,6 +1,6 @@
 //! Seats: how many there are, what they see, and that all of them are given back.
 
-use crate::tests::hands::{closed, closed_alone, with_seat};
+use crate::tests::hands::{closed_with, closed_with_both};
 use crate::tests::machines::{WORD, accepts, accepts_all, enable, tsch};
 use crate::tests::stories::{Story, goes};
 use chan_events::event::{Event, Instruction};
@@ -47,18 +47,6 @@ fn sees_other<J: Naming>(
         && matches!(unknown, Err(Fault::NoSuchSubchannel))
 }
 
-/// How many entries the history has in the end, where there are these two seats.
-fn closed_both<J: Naming>(
-    alloc: Global,
-    core: Core<J, Rotating>,
-    first: Seat<J>,
-    second: Seat<J>,
-) -> Option<u64> {
-    let seats = with_seat(Vec::new(alloc), first)?;
-    let seats = with_seat(seats, second)?;
-    closed(core, seats)
-}
-
 /// The same as `sees`, from this seat.
 fn sees_from<J: Naming>(alloc: Global, core: Core<J, Rotating>, first: Seat<J>) -> bool {
     let mut core = core;
@@ -66,7 +54,7 @@ fn sees_from<J: Naming>(alloc: Global, core: Core<J, Rotating>, first: Seat<J>) 
     match core.seat() {
         Ok(mut second) => {
             let seen = sees_other(&mut core, &mut first, &mut second);
-            let entries = closed_both(alloc, core, first, second);
+            let entries = closed_with_both(core, Vec::new(alloc), first, second);
             seen && entries == Some(5)
         }
         Err(_) => false,
@@ -102,7 +90,7 @@ pub fn answers<J: Naming>(alloc: Global, core: Core<J, Rotating>) -> bool {
     match core.seat() {
         Ok(mut seat) => {
             let placed = places_both(&mut core, &mut seat);
-            let entries = closed_alone(alloc, core, seat);
+            let entries = closed_with(core, Vec::new(alloc), seat);
             placed && entries == Some(1)
         }
         Err(_) => false,

@@ -115,33 +115,67 @@ fn script(alloc: Global) -> Vec<Event> {
     events
 }
 
-#[test]
-fn a_write_is_started_and_its_status_cleared(rt: HostRuntime) {
-    let alloc = rt.alloc();
-    let Ok(mut subsystem) = Subsystem::new(alloc, one_path(alloc), Rotating {}) else {
-        assert!(rt; false, "there is memory");
-        return;
-    };
+/// A subsystem of one path that nothing happened to; None where there is no memory.
+fn opened(alloc: Global) -> Option<Subsystem<Rotating>> {
+    Subsystem::new(alloc, one_path(alloc), Rotating {}).ok()
+}
+
+/// Whether so many events of a write, after these, are accepted one after another.
+fn performs(
+    alloc: Global,
+    subsystem: &mut Subsystem<Rotating>,
+    after: usize,
+    count: usize,
+) -> bool {
     let events = script(alloc);
-    let Ok(answers) = subsystem.run(alloc, events.as_slice()) else {
-        assert!(rt; false, "there is memory");
-        return;
+    for event in events.iter().skip(after).take(count) {
+        if subsystem.step(event).is_err() {
+            return false;
+        }
+    }
+    true
+}
+
+/// How many events of a write are accepted as they are run.
+fn accepted(alloc: Global, subsystem: &mut Subsystem<Rotating>) -> Option<usize> {
+    let events = script(alloc);
+    let answers = subsystem.run(alloc, events.as_slice()).ok()?;
+    if answers.len() != events.len() {
+        return None;
+    }
+    Some(answers.iter().filter(|answer| answer.is_ok()).count())
+}
+
+/// Whether the history has so many entries, and tells the last of them and none after it.
+fn has_entries(subsystem: &Subsystem<Rotating>, count: usize) -> bool {
+    let history = subsystem.history();
+    let tells_last = match count.checked_sub(1) {
+        Some(last) => history.get(last).is_some(),
+        None => true,
     };
-    assert!(rt; answers.len() == 17);
-    for answer in answers.iter() {
-        assert!(rt; answer.is_ok());
-    }
-    assert!(rt; subsystem.history().len() == 17);
-    assert!(rt; subsystem.history().get(16).is_some() && subsystem.history().get(17).is_none());
+    history.len() == count && tells_last && history.get(count).is_none()
+}
+
+/// Whether so many statuses were made, and so many cleared.
+fn has_serials(subsystem: &Subsystem<Rotating>, made: u64, cleared: u64) -> bool {
     match subsystem.serials(WORD) {
-        Some(serials) => assert!(rt; serials.made == 1 && serials.cleared == 0),
-        None => assert!(rt; false, "the subchannel is configured"),
+        Some(serials) => serials.made == made && serials.cleared == cleared,
+        None => false,
     }
-    let Some(test) = execute(Instruction::Tsch {
+}
+
+/// TEST SUBCHANNEL of the subchannel.
+fn test() -> Option<Event> {
+    execute(Instruction::Tsch {
         subchannel: WORD,
         address: 0x600,
-    }) else {
-        return;
+    })
+}
+
+/// Whether TEST SUBCHANNEL answers code 0 and clears the status of the write.
+fn clears(subsystem: &mut Subsystem<Rotating>) -> bool {
+    let Some(test) = test() else {
+        return false;
     };
     match subsystem.step(&test) {
         Ok(
@@ -150,82 +184,118 @@ fn a_write_is_started_and_its_status_cleared(rt: HostRuntime) {
                 scsw,
             },
         ) => {
-            assert!(rt; scsw.words() == [0x0080_4007, 0x0000_1008, 0x0C00_0000]);
-            assert!(rt; serials.made == 1 && serials.cleared == 1);
+            scsw.words() == [0x0080_4007, 0x0000_1008, 0x0C00_0000]
+                && serials.made == 1
+                && serials.cleared == 1
         }
-        _ => assert!(rt; false, "the status is pending"),
+        _ => false,
     }
+}
+
+/// Whether TEST SUBCHANNEL answers code 1, after that.
+fn finds_none(subsystem: &mut Subsystem<Rotating>) -> bool {
+    let Some(test) = test() else {
+        return false;
+    };
     match subsystem.step(&test) {
         Ok(
             Reply::Status {
                 answer: Answer::One(_),
                 scsw,
             },
-        ) => assert!(rt; scsw.words() == [0x0080_0000, 0x0000_1008, 0x0C00_0000]),
-        _ => assert!(rt; false, "no status is pending"),
+        ) => scsw.words() == [0x0080_0000, 0x0000_1008, 0x0C00_0000],
+        _ => false,
     }
 }
 
 #[test]
-fn a_unit_asks_for_its_turns(rt: HostRuntime) {
-    let alloc = rt.alloc();
-    let Ok(mut subsystem) = Subsystem::new(alloc, one_path(alloc), Rotating {}) else {
-        assert!(rt; false, "there is memory");
-        return;
+fn a_write_is_started_and_its_status_cleared(rt: HostRuntime) {
+    let Some(mut subsystem) = opened(rt.alloc()) else {
+        return assert!(rt; false, "there is memory");
     };
-    let events = script(alloc);
-    assert!(rt; subsystem.unit_turn(1).is_none());
-    assert!(rt; matches!(subsystem.unit_turn(0), Some(UnitTurn::Rests)));
-    for event in events.iter().take(6) {
-        assert!(rt; subsystem.step(event).is_ok());
+    let count = accepted(rt.alloc(), &mut subsystem);
+    let kept = has_entries(&subsystem, 17);
+    let made = has_serials(&subsystem, 1, 0);
+    let cleared = clears(&mut subsystem);
+    let again = finds_none(&mut subsystem);
+    drop(subsystem);
+    assert!(rt; count == Some(17));
+    assert!(rt; kept, "the history has the events");
+    assert!(rt; made, "a status is made and not cleared");
+    assert!(rt; cleared, "the status is pending");
+    assert!(rt; again, "no status is pending");
+}
+
+/// Whether the unit rests, and there is no other.
+fn rests(subsystem: &Subsystem<Rotating>) -> bool {
+    subsystem.unit_turn(1).is_none() && matches!(subsystem.unit_turn(0), Some(UnitTurn::Rests))
+}
+
+/// Whether the unit is to take a signal of the subchannel on its path.
+fn is_to_take(subsystem: &Subsystem<Rotating>) -> bool {
+    matches!(
+        subsystem.unit_turn(0),
+        Some(UnitTurn::Takes {
+            subchannel: SubchannelId { set: 0, number: 0 },
+            path: 0,
+        },)
+    )
+}
+
+/// Whether this is the first call of a command of this code.
+fn is_first(work: &Work, wanted: u8) -> bool {
+    match work {
+        Work::Call { call, .. } => match call {
+            Call::Initial { code } => *code == wanted,
+            _ => false,
+        },
+        _ => false,
     }
-    assert!(rt;
-        matches!(
-            subsystem.unit_turn(0),
-            Some(UnitTurn::Takes {
-                subchannel: SubchannelId { set: 0, number: 0 },
-                path: 0,
-            },)
-        )
-    );
-    for event in events.iter().skip(6).take(3) {
-        assert!(rt; subsystem.step(event).is_ok());
+}
+
+/// Whether the unit's device is to begin a command of this code.
+fn is_to_begin(subsystem: &Subsystem<Rotating>, code: u8) -> bool {
+    let Some(turn) = subsystem.unit_turn(0) else {
+        return false;
+    };
+    match turn {
+        UnitTurn::Works(work) => is_first(&work, code),
+        _ => false,
     }
-    match subsystem.unit_turn(0) {
-        Some(
-            UnitTurn::Works(
-                Work::Call {
-                    call: Call::Initial { code },
-                    ..
-                },
-            ),
-        ) => assert!(rt; code == 1),
-        _ => assert!(rt; false, "the command is to begin"),
-    }
-    assert!(rt; matches!(subsystem.step(&up()), Err(Fault::NotSent)));
-    assert!(rt;
-        matches!(
-            subsystem.step(&report(0, DeviceAnswer::Absorbed(0))),
-            Err(Fault::NotNow)
-        )
-    );
-    assert!(rt; subsystem.history().len() == 9);
+}
+
+/// Whether a signal that was not sent and an answer to another call are refused.
+fn refuses(subsystem: &mut Subsystem<Rotating>) -> bool {
+    let not_sent = subsystem.step(&up());
+    let not_now = subsystem.step(&report(0, DeviceAnswer::Absorbed(0)));
+    matches!(not_sent, Err(Fault::NotSent)) && matches!(not_now, Err(Fault::NotNow))
+}
+
+#[test]
+fn a_unit_asks_for_its_turns(rt: HostRuntime) {
+    let Some(mut subsystem) = opened(rt.alloc()) else {
+        return assert!(rt; false, "there is memory");
+    };
+    let rested = rests(&subsystem);
+    let chosen = performs(rt.alloc(), &mut subsystem, 0, 6) && is_to_take(&subsystem);
+    let taken = performs(rt.alloc(), &mut subsystem, 6, 3) && is_to_begin(&subsystem, 1);
+    let refused = refuses(&mut subsystem);
+    let kept = has_entries(&subsystem, 9);
+    drop(subsystem);
+    assert!(rt; rested, "the unit rests");
+    assert!(rt; chosen, "a signal is to be taken");
+    assert!(rt; taken, "the command is to begin");
+    assert!(rt; refused, "two events are refused");
+    assert!(rt; kept, "the history has the events that were accepted");
 }
 
 /// A subsystem after the first of the events of a write.
 fn begun(alloc: Global, count: usize) -> Option<Subsystem<Rotating>> {
-    let mut subsystem = Subsystem::new(alloc, one_path(alloc), Rotating {}).ok()?;
-    for event in script(alloc).iter().take(count) {
-        subsystem.step(event).ok()?;
-    }
-    Some(subsystem)
-}
-
-/// The path of the signal that the unit is to take.
-fn path_to_take(subsystem: &Subsystem<Rotating>) -> Option<u32> {
-    match subsystem.unit_turn(0) {
-        Some(UnitTurn::Takes { path, .. }) => Some(path),
-        _ => None,
+    let mut subsystem = opened(alloc)?;
+    if performs(alloc, &mut subsystem, 0, count) {
+        Some(subsystem)
+    } else {
+        None
     }
 }
 
@@ -234,65 +304,95 @@ fn path_to_take(subsystem: &Subsystem<Rotating>) -> Option<u32> {
 /// the requests for interruptions.
 const REQUESTS: u64 = 12;
 
-#[test]
-fn each_request_of_an_opening_is_refused_in_turn(rt: HostRuntime) {
-    let alloc = rt.alloc();
-    for left in 0..=REQUESTS {
-        let mut supply = Refusing {
-            left,
-            refused: false,
-        };
-        match Subsystem::new_with(alloc, &mut supply, one_path(alloc), Rotating {}) {
-            Ok(subsystem) => {
-                assert!(rt; left == REQUESTS && !supply.refused);
-                assert!(rt; subsystem.serials(WORD).is_some());
-            }
-            Err(NotMade { config, choice }) => {
-                assert!(rt; left < REQUESTS && supply.refused, "{left}");
-                let Ok(subsystem) = Subsystem::new(alloc, config, choice) else {
-                    assert!(rt; false, "there is memory");
-                    return;
-                };
-                assert!(rt; subsystem.serials(WORD).is_some());
-                assert!(rt; subsystem.history().len() == 0);
-            }
+/// Grants so many requests, and no more.
+fn granting(left: u64) -> Refusing {
+    Refusing {
+        left,
+        refused: false,
+    }
+}
+
+/// Whether what was handed back makes a subsystem that nothing happened to.
+fn is_made_of(alloc: Global, given: NotMade<Rotating>) -> bool {
+    let NotMade { config, choice } = given;
+    match Subsystem::new(alloc, config, choice) {
+        Ok(subsystem) => subsystem.serials(WORD).is_some() && subsystem.history().len() == 0,
+        Err(_) => false,
+    }
+}
+
+/// Whether an opening to which so many requests are granted is made where that is all of them, and else handed back.
+fn opens(alloc: Global, left: u64) -> bool {
+    let mut supply = granting(left);
+    match Subsystem::new_with(alloc, &mut supply, one_path(alloc), Rotating {}) {
+        Ok(subsystem) => {
+            left == REQUESTS && !supply.refused && subsystem.serials(WORD).is_some()
+        }
+        Err(given) => {
+            let made = is_made_of(alloc, given);
+            left < REQUESTS && supply.refused && made
         }
     }
 }
 
 #[test]
-fn a_run_whose_answers_are_refused_changes_nothing(rt: HostRuntime) {
-    let alloc = rt.alloc();
-    let Some(mut subsystem) = begun(alloc, 6) else {
-        return assert!(rt; false, "the events are accepted");
-    };
+fn each_request_of_an_opening_is_refused_in_turn(rt: HostRuntime) {
+    for left in 0..=REQUESTS {
+        assert!(rt; opens(rt.alloc(), left), "{left}");
+    }
+}
+
+/// The events of a write after the first six are run: how many are accepted.
+fn run_rest(
+    alloc: Global,
+    subsystem: &mut Subsystem<Rotating>,
+    supply: &mut Refusing,
+) -> Result<usize, Fault> {
     let events = script(alloc);
     if events.len() < 6 {
-        return assert!(rt; false, "there are more events");
+        return Ok(0);
     }
-    let rest = &events.as_slice()[6..];
-    for left in 0..2 {
-        let mut supply = Refusing {
-            left,
-            refused: false,
-        };
-        match subsystem.run_with(alloc, &mut supply, rest) {
-            Err(fault) => {
-                assert!(rt; left == 0 && supply.refused);
-                assert!(rt; matches!(fault, Fault::NoMemory));
-                assert!(rt; subsystem.history().len() == 6);
-                assert!(rt; path_to_take(&subsystem) == Some(0));
-            }
-            Ok(answers) => {
-                assert!(rt; left == 1 && !supply.refused);
-                assert!(rt; answers.iter().filter(|answer| answer.is_ok()).count() == 11);
-                assert!(rt; subsystem.history().len() == 17);
-            }
-        }
-    }
-    match subsystem.serials(WORD) {
-        Some(serials) => assert!(rt; serials.made == 1 && serials.cleared == 0),
-        None => assert!(rt; false, "the subchannel is configured"),
+    let answers = subsystem.run_with(alloc, supply, &events.as_slice()[6..])?;
+    Ok(answers.iter().filter(|answer| answer.is_ok()).count())
+}
+
+/// Whether a run to which the room for its answers is refused changes nothing.
+fn is_refused(alloc: Global, subsystem: &mut Subsystem<Rotating>) -> bool {
+    let mut supply = granting(0);
+    let outcome = run_rest(alloc, subsystem, &mut supply);
+    supply.refused
+        && matches!(outcome, Err(Fault::NoMemory))
+        && has_entries(subsystem, 6)
+        && is_to_take(subsystem)
+}
+
+/// Whether a run to which one request is granted is performed.
+fn is_granted(alloc: Global, subsystem: &mut Subsystem<Rotating>) -> bool {
+    let mut supply = granting(1);
+    let outcome = run_rest(alloc, subsystem, &mut supply);
+    !supply.refused && matches!(outcome, Ok(11)) && has_entries(subsystem, 17)
+}
+
+#[test]
+fn a_run_whose_answers_are_refused_changes_nothing(rt: HostRuntime) {
+    let Some(mut subsystem) = begun(rt.alloc(), 6) else {
+        return assert!(rt; false, "the events are accepted");
+    };
+    let refused = is_refused(rt.alloc(), &mut subsystem);
+    let granted = is_granted(rt.alloc(), &mut subsystem);
+    let made = has_serials(&subsystem, 1, 0);
+    drop(subsystem);
+    assert!(rt; refused, "nothing is changed");
+    assert!(rt; granted, "the events are accepted");
+    assert!(rt; made, "a status is made and not cleared");
+}
+
+/// Whether a run of no event is performed where no request is granted.
+fn runs_nothing(alloc: Global, subsystem: &mut Subsystem<Rotating>) -> bool {
+    let mut supply = granting(0);
+    match subsystem.run_with(alloc, &mut supply, &[]) {
+        Ok(answers) => answers.is_empty() && !supply.refused,
+        Err(_) => false,
     }
 }
 
@@ -301,12 +401,7 @@ fn a_run_of_no_event_asks_for_no_room(rt: HostRuntime) {
     let Some(mut subsystem) = begun(rt.alloc(), 6) else {
         return assert!(rt; false, "the events are accepted");
     };
-    let mut supply = Refusing {
-        left: 0,
-        refused: false,
-    };
-    match subsystem.run_with(rt.alloc(), &mut supply, &[]) {
-        Ok(answers) => assert!(rt; answers.is_empty() && !supply.refused),
-        Err(_) => assert!(rt; false, "no room is asked for"),
-    }
+    let run = runs_nothing(rt.alloc(), &mut subsystem);
+    drop(subsystem);
+    assert!(rt; run, "no room is asked for");
 }
