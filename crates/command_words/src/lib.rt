@@ -6,7 +6,7 @@ ghost use Rattle.command_words.specs.Plain as spec;
 ghost use Rattle.command_words.specs.declared.Wanted.{Wanted};
 
 use clap::Command;
-use clap::error::ErrorKind;
+use clap::error::{Error, ErrorKind};
 use std::alloc::{AllocError, Global};
 
 /// What the words ask for.
@@ -75,15 +75,27 @@ fn named(word: &str) -> Option<Wanted>
 /// What `clap` says of words that name no command; its help where it would take them, as `run --`.
 fn text_for<'a>(alloc: Global, words: &'a [&'a str]) -> Result<String, AllocError> {
     let mut command = the_command(alloc)?;
+    text_by(alloc, &mut command, words)
+}
+
+/// What a command of `clap` says of words.
+fn text_by<'a>(
+    alloc: Global,
+    command: &mut Command<'a>,
+    words: &'a [&'a str],
+) -> Result<String, AllocError> {
     match command.try_get_matches_from_mut(words) {
         Ok(_) => command.render_help(),
-        Err(error) => {
-            if error.kind() == ErrorKind::OutOfMemory {
-                Err(AllocError)
-            } else {
-                error.to_string(alloc)
-            }
-        }
+        Err(error) => text_of(alloc, &error),
+    }
+}
+
+/// What `clap` found wrong, in words.
+fn text_of(alloc: Global, error: &Error) -> Result<String, AllocError> {
+    if error.kind() == ErrorKind::OutOfMemory {
+        Err(AllocError)
+    } else {
+        error.to_string(alloc)
     }
 }
 

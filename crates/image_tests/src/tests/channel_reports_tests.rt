@@ -19,6 +19,7 @@ fn the_last_of_sixteen_says_that_one_was_lost(rt: HostRuntime) {
             None => 0,
         };
     }
+    drop(reports);
     assert!(rt; words[0] == 0x0406_0010 && words[1] == 0x0401_0010);
     assert!(rt; words[13] == 0x0401_0010 && words[14] == 0x0406_0010);
     assert!(rt; words[15] == 0x2401_0010);
@@ -28,23 +29,37 @@ fn the_last_of_sixteen_says_that_one_was_lost(rt: HostRuntime) {
 #[test]
 fn a_reset_is_asked_for_once_until_it_is_done(rt: HostRuntime) {
     let mut reports = Reports::new();
-    assert!(rt; reports.rchp(0x10, true) == ConditionCode::Zero);
-    assert!(rt; reports.rchp(0x10, true) == ConditionCode::Two);
-    assert!(rt; reports.rchp(0x11, false) == ConditionCode::Three);
-    assert!(rt; reports.is_asked(0x10) && !reports.is_asked(0x11));
-    assert!(rt; reports.reset_done(0x10));
-    assert!(rt; reports.stcrw().map(Crw::word) == Some(0x4402_0010));
-    assert!(rt; !reports.reset_done(0x10) && reports.stcrw().is_none());
-    assert!(rt; reports.rchp(0x10, true) == ConditionCode::Zero);
+    let first = reports.rchp(0x10, true);
+    let second = reports.rchp(0x10, true);
+    let of_path_down = reports.rchp(0x11, false);
+    let one_asked = reports.is_asked(0x10) && !reports.is_asked(0x11);
+    let done = reports.reset_done(0x10);
+    let reported = reports.stcrw().map(Crw::word);
+    let done_once = !reports.reset_done(0x10) && reports.stcrw().is_none();
+    let asked_again = reports.rchp(0x10, true);
+    drop(reports);
+    assert!(rt; first == ConditionCode::Zero);
+    assert!(rt; second == ConditionCode::Two);
+    assert!(rt; of_path_down == ConditionCode::Three);
+    assert!(rt; one_asked);
+    assert!(rt; done);
+    assert!(rt; reported == Some(0x4402_0010));
+    assert!(rt; done_once);
+    assert!(rt; asked_again == ConditionCode::Zero);
 }
 
 #[test]
 fn a_path_that_goes_down_is_not_asked_for(rt: HostRuntime) {
     let mut reports = Reports::new();
-    assert!(rt; reports.rchp(0xFF, true) == ConditionCode::Zero);
+    let accepted = reports.rchp(0xFF, true);
     reports.path_lost(0xFF);
-    assert!(rt; !reports.is_asked(0xFF));
-    assert!(rt; reports.stcrw().map(Crw::word) == Some(0x0406_00FF));
+    let is_asked = reports.is_asked(0xFF);
+    let lost = reports.stcrw().map(Crw::word);
     reports.add(PathReport::Back, 1);
-    assert!(rt; reports.stcrw().map(Crw::word) == Some(0x0401_0001));
+    let back = reports.stcrw().map(Crw::word);
+    drop(reports);
+    assert!(rt; accepted == ConditionCode::Zero);
+    assert!(rt; !is_asked);
+    assert!(rt; lost == Some(0x0406_00FF));
+    assert!(rt; back == Some(0x0401_0001));
 }

@@ -3,7 +3,7 @@
 use control_units::ControlUnit;
 use control_units::sharing::Sharing;
 use std::alloc::Global;
-use supply::{Given, Refusing};
+use supply::{Given, Refusing, Supply};
 
 /// The groups of five units.
 const GROUPS: [u16; 5] = [0, 1, 0, 1, 4];
@@ -28,21 +28,38 @@ fn served(sharing: &mut Sharing) -> [bool; 6] {
 #[test]
 fn one_unit_of_a_group_is_served(rt: HostRuntime) {
     let Some(mut sharing) = sharing(rt.alloc()) else {
-        assert!(rt; false);
-        return;
+        return assert!(rt; false);
     };
-    assert!(rt; served(&mut sharing) == [true; 6]);
+    let at_first = served(&mut sharing);
     sharing.begin(2);
-    assert!(rt; served(&mut sharing) == [false, true, true, true, true, true]);
+    let beside_2 = served(&mut sharing);
     sharing.begin(3);
     sharing.begin(4);
-    assert!(rt; served(&mut sharing) == [false, false, true, true, true, true]);
-    assert!(rt; sharing.over(3));
-    assert!(rt; !sharing.over(3));
-    assert!(rt; !sharing.over(4));
-    assert!(rt; !sharing.over(5));
-    assert!(rt; sharing.over(2));
-    assert!(rt; served(&mut sharing) == [true; 6]);
+    let beside_2_and_3 = served(&mut sharing);
+    let over_3 = sharing.over(3);
+    let over_3_again = sharing.over(3);
+    let over_4 = sharing.over(4);
+    let over_5 = sharing.over(5);
+    let over_2 = sharing.over(2);
+    let at_last = served(&mut sharing);
+    drop(sharing);
+    assert!(rt; at_first == [true; 6]);
+    assert!(rt; beside_2 == [false, true, true, true, true, true]);
+    assert!(rt; beside_2_and_3 == [false, false, true, true, true, true]);
+    assert!(rt; over_3);
+    assert!(rt; !over_3_again);
+    assert!(rt; !over_4);
+    assert!(rt; !over_5);
+    assert!(rt; over_2);
+    assert!(rt; at_last == [true; 6]);
+}
+
+/// Whether the room of the five units is there, and each of them may be served.
+fn is_made<S: Supply>(alloc: Global, supply: &mut S) -> bool {
+    match Sharing::new_with(alloc, supply, &GROUPS) {
+        Ok(mut sharing) => served(&mut sharing) == [true; 6],
+        Err(_) => false,
+    }
 }
 
 #[test]
@@ -52,14 +69,11 @@ fn each_request_for_room_is_refused_in_turn(rt: HostRuntime) {
             left,
             refused: false,
         };
-        let made = Sharing::new_with(rt.alloc(), &mut supply, &GROUPS);
-        assert!(rt; made.is_err() == (left < REQUESTS));
+        let is_refused = Sharing::new_with(rt.alloc(), &mut supply, &GROUPS).is_err();
+        assert!(rt; is_refused == (left < REQUESTS));
         assert!(rt; supply.refused == (left < REQUESTS));
         let mut supply = Given { refused: false };
-        match Sharing::new_with(rt.alloc(), &mut supply, &GROUPS) {
-            Ok(mut sharing) => assert!(rt; served(&mut sharing) == [true; 6]),
-            Err(_) => assert!(rt; false, "the allocator has room"),
-        }
+        assert!(rt; is_made(rt.alloc(), &mut supply), "the allocator has room");
         assert!(rt; !supply.refused);
     }
 }

@@ -37,17 +37,26 @@ fn the_oldest_request_of_the_lowest_enabled_subclass_is_answered(
     rt: HostRuntime,
 ) -> Result<(), AllocError> {
     let mut pending = Pending::new(rt.alloc(), 5)?;
-    assert!(rt; answered(&mut pending, 0xFF) == None);
+    let none_yet = answered(&mut pending, 0xFF);
     for (number, subclass) in [(4, 7), (2, 3), (0, 3), (1, 3), (3, 0)] {
         post(&mut pending, number, subclass);
     }
-    assert!(rt; answered(&mut pending, 0x7F) == Some(2));
-    assert!(rt; answered(&mut pending, 0x6E) == None);
-    assert!(rt; answered(&mut pending, 0xFF) == Some(3));
-    assert!(rt; answered(&mut pending, 0xFF) == Some(0));
-    assert!(rt; answered(&mut pending, 0x01) == Some(4));
-    assert!(rt; answered(&mut pending, 0x10) == Some(1));
-    assert!(rt; answered(&mut pending, 0xFF) == None);
+    let oldest_of_subclass_3 = answered(&mut pending, 0x7F);
+    let none_enabled = answered(&mut pending, 0x6E);
+    let lowest = answered(&mut pending, 0xFF);
+    let next_of_subclass_3 = answered(&mut pending, 0xFF);
+    let of_subclass_7 = answered(&mut pending, 0x01);
+    let last_of_subclass_3 = answered(&mut pending, 0x10);
+    let none_left = answered(&mut pending, 0xFF);
+    drop(pending);
+    assert!(rt; none_yet == None);
+    assert!(rt; oldest_of_subclass_3 == Some(2));
+    assert!(rt; none_enabled == None);
+    assert!(rt; lowest == Some(3));
+    assert!(rt; next_of_subclass_3 == Some(0));
+    assert!(rt; of_subclass_7 == Some(4));
+    assert!(rt; last_of_subclass_3 == Some(1));
+    assert!(rt; none_left == None);
     Ok(())
 }
 
@@ -57,16 +66,20 @@ fn a_subchannel_has_one_request(rt: HostRuntime) -> Result<(), AllocError> {
     post(&mut pending, 1, 7);
     post(&mut pending, 0, 7);
     post(&mut pending, 1, 0);
-    assert!(rt; answered(&mut pending, 0x80) == None);
+    let none_of_subclass_0 = answered(&mut pending, 0x80);
     pending.drop_request(1, 1);
     pending.drop_request(0, 0);
     let words = pending.tpi(0x01).map(|code| code.words());
-    assert!(rt; words == Some([0x0001_0001, 0x101, 0x3800_0000]));
     post(&mut pending, 0, 2);
     post(&mut pending, 1, 2);
     pending.drop_all();
-    assert!(rt; answered(&mut pending, 0xFF) == None);
-    assert!(rt; pending.numbers() == 2);
+    let none_left = answered(&mut pending, 0xFF);
+    let numbers = pending.numbers();
+    drop(pending);
+    assert!(rt; none_of_subclass_0 == None);
+    assert!(rt; words == Some([0x0001_0001, 0x101, 0x3800_0000]));
+    assert!(rt; none_left == None);
+    assert!(rt; numbers == 2);
     Ok(())
 }
 
@@ -77,14 +90,16 @@ fn the_one_request_for_room_is_refused(rt: HostRuntime) -> Result<(), AllocError
             left,
             refused: false,
         };
-        let made = Pending::new_with(rt.alloc(), &mut supply, 2);
-        assert!(rt; made.is_err() == (left == 0));
+        let is_refused = Pending::new_with(rt.alloc(), &mut supply, 2).is_err();
+        assert!(rt; is_refused == (left == 0));
         assert!(rt; supply.refused == (left == 0));
         let mut supply = Given { refused: false };
         let mut pending = Pending::new_with(rt.alloc(), &mut supply, 2)?;
-        assert!(rt; !supply.refused);
         post(&mut pending, 1, 7);
-        assert!(rt; answered(&mut pending, 0x01) == Some(1));
+        let answered = answered(&mut pending, 0x01);
+        drop(pending);
+        assert!(rt; !supply.refused);
+        assert!(rt; answered == Some(1));
     }
     Ok(())
 }

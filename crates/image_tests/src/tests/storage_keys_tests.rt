@@ -74,14 +74,23 @@ fn bytes_are_stored_and_fetched(rt: HostRuntime) {
     let Ok(mut storage) = Storage::new(rt.alloc(), 16) else {
         return assert!(rt; false, "no memory");
     };
-    assert!(rt; storage.size() == 0x1_0000);
-    assert!(rt; holds(&storage, 0, 0xFFFC, &[0; 4]));
-    assert!(rt; storage.store(0, 0x1FFF, &[1, 2]) == Ok(()));
-    assert!(rt; storage.put(0x2001, &[3]) == Ok(()));
-    assert!(rt; holds(&storage, 0, 0x1FFE, &[0, 1, 2, 3, 0]));
-    assert!(rt; storage.fetch(0, 0xFFFF, 2).err() == Some(ADDRESSING));
-    assert!(rt; holds(&storage, 0, 0xFFFF_FFFF, &[]));
-    assert!(rt; storage.put(0x1_0000, &[9]) == Err(ADDRESSING));
+    let size = storage.size();
+    let ends_with_zeros = holds(&storage, 0, 0xFFFC, &[0; 4]);
+    let stored = storage.store(0, 0x1FFF, &[1, 2]);
+    let put = storage.put(0x2001, &[3]);
+    let holds_both = holds(&storage, 0, 0x1FFE, &[0, 1, 2, 3, 0]);
+    let past_the_end = storage.fetch(0, 0xFFFF, 2).err();
+    let holds_nothing = holds(&storage, 0, 0xFFFF_FFFF, &[]);
+    let put_outside = storage.put(0x1_0000, &[9]);
+    drop(storage);
+    assert!(rt; size == 0x1_0000);
+    assert!(rt; ends_with_zeros);
+    assert!(rt; stored == Ok(()));
+    assert!(rt; put == Ok(()));
+    assert!(rt; holds_both);
+    assert!(rt; past_the_end == Some(ADDRESSING));
+    assert!(rt; holds_nothing);
+    assert!(rt; put_outside == Err(ADDRESSING));
 }
 
 #[test]
@@ -89,18 +98,60 @@ fn a_block_is_guarded_by_its_key(rt: HostRuntime) {
     let Ok(mut storage) = Storage::new(rt.alloc(), 16) else {
         return assert!(rt; false, "no memory");
     };
-    assert!(rt; storage.set_key(0x2FFF, Key::of_byte(0x18)) == Ok(()));
-    assert!(rt; storage.key_at(0x2000) == Ok(Key::of_byte(0x18)));
-    assert!(rt; storage.key_at(0x3000) == Ok(Key::ZERO));
-    assert!(rt; storage.store(2, 0x1FFF, &[7, 7]) == Err(PROTECTION));
-    assert!(rt; storage.check_store(1, 0x2000, 0x1000) == Ok(()));
-    assert!(rt; storage.fetch(2, 0x2FFF, 2).err() == Some(PROTECTION));
-    assert!(rt; storage.store(1, 0x2FFF, &[7]) == Ok(()));
-    assert!(rt; holds(&storage, 1, 0x1FFF, &[0; 2]));
-    assert!(rt; storage.show(0x2FFE, 2) == Ok([0, 7].as_slice()));
-    assert!(rt; storage.show(0xFFFF, 2).err() == Some(ADDRESSING));
-    assert!(rt; storage.set_key(0x1_0000, Key::ZERO) == Err(ADDRESSING));
-    assert!(rt; storage.key_at(0x1_0000) == Err(ADDRESSING));
+    let key_set = storage.set_key(0x2FFF, Key::of_byte(0x18));
+    let key = storage.key_at(0x2000);
+    let next_key = storage.key_at(0x3000);
+    let stored_by_other = storage.store(2, 0x1FFF, &[7, 7]);
+    let checked = storage.check_store(1, 0x2000, 0x1000);
+    let fetched_by_other = storage.fetch(2, 0x2FFF, 2).err();
+    let stored = storage.store(1, 0x2FFF, &[7]);
+    let is_unchanged = holds(&storage, 1, 0x1FFF, &[0; 2]);
+    let is_shown = storage.show(0x2FFE, 2) == Ok([0, 7].as_slice());
+    let shown_past_the_end = storage.show(0xFFFF, 2).err();
+    let key_set_outside = storage.set_key(0x1_0000, Key::ZERO);
+    let key_outside = storage.key_at(0x1_0000);
+    drop(storage);
+    assert!(rt; key_set == Ok(()));
+    assert!(rt; key == Ok(Key::of_byte(0x18)));
+    assert!(rt; next_key == Ok(Key::ZERO));
+    assert!(rt; stored_by_other == Err(PROTECTION));
+    assert!(rt; checked == Ok(()));
+    assert!(rt; fetched_by_other == Some(PROTECTION));
+    assert!(rt; stored == Ok(()));
+    assert!(rt; is_unchanged);
+    assert!(rt; is_shown);
+    assert!(rt; shown_past_the_end == Some(ADDRESSING));
+    assert!(rt; key_set_outside == Err(ADDRESSING));
+    assert!(rt; key_outside == Err(ADDRESSING));
+}
+
+/// Real addresses of a processor whose prefix is 4000, and the absolute ones.
+const PREFIXED: [(u32, u32); 5] = [
+    (0, 0x4000),
+    (0x1FFF, 0x5FFF),
+    (0x2000, 0x2000),
+    (0x5FFF, 0x1FFF),
+    (0x6000, 0x6000),
+];
+
+/// The first of those real addresses for which processor 1 has another absolute one.
+fn misplaced(storage: &Storage) -> Option<u32> {
+    for (real, absolute) in PREFIXED {
+        if storage.absolute(1, real) != absolute {
+            return Some(real);
+        }
+    }
+    None
+}
+
+/// The first of those real addresses that is not the absolute one for processor 0.
+fn prefixed_for_other(storage: &Storage) -> Option<u32> {
+    for (real, _) in PREFIXED {
+        if storage.absolute(0, real) != real {
+            return Some(real);
+        }
+    }
+    None
 }
 
 #[test]
@@ -108,18 +159,20 @@ fn real_addresses_are_prefixed(rt: HostRuntime) {
     let Ok(mut storage) = Storage::new(rt.alloc(), 16) else {
         return assert!(rt; false, "no memory");
     };
-    assert!(rt; storage.set_prefix(1, 0x1000) == Err(SPECIFICATION));
-    assert!(rt; storage.set_prefix(1, 0x1_0000) == Err(ADDRESSING));
-    assert!(rt; storage.set_prefix(1, 0x4000) == Ok(()));
-    for (real, absolute) in [
-        (0, 0x4000),
-        (0x1FFF, 0x5FFF),
-        (0x2000, 0x2000),
-        (0x5FFF, 0x1FFF),
-        (0x6000, 0x6000),
-    ] {
-        assert!(rt; storage.absolute(1, real) == absolute, "{real}");
-        assert!(rt; storage.absolute(0, real) == real, "{real}");
+    let off_boundary = storage.set_prefix(1, 0x1000);
+    let outside = storage.set_prefix(1, 0x1_0000);
+    let set = storage.set_prefix(1, 0x4000);
+    let misplaced = misplaced(&storage);
+    let prefixed_for_other = prefixed_for_other(&storage);
+    drop(storage);
+    assert!(rt; off_boundary == Err(SPECIFICATION));
+    assert!(rt; outside == Err(ADDRESSING));
+    assert!(rt; set == Ok(()));
+    if let Some(real) = misplaced {
+        assert!(rt; false, "{real}");
+    }
+    if let Some(real) = prefixed_for_other {
+        assert!(rt; false, "{real}");
     }
 }
 
@@ -128,14 +181,22 @@ fn an_operand_is_taken_byte_by_byte(rt: HostRuntime) {
     let Ok(mut storage) = Storage::new(rt.alloc(), 16) else {
         return assert!(rt; false, "no memory");
     };
-    assert!(rt; storage.set_prefix(1, 0x4000) == Ok(()));
+    let prefix_set = storage.set_prefix(1, 0x4000);
     if storage.check_operand(1, 0x1FFE, 4, 2).is_ok() {
         storage.store_operand(1, 0x1FFE, &[1, 2, 3, 4]);
     }
-    assert!(rt; holds(&storage, 0, 0x5FFE, &[1, 2, 0]));
-    assert!(rt; holds(&storage, 0, 0x1FFE, &[0, 0, 3, 4]));
-    assert!(rt; storage.operand::<4>(1, 0x1FFE, 2) == Ok([1, 2, 3, 4]));
-    assert!(rt; storage.operand::<4>(1, 0x1FFE, 4) == Err(SPECIFICATION));
-    assert!(rt; storage.operand::<4>(1, 0xFFFE, 2) == Err(ADDRESSING));
-    assert!(rt; storage.check_operand(1, 0xFFFF_FFFC, 8, 4) == Err(ADDRESSING));
+    let holds_front = holds(&storage, 0, 0x5FFE, &[1, 2, 0]);
+    let holds_rest = holds(&storage, 0, 0x1FFE, &[0, 0, 3, 4]);
+    let operand = storage.operand::<4>(1, 0x1FFE, 2);
+    let off_boundary = storage.operand::<4>(1, 0x1FFE, 4);
+    let past_the_end = storage.operand::<4>(1, 0xFFFE, 2);
+    let checked_outside = storage.check_operand(1, 0xFFFF_FFFC, 8, 4);
+    drop(storage);
+    assert!(rt; prefix_set == Ok(()));
+    assert!(rt; holds_front);
+    assert!(rt; holds_rest);
+    assert!(rt; operand == Ok([1, 2, 3, 4]));
+    assert!(rt; off_boundary == Err(SPECIFICATION));
+    assert!(rt; past_the_end == Err(ADDRESSING));
+    assert!(rt; checked_outside == Err(ADDRESSING));
 }

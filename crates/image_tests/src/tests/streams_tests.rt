@@ -82,10 +82,17 @@ fn all_is_read(rt: HostRuntime) {
     }
 }
 
+/// Whether these are so many bytes of the text, from its first on.
+fn is_front(bytes: &[u8], count: usize) -> bool {
+    count <= TEXT.len() && bytes == &TEXT[..count]
+}
+
 #[test]
 fn all_is_written(rt: HostRuntime) {
     let mut memory = Vec::new(rt.alloc());
-    assert!(rt; put_all(&mut memory, TEXT) == 19);
+    let put = put_all(&mut memory, TEXT);
+    drop(memory);
+    assert!(rt; put == 19);
     for (most, fails_at, taken) in [(10, 0, 19), (10, 3, 10), (10, 2, 0), (0, 0, 0)] {
         let mut writer = Short {
             text: Vec::new(rt.alloc()),
@@ -94,8 +101,11 @@ fn all_is_written(rt: HostRuntime) {
             interrupted_at: 1,
             fails_at,
         };
-        assert!(rt; put_all(&mut writer, TEXT) == taken);
-        assert!(rt; writer.text.as_slice() == &TEXT[..taken]);
+        let put = put_all(&mut writer, TEXT);
+        let is_kept = is_front(writer.text.as_slice(), taken);
+        drop(writer);
+        assert!(rt; put == taken);
+        assert!(rt; is_kept);
     }
 }
 
@@ -134,11 +144,14 @@ fn a_source_shows_that_it_failed(rt: HostRuntime) {
             interrupted_at: 1,
             fails_at,
         });
-        match source.all(rt.alloc()) {
-            Ok(text) => assert!(rt; !broken && text.as_slice() == TEXT),
-            Err(why) => assert!(rt; broken && why == NoText::ReadFailed),
-        }
-        assert!(rt; source.broken == broken);
+        let is_right = match source.all(rt.alloc()) {
+            Ok(text) => !broken && text.as_slice() == TEXT,
+            Err(why) => broken && why == NoText::ReadFailed,
+        };
+        let shown = source.broken;
+        drop(source);
+        assert!(rt; is_right);
+        assert!(rt; shown == broken);
     }
 }
 
@@ -152,11 +165,18 @@ fn a_sink_shows_that_it_failed(rt: HostRuntime) {
             interrupted_at: 1,
             fails_at,
         });
-        assert!(rt; sink.put(TEXT) == (taken == 19));
-        assert!(rt; sink.failed == (taken < 19));
-        assert!(rt; sink.writer.text.as_slice() == &TEXT[..taken]);
+        let all_put = sink.put(TEXT);
+        let failed = sink.failed;
+        let is_kept = is_front(sink.writer.text.as_slice(), taken);
+        drop(sink);
+        assert!(rt; all_put == (taken == 19));
+        assert!(rt; failed == (taken < 19));
+        assert!(rt; is_kept);
     }
     let mut sink = Watched::new(Vec::new(rt.alloc()));
-    assert!(rt; put_both(&mut sink, b"storage ", b"10\n"));
-    assert!(rt; sink.writer.as_slice() == b"storage 10\n".as_slice());
+    let both_put = put_both(&mut sink, b"storage ", b"10\n");
+    let are_kept = sink.writer.as_slice() == b"storage 10\n".as_slice();
+    drop(sink);
+    assert!(rt; both_put);
+    assert!(rt; are_kept);
 }

@@ -37,10 +37,15 @@ fn what_was_there_stays_where_a_request_is_refused(rt: HostRuntime) {
         left: 1,
         refused: false,
     };
-    assert!(rt; push(&mut supply, &mut list, 1).is_ok());
-    assert!(rt; push(&mut supply, &mut list, 2).is_err());
-    assert!(rt; extend(&mut supply, &mut list, &[3]).is_err());
-    assert!(rt; list.as_slice() == [1].as_slice());
+    let first = push(&mut supply, &mut list, 1);
+    let second = push(&mut supply, &mut list, 2);
+    let more = extend(&mut supply, &mut list, &[3]);
+    let is_kept = list.as_slice() == [1].as_slice();
+    drop(list);
+    assert!(rt; first.is_ok());
+    assert!(rt; second.is_err());
+    assert!(rt; more.is_err());
+    assert!(rt; is_kept);
 }
 
 /// One item more than two requests are for at the most: so many take three.
@@ -50,19 +55,24 @@ const THREE_PORTIONS: usize = 0x200_0001;
 fn each_portion_of_room_is_refused_in_turn(rt: HostRuntime) {
     for left in 0..5 {
         let mut list = Vec::new(rt.alloc());
-        assert!(rt; push(&mut Given { refused: false }, &mut list, 7).is_ok());
-        let mut supply = Refusing {
+        let pushed = push(&mut Given { refused: false }, &mut list, 7);
+        let mut refusing = Refusing {
             left,
             refused: false,
         };
-        let made = make_room(&mut supply, &mut list, THREE_PORTIONS);
+        let made = make_room(&mut refusing, &mut list, THREE_PORTIONS);
+        let mut given = Given { refused: false };
+        let made_again = make_room(&mut given, &mut list, THREE_PORTIONS);
+        let has_room = list.capacity() > THREE_PORTIONS;
+        let is_kept = list.as_slice() == [7u8].as_slice();
+        drop(list);
+        assert!(rt; pushed.is_ok());
         assert!(rt; made.is_err() == (left < 3));
-        assert!(rt; supply.refused == (left < 3));
-        let mut supply = Given { refused: false };
-        assert!(rt; make_room(&mut supply, &mut list, THREE_PORTIONS).is_ok());
-        assert!(rt; !supply.refused);
-        assert!(rt; list.capacity() > THREE_PORTIONS);
-        assert!(rt; list.as_slice() == [7u8].as_slice());
+        assert!(rt; refusing.refused == (left < 3));
+        assert!(rt; made_again.is_ok());
+        assert!(rt; !given.refused);
+        assert!(rt; has_room);
+        assert!(rt; is_kept);
     }
 }
 

@@ -44,15 +44,23 @@ fn offered() -> HoldPhase {
     }
 }
 
+/// The subchannels and one more.
+fn with(subs: Vec<Subchannel>, sub: Subchannel) -> Result<Vec<Subchannel>, AllocError> {
+    let mut subs = subs;
+    subs.push(sub)?;
+    Ok(subs)
+}
+
 /// Four subchannels of two sets. Both sides of unit 0 and one of unit 2 are reached, and no subchannel reaches unit 1. The
 /// last has the name of the first, and reaches a unit beyond three units. The first and the third engage path 20.
 fn four(alloc: Global) -> Result<Vec<Subchannel>, AllocError> {
-    let mut subs = Vec::new(alloc);
-    subs.push(subchannel(0, 5, 2, Side::First, offered()))?;
-    subs.push(subchannel(1, 0, 0, Side::First, HoldPhase::Free))?;
-    subs.push(subchannel(1, 0xFF, 0, Side::Second, offered()))?;
-    subs.push(subchannel(0, 5, 9, Side::Second, HoldPhase::Away { number: 1 }))?;
-    Ok(subs)
+    let subs = with(Vec::new(alloc), subchannel(0, 5, 2, Side::First, offered()))?;
+    let subs = with(subs, subchannel(1, 0, 0, Side::First, HoldPhase::Free))?;
+    let subs = with(subs, subchannel(1, 0xFF, 0, Side::Second, offered()))?;
+    with(
+        subs,
+        subchannel(0, 5, 9, Side::Second, HoldPhase::Away { number: 1 }),
+    )
 }
 
 #[test]
@@ -132,21 +140,43 @@ fn are_made<S: Supply>(alloc: Global, supply: &mut S, units: usize, subs: &[Subc
     }
 }
 
+/// The same, of four subchannels that are made here.
+fn are_made_of_four<S: Supply>(
+    alloc: Global,
+    supply: &mut S,
+    units: usize,
+) -> Result<bool, AllocError> {
+    let subs = four(alloc)?;
+    Ok(are_made(alloc, supply, units, &subs))
+}
+
+/// Whether the places are made where so many requests are granted, and whether one was refused.
+fn refusing(alloc: Global, left: u64, units: usize) -> Result<(bool, bool), AllocError> {
+    let mut supply = Refusing {
+        left,
+        refused: false,
+    };
+    let made = are_made_of_four(alloc, &mut supply, units)?;
+    Ok((made, supply.refused))
+}
+
+/// Whether the places are made where each request is granted, and whether one was refused.
+fn granting(alloc: Global, units: usize) -> Result<(bool, bool), AllocError> {
+    let mut supply = Given { refused: false };
+    let made = are_made_of_four(alloc, &mut supply, units)?;
+    Ok((made, supply.refused))
+}
+
 #[test]
 fn each_request_for_room_is_refused_in_turn(rt: HostRuntime) -> Result<(), AllocError> {
-    let subs = four(rt.alloc())?;
     for (units, requests) in [(3, 3), (0, 1)] {
         for left in 0..=requests + 1 {
-            let mut supply = Refusing {
-                left,
-                refused: false,
-            };
-            let made = are_made(rt.alloc(), &mut supply, units, &subs);
+            let (made, refused) = refusing(rt.alloc(), left, units)?;
             assert!(rt; made == (left >= requests), "{units} {left}");
-            assert!(rt; supply.refused == (left < requests), "{units} {left}");
-            let mut supply = Given { refused: false };
-            assert!(rt; are_made(rt.alloc(), &mut supply, units, &subs));
-            assert!(rt; !supply.refused, "{units} {left}");
+            assert!(rt; refused == (left < requests), "{units} {left}");
+            let (made, refused) = granting(rt.alloc(), units)?;
+            assert!(rt; made);
+            assert!(rt; !refused, "{units} {left}");
         }
     }
     Ok(())

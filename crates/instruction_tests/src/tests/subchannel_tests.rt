@@ -94,6 +94,11 @@ fn is_over(sub: &Subchannel) -> bool {
     sub.state.waiting.is_none() && sub.state.begun.is_none()
 }
 
+/// Whether its hold is connected.
+fn is_on(sub: &Subchannel) -> bool {
+    matches!(sub.state.hold.phase, HoldPhase::On { .. })
+}
+
 fn offered() -> HoldPhase {
     HoldPhase::Offer {
         number: 1,
@@ -162,42 +167,62 @@ fn a_path_that_no_program_is_on_goes_down_and_up(rt: HostRuntime) {
     };
     let mut sub = subchannel(active, connected());
     down(&mut sub, 0x11);
-    assert!(rt; is_same_words(&sub.state, [0x0080_40C0, 0x1000, 0]));
-    assert!(rt; matches!(sub.state.hold.phase, HoldPhase::On { .. }) && !is_over(&sub));
-    assert!(rt; waits(&sub, first_path()) && !waits(&sub, second_path()));
-    assert!(rt; pmcw_of(&sub).available == 0x80);
+    let kept = is_same_words(&sub.state, [0x0080_40C0, 0x1000, 0]);
+    let works = is_on(&sub) && !is_over(&sub);
+    let emptied = waits(&sub, first_path()) && !waits(&sub, second_path());
+    let gone = pmcw_of(&sub);
     down(&mut sub, 0x12);
-    assert!(rt; sub.state.drawn == 1 && waits(&sub, first_path()));
+    let passed_over = sub.state.drawn == 1 && waits(&sub, first_path());
     show_path(&mut sub, 0x12, true);
-    assert!(rt; pmcw_of(&sub).available == 0x80);
+    let still_gone = pmcw_of(&sub);
     show_path(&mut sub, 0x11, true);
-    assert!(rt; pmcw_of(&sub).available == 0xC0 && pmcw_of(&sub).installed == 0xC0);
+    let back = pmcw_of(&sub);
     down(&mut sub, 0x10);
-    assert!(rt; is_reset(&sub, 9) && pmcw_of(&sub).available == 0x40);
+    let over = is_reset(&sub, 9);
+    let other_gone = pmcw_of(&sub);
+    drop(sub);
+    assert!(rt; kept, "no status is shown");
+    assert!(rt; works, "the program works on");
+    assert!(rt; emptied, "the path that is down alone has no signal");
+    assert!(rt; gone.available == 0x80);
+    assert!(rt; passed_over, "the subchannel has no such path");
+    assert!(rt; still_gone.available == 0x80);
+    assert!(rt; back.available == 0xC0 && back.installed == 0xC0);
+    assert!(rt; over && other_gone.available == 0x40);
+}
+
+/// The subchannel in this state, with its hold offered, whose first path is down.
+fn with_first_down(state: SubchannelState) -> Subchannel {
+    let mut sub = subchannel(state, offered());
+    show_path(&mut sub, 0x10, false);
+    sub
+}
+
+/// The state of the subchannel once its lost paths are marked at this choice.
+fn marked(sub: Subchannel, choice: &Option<Path>) -> SubchannelState {
+    let mut sub = sub;
+    mark_lost_paths(&mut sub, choice);
+    sub.state
 }
 
 #[test]
 fn a_path_that_is_down_is_found_once(rt: HostRuntime) {
-    let halted = waiting([0x0080_6600, 0x1000, 0]);
-    let mut sub = subchannel(halted, offered());
-    show_path(&mut sub, 0x10, false);
-    mark_lost_paths(&mut sub, &None);
-    assert!(rt; is_same_words(&sub.state, [0x0080_6600, 0x1000, 0]));
-    assert!(rt; mask_of_paths(sub.state.pmcw.operational) == 0xFF);
+    let halted = with_first_down(waiting([0x0080_6600, 0x1000, 0]));
+    let halted = marked(halted, &None);
+    assert!(rt; is_same_words(&halted, [0x0080_6600, 0x1000, 0]));
+    assert!(rt; mask_of_paths(halted.pmcw.operational) == 0xFF);
     for choice in [None, Some(second_path())] {
-        let mut sub = subchannel(waiting([0x0080_4400, 0x1000, 0]), offered());
-        show_path(&mut sub, 0x10, false);
-        mark_lost_paths(&mut sub, &choice);
-        assert!(rt; is_same_words(&sub.state, [0x0081_4400, 0x1000, 0]));
-        assert!(rt; mask_of_paths(sub.state.pmcw.operational) == 0x7F);
-        assert!(rt; mask_of_paths(sub.state.pmcw.not_operational) == 0x80);
+        let start = with_first_down(waiting([0x0080_4400, 0x1000, 0]));
+        let found = marked(start, &choice);
+        assert!(rt; is_same_words(&found, [0x0081_4400, 0x1000, 0]));
+        assert!(rt; mask_of_paths(found.pmcw.operational) == 0x7F);
+        assert!(rt; mask_of_paths(found.pmcw.not_operational) == 0x80);
         let again = SubchannelState {
-            pmcw: sub.state.pmcw,
+            pmcw: found.pmcw,
             ..waiting([0x0080_4400, 0x1000, 0])
         };
-        let mut sub = subchannel(again, offered());
-        mark_lost_paths(&mut sub, &choice);
-        assert!(rt; is_same_words(&sub.state, [0x0080_4400, 0x1000, 0]));
+        let known = marked(subchannel(again, offered()), &choice);
+        assert!(rt; is_same_words(&known, [0x0080_4400, 0x1000, 0]));
     }
 }
 
@@ -217,12 +242,16 @@ fn a_reset_of_the_subsystem_keeps_what_is_up(rt: HostRuntime) {
     if sub.state.drawn < 9 {
         reset_by_system(&mut sub);
     }
-    assert!(rt; is_same_words(&sub.state, [0x0080_0000, 0x1000, 0x0080_0004]));
-    assert!(rt; is_reset(&sub, 9) && is_over(&sub) && sub.state.serials.cleared == 9);
+    let state = sub.state;
+    let over = is_reset(&sub, 9) && is_over(&sub);
     let word = pmcw_of(&sub);
+    let waiting_on_both = waits(&sub, first_path()) && waits(&sub, second_path());
+    drop(sub);
+    assert!(rt; is_same_words(&state, [0x0080_0000, 0x1000, 0x0080_0004]));
+    assert!(rt; over && state.serials.cleared == 9);
     assert!(rt; !word.enabled && word.parameter == 0 && !word.multipath);
     assert!(rt; word.available == 0x80);
-    assert!(rt; sub.state.starts == 2 && sub.state.last_path.is_some());
-    assert!(rt; sub.state.dedicated.is_none());
-    assert!(rt; waits(&sub, first_path()) && waits(&sub, second_path()));
+    assert!(rt; state.starts == 2 && state.last_path.is_some());
+    assert!(rt; state.dedicated.is_none());
+    assert!(rt; waiting_on_both, "the signals are kept");
 }

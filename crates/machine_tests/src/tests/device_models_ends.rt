@@ -88,21 +88,33 @@ fn end_shown<D: Device>(unit: &mut Unit, device: &mut D) -> Option<u8> {
     Some(status.bits())
 }
 
+/// Whether the unit takes a signal on path 2.
+fn takes(unit: &mut Unit, signal: &Down) -> bool {
+    let path = Path::new(2).unwrap();
+    unit.take(Side::First, path, signal, true).taken
+}
+
 #[test]
 fn channel_end_that_was_sent_is_left_out_of_the_later_status(rt: HostRuntime) {
     let mut unit = Unit::new();
     let mut device = Rewinding;
-    let path = Path::new(2).unwrap();
-    let select = Down::Select { number: 1 };
-    assert!(rt; unit.take(Side::First, path, &select, true).taken);
     let rewind = Down::Command {
         number: 1,
         command: 1,
         code: 7,
         room: 0,
     };
-    assert!(rt; unit.take(Side::First, path, &rewind, true).taken);
-    assert!(rt; end_shown(&mut unit, &mut device) == Some(0x08));
-    assert!(rt; end_shown(&mut unit, &mut device) == Some(0x04));
-    assert!(rt; end_shown(&mut unit, &mut device) == None);
+    let selected = takes(&mut unit, &Down::Select { number: 1 });
+    let begun = takes(&mut unit, &rewind);
+    let first = end_shown(&mut unit, &mut device);
+    let second = end_shown(&mut unit, &mut device);
+    let third = end_shown(&mut unit, &mut device);
+    drop(unit);
+    drop(device);
+    drop(rewind);
+    assert!(rt; selected);
+    assert!(rt; begun);
+    assert!(rt; first == Some(0x08));
+    assert!(rt; second == Some(0x04));
+    assert!(rt; third == None);
 }

@@ -20,71 +20,138 @@ fn run(store: &mut BlockStore, code: u8, bytes: &[u8]) -> (u8, u8) {
     (first, store.finish().status.bits())
 }
 
+/// Begins a command; its first status.
+fn begun<D: Device>(device: &mut D, code: u8) -> u8 {
+    device.initial(code).bits()
+}
+
+/// Ends a command: its last status, and whether there was more.
+fn ended<D: Device>(device: &mut D) -> (u8, bool) {
+    let Finish { status, more } = device.finish();
+    (status.bits(), more)
+}
+
+/// Whether the next bytes, so many at most, are these.
+fn gives<D: Device>(device: &mut D, most: usize, bytes: &[u8]) -> bool {
+    device.supply(most).as_slice() == bytes
+}
+
 #[test]
 fn a_write_is_taken_up_to_a_block(rt: HostRuntime) {
     let mut store = BlockStore::new();
-    assert!(rt; store.absorb(&[1]) == 0);
-    assert!(rt; store.initial(1).bits() == 0);
-    assert!(rt; store.absorb(&[7; 60]) == 60);
-    assert!(rt; store.absorb(&[9; 60]) == 4);
-    let finish = store.finish();
-    assert!(rt; finish.status.bits() == 0x0C);
-    assert!(rt; !finish.more);
-    assert!(rt; store.initial(1).bits() == 0);
-    assert!(rt; store.absorb(&[5]) == 1);
-    assert!(rt; store.initial(2).bits() == 0);
-    let front = store.supply(2);
-    assert!(rt; front.as_slice() == [5, 7].as_slice());
-    let Finish { status, more } = store.finish();
-    assert!(rt; status.bits() == 0x0C && more);
-    assert!(rt; store.initial(2).bits() == 0);
+    let unasked = store.absorb(&[1]);
+    let writes = begun(&mut store, 1);
+    let first = store.absorb(&[7; 60]);
+    let second = store.absorb(&[9; 60]);
+    let written = ended(&mut store);
+    let again = begun(&mut store, 1);
+    let front = store.absorb(&[5]);
+    drop(store);
+    assert!(rt; unasked == 0);
+    assert!(rt; writes == 0);
+    assert!(rt; first == 60);
+    assert!(rt; second == 4);
+    assert!(rt; written == (0x0C, false));
+    assert!(rt; again == 0);
+    assert!(rt; front == 1);
+}
+
+/// Writes a whole block, and then its first byte.
+fn write_twice(store: &mut BlockStore) {
+    let _ = store.initial(1);
+    let _ = store.absorb(&[7; 60]);
+    let _ = store.absorb(&[9; 60]);
+    let _ = store.finish();
+    let _ = store.initial(1);
+    let _ = store.absorb(&[5]);
+}
+
+#[test]
+fn what_was_written_is_read(rt: HostRuntime) {
+    let mut store = BlockStore::new();
+    write_twice(&mut store);
+    let reads = begun(&mut store, 2);
+    let front = gives(&mut store, 2, &[5, 7]);
+    let left = ended(&mut store);
+    let again = begun(&mut store, 2);
     let _ = store.supply(60);
-    let back = store.supply(60);
-    assert!(rt; back.as_slice() == [9, 9, 9, 9].as_slice());
-    let finish = store.finish();
-    assert!(rt; finish.status.bits() == 0x0C && !finish.more);
+    let back = gives(&mut store, 60, &[9, 9, 9, 9]);
+    let whole = ended(&mut store);
+    drop(store);
+    assert!(rt; reads == 0);
+    assert!(rt; front);
+    assert!(rt; left == (0x0C, true));
+    assert!(rt; again == 0);
+    assert!(rt; back);
+    assert!(rt; whole == (0x0C, false));
+}
+
+#[test]
+fn a_restart_empties_the_store(rt: HostRuntime) {
+    let mut store = BlockStore::new();
+    write_twice(&mut store);
     store.restart();
-    assert!(rt; store.absorb(&[1]) == 0);
-    assert!(rt; store.initial(2).bits() == 0);
-    let zero = store.supply(1);
-    assert!(rt; zero.as_slice() == [0].as_slice());
+    let unasked = store.absorb(&[1]);
+    let reads = begun(&mut store, 2);
+    let zero = gives(&mut store, 1, &[0]);
+    drop(store);
+    assert!(rt; unasked == 0);
+    assert!(rt; reads == 0);
+    assert!(rt; zero);
 }
 
 #[test]
 fn the_sense_byte_is_given_once(rt: HostRuntime) {
     let mut store = BlockStore::new();
-    assert!(rt; store.initial(0x0C).bits() == 2);
-    assert!(rt; store.initial(4).bits() == 0);
-    let none = store.supply(0);
-    assert!(rt; none.len() == 0);
-    let sense = store.supply(8);
-    assert!(rt; sense.as_slice() == [0x80].as_slice());
-    let rest = store.supply(8);
-    assert!(rt; rest.len() == 0);
-    let finish = store.finish();
-    assert!(rt; finish.status.bits() == 0x0C && !finish.more);
-    assert!(rt; store.initial(4).bits() == 0);
-    let sense = store.supply(1);
-    assert!(rt; sense.as_slice() == [0].as_slice());
+    let rejected = begun(&mut store, 0x0C);
+    let senses = begun(&mut store, 4);
+    let none = gives(&mut store, 0, &[]);
+    let sense = gives(&mut store, 8, &[0x80]);
+    let rest = gives(&mut store, 8, &[]);
+    let finish = ended(&mut store);
+    let again = begun(&mut store, 4);
+    let cleared = gives(&mut store, 1, &[0]);
+    drop(store);
+    assert!(rt; rejected == 2);
+    assert!(rt; senses == 0);
+    assert!(rt; none);
+    assert!(rt; sense);
+    assert!(rt; rest);
+    assert!(rt; finish == (0x0C, false));
+    assert!(rt; again == 0);
+    assert!(rt; cleared);
 }
 
 #[test]
 fn a_block_is_sought_by_its_number(rt: HostRuntime) {
     let mut store = BlockStore::new();
-    assert!(rt; run(&mut store, 0x31, &[0, 0]) == (0, 0x4C));
-    assert!(rt; run(&mut store, 7, &[0, 0x1F, 9]) == (0, 0x0C));
-    assert!(rt; run(&mut store, 0x31, &[0, 0]) == (0, 0x0C));
-    assert!(rt; run(&mut store, 0x31, &[0, 0x1F]) == (0, 0x4C));
-    assert!(rt; run(&mut store, 0x31, &[0x1F]) == (0, 0x0C));
-    assert!(rt; run(&mut store, 7, &[0, 0x20]) == (0, 0x0E));
-    assert!(rt; run(&mut store, 7, &[0]) == (0, 0x0E));
-    assert!(rt; store.initial(4).bits() == 0);
-    let sense = store.supply(1);
-    assert!(rt; sense.as_slice() == [0x20].as_slice());
-    assert!(rt; run(&mut store, 3, &[]) == (8, 4));
-    assert!(rt; run(&mut store, 0x31, &[0, 0x1F]) == (0, 0x4C));
-    assert!(rt; run(&mut store, 0x0B, &[]) == (8, 4));
-    assert!(rt; run(&mut store, 0x31, &[0, 0]) == (0, 0x4C));
+    let first = run(&mut store, 0x31, &[0, 0]);
+    let last = run(&mut store, 7, &[0, 0x1F, 9]);
+    let other = run(&mut store, 0x31, &[0, 0]);
+    let found = run(&mut store, 0x31, &[0, 0x1F]);
+    let short = run(&mut store, 0x31, &[0x1F]);
+    let beyond = run(&mut store, 7, &[0, 0x20]);
+    let half = run(&mut store, 7, &[0]);
+    let senses = begun(&mut store, 4);
+    let sense = gives(&mut store, 1, &[0x20]);
+    let nothing = run(&mut store, 3, &[]);
+    let stays = run(&mut store, 0x31, &[0, 0x1F]);
+    let back = run(&mut store, 0x0B, &[]);
+    let home = run(&mut store, 0x31, &[0, 0]);
+    drop(store);
+    assert!(rt; first == (0, 0x4C));
+    assert!(rt; last == (0, 0x0C));
+    assert!(rt; other == (0, 0x0C));
+    assert!(rt; found == (0, 0x4C));
+    assert!(rt; short == (0, 0x0C));
+    assert!(rt; beyond == (0, 0x0E));
+    assert!(rt; half == (0, 0x0E));
+    assert!(rt; senses == 0);
+    assert!(rt; sense);
+    assert!(rt; nothing == (8, 4));
+    assert!(rt; stays == (0, 0x4C));
+    assert!(rt; back == (8, 4));
+    assert!(rt; home == (0, 0x4C));
 }
 
 #[test]
@@ -93,78 +160,120 @@ fn a_code_names_its_command(rt: HostRuntime) {
     assert!(rt; BlockCommand::of_code(0x0A) == None);
 }
 
+/// How a command ended, by the answer that a call came to.
+fn end_of(came: &DeviceAnswer) -> Option<(u8, bool)> {
+    match came {
+        DeviceAnswer::Ended { status, more } => Some((status.bits(), *more)),
+        _ => None,
+    }
+}
+
+/// Whether a write of three bytes begins and takes them.
+fn takes_three(store: &mut BlockStore) -> bool {
+    let begins = answer(store, &Call::Initial { code: 1 });
+    let bytes = Chunk::of(&[1, 2, 3]);
+    let absorbs = answer(store, &Call::Absorb { bytes });
+    matches!(begins, DeviceAnswer::Begins) && matches!(absorbs, DeviceAnswer::Absorbed(3))
+}
+
 #[test]
 fn a_call_is_answered(rt: HostRuntime) {
     let mut store = BlockStore::new();
-    assert!(rt;
-        matches!(
-            answer(&mut store, &Call::Initial { code: 1 }),
-            DeviceAnswer::Begins
-        )
-    );
-    let bytes = Chunk::of(&[1, 2, 3]);
-    assert!(rt;
-        matches!(
-            answer(&mut store, &Call::Absorb { bytes }),
-            DeviceAnswer::Absorbed(3)
-        )
-    );
-    match answer(&mut store, &Call::Finish) {
-        DeviceAnswer::Ended { status, more } => assert!(rt; status.bits() == 0x0C && !more),
-        _ => assert!(rt; false),
-    }
-    match answer(&mut store, &Call::Initial { code: 3 }) {
-        DeviceAnswer::Ended { status, more } => assert!(rt; status.bits() == 8 && !more),
-        _ => assert!(rt; false),
-    }
+    let takes = takes_three(&mut store);
+    let end = end_of(&answer(&mut store, &Call::Finish));
+    let control = end_of(&answer(&mut store, &Call::Initial { code: 3 }));
+    drop(store);
+    assert!(rt; takes);
+    assert!(rt; end == Some((0x0C, false)));
+    assert!(rt; control == Some((8, false)));
 }
 
 #[test]
 fn a_console_keeps_one_line(rt: HostRuntime) {
     let mut console = Console::new();
-    assert!(rt; console.absorb(&[1]) == 0);
-    assert!(rt; console.initial(1).bits() == 0);
-    assert!(rt; console.absorb(&[7; 100]) == 100);
-    assert!(rt; console.absorb(&[9; 100]) == 26);
-    assert!(rt; console.absorb(&[9; 1]) == 0);
-    let finish = console.finish();
-    assert!(rt; finish.status.bits() == 0x0C && !finish.more);
-    assert!(rt; console.initial(0x0A).bits() == 0);
-    let front = console.supply(120);
-    assert!(rt; front.len() == 120);
-    let Finish { status, more } = console.finish();
-    assert!(rt; status.bits() == 0x0C && more);
-    assert!(rt; console.initial(0x0A).bits() == 0);
+    let unasked = console.absorb(&[1]);
+    let writes = begun(&mut console, 1);
+    let first = console.absorb(&[7; 100]);
+    let second = console.absorb(&[9; 100]);
+    let beyond = console.absorb(&[9; 1]);
+    let written = ended(&mut console);
+    drop(console);
+    assert!(rt; unasked == 0);
+    assert!(rt; writes == 0);
+    assert!(rt; first == 100);
+    assert!(rt; second == 26);
+    assert!(rt; beyond == 0);
+    assert!(rt; written == (0x0C, false));
+}
+
+/// Writes a whole line.
+fn write_line(console: &mut Console) {
+    let _ = console.initial(1);
+    let _ = console.absorb(&[7; 100]);
+    let _ = console.absorb(&[9; 100]);
+    let _ = console.finish();
+}
+
+#[test]
+fn a_console_gives_its_line(rt: HostRuntime) {
+    let mut console = Console::new();
+    write_line(&mut console);
+    let reads = begun(&mut console, 0x0A);
+    let front = console.supply(120).len();
+    let left = ended(&mut console);
+    let again = begun(&mut console, 0x0A);
     let _ = console.supply(121);
-    let back = console.supply(256);
-    assert!(rt; back.as_slice() == [9, 9, 9, 9, 9].as_slice());
-    let finish = console.finish();
-    assert!(rt; finish.status.bits() == 0x0C && !finish.more);
-    assert!(rt; console.initial(1).bits() == 0);
-    assert!(rt; console.absorb(&[5]) == 1);
-    assert!(rt; console.initial(0x0A).bits() == 0);
-    let line = console.supply(126);
-    assert!(rt; line.as_slice() == [5].as_slice());
+    let back = gives(&mut console, 256, &[9, 9, 9, 9, 9]);
+    let whole = ended(&mut console);
+    drop(console);
+    assert!(rt; reads == 0);
+    assert!(rt; front == 120);
+    assert!(rt; left == (0x0C, true));
+    assert!(rt; again == 0);
+    assert!(rt; back);
+    assert!(rt; whole == (0x0C, false));
+}
+
+#[test]
+fn a_console_keeps_the_line_of_the_last_write(rt: HostRuntime) {
+    let mut console = Console::new();
+    write_line(&mut console);
+    let writes = begun(&mut console, 1);
+    let taken = console.absorb(&[5]);
+    let reads = begun(&mut console, 0x0A);
+    let line = gives(&mut console, 126, &[5]);
     console.restart();
-    assert!(rt; console.initial(0x0A).bits() == 0);
-    let line = console.supply(126);
-    assert!(rt; line.len() == 0);
+    let after = begun(&mut console, 0x0A);
+    let none = gives(&mut console, 126, &[]);
+    drop(console);
+    assert!(rt; writes == 0);
+    assert!(rt; taken == 1);
+    assert!(rt; reads == 0);
+    assert!(rt; line);
+    assert!(rt; after == 0);
+    assert!(rt; none);
 }
 
 #[test]
 fn a_console_tells_what_it_rejected(rt: HostRuntime) {
     let mut console = Console::new();
-    assert!(rt; console.initial(3).bits() == 8);
-    assert!(rt; console.finish().status.bits() == 4);
-    assert!(rt; console.initial(2).bits() == 2);
-    assert!(rt; console.initial(4).bits() == 0);
-    let sense = console.supply(1);
-    assert!(rt; sense.as_slice() == [0x80].as_slice());
-    let finish = console.finish();
-    assert!(rt; finish.status.bits() == 0x0C && !finish.more);
-    assert!(rt; console.initial(4).bits() == 0);
-    let sense = console.supply(1);
-    assert!(rt; sense.as_slice() == [0].as_slice());
+    let control = begun(&mut console, 3);
+    let end = ended(&mut console);
+    let rejected = begun(&mut console, 2);
+    let senses = begun(&mut console, 4);
+    let sense = gives(&mut console, 1, &[0x80]);
+    let finish = ended(&mut console);
+    let again = begun(&mut console, 4);
+    let cleared = gives(&mut console, 1, &[0]);
+    drop(console);
+    assert!(rt; control == 8);
+    assert!(rt; end.0 == 4);
+    assert!(rt; rejected == 2);
+    assert!(rt; senses == 0);
+    assert!(rt; sense);
+    assert!(rt; finish == (0x0C, false));
+    assert!(rt; again == 0);
+    assert!(rt; cleared);
     assert!(rt; ConsoleCommand::of_code(0x0A) == Some(ConsoleCommand::Read));
     assert!(rt; ConsoleCommand::of_code(7) == None);
 }

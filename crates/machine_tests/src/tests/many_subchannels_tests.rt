@@ -107,22 +107,40 @@ fn are_answered(subsystem: &mut Subsystem<Lowest>, cpu: Cpu, set: u8, subclass: 
     true
 }
 
+/// Whether all subchannels are enabled and cleared.
+fn all_are_cleared(subsystem: &mut Subsystem<Lowest>, cpu: Cpu) -> bool {
+    for number in 0..0x100u32 {
+        if !are_cleared(subsystem, cpu, number) {
+            return false;
+        }
+    }
+    true
+}
+
+/// Whether all are answered, set by set; set 3 has the lowest subclass.
+fn all_are_answered(subsystem: &mut Subsystem<Lowest>, cpu: Cpu) -> bool {
+    for set in 0..4u8 {
+        if !are_answered(subsystem, cpu, 3 - set, set) {
+            return false;
+        }
+    }
+    true
+}
+
 #[test]
 fn all_subchannels_are_answered_in_order(rt: HostRuntime) {
     let alloc = rt.alloc();
     let Some(cpu) = Cpu::new(0) else {
-        return;
+        return assert!(rt; false, "the CPU is in range");
     };
     let Ok(mut subsystem) = Subsystem::new(alloc, four_sets(alloc), Lowest {}) else {
-        assert!(rt; false, "there is memory");
-        return;
+        return assert!(rt; false, "there is memory");
     };
-    for number in 0..0x100u32 {
-        assert!(rt; are_cleared(&mut subsystem, cpu, number));
-    }
-    for set in 0..4u8 {
-        // Set 3 has the lowest subclass.
-        assert!(rt; are_answered(&mut subsystem, cpu, 3 - set, set));
-    }
-    assert!(rt; answered(&mut subsystem, cpu).is_none());
+    let cleared = all_are_cleared(&mut subsystem, cpu);
+    let in_order = all_are_answered(&mut subsystem, cpu);
+    let last = answered(&mut subsystem, cpu).is_none();
+    drop(subsystem);
+    assert!(rt; cleared);
+    assert!(rt; in_order);
+    assert!(rt; last);
 }

@@ -6,7 +6,7 @@ use channel_config::config::Config;
 use script_rows::Action;
 use script_rows::actions::action_row;
 use script_rows::places::ActionPlace;
-use script_rows::settings::{configure, setting_row};
+use script_rows::settings::{Setting, configure, setting_row};
 use script_rows::words::LineFault;
 use std::alloc::{AllocError, Global};
 use supply::Given;
@@ -66,44 +66,60 @@ const DRIVING: [(&[u8], &[u8], [u32; 4]); 5] = [
     (b"pathup 00000fF", b"pathup", [0xFF, 0, 0, 0]),
 ];
 
+/// Whether a line asks a machine for this, with these numbers.
+fn asks(
+    alloc: Global,
+    place: &mut ActionPlace,
+    line: &[u8],
+    name: &[u8],
+    numbers: [u32; 4],
+) -> bool {
+    let Ok(words) = words_of(alloc, line) else {
+        return false;
+    };
+    match words.as_slice() {
+        [] => false,
+        [first, others @ ..] => match action_row(place, first, others) {
+            Some(Ok(())) => {
+                let action = place.kept.with(place.bytes());
+                shown(&action) == (name, numbers)
+            }
+            _ => false,
+        },
+    }
+}
+
 #[test]
-fn driving_lines_are_read(rt: HostRuntime) -> Result<(), AllocError> {
+fn driving_lines_are_read(rt: HostRuntime) {
     let mut place = ActionPlace::new();
     for (line, name, numbers) in DRIVING {
-        let words = words_of(rt.alloc(), line)?;
-        match words.as_slice() {
-            [] => assert!(rt; false),
-            [first, others @ ..] => match action_row(&mut place, first, others) {
-                Some(Ok(())) => {
-                    let action = place.kept.with(place.bytes());
-                    let (kind, said) = shown(&action);
-                    assert!(rt; kind == name);
-                    assert!(rt; said == numbers);
-                }
-                _ => assert!(rt; false),
-            },
-        }
+        assert!(rt; asks(rt.alloc(), &mut place, line, name, numbers));
     }
-    Ok(())
 }
 
 /// Lines of words that drive no machine, and the rule that each breaks.
 const WRONG: [(&[u8], u8); 3] = [(b"cpu 1 up 0 0", 1), (b"up 0 0 0", 2), (b"show 500 41", 3)];
 
+/// The rule that a line breaks, as it is to drive a machine.
+fn broken(alloc: Global, place: &mut ActionPlace, line: &[u8]) -> Option<u8> {
+    let Ok(words) = words_of(alloc, line) else {
+        return None;
+    };
+    match words.as_slice() {
+        [] => None,
+        [first, others @ ..] => match action_row(place, first, others) {
+            Some(Err(rule)) => Some(rule),
+            _ => None,
+        },
+    }
+}
+
 #[test]
-fn wrong_driving_lines_break_a_rule(rt: HostRuntime) -> Result<(), AllocError> {
+fn wrong_driving_lines_break_a_rule(rt: HostRuntime) {
     let mut place = ActionPlace::new();
     for (line, rule) in WRONG {
-        let words = words_of(rt.alloc(), line)?;
-        match words.as_slice() {
-            [] => assert!(rt; false),
-            [first, others @ ..] => match action_row(&mut place, first, others) {
-                Some(Err(broken)) => assert!(rt; broken == rule),
-                _ => assert!(rt; false),
-            },
-        }
+        assert!(rt; broken(rt.alloc(), &mut place, line) == Some(rule));
     }
-    Ok(())
 }
 
 /// Lines that configure a machine.
@@ -120,46 +136,73 @@ const CONFIGURING: [&[u8]; 10] = [
     b"sub 00030000 0101 1 10",
 ];
 
-#[test]
-fn configuring_lines_are_read(rt: HostRuntime) -> Result<(), AllocError> {
-    let mut supply = Given { refused: false };
-    let mut config = Config::new(rt.alloc());
+/// What a line is to set, or why it sets nothing; None where it is of another kind, or there is no memory.
+fn read(alloc: Global, line: &[u8]) -> Option<Result<Setting, LineFault>> {
+    let words = words_of(alloc, line).ok()?;
+    match words.as_slice() {
+        [] => None,
+        [first, others @ ..] => setting_row(alloc, &mut Given { refused: false }, first, others),
+    }
+}
+
+/// Whether a line is read and configures the machine.
+fn configures(alloc: Global, config: &mut Config, line: &[u8]) -> bool {
+    match read(alloc, line) {
+        Some(Ok(setting)) => configure(&mut Given { refused: false }, config, &setting).is_ok(),
+        _ => false,
+    }
+}
+
+/// Whether each of the lines configures the machine, one after another.
+fn all_configure(alloc: Global, config: &mut Config) -> bool {
     for line in CONFIGURING {
-        let words = words_of(rt.alloc(), line)?;
-        match words.as_slice() {
-            [] => assert!(rt; false),
-            [first, others @ ..] => match setting_row(rt.alloc(), &mut supply, first, others) {
-                Some(Ok(setting)) => {
-                    assert!(rt; configure(&mut supply, &mut config, &setting).is_ok());
-                }
-                _ => assert!(rt; false),
-            },
+        if !configures(alloc, config, line) {
+            return false;
         }
     }
-    assert!(rt; config.blocks() == Some(0x10));
-    assert!(rt; config.set_count() == 2);
-    assert!(rt; config.paths() == [0x10, 0xFF].as_slice());
-    assert!(rt; config.subchannels().len() == 2);
-    let groups = config.groups_with(rt.alloc(), &mut supply)?;
-    assert!(rt; groups.as_slice() == [0, 2, 2].as_slice());
-    Ok(())
+    true
+}
+
+/// Whether units 1 and 2 share a control unit, unit 0 has its own.
+fn shares(alloc: Global, config: &Config) -> Option<bool> {
+    let groups = config
+        .groups_with(alloc, &mut Given { refused: false })
+        .ok()?;
+    Some(groups.as_slice() == [0, 2, 2].as_slice())
+}
+
+#[test]
+fn configuring_lines_are_read(rt: HostRuntime) {
+    let mut config = Config::new(rt.alloc());
+    let all = all_configure(rt.alloc(), &mut config);
+    let blocks = config.blocks();
+    let sets = config.set_count();
+    let paths = config.paths() == [0x10, 0xFF].as_slice();
+    let subchannels = config.subchannels().len();
+    let shared = shares(rt.alloc(), &config);
+    drop(config);
+    assert!(rt; all, "each line is read");
+    assert!(rt; blocks == Some(0x10));
+    assert!(rt; sets == 2);
+    assert!(rt; paths);
+    assert!(rt; subchannels == 2);
+    assert!(rt; shared == Some(true));
 }
 
 /// Lines of words that configure no machine, and the rule that each breaks.
 const WRONG_SETTINGS: [(&[u8], u8); 2] = [(b"sub 0 0", 2), (b"share 0 x", 3)];
 
-#[test]
-fn wrong_configuring_lines_break_a_rule(rt: HostRuntime) -> Result<(), AllocError> {
-    let mut supply = Given { refused: false };
-    for (line, rule) in WRONG_SETTINGS {
-        let words = words_of(rt.alloc(), line)?;
-        match words.as_slice() {
-            [] => assert!(rt; false),
-            [first, others @ ..] => match setting_row(rt.alloc(), &mut supply, first, others) {
-                Some(Err(broken)) => assert!(rt; broken == LineFault::Rule(rule)),
-                _ => assert!(rt; false),
-            },
-        }
+/// The fault of a line, as it is to configure a machine.
+fn fault_of(alloc: Global, line: &[u8]) -> Option<LineFault> {
+    match read(alloc, line) {
+        Some(Err(fault)) => Some(fault),
+        _ => None,
     }
-    Ok(())
+}
+
+#[test]
+fn wrong_configuring_lines_break_a_rule(rt: HostRuntime) {
+    for (line, rule) in WRONG_SETTINGS {
+        assert!(rt; fault_of(rt.alloc(), line) == Some(LineFault::Rule(rule)));
+    }
 }

@@ -1,9 +1,11 @@
 //! A right script: its configuration, and its actions under the numbers of their lines.
 
 use crate::tests::script_lines::text_of;
+use channel_config::config::Config;
+use script::lines::Lines;
 use script::{Script, ScriptBad};
 use script_rows::Action;
-use std::alloc::AllocError;
+use std::alloc::Global;
 use supply::Given;
 
 const RIGHT: [&[u8]; 26] = [
@@ -44,54 +46,105 @@ fn shown(action: &Action) -> (&[u8], u32) {
     }
 }
 
+/// The actions that the lines ask for, each under the number of its line.
+const WANTED: [(u64, &[u8], u32); 14] = [
+    (12, b"event", 0),
+    (13, b"event", 0),
+    (14, b"event", 0),
+    (15, b"event", 0),
+    (16, b"event", 0),
+    (17, b"event", 0),
+    (18, b"event", 0),
+    (20, b"event", 0),
+    (21, b"event", 0),
+    (22, b"dev", 0x3FF),
+    (23, b"glance", 0x1_0003),
+    (24, b"event", 0),
+    (25, b"event", 0),
+    (26, b"event", 0),
+];
+
+/// Whether the line at a place has this number and asks for this.
+fn asks(lines: &Lines, place: usize, number: u64, name: &[u8], value: u32) -> bool {
+    match lines.get(place) {
+        Some(line) => {
+            let (kind, said) = shown(&line.action);
+            line.number == number && kind == name && said == value
+        }
+        None => false,
+    }
+}
+
+/// The first place whose line asks for something else.
+fn first_other(lines: &Lines) -> Option<usize> {
+    for (place, (number, name, value)) in WANTED.into_iter().enumerate() {
+        if !asks(lines, place, number, name, value) {
+            return Some(place);
+        }
+    }
+    None
+}
+
+/// How many lines ask for something, whether they ask for what is wanted, and whether none follows.
+fn told(lines: &Lines) -> (usize, Option<usize>, bool) {
+    (
+        lines.len(),
+        first_other(lines),
+        lines.get(WANTED.len()).is_none(),
+    )
+}
+
+/// The blocks of storage, whether both channel paths are there in order, and how many subchannels there are.
+fn configured(config: &Config) -> (Option<u32>, bool, usize) {
+    (
+        config.blocks(),
+        config.paths() == [0x10, 0xFF].as_slice(),
+        config.subchannels().len(),
+    )
+}
+
+/// Whether both units share a control unit; None where there is no memory to tell.
+fn shares(alloc: Global, config: &Config) -> Option<bool> {
+    let groups = config
+        .groups_with(alloc, &mut Given { refused: false })
+        .ok()?;
+    Some(groups.as_slice() == [1, 1].as_slice())
+}
+
+/// The script of the lines.
+fn right_script(alloc: Global) -> Result<Script, ScriptBad> {
+    match text_of(alloc, &RIGHT) {
+        Ok(text) => Script::read(alloc, false, text.as_slice()),
+        Err(_) => Err(ScriptBad::NoMemory),
+    }
+}
+
 #[test]
-fn a_right_script_is_read(rt: HostRuntime) -> Result<(), AllocError> {
-    let text = text_of(rt.alloc(), &RIGHT)?;
-    let script = match Script::read(rt.alloc(), false, text.as_slice()) {
+fn a_right_script_is_read(rt: HostRuntime) {
+    let script = match right_script(rt.alloc()) {
         Ok(script) => script,
-        Err(bad) => {
-            assert!(rt; bad == ScriptBad::NoMemory);
-            return Ok(());
-        }
+        Err(bad) => return assert!(rt; bad == ScriptBad::NoMemory),
     };
-    let wanted: [(u64, &[u8], u32); 14] = [
-        (12, b"event", 0),
-        (13, b"event", 0),
-        (14, b"event", 0),
-        (15, b"event", 0),
-        (16, b"event", 0),
-        (17, b"event", 0),
-        (18, b"event", 0),
-        (20, b"event", 0),
-        (21, b"event", 0),
-        (22, b"dev", 0x3FF),
-        (23, b"glance", 0x1_0003),
-        (24, b"event", 0),
-        (25, b"event", 0),
-        (26, b"event", 0),
-    ];
-    assert!(rt; script.config().set_count() == 2);
-    assert!(rt; script.lines().len() == wanted.len());
-    for (place, (number, name, value)) in wanted.into_iter().enumerate() {
-        match script.lines().get(place) {
-            Some(line) => {
-                let (kind, said) = shown(&line.action);
-                assert!(rt; line.number == number);
-                assert!(rt; kind == name);
-                assert!(rt; said == value);
-            }
-            None => assert!(rt; false, "there are as many"),
-        }
-    }
-    assert!(rt; script.lines().get(wanted.len()).is_none());
+    let sets = script.config().set_count();
+    let lines = told(script.lines());
+    drop(script);
+    assert!(rt; sets == 2);
+    assert!(rt; lines == (14, None, true));
+}
+
+#[test]
+fn a_script_gives_its_parts(rt: HostRuntime) {
+    let script = match right_script(rt.alloc()) {
+        Ok(script) => script,
+        Err(bad) => return assert!(rt; bad == ScriptBad::NoMemory),
+    };
     let (config, lines) = script.into_parts();
-    assert!(rt; config.blocks() == Some(0x10));
-    assert!(rt; config.paths() == [0x10, 0xFF].as_slice());
-    assert!(rt; config.subchannels().len() == 2);
-    match config.groups_with(rt.alloc(), &mut Given { refused: false }) {
-        Ok(groups) => assert!(rt; groups.as_slice() == [1, 1].as_slice()),
-        Err(_) => assert!(rt; false, "the allocator has room"),
-    }
-    assert!(rt; lines.len() == 14);
-    Ok(())
+    let has = configured(&config);
+    let shared = shares(rt.alloc(), &config);
+    let count = lines.len();
+    drop(config);
+    drop(lines);
+    assert!(rt; has == (Some(0x10), true, 2));
+    assert!(rt; shared == Some(true));
+    assert!(rt; count == 14);
 }

@@ -2,7 +2,7 @@
 
 use crate::tests::script_lines::text_of;
 use script::{Script, ScriptBad};
-use std::alloc::AllocError;
+use std::alloc::{AllocError, Global};
 use supply::{Given, Refusing};
 
 const WRONG: [(&[u8], u64, u8); 7] = [
@@ -51,25 +51,28 @@ const RACED: [&[u8]; 7] = [
     b"",
 ];
 
+/// How many actions a text asks for before its race, and the race: the number of its line, its CPUs, how often each tests,
+/// and the subchannel.
+fn raced(alloc: Global, text: &[u8]) -> Option<(usize, u64, u32, u32, u32)> {
+    let script = Script::read(alloc, true, text).ok()?;
+    let line = script.race()?;
+    Some((
+        script.lines().len(),
+        line.number,
+        line.race.cpus,
+        line.race.times,
+        line.race.subchannel,
+    ))
+}
+
 #[test]
 fn a_race_is_in_the_last_line_with_words(rt: HostRuntime) -> Result<(), AllocError> {
     let text = text_of(rt.alloc(), &RACED)?;
-    match Script::read(rt.alloc(), true, text.as_slice()) {
-        Ok(script) => {
-            assert!(rt; script.lines().len() == 1);
-            match script.race() {
-                Some(line) => {
-                    assert!(rt; line.number == 4);
-                    assert!(rt; line.race.cpus == 16);
-                    assert!(rt; line.race.times == 10_000);
-                    assert!(rt; line.race.subchannel == 0x2_0003);
-                }
-                None => assert!(rt; false, "it asks for a race"),
-            }
-        }
-        Err(_) => assert!(rt; false, "the text is right"),
-    }
-    assert!(rt; is_named(&rt, false, text.as_slice(), 4, 7));
+    let found = raced(rt.alloc(), text.as_slice());
+    let refused = is_named(&rt, false, text.as_slice(), 4, 7);
+    drop(text);
+    assert!(rt; found == Some((1, 4, 16, 10_000, 0x2_0003)));
+    assert!(rt; refused, "a race may not be there");
     Ok(())
 }
 
@@ -83,26 +86,33 @@ fn wrong_lines_are_named(rt: HostRuntime) {
     }
 }
 
+/// How many actions a text asks for, or what is wrong with it.
+fn counted(alloc: Global, text: &[u8]) -> Result<usize, ScriptBad> {
+    let script = Script::read(alloc, false, text)?;
+    Ok(script.lines().len())
+}
+
+/// A text whose second line has so many bytes, none of them a word's.
+fn long_text(alloc: Global, length: u32) -> Result<Vec<u8>, AllocError> {
+    let mut text = Vec::new(alloc);
+    text.extend_from_slice(b"storage 10\n")?;
+    for _ in 0..length {
+        text.push(b'#')?;
+    }
+    text.extend_from_slice(b"\ndev 0\n")?;
+    Ok(text)
+}
+
 #[test]
 fn a_line_is_at_most_1024_bytes(rt: HostRuntime) -> Result<(), AllocError> {
-    for (length, is_right) in [(1024, true), (1025, false)] {
-        let mut text = Vec::new(rt.alloc());
-        text.extend_from_slice(b"storage 10\n")?;
-        for _ in 0..length {
-            text.push(b'#')?;
-        }
-        text.extend_from_slice(b"\ndev 0\n")?;
-        match Script::read(rt.alloc(), false, text.as_slice()) {
-            Ok(script) => {
-                assert!(rt; is_right);
-                assert!(rt; script.lines().len() == 1);
-            }
-            Err(bad) => {
-                assert!(rt; !is_right);
-                assert!(rt; bad == ScriptBad::Bad { line: 2, rule: 3 });
-            }
-        }
-    }
+    let longest = long_text(rt.alloc(), 1024)?;
+    let right = counted(rt.alloc(), longest.as_slice());
+    drop(longest);
+    let longer = long_text(rt.alloc(), 1025)?;
+    let wrong = counted(rt.alloc(), longer.as_slice());
+    drop(longer);
+    assert!(rt; right.ok() == Some(1));
+    assert!(rt; wrong.err() == Some(ScriptBad::Bad { line: 2, rule: 3 }));
     Ok(())
 }
 
@@ -119,55 +129,84 @@ const GROWING: [&[u8]; 9] = [
     b"glance 0",
 ];
 
-#[test]
-fn each_growth_is_refused_in_turn(rt: HostRuntime) -> Result<(), AllocError> {
-    let growing = text_of(rt.alloc(), &GROWING)?;
-    let mut counted = Refusing {
+/// How many growths the reading of a text meets; None where it is not read.
+fn growths_of(alloc: Global, text: &[u8]) -> Option<u64> {
+    let mut supply = Refusing {
         left: 1_000,
         refused: false,
     };
-    assert!(rt; Script::read_with(rt.alloc(), &mut counted, false, growing.as_slice()).is_ok());
-    let growths = 1_000u64.wrapping_sub(counted.left);
-    assert!(rt; growths > 20);
-    for left in 0..=growths {
-        let mut supply = Refusing {
-            left,
-            refused: false,
-        };
-        match Script::read_with(rt.alloc(), &mut supply, false, growing.as_slice()) {
-            Ok(_) => assert!(rt; left == growths && !supply.refused),
-            Err(bad) => {
-                assert!(rt; left < growths && supply.refused);
-                assert!(rt; bad == ScriptBad::NoMemory);
-            }
-        }
-        let mut supply = Given { refused: false };
-        match Script::read_with(rt.alloc(), &mut supply, false, growing.as_slice()) {
-            Ok(script) => assert!(rt; script.lines().len() == 2),
-            Err(_) => assert!(rt; false, "the allocator has room"),
+    if Script::read_with(alloc, &mut supply, false, text).is_ok() {
+        Some(1_000u64.wrapping_sub(supply.left))
+    } else {
+        None
+    }
+}
+
+/// What is wrong where so many growths are given and no more, and whether one was refused.
+fn read_short(alloc: Global, text: &[u8], left: u64) -> (Option<ScriptBad>, bool) {
+    let mut supply = Refusing {
+        left,
+        refused: false,
+    };
+    let bad = Script::read_with(alloc, &mut supply, false, text).err();
+    (bad, supply.refused)
+}
+
+/// Whether the text is read where no growth is refused, and asks for two actions.
+fn is_read(alloc: Global, text: &[u8]) -> bool {
+    match Script::read_with(alloc, &mut Given { refused: false }, false, text) {
+        Ok(script) => script.lines().len() == 2,
+        Err(_) => false,
+    }
+}
+
+/// The first growth whose refusal is not told, or after which the text is not read.
+fn first_untold(alloc: Global, text: &[u8], growths: u64) -> Option<u64> {
+    for left in 0..growths {
+        let told = read_short(alloc, text, left) == (Some(ScriptBad::NoMemory), true);
+        if !told || !is_read(alloc, text) {
+            return Some(left);
         }
     }
-    Ok(())
+    None
 }
 
 #[test]
-fn a_script_of_many_lines_is_read(rt: HostRuntime) -> Result<(), AllocError> {
-    let mut text = Vec::new(rt.alloc());
+fn each_growth_is_refused_in_turn(rt: HostRuntime) -> Result<(), AllocError> {
+    let growing = text_of(rt.alloc(), &GROWING)?;
+    let growths = growths_of(rt.alloc(), growing.as_slice()).unwrap_or(0);
+    let untold = first_untold(rt.alloc(), growing.as_slice(), growths);
+    let with_all = read_short(rt.alloc(), growing.as_slice(), growths);
+    drop(growing);
+    assert!(rt; growths > 20);
+    assert!(rt; untold == None);
+    assert!(rt; with_all == (None, false));
+    Ok(())
+}
+
+/// A text of 70,002 lines, of which the last asks for something.
+fn many_lines(alloc: Global) -> Result<Vec<u8>, AllocError> {
+    let mut text = Vec::new(alloc);
     text.extend_from_slice(b"storage 10\n")?;
     for _ in 0..70_000 {
         text.push(b'\n')?;
     }
     text.extend_from_slice(b"dev 0\n")?;
-    match Script::read(rt.alloc(), false, text.as_slice()) {
-        Ok(script) => {
-            let lines = script.lines();
-            assert!(rt; lines.len() == 1);
-            match lines.get(0) {
-                Some(line) => assert!(rt; line.number == 70_002),
-                None => assert!(rt; false, "it has a line"),
-            }
-        }
-        Err(_) => assert!(rt; false, "the text is right"),
-    }
+    Ok(text)
+}
+
+/// How many actions a text asks for, and the number of the line of the first.
+fn first_line(alloc: Global, text: &[u8]) -> Option<(usize, u64)> {
+    let script = Script::read(alloc, false, text).ok()?;
+    let line = script.lines().get(0)?;
+    Some((script.lines().len(), line.number))
+}
+
+#[test]
+fn a_script_of_many_lines_is_read(rt: HostRuntime) -> Result<(), AllocError> {
+    let text = many_lines(rt.alloc())?;
+    let found = first_line(rt.alloc(), text.as_slice());
+    drop(text);
+    assert!(rt; found == Some((1, 70_002)));
     Ok(())
 }

@@ -46,24 +46,30 @@ fn first_advance(image: &[u8; 12], storage: &Storage) -> Option<(Option<Advance>
 #[test]
 fn one_command(rt: HostRuntime) {
     let blocks = [1, 0x20, 0, 4, 0, 0, 0x20, 0];
-    let (Some(storage), Some(mut walk)) = (storage_of(rt.alloc(), &blocks), walk_of(&FORMAT_1))
-    else {
-        return assert!(rt; false, "no memory");
+    let Some(mut walk) = walk_of(&FORMAT_1) else {
+        return assert!(rt; false, "the block is allowed");
     };
     assert!(rt; walk.next() == Some(0x1000));
     assert!(rt; walk.tried() == 0x1000);
     assert!(rt; walk.latest().is_none());
-    assert!(rt; taken(walk.advance(&storage)) == Some((1, 4, 0x2000)));
-    assert!(rt; walk.next() == None);
-    assert!(rt; walk.tried() == 0x1008);
-    match walk.latest() {
+    let Some(storage) = storage_of(rt.alloc(), &blocks) else {
+        return assert!(rt; false, "no memory");
+    };
+    let first = taken(walk.advance(&storage));
+    let begun = walk;
+    let second = walk.advance(&storage);
+    drop(storage);
+    assert!(rt; first == Some((1, 4, 0x2000)));
+    assert!(rt; begun.next() == None);
+    assert!(rt; begun.tried() == 0x1008);
+    match begun.latest() {
         None => assert!(rt; false, "a block took control"),
         Some(latest) => {
             assert!(rt; latest.address == 0x1000);
             assert!(rt; latest.ccw.suppress_length);
         }
     }
-    assert!(rt; walk.advance(&storage) == None);
+    assert!(rt; second == None);
     walk.device_end(GOES_ON);
     assert!(rt; walk.next() == None);
 }
@@ -94,14 +100,20 @@ fn blocks_that_show_a_check(rt: HostRuntime) {
 #[test]
 fn data_chaining(rt: HostRuntime) {
     let blocks = [1, 0x80, 0, 2, 0, 0, 0x20, 0, 0, 0x20, 0, 2, 0, 0, 0x21, 0];
-    let (Some(storage), Some(mut walk)) = (storage_of(rt.alloc(), &blocks), walk_of(&FORMAT_1))
-    else {
+    let Some(mut walk) = walk_of(&FORMAT_1) else {
+        return assert!(rt; false, "the block is allowed");
+    };
+    let Some(storage) = storage_of(rt.alloc(), &blocks) else {
         return assert!(rt; false, "no memory");
     };
-    assert!(rt; taken(walk.advance(&storage)) == Some((1, 2, 0x2000)));
+    let first = taken(walk.advance(&storage));
     walk.used_up();
-    assert!(rt; walk.next() == Some(0x1008));
-    assert!(rt; taken(walk.advance(&storage)) == Some((0, 2, 0x2100)));
+    let next = walk.next();
+    let second = taken(walk.advance(&storage));
+    drop(storage);
+    assert!(rt; first == Some((1, 2, 0x2000)));
+    assert!(rt; next == Some(0x1008));
+    assert!(rt; second == Some((0, 2, 0x2100)));
     assert!(rt; walk.tried() == 0x1010);
     walk.used_up();
     assert!(rt; walk.next() == None);
@@ -118,17 +130,23 @@ fn command_chaining(rt: HostRuntime) {
         (true, 0x1010, 2, 0x1018),
         (false, 0x1008, 0x31, 0x1008),
     ] {
-        let (Some(storage), Some(mut walk)) = (storage_of(rt.alloc(), &blocks), walk_of(&FORMAT_1))
-        else {
+        let Some(mut walk) = walk_of(&FORMAT_1) else {
+            return assert!(rt; false, "the block is allowed");
+        };
+        let Some(storage) = storage_of(rt.alloc(), &blocks) else {
             return assert!(rt; false, "no memory");
         };
-        assert!(rt; taken(walk.advance(&storage)) == Some((0x31, 2, 0x2000)));
+        let first = taken(walk.advance(&storage));
         walk.device_end(Ended {
             goes_on: true,
             modifier,
         });
-        assert!(rt; walk.next() == Some(next));
-        match walk.advance(&storage) {
+        let chained = walk.next();
+        let second = walk.advance(&storage);
+        drop(storage);
+        assert!(rt; first == Some((0x31, 2, 0x2000)));
+        assert!(rt; chained == Some(next));
+        match second {
             Some(Advance::Takes(ccw)) => assert!(rt; ccw.command == command),
             _ => assert!(rt; false, "a block takes control"),
         }
@@ -139,11 +157,15 @@ fn command_chaining(rt: HostRuntime) {
 #[test]
 fn an_end_that_stops_the_program(rt: HostRuntime) {
     let blocks = [0x31, 0x60, 0, 2, 0, 0, 0x20, 0];
-    let (Some(storage), Some(mut walk)) = (storage_of(rt.alloc(), &blocks), walk_of(&FORMAT_1))
-    else {
+    let Some(mut walk) = walk_of(&FORMAT_1) else {
+        return assert!(rt; false, "the block is allowed");
+    };
+    let Some(storage) = storage_of(rt.alloc(), &blocks) else {
         return assert!(rt; false, "no memory");
     };
-    assert!(rt; taken(walk.advance(&storage)) == Some((0x31, 2, 0x2000)));
+    let first = taken(walk.advance(&storage));
+    drop(storage);
+    assert!(rt; first == Some((0x31, 2, 0x2000)));
     walk.device_end(Ended {
         goes_on: false,
         modifier: true,
@@ -151,22 +173,32 @@ fn an_end_that_stops_the_program(rt: HostRuntime) {
     assert!(rt; walk.next() == None);
 }
 
+/// Whether the program is suspended before its first block.
+fn suspends(walk: &mut Walk, storage: &Storage) -> bool {
+    let advance = walk.advance(storage);
+    advance == Some(Advance::Suspends) && walk.next() == Some(0x1000) && walk.tried() == 0x1008
+}
+
 #[test]
 fn suspension(rt: HostRuntime) {
     let mut image = FORMAT_1;
     image[4] = 8;
     let blocks = [1, 0x22, 0, 4, 0, 0, 0x20, 0];
-    let (Some(mut storage), Some(mut walk)) = (storage_of(rt.alloc(), &blocks), walk_of(&image))
-    else {
+    let Some(mut walk) = walk_of(&image) else {
+        return assert!(rt; false, "the block is allowed");
+    };
+    let Some(mut storage) = storage_of(rt.alloc(), &blocks) else {
         return assert!(rt; false, "no memory");
     };
-    for _ in 0..2 {
-        assert!(rt; walk.advance(&storage) == Some(Advance::Suspends));
-        assert!(rt; walk.next() == Some(0x1000));
-        assert!(rt; walk.tried() == 0x1008);
-    }
-    assert!(rt; storage.put(0x1001, &[0x20]) == Ok(()));
-    assert!(rt; taken(walk.advance(&storage)) == Some((1, 4, 0x2000)));
+    let suspended = suspends(&mut walk, &storage);
+    let again = suspends(&mut walk, &storage);
+    let put = storage.put(0x1001, &[0x20]);
+    let resumed = taken(walk.advance(&storage));
+    drop(storage);
+    assert!(rt; suspended, "the program is suspended");
+    assert!(rt; again, "it is suspended as long as the block says so");
+    assert!(rt; put == Ok(()));
+    assert!(rt; resumed == Some((1, 4, 0x2000)));
 }
 
 #[test]
@@ -177,19 +209,25 @@ fn addresses_of_a_program(rt: HostRuntime) {
     };
     let mut off = FORMAT_1;
     off[11] = 4;
-    assert!(rt; first_advance(&off, &storage) == Some((STOPS, 0x100C)));
+    let off_boundary = first_advance(&off, &storage);
     let mut outside = FORMAT_1;
     outside[9] = 1;
-    assert!(rt; first_advance(&outside, &storage) == Some((STOPS, 0x1_1008)));
+    let outside_storage = first_advance(&outside, &storage);
     let mut long = FORMAT_1;
     long[5] = 0;
     long[8] = 1;
-    assert!(rt; first_advance(&long, &storage) == Some((STOPS, 0x100_1008)));
+    let too_long = first_advance(&long, &storage);
     let mut keyed = FORMAT_1;
     keyed[4] = 0x20;
-    assert!(rt; storage.set_key(0x1000, Key::of_byte(0x18)) == Ok(()));
+    let key_set = storage.set_key(0x1000, Key::of_byte(0x18));
+    let with_other_key = first_advance(&keyed, &storage);
+    drop(storage);
     let protected = Some(Advance::Stops(Check::Protection));
-    assert!(rt; first_advance(&keyed, &storage) == Some((protected, 0x1008)));
+    assert!(rt; off_boundary == Some((STOPS, 0x100C)));
+    assert!(rt; outside_storage == Some((STOPS, 0x1_1008)));
+    assert!(rt; too_long == Some((STOPS, 0x100_1008)));
+    assert!(rt; key_set == Ok(()));
+    assert!(rt; with_other_key == Some((protected, 0x1008)));
 }
 
 #[test]

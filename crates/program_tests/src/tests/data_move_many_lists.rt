@@ -7,6 +7,14 @@ use data_move::moving::Move;
 use idaw::ListKind;
 use storage_keys::Storage;
 
+/// The first words of the lists.
+const FIRSTS: [u32; 8] = [0, 1, 0x7FF, 0x800, 0xFFF, 0x1234, 0x2FFE, 0xF7FF];
+
+/// How many bytes are read by each list.
+const COUNTS: [u16; 12] = [
+    1, 2, 255, 256, 257, 2047, 2048, 2049, 4096, 5000, 12_345, 65_535,
+];
+
 /// Where the lists stand, and how many words each has.
 const LIST: u32 = 0x100;
 
@@ -98,24 +106,78 @@ fn agrees(storage: &Storage, kind: ListKind, ccw: Ccw, first: u32, step: u16) ->
     at.residual() == 0 && u32::from(at.words()) == words
 }
 
+/// A read of so many bytes by the list.
+fn read_by_list(count: u16) -> Option<Ccw> {
+    let [high, low] = count.to_be_bytes();
+    Ccw::read(Format::One, &[2, 0x24, high, low, 0, 0, 1, 0]).ok()
+}
+
+/// What is wrong of the lists of a kind.
+#[derive(Clone, Copy)]
+enum Wrong {
+    /// A list is not put into storage.
+    NotPut,
+    /// The list with this first word leads elsewhere, where so many bytes are read.
+    Leads { first: u32, count: u16 },
+}
+
+/// Whether a read of so many bytes agrees, at most 256 at once and at most 100.
+fn agrees_for(storage: &Storage, kind: ListKind, first: u32, count: u16) -> bool {
+    match read_by_list(count) {
+        Some(ccw) => {
+            agrees(storage, kind, ccw, first, 256) && agrees(storage, kind, ccw, first, 100)
+        }
+        None => false,
+    }
+}
+
+/// The first of the counts for which a read by the list in storage doesn't agree.
+fn disagreeing(storage: &Storage, kind: ListKind, first: u32) -> Option<u16> {
+    for count in COUNTS {
+        if !agrees_for(storage, kind, first, count) {
+            return Some(count);
+        }
+    }
+    None
+}
+
+/// Puts the lists of a kind into storage, one after another, and reads by each.
+fn try_lists(storage: &mut Storage, kind: ListKind) -> Result<(), Wrong> {
+    for first in FIRSTS {
+        if !put_list(storage, kind, first) {
+            return Err(Wrong::NotPut);
+        }
+        if let Some(count) = disagreeing(storage, kind, first) {
+            return Err(Wrong::Leads { first, count });
+        }
+    }
+    Ok(())
+}
+
+#[test]
+fn the_reads_by_a_list_are_allowed(rt: HostRuntime) {
+    for count in COUNTS {
+        assert!(rt;
+            read_by_list(count).is_some(),
+            "the command word is allowed"
+        );
+    }
+}
+
 #[test]
 fn the_places_are_those_of_the_formula(rt: HostRuntime) {
     let Ok(mut storage) = Storage::new(rt.alloc(), 16) else {
         return assert!(rt; false, "no memory");
     };
-    for kind in [ListKind::Short, ListKind::LongByFourK, ListKind::LongByTwoK] {
-        for first in [0u32, 1, 0x7FF, 0x800, 0xFFF, 0x1234, 0x2FFE, 0xF7FF] {
-            assert!(rt; put_list(&mut storage, kind, first));
-            for count in [
-                1u16, 2, 255, 256, 257, 2047, 2048, 2049, 4096, 5000, 12_345, 65_535,
-            ] {
-                let [high, low] = count.to_be_bytes();
-                let Ok(ccw) = Ccw::read(Format::One, &[2, 0x24, high, low, 0, 0, 1, 0]) else {
-                    return assert!(rt; false, "the command word is allowed");
-                };
-                assert!(rt; agrees(&storage, kind, ccw, first, 256), "{first} {count}");
-                assert!(rt; agrees(&storage, kind, ccw, first, 100), "{first} {count}");
-            }
+    let short = try_lists(&mut storage, ListKind::Short);
+    let by_four_k = try_lists(&mut storage, ListKind::LongByFourK);
+    let by_two_k = try_lists(&mut storage, ListKind::LongByTwoK);
+    drop(storage);
+    for tried in [short, by_four_k, by_two_k] {
+        match tried {
+            Ok(()) => {}
+            Err(Wrong::NotPut) => assert!(rt; false, "the list is put into storage"),
+            Err(Wrong::Leads { first, count }) => assert!(rt; false, "{first} {count}"),
         }
     }
 }

@@ -89,7 +89,10 @@ fn a_short_list_is_followed(rt: HostRuntime) {
         };
         let mut at = Move::begin(kind, ccw, false);
         let (found, fault) = taken(&storage, 0, &mut at);
-        assert!(rt; found.as_slice() == bytes);
+        drop(storage);
+        let is_taken = found.as_slice() == bytes;
+        drop(found);
+        assert!(rt; is_taken);
         assert!(rt; fault == check);
         assert!(rt; at.residual() == residual);
     }
@@ -111,13 +114,17 @@ fn a_long_list_is_followed(rt: HostRuntime) {
         let Some(mut storage) = storage(rt.alloc(), &[0, 0, 0, 0, 0, 0, 0x2F, 0xFE]) else {
             return assert!(rt; false, "no memory");
         };
-        assert!(rt; storage.put(0x3008, &second).is_ok());
+        let put = storage.put(0x3008, &second);
         let mut at = Move::begin(kind, ccw, false);
         let (found, fault) = taken(&storage, 0, &mut at);
+        drop(storage);
+        let all_taken = found.as_slice() == &[0xA1, 0xA2, 0xA3, 0xA4][..];
+        drop(found);
+        assert!(rt; put.is_ok());
         assert!(rt; fault == check);
         assert!(rt; at.residual() == residual);
         assert!(rt; at.is_incorrect(false) == (residual != 0));
-        assert!(rt; residual != 0 || found.as_slice() == &[0xA1, 0xA2, 0xA3, 0xA4][..]);
+        assert!(rt; residual != 0 || all_taken);
     }
 }
 
@@ -126,14 +133,18 @@ fn a_word_is_fetched_once(rt: HostRuntime) {
     let (Some(kind), Some(ccw)) = (kind(0x80), write_by_list(0x3000)) else {
         return assert!(rt; false, "the program is allowed");
     };
+    let mut at = Move::begin(kind, ccw, false);
+    assert!(rt; at.needs_word() && at.place().is_none());
     let Some(mut storage) = storage(rt.alloc(), &[0, 0, 0x2F, 0xFE, 0, 0, 0x40, 0]) else {
         return assert!(rt; false, "no memory");
     };
-    let mut at = Move::begin(kind, ccw, false);
-    assert!(rt; at.needs_word() && at.place().is_none());
-    assert!(rt; at.locate(&storage, 0) == Ok(()));
-    assert!(rt; storage.put(0x3000, &[0, 0, 0x20, 0]).is_ok());
-    assert!(rt; at.locate(&storage, 0) == Ok(()));
+    let located = at.locate(&storage, 0);
+    let put = storage.put(0x3000, &[0, 0, 0x20, 0]);
+    let again = at.locate(&storage, 0);
+    drop(storage);
+    assert!(rt; located == Ok(()));
+    assert!(rt; put.is_ok());
+    assert!(rt; again == Ok(()));
     assert!(rt; at.words() == 1);
     assert!(rt; at.place() == Some(0x2FFE));
     assert!(rt; at.room() == 2);
@@ -152,18 +163,25 @@ fn the_key_guards_the_list_and_the_data(rt: HostRuntime) {
         return assert!(rt; false, "no memory");
     };
     let mut at = Move::begin(kind, ccw, false);
-    assert!(rt; storage.set_key(0x3000, Key::of_byte(0x18)).is_ok());
-    assert!(rt; at.locate(&storage, 2) == Err(PROTECTION));
-    assert!(rt; at.words() == 0);
-    assert!(rt; at.locate(&storage, 1) == Ok(()));
-    assert!(rt; storage.set_key(0x2000, Key::of_byte(0x10)).is_ok());
-    assert!(rt; at.copied(&storage, 2).is_ok());
-    assert!(rt; store_two(&at, &mut storage, 2) == Err(PROTECTION));
-    assert!(rt; store_two(&at, &mut storage, 1) == Ok(()));
-    match storage.fetch(0, 0x2FFE, 2) {
-        Ok(bytes) => assert!(rt; bytes == &[1, 2][..]),
-        Err(_) => assert!(rt; false, "the bytes are in storage"),
-    }
+    let list_guarded = storage.set_key(0x3000, Key::of_byte(0x18));
+    let not_located = at.locate(&storage, 2);
+    let words = at.words();
+    let located = at.locate(&storage, 1);
+    let data_guarded = storage.set_key(0x2000, Key::of_byte(0x10));
+    let copied = at.copied(&storage, 2).is_ok();
+    let not_stored = store_two(&at, &mut storage, 2);
+    let stored = store_two(&at, &mut storage, 1);
+    let is_there = storage.fetch(0, 0x2FFE, 2).ok() == Some(&[1, 2][..]);
+    drop(storage);
+    assert!(rt; list_guarded.is_ok());
+    assert!(rt; not_located == Err(PROTECTION));
+    assert!(rt; words == 0);
+    assert!(rt; located == Ok(()));
+    assert!(rt; data_guarded.is_ok());
+    assert!(rt; copied);
+    assert!(rt; not_stored == Err(PROTECTION));
+    assert!(rt; stored == Ok(()));
+    assert!(rt; is_there, "the bytes are in storage");
 }
 
 #[test]
@@ -178,12 +196,17 @@ fn skipped_bytes_move_nothing(rt: HostRuntime) {
         return assert!(rt; false, "no memory");
     };
     let mut at = Move::begin(kind, ccw, true);
-    assert!(rt; at.locate(&storage, 0) == Ok(()));
-    assert!(rt; at.words() == 0);
-    assert!(rt; at.room() == 256);
-    assert!(rt; at.place() == None);
-    assert!(rt; store_two(&at, &mut storage, 0) == Ok(()));
+    let located = at.locate(&storage, 0);
+    let begun = at;
+    let stored = store_two(&at, &mut storage, 0);
     at.moved(at.room());
+    let copied = at.copied(&storage, 0).is_ok_and(|chunk| chunk.len() == 0);
+    drop(storage);
+    assert!(rt; located == Ok(()));
+    assert!(rt; begun.words() == 0);
+    assert!(rt; begun.room() == 256);
+    assert!(rt; begun.place() == None);
+    assert!(rt; stored == Ok(()));
     assert!(rt; at.room() == 4);
-    assert!(rt; at.copied(&storage, 0).is_ok_and(|chunk| chunk.len() == 0));
+    assert!(rt; copied, "no bytes are copied");
 }

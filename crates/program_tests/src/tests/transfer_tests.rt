@@ -61,6 +61,12 @@ fn after_brought(
     }
 }
 
+/// Whether the next bytes that are given are these, and the transfer from then on.
+fn given(storage: &Storage, transfer: &Transfer, bytes: &[u8]) -> (bool, Transfer) {
+    let next = next_given(storage, transfer);
+    (next.bytes.as_slice() == bytes, next.transfer)
+}
+
 /// The number and the code of the command that follows.
 fn followed_by(storage: &Storage, transfer: &Transfer, modifier: bool) -> Option<(u64, u8)> {
     if transfer.command >= 9 {
@@ -81,17 +87,24 @@ fn a_write_is_given_and_absorbed(rt: HostRuntime) {
     let Some(transfer) = began(&storage) else {
         return assert!(rt; false, "the program is right");
     };
+    let room = begun_with_room(&storage, &transfer).room;
+    let (all_given, next) = given(&storage, &transfer, &[0xC1, 0xC2, 0xC3, 0xC4]);
+    let moved = after_absorbed(&storage, &next, 1, 4);
+    let none_left = match &moved {
+        Some(moved) => next_given(&storage, moved).bytes.len() == 0,
+        None => false,
+    };
+    drop(storage);
     assert!(rt; (transfer.command, transfer.code) == (1, 1));
-    assert!(rt; begun_with_room(&storage, &transfer).room == 0);
+    assert!(rt; room == 0);
     assert!(rt; is_met(&transfer, 1, 0) && is_met(&transfer, 1, 1));
     assert!(rt; !is_met(&transfer, 1, 2) && !is_met(&transfer, 2, 0));
-    let given = next_given(&storage, &transfer);
-    assert!(rt; given.bytes.as_slice() == [0xC1, 0xC2, 0xC3, 0xC4].as_slice());
-    let Some(moved) = after_absorbed(&storage, &given.transfer, 1, 4) else {
+    assert!(rt; all_given);
+    let Some(moved) = moved else {
         return assert!(rt; false, "the numbers are small");
     };
     assert!(rt; (moved.sequence, moved.moving.residual()) == (1, 0));
-    assert!(rt; next_given(&storage, &moved).bytes.len() == 0);
+    assert!(rt; none_left);
     command_numbers();
 }
 
@@ -104,13 +117,19 @@ fn data_is_chained_as_the_count_is_used_up(rt: HostRuntime) {
     let Some(transfer) = began(&storage) else {
         return assert!(rt; false, "the program is right");
     };
-    let given = next_given(&storage, &transfer);
-    assert!(rt; given.bytes.as_slice() == [0xC1, 0xC2].as_slice());
-    let Some(moved) = after_absorbed(&storage, &given.transfer, 1, 2) else {
+    let (first_given, next) = given(&storage, &transfer, &[0xC1, 0xC2]);
+    let moved = after_absorbed(&storage, &next, 1, 2);
+    let rest_given = match &moved {
+        Some(moved) => given(&storage, moved, &[0xC3, 0xC4]).0,
+        None => false,
+    };
+    drop(storage);
+    assert!(rt; first_given);
+    let Some(moved) = moved else {
         return assert!(rt; false, "the numbers are small");
     };
     assert!(rt; (moved.moving.residual(), moved.walk.tried()) == (2, 0x1010));
-    assert!(rt; next_given(&storage, &moved).bytes.as_slice() == [0xC3, 0xC4].as_slice());
+    assert!(rt; rest_given);
 }
 
 #[test]
@@ -123,15 +142,23 @@ fn a_read_is_stored_where_it_belongs(rt: HostRuntime) {
         return assert!(rt; false, "the program is right");
     };
     let told = begun_with_room(&storage, &transfer);
+    let stored = after_brought(&mut storage, &told.transfer, 1, &[0xA1, 0xA2, 0xA3]);
+    let room = match &stored {
+        Some(stored) => Some(with_room(&storage, stored).room),
+        None => None,
+    };
+    let is_there = storage.fetch(0, 0x3000, 4).ok() == Some(&[0xA1, 0xA2, 0xA3, 0][..]);
+    let again = match &stored {
+        Some(stored) => after_brought(&mut storage, stored, 1, &[0xB1]),
+        None => None,
+    };
+    drop(storage);
     assert!(rt; told.room == 4);
     assert!(rt; !is_met(&told.transfer, 1, 0) && is_met(&told.transfer, 1, 1));
-    let bytes = [0xA1, 0xA2, 0xA3];
-    let Some(stored) = after_brought(&mut storage, &told.transfer, 1, &bytes) else {
-        return assert!(rt; false, "the numbers are small");
-    };
-    assert!(rt; with_room(&storage, &stored).room == 1);
-    assert!(rt; storage.fetch(0, 0x3000, 4).ok() == Some(&[0xA1, 0xA2, 0xA3, 0][..]));
-    let Some(again) = after_brought(&mut storage, &stored, 1, &[0xB1]) else {
+    assert!(rt; stored.is_some(), "the numbers are small");
+    assert!(rt; room == Some(1));
+    assert!(rt; is_there);
+    let Some(again) = again else {
         return assert!(rt; false, "the numbers are small");
     };
     assert!(rt; again.moving.residual() == 1);
@@ -148,8 +175,11 @@ fn the_next_command_follows(rt: HostRuntime) {
     let Some(transfer) = began(&storage) else {
         return assert!(rt; false, "the program is right");
     };
-    assert!(rt; followed_by(&storage, &transfer, false) == Some((2, 0x31)));
-    assert!(rt; followed_by(&storage, &transfer, true) == Some((2, 2)));
+    let unmodified = followed_by(&storage, &transfer, false);
+    let modified = followed_by(&storage, &transfer, true);
+    drop(storage);
+    assert!(rt; unmodified == Some((2, 0x31)));
+    assert!(rt; modified == Some((2, 2)));
 }
 
 #[test]
@@ -161,7 +191,9 @@ fn what_a_program_may_not_begin_with(rt: HostRuntime) {
         let Some(storage) = storage_of(rt.alloc(), &program) else {
             return assert!(rt; false, "no memory");
         };
-        let Some(found) = first(&storage) else {
+        let found = first(&storage);
+        drop(storage);
+        let Some(found) = found else {
             return assert!(rt; false, "the block is allowed");
         };
         assert!(rt; found.walk.tried() == 0x1008);
@@ -184,13 +216,14 @@ fn a_block_that_asks_for_an_interruption_takes_control(rt: HostRuntime) {
 #[test]
 fn a_program_that_may_be_suspended_is(rt: HostRuntime) {
     let program = [1, 0x22, 0, 4, 0, 0, 0x20, 0];
-    let Some(storage) = storage_of(rt.alloc(), &program) else {
-        return assert!(rt; false, "no memory");
-    };
     let Ok(orb) = Orb::read(&[0, 0, 0, 0, 0x08, 0x80, 0xFF, 0, 0, 0, 0x10, 0]) else {
         return assert!(rt; false, "the block is allowed");
     };
+    let Some(storage) = storage_of(rt.alloc(), &program) else {
+        return assert!(rt; false, "no memory");
+    };
     let found = first_command(&storage, Walk::start(orb));
+    drop(storage);
     assert!(rt; matches!(found.came, CommandStart::Suspends));
     assert!(rt; found.walk.next() == Some(0x1000));
 }

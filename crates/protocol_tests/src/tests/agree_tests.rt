@@ -67,160 +67,282 @@ fn is_free(world: &World, side: Side) -> bool {
     matches!(world.hold(side).phase, HoldPhase::Free)
 }
 
-#[test]
-fn a_program_is_accepted_and_let_go(rt: HostRuntime) {
-    let mut world = World::new(rt.alloc());
-    let side = Side::First;
-    assert!(rt; accepts(&mut world, &[choose(side, 2), down(side), up(side)]));
-    assert!(rt; is_held_by(&world, side, 2, 0));
-    assert!(rt; owned_by(&world) == Some(2));
-    assert!(rt;
-        accepts(
-            &mut world,
-            &[WorldEvent::LetGo { side }, down(side), up(side)]
-        )
-    );
-    assert!(rt; is_free(&world, side) && matches!(world.own(), Own::Idle));
-    assert!(rt; world.accepted(side) == [1].as_slice());
-    assert!(rt; world.downs_len(side) == 0);
-    assert!(rt; world.ups_len(side) == 0);
+/// Whether the hold of a side and the unit have no program.
+fn is_let_go(world: &World, side: Side) -> bool {
+    is_free(world, side) && matches!(world.own(), Own::Idle)
+}
+
+/// The number of the Reset that a side is to send, or has sent.
+fn reset_number(world: &World, side: Side) -> Option<u64> {
+    match world.hold(side).phase {
+        HoldPhase::Reset { number } => Some(number),
+        _ => None,
+    }
+}
+
+/// Whether the first program of a side, and no other, was accepted.
+fn is_first_accepted(world: &World, side: Side) -> bool {
+    world.accepted(side) == [1].as_slice()
+}
+
+/// How many signals of a side wait, to the unit and from it.
+fn waiting(world: &World, side: Side) -> (usize, usize) {
+    (world.downs_len(side), world.ups_len(side))
+}
+
+/// Whether a program is chosen on this path, and its Select and the answer to it are taken.
+fn offers(world: &mut World, side: Side, path: u8) -> bool {
+    accepts(world, &[choose(side, path), down(side), up(side)])
 }
 
 #[test]
-fn a_repeated_select_is_accepted_once(rt: HostRuntime) {
-    let mut world = World::new(rt.alloc());
+fn a_program_is_accepted_and_let_go(rt: HostRuntime) {
     let side = Side::First;
+    let mut world = World::new(rt.alloc());
+    let offered = offers(&mut world, side, 2);
+    let held = is_held_by(&world, side, 2, 0);
+    let owned = owned_by(&world);
+    let released = accepts(
+        &mut world,
+        &[WorldEvent::LetGo { side }, down(side), up(side)],
+    );
+    let let_go = is_let_go(&world, side);
+    let accepted = is_first_accepted(&world, side);
+    let (downs, ups) = waiting(&world, side);
+    drop(world);
+    assert!(rt; offered);
+    assert!(rt; held);
+    assert!(rt; owned == Some(2));
+    assert!(rt; released);
+    assert!(rt; let_go);
+    assert!(rt; accepted);
+    assert!(rt; downs == 0);
+    assert!(rt; ups == 0);
+}
+
+/// Whether a program is offered whose Select arrives twice and is kept.
+fn repeats_select(world: &mut World, side: Side) -> bool {
     let again = WorldEvent::Down {
         side,
         place: 0,
         keep: true,
         may: true,
     };
-    assert!(rt; accepts(&mut world, &[choose(side, 0), again.copy(), again]));
-    assert!(rt; world.accepted(side) == [1].as_slice());
-    assert!(rt; world.downs_len(side) == 1);
-    assert!(rt; world.ups_len(side) == 1);
+    accepts(world, &[choose(side, 0), again.copy(), again])
+}
+
+/// Whether a signal each way vanishes.
+fn loses_both(world: &mut World, side: Side) -> bool {
     let lost = [
         WorldEvent::LoseDown { side, place: 0 },
         WorldEvent::LoseUp { side, place: 0 },
     ];
-    assert!(rt; accepts(&mut world, &lost));
-    assert!(rt; world.downs_len(side) == 0);
-    assert!(rt; world.ups_len(side) == 0);
-    assert!(rt; matches!(world.hold(side).phase, HoldPhase::Offer { number: 1, .. }));
+    accepts(world, &lost)
+}
+
+#[test]
+fn a_repeated_select_is_accepted_once(rt: HostRuntime) {
+    let side = Side::First;
+    let mut world = World::new(rt.alloc());
+    let repeated = repeats_select(&mut world, side);
+    let accepted = is_first_accepted(&world, side);
+    let (downs, ups) = waiting(&world, side);
+    let lost = loses_both(&mut world, side);
+    let (downs_left, ups_left) = waiting(&world, side);
+    let offered = matches!(world.hold(side).phase, HoldPhase::Offer { number: 1, .. });
+    drop(world);
+    assert!(rt; repeated);
+    assert!(rt; accepted);
+    assert!(rt; downs == 1);
+    assert!(rt; ups == 1);
+    assert!(rt; lost);
+    assert!(rt; downs_left == 0);
+    assert!(rt; ups_left == 0);
+    assert!(rt; offered);
 }
 
 #[test]
 fn a_program_comes_back_on_another_path(rt: HostRuntime) {
-    let mut world = World::new(rt.alloc());
     let side = Side::First;
-    assert!(rt; accepts(&mut world, &[choose(side, 1), down(side), up(side)]));
-    assert!(rt; accepts(&mut world, &[WorldEvent::Leave, up(side)]));
-    assert!(rt; matches!(world.hold(side).phase, HoldPhase::Away { number: 1 }));
-    assert!(rt; accepts(&mut world, &[WorldEvent::Ask { path: 6 }, up(side)]));
-    assert!(rt; is_held_by(&world, side, 6, 1));
-    assert!(rt; owned_by(&world) == None);
-    assert!(rt; accepts(&mut world, &[down(side)]));
-    assert!(rt; owned_by(&world) == Some(6));
+    let mut world = World::new(rt.alloc());
+    let offered = offers(&mut world, side, 1);
+    let left = accepts(&mut world, &[WorldEvent::Leave, up(side)]);
+    let away = matches!(world.hold(side).phase, HoldPhase::Away { number: 1 });
+    let asked = accepts(&mut world, &[WorldEvent::Ask { path: 6 }, up(side)]);
+    let held = is_held_by(&world, side, 6, 1);
+    let owned_before = owned_by(&world);
+    let granted = accepts(&mut world, &[down(side)]);
+    let owned = owned_by(&world);
+    drop(world);
+    assert!(rt; offered);
+    assert!(rt; left);
+    assert!(rt; away);
+    assert!(rt; asked);
+    assert!(rt; held);
+    assert!(rt; owned_before == None);
+    assert!(rt; granted);
+    assert!(rt; owned == Some(6));
+}
+
+/// Whether the unit is restarted, and a side is told so by this path.
+fn restarts(world: &mut World, side: Side, path: u8) -> bool {
+    let told = [
+        WorldEvent::Restart,
+        WorldEvent::Notice { side, path },
+        up(side),
+    ];
+    accepts(world, &told)
 }
 
 #[test]
 fn a_restart_ends_by_a_reset(rt: HostRuntime) {
-    let mut world = World::new(rt.alloc());
     let side = Side::First;
-    assert!(rt; accepts(&mut world, &[choose(side, 3), down(side), up(side)]));
-    let told = [
-        WorldEvent::Restart,
-        WorldEvent::Notice { side, path: 3 },
-        up(side),
-    ];
-    assert!(rt; accepts(&mut world, &told));
-    assert!(rt; matches!(world.hold(side).phase, HoldPhase::Reset { number: 2 }));
-    assert!(rt; accepts(&mut world, &[choose(side, 3), down(side)]));
-    assert!(rt; matches!(world.hold(side).phase, HoldPhase::Reset { number: 2 }));
-    assert!(rt; accepts(&mut world, &[up(side)]));
-    assert!(rt; is_free(&world, side) && matches!(world.own(), Own::Idle));
+    let mut world = World::new(rt.alloc());
+    let offered = offers(&mut world, side, 3);
+    let told = restarts(&mut world, side, 3);
+    let due = reset_number(&world, side);
+    let sent = accepts(&mut world, &[choose(side, 3), down(side)]);
+    let still_due = reset_number(&world, side);
+    let answered = accepts(&mut world, &[up(side)]);
+    let let_go = is_let_go(&world, side);
+    drop(world);
+    assert!(rt; offered);
+    assert!(rt; told);
+    assert!(rt; due == Some(2));
+    assert!(rt; sent);
+    assert!(rt; still_due == Some(2));
+    assert!(rt; answered);
+    assert!(rt; let_go);
+}
+
+/// Whether a side clears its program, and its Reset is sent on this path and taken.
+fn clears(world: &mut World, side: Side, path: u8) -> bool {
+    let clear = WorldEvent::Clear { side };
+    accepts(world, &[clear, choose(side, path), down(side)])
 }
 
 #[test]
 fn one_side_at_a_time_holds_the_device(rt: HostRuntime) {
-    let mut world = World::new(rt.alloc());
     let (first, second) = (Side::First, Side::Second);
-    assert!(rt; accepts(&mut world, &[choose(first, 0), down(first), up(first)]));
-    assert!(rt; accepts(&mut world, &[choose(second, 0), down(second), up(second)]));
-    assert!(rt; is_free(&world, second));
-    assert!(rt; world.accepted(second).is_empty());
-    let clear = WorldEvent::Clear { side: second };
-    assert!(rt; accepts(&mut world, &[clear, choose(second, 7), down(second)]));
-    assert!(rt; matches!(world.hold(second).phase, HoldPhase::Reset { number: 2 }));
-    assert!(rt; owned_by(&world) == Some(0));
-    assert!(rt; accepts(&mut world, &[up(second)]));
-    assert!(rt; is_free(&world, second));
-    assert!(rt; is_held_by(&world, first, 0, 0));
+    let mut world = World::new(rt.alloc());
+    let offered = offers(&mut world, first, 0);
+    let offered_too = offers(&mut world, second, 0);
+    let refused = is_free(&world, second);
+    let none_accepted = world.accepted(second).is_empty();
+    let cleared = clears(&mut world, second, 7);
+    let due = reset_number(&world, second);
+    let owned = owned_by(&world);
+    let answered = accepts(&mut world, &[up(second)]);
+    let free = is_free(&world, second);
+    let held = is_held_by(&world, first, 0, 0);
+    drop(world);
+    assert!(rt; offered);
+    assert!(rt; offered_too);
+    assert!(rt; refused);
+    assert!(rt; none_accepted);
+    assert!(rt; cleared);
+    assert!(rt; due == Some(2));
+    assert!(rt; owned == Some(0));
+    assert!(rt; answered);
+    assert!(rt; free);
+    assert!(rt; held);
+}
+
+/// Whether a program is chosen on a path that goes down then: its Select vanishes, and a Reset is due in its stead.
+fn is_lost_with_path(world: &mut World, side: Side, path: u8) -> bool {
+    let path_down = WorldEvent::PathDown { side, path };
+    let lost = accepts(world, &[choose(side, path), path_down]);
+    lost && world.downs_len(side) == 0 && reset_number(world, side) == Some(2)
+}
+
+/// Whether nothing is sent on a path that is down.
+fn sends_nothing(world: &mut World, side: Side, path: u8) -> bool {
+    let chosen = accepts(world, &[choose(side, path)]);
+    chosen && world.downs_len(side) == 0
+}
+
+/// Whether the Reset is sent when the path is up again.
+fn sends_when_up(world: &mut World, side: Side, path: u8) -> bool {
+    let path_up = WorldEvent::PathUp { side, path };
+    let chosen = accepts(world, &[path_up, choose(side, path)]);
+    chosen && world.downs_len(side) == 1
+}
+
+/// Whether a path that is reset takes the Reset with it, and another is due.
+fn is_lost_with_reset(world: &mut World, side: Side, path: u8) -> bool {
+    let lost = accepts(world, &[WorldEvent::PathReset { side, path }]);
+    lost && world.downs_len(side) == 0 && reset_number(world, side) == Some(3)
 }
 
 #[test]
 fn a_path_that_goes_down_takes_its_signals(rt: HostRuntime) {
-    let mut world = World::new(rt.alloc());
     let side = Side::Second;
-    let path_down = WorldEvent::PathDown { side, path: 4 };
-    assert!(rt; accepts(&mut world, &[choose(side, 4), path_down]));
-    assert!(rt; world.downs_len(side) == 0);
-    assert!(rt; matches!(world.hold(side).phase, HoldPhase::Reset { number: 2 }));
-    assert!(rt; accepts(&mut world, &[choose(side, 4)]));
-    assert!(rt; world.downs_len(side) == 0);
-    assert!(rt;
-        accepts(
-            &mut world,
-            &[WorldEvent::PathUp { side, path: 4 }, choose(side, 4)]
-        )
-    );
-    assert!(rt; world.downs_len(side) == 1);
-    assert!(rt; accepts(&mut world, &[WorldEvent::PathReset { side, path: 4 }]));
-    assert!(rt; world.downs_len(side) == 0);
-    assert!(rt; matches!(world.hold(side).phase, HoldPhase::Reset { number: 3 }));
-    assert!(rt; accepts(&mut world, &[WorldEvent::SubsystemReset]));
-    assert!(rt;
-        matches!(
-            world.hold(Side::First).phase,
-            HoldPhase::Reset { number: 1 }
-        )
-    );
-    assert!(rt; matches!(world.hold(side).phase, HoldPhase::Reset { number: 4 }));
+    let mut world = World::new(rt.alloc());
+    let lost = is_lost_with_path(&mut world, side, 4);
+    let nothing_sent = sends_nothing(&mut world, side, 4);
+    let sent = sends_when_up(&mut world, side, 4);
+    let lost_again = is_lost_with_reset(&mut world, side, 4);
+    let reset = accepts(&mut world, &[WorldEvent::SubsystemReset]);
+    let first_due = reset_number(&world, Side::First);
+    let due = reset_number(&world, side);
+    drop(world);
+    assert!(rt; lost, "the Select is lost");
+    assert!(rt; nothing_sent);
+    assert!(rt; sent);
+    assert!(rt; lost_again, "the Reset is lost");
+    assert!(rt; reset);
+    assert!(rt; first_due == Some(1));
+    assert!(rt; due == Some(4));
 }
 
 #[test]
 fn an_idle_unit_asks_for_attention(rt: HostRuntime) {
-    let mut world = World::new(rt.alloc());
     let side = Side::First;
-    assert!(rt;
-        accepts(
-            &mut world,
-            &[WorldEvent::Attention { side, path: 5 }, up(side)]
-        )
+    let mut world = World::new(rt.alloc());
+    let asked = accepts(
+        &mut world,
+        &[WorldEvent::Attention { side, path: 5 }, up(side)],
     );
-    assert!(rt; world.downs_len(side) == 1);
-    assert!(rt; accepts(&mut world, &[down(side)]));
-    assert!(rt; world.downs_len(side) == 0);
+    let sent = world.downs_len(side);
+    let answered = accepts(&mut world, &[down(side)]);
+    let left = world.downs_len(side);
+    drop(world);
+    assert!(rt; asked);
+    assert!(rt; sent == 1);
+    assert!(rt; answered);
+    assert!(rt; left == 0);
 }
 
-fn is_no_path(world: &mut World, event: &WorldEvent) -> bool {
-    matches!(world.step(event), Err(Fault::NoSuchPath))
+/// Whether each of the events is refused because there is no such path.
+fn are_no_paths(world: &mut World, events: &[WorldEvent]) -> bool {
+    let mut all = true;
+    for event in events {
+        all = matches!(world.step(event), Err(Fault::NoSuchPath)) && all;
+    }
+    all
 }
 
-fn is_not_sent(world: &mut World, event: &WorldEvent) -> bool {
-    matches!(world.step(event), Err(Fault::NotSent))
+/// Whether each of the events is refused because its signal was not sent.
+fn are_not_sent(world: &mut World, events: &[WorldEvent]) -> bool {
+    let mut all = true;
+    for event in events {
+        all = matches!(world.step(event), Err(Fault::NotSent)) && all;
+    }
+    all
 }
 
-fn is_not_now(world: &mut World, event: &WorldEvent) -> bool {
-    matches!(world.step(event), Err(Fault::NotNow))
+/// Whether each of the events is refused because it cannot be now.
+fn are_not_now(world: &mut World, events: &[WorldEvent]) -> bool {
+    let mut all = true;
+    for event in events {
+        all = matches!(world.step(event), Err(Fault::NotNow)) && all;
+    }
+    all
 }
 
-#[test]
-fn what_cannot_be_is_refused(rt: HostRuntime) {
-    let mut world = World::new(rt.alloc());
-    let side = Side::First;
-    for event in [
+/// Whether events whose paths are out of range are refused.
+fn refuses_paths(world: &mut World, side: Side) -> bool {
+    let events = [
         choose(side, 8),
         WorldEvent::PathDown { side, path: 8 },
         WorldEvent::PathUp { side, path: 9 },
@@ -228,18 +350,24 @@ fn what_cannot_be_is_refused(rt: HostRuntime) {
         WorldEvent::Ask { path: 8 },
         WorldEvent::Attention { side, path: 8 },
         WorldEvent::Notice { side, path: 8 },
-    ] {
-        assert!(rt; is_no_path(&mut world, &event));
-    }
-    for event in [
+    ];
+    are_no_paths(world, &events)
+}
+
+/// Whether events of signals that were not sent are refused.
+fn refuses_signals(world: &mut World, side: Side) -> bool {
+    let events = [
         down(side),
         up(side),
         WorldEvent::LoseDown { side, place: 0 },
         WorldEvent::LoseUp { side, place: 1 },
-    ] {
-        assert!(rt; is_not_sent(&mut world, &event));
-    }
-    for event in [
+    ];
+    are_not_sent(world, &events)
+}
+
+/// Whether events are refused that cannot be while no program holds the device.
+fn refuses_idle(world: &mut World, side: Side) -> bool {
+    let events = [
         WorldEvent::LetGo { side },
         WorldEvent::PathUp { side, path: 0 },
         WorldEvent::Leave,
@@ -252,42 +380,77 @@ fn what_cannot_be_is_refused(rt: HostRuntime) {
             sequence: 0,
             answer: DeviceAnswer::Begins,
         }),
-    ] {
-        assert!(rt; is_not_now(&mut world, &event));
-    }
-    assert!(rt; accepts(&mut world, &[choose(side, 0)]));
-    assert!(rt; is_not_now(&mut world, &choose(side, 0)));
-    assert!(rt; accepts(&mut world, &[WorldEvent::PathDown { side, path: 7 }]));
-    assert!(rt; is_not_now(&mut world, &WorldEvent::PathDown { side, path: 7 }));
-    assert!(rt; is_not_now(&mut world, &WorldEvent::PathReset { side, path: 7 }));
+    ];
+    are_not_now(world, &events)
+}
+
+#[test]
+fn what_cannot_be_is_refused(rt: HostRuntime) {
+    let side = Side::First;
+    let mut world = World::new(rt.alloc());
+    let paths_refused = refuses_paths(&mut world, side);
+    let signals_refused = refuses_signals(&mut world, side);
+    let idle_refused = refuses_idle(&mut world, side);
+    let chosen = accepts(&mut world, &[choose(side, 0)]);
+    let not_chosen_twice = are_not_now(&mut world, &[choose(side, 0)]);
+    let down_once = accepts(&mut world, &[WorldEvent::PathDown { side, path: 7 }]);
+    let not_down_twice = are_not_now(&mut world, &[WorldEvent::PathDown { side, path: 7 }]);
+    let not_reset = are_not_now(&mut world, &[WorldEvent::PathReset { side, path: 7 }]);
+    drop(world);
+    assert!(rt; paths_refused);
+    assert!(rt; signals_refused);
+    assert!(rt; idle_refused);
+    assert!(rt; chosen);
+    assert!(rt; not_chosen_twice);
+    assert!(rt; down_once);
+    assert!(rt; not_down_twice);
+    assert!(rt; not_reset);
 }
 
 #[test]
 fn a_run_passes_over_what_is_refused(rt: HostRuntime) {
-    let mut world = World::new(rt.alloc());
     let side = Side::Second;
-    let events = [
-        WorldEvent::LetGo { side },
-        choose(side, 5),
-        up(side),
-        down(side),
-        choose(side, 9),
-        up(side),
-    ];
-    assert!(rt; world.run(&events).is_ok());
-    assert!(rt; is_held_by(&world, side, 5, 0));
-    assert!(rt; world.accepted(side) == [1].as_slice());
+    let mut world = World::new(rt.alloc());
+    let run = world
+        .run(&[
+            WorldEvent::LetGo { side },
+            choose(side, 5),
+            up(side),
+            down(side),
+            choose(side, 9),
+            up(side),
+        ])
+        .is_ok();
+    let held = is_held_by(&world, side, 5, 0);
+    let accepted = is_first_accepted(&world, side);
+    drop(world);
+    assert!(rt; run);
+    assert!(rt; held);
+    assert!(rt; accepted);
+}
+
+/// Whether this event is accepted fifteen hundred times.
+fn repeats(world: &mut World, event: &WorldEvent) -> bool {
+    let mut all = true;
+    for _ in 0..1500 {
+        all = world.step(event).is_ok() && all;
+    }
+    all
 }
 
 #[test]
 fn more_than_a_thousand_signals_are_kept(rt: HostRuntime) {
-    let mut world = World::new(rt.alloc());
     let side = Side::First;
-    let attention = WorldEvent::Attention { side, path: 1 };
-    for _ in 0..1500 {
-        assert!(rt; world.step(&attention).is_ok());
-    }
-    assert!(rt; world.ups_len(side) == 1500);
-    assert!(rt; world.ups_len(Side::Second) == 0);
-    assert!(rt; world.run(&[WorldEvent::Restart, attention]).is_ok());
+    let mut world = World::new(rt.alloc());
+    let asked = repeats(&mut world, &WorldEvent::Attention { side, path: 1 });
+    let kept = world.ups_len(side);
+    let others = world.ups_len(Side::Second);
+    let run = world
+        .run(&[WorldEvent::Restart, WorldEvent::Attention { side, path: 1 }])
+        .is_ok();
+    drop(world);
+    assert!(rt; asked);
+    assert!(rt; kept == 1500);
+    assert!(rt; others == 0);
+    assert!(rt; run);
 }

@@ -7,48 +7,57 @@ use chan_model::names::{Cpu, Path, Side};
 use chan_model::report::{DeviceAnswer, Report};
 use storage_keys::key::Key;
 
-#[test]
-fn events_of_storage_are_copied(rt: HostRuntime) {
+/// Whether a Put is copied.
+fn is_put_copied() -> bool {
     let put = Event::Put {
         address: 0x500,
         bytes: Chunk::of(&[0xC1, 0xC2]),
     };
-    assert!(rt; matches!(put.copy(), Event::Put { address: 0x500, .. }));
-    match ChunkLength::new(256) {
-        Some(length) => {
-            let show = Event::Show {
-                address: 0x2000,
-                length,
-            };
-            assert!(rt;
-                matches!(
-                    show.copy(),
-                    Event::Show {
-                        address: 0x2000,
-                        ..
-                    }
-                )
-            );
+    matches!(put.copy(), Event::Put { address: 0x500, .. })
+}
+
+/// Whether a Show of this length is copied.
+fn is_show_copied(length: ChunkLength) -> bool {
+    let show = Event::Show {
+        address: 0x2000,
+        length,
+    };
+    matches!(
+        show.copy(),
+        Event::Show {
+            address: 0x2000,
+            ..
         }
-        None => assert!(rt; false, "the length is in range"),
-    }
+    )
+}
+
+/// Whether a SetKey is copied.
+fn is_key_copied() -> bool {
     let key = Event::SetKey {
         address: 0x2000,
         key: Key::of_byte(0x10),
     };
-    assert!(rt;
-        matches!(
-            key.copy(),
-            Event::SetKey {
-                key: Key { access: 1, .. },
-                ..
-            }
-        )
-    );
+    matches!(
+        key.copy(),
+        Event::SetKey {
+            key: Key { access: 1, .. },
+            ..
+        }
+    )
 }
 
 #[test]
-fn reports_are_copied(rt: HostRuntime) {
+fn events_of_storage_are_copied(rt: HostRuntime) {
+    let Some(length) = ChunkLength::new(256) else {
+        return assert!(rt; false, "the length is in range");
+    };
+    assert!(rt; is_put_copied());
+    assert!(rt; is_show_copied(length));
+    assert!(rt; is_key_copied());
+}
+
+/// The side of the copy of a report, and the numbers of its program, command and chunk; None where another unit reports.
+fn copied_report() -> Option<(Side, (u64, u64, u64))> {
     let report = Report {
         side: Side::Second,
         number: 1,
@@ -56,16 +65,28 @@ fn reports_are_copied(rt: HostRuntime) {
         sequence: 3,
         answer: DeviceAnswer::Supplied(Chunk::of(&[0xD1, 0xD2])),
     };
-    let copied = Event::Report { unit: 5, report }.copy();
-    let Event::Report { unit: 5, report } = copied else {
-        return assert!(rt; false, "the same unit reports");
-    };
-    assert!(rt; report.side.same(Side::Second));
-    assert!(rt; (report.number, report.command, report.sequence) == (1, 2, 3));
+    match (Event::Report { unit: 5, report }).copy() {
+        Event::Report { unit: 5, report } => {
+            Some((
+                report.side,
+                (report.number, report.command, report.sequence),
+            ))
+        }
+        _ => None,
+    }
 }
 
 #[test]
-fn events_of_units_and_requests_are_copied(rt: HostRuntime) {
+fn reports_are_copied(rt: HostRuntime) {
+    let Some((side, numbers)) = copied_report() else {
+        return assert!(rt; false, "the same unit reports");
+    };
+    assert!(rt; side.same(Side::Second));
+    assert!(rt; numbers == (1, 2, 3));
+}
+
+/// Whether the act of a unit is copied.
+fn is_act_copied() -> bool {
     let told = Event::Act {
         unit: 3,
         act: UnitAct::Notice {
@@ -73,27 +94,28 @@ fn events_of_units_and_requests_are_copied(rt: HostRuntime) {
             side: Side::Second,
         },
     };
-    assert!(rt;
-        matches!(
-            told.copy(),
-            Event::Act {
-                unit: 3,
-                act: UnitAct::Notice {
-                    path: 2,
-                    side: Side::Second
-                }
+    matches!(
+        told.copy(),
+        Event::Act {
+            unit: 3,
+            act: UnitAct::Notice {
+                path: 2,
+                side: Side::Second
             }
-        )
-    );
-    assert!(rt;
-        matches!(
-            (Event::Restart { unit: 5 }).copy(),
-            Event::Restart { unit: 5 }
-        )
-    );
-    let Some(cpu) = Cpu::new(2) else {
-        return assert!(rt; false, "the number is in range");
-    };
+        }
+    )
+}
+
+/// Whether the restart of a unit is copied.
+fn is_restart_copied() -> bool {
+    matches!(
+        (Event::Restart { unit: 5 }).copy(),
+        Event::Restart { unit: 5 }
+    )
+}
+
+/// What the copy of a TEST PENDING INTERRUPTION of this processor executes, and on which; None where it is another event.
+fn copied_request(cpu: Cpu) -> Option<(Cpu, OtherInstruction)> {
     let asked = Event::ExecuteOther {
         cpu,
         instruction: OtherInstruction::Tpi {
@@ -101,7 +123,20 @@ fn events_of_units_and_requests_are_copied(rt: HostRuntime) {
             address: 0x600,
         },
     };
-    let Event::ExecuteOther { cpu, instruction } = asked.copy() else {
+    match asked.copy() {
+        Event::ExecuteOther { cpu, instruction } => Some((cpu, instruction)),
+        _ => None,
+    }
+}
+
+#[test]
+fn events_of_units_and_requests_are_copied(rt: HostRuntime) {
+    assert!(rt; is_act_copied());
+    assert!(rt; is_restart_copied());
+    let Some(cpu) = Cpu::new(2) else {
+        return assert!(rt; false, "the number is in range");
+    };
+    let Some((cpu, instruction)) = copied_request(cpu) else {
         return assert!(rt; false, "the same instruction is executed");
     };
     assert!(rt; cpu.number() == 2);
@@ -118,34 +153,35 @@ fn events_of_units_and_requests_are_copied(rt: HostRuntime) {
 
 #[test]
 fn events_of_channel_paths_are_copied(rt: HostRuntime) {
-    assert!(rt;
-        matches!(
-            (Event::PathDown { chpid: 0x10 }).copy(),
-            Event::PathDown { chpid: 0x10 }
-        )
+    let down = matches!(
+        (Event::PathDown { chpid: 0x10 }).copy(),
+        Event::PathDown { chpid: 0x10 }
     );
-    assert!(rt;
-        matches!(
-            (Event::PathUp { chpid: 0x11 }).copy(),
-            Event::PathUp { chpid: 0x11 }
-        )
+    let up = matches!(
+        (Event::PathUp { chpid: 0x11 }).copy(),
+        Event::PathUp { chpid: 0x11 }
     );
-    assert!(rt;
-        matches!(
-            (Event::PathReset { chpid: 0xFF }).copy(),
-            Event::PathReset { chpid: 0xFF }
-        )
+    let path_reset = matches!(
+        (Event::PathReset { chpid: 0xFF }).copy(),
+        Event::PathReset { chpid: 0xFF }
     );
-    assert!(rt; matches!(Event::SystemReset.copy(), Event::SystemReset));
+    let system_reset = matches!(Event::SystemReset.copy(), Event::SystemReset);
+    assert!(rt; down);
+    assert!(rt; up);
+    assert!(rt; path_reset);
+    assert!(rt; system_reset);
 }
 
 #[test]
 fn replies_are_copied(rt: HostRuntime) {
-    assert!(rt; matches!(Reply::Pending.copy(), Reply::Pending));
+    let pending = matches!(Reply::Pending.copy(), Reply::Pending);
     let shown = Reply::Shown {
         bytes: Chunk::of(&[0xC1]),
     };
-    assert!(rt; matches!(shown.copy(), Reply::Shown { .. }));
+    let shown_too = matches!(shown.copy(), Reply::Shown { .. });
+    drop(shown);
+    assert!(rt; pending);
+    assert!(rt; shown_too);
 }
 
 /// The number and the path of a Reset, or of a Halt, that was sent: first of the one, then of the other.
@@ -159,13 +195,11 @@ fn sent(reply: &Reply) -> (Option<(u64, u64)>, Option<(u64, u64)>) {
 
 #[test]
 fn resets_and_halts_that_are_sent_are_copied(rt: HostRuntime) {
-    match Path::new(5) {
-        Some(path) => {
-            let reset = Reply::ResetSent { number: 3, path };
-            let halt = Reply::HaltSent { number: 4, path };
-            assert!(rt; sent(&reset.copy()) == (Some((3, 5)), None));
-            assert!(rt; sent(&halt.copy()) == (None, Some((4, 5))));
-        }
-        None => assert!(rt; false, "the path is in range"),
-    }
+    let Some(path) = Path::new(5) else {
+        return assert!(rt; false, "the path is in range");
+    };
+    let reset = sent(&(Reply::ResetSent { number: 3, path }).copy());
+    let halt = sent(&(Reply::HaltSent { number: 4, path }).copy());
+    assert!(rt; reset == (Some((3, 5)), None));
+    assert!(rt; halt == (None, Some((4, 5))));
 }

@@ -33,12 +33,19 @@ fn names_keep_their_range(rt: HostRuntime) {
 fn chunks_and_signals_are_copied(rt: HostRuntime) {
     let mut bytes = Chunk::of(&[0xC1, 0xC2]);
     bytes.push(0xC3);
-    assert!(rt; bytes.len() == 3);
-    assert!(rt; bytes.copy().as_slice() == [0xC1, 0xC2, 0xC3].as_slice());
-    assert!(rt; Load::Bytes(bytes.copy()).copy().len() == 3);
-    assert!(rt; Load::Absorbed(9).len() == 9);
-    assert!(rt; matches!(Down::Halt { number: 3 }.copy(), Down::Halt { number: 3 }));
-    assert!(rt; matches!(Up::Busy { number: 3 }.copy(), Up::Busy { number: 3 }));
+    let count = bytes.len();
+    let copied = bytes.copy().as_slice() == [0xC1, 0xC2, 0xC3].as_slice();
+    let loaded = Load::Bytes(bytes.copy()).copy().len();
+    drop(bytes);
+    let absorbed = Load::Absorbed(9).len();
+    let halt = matches!(Down::Halt { number: 3 }.copy(), Down::Halt { number: 3 });
+    let busy = matches!(Up::Busy { number: 3 }.copy(), Up::Busy { number: 3 });
+    assert!(rt; count == 3);
+    assert!(rt; copied);
+    assert!(rt; loaded == 3);
+    assert!(rt; absorbed == 9);
+    assert!(rt; halt);
+    assert!(rt; busy);
 }
 
 #[test]
@@ -51,12 +58,17 @@ fn reports_are_copied(rt: HostRuntime) {
         answer: DeviceAnswer::Supplied(Chunk::of(&[0xD1, 0xD2])),
     }
     .copy();
-    assert!(rt; report.side.same(Side::Second));
-    assert!(rt; (report.number, report.command, report.sequence) == (1, 2, 3));
-    let DeviceAnswer::Supplied(bytes) = report.answer.copy() else {
-        return assert!(rt; false, "bytes were supplied");
+    let side = report.side;
+    let numbers = (report.number, report.command, report.sequence);
+    let same_bytes = match report.answer.copy() {
+        DeviceAnswer::Supplied(bytes) => Some(bytes.as_slice() == [0xD1, 0xD2].as_slice()),
+        _ => None,
     };
-    assert!(rt; bytes.as_slice() == [0xD1, 0xD2].as_slice());
+    drop(report);
+    assert!(rt; side.same(Side::Second));
+    assert!(rt; numbers == (1, 2, 3));
+    assert!(rt; same_bytes.is_some(), "bytes were supplied");
+    assert!(rt; same_bytes == Some(true));
 }
 
 #[test]

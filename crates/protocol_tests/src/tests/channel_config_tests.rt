@@ -4,6 +4,7 @@ use chan_model::names::Side;
 use channel_config::config::{Config, ConfigFault};
 use channel_config::names::{SubchannelId, subchannel_named};
 use channel_config::parts::UnitKind;
+use std::alloc::Global;
 use supply::{Given, Refusing, Supply};
 
 #[test]
@@ -32,42 +33,68 @@ fn words_name_subchannels(rt: HostRuntime) {
 #[test]
 fn storage_and_sets_are_given_once(rt: HostRuntime) {
     let mut config = Config::new(rt.alloc());
-    assert!(rt; config.blocks() == None);
-    assert!(rt; config.storage(0xF) == Err(ConfigFault::Rule(1)));
-    assert!(rt; config.storage(0x1001) == Err(ConfigFault::Rule(1)));
-    assert!(rt; config.storage(0x1000) == Ok(()));
-    assert!(rt; config.storage(0x10) == Err(ConfigFault::Rule(1)));
-    assert!(rt; config.blocks() == Some(0x1000));
-    assert!(rt; config.set_count() == 1);
-    assert!(rt; config.sets(0) == Err(ConfigFault::Rule(8)));
-    assert!(rt; config.sets(5) == Err(ConfigFault::Rule(8)));
-    assert!(rt; config.sets(4) == Ok(()));
-    assert!(rt; config.sets(4) == Err(ConfigFault::Rule(8)));
-    assert!(rt; config.set_count() == 4);
+    let blocks_before = config.blocks();
+    let too_few = config.storage(0xF);
+    let too_many = config.storage(0x1001);
+    let given = config.storage(0x1000);
+    let given_twice = config.storage(0x10);
+    let blocks = config.blocks();
+    let sets_before = config.set_count();
+    let no_sets = config.sets(0);
+    let five_sets = config.sets(5);
+    let four_sets = config.sets(4);
+    let sets_twice = config.sets(4);
+    let sets = config.set_count();
+    drop(config);
+    assert!(rt; blocks_before == None);
+    assert!(rt; too_few == Err(ConfigFault::Rule(1)));
+    assert!(rt; too_many == Err(ConfigFault::Rule(1)));
+    assert!(rt; given == Ok(()));
+    assert!(rt; given_twice == Err(ConfigFault::Rule(1)));
+    assert!(rt; blocks == Some(0x1000));
+    assert!(rt; sets_before == 1);
+    assert!(rt; no_sets == Err(ConfigFault::Rule(8)));
+    assert!(rt; five_sets == Err(ConfigFault::Rule(8)));
+    assert!(rt; four_sets == Ok(()));
+    assert!(rt; sets_twice == Err(ConfigFault::Rule(8)));
+    assert!(rt; sets == 4);
+}
+
+/// Whether so many units are accepted, numbered from 0.
+fn accepts_units(config: &mut Config, count: u32) -> bool {
+    let mut all = true;
+    for number in 0..count {
+        all = config.unit(number, UnitKind::Block) == Ok(()) && all;
+    }
+    all
 }
 
 #[test]
 fn paths_and_units_are_named_once(rt: HostRuntime) {
     let mut config = Config::new(rt.alloc());
-    assert!(rt; config.path(0x100) == Err(ConfigFault::Rule(2)));
-    assert!(rt; config.path(0xFF) == Ok(()));
-    assert!(rt; config.path(0x10) == Ok(()));
-    assert!(rt; config.path(0xFF) == Err(ConfigFault::Rule(2)));
-    assert!(rt; config.paths() == [0xFF, 0x10].as_slice());
-    assert!(rt; config.unit(1, UnitKind::Block) == Err(ConfigFault::Rule(3)));
-    for number in 0..0x400 {
-        assert!(rt; config.unit(number, UnitKind::Block) == Ok(()));
-    }
-    assert!(rt; config.unit(0x400, UnitKind::Block) == Err(ConfigFault::Rule(3)));
-    assert!(rt; config.units().len() == 0x400);
+    let out_of_range = config.path(0x100);
+    let first = config.path(0xFF);
+    let second = config.path(0x10);
+    let path_twice = config.path(0xFF);
+    let in_order = config.paths() == [0xFF, 0x10].as_slice();
+    let out_of_turn = config.unit(1, UnitKind::Block);
+    let units_accepted = accepts_units(&mut config, 0x400);
+    let one_more = config.unit(0x400, UnitKind::Block);
+    let count = config.units().len();
+    drop(config);
+    assert!(rt; out_of_range == Err(ConfigFault::Rule(2)));
+    assert!(rt; first == Ok(()));
+    assert!(rt; second == Ok(()));
+    assert!(rt; path_twice == Err(ConfigFault::Rule(2)));
+    assert!(rt; in_order, "the paths are in the order they were given in");
+    assert!(rt; out_of_turn == Err(ConfigFault::Rule(3)));
+    assert!(rt; units_accepted);
+    assert!(rt; one_more == Err(ConfigFault::Rule(3)));
+    assert!(rt; count == 0x400);
 }
 
-#[test]
-fn units_share_in_groups(rt: HostRuntime) {
-    let mut config = Config::new(rt.alloc());
-    for number in 0..6 {
-        assert!(rt; config.unit(number, UnitKind::Block) == Ok(()));
-    }
+/// Whether each line that shares units is answered as its rule has it.
+fn shares(config: &mut Config) -> bool {
     let lines: [(&[u32], Result<(), ConfigFault>); 7] = [
         (&[0, 6], Err(ConfigFault::Rule(6))),
         (&[1, 0, 1], Err(ConfigFault::Rule(6))),
@@ -77,34 +104,66 @@ fn units_share_in_groups(rt: HostRuntime) {
         (&[2, 3], Ok(())),
         (&[5, 2], Err(ConfigFault::Rule(6))),
     ];
+    let mut all = true;
     for (units, wanted) in lines {
-        assert!(rt; config.share(units) == wanted);
+        all = config.share(units) == wanted && all;
     }
-    match config.groups_with(rt.alloc(), &mut Given { refused: false }) {
-        Ok(groups) => assert!(rt; groups.as_slice() == [0, 4, 2, 2, 4, 5].as_slice()),
-        Err(_) => assert!(rt; false, "the allocator has room"),
+    all
+}
+
+/// Whether the units are in the groups that they share in; None where there is no memory.
+fn are_grouped(alloc: Global, config: &Config) -> Option<bool> {
+    match config.groups_with(alloc, &mut Given { refused: false }) {
+        Ok(groups) => Some(groups.as_slice() == [0, 4, 2, 2, 4, 5].as_slice()),
+        Err(_) => None,
     }
+}
+
+/// Whether the groups are refused where fewer than six requests are granted, and only there.
+fn are_groups_refused(alloc: Global, config: &Config) -> bool {
+    let mut all = true;
     for left in 0..8 {
         let mut supply = Refusing {
             left,
             refused: false,
         };
-        assert!(rt; config.groups_with(rt.alloc(), &mut supply).is_err() == (left < 6));
-        assert!(rt; supply.refused == (left < 6));
+        let refused = config.groups_with(alloc, &mut supply).is_err();
+        all = refused == (left < 6) && supply.refused == (left < 6) && all;
     }
+    all
 }
 
 #[test]
-fn subchannels_use_what_there_is(rt: HostRuntime) {
+fn units_share_in_groups(rt: HostRuntime) {
     let mut config = Config::new(rt.alloc());
+    let units_accepted = accepts_units(&mut config, 6);
+    let shared = shares(&mut config);
+    let grouped = are_grouped(rt.alloc(), &config);
+    let refused = are_groups_refused(rt.alloc(), &config);
+    drop(config);
+    assert!(rt; units_accepted);
+    assert!(rt; shared);
+    assert!(rt; grouped.is_some(), "the allocator has room");
+    assert!(rt; grouped == Some(true));
+    assert!(rt; refused);
+}
+
+/// Whether nine channel paths, two units and two subchannel sets are accepted.
+fn accepts_parts(config: &mut Config) -> bool {
+    let mut paths = true;
     for chpid in 0x10..0x19 {
-        assert!(rt; config.path(chpid) == Ok(()));
+        paths = config.path(chpid) == Ok(()) && paths;
     }
-    assert!(rt; config.unit(0, UnitKind::Block) == Ok(()));
-    assert!(rt; config.unit(1, UnitKind::Block) == Ok(()));
-    assert!(rt; config.sets(2) == Ok(()));
+    let first = config.unit(0, UnitKind::Block) == Ok(());
+    let second = config.unit(1, UnitKind::Block) == Ok(());
+    let sets = config.sets(2) == Ok(());
+    paths && first && second && sets
+}
+
+/// Whether a subchannel is refused by the rule that it breaks, for each rule.
+fn refuses_subchannels(config: &mut Config) -> bool {
     let all = [0x10, 0x11, 0x12, 0x13, 0x14, 0x15, 0x16, 0x17, 0x18];
-    assert!(rt; config.subchannel(0x0001_0000, 0xFFFF, 0, &all[..8]) == Ok(()));
+    let mut refused = true;
     for (word, device, unit, paths, rule) in [
         (0x0000_0001, 0x100, 1, &all[..1], 7),
         (0x0005_0000, 0x100, 1, &all[..1], 7),
@@ -117,21 +176,47 @@ fn subchannels_use_what_there_is(rt: HostRuntime) {
         (0x0001_0001, 0x100, 1, &[0x19], 5),
         (0x0001_0001, 0x100, 1, &[0x10, 0x11, 0x10], 5),
     ] {
-        assert!(rt; config.subchannel(word, device, unit, paths) == Err(ConfigFault::Rule(rule)));
+        let answer = config.subchannel(word, device, unit, paths);
+        refused = answer == Err(ConfigFault::Rule(rule)) && refused;
     }
-    assert!(rt; config.subchannel(0x0003_0000, 0x100, 0, &[0x18, 0x10]) == Ok(()));
-    assert!(rt; config.subchannel(0x0001_0001, 0x100, 0, &[0x10]) == Err(ConfigFault::Rule(4)));
-    assert!(rt; config.sets(2) == Err(ConfigFault::Rule(8)));
+    refused
+}
+
+/// Whether there are two subchannels, and the second is that of the second side of unit 0.
+fn has_second(config: &Config) -> bool {
     match config.subchannels() {
         [_, second] => {
-            assert!(rt; second.id == SubchannelId { set: 1, number: 0 });
-            assert!(rt; second.device == 0x100);
-            assert!(rt; second.unit == 0);
-            assert!(rt; second.side == Side::Second);
-            assert!(rt; second.paths.as_slice() == [0x18, 0x10].as_slice());
+            second.id == SubchannelId { set: 1, number: 0 }
+                && second.device == 0x100
+                && second.unit == 0
+                && second.side == Side::Second
+                && second.paths.as_slice() == [0x18, 0x10].as_slice()
         }
-        others => assert!(rt; others.len() == 2),
+        _ => false,
     }
+}
+
+#[test]
+fn subchannels_use_what_there_is(rt: HostRuntime) {
+    let eight = [0x10, 0x11, 0x12, 0x13, 0x14, 0x15, 0x16, 0x17];
+    let mut config = Config::new(rt.alloc());
+    let parts_accepted = accepts_parts(&mut config);
+    let first = config.subchannel(0x0001_0000, 0xFFFF, 0, &eight);
+    let refused = refuses_subchannels(&mut config);
+    let second = config.subchannel(0x0003_0000, 0x100, 0, &[0x18, 0x10]);
+    let third = config.subchannel(0x0001_0001, 0x100, 0, &[0x10]);
+    let sets_too_late = config.sets(2);
+    let count = config.subchannels().len();
+    let second_kept = has_second(&config);
+    drop(config);
+    assert!(rt; parts_accepted);
+    assert!(rt; first == Ok(()));
+    assert!(rt; refused);
+    assert!(rt; second == Ok(()));
+    assert!(rt; third == Err(ConfigFault::Rule(4)));
+    assert!(rt; sets_too_late == Err(ConfigFault::Rule(8)));
+    assert!(rt; count == 2);
+    assert!(rt; second_kept);
 }
 
 /// A path, a unit, which grows two lists, and a subchannel.
@@ -141,25 +226,36 @@ fn fill<S: Supply>(config: &mut Config, supply: &mut S) -> Result<(), ConfigFaul
     config.subchannel_with(supply, 0x1_0000, 0x100, 0, &[0x10])
 }
 
+/// Whether a configuration to which so many requests are granted has what they were asked for, and no more.
+fn fills_as_granted(alloc: Global, left: u64) -> bool {
+    let mut config = Config::new(alloc);
+    let mut supply = Refusing {
+        left,
+        refused: false,
+    };
+    let wanted = if left < 4 {
+        Err(ConfigFault::NoMemory)
+    } else {
+        Ok(())
+    };
+    let filled = fill(&mut config, &mut supply);
+    filled == wanted
+        && supply.refused == (left < 4)
+        && config.paths().len() == (usize::from(left > 0))
+        && config.units().len() == (usize::from(left > 2))
+        && config.subchannels().len() == (usize::from(left > 3))
+}
+
+/// Whether a configuration is filled where no request is refused.
+fn fills(alloc: Global) -> bool {
+    let mut config = Config::new(alloc);
+    fill(&mut config, &mut Given { refused: false }) == Ok(())
+}
+
 #[test]
 fn each_growth_is_refused_in_turn(rt: HostRuntime) {
     for left in 0..6 {
-        let mut config = Config::new(rt.alloc());
-        let mut supply = Refusing {
-            left,
-            refused: false,
-        };
-        let wanted = if left < 4 {
-            Err(ConfigFault::NoMemory)
-        } else {
-            Ok(())
-        };
-        assert!(rt; fill(&mut config, &mut supply) == wanted);
-        assert!(rt; supply.refused == (left < 4));
-        assert!(rt; config.paths().len() == (usize::from(left > 0)));
-        assert!(rt; config.units().len() == (usize::from(left > 2)));
-        assert!(rt; config.subchannels().len() == (usize::from(left > 3)));
-        let mut again = Config::new(rt.alloc());
-        assert!(rt; fill(&mut again, &mut Given { refused: false }) == Ok(()));
+        assert!(rt; fills_as_granted(rt.alloc(), left), "{left}");
+        assert!(rt; fills(rt.alloc()));
     }
 }

@@ -10,11 +10,8 @@ use signal_places::plain::PlainReply;
 use signal_places::sent::{SentDown, SentUp};
 use signal_places::signals::DownPlace;
 
-#[test]
-fn a_place_has_what_was_written_last(rt: HostRuntime) {
-    let path = Path::new(5).unwrap();
-    let mut sent = SentDown::new();
-    assert!(rt; sent.get().is_none());
+/// Whether the last of two Gives is put into another place, with its own bytes alone.
+fn is_last_put(sent: &mut SentDown, path: Path) -> bool {
     sent.put_give(path, 1, 2, 3, 4, &[0xC1, 0xC2, 0xC3]);
     sent.put_give(path, 1, 2, 3, 5, &[0xC4]);
     let mut place = DownPlace::new();
@@ -22,23 +19,36 @@ fn a_place_has_what_was_written_last(rt: HostRuntime) {
         place.put_from(signal);
     }
     let signal = place.signal();
-    assert!(rt;
-        matches!(&signal, Down::Give { sequence: 5, bytes, .. } if bytes.as_slice() == [0xC4].as_slice()),
-        "the last Give, with its own bytes alone"
-    );
+    matches!(&signal, Down::Give { sequence: 5, bytes, .. } if bytes.as_slice() == [0xC4].as_slice())
+}
+
+/// Whether a Halt is sent that is put over what was there.
+fn is_halt_put(sent: &mut SentDown, path: Path) -> bool {
     sent.put(path, KeptDown::Halt { number: 9 });
     let halt = sent.signal();
-    assert!(rt;
-        matches!(
-            halt,
-            Some(OnPath {
-                signal: Down::Halt { number: 9 },
-                ..
-            })
-        )
-    );
+    matches!(
+        halt,
+        Some(OnPath {
+            signal: Down::Halt { number: 9 },
+            ..
+        })
+    )
+}
+
+#[test]
+fn a_place_has_what_was_written_last(rt: HostRuntime) {
+    let path = Path::new(5).unwrap();
+    let mut sent = SentDown::new();
+    let empty = sent.get().is_none();
+    let last = is_last_put(&mut sent, path);
+    let halted = is_halt_put(&mut sent, path);
     sent.clear();
-    assert!(rt; sent.signal().is_none());
+    let cleared = sent.signal().is_none();
+    drop(sent);
+    assert!(rt; empty);
+    assert!(rt; last, "the last Give, with its own bytes alone");
+    assert!(rt; halted);
+    assert!(rt; cleared);
 }
 
 #[test]
@@ -59,28 +69,30 @@ fn an_answer_is_read_off_its_place(rt: HostRuntime) {
     let mut answer = Ok(Reply::Done);
     place.tell(Err(Fault::WireFull));
     place.answer_to(&mut answer);
-    assert!(rt; matches!(answer, Err(Fault::WireFull)));
+    let full = matches!(answer, Err(Fault::WireFull));
     place.tell(Ok(PlainReply::Pending));
     let replied = place.is_reply();
-    assert!(rt; replied);
     place.answer_to(&mut answer);
-    assert!(rt; matches!(answer, Ok(Reply::Pending)));
+    let pending = matches!(answer, Ok(Reply::Pending));
     place.show(&[1, 2, 3]);
     place.answer_to(&mut answer);
-    assert!(rt;
-        matches!(&answer, Ok(Reply::Shown { bytes }) if bytes.as_slice() == [1, 2, 3].as_slice()),
-        "the bytes that were shown"
-    );
+    let shown =
+        matches!(&answer, Ok(Reply::Shown { bytes }) if bytes.as_slice() == [1, 2, 3].as_slice());
     place.outcome = Outcome::MetDown { taken: false };
     place.answer_to(&mut answer);
-    assert!(rt;
-        matches!(
-            answer,
-            Ok(Reply::Down {
-                taken: false,
-                sent: None,
-                ..
-            })
-        )
+    let met = matches!(
+        answer,
+        Ok(Reply::Down {
+            taken: false,
+            sent: None,
+            ..
+        })
     );
+    drop(place);
+    drop(answer);
+    assert!(rt; full);
+    assert!(rt; replied);
+    assert!(rt; pending);
+    assert!(rt; shown, "the bytes that were shown");
+    assert!(rt; met);
 }

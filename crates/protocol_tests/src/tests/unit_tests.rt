@@ -36,6 +36,29 @@ fn read(room: u16) -> Down {
     }
 }
 
+fn select() -> Down {
+    Down::Select { number: 1 }
+}
+
+/// One byte of a write.
+fn give() -> Down {
+    Down::Give {
+        number: 1,
+        connection: 0,
+        command: 1,
+        sequence: 1,
+        bytes: Chunk::of(&[7]),
+    }
+}
+
+/// The second connection of the program is granted.
+fn grant() -> Down {
+    Down::Grant {
+        number: 1,
+        connection: 1,
+    }
+}
+
 fn took(sequence: u64, room: u16) -> Down {
     Down::Took {
         number: 1,
@@ -50,6 +73,11 @@ fn ended() -> DeviceAnswer {
         status: DeviceStatus::end(),
         more: false,
     }
+}
+
+/// Whether the unit takes a signal of a side that came by this path.
+fn takes(unit: &mut Unit, side: Side, path: Path, signal: &Down) -> bool {
+    unit.take(side, path, signal, true).taken
 }
 
 /// The unit takes a report, while its chunks have small numbers.
@@ -68,15 +96,53 @@ fn reported(unit: &mut Unit, report: &Report) -> Taken<Up> {
     }
 }
 
-/// The unit asks for a path, while its connections have small numbers.
-fn is_asked_for(unit: &mut Unit, path: Path) -> bool {
+/// What the unit sends to ask for a path, while its connections have small numbers.
+fn asked_for(unit: &mut Unit, path: Path) -> Option<OnPath<Up>> {
     let Own::Owned { place, .. } = unit.own() else {
-        return false;
+        return None;
     };
     let Place::Away { connection } = place else {
-        return false;
+        return None;
     };
-    connection < 8 && unit.ask(path).is_some()
+    if connection < 8 { unit.ask(path) } else { None }
+}
+
+/// What the unit sends to ask for attention, while its attentions have small numbers.
+fn attended(unit: &mut Unit, side: Side, path: Path) -> Option<OnPath<Up>> {
+    if unit.state().attentions < 8 {
+        unit.attention(side, path)
+    } else {
+        None
+    }
+}
+
+/// The unit is restarted, while its restarts are few.
+fn restart(unit: &mut Unit) {
+    if unit.state().restarts < 8 {
+        unit.restart();
+    }
+}
+
+/// The code of the command that the device is to begin.
+fn code_to_begin(unit: &Unit) -> Option<u8> {
+    let Some(Work::Call { call, .. }) = unit.work() else {
+        return None;
+    };
+    let Call::Initial { code } = call else {
+        return None;
+    };
+    Some(code)
+}
+
+/// How many bytes of a write the device is to absorb.
+fn count_to_absorb(unit: &Unit) -> Option<usize> {
+    let Some(Work::Call { call, .. }) = unit.work() else {
+        return None;
+    };
+    let Call::Absorb { bytes } = call else {
+        return None;
+    };
+    Some(bytes.len())
 }
 
 /// How many bytes of a read the device is asked for.
@@ -100,6 +166,31 @@ fn is_to_finish(unit: &Unit) -> bool {
     )
 }
 
+/// Whether the first chunk is to be sent again, without a call of the device.
+fn is_to_send_again(unit: &Unit) -> bool {
+    matches!(
+        unit.work(),
+        Some(Work::Report(Report {
+            sequence: 1,
+            answer: DeviceAnswer::Again,
+            ..
+        }))
+    )
+}
+
+/// The path that the signal of a report is to be sent on.
+fn path_of(unit: &Unit, report: &Report) -> Option<usize> {
+    match unit.report_path(report) {
+        ReportPath::SentOn(path) => Some(path.index()),
+        _ => None,
+    }
+}
+
+/// Whether a report is stale or against the law of devices.
+fn is_refused(unit: &Unit, report: &Report) -> bool {
+    matches!(unit.report_path(report), ReportPath::Refused)
+}
+
 /// The connection and the chunk of the Data that was sent, and how many bytes it brings.
 fn data_of(came: Taken<Up>) -> Option<(u64, u64, usize)> {
     let Some(OnPath { signal, .. }) = came.sent else {
@@ -117,6 +208,40 @@ fn data_of(came: Taken<Up>) -> Option<(u64, u64, usize)> {
     Some((connection, sequence, load.len()))
 }
 
+/// The chunk of the Data that was sent, and how many bytes of a write it says to be absorbed.
+fn absorbed_of(came: Taken<Up>) -> Option<(u64, u16)> {
+    let Some(OnPath { signal, .. }) = came.sent else {
+        return None;
+    };
+    let Up::Data { sequence, load, .. } = signal else {
+        return None;
+    };
+    match load {
+        Load::Absorbed(count) => Some((sequence, count)),
+        Load::Bytes(_) => None,
+    }
+}
+
+/// Whether the end of the command was sent, and the device had no more bytes.
+fn is_end(came: Taken<Up>) -> bool {
+    let end = came.sent.map(|sent| sent.signal);
+    matches!(
+        end,
+        Some(Up::End {
+            number: 1,
+            command: 1,
+            more: false,
+            ..
+        })
+    )
+}
+
+/// Whether a Notice of one restart was sent.
+fn is_notice(sent: Option<OnPath<Up>>) -> bool {
+    let notice = sent.map(|sent| sent.signal);
+    matches!(notice, Some(Up::Notice { restarts: 1 }))
+}
+
 fn connected_path(unit: &Unit) -> Option<usize> {
     let Own::Owned { place, .. } = unit.own() else {
         return None;
@@ -127,311 +252,298 @@ fn connected_path(unit: &Unit) -> Option<usize> {
     Some(path.index())
 }
 
-#[test]
-fn a_write_is_carried_out(rt: HostRuntime) {
-    let mut unit = Unit::new();
-    let path = Path::new(6).unwrap();
-    let select = Down::Select { number: 1 };
-    assert!(rt; unit.answers(Side::First, &select));
-    let accept = unit.take(Side::First, path, &select, true).sent;
-    assert!(rt;
-        matches!(
-            accept.map(|sent| sent.signal),
-            Some(Up::Accept { number: 1 })
-        )
-    );
-    assert!(rt; unit.take(Side::First, path, &write(), true).taken);
-    assert!(rt;
-        matches!(
-            unit.work(),
-            Some(Work::Call {
-                call: Call::Initial { code: 1 },
-                ..
-            })
-        )
-    );
-    let begins = answer(0, DeviceAnswer::Begins);
-    assert!(rt; matches!(unit.report_path(&begins), ReportPath::SentOn(path) if path.index() == 6));
-    let asked = reported(&mut unit, &begins).sent.map(|sent| sent.signal);
-    assert!(rt;
-        matches!(
-            asked,
-            Some(Up::Data {
-                sequence: 0,
-                load: Load::Absorbed(0),
-                ..
-            })
-        )
-    );
-    let give = Down::Give {
-        number: 1,
-        connection: 0,
-        command: 1,
-        sequence: 1,
-        bytes: Chunk::of(&[7]),
-    };
-    assert!(rt; unit.take(Side::First, path, &give, true).taken);
-    assert!(rt;
-        matches!(unit.work(), Some(Work::Call { call: Call::Absorb { bytes }, .. }) if bytes.len() == 1)
-    );
-    let moved = reported(&mut unit, &answer(1, DeviceAnswer::Absorbed(1)))
-        .sent
-        .map(|sent| sent.signal);
-    assert!(rt;
-        matches!(
-            moved,
-            Some(Up::Data {
-                sequence: 1,
-                load: Load::Absorbed(1),
-                ..
-            })
-        )
-    );
-    let took = Down::Took {
-        number: 1,
-        command: 1,
-        sequence: 1,
-        room: 0,
-    };
-    assert!(rt; unit.take(Side::First, path, &took, true).taken);
-    assert!(rt;
-        matches!(
-            unit.work(),
-            Some(Work::Call {
-                call: Call::Finish,
-                ..
-            })
-        )
-    );
-    let ended = answer(
-        1,
-        DeviceAnswer::Ended {
-            status: DeviceStatus::end(),
-            more: false,
-        },
-    );
-    let end = reported(&mut unit, &ended).sent.map(|sent| sent.signal);
-    assert!(rt;
-        matches!(
-            end,
-            Some(Up::End {
-                number: 1,
-                command: 1,
-                more: false,
-                ..
-            })
-        )
-    );
-    assert!(rt; unit.work().is_none());
+/// Whether Select is answered by Accept.
+fn is_accepted(unit: &mut Unit, path: Path) -> bool {
+    let accept = unit.take(Side::First, path, &select(), true).sent;
+    matches!(
+        accept.map(|sent| sent.signal),
+        Some(Up::Accept { number: 1 })
+    )
+}
+
+/// Whether Release is answered by Released.
+fn is_released(unit: &mut Unit, path: Path) -> bool {
     let release = unit
         .take(Side::First, path, &Down::Release { number: 1 }, true)
         .sent;
-    assert!(rt;
-        matches!(
-            release.map(|sent| sent.signal),
-            Some(Up::Released { number: 1 })
-        )
-    );
-    assert!(rt; matches!(unit.own(), Own::Idle));
+    matches!(
+        release.map(|sent| sent.signal),
+        Some(Up::Released { number: 1 })
+    )
+}
+
+#[test]
+fn a_write_is_carried_out(rt: HostRuntime) {
+    let side = Side::First;
+    let path = Path::new(6).unwrap();
+    let mut unit = Unit::new();
+    let answered = unit.answers(side, &select());
+    let accepted = is_accepted(&mut unit, path);
+    let commanded = takes(&mut unit, side, path, &write());
+    let code = code_to_begin(&unit);
+    let asked_on = path_of(&unit, &answer(0, DeviceAnswer::Begins));
+    let asked = absorbed_of(reported(&mut unit, &answer(0, DeviceAnswer::Begins)));
+    let given = takes(&mut unit, side, path, &give());
+    let count = count_to_absorb(&unit);
+    let moved = absorbed_of(reported(&mut unit, &answer(1, DeviceAnswer::Absorbed(1))));
+    let noted = takes(&mut unit, side, path, &took(1, 0));
+    let to_finish = is_to_finish(&unit);
+    let end = is_end(reported(&mut unit, &answer(1, ended())));
+    let rests = unit.work().is_none();
+    let released = is_released(&mut unit, path);
+    let idle = matches!(unit.own(), Own::Idle);
+    drop(unit);
+    assert!(rt; answered);
+    assert!(rt; accepted);
+    assert!(rt; commanded);
+    assert!(rt; code == Some(1));
+    assert!(rt; asked_on == Some(6));
+    assert!(rt; asked == Some((0, 0)));
+    assert!(rt; given);
+    assert!(rt; count == Some(1));
+    assert!(rt; moved == Some((1, 1)));
+    assert!(rt; noted);
+    assert!(rt; to_finish);
+    assert!(rt; end);
+    assert!(rt; rests);
+    assert!(rt; released);
+    assert!(rt; idle);
+}
+
+/// Whether a read of this room is selected and commanded by this path.
+fn is_read_commanded(unit: &mut Unit, path: Path, room: u16) -> bool {
+    let selected = takes(unit, Side::First, path, &select());
+    let commanded = takes(unit, Side::First, path, &read(room));
+    selected && commanded
+}
+
+/// Whether the read begins, and nothing is sent.
+fn is_read_begun(unit: &mut Unit) -> bool {
+    let begins = answer(0, DeviceAnswer::Begins);
+    let sends_nothing = matches!(unit.report_path(&begins), ReportPath::NothingSent);
+    let begun = reported(unit, &begins);
+    sends_nothing && begun.taken && begun.sent.is_none()
+}
+
+/// Whether the first chunk of a read is brought, and its report is refused from then on, before its Took and after it.
+fn is_first_brought(unit: &mut Unit, path: Path) -> bool {
+    let first = answer(0, DeviceAnswer::Supplied(Chunk::of(&[0xD1; 64])));
+    let brought = data_of(reported(unit, &first)) == Some((0, 1, 64));
+    let rests = unit.work().is_none();
+    let refused = is_refused(unit, &first);
+    let noted = takes(unit, Side::First, path, &took(1, 2));
+    let still_refused = is_refused(unit, &first);
+    brought && rests && refused && noted && still_refused
+}
+
+/// Whether three bytes are refused where two are asked for.
+fn is_longer_refused(unit: &Unit) -> bool {
+    let longer = answer(1, DeviceAnswer::Supplied(Chunk::of(&[0xD2; 3])));
+    is_refused(unit, &longer)
+}
+
+/// The connection and the chunk of the Data that brings the last two bytes of a read, and how many it brings.
+fn second_brought(unit: &mut Unit) -> Option<(u64, u64, usize)> {
+    let second = answer(1, DeviceAnswer::Supplied(Chunk::of(&[0xD2; 2])));
+    data_of(reported(unit, &second))
 }
 
 #[test]
 fn a_read_is_carried_out(rt: HostRuntime) {
-    let mut unit = Unit::new();
-    let side = Side::First;
     let path = Path::new(6).unwrap();
-    assert!(rt;
-        unit.take(side, path, &Down::Select { number: 1 }, true)
-            .taken
-    );
-    assert!(rt; unit.take(side, path, &read(64), true).taken);
-    assert!(rt;
-        matches!(
-            unit.work(),
-            Some(Work::Call {
-                call: Call::Initial { code: 2 },
-                ..
-            })
-        )
-    );
-    let begins = answer(0, DeviceAnswer::Begins);
-    assert!(rt; matches!(unit.report_path(&begins), ReportPath::NothingSent));
-    let begun = reported(&mut unit, &begins);
-    assert!(rt; begun.taken && begun.sent.is_none());
-    assert!(rt; most_asked(&unit) == Some(64));
-    let first = answer(0, DeviceAnswer::Supplied(Chunk::of(&[0xD1; 64])));
-    assert!(rt; data_of(reported(&mut unit, &first)) == Some((0, 1, 64)));
-    assert!(rt; unit.work().is_none());
-    assert!(rt; matches!(unit.report_path(&first), ReportPath::Refused));
-    assert!(rt; unit.take(side, path, &took(1, 2), true).taken);
-    assert!(rt; matches!(unit.report_path(&first), ReportPath::Refused));
-    assert!(rt; most_asked(&unit) == Some(2));
-    let longer = answer(1, DeviceAnswer::Supplied(Chunk::of(&[0xD2; 3])));
-    assert!(rt; matches!(unit.report_path(&longer), ReportPath::Refused));
-    let second = answer(1, DeviceAnswer::Supplied(Chunk::of(&[0xD2; 2])));
-    assert!(rt; data_of(reported(&mut unit, &second)) == Some((0, 2, 2)));
-    assert!(rt; !reported(&mut unit, &answer(2, ended())).taken);
-    assert!(rt; unit.take(side, path, &took(2, 0), true).taken);
-    assert!(rt; is_to_finish(&unit));
-    let end = reported(&mut unit, &answer(2, ended())).sent;
-    assert!(rt;
-        matches!(
-            end.map(|sent| sent.signal),
-            Some(Up::End {
-                number: 1,
-                command: 1,
-                more: false,
-                ..
-            })
-        )
-    );
-    assert!(rt; unit.work().is_none());
+    let mut unit = Unit::new();
+    let commanded = is_read_commanded(&mut unit, path, 64);
+    let code = code_to_begin(&unit);
+    let begun = is_read_begun(&mut unit);
+    let most = most_asked(&unit);
+    let first_brought = is_first_brought(&mut unit, path);
+    let rest = most_asked(&unit);
+    let longer_refused = is_longer_refused(&unit);
+    let second = second_brought(&mut unit);
+    let ended_early = reported(&mut unit, &answer(2, ended())).taken;
+    let noted = takes(&mut unit, Side::First, path, &took(2, 0));
+    let to_finish = is_to_finish(&unit);
+    let end = is_end(reported(&mut unit, &answer(2, ended())));
+    let rests = unit.work().is_none();
+    drop(unit);
+    assert!(rt; commanded);
+    assert!(rt; code == Some(2));
+    assert!(rt; begun);
+    assert!(rt; most == Some(64));
+    assert!(rt; first_brought);
+    assert!(rt; rest == Some(2));
+    assert!(rt; longer_refused);
+    assert!(rt; second == Some((0, 2, 2)));
+    assert!(rt; !ended_early);
+    assert!(rt; noted);
+    assert!(rt; to_finish);
+    assert!(rt; end);
+    assert!(rt; rests);
 }
 
 #[test]
 fn a_read_ends_where_there_is_no_room(rt: HostRuntime) {
-    let mut unit = Unit::new();
-    let side = Side::First;
     let path = Path::new(0).unwrap();
-    assert!(rt;
-        unit.take(side, path, &Down::Select { number: 1 }, true)
-            .taken
-    );
-    assert!(rt; unit.take(side, path, &read(0), true).taken);
-    assert!(rt; reported(&mut unit, &answer(0, DeviceAnswer::Begins)).taken);
-    assert!(rt; is_to_finish(&unit));
-    let none = answer(0, DeviceAnswer::Supplied(Chunk::new()));
-    assert!(rt; matches!(unit.report_path(&none), ReportPath::Refused));
-    assert!(rt; reported(&mut unit, &answer(0, ended())).taken);
+    let mut unit = Unit::new();
+    let commanded = is_read_commanded(&mut unit, path, 0);
+    let begun = reported(&mut unit, &answer(0, DeviceAnswer::Begins)).taken;
+    let to_finish = is_to_finish(&unit);
+    let none_refused = is_refused(&unit, &answer(0, DeviceAnswer::Supplied(Chunk::new())));
+    let end = reported(&mut unit, &answer(0, ended())).taken;
+    drop(unit);
+    assert!(rt; commanded);
+    assert!(rt; begun);
+    assert!(rt; to_finish);
+    assert!(rt; none_refused);
+    assert!(rt; end);
 }
 
 #[test]
 fn a_read_ends_where_the_device_has_no_more(rt: HostRuntime) {
-    let mut unit = Unit::new();
-    let side = Side::First;
     let path = Path::new(0).unwrap();
-    assert!(rt;
-        unit.take(side, path, &Down::Select { number: 1 }, true)
-            .taken
-    );
-    assert!(rt; unit.take(side, path, &read(300), true).taken);
-    assert!(rt; reported(&mut unit, &answer(0, DeviceAnswer::Begins)).taken);
-    assert!(rt; most_asked(&unit) == Some(256));
-    let none = answer(0, DeviceAnswer::Supplied(Chunk::new()));
-    assert!(rt; data_of(reported(&mut unit, &none)) == Some((0, 1, 0)));
-    assert!(rt; unit.take(side, path, &took(1, 256), true).taken);
-    assert!(rt; is_to_finish(&unit));
+    let mut unit = Unit::new();
+    let commanded = is_read_commanded(&mut unit, path, 300);
+    let begun = reported(&mut unit, &answer(0, DeviceAnswer::Begins)).taken;
+    let most = most_asked(&unit);
+    let none = data_of(reported(&mut unit, &answer(0, DeviceAnswer::Supplied(Chunk::new()))));
+    let noted = takes(&mut unit, Side::First, path, &took(1, 256));
+    let to_finish = is_to_finish(&unit);
+    drop(unit);
+    assert!(rt; commanded);
+    assert!(rt; begun);
+    assert!(rt; most == Some(256));
+    assert!(rt; none == Some((0, 1, 0)));
+    assert!(rt; noted);
+    assert!(rt; to_finish);
+}
+
+/// The connection and the chunk of the Data that brings the first two bytes of a read, and how many it brings.
+fn two_brought(unit: &mut Unit) -> Option<(u64, u64, usize)> {
+    let bytes = answer(0, DeviceAnswer::Supplied(Chunk::of(&[0xC1, 0xC2])));
+    data_of(reported(unit, &bytes))
 }
 
 #[test]
 fn what_was_not_answered_is_sent_again(rt: HostRuntime) {
-    let mut unit = Unit::new();
-    let side = Side::First;
     let first = Path::new(0).unwrap();
     let second = Path::new(1).unwrap();
-    assert!(rt;
-        unit.take(side, first, &Down::Select { number: 1 }, true)
-            .taken
-    );
-    assert!(rt; unit.take(side, first, &read(8), true).taken);
-    assert!(rt; reported(&mut unit, &answer(0, DeviceAnswer::Begins)).taken);
-    let bytes = answer(0, DeviceAnswer::Supplied(Chunk::of(&[0xC1, 0xC2])));
-    assert!(rt; data_of(reported(&mut unit, &bytes)) == Some((0, 1, 2)));
-    let again = answer(1, DeviceAnswer::Again);
-    assert!(rt; matches!(unit.report_path(&again), ReportPath::Refused));
-    assert!(rt; unit.leave().is_some());
-    assert!(rt; is_asked_for(&mut unit, second));
-    assert!(rt; unit.work().is_none());
-    let grant = Down::Grant {
-        number: 1,
-        connection: 1,
-    };
-    assert!(rt; unit.take(side, second, &grant, true).taken);
-    assert!(rt;
-        matches!(
-            unit.work(),
-            Some(Work::Report(Report {
-                sequence: 1,
-                answer: DeviceAnswer::Again,
-                ..
-            }))
-        )
-    );
-    assert!(rt; matches!(unit.report_path(&again), ReportPath::SentOn(path) if path.index() == 1));
-    assert!(rt; data_of(reported(&mut unit, &again)) == Some((1, 1, 2)));
-    assert!(rt; unit.work().is_none());
-    assert!(rt; !reported(&mut unit, &again).taken);
+    let mut unit = Unit::new();
+    let commanded = is_read_commanded(&mut unit, first, 8);
+    let begun = reported(&mut unit, &answer(0, DeviceAnswer::Begins)).taken;
+    let brought = two_brought(&mut unit);
+    let refused = is_refused(&unit, &answer(1, DeviceAnswer::Again));
+    let left = unit.leave().is_some();
+    let asked = asked_for(&mut unit, second).is_some();
+    let waits = unit.work().is_none();
+    let granted = takes(&mut unit, Side::First, second, &grant());
+    let to_send_again = is_to_send_again(&unit);
+    let again_on = path_of(&unit, &answer(1, DeviceAnswer::Again));
+    let again = data_of(reported(&mut unit, &answer(1, DeviceAnswer::Again)));
+    let rests = unit.work().is_none();
+    let taken_twice = reported(&mut unit, &answer(1, DeviceAnswer::Again)).taken;
+    drop(unit);
+    assert!(rt; commanded);
+    assert!(rt; begun);
+    assert!(rt; brought == Some((0, 1, 2)));
+    assert!(rt; refused);
+    assert!(rt; left);
+    assert!(rt; asked);
+    assert!(rt; waits);
+    assert!(rt; granted);
+    assert!(rt; to_send_again);
+    assert!(rt; again_on == Some(1));
+    assert!(rt; again == Some((1, 1, 2)));
+    assert!(rt; rests);
+    assert!(rt; !taken_twice);
+}
+
+/// Whether the unit leaves the path of the first connection.
+fn leaves(unit: &mut Unit) -> bool {
+    let leave = unit.leave().map(|sent| sent.signal);
+    matches!(
+        leave,
+        Some(Up::Leave {
+            number: 1,
+            connection: 0
+        })
+    )
+}
+
+/// Whether the unit asks for this path for the second connection.
+fn asks_back(unit: &mut Unit, path: Path) -> bool {
+    let back = asked_for(unit, path).map(|sent| sent.signal);
+    matches!(
+        back,
+        Some(Up::Back {
+            number: 1,
+            connection: 1
+        })
+    )
 }
 
 #[test]
 fn a_path_is_left_and_asked_for(rt: HostRuntime) {
-    let mut unit = Unit::new();
     let first = Path::new(0).unwrap();
     let second = Path::new(1).unwrap();
-    assert!(rt;
-        unit.take(Side::Second, first, &Down::Select { number: 1 }, true)
-            .taken
-    );
-    let leave = unit.leave().map(|sent| sent.signal);
-    assert!(rt;
-        matches!(
-            leave,
-            Some(Up::Leave {
-                number: 1,
-                connection: 0
-            })
-        )
-    );
-    let back = unit.ask(second).map(|sent| sent.signal);
-    assert!(rt;
-        matches!(
-            back,
-            Some(Up::Back {
-                number: 1,
-                connection: 1
-            })
-        )
-    );
-    let grant = Down::Grant {
-        number: 1,
-        connection: 1,
-    };
-    assert!(rt; unit.take(Side::Second, second, &grant, true).taken);
-    assert!(rt; connected_path(&unit) == Some(1));
+    let mut unit = Unit::new();
+    let selected = takes(&mut unit, Side::Second, first, &select());
+    let left = leaves(&mut unit);
+    let asked = asks_back(&mut unit, second);
+    let granted = takes(&mut unit, Side::Second, second, &grant());
+    let connected = connected_path(&unit);
+    drop(unit);
+    assert!(rt; selected);
+    assert!(rt; left);
+    assert!(rt; asked);
+    assert!(rt; granted);
+    assert!(rt; connected == Some(1));
 }
 
-#[test]
-fn a_restart_is_told_to_both_sides(rt: HostRuntime) {
-    let mut unit = Unit::new();
-    let path = Path::new(3).unwrap();
-    let attention = unit.attention(Side::First, path).map(|sent| sent.signal);
-    assert!(rt; matches!(attention, Some(Up::Attn { attention: 1, .. })));
-    unit.restart();
-    let notice = unit.notice(Side::Second, path).map(|sent| sent.signal);
-    assert!(rt; matches!(notice, Some(Up::Notice { restarts: 1 })));
-    let select = unit
-        .take(Side::First, path, &Down::Select { number: 4 }, true)
-        .sent;
-    assert!(rt;
-        matches!(
-            select.map(|sent| sent.signal),
-            Some(Up::Notice { restarts: 1 })
-        )
-    );
+/// Whether the unit asks the first side for its first attention.
+fn asks_for_attention(unit: &mut Unit, path: Path) -> bool {
+    let attention = attended(unit, Side::First, path).map(|sent| sent.signal);
+    matches!(attention, Some(Up::Attn { attention: 1, .. }))
+}
+
+/// Whether Select of a program of this number is answered by a Notice.
+fn is_told(unit: &mut Unit, path: Path, number: u64) -> bool {
+    is_notice(
+        unit.take(Side::First, path, &Down::Select { number }, true)
+            .sent,
+    )
+}
+
+/// Whether Reset is answered by Cleared.
+fn is_cleared(unit: &mut Unit, path: Path) -> bool {
     let reset = Down::Reset {
         number: 5,
         restarts: 1,
     };
     let cleared = unit.take(Side::First, path, &reset, true).sent;
-    assert!(rt;
-        matches!(
-            cleared.map(|sent| sent.signal),
-            Some(Up::Cleared { number: 5 })
-        )
-    );
-    let state = unit.state();
-    assert!(rt; state.first.floor == 5 && !state.first.fresh);
-    assert!(rt; state.second.floor == 0 && state.second.fresh);
+    matches!(
+        cleared.map(|sent| sent.signal),
+        Some(Up::Cleared { number: 5 })
+    )
+}
+
+#[test]
+fn a_restart_is_told_to_both_sides(rt: HostRuntime) {
+    let path = Path::new(3).unwrap();
+    let mut unit = Unit::new();
+    let asked = asks_for_attention(&mut unit, path);
+    restart(&mut unit);
+    let noticed = is_notice(unit.notice(Side::Second, path));
+    let told = is_told(&mut unit, path, 4);
+    let cleared = is_cleared(&mut unit, path);
+    let first = unit.state().first;
+    let second = unit.state().second;
+    drop(unit);
+    assert!(rt; asked);
+    assert!(rt; noticed);
+    assert!(rt; told);
+    assert!(rt; cleared);
+    assert!(rt; first.floor == 5 && !first.fresh);
+    assert!(rt; second.floor == 0 && second.fresh);
 }
 
 /// The status of the attention that was sent.
@@ -445,13 +557,15 @@ fn attention_status(sent: Option<OnPath<Up>>) -> Option<DeviceStatus> {
 
 #[test]
 fn an_owed_control_unit_end_is_said_once(rt: HostRuntime) {
-    let mut unit = Unit::new();
     let path = Path::new(0).unwrap();
-    assert!(rt; unit.is_idle());
+    let mut unit = Unit::new();
+    let idle = unit.is_idle();
     unit.owe(true);
     unit.owe(false);
-    let first = unit.attention(Side::First, path);
-    assert!(rt; attention_status(first) == Some(DeviceStatus::CONTROL_UNIT_END));
-    let second = unit.attention(Side::First, path);
-    assert!(rt; attention_status(second) == Some(DeviceStatus::ATTENTION));
+    let first = attention_status(attended(&mut unit, Side::First, path));
+    let second = attention_status(attended(&mut unit, Side::First, path));
+    drop(unit);
+    assert!(rt; idle);
+    assert!(rt; first == Some(DeviceStatus::CONTROL_UNIT_END));
+    assert!(rt; second == Some(DeviceStatus::ATTENTION));
 }

@@ -21,66 +21,140 @@ fn first_up(wires: &Wires, path: Path) -> Option<Up> {
     }
 }
 
+/// Whether a Select of this number is sent down, where there is room.
+fn sends_down(wires: &mut Wires, path: Path, number: u64) -> bool {
+    let room = !wires.down_is_full(path);
+    if room {
+        wires.send_down(path, &DownPlace::of(&Down::Select { number }));
+    }
+    room
+}
+
+/// The first number whose Select finds no room where there should be some, or room where there should be none.
+fn wrong_room_down(wires: &mut Wires, path: Path) -> Option<u64> {
+    let mut wrong = None;
+    for number in 1..10 {
+        let room = sends_down(wires, path, number);
+        if wrong.is_none() && room != (number < 9) {
+            wrong = Some(number);
+        }
+    }
+    wrong
+}
+
+/// Whether the Select of this number waits longest on the way down; the signal that does is let go.
+fn is_first_down(wires: &mut Wires, path: Path, number: u64) -> bool {
+    let waits = wires.front_down(path).is_some();
+    let first = first_down(wires, path);
+    if waits {
+        wires.drop_down(path);
+    }
+    matches!(first, Some(Down::Select { number: n }) if n == number)
+}
+
+/// The first number whose Select does not come in its turn.
+fn wrong_turn_down(wires: &mut Wires, path: Path) -> Option<u64> {
+    let mut wrong = None;
+    for number in 1..9 {
+        let is_first = is_first_down(wires, path, number);
+        if wrong.is_none() && !is_first {
+            wrong = Some(number);
+        }
+    }
+    wrong
+}
+
 #[test]
 fn signals_arrive_in_order(rt: HostRuntime) {
     let mut wires = Wires::new();
     let path = Path::new(7).unwrap();
-    for number in 1..10 {
-        let room = !wires.down_is_full(path);
-        assert!(rt; room == (number < 9), "room for {number}");
-        if room {
-            wires.send_down(path, &DownPlace::of(&Down::Select { number }));
+    let wrong_room = wrong_room_down(&mut wires, path);
+    let wrong_turn = wrong_turn_down(&mut wires, path);
+    let empty = wires.front_down(path).is_none();
+    drop(wires);
+    assert!(rt; wrong_room == None, "room for eight");
+    assert!(rt; wrong_turn == None, "each waits, and is first in its turn");
+    assert!(rt; empty);
+}
+
+/// Whether a Busy of this number is sent up, where there is room.
+fn sends_up(wires: &mut Wires, path: Path, number: u64) -> bool {
+    let room = !wires.up_is_full(path);
+    if room {
+        wires.send_up(path, &UpPlace::of(&Up::Busy { number }));
+    }
+    room
+}
+
+/// Whether the Busy of this number waits longest on the way up; the signal that does is let go.
+fn is_first_up(wires: &mut Wires, path: Path, number: u64) -> bool {
+    let waits = wires.front_up(path).is_some();
+    let first = first_up(wires, path);
+    if waits {
+        wires.drop_up(path);
+    }
+    matches!(first, Some(Up::Busy { number: n }) if n == number)
+}
+
+/// Whether there is room for a Busy of this number, behind that of five before it.
+fn goes_round(wires: &mut Wires, path: Path, number: u64) -> bool {
+    let room = sends_up(wires, path, number);
+    if number > 5 {
+        let is_first = is_first_up(wires, path, number - 5);
+        room && is_first
+    } else {
+        room
+    }
+}
+
+/// The first number whose Busy finds no room, or is not behind that of five before it.
+fn wrong_round_up(wires: &mut Wires, path: Path) -> Option<u64> {
+    let mut wrong = None;
+    for number in 1..20 {
+        let goes = goes_round(wires, path, number);
+        if wrong.is_none() && !goes {
+            wrong = Some(number);
         }
     }
-    for number in 1..9 {
-        let waits = wires.front_down(path).is_some();
-        assert!(rt; waits, "{number} waits");
-        let first = first_down(&wires, path);
-        assert!(rt;
-            matches!(first, Some(Down::Select { number: n }) if n == number),
-            "{number} is first"
-        );
-        wires.drop_down(path);
-    }
-    assert!(rt; wires.front_down(path).is_none());
+    wrong
 }
 
 #[test]
 fn signals_go_round(rt: HostRuntime) {
     let mut wires = Wires::new();
     let path = Path::new(3).unwrap();
-    for number in 1..20 {
-        let room = !wires.up_is_full(path);
-        assert!(rt; room, "room for {number}");
-        wires.send_up(path, &UpPlace::of(&Up::Busy { number }));
-        if number > 5 {
-            let waits = wires.front_up(path).is_some();
-            assert!(rt; waits, "{number} is behind another");
-            let first = first_up(&wires, path);
-            assert!(rt;
-                matches!(first, Some(Up::Busy { number: n }) if n == number - 5),
-                "five before {number}"
-            );
-            wires.drop_up(path);
-        }
+    let wrong = wrong_round_up(&mut wires, path);
+    drop(wires);
+    assert!(rt; wrong == None, "room for each, and five before it is first");
+}
+
+/// Whether a Halt is sent down, where there is room.
+fn sends_halt(wires: &mut Wires, path: Path) -> bool {
+    let room = !wires.down_is_full(path);
+    if room {
+        wires.send_down(path, &DownPlace::of(&Down::Halt { number: 5 }));
     }
+    room
 }
 
 #[test]
 fn signals_are_lost_with_their_path(rt: HostRuntime) {
     let mut wires = Wires::new();
     let path = Path::new(0).unwrap();
-    let busy = UpPlace::of(&Up::Busy { number: 5 });
-    assert!(rt; !wires.up_is_full(path));
-    wires.send_up(path, &busy);
-    assert!(rt; matches!(first_up(&wires, path), Some(Up::Busy { number: 5 })));
-    wires.drop_up(path);
-    assert!(rt; wires.front_up(path).is_none());
-    assert!(rt; !wires.up_is_full(path));
-    wires.send_up(path, &busy);
-    assert!(rt; !wires.down_is_full(path));
-    wires.send_down(path, &DownPlace::of(&Down::Halt { number: 5 }));
+    let room_up = sends_up(&mut wires, path, 5);
+    let came_first = is_first_up(&mut wires, path, 5);
+    let none_waits = wires.front_up(path).is_none();
+    let room_again = sends_up(&mut wires, path, 5);
+    let room_down = sends_halt(&mut wires, path);
     wires.lose(path);
-    assert!(rt; wires.front_up(path).is_none());
-    assert!(rt; wires.front_down(path).is_none());
+    let up_lost = wires.front_up(path).is_none();
+    let down_lost = wires.front_down(path).is_none();
+    drop(wires);
+    assert!(rt; room_up);
+    assert!(rt; came_first);
+    assert!(rt; none_waits);
+    assert!(rt; room_again);
+    assert!(rt; room_down);
+    assert!(rt; up_lost);
+    assert!(rt; down_lost);
 }
