@@ -33,8 +33,7 @@ fn a_good_script_is_run_or_approved(rt: HostRuntime) {
     let write = Scene::of_a_write(&rt);
     assert!(rt; write.is_right(&rt));
     let (out, status) = served(&rt, "check", write.text());
-    assert!(rt; out.as_slice() == b"script ok\n".as_slice());
-    assert!(rt; status == 0);
+    assert!(rt; out.as_slice() == b"script ok\n".as_slice() && status == 0);
 }
 
 #[test]
@@ -48,8 +47,7 @@ fn a_race_is_told(rt: HostRuntime) {
         b"race cc0 1 cc1 399 cc2 0 cc3 0 entries 400 audit ok",
     );
     let (out, status) = served(&rt, "race", scene.text());
-    assert!(rt; out.as_slice() == scene.printed());
-    assert!(rt; status == 0);
+    assert!(rt; out.as_slice() == scene.printed() && status == 0);
 }
 
 #[test]
@@ -62,8 +60,7 @@ fn a_bad_line_is_told_alone(rt: HostRuntime) {
     for (text, printed) in rows {
         for word in ["run", "check"] {
             let (out, status) = served(&rt, word, text);
-            assert!(rt; out.as_slice() == printed);
-            assert!(rt; status == 2);
+            assert!(rt; out.as_slice() == printed && status == 2);
         }
     }
 }
@@ -89,11 +86,11 @@ fn a_text_that_is_not_read_is_not_served(rt: HostRuntime) {
         let outcome = serve(&rt, rt.alloc(), &["chsim", "run"], &mut reader, &mut sink);
         let out = sink.writer;
         if fails_at == 0 || fails_at > reader.reader.calls {
-            assert!(rt; out.as_slice() == write.printed());
-            assert!(rt; ends(outcome, 0, None));
+            assert!(rt; out.as_slice() == write.printed() && ends(outcome, 0, None));
         } else {
-            assert!(rt; out.len() == 0);
-            assert!(rt; ends(outcome, 2, Some("chsim: standard input could not be read")));
+            assert!(rt;
+                out.len() == 0 && ends(outcome, 2, Some("chsim: standard input could not be read"))
+            );
         }
     }
 }
@@ -113,11 +110,9 @@ fn nothing_is_performed_after_a_write_fails(rt: HostRuntime) {
         let out = sink.writer;
         assert!(rt; write.printed().starts_with(out.text.as_slice()));
         if fails_at == 0 || fails_at > out.calls {
-            assert!(rt; out.text.as_slice() == write.printed());
-            assert!(rt; ends(outcome, 0, None));
+            assert!(rt; out.text.as_slice() == write.printed() && ends(outcome, 0, None));
         } else {
-            assert!(rt; out.calls == fails_at);
-            assert!(rt; ends(outcome, 1, Some(UNWRITTEN)));
+            assert!(rt; out.calls == fails_at && ends(outcome, 1, Some(UNWRITTEN)));
         }
     }
 }
@@ -141,13 +136,16 @@ fn each_request_before_the_first_event_is_refused_in_turn(rt: HostRuntime) {
     for left in 0..1_000u64 {
         let (out, ending, refused) = served_with(&rt, write.text(), left);
         if refused {
-            assert!(rt; ending == Ending::NoMemory { whole: true });
-            assert!(rt; out.as_slice() == b"refused 1\n".as_slice());
-            assert!(rt; refusals == left);
+            assert!(rt;
+                ending == Ending::NoMemory { whole: true }
+                    && out.as_slice() == b"refused 1\n".as_slice()
+                    && refusals == left
+            );
             refusals = left + 1;
         } else {
-            assert!(rt; ending == Ending::Done { refused: false });
-            assert!(rt; out.as_slice() == write.printed());
+            assert!(rt;
+                ending == Ending::Done { refused: false } && out.as_slice() == write.printed()
+            );
         }
     }
     // The text, its 22 lines, and the nine requests of the machine and its device at least.
@@ -170,8 +168,7 @@ fn other_words_show_a_text(rt: HostRuntime) {
         let outcome = serve(&rt, rt.alloc(), words, &mut reader, &mut sink);
         let out = sink.writer;
         assert!(rt; out.as_slice().starts_with(begins.as_bytes()), "{begins}");
-        assert!(rt; ends(outcome, 2, None));
-        assert!(rt; reader.reader.len() == GOOD.len());
+        assert!(rt; ends(outcome, 2, None) && reader.reader.len() == GOOD.len());
     }
 }
 
@@ -192,7 +189,6 @@ fn what_is_not_written_is_told(rt: HostRuntime) {
             fails_at: 1,
         });
         let outcome = serve(&rt, rt.alloc(), words, &mut reader, &mut sink);
-        assert!(rt; sink.writer.text.len() == 0);
-        assert!(rt; ends(outcome, status, Some(UNWRITTEN)));
+        assert!(rt; sink.writer.text.len() == 0 && ends(outcome, status, Some(UNWRITTEN)));
     }
 }

@@ -98,11 +98,8 @@ impl<J: Naming> Installation<J> {
         ensures given { OnOk result (S.refused supply.new ≡ S.refused supply.old) }
         ensures memory { OnErr result (S.refused supply.new ≡ true) }
     {
-        let devices = opening_devices(alloc, supply, config.units())?;
-        let kept = no_reports(alloc, supply, config.units().len())?;
-        let mut core = opening_core(alloc, supply, config, parts)?;
-        let seat = one_seat(supply, &mut core)?;
-        let racers = Racers::new(alloc, supply, &mut core, cpus)?;
+        let (devices, kept) = opening_units(alloc, supply, config.units())?;
+        let (core, seat, racers) = opening_seats(alloc, supply, config, parts, cpus)?;
         let installation = Installation {
             core,
             seat,
@@ -385,6 +382,29 @@ fn opening_core<J: Naming, S: CoreSupply>(
     }
 }
 
+/// A core at its opening, with its first seat, and as many CPUs more that are to race.
+fn opening_seats<J: Naming, S: CoreSupply>(
+    alloc: Global,
+    supply: &mut S,
+    config: Config,
+    parts: Parts,
+    cpus: u32,
+) -> Result<(Core<J, Rotating>, Seat<J>, Racers<J>), AllocError>
+    requires named { parts.name ≡ J.name }
+    requires directory { parts.name.directory ≡ directory_of (opening_of config) }
+    requires serials { parts.serials ≡ all_serials (opening_of config) }
+    ensures past { IfOk result (λ all. past_of all.0 all.1 ≡ record { state = opening_of config; history = []; room = 0 }) }
+    ensures books { IfOk result (λ all. books_of all.0 all.1 true ≡ spec.opening_books) }
+    ensures racers { IfOk result (λ all. AreMade cpus all.2) }
+    ensures given { OnOk result (S.refused supply.new ≡ S.refused supply.old) }
+    ensures memory { OnErr result (S.refused supply.new ≡ true) }
+{
+    let mut core = opening_core(alloc, supply, config, parts)?;
+    let seat = one_seat(supply, &mut core)?;
+    let racers = Racers::new(alloc, supply, &mut core, cpus)?;
+    Ok((core, seat, racers))
+}
+
 /// What a seat sees of the serials of the subchannel that a word names; None where it knows none of that name.
 fn found_by<J: Naming>(seat: &mut Seat<J>, subchannel: u32) -> Option<Serials>
     ensures number { seat.new.value.number ≡ seat.old.value.number }
@@ -443,6 +463,22 @@ fn no_reports<S: Supply>(
         push(supply, &mut kept, None)?;
     }
     Ok(kept)
+}
+
+/// The device of each unit at its opening, and no report for it.
+fn opening_units<S: Supply>(
+    alloc: Global,
+    supply: &mut S,
+    kinds: &[UnitKind],
+) -> Result<(Vec<AnyDevice>, Vec<Option<Report>>), AllocError>
+    ensures devices { IfOk result (λ both. both.0.items ≡ map device_of kinds.now) }
+    ensures kept { IfOk result (λ both. both.1.items ≡ replicate (length kinds.now) None) }
+    ensures given { OnOk result (S.refused supply.new ≡ S.refused supply.old) }
+    ensures memory { OnErr result (S.refused supply.new ≡ true) }
+{
+    let devices = opening_devices(alloc, supply, kinds)?;
+    let kept = no_reports(alloc, supply, kinds.len())?;
+    Ok((devices, kept))
 }
 
 /// The device of each unit, at its opening.

@@ -22,8 +22,7 @@ fn read_64_bytes() -> Ccw {
 fn a_block_of_each_format(rt: HostRuntime) {
     let ccw = read_64_bytes();
     let one = [0x02, 0x64, 0, 0x40, 0, 0, 0x20, 0];
-    assert!(rt; Ccw::read(Format::One, &one) == Ok(ccw));
-    assert!(rt; ccw.write(Format::One) == one);
+    assert!(rt; Ccw::read(Format::One, &one) == Ok(ccw) && ccw.write(Format::One) == one);
     let zero = [0x02, 0, 0x20, 0, 0x64, 0, 0, 0x40];
     assert!(rt; Ccw::read(Format::Zero, &zero) == Ok(ccw));
     if ccw.address < 0x100_0000 {
@@ -48,8 +47,10 @@ fn a_transfer_in_channel(rt: HostRuntime) {
         count: 0,
         address: 0x1008,
     };
-    assert!(rt; Ccw::read(Format::One, &[8, 0, 0, 0, 0, 0, 0x10, 8]) == Ok(target));
-    assert!(rt; Ccw::read(Format::Zero, &[0x38, 0, 0x10, 8, 0xFF, 0xFF, 0, 1]) == Ok(target));
+    assert!(rt;
+        Ccw::read(Format::One, &[8, 0, 0, 0, 0, 0, 0x10, 8]) == Ok(target)
+            && Ccw::read(Format::Zero, &[0x38, 0, 0x10, 8, 0xFF, 0xFF, 0, 1]) == Ok(target)
+    );
 }
 
 #[test]
@@ -85,7 +86,13 @@ fn classes_by_low_bits(rt: HostRuntime) {
     ] {
         assert!(rt; class(command) == wanted);
     }
-    assert!(rt; is_transfer(Format::Zero, 0x18) && !is_transfer(Format::One, 0x18));
-    assert!(rt; is_valid(Format::Zero, 0x18) && !is_valid(Format::One, 0x18));
-    assert!(rt; is_valid(Format::One, 8) && is_valid(Format::One, 1) && !is_valid(Format::One, 0));
+    assert!(rt;
+        is_transfer(Format::Zero, 0x18)
+            && !is_transfer(Format::One, 0x18)
+            && is_valid(Format::Zero, 0x18)
+            && !is_valid(Format::One, 0x18)
+            && is_valid(Format::One, 8)
+            && is_valid(Format::One, 1)
+            && !is_valid(Format::One, 0)
+    );
 }

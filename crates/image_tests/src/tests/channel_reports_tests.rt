@@ -20,10 +20,14 @@ fn the_last_of_sixteen_says_that_one_was_lost(rt: HostRuntime) {
         };
     }
     drop(reports);
-    assert!(rt; words[0] == 0x0406_0010 && words[1] == 0x0401_0010);
-    assert!(rt; words[13] == 0x0401_0010 && words[14] == 0x0406_0010);
-    assert!(rt; words[15] == 0x2401_0010);
-    assert!(rt; words[16] == 0);
+    assert!(rt;
+        words[0] == 0x0406_0010
+            && words[1] == 0x0401_0010
+            && words[13] == 0x0401_0010
+            && words[14] == 0x0406_0010
+            && words[15] == 0x2401_0010
+            && words[16] == 0
+    );
 }
 
 #[test]
@@ -38,14 +42,15 @@ fn a_reset_is_asked_for_once_until_it_is_done(rt: HostRuntime) {
     let done_once = !reports.reset_done(0x10) && reports.stcrw().is_none();
     let asked_again = reports.rchp(0x10, true);
     drop(reports);
-    assert!(rt; first == ConditionCode::Zero);
-    assert!(rt; second == ConditionCode::Two);
-    assert!(rt; of_path_down == ConditionCode::Three);
-    assert!(rt; one_asked);
-    assert!(rt; done);
-    assert!(rt; reported == Some(0x4402_0010));
-    assert!(rt; done_once);
-    assert!(rt; asked_again == ConditionCode::Zero);
+    assert!(rt;
+        first == ConditionCode::Zero
+            && second == ConditionCode::Two
+            && of_path_down == ConditionCode::Three
+            && one_asked
+    );
+    assert!(rt;
+        done && reported == Some(0x4402_0010) && done_once && asked_again == ConditionCode::Zero
+    );
 }
 
 #[test]
@@ -58,8 +63,10 @@ fn a_path_that_goes_down_is_not_asked_for(rt: HostRuntime) {
     reports.add(PathReport::Back, 1);
     let back = reports.stcrw().map(Crw::word);
     drop(reports);
-    assert!(rt; accepted == ConditionCode::Zero);
-    assert!(rt; !is_asked);
-    assert!(rt; lost == Some(0x0406_00FF));
-    assert!(rt; back == Some(0x0401_0001));
+    assert!(rt;
+        accepted == ConditionCode::Zero
+            && !is_asked
+            && lost == Some(0x0406_00FF)
+            && back == Some(0x0401_0001)
+    );
 }

@@ -43,15 +43,13 @@ fn one_unit_of_a_group_is_served(rt: HostRuntime) {
     let over_2 = sharing.over(2);
     let at_last = served(&mut sharing);
     drop(sharing);
-    assert!(rt; at_first == [true; 6]);
-    assert!(rt; beside_2 == [false, true, true, true, true, true]);
-    assert!(rt; beside_2_and_3 == [false, false, true, true, true, true]);
-    assert!(rt; over_3);
-    assert!(rt; !over_3_again);
-    assert!(rt; !over_4);
-    assert!(rt; !over_5);
-    assert!(rt; over_2);
-    assert!(rt; at_last == [true; 6]);
+    assert!(rt;
+        at_first == [true; 6]
+            && beside_2 == [false, true, true, true, true, true]
+            && beside_2_and_3 == [false, false, true, true, true, true]
+    );
+    assert!(rt; over_3 && !over_3_again && !over_4);
+    assert!(rt; !over_5 && over_2 && at_last == [true; 6]);
 }
 
 /// Whether the room of the five units is there, and each of them may be served.
@@ -70,8 +68,7 @@ fn each_request_for_room_is_refused_in_turn(rt: HostRuntime) {
             refused: false,
         };
         let is_refused = Sharing::new_with(rt.alloc(), &mut supply, &GROUPS).is_err();
-        assert!(rt; is_refused == (left < REQUESTS));
-        assert!(rt; supply.refused == (left < REQUESTS));
+        assert!(rt; is_refused == (left < REQUESTS) && supply.refused == (left < REQUESTS));
         let mut supply = Given { refused: false };
         assert!(rt; is_made(rt.alloc(), &mut supply), "the allocator has room");
         assert!(rt; !supply.refused);

@@ -49,14 +49,18 @@ fn the_oldest_request_of_the_lowest_enabled_subclass_is_answered(
     let last_of_subclass_3 = answered(&mut pending, 0x10);
     let none_left = answered(&mut pending, 0xFF);
     drop(pending);
-    assert!(rt; none_yet == None);
-    assert!(rt; oldest_of_subclass_3 == Some(2));
-    assert!(rt; none_enabled == None);
-    assert!(rt; lowest == Some(3));
-    assert!(rt; next_of_subclass_3 == Some(0));
-    assert!(rt; of_subclass_7 == Some(4));
-    assert!(rt; last_of_subclass_3 == Some(1));
-    assert!(rt; none_left == None);
+    assert!(rt;
+        none_yet == None
+            && oldest_of_subclass_3 == Some(2)
+            && none_enabled == None
+            && lowest == Some(3)
+    );
+    assert!(rt;
+        next_of_subclass_3 == Some(0)
+            && of_subclass_7 == Some(4)
+            && last_of_subclass_3 == Some(1)
+            && none_left == None
+    );
     Ok(())
 }
 
@@ -76,10 +80,12 @@ fn a_subchannel_has_one_request(rt: HostRuntime) -> Result<(), AllocError> {
     let none_left = answered(&mut pending, 0xFF);
     let numbers = pending.numbers();
     drop(pending);
-    assert!(rt; none_of_subclass_0 == None);
-    assert!(rt; words == Some([0x0001_0001, 0x101, 0x3800_0000]));
-    assert!(rt; none_left == None);
-    assert!(rt; numbers == 2);
+    assert!(rt;
+        none_of_subclass_0 == None
+            && words == Some([0x0001_0001, 0x101, 0x3800_0000])
+            && none_left == None
+            && numbers == 2
+    );
     Ok(())
 }
 
@@ -91,15 +97,13 @@ fn the_one_request_for_room_is_refused(rt: HostRuntime) -> Result<(), AllocError
             refused: false,
         };
         let is_refused = Pending::new_with(rt.alloc(), &mut supply, 2).is_err();
-        assert!(rt; is_refused == (left == 0));
-        assert!(rt; supply.refused == (left == 0));
+        assert!(rt; is_refused == (left == 0) && supply.refused == (left == 0));
         let mut supply = Given { refused: false };
         let mut pending = Pending::new_with(rt.alloc(), &mut supply, 2)?;
         post(&mut pending, 1, 7);
         let answered = answered(&mut pending, 0x01);
         drop(pending);
-        assert!(rt; !supply.refused);
-        assert!(rt; answered == Some(1));
+        assert!(rt; !supply.refused && answered == Some(1));
     }
     Ok(())
 }
@@ -111,7 +115,6 @@ fn room_for_no_subchannel_is_not_asked_for(rt: HostRuntime) -> Result<(), AllocE
         refused: false,
     };
     let pending = Pending::new_with(rt.alloc(), &mut supply, 0)?;
-    assert!(rt; pending.numbers() == 0);
-    assert!(rt; !supply.refused);
+    assert!(rt; pending.numbers() == 0 && !supply.refused);
     Ok(())
 }

@@ -10,13 +10,18 @@ fn an_image_is_read_and_written(rt: HostRuntime) {
     match Orb::read(&image) {
         Err(_) => assert!(rt; false, "the image is allowed"),
         Ok(orb) => {
-            assert!(rt; orb.parameter == 0x1234_5678);
-            assert!(rt; orb.key == 4);
-            assert!(rt; orb.suspend && orb.format_one && orb.suppress_length && !orb.prefetch);
-            assert!(rt; orb.long_addresses && !orb.small_blocks && !orb.modified_words);
-            assert!(rt; orb.paths == 0xFF);
-            assert!(rt; orb.program == 0x2000);
-            assert!(rt; orb.write() == image);
+            assert!(rt;
+                orb.parameter == 0x1234_5678
+                    && orb.key == 4
+                    && orb.suspend
+                    && orb.format_one
+                    && orb.suppress_length
+                    && !orb.prefetch
+                    && orb.long_addresses
+                    && !orb.small_blocks
+                    && !orb.modified_words
+            );
+            assert!(rt; orb.paths == 0xFF && orb.program == 0x2000 && orb.write() == image);
         }
     }
 }

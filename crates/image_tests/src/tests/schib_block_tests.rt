@@ -42,8 +42,7 @@ fn a_block_is_read_and_written(rt: HostRuntime) {
         Some(schib) => {
             assert!(rt; schib.pmcw == word());
             let words: [u32; 3] = [0x0080_4400, 0x0000_1000, 0];
-            assert!(rt; Some(schib.scsw) == Scsw::of_words(&words));
-            assert!(rt; schib.write() == IMAGE);
+            assert!(rt; Some(schib.scsw) == Scsw::of_words(&words) && schib.write() == IMAGE);
         }
     }
 }
@@ -54,11 +53,9 @@ fn reserved_bits_are_ignored(rt: HostRuntime) {
     image[4] = 0xC7;
     image[27] = 0xFE;
     image[51] = 1;
-    assert!(rt; Pmcw::of_schib(&image) == word());
-    assert!(rt; Schib::read(&image) == Schib::read(&IMAGE));
+    assert!(rt; Pmcw::of_schib(&image) == word() && Schib::read(&image) == Schib::read(&IMAGE));
     image[28] = 4;
-    assert!(rt; Pmcw::of_schib(&image) == word());
-    assert!(rt; Schib::read(&image) == None);
+    assert!(rt; Pmcw::of_schib(&image) == word() && Schib::read(&image) == None);
 }
 
 #[test]
@@ -67,8 +64,7 @@ fn a_word_is_modified(rt: HostRuntime) {
     let mut image = IMAGE;
     image[5] = 0xA1;
     let refused = pmcw.modify(&Pmcw::of_schib(&image));
-    assert!(rt; refused == Err(Operand));
-    assert!(rt; pmcw == word());
+    assert!(rt; refused == Err(Operand) && pmcw == word());
     image[4] = 0x38;
     image[5] = 0x81;
     image[6] = 0xFF;

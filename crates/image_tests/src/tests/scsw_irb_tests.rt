@@ -69,8 +69,7 @@ fn reports_of_a_path(rt: HostRuntime) {
             overflow: false,
             path: 0xC1,
         };
-        assert!(rt; crw.word() == word);
-        assert!(rt; Crw::of_word(word) == Some(crw));
+        assert!(rt; crw.word() == word && Crw::of_word(word) == Some(crw));
     }
     for word in [0, 0x0402_00C1, 0x0406_01C1, 0x0906_00C1] {
         assert!(rt; Crw::of_word(word) == None);
@@ -86,9 +85,11 @@ fn a_block_is_read_back(rt: HostRuntime) {
     assert!(rt; Irb::read(&irb.write()) == Some(irb));
     let mut image = irb.write();
     image[63] = 1;
-    assert!(rt; Irb::read(&image) == None);
-    assert!(rt; Scsw::of_words(&[0x0400_0000, 0, 0]) == None);
-    assert!(rt; Scsw::of_words(&[0, 0, 0]) == Some(Scsw::zero()));
+    assert!(rt;
+        Irb::read(&image) == None
+            && Scsw::of_words(&[0x0400_0000, 0, 0]) == None
+            && Scsw::of_words(&[0, 0, 0]) == Some(Scsw::zero())
+    );
 }
 
 #[test]
@@ -100,34 +101,49 @@ fn an_interruption_code_names_its_subchannel(rt: HostRuntime) {
         subclass: 7,
     };
     let words = [0x0003_0002, 0x1234_5678, 0x3800_0000];
-    assert!(rt; code.words() == words);
-    assert!(rt; IntCode::of_words(&words) == Some(code));
-    assert!(rt; IntCode::of_words(&[0x0002_0002, 0, 0]) == None);
+    assert!(rt;
+        code.words() == words
+            && IntCode::of_words(&words) == Some(code)
+            && IntCode::of_words(&[0x0002_0002, 0, 0]) == None
+    );
 }
 
 #[test]
 fn statuses_are_sets(rt: HostRuntime) {
     let check = DeviceStatus::end().joined(DeviceStatus::UNIT_CHECK);
-    assert!(rt; check.bits() == 0x0E);
-    assert!(rt; check == DeviceStatus::of_bits(0x0E));
-    assert!(rt; check.has_check() && check.has_channel_end() && check.has_device_end());
     assert!(rt;
-        !check.has_unit_exception() && !check.has_modifier() && !check.is_channel_end_alone()
+        check.bits() == 0x0E
+            && check == DeviceStatus::of_bits(0x0E)
+            && check.has_check()
+            && check.has_channel_end()
+            && check.has_device_end()
     );
-    assert!(rt; check.contains(DeviceStatus::end()) && check.contains(DeviceStatus::empty()));
+    assert!(rt;
+        !check.has_unit_exception()
+            && !check.has_modifier()
+            && !check.is_channel_end_alone()
+            && check.contains(DeviceStatus::end())
+            && check.contains(DeviceStatus::empty())
+    );
     let faults = SubchannelStatus::INCORRECT_LENGTH.joined(SubchannelStatus::of_bits(0x20));
-    assert!(rt; faults.bits() == 0x60);
-    assert!(rt; faults.contains(SubchannelStatus::PROGRAM_CHECK));
-    assert!(rt; !faults.contains(SubchannelStatus::PROTECTION_CHECK));
-    assert!(rt; SubchannelStatus::empty().bits() == 0);
+    assert!(rt;
+        faults.bits() == 0x60
+            && faults.contains(SubchannelStatus::PROGRAM_CHECK)
+            && !faults.contains(SubchannelStatus::PROTECTION_CHECK)
+            && SubchannelStatus::empty().bits() == 0
+    );
 }
 
 #[test]
 fn groups_are_read_of_word_0(rt: HostRuntime) {
-    assert!(rt; FunctionControl::of_word(0x0000_6007) == ended().functions);
-    assert!(rt; ActivityControl::of_word(0x0000_6007) == ActivityControl::none());
-    assert!(rt; StatusControl::of_word(0x0000_6007) == ended().status);
-    assert!(rt; FunctionControl::of_word(0) == FunctionControl::none());
-    assert!(rt; StatusControl::of_word(0) == StatusControl::none());
-    assert!(rt; DeferredCode::of_number(3).number() == 3);
+    assert!(rt;
+        FunctionControl::of_word(0x0000_6007) == ended().functions
+            && ActivityControl::of_word(0x0000_6007) == ActivityControl::none()
+            && StatusControl::of_word(0x0000_6007) == ended().status
+    );
+    assert!(rt;
+        FunctionControl::of_word(0) == FunctionControl::none()
+            && StatusControl::of_word(0) == StatusControl::none()
+            && DeferredCode::of_number(3).number() == 3
+    );
 }

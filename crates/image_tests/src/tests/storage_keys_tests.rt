@@ -48,10 +48,14 @@ fn each_request_for_room_is_refused_in_turn(rt: HostRuntime) {
 #[test]
 fn a_key_is_read_from_its_byte(rt: HostRuntime) {
     let key = Key::of_byte(0x3D);
-    assert!(rt; key.access == 3);
-    assert!(rt; key.fetch_protected && key.referenced && !key.changed);
-    assert!(rt; key.byte() == 0x3C);
-    assert!(rt; Key::of_byte(0xF2).byte() == 0xF2);
+    assert!(rt;
+        key.access == 3
+            && key.fetch_protected
+            && key.referenced
+            && !key.changed
+            && key.byte() == 0x3C
+            && Key::of_byte(0xF2).byte() == 0xF2
+    );
 }
 
 #[test]
@@ -83,14 +87,13 @@ fn bytes_are_stored_and_fetched(rt: HostRuntime) {
     let holds_nothing = holds(&storage, 0, 0xFFFF_FFFF, &[]);
     let put_outside = storage.put(0x1_0000, &[9]);
     drop(storage);
-    assert!(rt; size == 0x1_0000);
-    assert!(rt; ends_with_zeros);
-    assert!(rt; stored == Ok(()));
-    assert!(rt; put == Ok(()));
-    assert!(rt; holds_both);
-    assert!(rt; past_the_end == Some(ADDRESSING));
-    assert!(rt; holds_nothing);
-    assert!(rt; put_outside == Err(ADDRESSING));
+    assert!(rt; size == 0x1_0000 && ends_with_zeros && stored == Ok(()) && put == Ok(()));
+    assert!(rt;
+        holds_both
+            && past_the_end == Some(ADDRESSING)
+            && holds_nothing
+            && put_outside == Err(ADDRESSING)
+    );
 }
 
 #[test]
@@ -111,18 +114,24 @@ fn a_block_is_guarded_by_its_key(rt: HostRuntime) {
     let key_set_outside = storage.set_key(0x1_0000, Key::ZERO);
     let key_outside = storage.key_at(0x1_0000);
     drop(storage);
-    assert!(rt; key_set == Ok(()));
-    assert!(rt; key == Ok(Key::of_byte(0x18)));
-    assert!(rt; next_key == Ok(Key::ZERO));
-    assert!(rt; stored_by_other == Err(PROTECTION));
-    assert!(rt; checked == Ok(()));
-    assert!(rt; fetched_by_other == Some(PROTECTION));
-    assert!(rt; stored == Ok(()));
-    assert!(rt; is_unchanged);
-    assert!(rt; is_shown);
-    assert!(rt; shown_past_the_end == Some(ADDRESSING));
-    assert!(rt; key_set_outside == Err(ADDRESSING));
-    assert!(rt; key_outside == Err(ADDRESSING));
+    assert!(rt;
+        key_set == Ok(())
+            && key == Ok(Key::of_byte(0x18))
+            && next_key == Ok(Key::ZERO)
+            && stored_by_other == Err(PROTECTION)
+    );
+    assert!(rt;
+        checked == Ok(())
+            && fetched_by_other == Some(PROTECTION)
+            && stored == Ok(())
+            && is_unchanged
+    );
+    assert!(rt;
+        is_shown
+            && shown_past_the_end == Some(ADDRESSING)
+            && key_set_outside == Err(ADDRESSING)
+            && key_outside == Err(ADDRESSING)
+    );
 }
 
 /// Real addresses of a processor whose prefix is 4000, and the absolute ones.
@@ -165,9 +174,7 @@ fn real_addresses_are_prefixed(rt: HostRuntime) {
     let misplaced = misplaced(&storage);
     let prefixed_for_other = prefixed_for_other(&storage);
     drop(storage);
-    assert!(rt; off_boundary == Err(SPECIFICATION));
-    assert!(rt; outside == Err(ADDRESSING));
-    assert!(rt; set == Ok(()));
+    assert!(rt; off_boundary == Err(SPECIFICATION) && outside == Err(ADDRESSING) && set == Ok(()));
     if let Some(real) = misplaced {
         assert!(rt; false, "{real}");
     }
@@ -192,11 +199,10 @@ fn an_operand_is_taken_byte_by_byte(rt: HostRuntime) {
     let past_the_end = storage.operand::<4>(1, 0xFFFE, 2);
     let checked_outside = storage.check_operand(1, 0xFFFF_FFFC, 8, 4);
     drop(storage);
-    assert!(rt; prefix_set == Ok(()));
-    assert!(rt; holds_front);
-    assert!(rt; holds_rest);
-    assert!(rt; operand == Ok([1, 2, 3, 4]));
-    assert!(rt; off_boundary == Err(SPECIFICATION));
-    assert!(rt; past_the_end == Err(ADDRESSING));
-    assert!(rt; checked_outside == Err(ADDRESSING));
+    assert!(rt; prefix_set == Ok(()) && holds_front && holds_rest && operand == Ok([1, 2, 3, 4]));
+    assert!(rt;
+        off_boundary == Err(SPECIFICATION)
+            && past_the_end == Err(ADDRESSING)
+            && checked_outside == Err(ADDRESSING)
+    );
 }

@@ -104,8 +104,7 @@ fn all_is_written(rt: HostRuntime) {
         let put = put_all(&mut writer, TEXT);
         let is_kept = is_front(writer.text.as_slice(), taken);
         drop(writer);
-        assert!(rt; put == taken);
-        assert!(rt; is_kept);
+        assert!(rt; put == taken && is_kept);
     }
 }
 
@@ -150,8 +149,7 @@ fn a_source_shows_that_it_failed(rt: HostRuntime) {
         };
         let shown = source.broken;
         drop(source);
-        assert!(rt; is_right);
-        assert!(rt; shown == broken);
+        assert!(rt; is_right && shown == broken);
     }
 }
 
@@ -169,14 +167,11 @@ fn a_sink_shows_that_it_failed(rt: HostRuntime) {
         let failed = sink.failed;
         let is_kept = is_front(sink.writer.text.as_slice(), taken);
         drop(sink);
-        assert!(rt; all_put == (taken == 19));
-        assert!(rt; failed == (taken < 19));
-        assert!(rt; is_kept);
+        assert!(rt; all_put == (taken == 19) && failed == (taken < 19) && is_kept);
     }
     let mut sink = Watched::new(Vec::new(rt.alloc()));
     let both_put = put_both(&mut sink, b"storage ", b"10\n");
     let are_kept = sink.writer.as_slice() == b"storage 10\n".as_slice();
     drop(sink);
-    assert!(rt; both_put);
-    assert!(rt; are_kept);
+    assert!(rt; both_put && are_kept);
 }

@@ -19,8 +19,9 @@ fn each_request_is_refused_in_turn(rt: HostRuntime) {
             left,
             refused: false,
         };
-        assert!(rt; fill(rt.alloc(), &mut supply).is_err() == (left < 3));
-        assert!(rt; supply.refused == (left < 3));
+        assert!(rt;
+            fill(rt.alloc(), &mut supply).is_err() == (left < 3) && supply.refused == (left < 3)
+        );
         let mut supply = Given { refused: false };
         match fill(rt.alloc(), &mut supply) {
             Ok(list) => assert!(rt; list.as_slice() == [1, 2, 3, 4].as_slice()),
@@ -42,10 +43,7 @@ fn what_was_there_stays_where_a_request_is_refused(rt: HostRuntime) {
     let more = extend(&mut supply, &mut list, &[3]);
     let is_kept = list.as_slice() == [1].as_slice();
     drop(list);
-    assert!(rt; first.is_ok());
-    assert!(rt; second.is_err());
-    assert!(rt; more.is_err());
-    assert!(rt; is_kept);
+    assert!(rt; first.is_ok() && second.is_err() && more.is_err() && is_kept);
 }
 
 /// One item more than two requests are for at the most: so many take three.
@@ -66,13 +64,13 @@ fn each_portion_of_room_is_refused_in_turn(rt: HostRuntime) {
         let has_room = list.capacity() > THREE_PORTIONS;
         let is_kept = list.as_slice() == [7u8].as_slice();
         drop(list);
-        assert!(rt; pushed.is_ok());
-        assert!(rt; made.is_err() == (left < 3));
-        assert!(rt; refusing.refused == (left < 3));
-        assert!(rt; made_again.is_ok());
-        assert!(rt; !given.refused);
-        assert!(rt; has_room);
-        assert!(rt; is_kept);
+        assert!(rt;
+            pushed.is_ok()
+                && made.is_err() == (left < 3)
+                && refusing.refused == (left < 3)
+                && made_again.is_ok()
+        );
+        assert!(rt; !given.refused && has_room && is_kept);
     }
 }
 
@@ -83,6 +81,5 @@ fn room_for_nothing_is_not_asked_for(rt: HostRuntime) {
         left: 0,
         refused: false,
     };
-    assert!(rt; make_room(&mut supply, &mut list, 0).is_ok());
-    assert!(rt; !supply.refused);
+    assert!(rt; make_room(&mut supply, &mut list, 0).is_ok() && !supply.refused);
 }

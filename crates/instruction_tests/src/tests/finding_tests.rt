@@ -87,8 +87,9 @@ fn a_name_beyond_the_tables_is_found(rt: HostRuntime) -> Result<(), AllocError> 
     let subs = four(rt.alloc())?;
     let places = Places::of(rt.alloc(), &mut Given { refused: false }, 1, 0, &subs)?;
     let id = SubchannelId { set: 1, number: 0 };
-    assert!(rt; places.place_in(id, &subs) == Some(1));
-    assert!(rt; places.reached_in(2, Side::First, &subs) == Some(0));
+    assert!(rt;
+        places.place_in(id, &subs) == Some(1) && places.reached_in(2, Side::First, &subs) == Some(0)
+    );
     Ok(())
 }
 
@@ -118,14 +119,15 @@ fn the_subchannel_of_a_side_is_found(rt: HostRuntime) -> Result<(), AllocError> 
 fn an_engine_is_engaged_while_some_subchannel_engages_it(
     rt: HostRuntime,
 ) -> Result<(), AllocError> {
-    assert!(rt; engaged(&subchannel(0, 5, 2, Side::First, offered())) == Some(0x20));
-    assert!(rt; engaged(&subchannel(1, 0, 0, Side::First, HoldPhase::Free)) == None);
+    assert!(rt;
+        engaged(&subchannel(0, 5, 2, Side::First, offered())) == Some(0x20)
+            && engaged(&subchannel(1, 0, 0, Side::First, HoldPhase::Free)) == None
+    );
     let mut subs = four(rt.alloc())?;
     for want in [true, true, true, true, false] {
         let engines = Engines::of(&subs);
         let counted = Counted::of(&subs, &engines);
-        assert!(rt; counted.is_engaged(0x20) == want);
-        assert!(rt; !counted.is_engaged(0x10));
+        assert!(rt; counted.is_engaged(0x20) == want && !counted.is_engaged(0x10));
         subs.pop();
     }
     Ok(())

@@ -86,89 +86,115 @@ fn clear(state: &mut SubchannelState) -> Option<ConditionCode> {
 
 #[test]
 fn codes_of_start_and_modify(rt: HostRuntime) {
-    assert!(rt; ssch_code(missing()) == ConditionCode::Three);
-    assert!(rt; ssch_code(disabled(0)) == ConditionCode::Three);
-    assert!(rt; ssch_code(found(0x0080_4007)) == ConditionCode::One);
-    assert!(rt; ssch_code(found(0x0000_0011)) == ConditionCode::One);
-    assert!(rt; ssch_code(found(0x0080_4400)) == ConditionCode::Two);
-    assert!(rt; ssch_code(found(0x0000_2200)) == ConditionCode::Two);
-    assert!(rt; ssch_code(found(0x0000_1100)) == ConditionCode::Two);
-    assert!(rt; ssch_code(found(0x0080_0040)) == ConditionCode::Zero);
-    assert!(rt; msch_code(missing()) == ConditionCode::Three);
-    assert!(rt; msch_code(disabled(0x0080_4007)) == ConditionCode::One);
-    assert!(rt; msch_code(disabled(0x0000_2200)) == ConditionCode::Two);
-    assert!(rt; msch_code(disabled(0)) == ConditionCode::Zero);
+    assert!(rt;
+        ssch_code(missing()) == ConditionCode::Three
+            && ssch_code(disabled(0)) == ConditionCode::Three
+            && ssch_code(found(0x0080_4007)) == ConditionCode::One
+            && ssch_code(found(0x0000_0011)) == ConditionCode::One
+    );
+    assert!(rt;
+        ssch_code(found(0x0080_4400)) == ConditionCode::Two
+            && ssch_code(found(0x0000_2200)) == ConditionCode::Two
+            && ssch_code(found(0x0000_1100)) == ConditionCode::Two
+            && ssch_code(found(0x0080_0040)) == ConditionCode::Zero
+    );
+    assert!(rt;
+        msch_code(missing()) == ConditionCode::Three
+            && msch_code(disabled(0x0080_4007)) == ConditionCode::One
+            && msch_code(disabled(0x0000_2200)) == ConditionCode::Two
+            && msch_code(disabled(0)) == ConditionCode::Zero
+    );
 }
 
 #[test]
 fn codes_of_resume_and_cancel(rt: HostRuntime) {
-    assert!(rt; rsch_code(disabled(0x0880_4020)) == ConditionCode::Three);
-    assert!(rt; rsch_code(found(0x0880_4029)) == ConditionCode::One);
-    assert!(rt; rsch_code(found(0x0880_4820)) == ConditionCode::Two);
-    assert!(rt; rsch_code(found(0x0880_6020)) == ConditionCode::Two);
-    assert!(rt; rsch_code(found(0x0080_40C0)) == ConditionCode::Two);
-    assert!(rt; rsch_code(found(0x0880_4020)) == ConditionCode::Zero);
-    assert!(rt; xsch_code(disabled(0x0080_4400)) == ConditionCode::Three);
-    assert!(rt; xsch_code(found(0x0880_4029)) == ConditionCode::One);
-    assert!(rt; xsch_code(found(0x0080_0000)) == ConditionCode::Two);
-    assert!(rt; xsch_code(found(0x0080_4040)) == ConditionCode::Two);
-    assert!(rt; xsch_code(found(0x0880_48C0)) == ConditionCode::Two);
-    assert!(rt; xsch_code(found(0x0080_4440)) == ConditionCode::Zero);
+    assert!(rt;
+        rsch_code(disabled(0x0880_4020)) == ConditionCode::Three
+            && rsch_code(found(0x0880_4029)) == ConditionCode::One
+            && rsch_code(found(0x0880_4820)) == ConditionCode::Two
+            && rsch_code(found(0x0880_6020)) == ConditionCode::Two
+    );
+    assert!(rt;
+        rsch_code(found(0x0080_40C0)) == ConditionCode::Two
+            && rsch_code(found(0x0880_4020)) == ConditionCode::Zero
+            && xsch_code(disabled(0x0080_4400)) == ConditionCode::Three
+            && xsch_code(found(0x0880_4029)) == ConditionCode::One
+    );
+    assert!(rt;
+        xsch_code(found(0x0080_0000)) == ConditionCode::Two
+            && xsch_code(found(0x0080_4040)) == ConditionCode::Two
+            && xsch_code(found(0x0880_48C0)) == ConditionCode::Two
+            && xsch_code(found(0x0080_4440)) == ConditionCode::Zero
+    );
 }
 
 #[test]
 fn codes_of_halt_and_clear(rt: HostRuntime) {
-    assert!(rt; hsch_code(disabled(0)) == ConditionCode::Three);
-    assert!(rt; hsch_code(found(0x0080_4007)) == ConditionCode::One);
-    assert!(rt; hsch_code(found(0x0000_1001)) == ConditionCode::One);
-    assert!(rt; hsch_code(found(0x0000_2200)) == ConditionCode::Two);
-    assert!(rt; hsch_code(found(0x0000_1100)) == ConditionCode::Two);
-    assert!(rt; hsch_code(found(0x0080_40C9)) == ConditionCode::Zero);
-    assert!(rt; csch_code(disabled(0)) == ConditionCode::Three);
-    assert!(rt; csch_code(found(0x0080_4007)) == ConditionCode::Zero);
-    assert!(rt; csch_code(found(0x0000_1100)) == ConditionCode::Zero);
+    assert!(rt;
+        hsch_code(disabled(0)) == ConditionCode::Three
+            && hsch_code(found(0x0080_4007)) == ConditionCode::One
+            && hsch_code(found(0x0000_1001)) == ConditionCode::One
+    );
+    assert!(rt;
+        hsch_code(found(0x0000_2200)) == ConditionCode::Two
+            && hsch_code(found(0x0000_1100)) == ConditionCode::Two
+            && hsch_code(found(0x0080_40C9)) == ConditionCode::Zero
+    );
+    assert!(rt;
+        csch_code(disabled(0)) == ConditionCode::Three
+            && csch_code(found(0x0080_4007)) == ConditionCode::Zero
+            && csch_code(found(0x0000_1100)) == ConditionCode::Zero
+    );
 }
 
 #[test]
 fn codes_of_store_and_test(rt: HostRuntime) {
-    assert!(rt; stsch_code(missing()) == ConditionCode::Three);
-    assert!(rt; stsch_code(disabled(0x0080_4007)) == ConditionCode::Zero);
-    assert!(rt; tsch_code(missing()) == ConditionCode::Three);
-    assert!(rt; tsch_code(disabled(0x0080_4007)) == ConditionCode::Three);
-    assert!(rt; tsch_code(found(0x0080_0000)) == ConditionCode::One);
-    assert!(rt; tsch_code(found(0x0080_4007)) == ConditionCode::Zero);
+    assert!(rt;
+        stsch_code(missing()) == ConditionCode::Three
+            && stsch_code(disabled(0x0080_4007)) == ConditionCode::Zero
+            && tsch_code(missing()) == ConditionCode::Three
+    );
+    assert!(rt;
+        tsch_code(disabled(0x0080_4007)) == ConditionCode::Three
+            && tsch_code(found(0x0080_0000)) == ConditionCode::One
+            && tsch_code(found(0x0080_4007)) == ConditionCode::Zero
+    );
 }
 
 #[test]
 fn a_program_is_started_once(rt: HostRuntime) {
     let mut state = subchannel([0x0381_0040, 0x1008, 0x0C00_0000]);
-    assert!(rt; start(&mut state) == Some(ConditionCode::Zero));
-    assert!(rt; is_same_words(&state, [0x0080_4440, 0x1000, 0]));
-    assert!(rt; state.starts == 3 && state.pmcw.parameter == 7);
-    assert!(rt; mask_of_paths(state.pmcw.logical) == 0x81);
-    assert!(rt; mask_of_paths(state.pmcw.not_operational) == 0);
     assert!(rt;
-        matches!(
-            state.waiting,
-            Some(Program {
-                start: 3,
-                single_path: true,
-                ..
-            })
-        )
+        start(&mut state) == Some(ConditionCode::Zero)
+            && is_same_words(&state, [0x0080_4440, 0x1000, 0])
+            && state.starts == 3
+            && state.pmcw.parameter == 7
+            && mask_of_paths(state.pmcw.logical) == 0x81
     );
-    assert!(rt; start(&mut state) == Some(ConditionCode::Two));
-    assert!(rt; state.starts == 3);
+    assert!(rt;
+        mask_of_paths(state.pmcw.not_operational) == 0
+            && matches!(
+                state.waiting,
+                Some(Program {
+                    start: 3,
+                    single_path: true,
+                    ..
+                })
+            )
+            && start(&mut state) == Some(ConditionCode::Two)
+            && state.starts == 3
+    );
 }
 
 #[test]
 fn a_start_is_cancelled(rt: HostRuntime) {
     let mut state = subchannel([0, 0, 0]);
-    assert!(rt; start(&mut state) == Some(ConditionCode::Zero));
-    assert!(rt; xsch(&mut state) == ConditionCode::Zero);
-    assert!(rt; is_same_words(&state, [0x0080_0000, 0x1000, 0]));
-    assert!(rt; state.waiting.is_none());
-    assert!(rt; xsch(&mut state) == ConditionCode::Two);
+    assert!(rt;
+        start(&mut state) == Some(ConditionCode::Zero)
+            && xsch(&mut state) == ConditionCode::Zero
+            && is_same_words(&state, [0x0080_0000, 0x1000, 0])
+    );
+    assert!(rt; state.waiting.is_none() && xsch(&mut state) == ConditionCode::Two);
 }
 
 /// A suspended program.
@@ -189,57 +215,76 @@ fn suspended() -> Option<ProgramPosition> {
 fn a_suspended_program_is_cancelled(rt: HostRuntime) {
     let mut state = subchannel([0x0880_4820, 0x1008, 0x0000_0004]);
     state.suspended = suspended();
-    assert!(rt; state.suspended.is_some());
-    assert!(rt; xsch(&mut state) == ConditionCode::Zero);
-    assert!(rt; is_same_words(&state, [0x0880_0000, 0x1008, 0x0000_0004]));
-    assert!(rt; state.suspended.is_none());
-    assert!(rt; xsch(&mut state) == ConditionCode::Two);
+    assert!(rt;
+        state.suspended.is_some()
+            && xsch(&mut state) == ConditionCode::Zero
+            && is_same_words(&state, [0x0880_0000, 0x1008, 0x0000_0004])
+    );
+    assert!(rt; state.suspended.is_none() && xsch(&mut state) == ConditionCode::Two);
 }
 
 #[test]
 fn a_suspended_program_is_resumed(rt: HostRuntime) {
     let mut state = subchannel([0x0880_4020, 0x1008, 0]);
     state.suspended = suspended();
-    assert!(rt; rsch(&mut state) == ConditionCode::Zero);
-    assert!(rt; is_same_words(&state, [0x0880_4820, 0x1008, 0]));
-    assert!(rt; mask_of_paths(state.pmcw.not_operational) == 0);
-    assert!(rt; rsch(&mut state) == ConditionCode::Two);
-    assert!(rt; state.suspended.is_some());
+    assert!(rt;
+        rsch(&mut state) == ConditionCode::Zero
+            && is_same_words(&state, [0x0880_4820, 0x1008, 0])
+            && mask_of_paths(state.pmcw.not_operational) == 0
+    );
+    assert!(rt; rsch(&mut state) == ConditionCode::Two && state.suspended.is_some());
     let mut active = subchannel([0x0880_40C0, 0x1008, 0]);
-    assert!(rt; rsch(&mut active) == ConditionCode::Zero);
-    assert!(rt; mask_of_paths(active.pmcw.not_operational) == 0xFF);
+    assert!(rt;
+        rsch(&mut active) == ConditionCode::Zero
+            && mask_of_paths(active.pmcw.not_operational) == 0xFF
+    );
 }
 
 #[test]
 fn a_halt_drops_intermediate_status_alone(rt: HostRuntime) {
     let mut state = subchannel([0x0080_40C9, 0x1008, 0x0080_0004]);
-    assert!(rt; hsch(&mut state) == ConditionCode::Zero);
-    assert!(rt; is_same_words(&state, [0x0080_62C0, 0x1008, 0x0080_0004]));
-    assert!(rt; (state.serials.made, state.serials.cleared) == (9, 9));
-    assert!(rt; mask_of_paths(state.pmcw.not_operational) == 0);
+    assert!(rt;
+        hsch(&mut state) == ConditionCode::Zero
+            && is_same_words(&state, [0x0080_62C0, 0x1008, 0x0080_0004])
+            && (state.serials.made, state.serials.cleared) == (9, 9)
+            && mask_of_paths(state.pmcw.not_operational) == 0
+    );
     let mut suspended = subchannel([0x0880_4029, 0x1008, 0]);
-    assert!(rt; hsch(&mut suspended) == ConditionCode::Zero);
-    assert!(rt; is_same_words(&suspended, [0x0880_6229, 0x1008, 0]));
-    assert!(rt; suspended.serials.cleared == 8);
+    assert!(rt;
+        hsch(&mut suspended) == ConditionCode::Zero
+            && is_same_words(&suspended, [0x0880_6229, 0x1008, 0])
+            && suspended.serials.cleared == 8
+    );
 }
 
 #[test]
 fn a_clear_leaves_nothing_but_itself(rt: HostRuntime) {
     let mut state = subchannel([0, 0, 0]);
-    assert!(rt; start(&mut state) == Some(ConditionCode::Zero));
-    assert!(rt; clear(&mut state) == Some(ConditionCode::Zero));
-    assert!(rt; is_same_words(&state, [0x0000_1100, 0, 0]));
-    assert!(rt; matches!(state.hold.phase, HoldPhase::Reset { number: 5 }));
-    assert!(rt; state.drawn == 5 && state.serials.cleared == 9);
-    assert!(rt; state.waiting.is_none() && state.dedicated.is_none());
+    assert!(rt;
+        start(&mut state) == Some(ConditionCode::Zero)
+            && clear(&mut state) == Some(ConditionCode::Zero)
+            && is_same_words(&state, [0x0000_1100, 0, 0])
+    );
+    assert!(rt;
+        matches!(state.hold.phase, HoldPhase::Reset { number: 5 })
+            && state.drawn == 5
+            && state.serials.cleared == 9
+            && state.waiting.is_none()
+            && state.dedicated.is_none()
+    );
     let mut held = subchannel([0x0880_4020, 0x1008, 0]);
     held.suspended = suspended();
-    assert!(rt; clear(&mut held) == Some(ConditionCode::Zero));
-    assert!(rt; held.suspended.is_none());
-    assert!(rt; state.last_path.is_some() && state.pmcw.last_used.is_none());
-    assert!(rt; mask_of_paths(state.pmcw.operational) == 0xFF);
-    assert!(rt; mask_of_paths(state.pmcw.not_operational) == 0);
-    assert!(rt; clear(&mut state) == Some(ConditionCode::Zero));
+    assert!(rt;
+        clear(&mut held) == Some(ConditionCode::Zero)
+            && held.suspended.is_none()
+            && state.last_path.is_some()
+            && state.pmcw.last_used.is_none()
+    );
+    assert!(rt;
+        mask_of_paths(state.pmcw.operational) == 0xFF
+            && mask_of_paths(state.pmcw.not_operational) == 0
+            && clear(&mut state) == Some(ConditionCode::Zero)
+    );
 }
 
 /// A block whose first words are those of MODIFY SUBCHANNEL: parameter 5, ISC 7, enabled, D one, LPM C0, POM 81.
@@ -257,15 +302,20 @@ fn block() -> [u8; 52] {
 fn a_word_is_modified(rt: HostRuntime) {
     let given = pmcw::Pmcw::of_schib(&block());
     let mut state = subchannel([0, 0, 0]);
-    assert!(rt; msch(&mut state, &given) == ConditionCode::Zero);
-    assert!(rt; state.pmcw.parameter == 5 && state.pmcw.subclass == 7);
-    assert!(rt; state.pmcw.enabled && state.pmcw.multipath);
-    assert!(rt; mask_of_paths(state.pmcw.logical) == 0xC0);
-    assert!(rt; mask_of_paths(state.pmcw.operational) == 0x81);
-    assert!(rt; mask_of_paths(state.pmcw.not_operational) == 0xFF);
+    assert!(rt;
+        msch(&mut state, &given) == ConditionCode::Zero
+            && state.pmcw.parameter == 5
+            && state.pmcw.subclass == 7
+            && state.pmcw.enabled
+            && state.pmcw.multipath
+    );
+    assert!(rt;
+        mask_of_paths(state.pmcw.logical) == 0xC0
+            && mask_of_paths(state.pmcw.operational) == 0x81
+            && mask_of_paths(state.pmcw.not_operational) == 0xFF
+    );
     let mut busy = subchannel([0x0000_2200, 0, 0]);
-    assert!(rt; msch(&mut busy, &given) == ConditionCode::Two);
-    assert!(rt; busy.pmcw.parameter == 0);
+    assert!(rt; msch(&mut busy, &given) == ConditionCode::Two && busy.pmcw.parameter == 0);
     functions::law::modified();
     functions::law::counts();
 }

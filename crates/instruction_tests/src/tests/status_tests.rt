@@ -90,17 +90,11 @@ fn the_last_end_of_a_program(rt: HostRuntime) {
             &active,
             end(&moved, 0x0C),
             [0x0080_4007, 0x1008, 0x0C00_0000]
-        )
-    );
-    assert!(rt;
-        shows(
+        ) && shows(
             &active,
             end(&begun, 0x02),
             [0x0080_4017, 0x1008, 0x0200_0004]
-        )
-    );
-    assert!(rt;
-        shows(
+        ) && shows(
             &active,
             end(&begun, 0x0E),
             [0x0080_4017, 0x1008, 0x0E00_0004]
@@ -161,10 +155,7 @@ fn a_fault_at_a_block_and_no_path(rt: HostRuntime) {
             &start,
             check(Check::Program),
             [0x0000_4017, 0x1008, 0x0020_0000]
-        )
-    );
-    assert!(rt;
-        shows(
+        ) && shows(
             &start,
             check(Check::Protection),
             [0x0000_4017, 0x1008, 0x0010_0000]
@@ -179,20 +170,18 @@ fn a_fault_at_a_block_and_no_path(rt: HostRuntime) {
 #[test]
 fn a_suspended_program_shows_its_own_words(rt: HostRuntime) {
     let resumed = with_suspended([0x0880_4820, 0x2008, 0]);
-    assert!(rt; resumed.suspended.is_some());
     assert!(rt;
-        shows(
-            &resumed,
-            StatusCause::NoPath,
-            [0x0B80_4017, 0x1000, 0x0000_0004]
-        )
-    );
-    assert!(rt;
-        shows(
-            &resumed,
-            StatusCause::InterfaceControlCheck,
-            [0x0880_4017, 0x1000, 0x0002_0004]
-        )
+        resumed.suspended.is_some()
+            && shows(
+                &resumed,
+                StatusCause::NoPath,
+                [0x0B80_4017, 0x1000, 0x0000_0004]
+            )
+            && shows(
+                &resumed,
+                StatusCause::InterfaceControlCheck,
+                [0x0880_4017, 0x1000, 0x0002_0004]
+            )
     );
     let check = StatusCause::FetchFault {
         tried: 0x1008,
@@ -321,8 +310,11 @@ fn a_subchannel_that_is_not_enabled(rt: HostRuntime) {
     if state.serials.made < 9 {
         let mut next = state;
         make_pending(&mut next, &StatusCause::NoPath);
-        assert!(rt; is_same_words(&next, [0x0080_4000, 0x1000, 0]));
-        assert!(rt; next.serials.made == 8 && next.waiting.is_none());
+        assert!(rt;
+            is_same_words(&next, [0x0080_4000, 0x1000, 0])
+                && next.serials.made == 8
+                && next.waiting.is_none()
+        );
     }
 }
 
@@ -340,31 +332,41 @@ fn pending(words: [u32; 3]) -> SubchannelState {
 #[test]
 fn pending_status_is_tested_once(rt: HostRuntime) {
     let mut state = pending([0x0381_4045, 0x1008, 0x0800_0000]);
-    assert!(rt; tsch(&mut state) == ConditionCode::Zero);
-    assert!(rt; is_same_words(&state, [0x0080_0040, 0x1008, 0x0800_0000]));
-    assert!(rt; (state.serials.made, state.serials.cleared) == (9, 9));
-    assert!(rt; state.waiting.is_some());
-    assert!(rt; tsch(&mut state) == ConditionCode::One);
+    assert!(rt;
+        tsch(&mut state) == ConditionCode::Zero
+            && is_same_words(&state, [0x0080_0040, 0x1008, 0x0800_0000])
+            && (state.serials.made, state.serials.cleared) == (9, 9)
+    );
+    assert!(rt; state.waiting.is_some() && tsch(&mut state) == ConditionCode::One);
     state.pmcw.enabled = false;
-    assert!(rt; tsch(&mut state) == ConditionCode::Three);
-    assert!(rt; is_same_words(&state, [0x0080_0040, 0x1008, 0x0800_0000]));
+    assert!(rt;
+        tsch(&mut state) == ConditionCode::Three
+            && is_same_words(&state, [0x0080_0040, 0x1008, 0x0800_0000])
+    );
 }
 
 #[test]
 fn intermediate_status_is_tested(rt: HostRuntime) {
     let mut active = pending([0x0080_40C9, 0x1008, 0x0080_0004]);
-    assert!(rt; tsch(&mut active) == ConditionCode::Zero);
-    assert!(rt; is_same_words(&active, [0x0080_40C0, 0x1008, 0x0080_0004]));
+    assert!(rt;
+        tsch(&mut active) == ConditionCode::Zero
+            && is_same_words(&active, [0x0080_40C0, 0x1008, 0x0080_0004])
+    );
     let mut suspended = pending([0x0981_4829, 0x1008, 0]);
-    assert!(rt; tsch(&mut suspended) == ConditionCode::Zero);
-    assert!(rt; is_same_words(&suspended, [0x0880_4020, 0x1008, 0]));
-    assert!(rt; suspended.waiting.is_some());
+    assert!(rt;
+        tsch(&mut suspended) == ConditionCode::Zero
+            && is_same_words(&suspended, [0x0880_4020, 0x1008, 0])
+            && suspended.waiting.is_some()
+    );
     let mut halted = SubchannelState {
         suspended: with_suspended([0; 3]).suspended,
         ..pending([0x0880_6229, 0x1008, 0])
     };
-    assert!(rt; tsch(&mut halted) == ConditionCode::Zero);
-    assert!(rt; is_same_words(&halted, [0x0880_0000, 0x1008, 0]));
-    assert!(rt; halted.waiting.is_none() && halted.suspended.is_none());
+    assert!(rt;
+        tsch(&mut halted) == ConditionCode::Zero
+            && is_same_words(&halted, [0x0880_0000, 0x1008, 0])
+            && halted.waiting.is_none()
+            && halted.suspended.is_none()
+    );
     law::counts();
 }

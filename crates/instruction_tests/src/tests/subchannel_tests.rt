@@ -137,9 +137,13 @@ fn a_program_is_over_as_its_path_is_lost(rt: HostRuntime) {
     ] {
         let mut sub = subchannel(state, phase);
         lose(&mut sub, 0x10);
-        assert!(rt; is_same_words(&sub.state, words));
-        assert!(rt; is_reset(&sub, 9) && is_over(&sub));
-        assert!(rt; !waits(&sub, first_path()) && waits(&sub, second_path()));
+        assert!(rt;
+            is_same_words(&sub.state, words)
+                && is_reset(&sub, 9)
+                && is_over(&sub)
+                && !waits(&sub, first_path())
+                && waits(&sub, second_path())
+        );
     }
 }
 
@@ -154,8 +158,11 @@ fn a_start_behind_a_lost_path_waits_on(rt: HostRuntime) {
         let mut sub = subchannel(start, phase);
         sub.state.hold.reset_path = Some(first_path());
         lose(&mut sub, 0x10);
-        assert!(rt; is_same_words(&sub.state, [0x0080_4400, 0x1000, 0]));
-        assert!(rt; is_reset(&sub, 8) && sub.state.waiting.is_some());
+        assert!(rt;
+            is_same_words(&sub.state, [0x0080_4400, 0x1000, 0])
+                && is_reset(&sub, 8)
+                && sub.state.waiting.is_some()
+        );
     }
 }
 
@@ -186,9 +193,13 @@ fn a_path_that_no_program_is_on_goes_down_and_up(rt: HostRuntime) {
     assert!(rt; emptied, "the path that is down alone has no signal");
     assert!(rt; gone.available == 0x80);
     assert!(rt; passed_over, "the subchannel has no such path");
-    assert!(rt; still_gone.available == 0x80);
-    assert!(rt; back.available == 0xC0 && back.installed == 0xC0);
-    assert!(rt; over && other_gone.available == 0x40);
+    assert!(rt;
+        still_gone.available == 0x80
+            && back.available == 0xC0
+            && back.installed == 0xC0
+            && over
+            && other_gone.available == 0x40
+    );
 }
 
 /// The subchannel in this state, with its hold offered, whose first path is down.
@@ -209,14 +220,18 @@ fn marked(sub: Subchannel, choice: &Option<Path>) -> SubchannelState {
 fn a_path_that_is_down_is_found_once(rt: HostRuntime) {
     let halted = with_first_down(waiting([0x0080_6600, 0x1000, 0]));
     let halted = marked(halted, &None);
-    assert!(rt; is_same_words(&halted, [0x0080_6600, 0x1000, 0]));
-    assert!(rt; mask_of_paths(halted.pmcw.operational) == 0xFF);
+    assert!(rt;
+        is_same_words(&halted, [0x0080_6600, 0x1000, 0])
+            && mask_of_paths(halted.pmcw.operational) == 0xFF
+    );
     for choice in [None, Some(second_path())] {
         let start = with_first_down(waiting([0x0080_4400, 0x1000, 0]));
         let found = marked(start, &choice);
-        assert!(rt; is_same_words(&found, [0x0081_4400, 0x1000, 0]));
-        assert!(rt; mask_of_paths(found.pmcw.operational) == 0x7F);
-        assert!(rt; mask_of_paths(found.pmcw.not_operational) == 0x80);
+        assert!(rt;
+            is_same_words(&found, [0x0081_4400, 0x1000, 0])
+                && mask_of_paths(found.pmcw.operational) == 0x7F
+                && mask_of_paths(found.pmcw.not_operational) == 0x80
+        );
         let again = SubchannelState {
             pmcw: found.pmcw,
             ..waiting([0x0080_4400, 0x1000, 0])
@@ -247,11 +262,19 @@ fn a_reset_of_the_subsystem_keeps_what_is_up(rt: HostRuntime) {
     let word = pmcw_of(&sub);
     let waiting_on_both = waits(&sub, first_path()) && waits(&sub, second_path());
     drop(sub);
-    assert!(rt; is_same_words(&state, [0x0080_0000, 0x1000, 0x0080_0004]));
-    assert!(rt; over && state.serials.cleared == 9);
-    assert!(rt; !word.enabled && word.parameter == 0 && !word.multipath);
-    assert!(rt; word.available == 0x80);
-    assert!(rt; state.starts == 2 && state.last_path.is_some());
-    assert!(rt; state.dedicated.is_none());
+    assert!(rt;
+        is_same_words(&state, [0x0080_0000, 0x1000, 0x0080_0004])
+            && over
+            && state.serials.cleared == 9
+            && !word.enabled
+            && word.parameter == 0
+            && !word.multipath
+    );
+    assert!(rt;
+        word.available == 0x80
+            && state.starts == 2
+            && state.last_path.is_some()
+            && state.dedicated.is_none()
+    );
     assert!(rt; waiting_on_both, "the signals are kept");
 }

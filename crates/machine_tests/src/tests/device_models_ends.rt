@@ -112,9 +112,6 @@ fn channel_end_that_was_sent_is_left_out_of_the_later_status(rt: HostRuntime) {
     drop(unit);
     drop(device);
     drop(rewind);
-    assert!(rt; selected);
-    assert!(rt; begun);
-    assert!(rt; first == Some(0x08));
-    assert!(rt; second == Some(0x04));
-    assert!(rt; third == None);
+    assert!(rt; selected && begun && first == Some(0x08));
+    assert!(rt; second == Some(0x04) && third == None);
 }

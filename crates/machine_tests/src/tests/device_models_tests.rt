@@ -47,13 +47,8 @@ fn a_write_is_taken_up_to_a_block(rt: HostRuntime) {
     let again = begun(&mut store, 1);
     let front = store.absorb(&[5]);
     drop(store);
-    assert!(rt; unasked == 0);
-    assert!(rt; writes == 0);
-    assert!(rt; first == 60);
-    assert!(rt; second == 4);
-    assert!(rt; written == (0x0C, false));
-    assert!(rt; again == 0);
-    assert!(rt; front == 1);
+    assert!(rt; unasked == 0 && writes == 0 && first == 60 && second == 4);
+    assert!(rt; written == (0x0C, false) && again == 0 && front == 1);
 }
 
 /// Writes a whole block, and then its first byte.
@@ -78,12 +73,8 @@ fn what_was_written_is_read(rt: HostRuntime) {
     let back = gives(&mut store, 60, &[9, 9, 9, 9]);
     let whole = ended(&mut store);
     drop(store);
-    assert!(rt; reads == 0);
-    assert!(rt; front);
-    assert!(rt; left == (0x0C, true));
-    assert!(rt; again == 0);
-    assert!(rt; back);
-    assert!(rt; whole == (0x0C, false));
+    assert!(rt; reads == 0 && front && left == (0x0C, true));
+    assert!(rt; again == 0 && back && whole == (0x0C, false));
 }
 
 #[test]
@@ -95,9 +86,7 @@ fn a_restart_empties_the_store(rt: HostRuntime) {
     let reads = begun(&mut store, 2);
     let zero = gives(&mut store, 1, &[0]);
     drop(store);
-    assert!(rt; unasked == 0);
-    assert!(rt; reads == 0);
-    assert!(rt; zero);
+    assert!(rt; unasked == 0 && reads == 0 && zero);
 }
 
 #[test]
@@ -112,14 +101,8 @@ fn the_sense_byte_is_given_once(rt: HostRuntime) {
     let again = begun(&mut store, 4);
     let cleared = gives(&mut store, 1, &[0]);
     drop(store);
-    assert!(rt; rejected == 2);
-    assert!(rt; senses == 0);
-    assert!(rt; none);
-    assert!(rt; sense);
-    assert!(rt; rest);
-    assert!(rt; finish == (0x0C, false));
-    assert!(rt; again == 0);
-    assert!(rt; cleared);
+    assert!(rt; rejected == 2 && senses == 0 && none && sense);
+    assert!(rt; rest && finish == (0x0C, false) && again == 0 && cleared);
 }
 
 #[test]
@@ -139,25 +122,20 @@ fn a_block_is_sought_by_its_number(rt: HostRuntime) {
     let back = run(&mut store, 0x0B, &[]);
     let home = run(&mut store, 0x31, &[0, 0]);
     drop(store);
-    assert!(rt; first == (0, 0x4C));
-    assert!(rt; last == (0, 0x0C));
-    assert!(rt; other == (0, 0x0C));
-    assert!(rt; found == (0, 0x4C));
-    assert!(rt; short == (0, 0x0C));
-    assert!(rt; beyond == (0, 0x0E));
-    assert!(rt; half == (0, 0x0E));
-    assert!(rt; senses == 0);
-    assert!(rt; sense);
-    assert!(rt; nothing == (8, 4));
-    assert!(rt; stays == (0, 0x4C));
-    assert!(rt; back == (8, 4));
-    assert!(rt; home == (0, 0x4C));
+    assert!(rt;
+        first == (0, 0x4C) && last == (0, 0x0C) && other == (0, 0x0C) && found == (0, 0x4C)
+    );
+    assert!(rt; short == (0, 0x0C) && beyond == (0, 0x0E) && half == (0, 0x0E));
+    assert!(rt; senses == 0 && sense && nothing == (8, 4));
+    assert!(rt; stays == (0, 0x4C) && back == (8, 4) && home == (0, 0x4C));
 }
 
 #[test]
 fn a_code_names_its_command(rt: HostRuntime) {
-    assert!(rt; BlockCommand::of_code(0x0B) == Some(BlockCommand::Recalibrate));
-    assert!(rt; BlockCommand::of_code(0x0A) == None);
+    assert!(rt;
+        BlockCommand::of_code(0x0B) == Some(BlockCommand::Recalibrate)
+            && BlockCommand::of_code(0x0A) == None
+    );
 }
 
 /// How a command ended, by the answer that a call came to.
@@ -183,9 +161,7 @@ fn a_call_is_answered(rt: HostRuntime) {
     let end = end_of(&answer(&mut store, &Call::Finish));
     let control = end_of(&answer(&mut store, &Call::Initial { code: 3 }));
     drop(store);
-    assert!(rt; takes);
-    assert!(rt; end == Some((0x0C, false)));
-    assert!(rt; control == Some((8, false)));
+    assert!(rt; takes && end == Some((0x0C, false)) && control == Some((8, false)));
 }
 
 #[test]
@@ -198,12 +174,8 @@ fn a_console_keeps_one_line(rt: HostRuntime) {
     let beyond = console.absorb(&[9; 1]);
     let written = ended(&mut console);
     drop(console);
-    assert!(rt; unasked == 0);
-    assert!(rt; writes == 0);
-    assert!(rt; first == 100);
-    assert!(rt; second == 26);
-    assert!(rt; beyond == 0);
-    assert!(rt; written == (0x0C, false));
+    assert!(rt; unasked == 0 && writes == 0 && first == 100);
+    assert!(rt; second == 26 && beyond == 0 && written == (0x0C, false));
 }
 
 /// Writes a whole line.
@@ -226,12 +198,8 @@ fn a_console_gives_its_line(rt: HostRuntime) {
     let back = gives(&mut console, 256, &[9, 9, 9, 9, 9]);
     let whole = ended(&mut console);
     drop(console);
-    assert!(rt; reads == 0);
-    assert!(rt; front == 120);
-    assert!(rt; left == (0x0C, true));
-    assert!(rt; again == 0);
-    assert!(rt; back);
-    assert!(rt; whole == (0x0C, false));
+    assert!(rt; reads == 0 && front == 120 && left == (0x0C, true));
+    assert!(rt; again == 0 && back && whole == (0x0C, false));
 }
 
 #[test]
@@ -246,12 +214,8 @@ fn a_console_keeps_the_line_of_the_last_write(rt: HostRuntime) {
     let after = begun(&mut console, 0x0A);
     let none = gives(&mut console, 126, &[]);
     drop(console);
-    assert!(rt; writes == 0);
-    assert!(rt; taken == 1);
-    assert!(rt; reads == 0);
-    assert!(rt; line);
-    assert!(rt; after == 0);
-    assert!(rt; none);
+    assert!(rt; writes == 0 && taken == 1 && reads == 0);
+    assert!(rt; line && after == 0 && none);
 }
 
 #[test]
@@ -266,16 +230,13 @@ fn a_console_tells_what_it_rejected(rt: HostRuntime) {
     let again = begun(&mut console, 4);
     let cleared = gives(&mut console, 1, &[0]);
     drop(console);
-    assert!(rt; control == 8);
-    assert!(rt; end.0 == 4);
-    assert!(rt; rejected == 2);
-    assert!(rt; senses == 0);
-    assert!(rt; sense);
-    assert!(rt; finish == (0x0C, false));
-    assert!(rt; again == 0);
-    assert!(rt; cleared);
-    assert!(rt; ConsoleCommand::of_code(0x0A) == Some(ConsoleCommand::Read));
-    assert!(rt; ConsoleCommand::of_code(7) == None);
+    assert!(rt; control == 8 && end.0 == 4 && rejected == 2 && senses == 0);
+    assert!(rt; sense && finish == (0x0C, false) && again == 0);
+    assert!(rt;
+        cleared
+            && ConsoleCommand::of_code(0x0A) == Some(ConsoleCommand::Read)
+            && ConsoleCommand::of_code(7) == None
+    );
 }
 
 #[test]
@@ -308,7 +269,9 @@ fn exercised(kind: UnitKind, read: u8) -> (u8, usize, usize, u8, usize) {
 
 #[test]
 fn each_kind_of_unit_has_its_device(rt: HostRuntime) {
-    assert!(rt; exercised(UnitKind::Block, 2) == (0, 1, 1, 0x0C, 1));
-    assert!(rt; exercised(UnitKind::Console, 0x0A) == (0, 1, 1, 0x0C, 0));
-    assert!(rt; exercised(UnitKind::Rejecting, 2) == (2, 0, 0, 0x0C, 0));
+    assert!(rt;
+        exercised(UnitKind::Block, 2) == (0, 1, 1, 0x0C, 1)
+            && exercised(UnitKind::Console, 0x0A) == (0, 1, 1, 0x0C, 0)
+            && exercised(UnitKind::Rejecting, 2) == (2, 0, 0, 0x0C, 0)
+    );
 }

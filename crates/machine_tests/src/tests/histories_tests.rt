@@ -37,8 +37,9 @@ fn an_entry_is_found_the_same_wherever_its_bytes_stand(rt: HostRuntime) {
         two_puts(rt.alloc()),
         one_put(rt.alloc(), 0x500, &[1, 2, 3, 4]),
     );
-    assert!(rt; two.history().has_same(1, &one.history(), 0));
-    assert!(rt; one.history().has_same(0, &two.history(), 1));
+    assert!(rt;
+        two.history().has_same(1, &one.history(), 0) && one.history().has_same(0, &two.history(), 1)
+    );
 }
 
 #[test]
@@ -46,16 +47,17 @@ fn another_address_or_another_byte_is_told(rt: HostRuntime) {
     let two = two_puts(rt.alloc());
     let elsewhere = one_put(rt.alloc(), 0x501, &[1, 2, 3, 4]);
     let other_byte = one_put(rt.alloc(), 0x500, &[1, 2, 3, 5]);
-    assert!(rt; !two.history().has_same(1, &elsewhere.history(), 0));
-    assert!(rt; !two.history().has_same(1, &other_byte.history(), 0));
+    assert!(rt;
+        !two.history().has_same(1, &elsewhere.history(), 0)
+            && !two.history().has_same(1, &other_byte.history(), 0)
+    );
 }
 
 #[test]
 fn histories_of_the_same_entries_are_the_same(rt: HostRuntime) {
     let (two, again) = (two_puts(rt.alloc()), two_puts(rt.alloc()));
     let one = one_put(rt.alloc(), 0x400, &[9, 8, 7, 6]);
-    assert!(rt; two.history().is_same(&again.history()));
-    assert!(rt; !two.history().is_same(&one.history()));
+    assert!(rt; two.history().is_same(&again.history()) && !two.history().is_same(&one.history()));
 }
 
 #[test]

@@ -140,7 +140,5 @@ fn all_subchannels_are_answered_in_order(rt: HostRuntime) {
     let in_order = all_are_answered(&mut subsystem, cpu);
     let last = answered(&mut subsystem, cpu).is_none();
     drop(subsystem);
-    assert!(rt; cleared);
-    assert!(rt; in_order);
-    assert!(rt; last);
+    assert!(rt; cleared && in_order && last);
 }

@@ -182,11 +182,8 @@ fn configuring_lines_are_read(rt: HostRuntime) {
     let shared = shares(rt.alloc(), &config);
     drop(config);
     assert!(rt; all, "each line is read");
-    assert!(rt; blocks == Some(0x10));
-    assert!(rt; sets == 2);
-    assert!(rt; paths);
-    assert!(rt; subchannels == 2);
-    assert!(rt; shared == Some(true));
+    assert!(rt; blocks == Some(0x10) && sets == 2 && paths);
+    assert!(rt; subchannels == 2 && shared == Some(true));
 }
 
 /// Lines of words that configure no machine, and the rule that each breaks.

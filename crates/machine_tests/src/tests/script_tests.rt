@@ -128,8 +128,7 @@ fn a_right_script_is_read(rt: HostRuntime) {
     let sets = script.config().set_count();
     let lines = told(script.lines());
     drop(script);
-    assert!(rt; sets == 2);
-    assert!(rt; lines == (14, None, true));
+    assert!(rt; sets == 2 && lines == (14, None, true));
 }
 
 #[test]
@@ -144,7 +143,5 @@ fn a_script_gives_its_parts(rt: HostRuntime) {
     let count = lines.len();
     drop(config);
     drop(lines);
-    assert!(rt; has == (Some(0x10), true, 2));
-    assert!(rt; shared == Some(true));
-    assert!(rt; count == 14);
+    assert!(rt; has == (Some(0x10), true, 2) && shared == Some(true) && count == 14);
 }

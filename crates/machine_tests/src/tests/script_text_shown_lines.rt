@@ -26,8 +26,7 @@ const LINES: &[u8] = b"5 done\n6 made 12 cleared 9\n1000 refused 11\nbad line 9 
 #[test]
 fn lines_are_shown(rt: HostRuntime) {
     let mut sink = Watched::new(Vec::new(rt.alloc()));
-    assert!(rt; put_lines(&mut sink));
-    assert!(rt; sink.writer.as_slice() == LINES);
+    assert!(rt; put_lines(&mut sink) && sink.writer.as_slice() == LINES);
 }
 
 /// Takes so many bytes, and then no more.
@@ -57,9 +56,9 @@ fn a_sink_that_fails_has_a_beginning(rt: HostRuntime) {
             text: Vec::new(rt.alloc()),
             left,
         });
-        assert!(rt; !put_lines(&mut sink));
-        assert!(rt; sink.failed);
-        assert!(rt; sink.writer.text.as_slice() == &LINES[..left]);
+        assert!(rt;
+            !put_lines(&mut sink) && sink.failed && sink.writer.text.as_slice() == &LINES[..left]
+        );
     }
 }
 
@@ -86,6 +85,7 @@ fn a_line_is_written_at_once(rt: HostRuntime) {
     let shown = Reply::Shown {
         bytes: Chunk::of(&[0xC1; 64]),
     };
-    assert!(rt; put_event_line(&mut sink, 5, &Ok(ActionResult::Reply(shown))));
-    assert!(rt; sink.writer.calls == 1);
+    assert!(rt;
+        put_event_line(&mut sink, 5, &Ok(ActionResult::Reply(shown))) && sink.writer.calls == 1
+    );
 }

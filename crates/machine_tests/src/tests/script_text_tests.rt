@@ -97,8 +97,7 @@ fn replies_are_shown(rt: HostRuntime) {
     ];
     for (reply, text) in &rows {
         let mut sink = Watched::new(Vec::new(rt.alloc()));
-        assert!(rt; put_reply(&mut sink, reply));
-        assert!(rt; sink.writer.as_slice() == *text);
+        assert!(rt; put_reply(&mut sink, reply) && sink.writer.as_slice() == *text);
     }
 }
 
@@ -148,8 +147,7 @@ fn replies_of_instructions_without_a_subchannel_are_shown(rt: HostRuntime) {
     ];
     for (reply, text) in &rows {
         let mut sink = Watched::new(Vec::new(rt.alloc()));
-        assert!(rt; put_reply(&mut sink, reply));
-        assert!(rt; sink.writer.as_slice() == *text);
+        assert!(rt; put_reply(&mut sink, reply) && sink.writer.as_slice() == *text);
     }
 }
 
@@ -179,8 +177,7 @@ fn replies_with_a_path_are_shown(rt: HostRuntime) {
     ];
     for (reply, text) in &rows {
         let mut sink = Watched::new(Vec::new(rt.alloc()));
-        assert!(rt; put_reply(&mut sink, reply));
-        assert!(rt; sink.writer.as_slice() == *text);
+        assert!(rt; put_reply(&mut sink, reply) && sink.writer.as_slice() == *text);
     }
 }
 
@@ -212,7 +209,6 @@ fn refusals_are_shown(rt: HostRuntime) {
     ];
     for (refusal, text) in rows {
         let mut sink = Watched::new(Vec::new(rt.alloc()));
-        assert!(rt; put_refusal(&mut sink, &refusal));
-        assert!(rt; sink.writer.as_slice() == text);
+        assert!(rt; put_refusal(&mut sink, &refusal) && sink.writer.as_slice() == text);
     }
 }

@@ -111,8 +111,7 @@ fn a_line_is_at_most_1024_bytes(rt: HostRuntime) -> Result<(), AllocError> {
     let longer = long_text(rt.alloc(), 1025)?;
     let wrong = counted(rt.alloc(), longer.as_slice());
     drop(longer);
-    assert!(rt; right.ok() == Some(1));
-    assert!(rt; wrong.err() == Some(ScriptBad::Bad { line: 2, rule: 3 }));
+    assert!(rt; right.ok() == Some(1) && wrong.err() == Some(ScriptBad::Bad { line: 2, rule: 3 }));
     Ok(())
 }
 
@@ -178,9 +177,7 @@ fn each_growth_is_refused_in_turn(rt: HostRuntime) -> Result<(), AllocError> {
     let untold = first_untold(rt.alloc(), growing.as_slice(), growths);
     let with_all = read_short(rt.alloc(), growing.as_slice(), growths);
     drop(growing);
-    assert!(rt; growths > 20);
-    assert!(rt; untold == None);
-    assert!(rt; with_all == (None, false));
+    assert!(rt; growths > 20 && untold == None && with_all == (None, false));
     Ok(())
 }
 

@@ -49,9 +49,7 @@ fn one_command(rt: HostRuntime) {
     let Some(mut walk) = walk_of(&FORMAT_1) else {
         return assert!(rt; false, "the block is allowed");
     };
-    assert!(rt; walk.next() == Some(0x1000));
-    assert!(rt; walk.tried() == 0x1000);
-    assert!(rt; walk.latest().is_none());
+    assert!(rt; walk.next() == Some(0x1000) && walk.tried() == 0x1000 && walk.latest().is_none());
     let Some(storage) = storage_of(rt.alloc(), &blocks) else {
         return assert!(rt; false, "no memory");
     };
@@ -59,14 +57,11 @@ fn one_command(rt: HostRuntime) {
     let begun = walk;
     let second = walk.advance(&storage);
     drop(storage);
-    assert!(rt; first == Some((1, 4, 0x2000)));
-    assert!(rt; begun.next() == None);
-    assert!(rt; begun.tried() == 0x1008);
+    assert!(rt; first == Some((1, 4, 0x2000)) && begun.next() == None && begun.tried() == 0x1008);
     match begun.latest() {
         None => assert!(rt; false, "a block took control"),
         Some(latest) => {
-            assert!(rt; latest.address == 0x1000);
-            assert!(rt; latest.ccw.suppress_length);
+            assert!(rt; latest.address == 0x1000 && latest.ccw.suppress_length);
         }
     }
     assert!(rt; second == None);
@@ -111,10 +106,12 @@ fn data_chaining(rt: HostRuntime) {
     let next = walk.next();
     let second = taken(walk.advance(&storage));
     drop(storage);
-    assert!(rt; first == Some((1, 2, 0x2000)));
-    assert!(rt; next == Some(0x1008));
-    assert!(rt; second == Some((0, 2, 0x2100)));
-    assert!(rt; walk.tried() == 0x1010);
+    assert!(rt;
+        first == Some((1, 2, 0x2000))
+            && next == Some(0x1008)
+            && second == Some((0, 2, 0x2100))
+            && walk.tried() == 0x1010
+    );
     walk.used_up();
     assert!(rt; walk.next() == None);
     walk.device_end(GOES_ON);
@@ -144,8 +141,7 @@ fn command_chaining(rt: HostRuntime) {
         let chained = walk.next();
         let second = walk.advance(&storage);
         drop(storage);
-        assert!(rt; first == Some((0x31, 2, 0x2000)));
-        assert!(rt; chained == Some(next));
+        assert!(rt; first == Some((0x31, 2, 0x2000)) && chained == Some(next));
         match second {
             Some(Advance::Takes(ccw)) => assert!(rt; ccw.command == command),
             _ => assert!(rt; false, "a block takes control"),
@@ -197,8 +193,7 @@ fn suspension(rt: HostRuntime) {
     drop(storage);
     assert!(rt; suspended, "the program is suspended");
     assert!(rt; again, "it is suspended as long as the block says so");
-    assert!(rt; put == Ok(()));
-    assert!(rt; resumed == Some((1, 4, 0x2000)));
+    assert!(rt; put == Ok(()) && resumed == Some((1, 4, 0x2000)));
 }
 
 #[test]
@@ -223,11 +218,12 @@ fn addresses_of_a_program(rt: HostRuntime) {
     let with_other_key = first_advance(&keyed, &storage);
     drop(storage);
     let protected = Some(Advance::Stops(Check::Protection));
-    assert!(rt; off_boundary == Some((STOPS, 0x100C)));
-    assert!(rt; outside_storage == Some((STOPS, 0x1_1008)));
-    assert!(rt; too_long == Some((STOPS, 0x100_1008)));
-    assert!(rt; key_set == Ok(()));
-    assert!(rt; with_other_key == Some((protected, 0x1008)));
+    assert!(rt;
+        off_boundary == Some((STOPS, 0x100C))
+            && outside_storage == Some((STOPS, 0x1_1008))
+            && too_long == Some((STOPS, 0x100_1008))
+    );
+    assert!(rt; key_set == Ok(()) && with_other_key == Some((protected, 0x1008)));
 }
 
 #[test]
@@ -248,6 +244,5 @@ fn blocks_that_are_handed_in(rt: HostRuntime) {
     if let Some(address) = other.next() {
         other.unfetched(address, Check::Protection);
     }
-    assert!(rt; other.next() == None);
-    assert!(rt; other.tried() == 0x1008);
+    assert!(rt; other.next() == None && other.tried() == 0x1008);
 }

@@ -92,9 +92,7 @@ fn a_short_list_is_followed(rt: HostRuntime) {
         drop(storage);
         let is_taken = found.as_slice() == bytes;
         drop(found);
-        assert!(rt; is_taken);
-        assert!(rt; fault == check);
-        assert!(rt; at.residual() == residual);
+        assert!(rt; is_taken && fault == check && at.residual() == residual);
     }
     pieces();
 }
@@ -120,11 +118,8 @@ fn a_long_list_is_followed(rt: HostRuntime) {
         drop(storage);
         let all_taken = found.as_slice() == &[0xA1, 0xA2, 0xA3, 0xA4][..];
         drop(found);
-        assert!(rt; put.is_ok());
-        assert!(rt; fault == check);
-        assert!(rt; at.residual() == residual);
-        assert!(rt; at.is_incorrect(false) == (residual != 0));
-        assert!(rt; residual != 0 || all_taken);
+        assert!(rt; put.is_ok() && fault == check && at.residual() == residual);
+        assert!(rt; at.is_incorrect(false) == (residual != 0) && (residual != 0 || all_taken));
     }
 }
 
@@ -142,16 +137,13 @@ fn a_word_is_fetched_once(rt: HostRuntime) {
     let put = storage.put(0x3000, &[0, 0, 0x20, 0]);
     let again = at.locate(&storage, 0);
     drop(storage);
-    assert!(rt; located == Ok(()));
-    assert!(rt; put.is_ok());
-    assert!(rt; again == Ok(()));
-    assert!(rt; at.words() == 1);
-    assert!(rt; at.place() == Some(0x2FFE));
-    assert!(rt; at.room() == 2);
-    assert!(rt; at.ccw().count == 4);
+    assert!(rt; located == Ok(()) && put.is_ok() && again == Ok(()) && at.words() == 1);
+    assert!(rt; at.place() == Some(0x2FFE) && at.room() == 2 && at.ccw().count == 4);
     at.moved(2);
-    assert!(rt; next_fault(&mut at, 0x4010) == Some(WordFault::OffBlock));
-    assert!(rt; next_fault(&mut at, 0x4000) == None);
+    assert!(rt;
+        next_fault(&mut at, 0x4010) == Some(WordFault::OffBlock)
+            && next_fault(&mut at, 0x4000) == None
+    );
 }
 
 #[test]
@@ -173,14 +165,12 @@ fn the_key_guards_the_list_and_the_data(rt: HostRuntime) {
     let stored = store_two(&at, &mut storage, 1);
     let is_there = storage.fetch(0, 0x2FFE, 2).ok() == Some(&[1, 2][..]);
     drop(storage);
-    assert!(rt; list_guarded.is_ok());
-    assert!(rt; not_located == Err(PROTECTION));
-    assert!(rt; words == 0);
-    assert!(rt; located == Ok(()));
-    assert!(rt; data_guarded.is_ok());
-    assert!(rt; copied);
-    assert!(rt; not_stored == Err(PROTECTION));
-    assert!(rt; stored == Ok(()));
+    assert!(rt;
+        list_guarded.is_ok() && not_located == Err(PROTECTION) && words == 0 && located == Ok(())
+    );
+    assert!(rt;
+        data_guarded.is_ok() && copied && not_stored == Err(PROTECTION) && stored == Ok(())
+    );
     assert!(rt; is_there, "the bytes are in storage");
 }
 
@@ -202,11 +192,7 @@ fn skipped_bytes_move_nothing(rt: HostRuntime) {
     at.moved(at.room());
     let copied = at.copied(&storage, 0).is_ok_and(|chunk| chunk.len() == 0);
     drop(storage);
-    assert!(rt; located == Ok(()));
-    assert!(rt; begun.words() == 0);
-    assert!(rt; begun.room() == 256);
-    assert!(rt; begun.place() == None);
-    assert!(rt; stored == Ok(()));
-    assert!(rt; at.room() == 4);
+    assert!(rt; located == Ok(()) && begun.words() == 0 && begun.room() == 256);
+    assert!(rt; begun.place() == None && stored == Ok(()) && at.room() == 4);
     assert!(rt; copied, "no bytes are copied");
 }

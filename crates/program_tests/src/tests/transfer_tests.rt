@@ -95,16 +95,17 @@ fn a_write_is_given_and_absorbed(rt: HostRuntime) {
         None => false,
     };
     drop(storage);
-    assert!(rt; (transfer.command, transfer.code) == (1, 1));
-    assert!(rt; room == 0);
-    assert!(rt; is_met(&transfer, 1, 0) && is_met(&transfer, 1, 1));
-    assert!(rt; !is_met(&transfer, 1, 2) && !is_met(&transfer, 2, 0));
-    assert!(rt; all_given);
+    assert!(rt;
+        (transfer.command, transfer.code) == (1, 1)
+            && room == 0
+            && is_met(&transfer, 1, 0)
+            && is_met(&transfer, 1, 1)
+    );
+    assert!(rt; !is_met(&transfer, 1, 2) && !is_met(&transfer, 2, 0) && all_given);
     let Some(moved) = moved else {
         return assert!(rt; false, "the numbers are small");
     };
-    assert!(rt; (moved.sequence, moved.moving.residual()) == (1, 0));
-    assert!(rt; none_left);
+    assert!(rt; (moved.sequence, moved.moving.residual()) == (1, 0) && none_left);
     command_numbers();
 }
 
@@ -128,8 +129,7 @@ fn data_is_chained_as_the_count_is_used_up(rt: HostRuntime) {
     let Some(moved) = moved else {
         return assert!(rt; false, "the numbers are small");
     };
-    assert!(rt; (moved.moving.residual(), moved.walk.tried()) == (2, 0x1010));
-    assert!(rt; rest_given);
+    assert!(rt; (moved.moving.residual(), moved.walk.tried()) == (2, 0x1010) && rest_given);
 }
 
 #[test]
@@ -153,11 +153,9 @@ fn a_read_is_stored_where_it_belongs(rt: HostRuntime) {
         None => None,
     };
     drop(storage);
-    assert!(rt; told.room == 4);
-    assert!(rt; !is_met(&told.transfer, 1, 0) && is_met(&told.transfer, 1, 1));
+    assert!(rt; told.room == 4 && !is_met(&told.transfer, 1, 0) && is_met(&told.transfer, 1, 1));
     assert!(rt; stored.is_some(), "the numbers are small");
-    assert!(rt; room == Some(1));
-    assert!(rt; is_there);
+    assert!(rt; room == Some(1) && is_there);
     let Some(again) = again else {
         return assert!(rt; false, "the numbers are small");
     };
@@ -178,8 +176,7 @@ fn the_next_command_follows(rt: HostRuntime) {
     let unmodified = followed_by(&storage, &transfer, false);
     let modified = followed_by(&storage, &transfer, true);
     drop(storage);
-    assert!(rt; unmodified == Some((2, 0x31)));
-    assert!(rt; modified == Some((2, 2)));
+    assert!(rt; unmodified == Some((2, 0x31)) && modified == Some((2, 2)));
 }
 
 #[test]
@@ -196,8 +193,10 @@ fn what_a_program_may_not_begin_with(rt: HostRuntime) {
         let Some(found) = found else {
             return assert!(rt; false, "the block is allowed");
         };
-        assert!(rt; found.walk.tried() == 0x1008);
-        assert!(rt; matches!(found.came, CommandStart::Stops(Check::Program)));
+        assert!(rt;
+            found.walk.tried() == 0x1008
+                && matches!(found.came, CommandStart::Stops(Check::Program))
+        );
     }
 }
 
@@ -224,6 +223,5 @@ fn a_program_that_may_be_suspended_is(rt: HostRuntime) {
     };
     let found = first_command(&storage, Walk::start(orb));
     drop(storage);
-    assert!(rt; matches!(found.came, CommandStart::Suspends));
-    assert!(rt; found.walk.next() == Some(0x1000));
+    assert!(rt; matches!(found.came, CommandStart::Suspends) && found.walk.next() == Some(0x1000));
 }

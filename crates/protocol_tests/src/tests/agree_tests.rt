@@ -110,14 +110,8 @@ fn a_program_is_accepted_and_let_go(rt: HostRuntime) {
     let accepted = is_first_accepted(&world, side);
     let (downs, ups) = waiting(&world, side);
     drop(world);
-    assert!(rt; offered);
-    assert!(rt; held);
-    assert!(rt; owned == Some(2));
-    assert!(rt; released);
-    assert!(rt; let_go);
-    assert!(rt; accepted);
-    assert!(rt; downs == 0);
-    assert!(rt; ups == 0);
+    assert!(rt; offered && held && owned == Some(2) && released);
+    assert!(rt; let_go && accepted && downs == 0 && ups == 0);
 }
 
 /// Whether a program is offered whose Select arrives twice and is kept.
@@ -151,14 +145,8 @@ fn a_repeated_select_is_accepted_once(rt: HostRuntime) {
     let (downs_left, ups_left) = waiting(&world, side);
     let offered = matches!(world.hold(side).phase, HoldPhase::Offer { number: 1, .. });
     drop(world);
-    assert!(rt; repeated);
-    assert!(rt; accepted);
-    assert!(rt; downs == 1);
-    assert!(rt; ups == 1);
-    assert!(rt; lost);
-    assert!(rt; downs_left == 0);
-    assert!(rt; ups_left == 0);
-    assert!(rt; offered);
+    assert!(rt; repeated && accepted && downs == 1 && ups == 1);
+    assert!(rt; lost && downs_left == 0 && ups_left == 0 && offered);
 }
 
 #[test]
@@ -174,14 +162,8 @@ fn a_program_comes_back_on_another_path(rt: HostRuntime) {
     let granted = accepts(&mut world, &[down(side)]);
     let owned = owned_by(&world);
     drop(world);
-    assert!(rt; offered);
-    assert!(rt; left);
-    assert!(rt; away);
-    assert!(rt; asked);
-    assert!(rt; held);
-    assert!(rt; owned_before == None);
-    assert!(rt; granted);
-    assert!(rt; owned == Some(6));
+    assert!(rt; offered && left && away && asked);
+    assert!(rt; held && owned_before == None && granted && owned == Some(6));
 }
 
 /// Whether the unit is restarted, and a side is told so by this path.
@@ -206,13 +188,8 @@ fn a_restart_ends_by_a_reset(rt: HostRuntime) {
     let answered = accepts(&mut world, &[up(side)]);
     let let_go = is_let_go(&world, side);
     drop(world);
-    assert!(rt; offered);
-    assert!(rt; told);
-    assert!(rt; due == Some(2));
-    assert!(rt; sent);
-    assert!(rt; still_due == Some(2));
-    assert!(rt; answered);
-    assert!(rt; let_go);
+    assert!(rt; offered && told && due == Some(2) && sent);
+    assert!(rt; still_due == Some(2) && answered && let_go);
 }
 
 /// Whether a side clears its program, and its Reset is sent on this path and taken.
@@ -236,16 +213,9 @@ fn one_side_at_a_time_holds_the_device(rt: HostRuntime) {
     let free = is_free(&world, second);
     let held = is_held_by(&world, first, 0, 0);
     drop(world);
-    assert!(rt; offered);
-    assert!(rt; offered_too);
-    assert!(rt; refused);
-    assert!(rt; none_accepted);
-    assert!(rt; cleared);
-    assert!(rt; due == Some(2));
-    assert!(rt; owned == Some(0));
-    assert!(rt; answered);
-    assert!(rt; free);
-    assert!(rt; held);
+    assert!(rt; offered && offered_too && refused && none_accepted);
+    assert!(rt; cleared && due == Some(2) && owned == Some(0));
+    assert!(rt; answered && free && held);
 }
 
 /// Whether a program is chosen on a path that goes down then: its Select vanishes, and a Reset is due in its stead.
@@ -287,12 +257,9 @@ fn a_path_that_goes_down_takes_its_signals(rt: HostRuntime) {
     let due = reset_number(&world, side);
     drop(world);
     assert!(rt; lost, "the Select is lost");
-    assert!(rt; nothing_sent);
-    assert!(rt; sent);
+    assert!(rt; nothing_sent && sent);
     assert!(rt; lost_again, "the Reset is lost");
-    assert!(rt; reset);
-    assert!(rt; first_due == Some(1));
-    assert!(rt; due == Some(4));
+    assert!(rt; reset && first_due == Some(1) && due == Some(4));
 }
 
 #[test]
@@ -307,10 +274,7 @@ fn an_idle_unit_asks_for_attention(rt: HostRuntime) {
     let answered = accepts(&mut world, &[down(side)]);
     let left = world.downs_len(side);
     drop(world);
-    assert!(rt; asked);
-    assert!(rt; sent == 1);
-    assert!(rt; answered);
-    assert!(rt; left == 0);
+    assert!(rt; asked && sent == 1 && answered && left == 0);
 }
 
 /// Whether each of the events is refused because there is no such path.
@@ -397,14 +361,8 @@ fn what_cannot_be_is_refused(rt: HostRuntime) {
     let not_down_twice = are_not_now(&mut world, &[WorldEvent::PathDown { side, path: 7 }]);
     let not_reset = are_not_now(&mut world, &[WorldEvent::PathReset { side, path: 7 }]);
     drop(world);
-    assert!(rt; paths_refused);
-    assert!(rt; signals_refused);
-    assert!(rt; idle_refused);
-    assert!(rt; chosen);
-    assert!(rt; not_chosen_twice);
-    assert!(rt; down_once);
-    assert!(rt; not_down_twice);
-    assert!(rt; not_reset);
+    assert!(rt; paths_refused && signals_refused && idle_refused && chosen);
+    assert!(rt; not_chosen_twice && down_once && not_down_twice && not_reset);
 }
 
 #[test]
@@ -424,9 +382,7 @@ fn a_run_passes_over_what_is_refused(rt: HostRuntime) {
     let held = is_held_by(&world, side, 5, 0);
     let accepted = is_first_accepted(&world, side);
     drop(world);
-    assert!(rt; run);
-    assert!(rt; held);
-    assert!(rt; accepted);
+    assert!(rt; run && held && accepted);
 }
 
 /// Whether this event is accepted fifteen hundred times.
@@ -449,8 +405,5 @@ fn more_than_a_thousand_signals_are_kept(rt: HostRuntime) {
         .run(&[WorldEvent::Restart, WorldEvent::Attention { side, path: 1 }])
         .is_ok();
     drop(world);
-    assert!(rt; asked);
-    assert!(rt; kept == 1500);
-    assert!(rt; others == 0);
-    assert!(rt; run);
+    assert!(rt; asked && kept == 1500 && others == 0 && run);
 }

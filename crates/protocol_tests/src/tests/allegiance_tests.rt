@@ -45,8 +45,10 @@ fn after(cause: AllegianceCause) -> u8 {
 #[test]
 fn a_program_works_by_its_first_path_or_by_its_last(rt: HostRuntime) {
     let path = Path::new(4).unwrap();
-    assert!(rt; mask_of_path(active(&held(on(path), true))) == 0x08);
-    assert!(rt; active(&held(away(), false)).is_none());
+    assert!(rt;
+        mask_of_path(active(&held(on(path), true))) == 0x08
+            && active(&held(away(), false)).is_none()
+    );
     for (single_path, first, last) in [(true, 0x40, 0x40), (false, 0x08, 0x20)] {
         let connected = working(&held(on(path), single_path), Path::new(2));
         assert!(rt;
@@ -83,12 +85,16 @@ fn a_program_comes_back_by_its_first_path_or_by_any(rt: HostRuntime) {
 #[test]
 fn unit_check_binds_a_subchannel_until_a_later_program_is_served(rt: HostRuntime) {
     let path = Path::new(4).unwrap();
-    assert!(rt; after(ended(path, true)) == 0x08);
-    assert!(rt; after(ended(path, false)) == 0);
-    assert!(rt; after(AllegianceCause::Data { later: false }) == 0x10);
-    assert!(rt; after(AllegianceCause::Data { later: true }) == 0);
-    assert!(rt; after(AllegianceCause::Clear) == 0);
-    assert!(rt; after(AllegianceCause::SystemReset) == 0);
+    assert!(rt;
+        after(ended(path, true)) == 0x08
+            && after(ended(path, false)) == 0
+            && after(AllegianceCause::Data { later: false }) == 0x10
+    );
+    assert!(rt;
+        after(AllegianceCause::Data { later: true }) == 0
+            && after(AllegianceCause::Clear) == 0
+            && after(AllegianceCause::SystemReset) == 0
+    );
 }
 
 #[test]
@@ -102,14 +108,18 @@ fn the_usable_paths_are_counted_down(rt: HostRuntime) {
         dedicated: None,
     };
     let engaged = paths_of_mask(0x21);
-    assert!(rt; mask_of_paths(paths.allowed()) == 0xF0);
-    assert!(rt; mask_of_paths(paths.reachable()) == 0x70);
-    assert!(rt; mask_of_paths(paths.usable(&engaged)) == 0x50);
-    assert!(rt; mask_of_paths(paths.lost()) == 0x80);
-    assert!(rt; paths.mark_lost());
-    assert!(rt; mask_of_paths(paths.operational) == 0x7F);
-    assert!(rt; mask_of_paths(paths.not_operational) == 0x82);
-    assert!(rt; !paths.mark_lost());
+    assert!(rt;
+        mask_of_paths(paths.allowed()) == 0xF0
+            && mask_of_paths(paths.reachable()) == 0x70
+            && mask_of_paths(paths.usable(&engaged)) == 0x50
+            && mask_of_paths(paths.lost()) == 0x80
+    );
+    assert!(rt;
+        paths.mark_lost()
+            && mask_of_paths(paths.operational) == 0x7F
+            && mask_of_paths(paths.not_operational) == 0x82
+            && !paths.mark_lost()
+    );
     paths.dedicated = Path::new(3);
     assert!(rt; mask_of_paths(paths.usable(&engaged)) == 0x10);
     paths.dedicated = Path::new(4);

@@ -51,9 +51,7 @@ fn events_of_storage_are_copied(rt: HostRuntime) {
     let Some(length) = ChunkLength::new(256) else {
         return assert!(rt; false, "the length is in range");
     };
-    assert!(rt; is_put_copied());
-    assert!(rt; is_show_copied(length));
-    assert!(rt; is_key_copied());
+    assert!(rt; is_put_copied() && is_show_copied(length) && is_key_copied());
 }
 
 /// The side of the copy of a report, and the numbers of its program, command and chunk; None where another unit reports.
@@ -81,8 +79,7 @@ fn reports_are_copied(rt: HostRuntime) {
     let Some((side, numbers)) = copied_report() else {
         return assert!(rt; false, "the same unit reports");
     };
-    assert!(rt; side.same(Side::Second));
-    assert!(rt; numbers == (1, 2, 3));
+    assert!(rt; side.same(Side::Second) && numbers == (1, 2, 3));
 }
 
 /// Whether the act of a unit is copied.
@@ -131,23 +128,22 @@ fn copied_request(cpu: Cpu) -> Option<(Cpu, OtherInstruction)> {
 
 #[test]
 fn events_of_units_and_requests_are_copied(rt: HostRuntime) {
-    assert!(rt; is_act_copied());
-    assert!(rt; is_restart_copied());
+    assert!(rt; is_act_copied() && is_restart_copied());
     let Some(cpu) = Cpu::new(2) else {
         return assert!(rt; false, "the number is in range");
     };
     let Some((cpu, instruction)) = copied_request(cpu) else {
         return assert!(rt; false, "the same instruction is executed");
     };
-    assert!(rt; cpu.number() == 2);
     assert!(rt;
-        matches!(
-            instruction,
-            OtherInstruction::Tpi {
-                mask: 0x80,
-                address: 0x600
-            }
-        )
+        cpu.number() == 2
+            && matches!(
+                instruction,
+                OtherInstruction::Tpi {
+                    mask: 0x80,
+                    address: 0x600
+                }
+            )
     );
 }
 
@@ -166,10 +162,7 @@ fn events_of_channel_paths_are_copied(rt: HostRuntime) {
         Event::PathReset { chpid: 0xFF }
     );
     let system_reset = matches!(Event::SystemReset.copy(), Event::SystemReset);
-    assert!(rt; down);
-    assert!(rt; up);
-    assert!(rt; path_reset);
-    assert!(rt; system_reset);
+    assert!(rt; down && up && path_reset && system_reset);
 }
 
 #[test]
@@ -180,8 +173,7 @@ fn replies_are_copied(rt: HostRuntime) {
     };
     let shown_too = matches!(shown.copy(), Reply::Shown { .. });
     drop(shown);
-    assert!(rt; pending);
-    assert!(rt; shown_too);
+    assert!(rt; pending && shown_too);
 }
 
 /// The number and the path of a Reset, or of a Halt, that was sent: first of the one, then of the other.
@@ -200,6 +192,5 @@ fn resets_and_halts_that_are_sent_are_copied(rt: HostRuntime) {
     };
     let reset = sent(&(Reply::ResetSent { number: 3, path }).copy());
     let halt = sent(&(Reply::HaltSent { number: 4, path }).copy());
-    assert!(rt; reset == (Some((3, 5)), None));
-    assert!(rt; halt == (None, Some((4, 5))));
+    assert!(rt; reset == (Some((3, 5)), None) && halt == (None, Some((4, 5))));
 }

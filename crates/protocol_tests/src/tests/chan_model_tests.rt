@@ -15,18 +15,20 @@ fn names_keep_their_range(rt: HostRuntime) {
     assert!(rt; Path::new(8).is_none() && Cpu::new(16).is_none());
     match (Path::new(7), Path::new(0), Cpu::new(15)) {
         (Some(last), Some(first), Some(cpu)) => {
-            assert!(rt; last.index() == 7);
-            assert!(rt; last.same(last) && !last.same(first));
-            assert!(rt; cpu.number() == 15);
-            assert!(rt; mask_of_path(Some(last)) == 1);
-            assert!(rt; mask_of_path(Some(first)) == 0x80);
+            assert!(rt;
+                last.index() == 7 && last.same(last) && !last.same(first) && cpu.number() == 15
+            );
+            assert!(rt; mask_of_path(Some(last)) == 1 && mask_of_path(Some(first)) == 0x80);
         }
         _ => assert!(rt; false, "the names are in range"),
     }
-    assert!(rt; mask_of_path(None) == 0);
-    assert!(rt; mask_of_paths(paths_of_mask(0xA1)) == 0xA1);
-    assert!(rt; paths_of_mask(0xA1) == [true, false, true, false, false, false, false, true]);
-    assert!(rt; Side::First.same(Side::First) && !Side::First.same(Side::Second));
+    assert!(rt;
+        mask_of_path(None) == 0
+            && mask_of_paths(paths_of_mask(0xA1)) == 0xA1
+            && paths_of_mask(0xA1) == [true, false, true, false, false, false, false, true]
+            && Side::First.same(Side::First)
+            && !Side::First.same(Side::Second)
+    );
 }
 
 #[test]
@@ -40,12 +42,8 @@ fn chunks_and_signals_are_copied(rt: HostRuntime) {
     let absorbed = Load::Absorbed(9).len();
     let halt = matches!(Down::Halt { number: 3 }.copy(), Down::Halt { number: 3 });
     let busy = matches!(Up::Busy { number: 3 }.copy(), Up::Busy { number: 3 });
-    assert!(rt; count == 3);
-    assert!(rt; copied);
-    assert!(rt; loaded == 3);
-    assert!(rt; absorbed == 9);
-    assert!(rt; halt);
-    assert!(rt; busy);
+    assert!(rt; count == 3 && copied && loaded == 3);
+    assert!(rt; absorbed == 9 && halt && busy);
 }
 
 #[test]
@@ -65,8 +63,7 @@ fn reports_are_copied(rt: HostRuntime) {
         _ => None,
     };
     drop(report);
-    assert!(rt; side.same(Side::Second));
-    assert!(rt; numbers == (1, 2, 3));
+    assert!(rt; side.same(Side::Second) && numbers == (1, 2, 3));
     assert!(rt; same_bytes.is_some(), "bytes were supplied");
     assert!(rt; same_bytes == Some(true));
 }
@@ -93,9 +90,8 @@ fn codes_bring_their_serials(rt: HostRuntime) {
                 made: 2,
                 cleared: 1
             })
-        )
+        ) && Answer::of(ConditionCode::Two, serials).code() == ConditionCode::Two
     );
-    assert!(rt; Answer::of(ConditionCode::Two, serials).code() == ConditionCode::Two);
 }
 
 #[test]

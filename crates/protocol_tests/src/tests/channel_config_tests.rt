@@ -46,18 +46,24 @@ fn storage_and_sets_are_given_once(rt: HostRuntime) {
     let sets_twice = config.sets(4);
     let sets = config.set_count();
     drop(config);
-    assert!(rt; blocks_before == None);
-    assert!(rt; too_few == Err(ConfigFault::Rule(1)));
-    assert!(rt; too_many == Err(ConfigFault::Rule(1)));
-    assert!(rt; given == Ok(()));
-    assert!(rt; given_twice == Err(ConfigFault::Rule(1)));
-    assert!(rt; blocks == Some(0x1000));
-    assert!(rt; sets_before == 1);
-    assert!(rt; no_sets == Err(ConfigFault::Rule(8)));
-    assert!(rt; five_sets == Err(ConfigFault::Rule(8)));
-    assert!(rt; four_sets == Ok(()));
-    assert!(rt; sets_twice == Err(ConfigFault::Rule(8)));
-    assert!(rt; sets == 4);
+    assert!(rt;
+        blocks_before == None
+            && too_few == Err(ConfigFault::Rule(1))
+            && too_many == Err(ConfigFault::Rule(1))
+            && given == Ok(())
+    );
+    assert!(rt;
+        given_twice == Err(ConfigFault::Rule(1))
+            && blocks == Some(0x1000)
+            && sets_before == 1
+            && no_sets == Err(ConfigFault::Rule(8))
+    );
+    assert!(rt;
+        five_sets == Err(ConfigFault::Rule(8))
+            && four_sets == Ok(())
+            && sets_twice == Err(ConfigFault::Rule(8))
+            && sets == 4
+    );
 }
 
 /// Whether so many units are accepted, numbered from 0.
@@ -82,15 +88,19 @@ fn paths_and_units_are_named_once(rt: HostRuntime) {
     let one_more = config.unit(0x400, UnitKind::Block);
     let count = config.units().len();
     drop(config);
-    assert!(rt; out_of_range == Err(ConfigFault::Rule(2)));
-    assert!(rt; first == Ok(()));
-    assert!(rt; second == Ok(()));
-    assert!(rt; path_twice == Err(ConfigFault::Rule(2)));
+    assert!(rt;
+        out_of_range == Err(ConfigFault::Rule(2))
+            && first == Ok(())
+            && second == Ok(())
+            && path_twice == Err(ConfigFault::Rule(2))
+    );
     assert!(rt; in_order, "the paths are in the order they were given in");
-    assert!(rt; out_of_turn == Err(ConfigFault::Rule(3)));
-    assert!(rt; units_accepted);
-    assert!(rt; one_more == Err(ConfigFault::Rule(3)));
-    assert!(rt; count == 0x400);
+    assert!(rt;
+        out_of_turn == Err(ConfigFault::Rule(3))
+            && units_accepted
+            && one_more == Err(ConfigFault::Rule(3))
+            && count == 0x400
+    );
 }
 
 /// Whether each line that shares units is answered as its rule has it.
@@ -141,11 +151,9 @@ fn units_share_in_groups(rt: HostRuntime) {
     let grouped = are_grouped(rt.alloc(), &config);
     let refused = are_groups_refused(rt.alloc(), &config);
     drop(config);
-    assert!(rt; units_accepted);
-    assert!(rt; shared);
+    assert!(rt; units_accepted && shared);
     assert!(rt; grouped.is_some(), "the allocator has room");
-    assert!(rt; grouped == Some(true));
-    assert!(rt; refused);
+    assert!(rt; grouped == Some(true) && refused);
 }
 
 /// Whether nine channel paths, two units and two subchannel sets are accepted.
@@ -209,14 +217,13 @@ fn subchannels_use_what_there_is(rt: HostRuntime) {
     let count = config.subchannels().len();
     let second_kept = has_second(&config);
     drop(config);
-    assert!(rt; parts_accepted);
-    assert!(rt; first == Ok(()));
-    assert!(rt; refused);
-    assert!(rt; second == Ok(()));
-    assert!(rt; third == Err(ConfigFault::Rule(4)));
-    assert!(rt; sets_too_late == Err(ConfigFault::Rule(8)));
-    assert!(rt; count == 2);
-    assert!(rt; second_kept);
+    assert!(rt; parts_accepted && first == Ok(()) && refused && second == Ok(()));
+    assert!(rt;
+        third == Err(ConfigFault::Rule(4))
+            && sets_too_late == Err(ConfigFault::Rule(8))
+            && count == 2
+            && second_kept
+    );
 }
 
 /// A path, a unit, which grows two lists, and a subchannel.

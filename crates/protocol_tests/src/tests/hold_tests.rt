@@ -67,16 +67,9 @@ fn a_program_leaves_comes_back_and_ends(rt: HostRuntime) {
     let let_go = lets_go(&mut hold);
     let released = takes(&mut hold, second, &Up::Released { number: 1 });
     let free = matches!(hold.state().phase, HoldPhase::Free);
-    assert!(rt; offered);
-    assert!(rt; accepted);
-    assert!(rt; connected);
-    assert!(rt; left);
-    assert!(rt; away);
-    assert!(rt; granted);
-    assert!(rt; back);
-    assert!(rt; let_go);
-    assert!(rt; released);
-    assert!(rt; free);
+    assert!(rt; offered && accepted && connected && left);
+    assert!(rt; away && granted && back);
+    assert!(rt; let_go && released && free);
 }
 
 /// Whether a Reset is sent on this path, with what the hold knows of restarts.
@@ -102,10 +95,6 @@ fn a_reset_is_sent_again_where_its_path_is_lost(rt: HostRuntime) {
     let lost = hold.path_down(path, 9);
     let cleared_late = takes(&mut hold, path, &Up::Cleared { number: 7 });
     let cleared = takes(&mut hold, path, &Up::Cleared { number: 9 });
-    assert!(rt; told);
-    assert!(rt; !lost_unsent);
-    assert!(rt; sent);
-    assert!(rt; lost);
-    assert!(rt; !cleared_late);
-    assert!(rt; cleared);
+    assert!(rt; told && !lost_unsent && sent);
+    assert!(rt; lost && !cleared_late && cleared);
 }

@@ -11,8 +11,7 @@ fn chosen<P: PathChoice>(choice: &P, mask: u8, last: Option<u32>) -> Option<usiz
 
 #[test]
 fn paths_are_chosen_by_any_rule(rt: HostRuntime) {
-    assert!(rt; chosen(&Lowest, 0x25, Some(2)) == Some(2));
-    assert!(rt; chosen(&Lowest, 0, Some(2)) == None);
+    assert!(rt; chosen(&Lowest, 0x25, Some(2)) == Some(2) && chosen(&Lowest, 0, Some(2)) == None);
     for (mask, last, want) in [
         (0xFF, None, Some(0)),
         (0x25, None, Some(2)),

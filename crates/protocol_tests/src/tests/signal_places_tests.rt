@@ -47,8 +47,7 @@ fn a_place_has_what_was_written_last(rt: HostRuntime) {
     drop(sent);
     assert!(rt; empty);
     assert!(rt; last, "the last Give, with its own bytes alone");
-    assert!(rt; halted);
-    assert!(rt; cleared);
+    assert!(rt; halted && cleared);
 }
 
 #[test]
@@ -90,9 +89,7 @@ fn an_answer_is_read_off_its_place(rt: HostRuntime) {
     );
     drop(place);
     drop(answer);
-    assert!(rt; full);
-    assert!(rt; replied);
-    assert!(rt; pending);
+    assert!(rt; full && replied && pending);
     assert!(rt; shown, "the bytes that were shown");
     assert!(rt; met);
 }

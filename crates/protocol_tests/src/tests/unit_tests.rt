@@ -293,21 +293,10 @@ fn a_write_is_carried_out(rt: HostRuntime) {
     let released = is_released(&mut unit, path);
     let idle = matches!(unit.own(), Own::Idle);
     drop(unit);
-    assert!(rt; answered);
-    assert!(rt; accepted);
-    assert!(rt; commanded);
-    assert!(rt; code == Some(1));
-    assert!(rt; asked_on == Some(6));
-    assert!(rt; asked == Some((0, 0)));
-    assert!(rt; given);
-    assert!(rt; count == Some(1));
-    assert!(rt; moved == Some((1, 1)));
-    assert!(rt; noted);
-    assert!(rt; to_finish);
-    assert!(rt; end);
-    assert!(rt; rests);
-    assert!(rt; released);
-    assert!(rt; idle);
+    assert!(rt; answered && accepted && commanded && code == Some(1));
+    assert!(rt; asked_on == Some(6) && asked == Some((0, 0)) && given && count == Some(1));
+    assert!(rt; moved == Some((1, 1)) && noted && to_finish && end);
+    assert!(rt; rests && released && idle);
 }
 
 /// Whether a read of this room is selected and commanded by this path.
@@ -366,19 +355,10 @@ fn a_read_is_carried_out(rt: HostRuntime) {
     let end = is_end(reported(&mut unit, &answer(2, ended())));
     let rests = unit.work().is_none();
     drop(unit);
-    assert!(rt; commanded);
-    assert!(rt; code == Some(2));
-    assert!(rt; begun);
-    assert!(rt; most == Some(64));
-    assert!(rt; first_brought);
-    assert!(rt; rest == Some(2));
-    assert!(rt; longer_refused);
-    assert!(rt; second == Some((0, 2, 2)));
-    assert!(rt; !ended_early);
-    assert!(rt; noted);
-    assert!(rt; to_finish);
-    assert!(rt; end);
-    assert!(rt; rests);
+    assert!(rt; commanded && code == Some(2) && begun && most == Some(64));
+    assert!(rt; first_brought && rest == Some(2) && longer_refused);
+    assert!(rt; second == Some((0, 2, 2)) && !ended_early && noted);
+    assert!(rt; to_finish && end && rests);
 }
 
 #[test]
@@ -391,11 +371,8 @@ fn a_read_ends_where_there_is_no_room(rt: HostRuntime) {
     let none_refused = is_refused(&unit, &answer(0, DeviceAnswer::Supplied(Chunk::new())));
     let end = reported(&mut unit, &answer(0, ended())).taken;
     drop(unit);
-    assert!(rt; commanded);
-    assert!(rt; begun);
-    assert!(rt; to_finish);
-    assert!(rt; none_refused);
-    assert!(rt; end);
+    assert!(rt; commanded && begun && to_finish);
+    assert!(rt; none_refused && end);
 }
 
 #[test]
@@ -409,12 +386,8 @@ fn a_read_ends_where_the_device_has_no_more(rt: HostRuntime) {
     let noted = takes(&mut unit, Side::First, path, &took(1, 256));
     let to_finish = is_to_finish(&unit);
     drop(unit);
-    assert!(rt; commanded);
-    assert!(rt; begun);
-    assert!(rt; most == Some(256));
-    assert!(rt; none == Some((0, 1, 0)));
-    assert!(rt; noted);
-    assert!(rt; to_finish);
+    assert!(rt; commanded && begun && most == Some(256));
+    assert!(rt; none == Some((0, 1, 0)) && noted && to_finish);
 }
 
 /// The connection and the chunk of the Data that brings the first two bytes of a read, and how many it brings.
@@ -442,19 +415,10 @@ fn what_was_not_answered_is_sent_again(rt: HostRuntime) {
     let rests = unit.work().is_none();
     let taken_twice = reported(&mut unit, &answer(1, DeviceAnswer::Again)).taken;
     drop(unit);
-    assert!(rt; commanded);
-    assert!(rt; begun);
-    assert!(rt; brought == Some((0, 1, 2)));
-    assert!(rt; refused);
-    assert!(rt; left);
-    assert!(rt; asked);
-    assert!(rt; waits);
-    assert!(rt; granted);
-    assert!(rt; to_send_again);
-    assert!(rt; again_on == Some(1));
-    assert!(rt; again == Some((1, 1, 2)));
-    assert!(rt; rests);
-    assert!(rt; !taken_twice);
+    assert!(rt; commanded && begun && brought == Some((0, 1, 2)) && refused);
+    assert!(rt; left && asked && waits);
+    assert!(rt; granted && to_send_again && again_on == Some(1));
+    assert!(rt; again == Some((1, 1, 2)) && rests && !taken_twice);
 }
 
 /// Whether the unit leaves the path of the first connection.
@@ -492,11 +456,8 @@ fn a_path_is_left_and_asked_for(rt: HostRuntime) {
     let granted = takes(&mut unit, Side::Second, second, &grant());
     let connected = connected_path(&unit);
     drop(unit);
-    assert!(rt; selected);
-    assert!(rt; left);
-    assert!(rt; asked);
-    assert!(rt; granted);
-    assert!(rt; connected == Some(1));
+    assert!(rt; selected && left && asked);
+    assert!(rt; granted && connected == Some(1));
 }
 
 /// Whether the unit asks the first side for its first attention.
@@ -538,12 +499,8 @@ fn a_restart_is_told_to_both_sides(rt: HostRuntime) {
     let first = unit.state().first;
     let second = unit.state().second;
     drop(unit);
-    assert!(rt; asked);
-    assert!(rt; noticed);
-    assert!(rt; told);
-    assert!(rt; cleared);
-    assert!(rt; first.floor == 5 && !first.fresh);
-    assert!(rt; second.floor == 0 && second.fresh);
+    assert!(rt; asked && noticed && told);
+    assert!(rt; cleared && first.floor == 5 && !first.fresh && second.floor == 0 && second.fresh);
 }
 
 /// The status of the attention that was sent.
@@ -565,7 +522,8 @@ fn an_owed_control_unit_end_is_said_once(rt: HostRuntime) {
     let first = attention_status(attended(&mut unit, Side::First, path));
     let second = attention_status(attended(&mut unit, Side::First, path));
     drop(unit);
-    assert!(rt; idle);
-    assert!(rt; first == Some(DeviceStatus::CONTROL_UNIT_END));
-    assert!(rt; second == Some(DeviceStatus::ATTENTION));
+    assert!(rt;
+        idle && first == Some(DeviceStatus::CONTROL_UNIT_END)
+            && second == Some(DeviceStatus::ATTENTION)
+    );
 }
