@@ -295,28 +295,36 @@ impl<J: Naming, P: PathChoice + Drop> Core<J, P> {
         ensures logs { IfSome result (λ count. count ≡ sum_by (λ s. length s.value.log) seats.items) }
         ensures none { IfNone result (vec_len seats ≢ self.value.seats) }
     {
+        let made = usize::from(self.seats);
+        let count = self.by.len() as u64;
+        let (mut entries, rest) = self.into_ledger();
+        if seats.len() != made {
+            return None;
+        }
+        settle(&mut entries, rest, seats);
+        Some(count)
+    }
+
+    /// The ledger of its entries, and the parts of it that no seat has.
+    fn into_ledger(self) -> (Book<Entries<J>>, Share<Entries<J>>)
+        ensures entries { result.0.total ≡ length self.value.history }
+        ensures parts { result.1.parts + self.value.seats ≡ 1025 }
+        ensures amount { result.1.amount ≡ 0 }
+    {
         let Core {
             alloc: _,
             subsystem: _,
-            by,
-            seats: made,
+            by: _,
+            seats: _,
             writers: _,
             directory: _,
-            mut entries,
-            mut rest,
+            entries,
+            rest,
             turns: _,
             turns_left: _,
             answer: _,
         } = self;
-        if seats.len() != usize::from(made) {
-            return None;
-        }
-        let mut seats = seats;
-        while let Some(seat) = seats.pop() {
-            rest.merge(seat.into_share());
-        }
-        entries.audit(&mut rest);
-        Some(by.len() as u64)
+        (entries, rest)
     }
 
     /// One step, entered from a seat: its reply, with the entry in the history and in the seat's log. Where it is refused all
@@ -453,6 +461,21 @@ impl<J: Naming> Seat<J> {
         } = self;
         share
     }
+}
+
+/// The shares of these seats are put together with the rest: with all parts they have what the ledger counts.
+fn settle<J: Naming>(
+    entries: &mut Book<Entries<J>>,
+    mut rest: Share<Entries<J>>,
+    mut seats: Vec<Seat<J>>,
+)
+    requires { rest.parts + vec_len seats ≡ 1025 }
+    ensures { entries.old.total ≡ rest.amount + sum_by (λ s. length s.value.log) seats.items }
+{
+    while let Some(seat) = seats.pop() {
+        rest.merge(seat.into_share());
+    }
+    entries.audit(&mut rest);
 }
 
 /// Whether the log of each seat is what the history has of it, in order.

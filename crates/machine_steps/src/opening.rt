@@ -1,12 +1,14 @@
 //! The machine at its opening.
 
-ghost use Rattle.std.specs.Prelude.{◌≡◌, IfOk, OnOk, OnErr, map, true};
+ghost use Rattle.std.specs.Prelude.{◌≡◌, IfOk, OnOk, OnErr, map, true, unwrap_or};
 ghost use Rattle.machine_model.specs.State as state_spec;
 ghost use Rattle.subchannel_model.specs.Opening as opening_spec;
 ghost use Rattle.channel_config.specs.Lawful.{IsLawful};
 ghost use Rattle.channel_config.specs.Setup as setup_spec;
 ghost use Rattle.control_units.specs.Units as members_spec;
 ghost use Rattle.finding.specs.Tables.{Fits};
+ghost use Rattle.interruptions.specs.Requests.{no_requests_wait};
+ghost use Rattle.storage_keys.specs.Storage.{cleared_storage};
 
 use crate::machine::Machine;
 use crate::tables::configured;
@@ -128,6 +130,56 @@ fn shared<S: Supply>(alloc: Global, supply: &mut S, config: &Config) -> Result<S
     Sharing::new_with(alloc, supply, groups.as_slice())
 }
 
+/// The units and the subchannels of a configuration at its opening, and the places of these.
+fn opened_sides<S: Supply>(
+    alloc: Global,
+    supply: &mut S,
+    config: &Config,
+) -> Result<(Places, Vec<Unit>, Vec<Subchannel>), AllocError>
+    ensures fits { IfOk result (λ sides. Fits sides.0 sides.2.items) }
+    ensures units { IfOk result (λ sides. sides.1.items ≡ map state_spec.idle_of config.now.units) }
+    ensures subs { IfOk result (λ sides. sides.2.items ≡ map opening_spec.opened config.now.subchannels) }
+    ensures lawful { OnOk result (IsLawful config.now) }
+    ensures given { OnOk result (S.refused supply.new ≡ S.refused supply.old) }
+    ensures memory { OnErr result (S.refused supply.new ≡ true) }
+{
+    let units = idle_units(alloc, supply, config.units())?;
+    let subs = opened_all(alloc, supply, config.subchannels())?;
+    let places = Places::of(
+        alloc,
+        supply,
+        config.set_count(),
+        units.len(),
+        subs.as_slice(),
+    )?;
+    Ok((places, units, subs))
+}
+
+/// What the subsystem keeps beside them at the opening: storage, the channel paths, what control units keep, and requests for
+/// interruptions.
+fn opened_rest<S: Supply>(
+    alloc: Global,
+    supply: &mut S,
+    config: &Config,
+) -> Result<(Storage, Vec<u8>, Sharing, Pending), AllocError>
+    ensures storage { IfOk result (λ rest. rest.0 ≡ cleared_storage (unwrap_or config.now.blocks 16)) }
+    ensures chpids { IfOk result (λ rest. rest.1.items ≡ config.now.paths) }
+    ensures sharing { IfOk result (λ rest. rest.2 ≡ map members_spec.idle_member (setup_spec.groups_of config.now)) }
+    ensures pending { IfOk result (λ rest. rest.3 ≡ no_requests_wait 0x100) }
+    ensures given { OnOk result (S.refused supply.new ≡ S.refused supply.old) }
+    ensures memory { OnErr result (S.refused supply.new ≡ true) }
+{
+    let blocks = match config.blocks() {
+        Some(blocks) => blocks,
+        None => 16,
+    };
+    let storage = Storage::new_with(alloc, supply, blocks)?;
+    let chpids = copied(alloc, supply, config.paths())?;
+    let sharing = shared(alloc, supply, config)?;
+    let pending = Pending::new_with(alloc, supply, NUMBERS_OF_A_SET)?;
+    Ok((storage, chpids, sharing, pending))
+}
+
 /// The machine of a configuration, with the places of its subchannels. It is refused only where the supply refuses a
 /// growth.
 pub fn opened_machine<S: Supply>(
@@ -141,24 +193,18 @@ pub fn opened_machine<S: Supply>(
     ensures given { OnOk result (S.refused supply.new ≡ S.refused supply.old) }
     ensures memory { OnErr result (S.refused supply.new ≡ true) }
 {
-    let blocks = match config.blocks() {
-        Some(blocks) => blocks,
-        None => 16,
-    };
-    let sets = config.set_count();
-    let units = idle_units(alloc, supply, config.units())?;
-    let subs = opened_all(alloc, supply, config.subchannels())?;
-    let places = Places::of(alloc, supply, sets, units.len(), subs.as_slice())?;
+    let (places, units, subs) = opened_sides(alloc, supply, config)?;
+    let (storage, chpids, sharing, pending) = opened_rest(alloc, supply, config)?;
     let engines = Engines::of(subs.as_slice());
     let machine = Machine {
-        storage: Storage::new_with(alloc, supply, blocks)?,
-        sets,
-        chpids: copied(alloc, supply, config.paths())?,
+        storage,
+        sets: config.set_count(),
+        chpids,
         up: configured(config.paths()),
         subs,
         units,
-        sharing: shared(alloc, supply, config)?,
-        pending: Pending::new_with(alloc, supply, NUMBERS_OF_A_SET)?,
+        sharing,
+        pending,
         reports: Reports::new(),
         engines,
     };

@@ -3,9 +3,9 @@
 
 ghost use Rattle.std.specs.Prelude.{◌≡◌, ◌+◌, [], Bool, IsTrue, IfOk, List, None, Some, OnErr, OnOk, length, map, replicate, slice_get, true, ◌↔◌, ◌≤◌, ℕ};
 ghost use Rattle.serving.specs.Acting as spec;
-ghost use Rattle.serving.specs.Racing.{AreMade, HasLogs, IsRaced};
+ghost use Rattle.serving.specs.Racing.{AreMade, HasLogs, IsRaced, IsSeatedIn};
 ghost use Rattle.serving.specs.Acting.{books_of, past_of, PerformsAction, Happens, IsAudited, Looks, TakesTurn, HandsIn, opening_installed, outcome_at};
-ghost use Rattle.machine_model.specs.State.{opening_of, sub_of, serials_in};
+ghost use Rattle.machine_model.specs.State.{opening_of, sub_of, serials_in, unit_turn_of};
 ghost use Rattle.subsystem.specs.Keeping.{all_serials};
 ghost use Rattle.signal_places.specs.Answers.{answer_at};
 ghost use Rattle.core_lock.specs.Directory.{directory_of};
@@ -19,7 +19,7 @@ ghost use Rattle.chan_events.specs.declared.event.Event.TheVariants as event_spe
 
 use crate::places::{Places, no_report, write_choose, write_down, write_execute, write_up};
 use crate::racing::{Racers, one_seat};
-use crate::reports::{copy_to, forget, keep, worked};
+use crate::reports::{forget, keep, reported_by};
 use chan_events::event::Event;
 use chan_model::fault::Fault;
 use chan_model::report::Report;
@@ -33,7 +33,6 @@ use device_law::Device;
 use device_models::any_device::AnyDevice;
 use glance_cell::words::Glance;
 use kept_events::events::KeptEvent;
-use machine_steps::kept_turns::KeptTurn;
 use path_select::Rotating;
 use script_rows::places::KeptAction;
 use script_rows::race::Race;
@@ -283,26 +282,7 @@ impl<J: Naming> Installation<J> {
         ensures report { spec.reported result report.new ≡ (spec.device_turn_of self.old «unit»).report }
         ensures calls { self.new ≡ record self.old { devices = (spec.device_turn_of self.old «unit»).devices } }
     {
-        let Some(kept) = self.kept.get(unit as usize) else {
-            return Err(Fault::NoSuchUnit);
-        };
-        let Some(turn) = self.core.subsystem().kept_turn(unit) else {
-            return Err(Fault::NoSuchUnit);
-        };
-        if let Some(kept) = kept {
-            copy_to(kept, report);
-            return Ok(());
-        }
-        match turn {
-            KeptTurn::Works(work) => worked(
-                &mut self.devices,
-                unit,
-                work,
-                self.core.subsystem().given(unit),
-                report,
-            ),
-            KeptTurn::Takes { .. } | KeptTurn::Away { .. } | KeptTurn::Rests => Err(Fault::NotNow),
-        }
+        report_among(&self.core, &mut self.devices, &self.kept, unit, report)
     }
 
     /// Hands in a report. It is kept where it is refused for want of memory or of room on a wire, and only there.
@@ -317,6 +297,27 @@ impl<J: Naming> Installation<J> {
             }
         }
     }
+}
+
+/// The report that is kept among these for a unit, else the one of its next work, written into a place.
+fn report_among<J: Naming>(
+    core: &Core<J, Rotating>,
+    devices: &mut Vec<AnyDevice>,
+    kept: &[Option<Report>],
+    unit: u32,
+    report: &mut Report,
+) -> Result<(), Fault>
+    ensures report { spec.reported result report.new ≡ (spec.turn_by devices.old.items «unit» (slice_get kept.now «unit») (unit_turn_of core.now.value.state «unit»)).report }
+    ensures calls { devices.new.items ≡ (spec.turn_by devices.old.items «unit» (slice_get kept.now «unit») (unit_turn_of core.now.value.state «unit»)).devices }
+{
+    let Some(kept) = kept.get(unit as usize) else {
+        return Err(Fault::NoSuchUnit);
+    };
+    let subsystem = core.subsystem();
+    let Some(turn) = subsystem.kept_turn(unit) else {
+        return Err(Fault::NoSuchUnit);
+    };
+    reported_by(devices, unit, kept, turn, subsystem.given(unit), report)
 }
 
 /// Whether the log of a machine's one seat is what the history has of it.
@@ -400,9 +401,31 @@ fn opening_seats<J: Naming, S: CoreSupply>(
     ensures memory { OnErr result (S.refused supply.new ≡ true) }
 {
     let mut core = opening_core(alloc, supply, config, parts)?;
-    let seat = one_seat(supply, &mut core)?;
-    let racers = Racers::new(alloc, supply, &mut core, cpus)?;
-    Ok((core, seat, racers))
+    match first_seats(alloc, supply, &mut core, cpus) {
+        Ok((seat, racers)) => Ok((core, seat, racers)),
+        Err(_) => Err(AllocError),
+    }
+}
+
+/// The first seat of a core, and as many CPUs more that are to race.
+fn first_seats<J: Naming, S: CoreSupply>(
+    alloc: Global,
+    supply: &mut S,
+    core: &mut Core<J, Rotating>,
+    cpus: u32,
+) -> Result<(Seat<J>, Racers<J>), AllocError>
+    requires { core.old.value.seats ≡ 0 }
+    ensures number { IfOk result (λ both. both.0.value.number ≡ 0) }
+    ensures log { IfOk result (λ both. both.0.value.log ≡ []) }
+    ensures room { IfOk result (λ both. both.0.room ≡ 0) }
+    ensures racers { IfOk result (λ both. AreMade cpus both.1) }
+    ensures core { IfOk result (λ _. IsSeatedIn core.old.value core.new.value) }
+    ensures given { OnOk result (S.refused supply.new ≡ S.refused supply.old) }
+    ensures memory { OnErr result (S.refused supply.new ≡ true) }
+{
+    let seat = one_seat(supply, core)?;
+    let racers = Racers::new(alloc, supply, core, cpus)?;
+    Ok((seat, racers))
 }
 
 /// What a seat sees of the serials of the subchannel that a word names; None where it knows none of that name.

@@ -4,6 +4,7 @@ ghost use Rattle.std.specs.Prelude.{◌≡◌, ◌≤◌, ℕ, None, Some, lengt
 ghost use Rattle.chan_events.specs.declared.event.Event.TheVariants as event_spec;
 ghost use Rattle.chan_model.specs.declared.report.Report.{Report};
 ghost use Rattle.kept_work.specs.Works.{call_in, work_in};
+ghost use Rattle.machine_steps.specs.KeptTurns.{turn_in};
 ghost use Rattle.serving.specs.Acting as spec;
 
 use chan_events::event::Event;
@@ -12,11 +13,12 @@ use chan_model::report::{DeviceAnswer, Report};
 use device_law::answering::answer_to;
 use device_models::any_device::AnyDevice;
 use kept_work::works::{KeptCall, KeptWork, Task};
+use machine_steps::kept_turns::KeptTurn;
 
 /// Writes the same report into a place.
 #[cold]
 #[inline(never)]
-pub(crate) fn copy_to(kept: &Report, report: &mut Report)
+fn copy_to(kept: &Report, report: &mut Report)
     ensures { report.new ≡ kept.now }
 {
     *report = kept.copy();
@@ -42,8 +44,35 @@ pub(crate) fn keep(kept: &mut Option<Report>, event: &Event)
     }
 }
 
+/// The report that is kept for a unit, else the one of its next work where this is its turn, written into a place.
+pub(crate) fn reported_by(
+    devices: &mut Vec<AnyDevice>,
+    unit: u32,
+    kept: &Option<Report>,
+    turn: KeptTurn,
+    bytes: &[u8],
+    report: &mut Report,
+) -> Result<(), Fault>
+    requires { length bytes.now ≤ 256 }
+    ensures report { spec.reported result report.new ≡ (spec.turn_by devices.old.items «unit» (Some kept.now) (Some (turn_in turn bytes.now))).report }
+    ensures calls { devices.new.items ≡ (spec.turn_by devices.old.items «unit» (Some kept.now) (Some (turn_in turn bytes.now))).devices }
+{
+    match kept {
+        Some(kept) => {
+            copy_to(kept, report);
+            Ok(())
+        }
+        None => match turn {
+            KeptTurn::Works(work) => worked(devices, unit, work, bytes, report),
+            KeptTurn::Takes { .. } | KeptTurn::Away { .. } | KeptTurn::Rests => {
+                Err(Fault::NotNow)
+            }
+        },
+    }
+}
+
 /// The report of a work of a unit, written into a place. Where there is a call of its device, it is made; these bytes stand beside it.
-pub(crate) fn worked(
+fn worked(
     devices: &mut Vec<AnyDevice>,
     unit: u32,
     work: KeptWork,

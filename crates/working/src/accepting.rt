@@ -206,6 +206,34 @@ fn check_first(
     let_go(state, sent)
 }
 
+/// The program begins by what its first block, from which its walk stands here, comes to.
+fn begin_as(
+    storage: &Storage,
+    state: &mut SubchannelState,
+    path: Path,
+    number: u64,
+    standing: &ProgramPosition,
+    walk: Walk,
+    advance: Option<Advance>,
+    sent: &mut SentDown,
+) -> bool
+    requires { state.old.serials.made < 2 ^ 63 }
+    ensures { subchannel_stepped state.new (came_so result sent.new) ≡
+        spec.beginning storage.now state.old path number standing.now walk (transfer_spec.command_begins walk 1 advance) }
+{
+    match advance {
+        Some(Advance::Takes(ccw)) => {
+            let first = command_of(walk, 1, ccw);
+            send_first(storage, state, path, number, standing.program, first, sent)
+        }
+        Some(Advance::Suspends) => suspend_first(state, standing, walk, sent),
+        Some(Advance::Stops(check)) => {
+            check_first(state, walk.tried(), check, standing.count, sent)
+        }
+        None => check_first(state, walk.tried(), Check::Program, standing.count, sent),
+    }
+}
+
 fn begin_with(
     storage: &Storage,
     state: &mut SubchannelState,
@@ -219,17 +247,7 @@ fn begin_with(
 {
     let mut walk = standing.walk;
     let advance = walk.advance(storage);
-    match advance {
-        Some(Advance::Takes(ccw)) => {
-            let first = command_of(walk, 1, ccw);
-            send_first(storage, state, path, number, standing.program, first, sent)
-        }
-        Some(Advance::Suspends) => suspend_first(state, standing, walk, sent),
-        Some(Advance::Stops(check)) => {
-            check_first(state, walk.tried(), check, standing.count, sent)
-        }
-        None => check_first(state, walk.tried(), Check::Program, standing.count, sent),
-    }
+    begin_as(storage, state, path, number, standing, walk, advance, sent)
 }
 
 fn begin_standing(

@@ -1,10 +1,9 @@
 //! Many threads enter many events, and nothing is lost.
 
 use crate::tests::crowds::instruction_of;
-use crate::tests::hands::{Hand, Task, add_hand, add_worker, closed_all};
+use crate::tests::hands::{Hand, Task, add_hand, add_worker};
 use crate::tests::machines::{accepts, accepts_all, enable, loads, word_of};
-use crate::tests::replaying::replays;
-use crate::tests::stories::{Story, goes, setting};
+use crate::tests::stories::{Story, goes};
 use chan_model::names::Cpu;
 use core_lock::gate::Open;
 use core_lock::locked::{Core, Seat};
@@ -33,6 +32,9 @@ const PATHS: u8 = 4;
 const WORKERS: u32 = 4;
 
 const UNITS_EACH: u32 = 16;
+
+/// How many entries the first seat makes: a program lies in storage, and all subchannels are enabled.
+const FIRST: u64 = 3 + (WORKERS * UNITS_EACH) as u64;
 
 /// How many hands there are: of the CPUs, of the workers of all channel paths and of all units.
 const HANDS: u64 = 24;
@@ -104,76 +106,86 @@ impl<J: Naming> Hand<J> {
 }
 
 /// The hands of all CPUs, of the workers of all channel paths and of all units.
-fn all_hands<J: Naming>(alloc: Global, core: &mut Core<J, Rotating>) -> Option<Vec<Hand<J>>> {
-    let mut hands = Vec::new(alloc);
+fn add_all<J: Naming>(
+    alloc: Global,
+    core: &mut Core<J, Rotating>,
+    hands: &mut Vec<Hand<J>>,
+) -> bool {
     for number in 0..CPUS {
-        let task = Task::Program(Cpu::new(number)?);
-        if !add_hand(core, &mut hands, task) {
-            return None;
+        let Some(cpu) = Cpu::new(number) else {
+            return false;
+        };
+        if !add_hand(core, hands, Task::Program(cpu)) {
+            return false;
         }
     }
     for path in 0..PATHS {
-        if !add_hand(core, &mut hands, Task::Path(0x10 + path)) {
-            return None;
+        if !add_hand(core, hands, Task::Path(0x10 + path)) {
+            return false;
         }
     }
     for worker in 0..WORKERS {
-        if !add_worker(alloc, core, &mut hands, UNITS_EACH * worker, UNITS_EACH) {
-            return None;
+        if !add_worker(alloc, core, hands, UNITS_EACH * worker, UNITS_EACH) {
+            return false;
         }
     }
-    Some(hands)
+    true
 }
 
-/// All subchannels are enabled, and a program lies in storage: how many entries that made.
-fn begins<J: Naming>(core: &mut Core<J, Rotating>, seat: &mut Seat<J>) -> Option<u64> {
-    let cpu = Cpu::new(0)?;
+/// A program lies in storage, and all subchannels are enabled.
+fn begins<J: Naming>(core: &mut Core<J, Rotating>, seat: &mut Seat<J>) -> bool {
+    let Some(cpu) = Cpu::new(0) else {
+        return false;
+    };
     if !accepts_all(core, seat, &loads()) {
-        return None;
+        return false;
     }
     for number in 0..WORKERS * UNITS_EACH {
         if !accepts(core, seat, cpu, &[enable(word_of(number), false)]) {
-            return None;
+            return false;
         }
     }
-    Some(3 + u64::from(WORKERS * UNITS_EACH))
+    true
 }
 
-/// A seat from which that was entered, and how many entries it made.
-fn begun<J: Naming>(core: &mut Core<J, Rotating>) -> Option<(Seat<J>, u64)> {
-    let mut seat = core.seat().ok()?;
-    let entries = begins(core, &mut seat)?;
-    Some((seat, entries))
+/// That is entered, and there are all hands.
+pub fn begins_crowd<J: Naming>(
+    alloc: Global,
+    core: &mut Core<J, Rotating>,
+    first: &mut Seat<J>,
+    hands: &mut Vec<Hand<J>>,
+) -> bool {
+    begins(core, first) && add_all(alloc, core, hands)
 }
 
-/// How many entries were answered to these hands; None where one of them has none.
-fn answered<J: Naming>(hands: &[Hand<J>]) -> Option<u64> {
+/// How many entries were answered to these hands.
+pub fn answered<J: Naming>(hands: &[Hand<J>]) -> u64 {
     let mut sum = 0u64;
     for hand in hands {
-        if hand.answered == 0 {
-            return None;
-        }
-        sum = sum.checked_add(hand.answered)?;
+        sum = sum.saturating_add(hand.answered);
     }
-    Some(sum)
+    sum
 }
 
-/// Whether there are entries enough in the end, all of them counted, and a fresh subsystem answers them in the same way.
-fn ends<J: Naming>(
-    alloc: Global,
-    core: Core<J, Rotating>,
-    first: Seat<J>,
-    hands: Vec<Hand<J>>,
-    entries: u64,
-) -> bool {
-    let config = setting(alloc, Story::Crowds);
-    let replayed = replays(alloc, config, &core.subsystem().history());
-    let counted = closed_all(alloc, core, first, hands);
-    replayed && entries >= ENTRIES && counted == Some(entries)
+/// Whether there are entries enough in the end, all of them counted: the first ones, and those that were answered to hands.
+pub fn are_enough(answered: u64, entries: Option<u64>) -> bool {
+    let counted = FIRST.saturating_add(answered);
+    counted >= ENTRIES && entries == Some(counted)
 }
 
-/// All hands work, each on a thread of its own, until there are entries enough.
-fn at_once<J: Naming + Send + Sync, R: Threads + Wait + Sync>(
+/// Whether each hand has an entry.
+fn have_all<J: Naming>(hands: &[Hand<J>]) -> bool {
+    for hand in hands {
+        if hand.answered == 0 {
+            return false;
+        }
+    }
+    true
+}
+
+/// All hands work, each on a thread of its own, until there are entries enough, and each of them has one. Then each log is what the
+/// history has of it, all entries are counted, none is lost, and a fresh subsystem answers them in the same way.
+pub fn crowds<J: Naming + Send + Sync, R: Threads + Wait + Sync>(
     rt: &R,
     machine: &Machine<J, Rotating>,
     hands: Vec<Hand<J>>,
@@ -188,58 +200,11 @@ fn at_once<J: Naming + Send + Sync, R: Threads + Wait + Sync>(
             hand
         },
     );
-    worked.ok()
-}
-
-/// These hands work, where this seat has made so many entries.
-fn crowds_from<J: Naming + Send + Sync, R: Threads + Wait + Sync>(
-    rt: &R,
-    alloc: Global,
-    core: Core<J, Rotating>,
-    first: Seat<J>,
-    hands: Vec<Hand<J>>,
-    before: u64,
-) -> bool {
-    let machine = Machine::new(core);
-    match at_once(rt, &machine, hands) {
-        Some(hands) => {
-            let after = answered(hands.as_slice());
-            let entries = match after {
-                Some(after) => before.saturating_add(after),
-                None => 0,
-            };
-            ends(alloc, machine.into_core(), first, hands, entries)
-        }
-        None => false,
-    }
-}
-
-/// The same as `crowds`, where this seat has made so many entries.
-fn crowds_after<J: Naming + Send + Sync, R: Threads + Wait + Sync>(
-    rt: &R,
-    alloc: Global,
-    core: Core<J, Rotating>,
-    first: Seat<J>,
-    before: u64,
-) -> bool {
-    let mut core = core;
-    match all_hands(alloc, &mut core) {
-        Some(hands) => crowds_from(rt, alloc, core, first, hands, before),
-        None => false,
-    }
-}
-
-/// All hands work at once until there are entries enough. Then each log is what the history has of it, all entries are counted,
-/// none is lost, and a fresh subsystem answers them in the same way.
-pub fn crowds<J: Naming + Send + Sync, R: Threads + Wait + Sync>(
-    rt: &R,
-    alloc: Global,
-    core: Core<J, Rotating>,
-) -> bool {
-    let mut core = core;
-    match begun(&mut core) {
-        Some((first, before)) => crowds_after(rt, alloc, core, first, before),
-        None => false,
+    let hands = worked.ok()?;
+    if have_all(hands.as_slice()) {
+        Some(hands)
+    } else {
+        None
     }
 }
 

@@ -75,65 +75,41 @@ fn begins<J: Naming>(core: &mut Core<J, Rotating>, seat: &mut Seat<J>, subchanne
     ) && accepts_all(core, seat, &events)
 }
 
-/// Programs are begun at both subchannels, from one seat.
-fn begins_both<J: Naming>(core: &mut Core<J, Rotating>) -> bool {
-    match core.seat() {
-        Ok(mut program) => {
-            accepts_all(core, &mut program, &loads())
-                && begins(core, &mut program, word_of(0))
-                && begins(core, &mut program, word_of(1))
-        }
-        Err(_) => false,
-    }
+/// Programs are begun at both subchannels, and both units have a worker.
+pub fn begins_both<J: Naming>(
+    alloc: Global,
+    core: &mut Core<J, Rotating>,
+    program: &mut Seat<J>,
+    hands: &mut Vec<Hand<J>>,
+) -> bool {
+    accepts_all(core, program, &loads())
+        && begins(core, program, word_of(0))
+        && begins(core, program, word_of(1))
+        && add_worker(alloc, core, hands, 0, 1)
+        && add_worker(alloc, core, hands, 1, 1)
 }
 
-/// The workers of both units.
-fn workers<J: Naming>(alloc: Global, core: &mut Core<J, Rotating>) -> Option<Vec<Hand<J>>> {
-    let mut hands = Vec::new(alloc);
-    if add_worker(alloc, core, &mut hands, 0, 1) && add_worker(alloc, core, &mut hands, 1, 1) {
-        Some(hands)
-    } else {
-        None
-    }
-}
-
-/// Two units have a command to take, and their workers meet at the gate.
+/// Two units have a command to take, and the first calls of their workers meet at the gate.
 pub fn meets<J: Naming + Send + Sync, R: Threads + Wait + Sync>(
     rt: &R,
-    alloc: Global,
-    core: Core<J, Rotating>,
-) -> bool {
-    let mut core = core;
-    if !begins_both(&mut core) {
-        return false;
-    }
-    match workers(alloc, &mut core) {
-        Some(hands) => at_once(rt, core, hands),
-        None => false,
-    }
-}
-
-/// Whether the first calls of all hands meet.
-fn at_once<J: Naming + Send + Sync, R: Threads + Wait + Sync>(
-    rt: &R,
-    core: Core<J, Rotating>,
+    machine: &Machine<J, Rotating>,
     hands: Vec<Hand<J>>,
-) -> bool {
+) -> Option<Vec<Hand<J>>> {
     let gate = Meeting {
         came: AtomicU64::new(0),
         met: AtomicU64::new(0),
     };
-    let machine = Machine::new(core);
     let worked = thread::map_vec(
         rt,
         hands,
         &|hand: Hand<J>| {
             let mut hand = hand;
-            let _ = hand.turns(rt, &machine, &gate, false, TURNS);
+            let _ = hand.turns(rt, machine, &gate, false, TURNS);
             hand
         },
     );
-    worked.is_ok() && gate.met.load(Ordering::SeqCst) == 2
+    let met = gate.met.load(Ordering::SeqCst);
+    if met == 2 { worked.ok() } else { None }
 }
 
 #[test]

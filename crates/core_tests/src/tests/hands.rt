@@ -5,7 +5,7 @@ ghost use Rattle.std.specs.Prelude.{◌≡◌, None};
 use chan_model::names::Cpu;
 use channel_config::parts::UnitKind;
 use core_lock::gate::Gate;
-use core_lock::locked::{Core, Seat, audit};
+use core_lock::locked::{Core, Seat};
 use core_lock::machine::Machine;
 use core_lock::naming::Naming;
 use device_models::any_device::AnyDevice;
@@ -22,6 +22,8 @@ pub enum Task {
     Path(u8),
     /// Turns of the workers of units, from this one on, each with its device.
     Units { first: u32, devices: Vec<AnyDevice> },
+    /// Looks at the serials of a subchannel.
+    Looks,
 }
 
 /// A seat that owes no call, and what it is for.
@@ -31,6 +33,8 @@ pub struct Hand<J: Naming> {
     pub task: Task,
     /// How many entries were answered to it.
     pub answered: u64,
+    /// Whether all that it did came out as it must.
+    pub well: bool,
     ghost rests: { seat.value.owed ≡ None },
 }
 
@@ -43,21 +47,29 @@ fn stores(alloc: Global, count: usize) -> Result<Vec<AnyDevice>, AllocError> {
     Ok(devices)
 }
 
+/// One hand more, with this seat.
+pub fn hold<J: Naming>(hands: &mut Vec<Hand<J>>, seat: Seat<J>, task: Task) -> bool
+    requires { seat.value.owed ≡ None }
+{
+    let hand = Hand {
+        seat,
+        task,
+        answered: 0,
+        well: true,
+    };
+    hands.push(hand).is_ok()
+}
+
 /// One hand more, with a seat of its own.
 pub fn add_hand<J: Naming>(
     core: &mut Core<J, Rotating>,
     hands: &mut Vec<Hand<J>>,
     task: Task,
 ) -> bool {
-    let Ok(seat) = core.seat() else {
-        return false;
-    };
-    let hand = Hand {
-        seat,
-        task,
-        answered: 0,
-    };
-    hands.push(hand).is_ok()
+    match core.seat() {
+        Ok(seat) => hold(hands, seat, task),
+        Err(_) => false,
+    }
 }
 
 /// The worker of so many units, from this one on, with a seat of its own.
@@ -76,11 +88,12 @@ pub fn add_worker<J: Naming>(
 
 impl<J: Naming> Hand<J> {
     /// Its seat.
-    pub fn into_seat(self) -> Seat<J> {
+    fn into_seat(self) -> Seat<J> {
         let Hand {
             seat,
             task: _,
             answered: _,
+            well: _,
         } = self;
         seat
     }
@@ -95,7 +108,7 @@ impl<J: Naming> Hand<J> {
         turns: u64,
     ) -> u64 {
         match &mut self.task {
-            Task::Program(_) => 0,
+            Task::Program(_) | Task::Looks => 0,
             Task::Path(chpid) => machine.path_worker(rt, &mut self.seat, *chpid, turns),
             Task::Units { first, devices } => {
                 unit_turns(
@@ -138,64 +151,16 @@ fn unit_turns<J: Naming, G: Gate, R: Wait>(
     added
 }
 
-/// These seats and one more.
-pub fn with_seat<J: Naming>(seats: Vec<Seat<J>>, seat: Seat<J>) -> Option<Vec<Seat<J>>> {
-    let mut seats = seats;
-    seats.push(seat).ok()?;
-    Some(seats)
-}
-
-/// The seats of these hands.
-fn seats_of<J: Naming>(alloc: Global, hands: Vec<Hand<J>>) -> Option<Vec<Seat<J>>> {
-    let mut seats = Vec::new(alloc);
-    for hand in hands {
-        seats.push(hand.into_seat()).ok()?;
-    }
-    Some(seats)
-}
-
-/// How many entries the history has, where it has those of the logs and all seats are given; None where not.
-pub fn closed<J: Naming>(core: Core<J, Rotating>, seats: Vec<Seat<J>>) -> Option<u64> {
-    if !audit(&core, seats.as_slice()) {
-        return None;
-    }
-    core.close(seats)
-}
-
-/// The same, where there is one seat more.
-pub fn closed_with<J: Naming>(
-    core: Core<J, Rotating>,
-    seats: Vec<Seat<J>>,
-    seat: Seat<J>,
-) -> Option<u64> {
-    match with_seat(seats, seat) {
-        Some(seats) => closed(core, seats),
-        None => None,
-    }
-}
-
-/// The same, where there are two seats more.
-pub fn closed_with_both<J: Naming>(
-    core: Core<J, Rotating>,
-    seats: Vec<Seat<J>>,
-    first: Seat<J>,
-    second: Seat<J>,
-) -> Option<u64> {
-    match with_seat(seats, first) {
-        Some(seats) => closed_with(core, seats, second),
-        None => None,
-    }
-}
-
-/// The same, where there are the seats of hands and one more.
-pub fn closed_all<J: Naming>(
+/// This seat, and those of these hands.
+pub fn seats_of<J: Naming>(
     alloc: Global,
-    core: Core<J, Rotating>,
-    seat: Seat<J>,
+    first: Seat<J>,
     hands: Vec<Hand<J>>,
-) -> Option<u64> {
-    match seats_of(alloc, hands) {
-        Some(seats) => closed_with(core, seats, seat),
-        None => None,
+) -> Result<Vec<Seat<J>>, AllocError> {
+    let mut seats = Vec::new(alloc);
+    seats.push(first)?;
+    for hand in hands {
+        seats.push(hand.into_seat())?;
     }
+    Ok(seats)
 }

@@ -2,7 +2,7 @@
 
 ghost use Rattle.std.specs.Prelude.{◌≡◌, None};
 
-use crate::tests::hands::{Hand, Task, closed_with_both, with_seat};
+use crate::tests::hands::{Hand, Task, add_hand};
 use crate::tests::machines::{WORD, accepts, accepts_all, enable, tsch};
 use crate::tests::seats_tests::seen;
 use crate::tests::stories::{Story, goes};
@@ -16,7 +16,8 @@ use core_lock::naming::Naming;
 use path_select::Rotating;
 use std::alloc::Global;
 use std::sync::Wait;
-use std::thread::{Threads, join};
+use std::thread;
+use std::thread::Threads;
 
 /// How many statuses are made and cleared.
 const STATUSES: u64 = 1_000;
@@ -70,10 +71,10 @@ fn makes_all<J: Naming, R: Wait>(
 }
 
 /// Whether nothing falls between one look and the next, and no status is seen cleared that is not seen made.
-fn never_falls<J: Naming>(seat: &mut Seat<J>) -> bool {
+fn never_falls<J: Naming>(hand: &mut Hand<J>) -> bool {
     let mut last = (0, 0);
     for look in 0..PATIENCE {
-        let Some(now) = seen(seat) else {
+        let Some(now) = seen(&mut hand.seat) else {
             return false;
         };
         if now.0 < last.0 || now.1 < last.1 || now.0 < now.1 {
@@ -87,6 +88,19 @@ fn never_falls<J: Naming>(seat: &mut Seat<J>) -> bool {
     false
 }
 
+/// Whether all that a hand does comes out as it must: one looks, and the other makes and clears.
+fn goes_well<J: Naming, R: Wait>(
+    rt: &R,
+    machine: &Machine<J, Rotating>,
+    hand: &mut Hand<J>,
+) -> bool {
+    if let Task::Looks = &hand.task {
+        never_falls(hand)
+    } else {
+        makes_all(rt, machine, hand)
+    }
+}
+
 /// The subchannel is enabled, and its path goes down.
 fn begins<J: Naming>(core: &mut Core<J, Rotating>, seat: &mut Seat<J>) -> bool {
     let Some(cpu) = Cpu::new(0) else {
@@ -96,107 +110,54 @@ fn begins<J: Naming>(core: &mut Core<J, Rotating>, seat: &mut Seat<J>) -> bool {
         && accepts_all(core, seat, &[Event::PathDown { chpid: 0x10 }])
 }
 
-/// A seat from which that was entered.
-fn begun<J: Naming>(core: &mut Core<J, Rotating>) -> Option<Seat<J>> {
-    let mut seat = core.seat().ok()?;
-    if begins(core, &mut seat) {
-        Some(seat)
+/// That is entered, and there are a hand that makes statuses and one that looks.
+pub fn begins_looks<J: Naming>(
+    core: &mut Core<J, Rotating>,
+    first: &mut Seat<J>,
+    hands: &mut Vec<Hand<J>>,
+) -> bool {
+    begins(core, first)
+        && add_hand(core, hands, Task::Path(0x10))
+        && add_hand(core, hands, Task::Looks)
+}
+
+/// Whether all went well with each hand, and it sees all statuses made and cleared.
+fn have_seen<J: Naming>(hands: &mut Vec<Hand<J>>) -> bool {
+    for place in 0..hands.len() {
+        let hand = &mut hands[place];
+        if !hand.well || seen(&mut hand.seat) != Some((STATUSES, STATUSES)) {
+            return false;
+        }
+    }
+    true
+}
+
+/// One thread makes and clears statuses, and another looks: they, where both went well and see all statuses in the end.
+pub fn looks<J: Naming + Send + Sync, R: Threads + Wait + Sync>(
+    rt: &R,
+    machine: &Machine<J, Rotating>,
+    hands: Vec<Hand<J>>,
+) -> Option<Vec<Hand<J>>> {
+    let worked = thread::map_vec(
+        rt,
+        hands,
+        &|hand: Hand<J>| {
+            let mut hand = hand;
+            hand.well = goes_well(rt, machine, &mut hand);
+            hand
+        },
+    );
+    let mut hands = worked.ok()?;
+    if have_seen(&mut hands) {
+        Some(hands)
     } else {
         None
     }
 }
 
-/// A hand that makes statuses, and a seat that looks.
-fn sides<J: Naming>(core: &mut Core<J, Rotating>) -> Option<(Hand<J>, Seat<J>)> {
-    let seat = core.seat().ok()?;
-    let looker = core.seat().ok()?;
-    let maker = Hand {
-        seat,
-        task: Task::Path(0x10),
-        answered: 0,
-    };
-    Some((maker, looker))
-}
-
-/// One thread makes and clears, and another looks: their seats, and whether both went well.
-fn at_once<J: Naming + Send + Sync, R: Threads + Wait + Sync>(
-    rt: &R,
-    machine: &Machine<J, Rotating>,
-    maker: Hand<J>,
-    looker: Seat<J>,
-) -> (Seat<J>, Seat<J>, bool) {
-    let ((maker, made), (looker, saw)) = join(
-        rt,
-        move || {
-            let mut maker = maker;
-            let made = makes_all(rt, machine, &mut maker);
-            (maker, made)
-        },
-        move || {
-            let mut looker = looker;
-            let saw = never_falls(&mut looker);
-            (looker, saw)
-        },
-    );
-    (maker.into_seat(), looker, made && saw)
-}
-
-/// How many entries the history has in the end, where there are these three seats.
-fn closed_three<J: Naming>(
-    alloc: Global,
-    core: Core<J, Rotating>,
-    first: Seat<J>,
-    second: Seat<J>,
-    third: Seat<J>,
-) -> Option<u64> {
-    match with_seat(Vec::new(alloc), first) {
-        Some(seats) => closed_with_both(core, seats, second, third),
-        None => None,
-    }
-}
-
-/// The two at once, where the first seat has begun: whether all statuses are seen in the end, and all entries are there.
-fn looks_from<J: Naming + Send + Sync, R: Threads + Wait + Sync>(
-    rt: &R,
-    alloc: Global,
-    core: Core<J, Rotating>,
-    first: Seat<J>,
-    maker: Hand<J>,
-    looker: Seat<J>,
-) -> bool {
-    let machine = Machine::new(core);
-    let (maker, looker, well) = at_once(rt, &machine, maker, looker);
-    let mut looker = looker;
-    let last = seen(&mut looker);
-    let entries = closed_three(alloc, machine.into_core(), first, maker, looker);
-    well && last == Some((STATUSES, STATUSES)) && entries == Some(2 + 3 * STATUSES)
-}
-
-/// The same as `looks`, where this seat has begun.
-fn looks_after<J: Naming + Send + Sync, R: Threads + Wait + Sync>(
-    rt: &R,
-    alloc: Global,
-    core: Core<J, Rotating>,
-    first: Seat<J>,
-) -> bool {
-    let mut core = core;
-    match sides(&mut core) {
-        Some((maker, looker)) => looks_from(rt, alloc, core, first, maker, looker),
-        None => false,
-    }
-}
-
-/// One thread makes and clears statuses, and another looks.
-pub fn looks<J: Naming + Send + Sync, R: Threads + Wait + Sync>(
-    rt: &R,
-    alloc: Global,
-    core: Core<J, Rotating>,
-) -> bool {
-    let mut core = core;
-    match begun(&mut core) {
-        Some(first) => looks_after(rt, alloc, core, first),
-        None => false,
-    }
+/// Whether all entries are there in the end: two at the beginning, and three for each status.
+pub fn has_made(entries: Option<u64>) -> bool {
+    entries == Some(2 + 3 * STATUSES)
 }
 
 #[test]

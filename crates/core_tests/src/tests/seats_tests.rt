@@ -1,6 +1,8 @@
 //! Seats: how many there are, what they see, and that all of them are given back.
 
-use crate::tests::hands::{closed_with, closed_with_both};
+ghost use Rattle.std.specs.Prelude.{◌≡◌, None};
+
+use crate::tests::hands::{Hand, Task, add_hand};
 use crate::tests::machines::{WORD, accepts, accepts_all, enable, tsch};
 use crate::tests::stories::{Story, goes};
 use chan_events::event::{Event, Instruction};
@@ -10,7 +12,6 @@ use core_lock::locked::{Core, MOST_SEATS, Seat};
 use core_lock::naming::Naming;
 use path_select::Rotating;
 use signal_places::answers::AnswerPlace;
-use std::alloc::Global;
 
 /// Makes a status and clears it from one seat.
 fn makes_and_clears<J: Naming>(core: &mut Core<J, Rotating>, seat: &mut Seat<J>) -> bool {
@@ -26,7 +27,10 @@ fn makes_and_clears<J: Naming>(core: &mut Core<J, Rotating>, seat: &mut Seat<J>)
 }
 
 /// What a seat sees of the subchannel.
-pub fn seen<J: Naming>(seat: &mut Seat<J>) -> Option<(u64, u64)> {
+pub fn seen<J: Naming>(seat: &mut Seat<J>) -> Option<(u64, u64)>
+    requires { seat.old.value.owed ≡ None }
+    ensures { seat.new.value.owed ≡ None }
+{
     let glance = seat.glance(WORD).ok()?;
     Some((glance.made, glance.cleared))
 }
@@ -35,43 +39,35 @@ pub fn seen<J: Naming>(seat: &mut Seat<J>) -> Option<(u64, u64)> {
 fn sees_other<J: Naming>(
     core: &mut Core<J, Rotating>,
     maker: &mut Seat<J>,
-    looker: &mut Seat<J>,
+    looker: &mut Hand<J>,
 ) -> bool {
-    let before = seen(looker);
+    let before = seen(&mut looker.seat);
     let done = makes_and_clears(core, maker);
-    let after = seen(looker);
-    let unknown = looker.glance(WORD + 1);
+    let after = seen(&mut looker.seat);
+    let unknown = looker.seat.glance(WORD + 1);
     before == Some((0, 0))
         && done
         && after == Some((1, 1))
         && matches!(unknown, Err(Fault::NoSuchSubchannel))
 }
 
-/// The same as `sees`, from this seat.
-fn sees_from<J: Naming>(alloc: Global, core: Core<J, Rotating>, first: Seat<J>) -> bool {
-    let mut core = core;
-    let mut first = first;
-    match core.seat() {
-        Ok(mut second) => {
-            let seen = sees_other(&mut core, &mut first, &mut second);
-            let entries = closed_with_both(core, Vec::new(alloc), first, second);
-            seen && entries == Some(5)
-        }
-        Err(_) => false,
-    }
-}
-
 /// A seat sees what another made and cleared.
-pub fn sees<J: Naming>(alloc: Global, core: Core<J, Rotating>) -> bool {
-    let mut core = core;
-    match core.seat() {
-        Ok(first) => sees_from(alloc, core, first),
-        Err(_) => false,
+pub fn sees<J: Naming>(
+    core: &mut Core<J, Rotating>,
+    maker: &mut Seat<J>,
+    hands: &mut Vec<Hand<J>>,
+) -> bool {
+    if !add_hand(core, hands, Task::Looks) {
+        return false;
+    }
+    match hands.get_mut(0) {
+        Some(looker) => sees_other(core, maker, looker),
+        None => false,
     }
 }
 
-/// Whether one place has the reply of an event that is accepted, and then the refusal of another.
-fn places_both<J: Naming>(core: &mut Core<J, Rotating>, seat: &mut Seat<J>) -> bool {
+/// One place has the reply of an event that is accepted, and then the refusal of another.
+pub fn answers<J: Naming>(core: &mut Core<J, Rotating>, seat: &mut Seat<J>) -> bool {
     let Some(cpu) = Cpu::new(0) else {
         return false;
     };
@@ -84,57 +80,19 @@ fn places_both<J: Naming>(core: &mut Core<J, Rotating>, seat: &mut Seat<J>) -> b
     replied && matches!(refusal, Err(Fault::NoSuchSubchannel)) && !place.is_reply()
 }
 
-/// An event is accepted and another is refused, and one place has the answer of each.
-pub fn answers<J: Naming>(alloc: Global, core: Core<J, Rotating>) -> bool {
-    let mut core = core;
-    match core.seat() {
-        Ok(mut seat) => {
-            let placed = places_both(&mut core, &mut seat);
-            let entries = closed_with(core, Vec::new(alloc), seat);
-            placed && entries == Some(1)
-        }
-        Err(_) => false,
-    }
-}
-
-/// So many seats; None where one of them is refused.
-fn seated<J: Naming>(
-    alloc: Global,
-    core: &mut Core<J, Rotating>,
-    count: u16,
-) -> Option<Vec<Seat<J>>> {
-    let mut seats = Vec::new(alloc);
-    for _ in 0..count {
-        let seat = core.seat().ok()?;
-        seats.push(seat).ok()?;
-    }
-    Some(seats)
-}
-
-/// A seat is left out at the end.
-pub fn leaves_out<J: Naming>(alloc: Global, core: Core<J, Rotating>) -> bool {
-    let mut core = core;
-    let made = core.seat().is_ok();
-    match seated(alloc, &mut core, 1) {
-        Some(others) => {
-            let entries = core.close(others);
-            made && entries.is_none()
-        }
-        None => false,
-    }
+/// One seat more is made, and given up.
+pub fn leaves_out<J: Naming>(core: &mut Core<J, Rotating>) -> bool {
+    core.seat().is_ok()
 }
 
 /// As many seats are made as there can be, and one more is refused.
-pub fn fills<J: Naming>(alloc: Global, core: Core<J, Rotating>) -> bool {
-    let mut core = core;
-    match seated(alloc, &mut core, MOST_SEATS) {
-        Some(seats) => {
-            let refused = matches!(core.seat(), Err(Fault::NotNow));
-            let entries = core.close(seats);
-            refused && entries == Some(0)
+pub fn fills<J: Naming>(core: &mut Core<J, Rotating>, hands: &mut Vec<Hand<J>>) -> bool {
+    for _ in 1..MOST_SEATS {
+        if !add_hand(core, hands, Task::Looks) {
+            return false;
         }
-        None => false,
     }
+    matches!(core.seat(), Err(Fault::NotNow))
 }
 
 #[test]

@@ -5,15 +5,18 @@ ghost use Rattle.machine_model.specs.State.{opening_of};
 ghost use Rattle.subsystem.specs.Keeping.{all_serials};
 ghost use Rattle.core_lock.specs.Directory.{directory_of};
 
-use crate::tests::crowd_tests::crowds;
-use crate::tests::gate_tests::meets;
-use crate::tests::growths_tests::grows;
-use crate::tests::looking_tests::looks;
+use crate::tests::crowd_tests::{answered, are_enough, begins_crowd, crowds};
+use crate::tests::gate_tests::{begins_both, meets};
+use crate::tests::growths_tests::{granting, grows};
+use crate::tests::hands::{Hand, seats_of};
+use crate::tests::looking_tests::{begins_looks, has_made, looks};
 use crate::tests::machines::{apart, config_of};
+use crate::tests::replaying::replays;
 use crate::tests::seats_tests::{answers, fills, leaves_out, sees};
-use crate::tests::workers_tests::roams;
+use crate::tests::workers_tests::{begins_work, has_roamed, roams};
 use channel_config::config::Config;
-use core_lock::locked::Core;
+use core_lock::locked::{Core, NotMade, Seat, audit};
+use core_lock::machine::Machine;
 use core_lock::naming::Naming;
 use core_lock::parts::Parts;
 use path_select::Rotating;
@@ -24,7 +27,7 @@ use std::thread::Threads;
 use subsystem::subsystem::Subsystem;
 
 /// What one test does.
-#[derive(Clone, Copy, Debug)]
+#[derive(Clone, Copy)]
 pub enum Story {
     /// A seat sees what another made and cleared.
     Sees,
@@ -61,6 +64,151 @@ pub fn setting(alloc: Global, story: Story) -> Config {
     }
 }
 
+/// Who takes part: the first seat, and hands with seats of their own.
+#[derive(Drop)]
+struct Cast<J: Naming> {
+    first: Seat<J>,
+    hands: Vec<Hand<J>>,
+}
+
+/// What came of a story: whether it went as it is told, all seats, and how many entries were answered to hands.
+#[derive(Drop)]
+struct Acted<J: Naming> {
+    well: bool,
+    seats: Vec<Seat<J>>,
+    answered: u64,
+}
+
+/// What is entered at the beginning, from the first seat, and the hands that take part.
+fn enters<J: Naming>(
+    alloc: Global,
+    core: &mut Core<J, Rotating>,
+    cast: &mut Cast<J>,
+    story: Story,
+) -> bool {
+    let first = &mut cast.first;
+    let hands = &mut cast.hands;
+    match story {
+        Story::Sees => sees(core, first, hands),
+        Story::Answers => answers(core, first),
+        Story::LeavesOut => leaves_out(core),
+        Story::Fills => fills(core, hands),
+        Story::Meets => begins_both(alloc, core, first, hands),
+        Story::Looks => begins_looks(core, first, hands),
+        Story::Roams => begins_work(alloc, core, first, hands),
+        Story::Crowds => begins_crowd(alloc, core, first, hands),
+        Story::Grows => grows(core, hands),
+    }
+}
+
+/// Who takes part, where the beginning goes as it is told.
+fn begins<J: Naming>(alloc: Global, core: &mut Core<J, Rotating>, story: Story) -> Option<Cast<J>> {
+    let mut cast = Cast {
+        first: core.seat().ok()?,
+        hands: Vec::new(alloc),
+    };
+    if enters(alloc, core, &mut cast, story) {
+        Some(cast)
+    } else {
+        None
+    }
+}
+
+/// What the hands do at once: they, where it goes as it is told.
+fn plays<J: Naming + Send + Sync, R: Threads + Wait + Sync>(
+    rt: &R,
+    machine: &Machine<J, Rotating>,
+    first: &mut Seat<J>,
+    hands: Vec<Hand<J>>,
+    story: Story,
+) -> Option<Vec<Hand<J>>> {
+    match story {
+        Story::Meets => meets(rt, machine, hands),
+        Story::Looks => looks(rt, machine, hands),
+        Story::Roams => roams(rt, machine, first, hands),
+        Story::Crowds => crowds(rt, machine, hands),
+        _ => Some(hands),
+    }
+}
+
+/// All seats after it, and how many entries were answered to hands; None where it does not go as it is told.
+fn seats_after<J: Naming + Send + Sync, R: Threads + Wait + Sync>(
+    rt: &R,
+    alloc: Global,
+    machine: &Machine<J, Rotating>,
+    cast: Option<Cast<J>>,
+    story: Story,
+) -> Option<(Vec<Seat<J>>, u64)> {
+    let Cast { mut first, hands } = cast?;
+    let hands = plays(rt, machine, &mut first, hands, story)?;
+    let sum = answered(hands.as_slice());
+    let seats = seats_of(alloc, first, hands).ok()?;
+    Some((seats, sum))
+}
+
+/// The same, with no seat where it does not go as it is told.
+fn acts<J: Naming + Send + Sync, R: Threads + Wait + Sync>(
+    rt: &R,
+    alloc: Global,
+    machine: &Machine<J, Rotating>,
+    cast: Option<Cast<J>>,
+    story: Story,
+) -> Acted<J> {
+    match seats_after(rt, alloc, machine, cast, story) {
+        Some((seats, answered)) => Acted {
+            well: true,
+            seats,
+            answered,
+        },
+        None => Acted {
+            well: false,
+            seats: Vec::new(alloc),
+            answered: 0,
+        },
+    }
+}
+
+/// Whether the history has the log of each seat, and shows what it must.
+fn is_shown<J: Naming>(
+    alloc: Global,
+    core: &Core<J, Rotating>,
+    seats: &[Seat<J>],
+    story: Story,
+) -> bool {
+    let history = core.subsystem().history();
+    audit(core, seats)
+        && match story {
+            Story::Roams => has_roamed(&history),
+            Story::Crowds => replays(alloc, setting(alloc, story), &history),
+            _ => true,
+        }
+}
+
+/// Whether the history has as many entries as it must in the end; None where a seat is left out.
+fn are_due(story: Story, answered: u64, entries: Option<u64>) -> bool {
+    match story {
+        Story::Sees => entries == Some(5),
+        Story::Answers => entries == Some(1),
+        Story::LeavesOut => entries.is_none(),
+        Story::Fills | Story::Grows => entries == Some(0),
+        Story::Meets | Story::Roams => entries.is_some(),
+        Story::Looks => has_made(entries),
+        Story::Crowds => are_enough(answered, entries),
+    }
+}
+
+/// Whether it went as it is told in the end, when core and seats are given up.
+fn ends<J: Naming>(alloc: Global, core: Core<J, Rotating>, acted: Acted<J>, story: Story) -> bool {
+    let shown = is_shown(alloc, &core, acted.seats.as_slice(), story);
+    let Acted {
+        well,
+        seats,
+        answered,
+    } = acted;
+    let entries = core.close(seats);
+    well && shown && are_due(story, answered, entries)
+}
+
 /// Whether a story goes as it is told, on this core.
 fn tell<J: Naming + Send + Sync, R: Threads + Wait + Sync>(
     rt: &R,
@@ -68,21 +216,34 @@ fn tell<J: Naming + Send + Sync, R: Threads + Wait + Sync>(
     core: Core<J, Rotating>,
     story: Story,
 ) -> bool {
-    match story {
-        Story::Sees => sees(alloc, core),
-        Story::Answers => answers(alloc, core),
-        Story::LeavesOut => leaves_out(alloc, core),
-        Story::Fills => fills(alloc, core),
-        Story::Meets => meets(rt, alloc, core),
-        Story::Looks => looks(rt, alloc, core),
-        Story::Roams => roams(rt, alloc, core),
-        Story::Crowds => crowds(rt, alloc, core),
-        Story::Grows => false,
+    let mut core = core;
+    let cast = begins(alloc, &mut core, story);
+    let machine = Machine::new(core);
+    let acted = acts(rt, alloc, &machine, cast, story);
+    ends(alloc, machine.into_core(), acted, story)
+}
+
+/// The same, on a core that is made of what was handed back.
+fn make_and_tell<J: Naming + Send + Sync, R: Threads + Wait + Sync>(
+    rt: &R,
+    alloc: Global,
+    given: NotMade<Rotating>,
+    story: Story,
+) -> bool
+    requires fresh { given.subsystem.history ≡ [] }
+    requires named { given.parts.name ≡ J.name }
+    requires directory { given.parts.name.directory ≡ directory_of given.subsystem.state }
+    requires serials { given.parts.serials ≡ all_serials given.subsystem.state }
+{
+    let NotMade { subsystem, parts } = given;
+    match Core::<J, Rotating>::new(alloc, subsystem, parts) {
+        Ok(core) => tell(rt, alloc, core, story),
+        Err(_) => false,
     }
 }
 
-/// The same, on a core that is made of these; the story of requests for memory makes its own.
-fn make_and_tell<J: Naming + Send + Sync, R: Threads + Wait + Sync>(
+/// The one request of a core is refused first, which hands back what it was to be made of.
+fn refuse_and_tell<J: Naming + Send + Sync, R: Threads + Wait + Sync>(
     rt: &R,
     alloc: Global,
     subsystem: Subsystem<Rotating>,
@@ -94,12 +255,13 @@ fn make_and_tell<J: Naming + Send + Sync, R: Threads + Wait + Sync>(
     requires directory { parts.name.directory ≡ directory_of subsystem.state }
     requires serials { parts.serials ≡ all_serials subsystem.state }
 {
-    if let Story::Grows = story {
-        return grows::<J>(alloc, subsystem, parts);
-    }
-    match Core::<J, Rotating>::new(alloc, subsystem, parts) {
-        Ok(core) => tell(rt, alloc, core, story),
-        Err(_) => false,
+    let mut supply = granting(0);
+    match Core::<J, Rotating>::new_with(alloc, &mut supply, subsystem, parts) {
+        Ok(_) => false,
+        Err(given) => {
+            let told = make_and_tell::<J, R>(rt, alloc, given, story);
+            supply.refused && told
+        }
     }
 }
 
@@ -112,5 +274,5 @@ pub fn goes<R: Threads + Wait + Sync>(rt: &R, alloc: Global, story: Story) -> bo
     let Ok(subsystem) = Subsystem::new(alloc, config, Rotating) else {
         return false;
     };
-    make_and_tell::<Brand, R>(rt, alloc, subsystem, parts, story)
+    refuse_and_tell::<Brand, R>(rt, alloc, subsystem, parts, story)
 }

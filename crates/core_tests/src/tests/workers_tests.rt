@@ -1,6 +1,6 @@
 //! Workers of eight channel paths and of a unit that roams bring a program to its end, on threads of their own.
 
-use crate::tests::hands::{Hand, Task, add_hand, add_worker, closed_all};
+use crate::tests::hands::{Hand, Task, add_hand, add_worker};
 use crate::tests::machines::{WORD, accepts, accepts_all, enable, loads, ssch, tsch};
 use crate::tests::stories::{Story, goes};
 use chan_events::event::{Event, UnitAct};
@@ -36,29 +36,22 @@ fn starts<J: Naming>(core: &mut Core<J, Rotating>, seat: &mut Seat<J>) -> bool {
     accepts_all(core, seat, &loads()) && accepts(core, seat, cpu, &[enable(WORD, true), ssch(WORD)])
 }
 
-/// A seat from which that was entered.
-fn started<J: Naming>(core: &mut Core<J, Rotating>) -> Option<Seat<J>> {
-    let mut seat = core.seat().ok()?;
-    if starts(core, &mut seat) {
-        Some(seat)
-    } else {
-        None
+/// That is entered, and there are workers of the eight paths and of the unit.
+pub fn begins_work<J: Naming>(
+    alloc: Global,
+    core: &mut Core<J, Rotating>,
+    program: &mut Seat<J>,
+    hands: &mut Vec<Hand<J>>,
+) -> bool {
+    if !starts(core, program) {
+        return false;
     }
-}
-
-/// The hands of the eight paths and of the unit.
-fn all_hands<J: Naming>(alloc: Global, core: &mut Core<J, Rotating>) -> Option<Vec<Hand<J>>> {
-    let mut hands = Vec::new(alloc);
     for path in 0..8u8 {
-        if !add_hand(core, &mut hands, Task::Path(0x10 + path)) {
-            return None;
+        if !add_hand(core, hands, Task::Path(0x10 + path)) {
+            return false;
         }
     }
-    if add_worker(alloc, core, &mut hands, 0, 1) {
-        Some(hands)
-    } else {
-        None
-    }
+    add_worker(alloc, core, hands, 0, 1)
 }
 
 /// Whether a status is the one that is due.
@@ -104,25 +97,25 @@ fn round<J: Naming + Send + Sync, R: Threads + Wait + Sync>(
     worked.ok()
 }
 
-/// Rounds until the program has ended: whether its status is the one that is due, and the hands.
-fn works<J: Naming + Send + Sync, R: Threads + Wait + Sync>(
+/// Rounds until the program has ended, with the status that is due.
+pub fn roams<J: Naming + Send + Sync, R: Threads + Wait + Sync>(
     rt: &R,
     machine: &Machine<J, Rotating>,
     program: &mut Seat<J>,
     hands: Vec<Hand<J>>,
-) -> Option<(bool, Vec<Hand<J>>)> {
+) -> Option<Vec<Hand<J>>> {
     let mut hands = hands;
     for _round in 0..ROUNDS {
         hands = round(rt, machine, hands)?;
         if let Some(due) = cleared(rt, machine, program) {
-            return Some((due, hands));
+            return if due { Some(hands) } else { None };
         }
     }
     None
 }
 
 /// Whether the unit left its path and asked for one.
-fn has_roamed(history: &History<'_>) -> bool {
+pub fn has_roamed(history: &History<'_>) -> bool {
     let mut left = false;
     for number in 0..history.len() {
         let Some(entry) = history.get(number) else {
@@ -141,64 +134,6 @@ fn has_roamed(history: &History<'_>) -> bool {
         }
     }
     false
-}
-
-/// Whether the unit roamed, and all entries are in the logs, as the history has them.
-fn ends<J: Naming>(
-    alloc: Global,
-    core: Core<J, Rotating>,
-    program: Seat<J>,
-    hands: Vec<Hand<J>>,
-) -> bool {
-    let roamed = has_roamed(&core.subsystem().history());
-    let entries = closed_all(alloc, core, program, hands);
-    roamed && entries.is_some()
-}
-
-/// These hands bring the program to its end that this seat has started.
-fn roams_from<J: Naming + Send + Sync, R: Threads + Wait + Sync>(
-    rt: &R,
-    alloc: Global,
-    core: Core<J, Rotating>,
-    program: Seat<J>,
-    hands: Vec<Hand<J>>,
-) -> bool {
-    let machine = Machine::new(core);
-    let mut program = program;
-    match works(rt, &machine, &mut program, hands) {
-        Some((due, hands)) => {
-            let ended = ends(alloc, machine.into_core(), program, hands);
-            due && ended
-        }
-        None => false,
-    }
-}
-
-/// The same as `roams`, where this seat has started the program.
-fn roams_after<J: Naming + Send + Sync, R: Threads + Wait + Sync>(
-    rt: &R,
-    alloc: Global,
-    core: Core<J, Rotating>,
-    program: Seat<J>,
-) -> bool {
-    let mut core = core;
-    match all_hands(alloc, &mut core) {
-        Some(hands) => roams_from(rt, alloc, core, program, hands),
-        None => false,
-    }
-}
-
-/// A program is started, and brought to its end.
-pub fn roams<J: Naming + Send + Sync, R: Threads + Wait + Sync>(
-    rt: &R,
-    alloc: Global,
-    core: Core<J, Rotating>,
-) -> bool {
-    let mut core = core;
-    match started(&mut core) {
-        Some(program) => roams_after(rt, alloc, core, program),
-        None => false,
-    }
 }
 
 #[test]

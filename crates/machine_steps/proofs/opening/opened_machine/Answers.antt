@@ -7,6 +7,6 @@ use Rattle.machine_steps.proofs.opening.opened_machine.Goals as goal
 
 pub invariant_of-machine : goal.invariant_of-machine
 invariant_of-machine g c = (
-  subst (λ (subs : List Subchannel). Counts c.of-engines.result subs) c.as_slice-2.ensures.value c.of-engines.ensures,
-  omega (arith, ap length c.in_ok-units.ensures.idle, length-map c.units.result.now idle_of, ap length c.units.ensures, c.subchannels.ensures.lawful.units),
+  subst (λ (subs : List Subchannel). Counts c.of-engines.result subs) c.as_slice.ensures.value c.of-engines.ensures,
+  omega (arith, ap length c.in_ok-places.ensures.units, length-map c.args.config.now.units idle_of, c.in_ok-places.ensures.lawful.units),
 )
