@@ -48,27 +48,39 @@ enum Wanted {
     AtCore(Task),
 }
 
-fn number(word: &String) -> Option<u32> {
-    word.as_str().parse::<u32>().ok()
+fn number(word: &str) -> Option<u32> {
+    word.parse::<u32>().ok()
 }
 
 impl Wanted {
     /// What these words ask for; None where they are none of those above.
     fn of(words: &[String]) -> Option<Wanted> {
-        let name = words.get(0)?.as_str();
-        let second = words.get(1)?;
-        let third = number(words.get(2)?)?;
-        let times = words.get(3)?.as_str().parse::<u64>().ok()?;
+        match words {
+            [name, second, third, times] => {
+                let times = times.as_str().parse::<u64>().ok()?;
+                Wanted::named(
+                    name.as_str(),
+                    second.as_str(),
+                    number(third.as_str())?,
+                    times,
+                )
+            }
+            _ => None,
+        }
+    }
+
+    /// What is asked for by its name.
+    fn named(name: &str, second: &str, third: u32, times: u64) -> Option<Wanted> {
         if name == "step" || name == "place" {
             Some(Wanted::Step {
                 placed: name == "place",
-                kind: Kind::named(second.as_str())?,
+                kind: Kind::named(second)?,
                 subchannels: third,
                 cycles: times,
             })
         } else if name == "enter" {
             Some(Wanted::AtCore(Task::Cycles {
-                kind: Kind::named(second.as_str())?,
+                kind: Kind::named(second)?,
                 subchannels: third,
                 cycles: times,
             }))
@@ -103,19 +115,23 @@ impl Wanted {
     }
 }
 
+/// A subsystem of so many subchannels with the paths of this kind.
+fn opened(alloc: Global, kind: Kind, subchannels: u32) -> Option<Subsystem<Rotating>> {
+    let config = config_of(alloc, subchannels, kind.paths())?;
+    Subsystem::new(alloc, config, Rotating).ok()
+}
+
 /// Cycles at a subsystem by itself.
 fn stepped(alloc: Global, kind: Kind, subchannels: u32, cycles: u64) -> Option<Count> {
-    let config = config_of(alloc, subchannels, kind.paths())?;
-    let subsystem = Subsystem::new(alloc, config, Rotating).ok()?;
-    let mut bench = Bench::at(alloc, Answering::of(subsystem), kind, subchannels)?;
+    let floor = Answering::of(opened(alloc, kind, subchannels)?);
+    let mut bench = Bench::at(alloc, floor, kind, subchannels)?;
     bench.measure(alloc, kind, cycles).ok()
 }
 
 /// The same, with one place for all answers.
 fn placed(alloc: Global, kind: Kind, subchannels: u32, cycles: u64) -> Option<Count> {
-    let config = config_of(alloc, subchannels, kind.paths())?;
-    let subsystem = Subsystem::new(alloc, config, Rotating).ok()?;
-    let mut bench = Bench::at(alloc, Placed::of(subsystem), kind, subchannels)?;
+    let floor = Placed::of(opened(alloc, kind, subchannels)?);
+    let mut bench = Bench::at(alloc, floor, kind, subchannels)?;
     bench.measure(alloc, kind, cycles).ok()
 }
 

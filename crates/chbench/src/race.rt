@@ -153,22 +153,40 @@ fn gathered<J: Naming>(
     Ok((seats, instructions, looks))
 }
 
-/// What the runners did, and whether the audit found all of it in the history.
-fn counted<J: Naming>(
+/// The runners run: what came of it, with all seats; None where there are no runners, or no memory.
+fn ran<J: Naming + Send + Sync, R: Threads + Wait + Sync>(
+    rt: &R,
     alloc: Global,
+    machine: &Machine<J, Rotating>,
+    first: Seat<J>,
+    runners: Option<Vec<Runner<J>>>,
+    times: u64,
+) -> Option<(Vec<Seat<J>>, u64, u64)> {
+    let mut runners = runners?;
+    for_each_mut(
+        rt,
+        runners.as_mut_slice(),
+        32,
+        &|_, runner| { runner.run(rt, machine, times) },
+    );
+    gathered(alloc, first, runners).ok()
+}
+
+/// What all seats did, and whether the audit found all of it in the history.
+fn counted<J: Naming>(
     core: Core<J, Rotating>,
-    seat: Seat<J>,
-    runners: Vec<Runner<J>>,
-) -> Option<RaceCount> {
-    let (seats, instructions, looks) = gathered(alloc, seat, runners).ok()?;
+    seats: Vec<Seat<J>>,
+    instructions: u64,
+    looks: u64,
+) -> RaceCount {
     let entries = core.subsystem().history().len() as u64;
     let audited = audit(&core, seats.as_slice());
     let closed = core.close(seats);
-    Some(RaceCount {
+    RaceCount {
         instructions,
         looks,
         audited: audited && closed == Some(entries),
-    })
+    }
 }
 
 /// All runners run at this core, once the seat has made it ready.
@@ -180,15 +198,12 @@ fn race_from<J: Naming + Send + Sync, R: Threads + Wait + Sync>(
     race: Race,
 ) -> Option<RaceCount> {
     let mut core = core;
-    let mut runners = runners_of(alloc, &mut core, race)?;
+    let runners = runners_of(alloc, &mut core, race);
     let machine = Machine::new(core);
-    for_each_mut(
-        rt,
-        runners.as_mut_slice(),
-        32,
-        &|_, runner| { runner.run(rt, &machine, race.times) },
-    );
-    counted(alloc, machine.into_core(), seat, runners)
+    let ran = ran(rt, alloc, &machine, seat, runners, race.times);
+    let core = machine.into_core();
+    let (seats, instructions, looks) = ran?;
+    Some(counted(core, seats, instructions, looks))
 }
 
 /// All run at one locked core; None where there are not so many CPUs or seats, or no memory.

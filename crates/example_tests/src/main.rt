@@ -96,38 +96,82 @@ fn names_in<R: Files + AllocGlobal + Clone + Drop>(
 ) -> io::Result<Vec<String>> {
     let mut names = Vec::new(rt.alloc());
     for entry in fs::read_dir(rt, folder)? {
-        let entry = entry?;
-        if let Some(name) = entry.file_name().strip_suffix(".chs") {
-            names.push(String::from_str(rt.alloc(), name)?)?;
-        }
+        add_name(rt.alloc(), &mut names, entry?.file_name())?;
     }
     names.sort()?;
     Ok(names)
 }
 
-/// What is printed of a script, and of the text that it must print, where there is one.
-fn told<R: Threads + Wait + Sync>(
+/// The name of a file, where it is a script, without its ending.
+fn add_name(alloc: Global, names: &mut Vec<String>, file: &str) -> Result<(), AllocError> {
+    if let Some(name) = file.strip_suffix(".chs") {
+        names.push(String::from_str(alloc, name)?)?;
+    }
+    Ok(())
+}
+
+/// What a script was found to print.
+#[derive(Clone, Copy)]
+struct Found {
+    status: u8,
+    differs: Differs,
+    /// Whether `check` answers as it must.
+    checked: bool,
+}
+
+/// How what a script prints differs from the text that it must print.
+#[derive(Clone, Copy)]
+enum Differs {
+    /// It does not.
+    Nowhere,
+    /// First in this line.
+    InLine(u64),
+    /// There is no such text.
+    NoText,
+}
+
+/// How what was printed differs from this text.
+fn compared(printed: &[u8], wanted: Option<&[u8]>) -> Differs {
+    match wanted {
+        None => Differs::NoText,
+        Some(wanted) if printed == wanted => Differs::Nowhere,
+        Some(wanted) => Differs::InLine(differing_line(printed, wanted)),
+    }
+}
+
+/// What a script prints, and whether it is the text that it must print.
+fn found<R: Threads + Wait + Sync>(
     rt: &R,
     alloc: Global,
-    name: &str,
     script: &[u8],
     wanted: Option<&[u8]>,
-) -> io::Result<String> {
+) -> Found {
     let run = Served::by_run(rt, alloc, script);
-    let status = run.status;
-    let mut text = format!(in alloc; "{name} {status}")?;
-    match wanted {
-        None => text.push_str(": there is no file of what it prints")?,
-        Some(wanted) if run.printed.as_slice() == wanted => {}
-        Some(wanted) => {
-            let line = differing_line(run.printed.as_slice(), wanted);
-            text.push_str(format!(in alloc; ": what it prints differs in line {line}")?.as_str())?;
+    let check = Served::by_check(alloc, script);
+    Found {
+        status: run.status,
+        differs: compared(run.printed.as_slice(), wanted),
+        checked: run.is_checked_by(&check, races(script)),
+    }
+}
+
+/// What is printed of a script of this name.
+fn told(alloc: Global, name: &str, found: Found) -> Result<String, AllocError> {
+    let status = found.status;
+    let text = match found.differs {
+        Differs::Nowhere => format!(in alloc; "{name} {status}")?,
+        Differs::InLine(line) => {
+            format!(in alloc; "{name} {status}: what it prints differs in line {line}")?
         }
+        Differs::NoText => {
+            format!(in alloc; "{name} {status}: there is no file of what it prints")?
+        }
+    };
+    if found.checked {
+        Ok(text)
+    } else {
+        format!(in alloc; "{text}: check answers otherwise")
     }
-    if !run.is_checked_by(&Served::by_check(alloc, script), races(script)) {
-        text.push_str(": check answers otherwise")?;
-    }
-    Ok(text)
 }
 
 /// What is printed of the script of this path, which lacks its ending.
@@ -138,13 +182,8 @@ fn told_of<R: Files + AllocGlobal + Threads + Wait + Sync>(
     let alloc = rt.alloc();
     let script = fs::read(rt, format!(in alloc; "{path}.chs")?)?;
     let wanted = fs::read(rt, format!(in alloc; "{path}.out")?).ok();
-    told(
-        rt,
-        alloc,
-        path,
-        script.as_slice(),
-        wanted.as_ref().map(|text| text.as_slice()),
-    )
+    let wanted = wanted.as_ref().map(|text| text.as_slice());
+    Ok(told(alloc, path, found(rt, alloc, script.as_slice(), wanted))?)
 }
 
 /// What is printed of each script of a folder.
@@ -178,16 +217,22 @@ fn is_checked(alloc: Global, script: &str, wanted: &str) -> Result<bool, AllocEr
     Ok(check.printed.as_slice() == wanted.as_str().as_bytes())
 }
 
+/// Prints a line of a list, where `check` prints something else of its script.
+fn tell_line<R: AllocGlobal + Print>(rt: &R, name: &str, line: &str) -> io::Result<()> {
+    let (script, wanted) = line.split_once(" -> ").unwrap_or((line, ""));
+    if !is_checked(rt.alloc(), script, wanted)? {
+        println!(rt; "{name}: check prints something else of {script}")?;
+    }
+    Ok(())
+}
+
 /// What is printed of each script of a list.
 fn tell_list<R: Files + AllocGlobal + Print>(rt: &R, name: &str) -> io::Result<()> {
     let list = fs::read_to_string(rt, name)?;
     let mut count = 0u64;
     for line in list.as_str().lines() {
         count = count.wrapping_add(1);
-        let (script, wanted) = line.split_once(" -> ").unwrap_or((line, ""));
-        if !is_checked(rt.alloc(), script, wanted)? {
-            println!(rt; "{name}: check prints something else of {script}")?;
-        }
+        tell_line(rt, name, line)?;
     }
     println!(rt; "{name}: {count} scripts")
 }

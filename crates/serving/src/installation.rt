@@ -351,10 +351,16 @@ fn is_settled<J: Naming>(
 ) -> bool
     ensures { IsTrue result ↔ HasLogs core.value seats.items (before + entries) }
 {
-    if !audit(&core, seats.as_slice()) {
-        return false;
-    }
-    match core.close(seats) {
+    let held = audit(&core, seats.as_slice());
+    let closed = core.close(seats);
+    held && is_grown(closed, before, entries)
+}
+
+/// Whether a history has so many entries, and so many more; None where not all seats were given.
+fn is_grown(closed: Option<u64>, before: u64, entries: u64) -> bool
+    ensures { IsTrue result ↔ (closed ≡ Some (before + entries)) }
+{
+    match closed {
         Some(count) => count >= before && count - before == entries,
         None => false,
     }
