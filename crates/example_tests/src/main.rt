@@ -110,9 +110,9 @@ fn add_name(alloc: Global, names: &mut Vec<String>, file: &str) -> Result<(), Al
     Ok(())
 }
 
-/// What a script was found to print.
+/// What was found of a script.
 #[derive(Clone, Copy)]
-struct Found {
+struct Findings {
     status: u8,
     differs: Differs,
     /// Whether `check` answers as it must.
@@ -145,10 +145,10 @@ fn found<R: Threads + Wait + Sync>(
     alloc: Global,
     script: &[u8],
     wanted: Option<&[u8]>,
-) -> Found {
+) -> Findings {
     let run = Served::by_run(rt, alloc, script);
     let check = Served::by_check(alloc, script);
-    Found {
+    Findings {
         status: run.status,
         differs: compared(run.printed.as_slice(), wanted),
         checked: run.is_checked_by(&check, races(script)),
@@ -156,7 +156,7 @@ fn found<R: Threads + Wait + Sync>(
 }
 
 /// What is printed of a script of this name.
-fn told(alloc: Global, name: &str, found: Found) -> Result<String, AllocError> {
+fn told(alloc: Global, name: &str, found: Findings) -> Result<String, AllocError> {
     let status = found.status;
     let text = match found.differs {
         Differs::Nowhere => format!(in alloc; "{name} {status}")?,

@@ -121,15 +121,12 @@ pub fn begins_looks<J: Naming>(
         && add_hand(core, hands, Task::Looks)
 }
 
-/// Whether all went well with each hand, and it sees all statuses made and cleared.
-fn have_seen<J: Naming>(hands: &mut Vec<Hand<J>>) -> bool {
-    for place in 0..hands.len() {
-        let hand = &mut hands[place];
-        if !hand.well || seen(&mut hand.seat) != Some((STATUSES, STATUSES)) {
-            return false;
-        }
+/// Whether all went well with a hand, and it sees all statuses made and cleared.
+fn has_seen<J: Naming>(hand: Option<&mut Hand<J>>) -> bool {
+    match hand {
+        Some(hand) => hand.well && seen(&mut hand.seat) == Some((STATUSES, STATUSES)),
+        None => false,
     }
-    true
 }
 
 /// One thread makes and clears statuses, and another looks: they, where both went well and see all statuses in the end.
@@ -148,7 +145,7 @@ pub fn looks<J: Naming + Send + Sync, R: Threads + Wait + Sync>(
         },
     );
     let mut hands = worked.ok()?;
-    if have_seen(&mut hands) {
+    if has_seen(hands.get_mut(0)) && has_seen(hands.get_mut(1)) {
         Some(hands)
     } else {
         None
