@@ -9,7 +9,7 @@ use core_lock::naming::Naming;
 use device_law::answering::answer_to;
 use device_models::any_device::AnyDevice;
 use kept_work::works::Task;
-use machine_steps::kept_turns::KeptTurn;
+use subchannel_steps::kept_turns::KeptTurn;
 use path_select::Rotating;
 use signal_places::answers::AnswerPlace;
 use subsystem::subsystem::Subsystem;

@@ -32,7 +32,7 @@ use Rattle.machine_model.specs.Requests.{settled}
 use Rattle.machine_model.specs.State.{State, cyclic_path, place_of, sub_of}
 use Rattle.machine_model.specs.Steps.{Step}
 use Rattle.machine_model.specs.Turns.{Outcome, SubTurn, at_sub, leaves}
-use Rattle.machine_steps.specs.PathTurns.{has_to_choose, is_idle, lowest_path, path_turn_of, turn_at, turn_by, turn_on, waits_up}
+use Rattle.subchannel_steps.specs.PathTurns.{has_to_choose, is_idle, lowest_path, path_turn_of, turn_at, turn_by, turn_on, waits_up}
 
 -- the first path of a set, in cyclic order, is a path of it, and there is one where the set has any
 found-by : (paths : List Bool) (n from q : ℕ) (here : Bool) → is_member paths (from % 8) ≡ here → cyclic_path paths (suc n) from ≡ Some q →

@@ -44,7 +44,7 @@ use Rattle.signal_places.specs.Answers.{answer_at}
 use Rattle.signal_places.specs.Plain.{plain_outcome}
 use Rattle.signal_places.specs.declared.answers.AnswerPlace.{AnswerPlace}
 use Rattle.signal_places.specs.declared.plain.PlainReply.{PlainReply}
-use Rattle.machine_steps.specs.Giving.{Gives, GivesSub, GivesStorage, GivesBoth, GivesShared, MayReturn, posted_since}
+use Rattle.subchannel_steps.specs.Giving.{Gives, GivesSub, GivesStorage, GivesBoth, GivesShared, MayReturn, posted_since}
 use Rattle.machine_steps.proofs.Posted.{none-made, posted-still, posted-at}
 use Rattle.machine_steps.specs.Postable.{IsPostable}
 use Rattle.machine_model.specs.ChooseSteps.{Chooses, choose_sub}

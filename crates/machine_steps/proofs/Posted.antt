@@ -6,7 +6,7 @@ use Rattle.std.proofs.lemmas.Option.{same_Some}
 use Rattle.interruptions.specs.Requests.{WaitingRequests, posted}
 use Rattle.subchannel_model.specs.declared.state.Subchannel.{Subchannel}
 use Rattle.machine_model.specs.Requests.{posted_all, posted_for, request_of}
-use Rattle.machine_steps.specs.Giving.{posted_since}
+use Rattle.subchannel_steps.specs.Giving.{posted_since}
 
 not-below : (n : ℕ) → nat_lt n n ≡ false
 not-below n = le-ltb n n (omega arith)

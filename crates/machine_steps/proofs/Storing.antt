@@ -15,7 +15,7 @@ use Rattle.machine_model.proofs.Named.{show_turn_of}
 use Rattle.machine_model.specs.StorageSteps.{storage_turn, put_turn, key_turn, prefix_turn, show_turn}
 use Rattle.machine_model.specs.Steps.{Does, Performs}
 use Rattle.machine_model.specs.Turns.{Outcome}
-use Rattle.machine_steps.specs.Giving.{Gives}
+use Rattle.subchannel_steps.specs.Giving.{Gives}
 use Rattle.machine_steps.proofs.Lifting.{unchanged}
 
 -- the subchannels that an outcome leaves

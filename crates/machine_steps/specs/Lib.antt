@@ -1,4 +1,1 @@
-pub mod Giving
 pub mod Postable
-pub mod PathTurns
-pub mod KeptTurns

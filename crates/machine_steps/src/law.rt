@@ -6,7 +6,7 @@ ghost use Rattle.chan_events.specs.declared.reply.Reply.{Reply};
 ghost use Rattle.chan_events.specs.declared.reply.Reply.TheVariants as reply_spec;
 ghost use Rattle.machine_model.specs.State.{State, sub_of};
 ghost use Rattle.machine_model.specs.Steps.{Step};
-ghost use Rattle.machine_steps.specs.PathTurns.{path_turn_of};
+ghost use Rattle.subchannel_steps.specs.PathTurns.{path_turn_of};
 ghost use Rattle.subchannel_model.specs.Losing.{path_index};
 ghost use Rattle.subchannel_model.specs.declared.state.Subchannel.{Subchannel};
 

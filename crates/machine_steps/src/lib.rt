@@ -6,16 +6,7 @@
 //! memory. Nothing is kept of what went before.
 #![tactic(auto)]
 
-mod acts;
-pub mod kept_turns;
 pub mod law;
 pub mod machine;
 pub mod opening;
-mod path_turns;
 mod paths;
-mod posting;
-mod sending;
-mod sharing;
-mod tables;
-mod turns;
-mod unit_turns;

@@ -11,7 +11,7 @@ ghost use Rattle.interruptions.specs.Requests.{no_requests_wait};
 ghost use Rattle.storage_keys.specs.Storage.{cleared_storage};
 
 use crate::machine::Machine;
-use crate::tables::configured;
+use subchannel_steps::tables::configured;
 use channel_config::config::Config;
 use channel_config::parts::{SubchannelSetup, UnitKind};
 use channel_reports::Reports;

@@ -7,13 +7,13 @@ ghost use Rattle.machine_model.specs.Bounds.{IsRoomy};
 ghost use Rattle.machine_model.specs.PathSteps as path_spec;
 ghost use Rattle.machine_model.specs.Requests as requests_spec;
 ghost use Rattle.machine_model.specs.Steps as spec;
-ghost use Rattle.machine_steps.specs.Giving as giving_spec;
+ghost use Rattle.subchannel_steps.specs.Giving as giving_spec;
 ghost use Rattle.machine_steps.specs.Postable.{IsPostable};
 ghost use Rattle.signal_places.specs.Answers.{answer_at};
 
 use crate::machine::Machine;
-use crate::posting::post;
-use crate::tables::has_chpid;
+use subchannel_steps::posting::post;
+use subchannel_steps::tables::has_chpid;
 use chan_model::fault::Fault;
 use channel_reports::Reports;
 use finding::engines::{Engines, engaged};

@@ -4,7 +4,7 @@ ghost use Rattle.std.specs.Prelude.{◌≡◌, ◌≤◌, ℕ, None, Some, lengt
 ghost use Rattle.chan_events.specs.declared.event.Event.TheVariants as event_spec;
 ghost use Rattle.chan_model.specs.declared.report.Report.{Report};
 ghost use Rattle.kept_work.specs.Works.{call_in, work_in};
-ghost use Rattle.machine_steps.specs.KeptTurns.{turn_in};
+ghost use Rattle.subchannel_steps.specs.KeptTurns.{turn_in};
 ghost use Rattle.serving.specs.Acting as spec;
 
 use chan_events::event::Event;
@@ -13,7 +13,7 @@ use chan_model::report::{DeviceAnswer, Report};
 use device_law::answering::answer_to;
 use device_models::any_device::AnyDevice;
 use kept_work::works::{KeptCall, KeptWork, Task};
-use machine_steps::kept_turns::KeptTurn;
+use subchannel_steps::kept_turns::KeptTurn;
 
 /// Writes the same report into a place.
 #[cold]

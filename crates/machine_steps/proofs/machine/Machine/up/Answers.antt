@@ -5,7 +5,7 @@ use Rattle.subchannel_model.specs.declared.state.Subchannel.{Subchannel}
 use Rattle.machine_model.specs.State.{State, with_sub}
 use Rattle.machine_model.specs.Steps.{Performs}
 use Rattle.signal_places.specs.Answers.{answer_at}
-use Rattle.machine_steps.specs.Giving.{MayReturn}
+use Rattle.subchannel_steps.specs.Giving.{MayReturn}
 use Rattle.machine_steps.specs.contracts.machine.Machine.{the_view}
 use Rattle.machine_steps.proofs.Lifting.{at_seen, named_at, one_there, up-pathless, up-performs, counted-room, counted-out, counted-in}
 use Rattle.machine_steps.proofs.machine.Machine.up.Goals as goal

@@ -1,0 +1,6 @@
+pub mod Answered
+pub mod Owing
+mod Entries
+mod Cycles
+mod Turning
+mod Acting

@@ -1,0 +1,3 @@
+pub mod Giving
+pub mod PathTurns
+pub mod KeptTurns

@@ -1,0 +1,57 @@
+//! Signals that are put on the wires of a subchannel: one that is sent on a path that is down vanishes.
+
+ghost use Rattle.std.specs.Prelude.{◌≡◌, Some, false};
+ghost use Rattle.chan_model.specs.declared.signal.Down.{Down};
+ghost use Rattle.chan_model.specs.declared.signal.OnPath.{OnPath};
+ghost use Rattle.chan_model.specs.declared.signal.Up.{Up};
+ghost use Rattle.machine_model.specs.ReportSteps as report_spec;
+ghost use Rattle.subchannel_steps.specs.Giving as giving_spec;
+ghost use Rattle.subchannel_model.specs.Sending as spec;
+
+use chan_model::names::Path;
+use chan_model::paths::PathSet;
+use signal_places::sent::{SentDown, SentUp};
+use subchannel_model::state::Subchannel;
+use wires::Wires;
+
+/// Whether a signal that is sent down on a path finds its wire full. On a path that is down it finds none.
+pub fn finds_down_full(sub: &Subchannel, path: Path) -> bool
+    ensures { (sent : OnPath Down) → sent.path ≡ path →
+        giving_spec.TellsFull sub.now.wires.down (spec.carried_by sub.now (Some sent)) result }
+{
+    sub.state.pmcw.available[path.index()] && sub.wires.down_is_full(path)
+}
+
+/// Sends a signal down, where there is one. `available`: the paths of its subchannel that are not down.
+pub fn send_any_down(wires: &mut Wires, available: &PathSet, sent: &SentDown)
+    requires { giving_spec.TellsFull wires.old.down (spec.carried available.now sent.now) false }
+    ensures { wires.new ≡ record wires.old { down = spec.with_any_sent wires.old.down (spec.carried available.now sent.now) } }
+{
+    let Some((path, signal)) = sent.get() else {
+        return;
+    };
+    if available[path.index()] {
+        wires.send_down(path, signal);
+    }
+}
+
+/// Whether a signal that is sent up on a path finds its wire full. On a path that is down it finds none.
+pub fn finds_up_full(sub: &Subchannel, path: Path) -> bool
+    ensures { (sent : OnPath Up) → sent.path ≡ path →
+        giving_spec.TellsFull sub.now.wires.up (spec.carried_by sub.now (Some sent)) result }
+{
+    sub.state.pmcw.available[path.index()] && sub.wires.up_is_full(path)
+}
+
+/// Sends a signal up, where there is one.
+pub fn send_any_up(sub: &mut Subchannel, sent: &SentUp)
+    requires { giving_spec.TellsFull sub.old.wires.up (spec.carried_by sub.old sent.now) false }
+    ensures { sub.new ≡ report_spec.with_any_up sub.old sent.now }
+{
+    let Some((path, signal)) = sent.get() else {
+        return;
+    };
+    if sub.state.pmcw.available[path.index()] {
+        sub.wires.send_up(path, signal);
+    }
+}

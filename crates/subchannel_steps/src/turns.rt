@@ -1,0 +1,377 @@
+//! What an event does at one subchannel.
+
+ghost use Rattle.std.specs.Prelude.{◌≡◌, ◌<◌, ◌^◌, Bool, Option, Some, false, length, nat_lt, true};
+ghost use Rattle.subchannel_steps.specs.Giving as giving_spec;
+ghost use Rattle.machine_model.specs.ChooseSteps as choose_spec;
+ghost use Rattle.subchannel_model.specs.Sending as sending_spec;
+ghost use Rattle.machine_model.specs.UpSteps as up_spec;
+ghost use Rattle.machine_model.specs.DownSteps as down_spec;
+ghost use Rattle.machine_model.specs.ReportSteps as report_spec;
+ghost use Rattle.machine_model.specs.Turns as turn_spec;
+ghost use Rattle.subchannel.specs.Answering as answering_spec;
+ghost use Rattle.chan_model.specs.declared.signal.Down.{Down};
+ghost use Rattle.chan_model.specs.declared.signal.OnPath.{OnPath};
+ghost use Rattle.std.specs.Bool.{OnFalse};
+ghost use Rattle.subchannel_model.specs.Choosing as choosing_spec;
+ghost use Rattle.subchannel_model.specs.Taking.{IsBelow, takes_up};
+ghost use Rattle.subchannel_model.specs.declared.state.Chosen.TheVariants as chosen_spec;
+ghost use Rattle.machine_model.specs.Bounds.{IsRoomy, IsUnitRoomy};
+ghost use Rattle.chan_model.specs.UnitReports as reports_spec;
+ghost use Rattle.chan_model.specs.UnitTable as unit_spec;
+ghost use Rattle.chan_model.specs.UnitTable.{UnitStep};
+ghost use Rattle.finding.specs.Tables.{engaged};
+ghost use Rattle.signal_places.specs.Answers.{answer_at};
+ghost use Rattle.signal_places.specs.Places.{down_at, up_at};
+ghost use Rattle.signal_places.specs.Plain.{reply_of};
+ghost use Rattle.unit.specs.UnitWords.{IsAllowed};
+
+use crate::sending::{finds_down_full, finds_up_full, send_any_down, send_any_up};
+use crate::sharing::take;
+use chan_model::fault::Fault;
+use chan_model::names::Path;
+use chan_model::report::{Report, ReportPath};
+use chan_model::unit_state::Place;
+use control_units::sharing::Sharing;
+use finding::engines::Counted;
+use kept_events::signals::{KeptDown, KeptUp};
+use signal_places::answers::{AnswerPlace, Outcome};
+use signal_places::plain::PlainReply;
+use signal_places::sent::SentDown;
+use signal_places::signals::{DownPlace, UpPlace};
+use status::make_pending;
+use storage_keys::Storage;
+use subchannel::answering::{answer_path, answer_paths, standing_path};
+use subchannel::choosing::{mark_lost_paths, offer, send_halt, send_reset};
+use subchannel::paths::is_granted;
+use subchannel::taking::take_up;
+use subchannel_model::cause::StatusCause;
+use subchannel_model::state::{Candidate, Chosen, Subchannel};
+use unit::Unit;
+
+/// Whether what was chosen is a signal that finds its wire full.
+fn chosen_finds_full(sub: &Subchannel, chosen: &Chosen) -> bool
+    ensures { giving_spec.TellsFull sub.now.wires.down
+        (sending_spec.carried_by sub.now (giving_spec.signal_of_chosen sub.now.state chosen.now)) result }
+{
+    match chosen {
+        Chosen::Resets { path, .. } | Chosen::Halts { path, .. } | Chosen::Offers { path, .. } =>
+            finds_down_full(sub, *path),
+        Chosen::Idle | Chosen::PerformsClear | Chosen::PerformsHalt | Chosen::FindsNoPath => false,
+    }
+}
+
+/// A Reset is sent on a path.
+#[inline(never)]
+fn reset_on(sub: &mut Subchannel, number: u64, path: Path, sent: &mut SentDown) -> PlainReply
+    requires due { choosing_spec.IsFitFor (chosen_spec.Resets number path) sub.old.state.hold }
+    requires room { giving_spec.HasRoomForChosen sub.old (chosen_spec.Resets number path) }
+    ensures gives { choose_spec.choose_sub sub.old (chosen_spec.Resets number path) ≡ Ok (turn_spec.leaves (reply_of result) sub.new) }
+    ensures setup { sub.new.setup ≡ sub.old.setup }
+{
+    let available = sub.state.pmcw.available;
+    send_reset(&mut sub.state, path, sent);
+    send_any_down(&mut sub.wires, &available, sent);
+    PlainReply::ResetSent { path, number }
+}
+
+/// A Halt is sent on a path.
+#[inline(never)]
+fn halt_on(sub: &mut Subchannel, number: u64, path: Path, sent: &mut SentDown) -> PlainReply
+    requires { giving_spec.HasRoomForChosen sub.old (chosen_spec.Halts number path) }
+    ensures gives { choose_spec.choose_sub sub.old (chosen_spec.Halts number path) ≡ Ok (turn_spec.leaves (reply_of result) sub.new) }
+    ensures setup { sub.new.setup ≡ sub.old.setup }
+{
+    let available = sub.state.pmcw.available;
+    sent.put(path, KeptDown::Halt { number });
+    send_any_down(&mut sub.wires, &available, sent);
+    send_halt(&mut sub.state);
+    PlainReply::HaltSent { path, number }
+}
+
+/// A program is offered on a path.
+#[inline(never)]
+fn offer_on(
+    sub: &mut Subchannel,
+    candidate: Candidate,
+    path: Path,
+    sent: &mut SentDown,
+) -> PlainReply
+    requires drawn { sub.old.state.drawn < 2 ^ 63 }
+    requires free { choosing_spec.IsFitFor (chosen_spec.Offers candidate path) sub.old.state.hold }
+    requires room { giving_spec.HasRoomForChosen sub.old (chosen_spec.Offers candidate path) }
+    ensures gives { choose_spec.choose_sub sub.old (chosen_spec.Offers candidate path) ≡ Ok (turn_spec.leaves (reply_of result) sub.new) }
+    ensures setup { sub.new.setup ≡ sub.old.setup }
+{
+    let available = sub.state.pmcw.available;
+    offer(&mut sub.state, &candidate.program, path, sent);
+    send_any_down(&mut sub.wires, &available, sent);
+    PlainReply::Offered {
+        path,
+        resumed: candidate.resumes,
+        number: sub.state.drawn,
+    }
+}
+
+/// A status is made pending.
+#[inline(never)]
+fn pend_sub(sub: &mut Subchannel, cause: &StatusCause) -> PlainReply
+    requires { sub.old.state.serials.made < 2 ^ 63 }
+    ensures gives { choose_spec.pend_sub sub.old cause.now ≡ Ok (turn_spec.leaves (reply_of result) sub.new) }
+    ensures setup { sub.new.setup ≡ sub.old.setup }
+{
+    make_pending(&mut sub.state, cause);
+    PlainReply::Pending
+}
+
+/// What was chosen is done.
+fn act_on_choice(sub: &mut Subchannel, chosen: Chosen, sent: &mut SentDown) -> PlainReply
+    requires drawn { sub.old.state.drawn < 2 ^ 63 }
+    requires made { sub.old.state.serials.made < 2 ^ 63 }
+    requires fits { choosing_spec.IsFitFor chosen sub.old.state.hold }
+    requires room { giving_spec.HasRoomForChosen sub.old chosen }
+    ensures gives { choose_spec.choose_sub sub.old chosen ≡ Ok (turn_spec.leaves (reply_of result) sub.new) }
+    ensures setup { sub.new.setup ≡ sub.old.setup }
+{
+    match chosen {
+        Chosen::Idle => PlainReply::Idle,
+        Chosen::Resets { number, path } => reset_on(sub, number, path, sent),
+        Chosen::PerformsClear => pend_sub(sub, &StatusCause::ClearDone),
+        Chosen::Halts { number, path } => halt_on(sub, number, path, sent),
+        Chosen::PerformsHalt => pend_sub(sub, &StatusCause::HaltDone),
+        Chosen::FindsNoPath => pend_sub(sub, &StatusCause::NoPath),
+        Chosen::Offers { candidate, path } => offer_on(sub, candidate, path, sent),
+    }
+}
+
+/// The subsystem does what was chosen, once it is known that what it sends finds room. Beforehand the paths that are found
+/// not operational are marked so. `choice`: the path by which it was chosen.
+pub fn choose_sub(
+    sub: &mut Subchannel,
+    choice: &Option<Path>,
+    chosen: Chosen,
+    answer: &mut AnswerPlace,
+)
+    requires roomy { IsRoomy sub.old }
+    requires fits { choosing_spec.IsFitFor chosen sub.old.state.hold }
+    ensures gives { giving_spec.GivesSub sub.old
+        (choose_spec.choose_sub (choosing_spec.marked_sub sub.old choice.now) chosen) (answer_at answer.new) sub.new }
+    ensures setup { sub.new.setup ≡ sub.old.setup }
+{
+    if chosen_finds_full(sub, &chosen) {
+        answer.outcome = Outcome::Refused(Fault::WireFull);
+        return;
+    }
+    mark_lost_paths(sub, choice);
+    let reply = act_on_choice(sub, chosen, &mut answer.sent_down);
+    answer.outcome = Outcome::Replied(reply);
+}
+
+/// Whether the wire down of the program that is offered or connected is full.
+fn standing_finds_full(sub: &Subchannel) -> bool
+    ensures { OnFalse result ((s : OnPath Down) → answering_spec.standing_path sub.now.state.hold.phase ≡ Some s.path →
+        giving_spec.TellsFull sub.now.wires.down (sending_spec.carried_by sub.now (Some s)) false) }
+{
+    match standing_path(&sub.state.hold) {
+        None => false,
+        Some(at) => finds_down_full(sub, at),
+    }
+}
+
+/// Whether an answer to a signal of a path may find its wire full.
+fn answers_may_find_full(sub: &Subchannel, path: Path) -> bool
+    ensures { OnFalse result ((s : OnPath Down) → answering_spec.IsAnswerPath sub.now.state.hold.phase path (Some s.path) →
+        giving_spec.TellsFull sub.now.wires.down (sending_spec.carried_by sub.now (Some s)) false) }
+{
+    finds_down_full(sub, path) || standing_finds_full(sub)
+}
+
+/// Whether what comes of a signal finds its wire full. It is asked where it goes only where a wire that it may go by is full.
+fn up_finds_full(
+    storage: &Storage,
+    sub: &Subchannel,
+    path: Path,
+    signal: &UpPlace,
+    returns: bool,
+) -> bool
+    requires { IsBelow sub.now.state.begun }
+    ensures { giving_spec.TellsFull sub.now.wires.down (sending_spec.carried_by sub.now
+        (takes_up returns storage.now sub.now.state path (up_at signal.now)).step.came.sent) result }
+{
+    answer_paths();
+    if !answers_may_find_full(sub, path) {
+        return false;
+    }
+    match answer_path(storage, &sub.state, path, signal, returns) {
+        None => false,
+        Some(at) => finds_down_full(sub, at),
+    }
+}
+
+/// A path of the subchannel.
+pub fn path_of(sub: &Subchannel, path: u32) -> Option<Path>
+    ensures { giving_spec.PathOf sub.now path result }
+{
+    if (path as usize) < sub.setup.paths.as_slice().len() {
+        Path::new(path)
+    } else {
+        None
+    }
+}
+
+/// Whether a program may come back by a path, where its Back waits there; no other signal asks.
+pub fn returns_at(subs: &Counted<'_>, sub: &Subchannel, path: Path) -> bool
+    ensures { giving_spec.MayReturn subs.now sub.now path result }
+{
+    match sub.wires.front_up(path) {
+        Some(
+            UpPlace {
+                kept: KeptUp::Back { .. },
+                ..
+            },
+        ) => is_granted(subs, sub, path),
+        _ => false,
+    }
+}
+
+/// The subchannel takes the signal that waits longest on the wire up of a path that it has, once it is known that what comes
+/// of it finds room. `returns`: a program that is away may come back by the path.
+pub fn up_sub(
+    storage: &mut Storage,
+    sub: &mut Subchannel,
+    path: Path,
+    returns: bool,
+    answer: &mut AnswerPlace,
+)
+    requires roomy { IsRoomy sub.old }
+    requires inside { nat_lt path (length sub.old.setup.paths) ≡ true }
+    ensures setup { sub.new.setup ≡ sub.old.setup }
+    ensures gives { giving_spec.GivesStorage storage.old sub.old (up_spec.up_sub returns storage.old sub.old path)
+        (answer_at answer.new) storage.new sub.new }
+{
+    let Some(front) = sub.wires.front_up(path) else {
+        answer.outcome = Outcome::Refused(Fault::NotSent);
+        return;
+    };
+    if up_finds_full(storage, sub, path, front, returns) {
+        answer.outcome = Outcome::Refused(Fault::WireFull);
+        return;
+    }
+    answer.up.put_from(front);
+    sub.wires.drop_up(path);
+    let available = sub.state.pmcw.available;
+    let taken = take_up(
+        storage,
+        &mut sub.state,
+        path,
+        &answer.up,
+        returns,
+        &mut answer.sent_down,
+    );
+    send_any_down(&mut sub.wires, &available, &answer.sent_down);
+    answer.outcome = Outcome::MetUp { taken };
+}
+
+/// Whether the answer of a unit to a signal finds its wire full. What the control unit may do makes no difference.
+fn answer_finds_full(sub: &Subchannel, unit: &Unit, path: Path, signal: &DownPlace) -> bool
+    ensures { (may : Bool) → giving_spec.TellsFull sub.now.wires.up (sending_spec.carried_by sub.now
+        (unit_spec.came_of (unit_spec.unit_takes «unit».now sub.now.setup.side path (down_at signal.now) may)).sent) result }
+{
+    finds_up_full(sub, path) && unit.answers_at(sub.setup.side, signal)
+}
+
+/// The unit takes the signal that waits longest on the wire down of a path, once it is known that its answer finds room; its
+/// control unit is asked where it must be.
+pub fn down_sub(
+    sub: &mut Subchannel,
+    unit: &mut Unit,
+    sharing: &mut Sharing,
+    path: u32,
+    answer: &mut AnswerPlace,
+)
+    ensures engaged { engaged sub.new ≡ engaged sub.old }
+    ensures state { sub.new.state ≡ sub.old.state }
+    ensures gives { giving_spec.GivesShared sub.old «unit».old sharing.old
+        (down_spec.down_shared sharing.old sub.old path «unit».old) (answer_at answer.new) sub.new «unit».new sharing.new }
+{
+    let Some(path) = path_of(sub, path) else {
+        answer.outcome = Outcome::Refused(Fault::NoSuchPath);
+        return;
+    };
+    let Some(front) = sub.wires.front_down(path) else {
+        answer.outcome = Outcome::Refused(Fault::NotSent);
+        return;
+    };
+    if answer_finds_full(sub, unit, path, front) {
+        answer.outcome = Outcome::Refused(Fault::WireFull);
+        return;
+    }
+    answer.down.put_from(front);
+    sub.wires.drop_down(path);
+    let side = sub.setup.side;
+    let taken = take(
+        sharing,
+        sub.setup.unit,
+        unit,
+        side,
+        path,
+        &answer.down,
+        &mut answer.sent_up,
+    );
+    send_any_up(sub, &answer.sent_up);
+    answer.outcome = Outcome::MetDown { taken };
+}
+
+/// Whether what comes of a report, whose path is this, finds its wire full.
+fn report_finds_full(sub: &Subchannel, path: &ReportPath) -> bool
+    ensures { (step : Option UnitStep) → reports_spec.report_path step ≡ path.now →
+        giving_spec.TellsFull sub.now.wires.up (sending_spec.carried_by sub.now (unit_spec.came_of step).sent) result }
+{
+    match path {
+        ReportPath::SentOn(path) => finds_up_full(sub, *path),
+        ReportPath::Refused | ReportPath::NothingSent => false,
+    }
+}
+
+/// The unit takes a report whose program stands there, and sends what comes of it to the subchannel.
+fn report_from(
+    sub: &mut Subchannel,
+    unit: &mut Unit,
+    place: &Place,
+    report: &Report,
+    answer: &mut AnswerPlace,
+)
+    requires roomy { IsUnitRoomy «unit».old }
+    requires allowed { IsAllowed «unit».old report.now }
+    ensures engaged { engaged sub.new ≡ engaged sub.old }
+    ensures state { sub.new.state ≡ sub.old.state }
+    ensures gives { giving_spec.GivesBoth sub.old «unit».old (report_spec.report_taken sub.old
+        (reports_spec.report_on «unit».old report.now.number place.now «unit».old.at_hand report.now))
+        (answer_at answer.new) sub.new «unit».new }
+{
+    let path = unit.path_from(place, report);
+    if let ReportPath::Refused = path {
+        answer.outcome = Outcome::Refused(Fault::NotNow);
+        return;
+    }
+    if report_finds_full(sub, &path) {
+        answer.outcome = Outcome::Refused(Fault::WireFull);
+        return;
+    }
+    let _ = unit.report_from(place, report, &mut answer.sent_up);
+    send_any_up(sub, &answer.sent_up);
+    answer.outcome = Outcome::Replied(PlainReply::Done);
+}
+
+/// The unit takes its device's answer, and sends what comes of it to the subchannel.
+pub fn report_sub(sub: &mut Subchannel, unit: &mut Unit, report: &Report, answer: &mut AnswerPlace)
+    requires { IsUnitRoomy «unit».old }
+    ensures engaged { engaged sub.new ≡ engaged sub.old }
+    ensures state { sub.new.state ≡ sub.old.state }
+    ensures gives { giving_spec.GivesBoth sub.old «unit».old (report_spec.report_sub sub.old «unit».old report.now)
+        (answer_at answer.new) sub.new «unit».new }
+{
+    match unit.reporting(report) {
+        None => answer.outcome = Outcome::Refused(Fault::NotNow),
+        Some(place) => report_from(sub, unit, &place, report, answer),
+    }
+}
