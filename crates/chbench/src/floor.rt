@@ -5,13 +5,13 @@ use chan_model::fault::Fault;
 use chan_model::names::Side;
 use chan_model::report::{DeviceAnswer, Report};
 use core_lock::locked::{Core, Seat};
-use core_lock::naming::Naming;
+use core_parts::naming::Naming;
 use device_law::answering::answer_to;
 use device_models::any_device::AnyDevice;
 use kept_work::works::Task;
-use subchannel_steps::kept_turns::KeptTurn;
 use path_select::Rotating;
 use signal_places::answers::AnswerPlace;
+use subchannel_steps::kept_turns::KeptTurn;
 use subsystem::subsystem::Subsystem;
 
 /// What events are performed at.

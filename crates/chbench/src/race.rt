@@ -7,7 +7,7 @@ use chan_events::event::Instruction;
 use chan_model::names::Cpu;
 use core_lock::locked::{Core, Seat, audit};
 use core_lock::machine::{CpuInstruction, Machine};
-use core_lock::naming::Naming;
+use core_parts::naming::Naming;
 use path_select::Rotating;
 use std::alloc::{AllocError, Global};
 use std::sync::Wait;

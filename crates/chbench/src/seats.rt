@@ -2,15 +2,15 @@
 
 ghost use Rattle.std.specs.Prelude.{◌≡◌, []};
 ghost use Rattle.subsystem.specs.Keeping.{all_serials};
-ghost use Rattle.core_lock.specs.Directory.{directory_of};
+ghost use Rattle.core_parts.specs.Directory.{directory_of};
 
 use crate::bench::{Bench, Count, config_of};
 use crate::cycle::Kind;
 use crate::floor::{ReportPlace, Seated};
 use crate::race::{Race, RaceCount, run_race};
 use core_lock::locked::Core;
-use core_lock::naming::Naming;
 use core_lock::parts::Parts;
+use core_parts::naming::Naming;
 use path_select::Rotating;
 use std::alloc::Global;
 use std::marker::Brand;

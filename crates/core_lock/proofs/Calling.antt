@@ -3,10 +3,10 @@ use Rattle.std.proofs.Common.{◌≡◌, ℕ, Bool, false, List, Option, None, S
 use Rattle.std.specs.Prelude.{is_some}
 use Rattle.chan_model.specs.declared.report.DeviceAnswer.{DeviceAnswer}
 use Rattle.chan_events.specs.declared.reply.Entry.{Entry}
-use Rattle.core_lock.specs.declared.turns.OwedCall.{OwedCall}
-use Rattle.core_lock.specs.declared.turns.KeptReport.{KeptReport}
-use Rattle.core_lock.specs.Directory.{Directory}
-use Rattle.core_lock.specs.Seats.{Seated}
+use Rattle.core_parts.specs.declared.turns.OwedCall.{OwedCall}
+use Rattle.core_parts.specs.declared.turns.KeptReport.{KeptReport}
+use Rattle.core_parts.specs.Directory.{Directory}
+use Rattle.core_parts.specs.Seats.{Seated}
 use Rattle.core_lock.specs.Turns.{Grew, IsAnswered, IsCalled, IsKeptFrom, IsOfWorker, IsOwedBy, WorksUnit, one_call_more, report_of}
 
 none_owed : (o : Option OwedCall) → is_some o ≡ false → o ≡ None

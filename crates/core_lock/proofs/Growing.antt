@@ -9,13 +9,14 @@ use Rattle.chan_events.specs.declared.event.Event.TheVariants as event
 use Rattle.chan_events.specs.declared.event.UnitAct.TheVariants as act
 use Rattle.chan_events.specs.declared.reply.Entry.{Entry}
 use Rattle.chan_events.specs.declared.reply.Reply.{Reply}
-use Rattle.core_lock.specs.declared.turns.KeptReport.{KeptReport}
-use Rattle.core_lock.specs.declared.turns.Turn.{Turn}
-use Rattle.core_lock.specs.declared.turns.Turn.TheVariants.{Enters, Leaves, Owes, Rests}
-use Rattle.core_lock.specs.Directory.{Directory, directory_of}
-use Rattle.core_lock.specs.Seats.{Locked, Seated, entry}
+use Rattle.core_parts.specs.declared.turns.KeptReport.{KeptReport}
+use Rattle.core_parts.specs.declared.turns.Turn.{Turn}
+use Rattle.core_parts.specs.declared.turns.Turn.TheVariants.{Enters, Leaves, Owes, Rests}
+use Rattle.core_parts.specs.Directory.{Directory, directory_of}
+use Rattle.core_parts.specs.Seats.{Locked, Seated, entry}
 use Rattle.core_lock.specs.Entering.{entered}
-use Rattle.core_lock.specs.Turns.{turned, with_kept, with_left, with_owed, turn_of, Tries, Passes, report_event, kept_after, HandsIn, TakesTurn, TakesUnitTurn, path_turn_among, TakesPathTurn, MayStand, MayTurn, IsOfPath, IsOfWorker, Grew, IsKeptFrom, IsOwedBy, WorksPath, WorksUnit, count_in}
+use Rattle.core_parts.specs.Turns.{turn_of, report_event, kept_after, path_turn_among}
+use Rattle.core_lock.specs.Turns.{turned, with_kept, with_left, with_owed, Tries, Passes, HandsIn, TakesTurn, TakesUnitTurn, TakesPathTurn, MayStand, MayTurn, IsOfPath, IsOfWorker, Grew, IsKeptFrom, IsOwedBy, WorksPath, WorksUnit, count_in}
 
 all_none : (P : Entry → Type 0) → All P []
 all_none P k d lt = absurd (omega arith)

@@ -3,10 +3,11 @@ use Rattle.std.proofs.Common.{◌≡◌, ◌≢◌, Bool, true, false, Option, N
 use Rattle.chan_model.specs.declared.fault.Fault.{Fault}
 use Rattle.chan_model.specs.declared.fault.Fault.TheVariants as fault
 use Rattle.chan_events.specs.declared.event.Event.{Event}
-use Rattle.core_lock.specs.declared.turns.KeptReport.{KeptReport}
-use Rattle.core_lock.specs.Seats.{Locked, Seated}
+use Rattle.core_parts.specs.declared.turns.KeptReport.{KeptReport}
+use Rattle.core_parts.specs.Seats.{Locked, Seated}
 use Rattle.core_lock.specs.Entering.{Enters, MayRefuse}
-use Rattle.core_lock.specs.Turns.{HandsIn, Tries, kept_after, refusal_of, report_event, with_kept}
+use Rattle.core_parts.specs.Turns.{kept_after, refusal_of, report_event}
+use Rattle.core_lock.specs.Turns.{HandsIn, Tries, with_kept}
 
 pub handed_ok : (old : Locked) (seat : Seated) (kept : KeptReport) (e : Event) (b : Bool) (new : Locked) (after : Seated) → e ≡ report_event kept → Tries old seat seat e (Ok b) new after → HandsIn old seat kept (Ok b) new after
 handed_ok old seat kept e true new after is (r, enters) = (r, subst (λ (x : Event). Enters old seat x r new after) is enters)

@@ -3,9 +3,9 @@ use Rattle.std.proofs.Common.{◌≡◌, ℕ, List, length, ◌∙◌}
 use Rattle.glance_cell.specs.Shown.{Words}
 use Rattle.machine_model.specs.State.{Past}
 use Rattle.subsystem.specs.Keeping.{StaysSetUp, all_serials}
-use Rattle.core_lock.specs.Directory.{Directory}
+use Rattle.core_parts.specs.Directory.{Directory}
 use Rattle.core_lock.specs.Keeping.{IsCore, Part}
-use Rattle.core_lock.specs.Named.{MachineName, cells_of, shown}
+use Rattle.core_parts.specs.Named.{MachineName, cells_of, shown}
 use Rattle.core_lock.proofs.Directories.{stays_named}
 
 pub stays_core : (past new : Past) (by more : List ℕ) (seats counted count : ℕ) (left turns : Part) (writers news : List Words) (held : Directory) (name : MachineName)

@@ -1,10 +1,7 @@
 pub mod Auditing
 pub mod Directories
-pub mod Finding
 pub mod Growing
 pub mod Raising
-pub mod Rewriting
-pub mod Changing
 pub mod Handing
 pub mod Calling
 pub mod Lengthening

@@ -2,16 +2,13 @@
 use Rattle.std.specs.Prelude.{◌≡◌, ◌≤◌, ℕ, ◌+◌, All, List, length}
 use Rattle.scsw_irb.specs.declared.serials.Serials.{Serials}
 use Rattle.chan_events.specs.declared.reply.Entry.{Entry}
-use Rattle.channel_config.specs.Setup.{Setup, set_count}
+use Rattle.channel_config.specs.Setup.{Setup}
 use Rattle.glance_cell.specs.Shown.{Words}
 use Rattle.machine_model.specs.State.{Past, State}
 use Rattle.machine_model.specs.Setups.{IsSetUp}
 use Rattle.subsystem.specs.Keeping.{IsOrdered, all_serials}
-use Rattle.core_lock.specs.Directory.{Directory}
-use Rattle.core_lock.specs.Named.{MachineName, cells_of, shown}
-
-abbrev pub directory_by : Setup → Directory
-directory_by setup = record { sets = set_count setup; setups = setup.subchannels }
+use Rattle.core_parts.specs.Directory.{Directory, directory_by}
+use Rattle.core_parts.specs.Named.{MachineName, cells_of, shown}
 
 -- a set-up that the machine has gives it these subchannels
 abbrev pub IsNamedBy : Directory → State → Type 0

@@ -1,7 +1,3 @@
-pub mod Directory
-pub mod Named
-pub mod Seats
 pub mod Entering
 pub mod Turns
 pub mod Keeping
-pub mod Touching

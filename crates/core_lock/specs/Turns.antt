@@ -1,30 +1,24 @@
 -- The turns of workers (own).
-use Rattle.std.specs.Prelude.{◌≡◌, ◌≢◌, ◌⊎◌, ℕ, ◌+◌, ◌==◌, ◌&&◌, not, Bool, true, false, All, List, [], ◌∷◌, ◌++◌, length, Option, None, Some, Result, Ok, Err, min, if◌then◌else◌}
+use Rattle.std.specs.Prelude.{◌≡◌, ◌≢◌, ◌⊎◌, ℕ, ◌+◌, Bool, true, false, All, List, ◌++◌, length, Option, None, Some, Result, Ok, Err, min}
 use Rattle.chan_model.specs.declared.fault.Fault.{Fault}
 use Rattle.chan_model.specs.declared.fault.Fault.TheVariants as fault
 use Rattle.chan_model.specs.declared.report.Call.{Call}
 use Rattle.chan_model.specs.declared.report.DeviceAnswer.{DeviceAnswer}
-use Rattle.chan_model.specs.declared.report.Work.{Work}
-use Rattle.chan_model.specs.declared.report.Work.TheVariants as work
-use Rattle.chan_model.specs.Sides.{same_side}
 use Rattle.chan_events.specs.declared.event.Event.{Event}
 use Rattle.chan_events.specs.declared.event.Event.TheVariants as event
 use Rattle.chan_events.specs.declared.event.UnitAct.TheVariants as act
 use Rattle.chan_events.specs.declared.reply.Entry.{Entry}
 use Rattle.chan_events.specs.declared.reply.Reply.{Reply}
-use Rattle.channel_config.specs.declared.parts.SubchannelSetup.{SubchannelSetup}
-use Rattle.machine_model.specs.declared.state.UnitTurn.{UnitTurn}
-use Rattle.machine_model.specs.declared.state.UnitTurn.TheVariants as unit_turn
-use Rattle.machine_model.specs.State.{State, unit_turn_of}
+use Rattle.machine_model.specs.State.{State}
 use Rattle.machine_model.specs.Steps.{HasRun}
-use Rattle.subchannel_steps.specs.PathTurns.{path_turn_of}
-use Rattle.core_lock.specs.declared.turns.OwedCall.{OwedCall}
-use Rattle.core_lock.specs.declared.turns.KeptReport.{KeptReport}
-use Rattle.core_lock.specs.declared.turns.TakenCommand.{TakenCommand}
-use Rattle.core_lock.specs.declared.turns.Turn.{Turn}
-use Rattle.core_lock.specs.declared.turns.Turn.TheVariants.{Enters, Leaves, Owes, Rests}
-use Rattle.core_lock.specs.Directory.{Directory, directory_of, word_of}
-use Rattle.core_lock.specs.Seats.{Locked, Seated}
+use Rattle.core_parts.specs.declared.turns.OwedCall.{OwedCall}
+use Rattle.core_parts.specs.declared.turns.KeptReport.{KeptReport}
+use Rattle.core_parts.specs.declared.turns.TakenCommand.{TakenCommand}
+use Rattle.core_parts.specs.declared.turns.Turn.{Turn}
+use Rattle.core_parts.specs.declared.turns.Turn.TheVariants.{Enters, Leaves, Owes, Rests}
+use Rattle.core_parts.specs.Directory.{Directory, directory_of}
+use Rattle.core_parts.specs.Seats.{Locked, Seated}
+use Rattle.core_parts.specs.Turns.{kept_after, path_turn_among, report_event, turn_of}
 use Rattle.core_lock.specs.Entering as entering
 use Rattle.core_lock.specs.Entering.{MayRefuse}
 
@@ -41,44 +35,6 @@ with_owed seat owed = record seat { owed = owed }
 abbrev pub with_left : Seated → Option TakenCommand → Seated
 with_left seat left = record seat { left = left }
 
--- the command that a unit has at hand
-abbrev pub taken_command : ℕ → Work → TakenCommand
-taken_command at (work.Call side number command sequence call) = record { «unit» = at; side = side; number = number; command = command }
-taken_command at (work.Report report) = record { «unit» = at; side = report.side; number = report.number; command = report.command }
-
-abbrev pub is_command : TakenCommand → TakenCommand → Bool
-is_command one other = (one.«unit» == other.«unit») && (same_side one.side other.side && ((one.number == other.number) && (one.command == other.command)))
-
-abbrev pub has_left : Option TakenCommand → TakenCommand → Bool
-has_left None command = false
-has_left (Some left) command = is_command left command
-
--- a call of the device is owed, a report that needs none is entered
-abbrev pub turn_of_work : ℕ → Work → Turn
-turn_of_work at (work.Call side number command sequence call) =
-    Owes (record { «unit» = at; side = side; number = number; command = command; sequence = sequence; call = call })
-turn_of_work at (work.Report report) = Enters (event.Report at report)
-
--- a unit that roams leaves its path first, once after each command, and asks for one again
-abbrev pub turn_at_work : Bool → Option TakenCommand → ℕ → Work → Turn
-turn_at_work roam left at w = if roam && not (has_left left (taken_command at w)) then Leaves (taken_command at w) else turn_of_work at w
-
-abbrev pub turn_away : Bool → ℕ → Option ℕ → Turn
-turn_away true at (Some path) = Enters (event.Act at (act.Ask path))
-turn_away true at None = Rests
-turn_away false at path = Rests
-
-abbrev pub turn_by : Bool → Option TakenCommand → ℕ → Option UnitTurn → Turn
-turn_by roam left at None = Rests
-turn_by roam left at (Some (unit_turn.Takes id path)) = Enters (event.Down (word_of id) path)
-turn_by roam left at (Some (unit_turn.Works w)) = turn_at_work roam left at w
-turn_by roam left at (Some (unit_turn.Away path)) = turn_away roam at path
-turn_by roam left at (Some unit_turn.Rests) = Rests
-
--- what a turn of a unit's worker is for
-abbrev pub turn_of : Bool → Option TakenCommand → ℕ → State → Turn
-turn_of roam left at s = turn_by roam left at (unit_turn_of s at)
-
 -- an event is tried: it is entered, and the seat is left as the last one with the entry; or it is refused, and all is left as it was
 abbrev pub Tries : Locked → Seated → Seated → Event → Result Bool Fault → Locked → Seated → Type 0
 Tries old seat last e (Ok true) new after = (r : Reply) × entering.Enters old last e r new after
@@ -89,19 +45,7 @@ Tries old seat last e (Err f) new after = MayRefuse old.state e f × (new ≡ ol
 abbrev pub Passes : Locked → Seated → Result Bool Fault → Locked → Seated → Type 0
 Passes old seat result new after = (result ≡ Ok false) × (new ≡ old) × (after ≡ seat)
 
--- a report that is kept is handed in. A stale one is dropped; for want of memory or of room on a wire it stays kept
-abbrev pub report_event : KeptReport → Event
-report_event kept = event.Report kept.«unit» kept.report
-
-abbrev pub kept_after : KeptReport → Fault → Option KeptReport
-kept_after kept fault.NoMemory = Some kept
-kept_after kept fault.WireFull = Some kept
-kept_after kept f = None
-
-abbrev pub refusal_of : Fault → Result Bool Fault
-refusal_of fault.NotNow = Ok false
-refusal_of f = Err f
-
+-- a report that is kept is handed in: it is entered, or refused; a stale one is dropped then
 abbrev pub HandsIn : Locked → Seated → KeptReport → Result Bool Fault → Locked → Seated → Type 0
 HandsIn old seat kept (Ok true) new after = (r : Reply) × entering.Enters old seat (report_event kept) r new after
 HandsIn old seat kept (Ok false) new after = MayRefuse old.state (report_event kept) fault.NotNow × (new ≡ old) × (after ≡ with_kept seat None)
@@ -115,27 +59,12 @@ TakesTurn old seat (Leaves command) result new after =
 TakesTurn old seat (Owes call) result new after = Passes old (with_owed seat (Some call)) result new after
 TakesTurn old seat Rests result new after = Passes old seat result new after
 
-abbrev pub leaves : TakenCommand → Turn
-leaves command = Leaves command
-
 -- a turn of a unit's worker, by a seat with one turn more
 abbrev pub TakesUnitTurn : Locked → Seated → Option KeptReport → ℕ → Bool → Result Bool Fault → Locked → Seated → Type 0
 TakesUnitTurn old seat (Some kept) at roam result new after = HandsIn old (with_kept seat None) kept result new after
 TakesUnitTurn old seat None at roam result new after = TakesTurn old seat (turn_of roam seat.left at old.state) result new after
 
--- a turn of a channel path's worker: the first event that there is for a subchannel
-abbrev pub or_turn : Option Event → Option Event → Option Event
-or_turn None later = later
-or_turn (Some e) later = Some e
-
-abbrev pub path_turn_at : State → ℕ → Option SubchannelSetup → Option Event
-path_turn_at s chpid None = None
-path_turn_at s chpid (Some setup) = path_turn_of s (word_of setup.id) chpid
-
-abbrev pub path_turn_among : State → ℕ → List SubchannelSetup → Option Event
-path_turn_among s chpid [] = None
-path_turn_among s chpid (setup ∷ setups) = or_turn (path_turn_at s chpid (Some setup)) (path_turn_among s chpid setups)
-
+-- a turn of a channel path's worker
 abbrev pub TakesPathTurn : Locked → Seated → Option Event → Result Bool Fault → Locked → Seated → Type 0
 TakesPathTurn old seat None result new after = Passes old seat result new after
 TakesPathTurn old seat (Some e) result new after = Tries old seat seat e result new after

@@ -8,17 +8,10 @@
 //! falls behind what its seat saw. That a call which takes the lock returns is not promised, nor any order between seats.
 #![tactic(auto)]
 
-pub mod directory;
 mod entering;
-pub mod gate;
 pub mod locked;
 mod looking;
 pub mod machine;
-pub mod naming;
-mod pairs;
 pub mod parts;
 mod same_log;
-pub mod supplies;
-mod touching;
 mod turning;
-pub mod turns;

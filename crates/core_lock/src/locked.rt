@@ -11,23 +11,23 @@ ghost use Rattle.machine_model.specs.Steps.{HasRun, Step};
 ghost use Rattle.subsystem.specs.Headline.{HasHeld};
 ghost use Rattle.signal_places.specs.Answers.{answer_at, reply_at};
 ghost use Rattle.subsystem.specs.Keeping.{all_serials};
-ghost use Rattle.core_lock.specs.Directory.{directory_of, place_named};
+ghost use Rattle.core_parts.specs.Directory.{directory_of, place_named};
 ghost use Rattle.core_lock.specs.Entering.{HasNoRoom, MayRefuse, entered};
-ghost use Rattle.core_lock.specs.Named.{shown};
-ghost use Rattle.core_lock.specs.Seats.{entries_by, entry};
+ghost use Rattle.core_parts.specs.Named.{shown};
+ghost use Rattle.core_parts.specs.Seats.{entries_by, entry};
 ghost use Rattle.core_lock.specs.Turns as turn_spec;
 
-use crate::directory::Directory;
 use crate::entering::{came, keep_entry};
-use crate::naming::{Entries, Naming, Turns};
-use crate::pairs::{first_pairs, watch};
 use crate::parts::Parts;
 use crate::same_log::is_log;
-use crate::supplies::CoreSupply;
-use crate::turns::{KeptReport, OwedCall, TakenCommand};
 use chan_events::event::Event;
 use chan_events::reply::Reply;
 use chan_model::fault::Fault;
+use core_parts::directory::Directory;
+use core_parts::naming::{Entries, Naming, Turns};
+use core_parts::pairs::{first_pairs, watch};
+use core_parts::supplies::CoreSupply;
+use core_parts::turns::{KeptReport, OwedCall, TakenCommand};
 use event_log::history::History;
 use event_log::logs::Log;
 use glance_cell::cell::{Reader, Writer};
@@ -64,7 +64,7 @@ pub struct Core<J: Naming, P: PathChoice + Drop> {
 impl<J: Naming, P: PathChoice + Drop> Model for Core<J, P> {
     ghost use Rattle.std.specs.Arc.{arc_value};
     ghost use Rattle.std.specs.Prelude.{◌-◌, min, vec_len, vec_capacity};
-    ghost use Rattle.core_lock.specs.Seats.{LockedCore};
+    ghost use Rattle.core_parts.specs.Seats.{LockedCore};
     ghost use Rattle.core_lock.specs.Keeping.{IsCore};
 
     ghost Value = { LockedCore };
@@ -102,7 +102,7 @@ pub struct Seat<J: Naming> {
 
 impl<J: Naming> Model for Seat<J> {
     ghost use Rattle.std.specs.Arc.{arc_value};
-    ghost use Rattle.core_lock.specs.Seats.{HeldSeat};
+    ghost use Rattle.core_parts.specs.Seats.{HeldSeat};
     ghost use Rattle.core_lock.specs.Keeping.{IsSeat};
 
     ghost Value = { HeldSeat };

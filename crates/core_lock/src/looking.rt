@@ -2,18 +2,18 @@
 
 ghost use Rattle.std.specs.Prelude.{◌≡◌, ◌≤◌, None, IsSome, IfOk, IfErr, OnErr, is_some};
 ghost use Rattle.chan_model.specs.declared.fault.Fault.TheVariants as fault_spec;
-ghost use Rattle.core_lock.specs.Directory.{place_named};
+ghost use Rattle.core_parts.specs.Directory.{place_named};
 ghost use Rattle.core_lock.specs.Entering.{Glances};
-ghost use Rattle.core_lock.specs.Named.{serials};
+ghost use Rattle.core_parts.specs.Named.{serials};
 ghost use Rattle.core_lock.specs.Turns as turn_spec;
 
-use crate::gate::Gate;
 use crate::locked::Seat;
-use crate::naming::Naming;
-use crate::pairs::greater;
-use crate::turns::KeptReport;
 use chan_model::fault::Fault;
 use chan_model::report::Report;
+use core_parts::gate::Gate;
+use core_parts::naming::Naming;
+use core_parts::pairs::greater;
+use core_parts::turns::KeptReport;
 use device_law::Device;
 use device_law::answering::answer;
 use glance_cell::words::Glance;

@@ -7,13 +7,13 @@ ghost use Rattle.core_lock.specs.Entering.{entered};
 ghost use Rattle.core_lock.specs.Turns as turn_spec;
 ghost use Rattle.core_lock.specs.Turns.{Grew, IsCalled, IsOfPath, IsOfWorker, IsOwedBy, MayStand, WorksPath, WorksUnit};
 
-use crate::gate::Gate;
 use crate::locked::{Core, Seat};
-use crate::naming::Naming;
 use chan_events::event::{Event, Instruction, OtherInstruction};
 use chan_events::reply::Reply;
 use chan_model::fault::Fault;
 use chan_model::names::Cpu;
+use core_parts::gate::Gate;
+use core_parts::naming::Naming;
 use device_law::Device;
 use path_select::PathChoice;
 use std::sync::{Mutex, Wait};

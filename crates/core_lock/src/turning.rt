@@ -1,14 +1,17 @@
 //! The turns of workers, under the lock.
 
 ghost use Rattle.std.specs.Prelude.{◌≡◌, ◌+◌, None};
-ghost use Rattle.core_lock.specs.Directory.{directory_of};
+ghost use Rattle.core_parts.specs.Directory.{directory_of};
 ghost use Rattle.core_lock.specs.Turns as turn_spec;
+ghost use Rattle.core_parts.specs.Turns as part_spec;
 
 use crate::locked::{Core, Seat};
-use crate::naming::Naming;
-use crate::turns::{KeptReport, TakenCommand, Turn, kept_after, path_turn_of, refusal_of, turn_of};
 use chan_events::event::{Event, UnitAct};
 use chan_model::fault::Fault;
+use core_parts::naming::Naming;
+use core_parts::turns::{
+    KeptReport, TakenCommand, Turn, kept_after, path_turn_of, refusal_of, turn_of,
+};
 use path_select::PathChoice;
 
 impl<J: Naming, P: PathChoice + Drop> Core<J, P> {
@@ -17,7 +20,7 @@ impl<J: Naming, P: PathChoice + Drop> Core<J, P> {
     pub fn path_step(&mut self, seat: &mut Seat<J>, chpid: u8) -> Result<bool, Fault>
         ensures turns { seat.new.value.turns ≡ seat.old.value.turns + 1 }
         ensures turn { turn_spec.TakesPathTurn self.old.value (turn_spec.turned seat.old.value)
-            (turn_spec.path_turn_among self.old.value.state chpid (directory_of self.old.value.state).setups) result self.new.value seat.new.value }
+            (part_spec.path_turn_among self.old.value.state chpid (directory_of self.old.value.state).setups) result self.new.value seat.new.value }
         ensures works { turn_spec.WorksPath chpid seat.old.value seat.new.value (turn_spec.count_in result) }
     {
         self.stands(seat);
@@ -28,7 +31,7 @@ impl<J: Naming, P: PathChoice + Drop> Core<J, P> {
 
     /// The first event that there is for a subchannel of a channel path.
     fn path_event(&self, chpid: u8) -> Option<Event>
-        ensures { result ≡ turn_spec.path_turn_among self.now.value.state chpid (directory_of self.now.value.state).setups }
+        ensures { result ≡ part_spec.path_turn_among self.now.value.state chpid (directory_of self.now.value.state).setups }
     {
         path_turn_of(&self.subsystem, &self.directory, chpid)
     }
@@ -115,7 +118,7 @@ impl<J: Naming, P: PathChoice + Drop> Core<J, P> {
 
     /// The unit leaves its path, for this command once.
     fn leave(&mut self, seat: &mut Seat<J>, command: TakenCommand) -> Result<bool, Fault>
-        ensures { turn_spec.TakesTurn self.old.value seat.old.value (turn_spec.leaves command) result self.new.value seat.new.value }
+        ensures { turn_spec.TakesTurn self.old.value seat.old.value (part_spec.leaves command) result self.new.value seat.new.value }
     {
         let event = Event::Act {
             unit: command.unit,
@@ -138,8 +141,8 @@ impl<J: Naming, P: PathChoice + Drop> Core<J, P> {
 impl<J: Naming> Seat<J> {
     /// Keeps a report that was refused, where it is to be kept. A stale one is no refusal.
     fn keep(&mut self, kept: KeptReport, fault: Fault) -> Result<bool, Fault>
-        ensures result { result ≡ turn_spec.refusal_of fault }
-        ensures seat { self.new.value ≡ turn_spec.with_kept self.old.value (turn_spec.kept_after kept fault) }
+        ensures result { result ≡ part_spec.refusal_of fault }
+        ensures seat { self.new.value ≡ turn_spec.with_kept self.old.value (part_spec.kept_after kept fault) }
         ensures room { self.new.room ≡ self.old.room }
     {
         self.kept = kept_after(kept, fault);

@@ -19,14 +19,6 @@ ghost use Rattle.chan_events.specs.declared.event.Event.TheVariants as event_spe
 ghost use Rattle.finding.specs.Tables.{Fits};
 ghost use Rattle.signal_places.specs.Answers.{answer_at};
 
-use subchannel_steps::acts::{act_sub, not_held, side_of_act};
-use subchannel_steps::kept_turns::KeptTurn;
-use subchannel_steps::path_turns::turn_at;
-use subchannel_steps::posting::post;
-use subchannel_steps::sharing::restart;
-use subchannel_steps::tables::engaged_for;
-use subchannel_steps::turns::{choose_sub, down_sub, path_of, report_sub, returns_at, up_sub};
-use subchannel_steps::unit_turns::turn_of_unit;
 use chan_events::event::{Event, Instruction, OtherInstruction, UnitAct};
 use chan_model::chunk::{Chunk, ChunkLength};
 use chan_model::fault::Fault;
@@ -49,6 +41,14 @@ use storage_keys::key::Key;
 use storage_keys::{Storage, StorageFault};
 use subchannel::choosing::{chosen, paths_to_choose};
 use subchannel_model::state::Subchannel;
+use subchannel_steps::acts::{act_sub, not_held, side_of_act};
+use subchannel_steps::kept_turns::KeptTurn;
+use subchannel_steps::path_turns::turn_at;
+use subchannel_steps::posting::post;
+use subchannel_steps::sharing::restart;
+use subchannel_steps::tables::engaged_for;
+use subchannel_steps::turns::{choose_sub, down_sub, path_of, report_sub, returns_at, up_sub};
+use subchannel_steps::unit_turns::turn_of_unit;
 use unit::Unit;
 
 /// General register 1: the word that names the subchannel of an instruction.

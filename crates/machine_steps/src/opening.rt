@@ -11,7 +11,6 @@ ghost use Rattle.interruptions.specs.Requests.{no_requests_wait};
 ghost use Rattle.storage_keys.specs.Storage.{cleared_storage};
 
 use crate::machine::Machine;
-use subchannel_steps::tables::configured;
 use channel_config::config::Config;
 use channel_config::parts::{SubchannelSetup, UnitKind};
 use channel_reports::Reports;
@@ -26,6 +25,7 @@ use std::alloc::{AllocError, Global};
 use storage_keys::Storage;
 use subchannel::opening::opening_pmcw;
 use subchannel_model::state::{Subchannel, SubchannelState};
+use subchannel_steps::tables::configured;
 use supply::{Supply, push};
 use unit::Unit;
 use wires::Wires;

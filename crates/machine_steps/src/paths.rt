@@ -12,8 +12,6 @@ ghost use Rattle.machine_steps.specs.Postable.{IsPostable};
 ghost use Rattle.signal_places.specs.Answers.{answer_at};
 
 use crate::machine::Machine;
-use subchannel_steps::posting::post;
-use subchannel_steps::tables::has_chpid;
 use chan_model::fault::Fault;
 use channel_reports::Reports;
 use finding::engines::{Engines, engaged};
@@ -24,6 +22,8 @@ use signal_places::plain::PlainReply;
 use subchannel::losing::{go_down, lose_path, show_path};
 use subchannel::system_reset::reset_by_system;
 use subchannel_model::state::Subchannel;
+use subchannel_steps::posting::post;
+use subchannel_steps::tables::has_chpid;
 
 /// The channel path of this identifier, where it is configured.
 fn chpid_of(chpids: &[u8], number: u32) -> Option<u8>

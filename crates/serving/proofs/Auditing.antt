@@ -1,7 +1,7 @@
 -- What an audit tells, by itself and after a race.
 use Rattle.std.proofs.Common.{◌≡◌, ℕ, Bool, true, false, List, sym, ap, subst, ◌∙◌, true≢false}
 use Rattle.std.specs.Prelude.{IsTrue, ◌↔◌}
-use Rattle.core_lock.specs.Seats.{HeldSeat, Locked, entries_by}
+use Rattle.core_parts.specs.Seats.{HeldSeat, Locked, entries_by}
 use Rattle.script_text.specs.declared.race.RaceCount.{RaceCount}
 use Rattle.serving.specs.Acting.{Installed, IsAudited}
 use Rattle.serving.specs.declared.tally.Tally.{Tally}

@@ -6,7 +6,7 @@ use Rattle.chan_events.specs.declared.reply.Reply.{Reply}
 use Rattle.chan_model.specs.declared.fault.Fault.{Fault}
 use Rattle.chan_model.specs.declared.fault.Fault.TheVariants as fault
 use Rattle.core_lock.specs.Entering.{HasNoRoom, MayRefuse}
-use Rattle.core_lock.specs.Seats.{HeldSeat, Locked, LockedCore, entry}
+use Rattle.core_parts.specs.Seats.{HeldSeat, Locked, LockedCore, entry}
 use Rattle.machine_model.specs.Ruled.{GoesByRule}
 use Rattle.machine_model.specs.State.{IsAsBefore, State}
 use Rattle.machine_model.specs.Steps.{Step, IsRefused}

@@ -13,7 +13,7 @@ use Rattle.chan_model.specs.declared.report.Report.{Report}
 use Rattle.chan_model.specs.declared.report.Work.{Work}
 use Rattle.chan_model.specs.declared.report.Work.TheVariants as work
 use Rattle.channel_config.specs.Setup.{Setup}
-use Rattle.core_lock.specs.Seats.{LockedCore, HeldSeat, entry, entries_by}
+use Rattle.core_parts.specs.Seats.{LockedCore, HeldSeat, entry, entries_by}
 use Rattle.device_models.specs.AnyDevices.{device_of, device_opening, answer_of, after}
 use Rattle.device_models.specs.declared.any_device.AnyDevice.{AnyDevice}
 use Rattle.machine_model.specs.Ruled.{GoesByRule}

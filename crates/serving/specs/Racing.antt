@@ -12,7 +12,7 @@ use Rattle.chan_model.specs.declared.fault.Fault.{Fault}
 use Rattle.core_lock.specs.declared.machine.CpuInstruction.{CpuInstruction}
 use Rattle.core_lock.specs.declared.machine.CpuInstruction.TheVariants as cpu_instruction
 use Rattle.core_lock.specs.Entering.{event_of}
-use Rattle.core_lock.specs.Seats.{HeldSeat, Locked, entries_by}
+use Rattle.core_parts.specs.Seats.{HeldSeat, Locked, entries_by}
 use Rattle.script_rows.specs.declared.race.Race.{Race}
 use Rattle.script_text.specs.declared.race.RaceCount.{RaceCount}
 use Rattle.serving.specs.Acting.{Installed}

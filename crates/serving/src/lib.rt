@@ -17,7 +17,7 @@ mod reports;
 mod running;
 pub mod tally;
 
-use core_lock::supplies::CoreSupply;
+use core_parts::supplies::CoreSupply;
 use script::{Script, ScriptBad};
 use script_text::put_bad_line;
 use std::alloc::Global;

@@ -11,7 +11,7 @@ ghost use Rattle.streams.specs.Sinks.{Puts};
 use crate::installation::{Acted, Installation};
 use crate::places::Places;
 use chan_model::fault::Fault;
-use core_lock::naming::Naming;
+use core_parts::naming::Naming;
 use script::lines::Lines;
 use script_rows::places::KeptAction;
 use script_text::held::Held;

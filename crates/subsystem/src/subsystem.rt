@@ -31,7 +31,6 @@ use event_log::logs::Log;
 use finding::tables::Places;
 use machine_laws::{agreements, beginnings, numbers, serials, setups, steps};
 use machine_model::state::UnitTurn;
-use subchannel_steps::kept_turns::KeptTurn;
 use machine_steps::machine::Machine;
 use machine_steps::opening::opened_machine;
 use path_select::PathChoice;
@@ -40,6 +39,7 @@ use scsw_irb::serials::Serials;
 use signal_places::answers::{AnswerPlace, Outcome};
 use std::alloc::Global;
 use std::marker::Model;
+use subchannel_steps::kept_turns::KeptTurn;
 use supply::{Given, Supply, make_room};
 
 /// A channel subsystem with its subchannels, units and storage (SA22-7832, chapters 13 to 17).

@@ -6,8 +6,8 @@ use crate::tests::hands::{Hand, Task, hold};
 use crate::tests::stories::{Story, goes, setting};
 use chan_model::fault::Fault;
 use core_lock::locked::{Core, Seat};
-use core_lock::naming::Naming;
 use core_lock::parts::Parts;
+use core_parts::naming::Naming;
 use path_select::Rotating;
 use supply::Refusing;
 

@@ -4,10 +4,10 @@ ghost use Rattle.std.specs.Prelude.{◌≡◌, None};
 
 use chan_model::names::Cpu;
 use channel_config::parts::UnitKind;
-use core_lock::gate::Gate;
 use core_lock::locked::{Core, Seat};
 use core_lock::machine::Machine;
-use core_lock::naming::Naming;
+use core_parts::gate::Gate;
+use core_parts::naming::Naming;
 use device_models::any_device::AnyDevice;
 use path_select::Rotating;
 use std::alloc::{AllocError, Global};

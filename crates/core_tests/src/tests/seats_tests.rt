@@ -9,7 +9,7 @@ use chan_events::event::{Event, Instruction};
 use chan_model::fault::Fault;
 use chan_model::names::Cpu;
 use core_lock::locked::{Core, MOST_SEATS, Seat};
-use core_lock::naming::Naming;
+use core_parts::naming::Naming;
 use path_select::Rotating;
 use signal_places::answers::AnswerPlace;
 

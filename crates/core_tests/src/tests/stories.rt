@@ -3,7 +3,7 @@
 ghost use Rattle.std.specs.Prelude.{◌≡◌, []};
 ghost use Rattle.machine_model.specs.State.{opening_of};
 ghost use Rattle.subsystem.specs.Keeping.{all_serials};
-ghost use Rattle.core_lock.specs.Directory.{directory_of};
+ghost use Rattle.core_parts.specs.Directory.{directory_of};
 
 use crate::tests::crowd_tests::{answered, are_enough, begins_crowd, crowds};
 use crate::tests::gate_tests::{begins_both, meets};
@@ -17,8 +17,8 @@ use crate::tests::workers_tests::{begins_work, has_roamed, roams};
 use channel_config::config::Config;
 use core_lock::locked::{Core, NotMade, Seat, audit};
 use core_lock::machine::Machine;
-use core_lock::naming::Naming;
 use core_lock::parts::Parts;
+use core_parts::naming::Naming;
 use path_select::Rotating;
 use std::alloc::Global;
 use std::marker::Brand;

@@ -7,10 +7,10 @@ use Rattle.scsw_irb.specs.declared.serials.Serials.{Serials}
 use Rattle.machine_model.specs.Steps.{Step}
 use Rattle.signal_places.specs.Answers.{reply_at}
 use Rattle.subsystem.specs.Keeping.{BringsOrdered, IsOrdered, all_serials}
-use Rattle.core_lock.specs.declared.touching.Touched.{Touched}
-use Rattle.core_lock.specs.Named.{shown}
-use Rattle.core_lock.specs.Seats.{entry}
-use Rattle.core_lock.specs.Touching.{Changes, touched}
+use Rattle.core_parts.specs.declared.touching.Touched.{Touched}
+use Rattle.core_parts.specs.Named.{shown}
+use Rattle.core_parts.specs.Seats.{entry}
+use Rattle.core_parts.specs.Touching.{Changes, touched}
 use Rattle.core_lock.proofs.Lengthening.{longer}
 use Rattle.core_lock.proofs.Raising.{raised_length, raised_ordered}
 use Rattle.core_lock.proofs.entering.keep_entry.Goals as goal

@@ -1,5 +1,5 @@
 use Rattle.std.proofs.Common.{length, rules, arith, sym, ap, ◌∙◌}
-use Rattle.core_lock.specs.Named.{MachineName, MachineParts}
+use Rattle.core_parts.specs.Named.{MachineName, MachineParts}
 use Rattle.core_lock.proofs.Directories.{run_named}
 use Rattle.core_lock.proofs.locked.Core.new_with.Goals as goal
 

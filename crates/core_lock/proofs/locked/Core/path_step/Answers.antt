@@ -1,8 +1,9 @@
 use Rattle.std.proofs.Common.{Option, ap, ◌∙◌, subst}
 use Rattle.chan_events.specs.declared.event.Event.{Event}
-use Rattle.core_lock.specs.Directory.{directory_of}
-use Rattle.core_lock.specs.Seats.{Locked, LockedCore, Seated}
-use Rattle.core_lock.specs.Turns.{TakesPathTurn, path_turn_among, turned}
+use Rattle.core_parts.specs.Directory.{directory_of}
+use Rattle.core_parts.specs.Seats.{Locked, LockedCore, Seated}
+use Rattle.core_parts.specs.Turns.{path_turn_among}
+use Rattle.core_lock.specs.Turns.{TakesPathTurn, turned}
 use Rattle.core_lock.proofs.Growing.{path_works}
 use Rattle.core_lock.proofs.locked.Core.path_step.Goals as goal
 

@@ -1,7 +1,7 @@
 use Rattle.std.proofs.Common.{None, sym, ap, ◌∙◌}
 use Rattle.subsystem.specs.Keeping.{all_serials}
-use Rattle.core_lock.specs.Directory.{Directory, directory_of, place_named}
-use Rattle.core_lock.specs.Seats.{LockedCore}
+use Rattle.core_parts.specs.Directory.{Directory, directory_of, place_named}
+use Rattle.core_parts.specs.Seats.{LockedCore}
 use Rattle.core_lock.proofs.Directories.{is_named, place_is}
 use Rattle.core_lock.proofs.locked.Core.seat_with.Goals as goal
 

@@ -1,6 +1,6 @@
 use Rattle.std.proofs.Common.{sym, ◌∙◌, subst}
 use Rattle.std.specs.Arc.{arc_value}
-use Rattle.core_lock.specs.Seats.{HeldSeat, LockedCore}
+use Rattle.core_parts.specs.Seats.{HeldSeat, LockedCore}
 use Rattle.core_lock.specs.Turns.{MayStand}
 use Rattle.core_lock.proofs.Directories.{is_named}
 use Rattle.core_lock.proofs.locked.Core.stands.Goals as goal

@@ -1,7 +1,7 @@
 use Rattle.std.proofs.Common.{subst}
 use Rattle.machine_laws.specs.Agreeing.{AllAgree}
 use Rattle.subsystem.specs.Headline.{HasHeld}
-use Rattle.core_lock.specs.Seats.{LockedCore}
+use Rattle.core_parts.specs.Seats.{LockedCore}
 use Rattle.core_lock.proofs.locked.Core.subsystem.Goals as goal
 
 pub returns-clause-agree : goal.returns-clause-agree

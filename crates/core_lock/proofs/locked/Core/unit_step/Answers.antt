@@ -1,5 +1,5 @@
 use Rattle.std.proofs.Common.{ap, subst}
-use Rattle.core_lock.specs.Seats.{Locked, LockedCore, Seated}
+use Rattle.core_parts.specs.Seats.{Locked, LockedCore, Seated}
 use Rattle.core_lock.specs.Turns.{TakesUnitTurn, turned}
 use Rattle.core_lock.proofs.Growing.{unit_works, unit_owed, unit_turns}
 use Rattle.core_lock.proofs.locked.Core.unit_step.Goals as goal

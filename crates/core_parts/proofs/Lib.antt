@@ -1,0 +1,3 @@
+pub mod Finding
+pub mod Rewriting
+pub mod Changing

@@ -1,0 +1,88 @@
+-- What workers are to do in a turn (own).
+use Rattle.std.specs.Prelude.{ℕ, ◌==◌, ◌&&◌, not, Bool, true, false, List, [], ◌∷◌, Option, None, Some, Result, Ok, Err, if◌then◌else◌}
+use Rattle.chan_model.specs.declared.fault.Fault.{Fault}
+use Rattle.chan_model.specs.declared.fault.Fault.TheVariants as fault
+use Rattle.chan_model.specs.declared.report.Work.{Work}
+use Rattle.chan_model.specs.declared.report.Work.TheVariants as work
+use Rattle.chan_model.specs.Sides.{same_side}
+use Rattle.chan_events.specs.declared.event.Event.{Event}
+use Rattle.chan_events.specs.declared.event.Event.TheVariants as event
+use Rattle.chan_events.specs.declared.event.UnitAct.TheVariants as act
+use Rattle.channel_config.specs.declared.parts.SubchannelSetup.{SubchannelSetup}
+use Rattle.machine_model.specs.declared.state.UnitTurn.{UnitTurn}
+use Rattle.machine_model.specs.declared.state.UnitTurn.TheVariants as unit_turn
+use Rattle.machine_model.specs.State.{State, unit_turn_of}
+use Rattle.subchannel_steps.specs.PathTurns.{path_turn_of}
+use Rattle.core_parts.specs.declared.turns.OwedCall.{OwedCall}
+use Rattle.core_parts.specs.declared.turns.KeptReport.{KeptReport}
+use Rattle.core_parts.specs.declared.turns.TakenCommand.{TakenCommand}
+use Rattle.core_parts.specs.declared.turns.Turn.{Turn}
+use Rattle.core_parts.specs.declared.turns.Turn.TheVariants.{Enters, Leaves, Owes, Rests}
+use Rattle.core_parts.specs.Directory.{word_of}
+
+-- the command that a unit has at hand
+abbrev pub taken_command : ℕ → Work → TakenCommand
+taken_command at (work.Call side number command sequence call) = record { «unit» = at; side = side; number = number; command = command }
+taken_command at (work.Report report) = record { «unit» = at; side = report.side; number = report.number; command = report.command }
+
+abbrev pub is_command : TakenCommand → TakenCommand → Bool
+is_command one other = (one.«unit» == other.«unit») && (same_side one.side other.side && ((one.number == other.number) && (one.command == other.command)))
+
+abbrev pub has_left : Option TakenCommand → TakenCommand → Bool
+has_left None command = false
+has_left (Some left) command = is_command left command
+
+-- a call of the device is owed, a report that needs none is entered
+abbrev pub turn_of_work : ℕ → Work → Turn
+turn_of_work at (work.Call side number command sequence call) =
+    Owes (record { «unit» = at; side = side; number = number; command = command; sequence = sequence; call = call })
+turn_of_work at (work.Report report) = Enters (event.Report at report)
+
+-- a unit that roams leaves its path first, once after each command, and asks for one again
+abbrev pub turn_at_work : Bool → Option TakenCommand → ℕ → Work → Turn
+turn_at_work roam left at w = if roam && not (has_left left (taken_command at w)) then Leaves (taken_command at w) else turn_of_work at w
+
+abbrev pub turn_away : Bool → ℕ → Option ℕ → Turn
+turn_away true at (Some path) = Enters (event.Act at (act.Ask path))
+turn_away true at None = Rests
+turn_away false at path = Rests
+
+abbrev pub turn_by : Bool → Option TakenCommand → ℕ → Option UnitTurn → Turn
+turn_by roam left at None = Rests
+turn_by roam left at (Some (unit_turn.Takes id path)) = Enters (event.Down (word_of id) path)
+turn_by roam left at (Some (unit_turn.Works w)) = turn_at_work roam left at w
+turn_by roam left at (Some (unit_turn.Away path)) = turn_away roam at path
+turn_by roam left at (Some unit_turn.Rests) = Rests
+
+-- what a turn of a unit's worker is for
+abbrev pub turn_of : Bool → Option TakenCommand → ℕ → State → Turn
+turn_of roam left at s = turn_by roam left at (unit_turn_of s at)
+
+-- the event that hands in a report, and what is kept of a report that was refused so: for want of memory or of room on a wire all of it
+abbrev pub report_event : KeptReport → Event
+report_event kept = event.Report kept.«unit» kept.report
+
+abbrev pub kept_after : KeptReport → Fault → Option KeptReport
+kept_after kept fault.NoMemory = Some kept
+kept_after kept fault.WireFull = Some kept
+kept_after kept f = None
+
+abbrev pub refusal_of : Fault → Result Bool Fault
+refusal_of fault.NotNow = Ok false
+refusal_of f = Err f
+
+abbrev pub leaves : TakenCommand → Turn
+leaves command = Leaves command
+
+-- a turn of a channel path's worker: the first event that there is for a subchannel
+abbrev pub or_turn : Option Event → Option Event → Option Event
+or_turn None later = later
+or_turn (Some e) later = Some e
+
+abbrev pub path_turn_at : State → ℕ → Option SubchannelSetup → Option Event
+path_turn_at s chpid None = None
+path_turn_at s chpid (Some setup) = path_turn_of s (word_of setup.id) chpid
+
+abbrev pub path_turn_among : State → ℕ → List SubchannelSetup → Option Event
+path_turn_among s chpid [] = None
+path_turn_among s chpid (setup ∷ setups) = or_turn (path_turn_at s chpid (Some setup)) (path_turn_among s chpid setups)
