@@ -1,30 +1,29 @@
 //! A channel subsystem with a device for each of its units, a seat from which its events are entered, and seats of CPUs that
 //! are to race.
 
-ghost use Rattle.std.specs.Prelude.{◌≡◌, ◌+◌, [], Bool, IsTrue, IfOk, List, None, Some, OnErr, OnOk, length, map, replicate, slice_get, true, ◌↔◌, ◌≤◌, ℕ};
+ghost use Rattle.std.specs.Prelude.{◌≡◌, ◌+◌, Bool, IsTrue, IfOk, List, None, Some, OnErr, OnOk, length, slice_get, true, ◌↔◌, ◌≤◌, ℕ};
 ghost use Rattle.serving.specs.Acting as spec;
-ghost use Rattle.serving.specs.Racing.{AreMade, HasLogs, IsRaced, IsSeatedIn};
+ghost use Rattle.serving.specs.Racing.{AreMade, HasLogs, IsRaced};
 ghost use Rattle.serving.specs.Acting.{books_of, past_of, PerformsAction, Happens, IsAudited, Looks, TakesTurn, HandsIn, opening_installed, outcome_at};
 ghost use Rattle.machine_model.specs.State.{opening_of, sub_of, serials_in, unit_turn_of};
 ghost use Rattle.subsystem.specs.Keeping.{all_serials};
 ghost use Rattle.signal_places.specs.Answers.{answer_at};
 ghost use Rattle.core_parts.specs.Directory.{directory_of};
 ghost use Rattle.core_parts.specs.Seats.{entries_by};
-ghost use Rattle.device_models.specs.AnyDevices.{device_of};
 ghost use Rattle.device_models.specs.declared.any_device.AnyDevice.{AnyDevice};
 ghost use Rattle.chan_model.specs.declared.report.Report.{Report};
 ghost use Rattle.kept_events.specs.Events.{event_in, event_length};
 ghost use Rattle.script_rows.specs.Places.{action_in, action_length};
 ghost use Rattle.chan_events.specs.declared.event.Event.TheVariants as event_spec;
 
+use crate::opening::{opening_seats, opening_units};
 use crate::places::{Places, no_report, write_choose, write_down, write_execute, write_up};
-use crate::racing::{Racers, one_seat};
+use crate::racing::Racers;
 use crate::reports::{forget, keep, reported_by};
 use chan_events::event::Event;
 use chan_model::fault::Fault;
 use chan_model::report::Report;
 use channel_config::config::Config;
-use channel_config::parts::UnitKind;
 use core_lock::locked::{Core, Seat, audit};
 use core_lock::parts::Parts;
 use core_parts::naming::Naming;
@@ -44,7 +43,6 @@ use std::marker::Model;
 use std::sync::Wait;
 use std::thread::Threads;
 use subsystem::subsystem::Subsystem;
-use supply::{Supply, push};
 
 /// A channel subsystem that no lock guards, with the seat from which its events are entered, a device for each unit, and by
 /// unit the report that is still to be handed in: one for which there was no memory or no room on a wire.
@@ -366,74 +364,6 @@ fn is_grown(closed: Option<u64>, before: u64, entries: u64) -> bool
     }
 }
 
-/// A core at the opening of a configuration, of which no seat was made.
-fn opening_core<J: Naming, S: CoreSupply>(
-    alloc: Global,
-    supply: &mut S,
-    config: Config,
-    parts: Parts,
-) -> Result<Core<J, Rotating>, AllocError>
-    requires named { parts.name ≡ J.name }
-    requires directory { parts.name.directory ≡ directory_of (opening_of config) }
-    requires serials { parts.serials ≡ all_serials (opening_of config) }
-    ensures made { IfOk result (λ core. core.value ≡ record { state = opening_of config; history = []; by = []; seats = 0 }) }
-    ensures given { OnOk result (S.refused supply.new ≡ S.refused supply.old) }
-    ensures memory { OnErr result (S.refused supply.new ≡ true) }
-{
-    let Ok(subsystem) = Subsystem::new_with(alloc, supply, config, Rotating) else {
-        return Err(AllocError);
-    };
-    match Core::new_with(alloc, supply, subsystem, parts) {
-        Ok(core) => Ok(core),
-        Err(_) => Err(AllocError),
-    }
-}
-
-/// A core at its opening, with its first seat, and as many CPUs more that are to race.
-fn opening_seats<J: Naming, S: CoreSupply>(
-    alloc: Global,
-    supply: &mut S,
-    config: Config,
-    parts: Parts,
-    cpus: u32,
-) -> Result<(Core<J, Rotating>, Seat<J>, Racers<J>), AllocError>
-    requires named { parts.name ≡ J.name }
-    requires directory { parts.name.directory ≡ directory_of (opening_of config) }
-    requires serials { parts.serials ≡ all_serials (opening_of config) }
-    ensures past { IfOk result (λ all. past_of all.0 all.1 ≡ record { state = opening_of config; history = []; room = 0 }) }
-    ensures books { IfOk result (λ all. books_of all.0 all.1 true ≡ spec.opening_books) }
-    ensures racers { IfOk result (λ all. AreMade cpus all.2) }
-    ensures given { OnOk result (S.refused supply.new ≡ S.refused supply.old) }
-    ensures memory { OnErr result (S.refused supply.new ≡ true) }
-{
-    let mut core = opening_core(alloc, supply, config, parts)?;
-    match first_seats(alloc, supply, &mut core, cpus) {
-        Ok((seat, racers)) => Ok((core, seat, racers)),
-        Err(_) => Err(AllocError),
-    }
-}
-
-/// The first seat of a core, and as many CPUs more that are to race.
-fn first_seats<J: Naming, S: CoreSupply>(
-    alloc: Global,
-    supply: &mut S,
-    core: &mut Core<J, Rotating>,
-    cpus: u32,
-) -> Result<(Seat<J>, Racers<J>), AllocError>
-    requires { core.old.value.seats ≡ 0 }
-    ensures number { IfOk result (λ both. both.0.value.number ≡ 0) }
-    ensures log { IfOk result (λ both. both.0.value.log ≡ []) }
-    ensures room { IfOk result (λ both. both.0.room ≡ 0) }
-    ensures racers { IfOk result (λ both. AreMade cpus both.1) }
-    ensures core { IfOk result (λ _. IsSeatedIn core.old.value core.new.value) }
-    ensures given { OnOk result (S.refused supply.new ≡ S.refused supply.old) }
-    ensures memory { OnErr result (S.refused supply.new ≡ true) }
-{
-    let seat = one_seat(supply, core)?;
-    let racers = Racers::new(alloc, supply, core, cpus)?;
-    Ok((seat, racers))
-}
-
 /// What a seat sees of the serials of the subchannel that a word names; None where it knows none of that name.
 fn found_by<J: Naming>(seat: &mut Seat<J>, subchannel: u32) -> Option<Serials>
     ensures number { seat.new.value.number ≡ seat.old.value.number }
@@ -475,54 +405,4 @@ fn put_back(devices: &mut Vec<AnyDevice>, unit: u32)
     if let Some(device) = devices.get_mut(unit as usize) {
         device.restart();
     }
-}
-
-/// No report is kept for so many units.
-fn no_reports<S: Supply>(
-    alloc: Global,
-    supply: &mut S,
-    count: usize,
-) -> Result<Vec<Option<Report>>, AllocError>
-    ensures none { IfOk result (λ kept. kept.items ≡ replicate count None) }
-    ensures given { OnOk result (S.refused supply.new ≡ S.refused supply.old) }
-    ensures memory { OnErr result (S.refused supply.new ≡ true) }
-{
-    let mut kept = Vec::new(alloc);
-    for _ in 0..count {
-        push(supply, &mut kept, None)?;
-    }
-    Ok(kept)
-}
-
-/// The device of each unit at its opening, and no report for it.
-fn opening_units<S: Supply>(
-    alloc: Global,
-    supply: &mut S,
-    kinds: &[UnitKind],
-) -> Result<(Vec<AnyDevice>, Vec<Option<Report>>), AllocError>
-    ensures devices { IfOk result (λ both. both.0.items ≡ map device_of kinds.now) }
-    ensures kept { IfOk result (λ both. both.1.items ≡ replicate (length kinds.now) None) }
-    ensures given { OnOk result (S.refused supply.new ≡ S.refused supply.old) }
-    ensures memory { OnErr result (S.refused supply.new ≡ true) }
-{
-    let devices = opening_devices(alloc, supply, kinds)?;
-    let kept = no_reports(alloc, supply, kinds.len())?;
-    Ok((devices, kept))
-}
-
-/// The device of each unit, at its opening.
-fn opening_devices<S: Supply>(
-    alloc: Global,
-    supply: &mut S,
-    kinds: &[UnitKind],
-) -> Result<Vec<AnyDevice>, AllocError>
-    ensures opened { IfOk result (λ devices. devices.items ≡ map device_of kinds.now) }
-    ensures given { OnOk result (S.refused supply.new ≡ S.refused supply.old) }
-    ensures memory { OnErr result (S.refused supply.new ≡ true) }
-{
-    let mut devices = Vec::new(alloc);
-    for kind in kinds {
-        push(supply, &mut devices, AnyDevice::of(*kind))?;
-    }
-    Ok(devices)
 }

@@ -10,6 +10,7 @@ ghost use Rattle.serving.specs.Serving.{Serves, ServesRace, Checks, HasNoScript,
 ghost use Rattle.serving.specs.Serving.{IsBadLineOutput, TellsNoMemoryBy, status_of};
 
 pub mod installation;
+mod opening;
 pub mod performing;
 pub mod places;
 pub mod racing;

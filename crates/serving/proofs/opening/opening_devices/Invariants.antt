@@ -1,6 +1,6 @@
 use Rattle.std.proofs.Common.{◌≡◌, take, map}
 use Rattle.device_models.specs.AnyDevices.{device_of}
-use Rattle.serving.proofs.installation.opening_devices.Given as goal
+use Rattle.serving.proofs.opening.opening_devices.Given as goal
 
 -- the devices so far are those of the first units
 abbrev pub invariant-loop-kind : goal.invariant-loop-kind

@@ -4,7 +4,7 @@ use Rattle.channel_config.specs.declared.parts.UnitKind.{UnitKind}
 use Rattle.channel_config.specs.declared.parts.UnitKind.TheVariants.{Block}
 use Rattle.device_models.specs.AnyDevices.{device_of}
 use Rattle.device_models.specs.declared.any_device.AnyDevice.{AnyDevice}
-use Rattle.serving.proofs.installation.opening_devices.Goals as goal
+use Rattle.serving.proofs.opening.opening_devices.Goals as goal
 
 pub loop-kind-preserved : goal.loop-kind-preserved
 loop-kind-preserved g c =
