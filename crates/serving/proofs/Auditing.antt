@@ -4,8 +4,8 @@ use Rattle.std.specs.Prelude.{IsTrue, ◌↔◌}
 use Rattle.core_parts.specs.Seats.{HeldSeat, Locked, entries_by}
 use Rattle.script_text.specs.declared.race.RaceCount.{RaceCount}
 use Rattle.serving.specs.Acting.{Installed, IsAudited}
-use Rattle.serving.specs.declared.tally.Tally.{Tally}
-use Rattle.serving.specs.Racing.{HasLogs, count_of}
+use Rattle.racing.specs.declared.tally.Tally.{Tally}
+use Rattle.racing.specs.Racing.{HasLogs, count_of}
 
 pub told_of : (r : RaceCount) (t total : Tally) (audited : Bool) → r ≡ count_of t audited → t ≡ total → r ≡ count_of total r.audited
 told_of r t total audited is same =

@@ -3,7 +3,8 @@
 
 ghost use Rattle.std.specs.Prelude.{◌≡◌, ◌+◌, Bool, IsTrue, IfOk, List, None, Some, OnErr, OnOk, length, slice_get, true, ◌↔◌, ◌≤◌, ℕ};
 ghost use Rattle.serving.specs.Acting as spec;
-ghost use Rattle.serving.specs.Racing.{AreMade, HasLogs, IsRaced};
+ghost use Rattle.racing.specs.Racing.{AreMade, HasLogs};
+ghost use Rattle.serving.specs.Racing.{IsRaced};
 ghost use Rattle.serving.specs.Acting.{books_of, past_of, PerformsAction, Happens, IsAudited, Looks, TakesTurn, HandsIn, opening_installed, outcome_at};
 ghost use Rattle.machine_model.specs.State.{opening_of, sub_of, serials_in, unit_turn_of};
 ghost use Rattle.subsystem.specs.Keeping.{all_serials};
@@ -18,7 +19,6 @@ ghost use Rattle.chan_events.specs.declared.event.Event.TheVariants as event_spe
 
 use crate::opening::{opening_seats, opening_units};
 use crate::places::{Places, no_report, write_choose, write_down, write_execute, write_up};
-use crate::racing::Racers;
 use crate::reports::{forget, keep, reported_by};
 use chan_events::event::Event;
 use chan_model::fault::Fault;
@@ -33,6 +33,7 @@ use device_models::any_device::AnyDevice;
 use glance_cell::words::Glance;
 use kept_events::events::KeptEvent;
 use path_select::Rotating;
+use racing::racers::Racers;
 use script_rows::places::KeptAction;
 use script_rows::race::Race;
 use script_text::RaceCount;

@@ -13,10 +13,8 @@ pub mod installation;
 mod opening;
 pub mod performing;
 pub mod places;
-pub mod racing;
 mod reports;
 mod running;
-pub mod tally;
 
 use core_parts::supplies::CoreSupply;
 use script::{Script, ScriptBad};

@@ -3,13 +3,12 @@
 ghost use Rattle.std.specs.Prelude.{◌≡◌, [], IfOk, None, OnErr, OnOk, length, map, replicate, true};
 ghost use Rattle.serving.specs.Acting as spec;
 ghost use Rattle.serving.specs.Acting.{books_of, past_of};
-ghost use Rattle.serving.specs.Racing.{AreMade, IsSeatedIn};
+ghost use Rattle.racing.specs.Racing.{AreMade, IsSeatedIn};
 ghost use Rattle.machine_model.specs.State.{opening_of};
 ghost use Rattle.subsystem.specs.Keeping.{all_serials};
 ghost use Rattle.core_parts.specs.Directory.{directory_of};
 ghost use Rattle.device_models.specs.AnyDevices.{device_of};
 
-use crate::racing::{Racers, one_seat};
 use chan_model::report::Report;
 use channel_config::config::Config;
 use channel_config::parts::UnitKind;
@@ -19,6 +18,7 @@ use core_parts::naming::Naming;
 use core_parts::supplies::CoreSupply;
 use device_models::any_device::AnyDevice;
 use path_select::Rotating;
+use racing::racers::{Racers, one_seat};
 use std::alloc::{AllocError, Global};
 use subsystem::subsystem::Subsystem;
 use supply::{Supply, push};

@@ -1,7 +1,7 @@
 use Rattle.std.proofs.Common.{◌≡◌, ◌+◌, ◌∷◌, ℕ, true, length, sym, ap, ◌∙◌}
 use Rattle.serving.specs.Acting.{Installed}
-use Rattle.serving.specs.declared.tally.Tally.{Tally}
-use Rattle.serving.specs.Racing.{HasLogs, seats_of, total_of}
+use Rattle.racing.specs.declared.tally.Tally.{Tally}
+use Rattle.racing.specs.Racing.{HasLogs, seats_of, total_of}
 use Rattle.serving.proofs.Auditing.{settled, told_audited, told_of, unsettled}
 use Rattle.serving.proofs.installation.Installation.race.Goals.{then-agrees, else-agrees}
 use Rattle.serving.proofs.installation.Installation.race.Goals as goal

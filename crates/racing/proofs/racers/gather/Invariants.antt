@@ -1,6 +1,6 @@
 use Rattle.std.proofs.Common.{◌≡◌, ◌≤◌, ◌+◌, ◌*◌, ◌++◌, vec_len, vec_capacity}
-use Rattle.serving.specs.Racing.{total_after, total_of, seats_of}
-use Rattle.serving.proofs.racing.gather.Given as goal
+use Rattle.racing.specs.Racing.{total_after, total_of, seats_of}
+use Rattle.racing.proofs.racers.gather.Given as goal
 
 abbrev pub invariant-loop-racer : goal.invariant-loop-racer
 invariant-loop-racer g l = record {

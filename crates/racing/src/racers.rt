@@ -1,8 +1,8 @@
 //! CPUs that race: each executes TEST SUBCHANNEL of one subchannel on a thread of its own.
 
 ghost use Rattle.std.specs.Prelude.{◌≡◌, ◌∷◌, ◌++◌, ◌+◌, ◌≤◌, ◌<◌, ◌^◌, [], length, vec_len, vec_capacity, IfOk, OnErr, OnOk, true};
-ghost use Rattle.serving.specs.Racing as spec;
-ghost use Rattle.serving.specs.Racing.{AreMade, HasRaced, HasTested, HaveRaced, IsBelow, IsSeatedIn};
+ghost use Rattle.racing.specs.Racing as spec;
+ghost use Rattle.racing.specs.Racing.{AreMade, HasRaced, HasTested, HaveRaced, IsBelow, IsSeatedIn};
 
 use crate::tally::Tally;
 use chan_events::event::Instruction;
@@ -29,7 +29,7 @@ pub struct Racer<J: Naming> {
 
 impl<J: Naming> Model for Racer<J> {
     ghost use Rattle.std.specs.Prelude.{◌^◌};
-    ghost use Rattle.serving.specs.Racing.{IsBelow, Runner};
+    ghost use Rattle.racing.specs.Racing.{IsBelow, Runner};
 
     ghost Value = { Runner };
 
@@ -94,7 +94,7 @@ pub struct Racers<J: Naming> {
 
 impl<J: Naming> Model for Racers<J> {
     ghost use Rattle.std.specs.Prelude.{◌≡◌, ◌+◌, ◌≤◌, List, [], vec_len, vec_capacity};
-    ghost use Rattle.serving.specs.Racing.{Runner};
+    ghost use Rattle.racing.specs.Racing.{Runner};
 
     ghost Value = { List Runner };
 

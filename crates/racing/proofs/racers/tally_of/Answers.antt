@@ -2,10 +2,10 @@ use Rattle.std.proofs.Common.{◌≡◌, ◌+◌, rules, sym, subst}
 use Rattle.std.specs.Prelude.{MatchResult}
 use Rattle.core_lock.specs.declared.machine.CpuInstruction.{CpuInstruction}
 use Rattle.core_lock.specs.Entering.{entered, event_of}
-use Rattle.serving.specs.declared.tally.Tally.{Tally}
-use Rattle.serving.specs.Racing.{HasTested}
-use Rattle.serving.proofs.Counting.{few, tested_below, tested_once}
-use Rattle.serving.proofs.racing.tally_of.Goals as goal
+use Rattle.racing.specs.declared.tally.Tally.{Tally}
+use Rattle.racing.specs.Racing.{HasTested}
+use Rattle.racing.proofs.Counting.{few, tested_below, tested_once}
+use Rattle.racing.proofs.racers.tally_of.Goals as goal
 
 pub count-requires : goal.count-requires
 count-requires g c =

@@ -1,8 +1,8 @@
 -- CPUs that race, one after another.
 use Rattle.std.proofs.Common.{◌≡◌, ◌≤◌, ◌<◌, ℕ, ◌+◌, ◌*◌, List, [], ◌∷◌, ◌++◌, length, refl, sym, ap, subst, ◌∙◌, append_assoc, arith}
 use Rattle.core_parts.specs.Seats.{HeldSeat, Locked}
-use Rattle.serving.specs.declared.tally.Tally.{Tally}
-use Rattle.serving.specs.Racing.{plus, IsBelow, Runner, AreReady, total_after, seats_of}
+use Rattle.racing.specs.declared.tally.Tally.{Tally}
+use Rattle.racing.specs.Racing.{plus, IsBelow, Runner, AreReady, total_after, seats_of}
 
 ready_more : (n : ℕ) (rs : List Runner) (r : Runner) → AreReady n rs → r.cpu ≡ n + length rs → r.seat.value.log ≡ [] → AreReady n (rs ++ r ∷ [])
 ready_more n [] r h is none =

@@ -1,9 +1,9 @@
 use Rattle.std.proofs.Common.{◌∷◌, ◌++◌, [], rules, ap, ◌∙◌, vec_len}
 use Rattle.core_parts.specs.Seats.{HeldSeat}
-use Rattle.serving.specs.declared.tally.Tally.{Tally}
-use Rattle.serving.specs.Racing.{plus, seats_of, total_of}
-use Rattle.serving.proofs.Gathering.{codes_added, entries_added, seats_taken, total_taken}
-use Rattle.serving.proofs.racing.gather.Goals as goal
+use Rattle.racing.specs.declared.tally.Tally.{Tally}
+use Rattle.racing.specs.Racing.{plus, seats_of, total_of}
+use Rattle.racing.proofs.Gathering.{codes_added, entries_added, seats_taken, total_taken}
+use Rattle.racing.proofs.racers.gather.Goals as goal
 
 pub loop-racer-preserved : goal.loop-racer-preserved
 loop-racer-preserved g c =

@@ -1,6 +1,6 @@
 use Rattle.std.proofs.Common.{◌≡◌, ◌+◌, length}
-use Rattle.serving.specs.Racing.{AreReady}
-use Rattle.serving.proofs.racing.Racers.new.Given as goal
+use Rattle.racing.specs.Racing.{AreReady}
+use Rattle.racing.proofs.racers.Racers.new.Given as goal
 
 abbrev pub invariant-loop-number : goal.invariant-loop-number
 invariant-loop-number g l = record {

@@ -9,8 +9,8 @@ use Rattle.chan_model.specs.declared.fault.Fault.{Fault}
 use Rattle.core_lock.specs.Entering.{entered}
 use Rattle.core_parts.specs.Seats.{Seated, entry}
 use Rattle.script_rows.specs.declared.race.Race.{Race}
-use Rattle.serving.specs.declared.tally.Tally.{Tally}
-use Rattle.serving.specs.Racing.{tested, code_in, no_tally, counted, tally_after, tally_of, AreTests, IsBelow, HasTested}
+use Rattle.racing.specs.declared.tally.Tally.{Tally}
+use Rattle.racing.specs.Racing.{tested, code_in, no_tally, counted, tally_after, tally_of, AreTests, IsBelow, HasTested}
 
 -- one entry more
 tally-more : (t : Tally) (log : List Entry) (e : Entry) → tally_of t (log ++ e ∷ []) ≡ counted (tally_of t log) (code_in e.reply)

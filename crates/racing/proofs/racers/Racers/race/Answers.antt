@@ -1,7 +1,7 @@
 use Rattle.std.proofs.Common.{◌∷◌, ◌++◌, [], List, subst, ap, ◌∙◌}
 use Rattle.core_parts.specs.Seats.{HeldSeat}
-use Rattle.serving.specs.Racing.{HaveRaced, Runner, seats_of}
-use Rattle.serving.proofs.racing.Racers.race.Goals as goal
+use Rattle.racing.specs.Racing.{HaveRaced, Runner, seats_of}
+use Rattle.racing.proofs.racers.Racers.race.Goals as goal
 
 pub returns : goal.returns
 returns g c =

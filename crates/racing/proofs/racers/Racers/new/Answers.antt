@@ -1,6 +1,6 @@
 use Rattle.std.proofs.Common.{◌+◌, ◌∷◌, [], ℕ, length-append, ap, ◌∙◌, length}
-use Rattle.serving.proofs.Gathering.{ready_next, seated_more}
-use Rattle.serving.proofs.racing.Racers.new.Goals as goal
+use Rattle.racing.proofs.Gathering.{ready_next, seated_more}
+use Rattle.racing.proofs.racers.Racers.new.Goals as goal
 
 pub loop-number-preserved : goal.loop-number-preserved
 loop-number-preserved g c =

@@ -1,8 +1,8 @@
 //! What came of the instructions of CPUs that race.
 
 ghost use Rattle.std.specs.Prelude.{◌≡◌, ◌^◌};
-ghost use Rattle.serving.specs.Racing as spec;
-ghost use Rattle.serving.specs.Racing.{IsBelow};
+ghost use Rattle.racing.specs.Racing as spec;
+ghost use Rattle.racing.specs.Racing.{IsBelow};
 
 use chan_events::reply::Reply;
 use chan_model::answer::ConditionCode;
