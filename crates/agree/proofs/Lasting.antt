@@ -1,5 +1,5 @@
 -- What holds after every list of events.
-use Rattle.std.proofs.Common.{◌≡◌, ℕ, ◌+◌, ◌<◌, ◌++◌, ◌∙◌, length, take, get_or, inl, Bool, true, false, List, [], ◌∷◌, refl, sym, ap, subst}
+use Rattle.std.proofs.Common.{◌≡◌, ℕ, ◌+◌, ◌<◌, ◌++◌, ◌∙◌, length, take, get_or, inl, Bool, true, false, List, [], ◌∷◌, refl, sym, ap, subst, arith}
 use Rattle.std.specs.Prelude.{Result, Ok, Err, OnOk, nat_lt, if◌then◌else◌}
 use Rattle.std.proofs.lemmas.Grind.{take_at_read}
 use Rattle.chan_model.specs.declared.fault.Fault.{Fault}
@@ -8,7 +8,7 @@ use Rattle.agreement_laws.specs.Links.{Links}
 use Rattle.agreement_laws.specs.Claims.{IsSound}
 use Rattle.agreement_laws.specs.Invariant.{IsGood}
 use Rattle.agree.specs.declared.event.WorldEvent.{WorldEvent}
-use Rattle.agree.specs.State.{WorldState, links_of}
+use Rattle.agree.specs.State.{WorldState, links_of, opening_world}
 use Rattle.agree.specs.Lines.{GivesTurn}
 use Rattle.agree.specs.Turns.{WorldTurn, world_turn_of, counted, max_steps, world_turn, state_after, world_after, worlds_after}
 use Rattle.agree.specs.Bounds.{IsWorldWithin, IsWell}
@@ -83,3 +83,8 @@ pub worlds-step : (w now new : WorldState) (es : List WorldEvent) (i : ℕ) (e d
     new ≡ world_after now e → new ≡ worlds_after w (take (i + 1) es)
 worlds-step w now new es i e d lt there before step =
     step ∙ (ap (λ (x : WorldEvent). world_after now x) there ∙ (ap (λ (x : WorldState). world_after x (get_or es i d)) before ∙ sym (worlds-more w es i d lt)))
+
+-- at the opening
+pub open-well : IsGood (links_of opening_world) → IsWell opening_world
+open-well good =
+    record { good = good; within = record { «unit» = record { restarts = omega arith; attentions = omega arith; connection = omega arith; sequence = omega arith }; first = omega arith; second = omega arith } }

@@ -5,3 +5,15 @@ pub mod Raising
 pub mod Numbers
 pub mod Lasting
 pub mod Wanting
+pub mod Aparting
+pub mod UnitPaths
+pub mod Holdings
+pub mod UnitActs
+pub mod PathTies
+pub mod PathHolds
+pub mod PathUnits
+pub mod PathSteps
+pub mod PathRuns
+pub mod HolderRuns
+pub mod MachineTakes
+pub mod AgreeRuns

@@ -1,5 +1,6 @@
 -- Each event is a step, or two.
-use Rattle.std.proofs.Common.{◌≡◌, ℕ, inl, inr, Bool, true, false, Option, None, Some, List, refl, sym, subst, ◌∙◌}
+use Rattle.std.proofs.Common.{◌≡◌, ℕ, inl, inr, Bool, true, false, Option, None, Some, List, refl, sym, ap, subst, ◌∙◌}
+use Rattle.std.proofs.lemmas.Bool.{cond_both}
 use Rattle.std.specs.Prelude.{Result, Ok, Err, slice_get, nat_lt, length, remove, slice_set, if◌then◌else◌, Contains}
 use Rattle.chan_model.specs.declared.fault.Fault.{Fault}
 use Rattle.chan_model.specs.declared.hold_state.HoldPhase.{HoldPhase}
@@ -8,20 +9,23 @@ use Rattle.chan_model.specs.declared.names.Side.{Side}
 use Rattle.chan_model.specs.declared.names.Side.TheVariants.{First, Second}
 use Rattle.chan_model.specs.declared.signal.OnPath.{OnPath}
 use Rattle.chan_model.specs.declared.signal.Down.{Down}
+use Rattle.chan_model.specs.declared.signal.Down.TheVariants as down
 use Rattle.chan_model.specs.declared.signal.Up.{Up}
 use Rattle.chan_model.specs.declared.unit_state.Own.{Own}
 use Rattle.chan_model.specs.declared.unit_state.Own.TheVariants as own
 use Rattle.chan_model.specs.Sides.{same_side}
 use Rattle.chan_model.specs.UnitTable.{UnitStep, unit_after, came_of, restarted}
 use Rattle.agreement_laws.specs.Links.{Link, Links, link_of}
-use Rattle.agreement_laws.specs.Moving.{HoldAct, Nothing, Offers, Sends_reset, Lets_go, Is_reset, Loses, Takes, still, hold_acts, UnitAct, Takes_down, Leaves, Asks, Attends, Restarts, Notices, Reports, unit_steps, is_to, is_owner_side, sent_by, sent_to, LinkStep, LinkCause, Hold_acts, Unit_acts, IsHoldGiven, IsUnitGiven, LinksStep}
+use Rattle.agreement_laws.specs.Moving.{HoldAct, Nothing, Offers, Sends_reset, Lets_go, Is_reset, Loses, Takes, Sends, IsOfProgram, still, hold_acts, UnitAct, Takes_down, Leaves, Asks, Attends, Restarts, Notices, Reports, unit_steps, is_to, is_owner_side, sent_by, sent_to, LinkStep, LinkCause, Hold_acts, Unit_acts, IsHoldGiven, IsUnitGiven, LinksStep}
 use Rattle.agreement_laws.specs.Invariant.{IsGood}
 use Rattle.agreement_laws.specs.Claims.{IsResetTaken, EndsByReset}
 use Rattle.agree.specs.declared.event.WorldEvent.{WorldEvent}
 use Rattle.agree.specs.declared.event.WorldEvent.TheVariants as event
+use Rattle.agree.specs.Sending.{may_send}
 use Rattle.agree.specs.State.{LineState, WorldState, links_of, line_of, with_line, is_up}
-use Rattle.chan_model.specs.declared.fault.Fault.TheVariants.{NotSent, NotNow}
-use Rattle.agree.specs.Lines.{LineTurn, UnitLine, acts, line_told, unit_stepped, stepping, acts_for, with_downs, with_ups, line_with_path, left_after, without_path, line_chosen, line_let_go, heard, hears, met, unit_meets, loses_down, loses_up, cut, goes_down, comes_up, is_cut}
+use Rattle.chan_model.specs.declared.fault.Fault.TheVariants.{NoSuchPath, NotSent, NotNow}
+use Rattle.agree.specs.Lines.{LineTurn, UnitLine, acts, line_told, unit_stepped, stepping, acts_for, with_downs, with_ups, line_with_path, left_after, without_path, line_chosen, line_let_go, line_sends, heard, hears, met, unit_meets, loses_down, loses_up, cut, goes_down, comes_up, is_cut}
+use Rattle.agree.specs.Replies.{chosen_act}
 use Rattle.agree.specs.Turns.{WorldTurn, at_side, at_world_unit, at_owner, both_of, on_path, path_named, all_reset, world_turn_of}
 use Rattle.agree.specs.Promises.{EndsByEvent, IsResetTakenBy, IsResetMet}
 use Rattle.agree.proofs.Carrying.{AreAmong, among-same, among-without, among-removed, among-left, contains-got, carried, sent-carried}
@@ -44,9 +48,17 @@ pub done-on_path : (P : WorldState → Type 0) (named : Result ℕ Fault) (turn 
 done-on_path P (Ok p) turn h = h p
 done-on_path P (Err f) turn h = tt
 
+pub done-on_one : (P : WorldState → Type 0) (p : ℕ) (turn : ℕ → WorldTurn) → OnDone P (turn p) → OnDone P (on_path (path_named p) turn)
+done-on_one P p turn h = cond_both (nat_lt p 8) (Ok p) (Err NoSuchPath) (λ r. OnDone P (on_path r turn)) (λ e. h) (λ e. tt)
+
 pub done-if : {S : Type 0} (P : S → Type 0) (b : Bool) (f : Fault) (s : S) → P s → OnDone P (if b then Ok s else Err f)
 done-if P true f s h = h
 done-if P false f s h = tt
+
+-- the same where the test is at hand
+pub done-where : {S : Type 0} (P : S → Type 0) (b : Bool) (f : Fault) (s : S) → (b ≡ true → P s) → OnDone P (if b then Ok s else Err f)
+done-where P true f s h = h refl
+done-where P false f s h = tt
 
 pub done-unless : {S : Type 0} (P : S → Type 0) (b : Bool) (f : Fault) (s : S) → P s → OnDone P (if b then Err f else Ok s)
 done-unless P true f s h = tt
@@ -112,43 +124,76 @@ to-linked l downs s b e d =
 not-linked : (l : Link) (s : Option UnitStep) (b : Bool) → b ≡ false → LinkStep l (still l.drawn l.hold) (sent_to b (sent_by s)) l
 not-linked l s b e = subst (λ (x : Bool). LinkStep l (still l.drawn l.hold) (sent_to x (sent_by s)) l) (sym e) (still-linked l)
 
--- what an event leaves is one step after what was
+-- the step that an event is; a reset of the subsystem is two, one for each side
+abbrev pub heard_cause : Side → Option (OnPath Up) → Bool → LinkCause
+heard_cause side None may = Hold_acts side Nothing
+heard_cause side (Some x) may = Hold_acts side (Takes x may)
+
+abbrev pub met_cause : Side → Option (OnPath Down) → Bool → LinkCause
+met_cause side None may = Hold_acts side Nothing
+met_cause side (Some x) may = Unit_acts (Takes_down side x may)
+
+abbrev pub cause_of : WorldState → WorldEvent → LinkCause
+cause_of w (event.Choose side p single) = Hold_acts side (chosen_act (line_of w side).link.hold.phase p single)
+cause_of w (event.Down side place keep may) = met_cause side (slice_get (line_of w side).link.downs place) may
+cause_of w (event.Up side place keep may) = heard_cause side (slice_get (line_of w side).link.ups place) may
+cause_of w (event.LoseDown side place) = Hold_acts side Nothing
+cause_of w (event.LoseUp side place) = Hold_acts side Nothing
+cause_of w (event.PathDown side p) = Hold_acts side (Loses p)
+cause_of w (event.PathUp side p) = Hold_acts side Nothing
+cause_of w (event.PathReset side p) = Hold_acts side (Loses p)
+cause_of w (event.LetGo side) = Hold_acts side Lets_go
+cause_of w (event.Send side p signal) = Hold_acts side (Sends (record { path = p; signal = signal }))
+cause_of w (event.Clear side) = Hold_acts side Is_reset
+cause_of w event.SubsystemReset = Hold_acts First Is_reset
+cause_of w event.Leave = Unit_acts Leaves
+cause_of w (event.Ask p) = Unit_acts (Asks p)
+cause_of w (event.Attention side p) = Unit_acts (Attends side p)
+cause_of w (event.Notice side p) = Unit_acts (Notices side p)
+cause_of w event.Restart = Unit_acts Restarts
+cause_of w (event.Report report) = Unit_acts (Reports report)
+
+-- what an event leaves is that step after what was
 pub record Made (w : WorldState) (e : WorldEvent) (new : WorldState) : Type 0 where
   pub cause : LinkCause
+  pub its : cause ≡ cause_of w e
   pub step : LinksStep (links_of w) cause (links_of new)
   pub tells : (side : Side) → IsResetTaken (links_of w) cause side → IsResetTakenBy w e side
 
 -- a hold acts, some signals of its side being lost
-hold-made : (w : WorldState) (e : WorldEvent) (side : Side) (act : HoldAct) (downs : List (OnPath Down)) (ups : List (OnPath Up)) (paths : List Bool) →
+hold-made : (w : WorldState) (e : WorldEvent) (side : Side) (act : HoldAct) (downs : List (OnPath Down)) (ups : List (OnPath Up)) (paths : List Bool) → Hold_acts side act ≡ cause_of w e →
     IsHoldGiven (line_of w side).link act → AreAmong (line_of w side).link.downs downs → AreAmong (line_of w side).link.ups ups →
     Made w e (with_line w side (acts (record { link = record (line_of w side).link { downs = downs; ups = ups }; up = paths }) act))
-hold-made w e First act downs ups paths g d u =
+hold-made w e First act downs ups paths its g d u =
     record {
       cause = Hold_acts First act;
+      its = its;
       step = record { given = g; «unit» = refl; first = acts-linked w.first downs ups paths act d u; second = still-linked w.second.link };
       tells = λ s h. absurd h;
     }
-hold-made w e Second act downs ups paths g d u =
+hold-made w e Second act downs ups paths its g d u =
     record {
       cause = Hold_acts Second act;
+      its = its;
       step = record { given = g; «unit» = refl; first = still-linked w.first.link; second = acts-linked w.second downs ups paths act d u };
       tells = λ s h. absurd h;
     }
 
 -- the hold acts, and no signal is lost
-act-made : (w : WorldState) (e : WorldEvent) (side : Side) (act : HoldAct) → IsHoldGiven (line_of w side).link act → Made w e (with_line w side (acts (line_of w side) act))
-act-made w e side act g =
-    hold-made w e side act (line_of w side).link.downs (line_of w side).link.ups (line_of w side).up g (among-same (line_of w side).link.downs)
+act-made : (w : WorldState) (e : WorldEvent) (side : Side) (act : HoldAct) → Hold_acts side act ≡ cause_of w e → IsHoldGiven (line_of w side).link act → Made w e (with_line w side (acts (line_of w side) act))
+act-made w e side act its g =
+    hold-made w e side act (line_of w side).link.downs (line_of w side).link.ups (line_of w side).up its g (among-same (line_of w side).link.downs)
     (among-same (line_of w side).link.ups)
 
 -- the unit acts, and sends to one side, of which some signals are lost
-unit-made : (w : WorldState) (e : WorldEvent) (side : Side) (act : UnitAct) (downs : List (OnPath Down)) →
+unit-made : (w : WorldState) (e : WorldEvent) (side : Side) (act : UnitAct) (downs : List (OnPath Down)) → Unit_acts act ≡ cause_of w e →
     ((s : Side) → is_to w.«unit» act s ≡ same_side side s) → IsUnitGiven (links_of w) act → AreAmong (line_of w side).link.downs downs →
     ((s : Side) → IsResetTaken (links_of w) (Unit_acts act) s → IsResetTakenBy w e s) →
     Made w e (record (with_line w side (line_told (with_downs (line_of w side) downs) (came_of (unit_steps w.«unit» act)).sent)) { «unit» = unit_after w.«unit» (unit_steps w.«unit» act) })
-unit-made w e First act downs to g d tells =
+unit-made w e First act downs its to g d tells =
     record {
       cause = Unit_acts act;
+      its = its;
       step = record {
         given = g;
         «unit» = refl;
@@ -157,9 +202,10 @@ unit-made w e First act downs to g d tells =
       };
       tells = tells;
     }
-unit-made w e Second act downs to g d tells =
+unit-made w e Second act downs its to g d tells =
     record {
       cause = Unit_acts act;
+      its = its;
       step = record {
         given = g;
         «unit» = refl;
@@ -170,71 +216,91 @@ unit-made w e Second act downs to g d tells =
     }
 
 -- an act of the unit, where it is one
-acts-made : (w : WorldState) (e : WorldEvent) (side : Side) (act : UnitAct) → ((s : Side) → is_to w.«unit» act s ≡ same_side side s) →
+acts-made : (w : WorldState) (e : WorldEvent) (side : Side) (act : UnitAct) → Unit_acts act ≡ cause_of w e → ((s : Side) → is_to w.«unit» act s ≡ same_side side s) →
     IsUnitGiven (links_of w) act → ((s : Side) → IsResetTaken (links_of w) (Unit_acts act) s → IsResetTakenBy w e s) →
     OnDone (Made w e) (at_world_unit w side (acts_for (both_of w side) act))
-acts-made w e side act to g tells =
+acts-made w e side act its to g tells =
     done-at_unit (Made w e) w side (acts_for (both_of w side) act)
     (done-stepping (λ b. Made w e (record (with_line w side b.line) { «unit» = b.«unit» })) (both_of w side) (unit_steps w.«unit» act)
-    (unit-made w e side act (line_of w side).link.downs to g (among-same (line_of w side).link.downs) tells))
+    (unit-made w e side act (line_of w side).link.downs its to g (among-same (line_of w side).link.downs) tells))
 
-chosen-made : (w : WorldState) (e : WorldEvent) (side : Side) (phase : HoldPhase) (p : ℕ) (single : Bool) →
+chosen-made : (w : WorldState) (e : WorldEvent) (side : Side) (phase : HoldPhase) (p : ℕ) (single : Bool) → Hold_acts side (chosen_act phase p single) ≡ cause_of w e →
     OnDone (λ l. Made w e (with_line w side l)) (line_chosen (line_of w side) phase p single)
-chosen-made w e side hold.Free p single = act-made w e side (Offers p single) tt
-chosen-made w e side (hold.Reset r) p single = act-made w e side (Sends_reset p) tt
-chosen-made w e side (hold.Offer t q) p single = tt
-chosen-made w e side (hold.On t q c) p single = tt
-chosen-made w e side (hold.Away t) p single = tt
-chosen-made w e side (hold.Letting t q) p single = tt
+chosen-made w e side hold.Free p single its = act-made w e side (Offers p single) its tt
+chosen-made w e side (hold.Reset r) p single its = act-made w e side (Sends_reset p) its tt
+chosen-made w e side (hold.Offer t q) p single its = tt
+chosen-made w e side (hold.On t q c) p single its = tt
+chosen-made w e side (hold.Away t) p single its = tt
+chosen-made w e side (hold.Letting t q) p single its = tt
 
-let_go-made : (w : WorldState) (e : WorldEvent) (side : Side) (phase : HoldPhase) → OnDone (λ l. Made w e (with_line w side l)) (line_let_go (line_of w side) phase)
-let_go-made w e side hold.Free = tt
-let_go-made w e side (hold.Reset r) = tt
-let_go-made w e side (hold.Offer t q) = tt
-let_go-made w e side (hold.On t q c) = act-made w e side Lets_go tt
-let_go-made w e side (hold.Away t) = tt
-let_go-made w e side (hold.Letting t q) = tt
+let_go-made : (w : WorldState) (e : WorldEvent) (side : Side) (phase : HoldPhase) → Hold_acts side Lets_go ≡ cause_of w e → OnDone (λ l. Made w e (with_line w side l)) (line_let_go (line_of w side) phase)
+let_go-made w e side hold.Free its = tt
+let_go-made w e side (hold.Reset r) its = tt
+let_go-made w e side (hold.Offer t q) its = tt
+let_go-made w e side (hold.On t q c) its = act-made w e side Lets_go its tt
+let_go-made w e side (hold.Away t) its = tt
+let_go-made w e side (hold.Letting t q) its = tt
 
-heard-made : (w : WorldState) (e : WorldEvent) (side : Side) (place : ℕ) (keep may : Bool) (x : Option (OnPath Up)) → slice_get (line_of w side).link.ups place ≡ x →
+-- what a hold may send is a signal of a program
+sent-of_program : (phase : HoldPhase) (p : ℕ) (d : Down) → may_send phase p d ≡ true → IsOfProgram d
+sent-of_program phase p (down.Command t n code room) is = tt
+sent-of_program phase p (down.Took t n s room) is = tt
+sent-of_program phase p (down.Give t c n s bytes) is = tt
+sent-of_program phase p (down.Halt t) is = tt
+sent-of_program phase p (down.Select t) is = absurd (cc is)
+sent-of_program phase p (down.Grant t c) is = absurd (cc is)
+sent-of_program phase p (down.Refuse t c) is = absurd (cc is)
+sent-of_program phase p (down.Release t) is = absurd (cc is)
+sent-of_program phase p (down.Reset r b) is = absurd (cc is)
+sent-of_program phase p (down.Got a) is = absurd (cc is)
+
+sends-made : (w : WorldState) (e : WorldEvent) (side : Side) (p : ℕ) (d : Down) → Hold_acts side (Sends (record { path = p; signal = d })) ≡ cause_of w e →
+    OnDone (λ l. (may_send (line_of w side).link.hold.phase p d ≡ true) × Made w e (with_line w side l)) (line_sends (line_of w side) p d)
+sends-made w e side p d its =
+    let l : LineState = line_of w side in
+    done-where (λ m. (may_send l.link.hold.phase p d ≡ true) × Made w e (with_line w side m)) (may_send l.link.hold.phase p d) NotNow (acts l (Sends (record { path = p; signal = d })))
+    (λ is. (is, act-made w e side (Sends (record { path = p; signal = d })) its (sent-of_program l.link.hold.phase p d is)))
+
+heard-made : (w : WorldState) (e : WorldEvent) (side : Side) (place : ℕ) (keep may : Bool) (x : Option (OnPath Up)) → slice_get (line_of w side).link.ups place ≡ x → heard_cause side x may ≡ cause_of w e →
     OnDone (λ l. Made w e (with_line w side l)) (heard (line_of w side) x place keep may)
-heard-made w e side place keep may None is = tt
-heard-made w e side place keep may (Some x) is =
-    hold-made w e side (Takes x may) (line_of w side).link.downs (left_after (line_of w side).link.ups place keep) (line_of w side).up
+heard-made w e side place keep may None is its = tt
+heard-made w e side place keep may (Some x) is its =
+    hold-made w e side (Takes x may) (line_of w side).link.downs (left_after (line_of w side).link.ups place keep) (line_of w side).up its
     (contains-got (line_of w side).link.ups place x is) (among-same (line_of w side).link.downs) (among-left (line_of w side).link.ups place keep)
 
-lost_down-made : (w : WorldState) (e : WorldEvent) (side : Side) (place : ℕ) → OnDone (λ l. Made w e (with_line w side l)) (loses_down (line_of w side) place)
-lost_down-made w e side place =
+lost_down-made : (w : WorldState) (e : WorldEvent) (side : Side) (place : ℕ) → Hold_acts side Nothing ≡ cause_of w e → OnDone (λ l. Made w e (with_line w side l)) (loses_down (line_of w side) place)
+lost_down-made w e side place its =
     let l : LineState = line_of w side in
     done-if (λ m. Made w e (with_line w side m)) (nat_lt place (length l.link.downs)) NotSent (with_downs l (remove l.link.downs place))
-    (hold-made w e side Nothing (remove l.link.downs place) l.link.ups l.up tt (among-removed l.link.downs place) (among-same l.link.ups))
+    (hold-made w e side Nothing (remove l.link.downs place) l.link.ups l.up its tt (among-removed l.link.downs place) (among-same l.link.ups))
 
-lost_up-made : (w : WorldState) (e : WorldEvent) (side : Side) (place : ℕ) → OnDone (λ l. Made w e (with_line w side l)) (loses_up (line_of w side) place)
-lost_up-made w e side place =
+lost_up-made : (w : WorldState) (e : WorldEvent) (side : Side) (place : ℕ) → Hold_acts side Nothing ≡ cause_of w e → OnDone (λ l. Made w e (with_line w side l)) (loses_up (line_of w side) place)
+lost_up-made w e side place its =
     let l : LineState = line_of w side in
     done-if (λ m. Made w e (with_line w side m)) (nat_lt place (length l.link.ups)) NotSent (with_ups l (remove l.link.ups place))
-    (hold-made w e side Nothing l.link.downs (remove l.link.ups place) l.up tt (among-same l.link.downs) (among-removed l.link.ups place))
+    (hold-made w e side Nothing l.link.downs (remove l.link.ups place) l.up its tt (among-same l.link.downs) (among-removed l.link.ups place))
 
 -- the signals on a path vanish
-cut-made : (w : WorldState) (e : WorldEvent) (side : Side) (p : ℕ) (paths : List Bool) → Made w e (with_line w side (cut (record (line_of w side) { up = paths }) p))
-cut-made w e side p paths =
+cut-made : (w : WorldState) (e : WorldEvent) (side : Side) (p : ℕ) (paths : List Bool) → Hold_acts side (Loses p) ≡ cause_of w e → Made w e (with_line w side (cut (record (line_of w side) { up = paths }) p))
+cut-made w e side p paths its =
     let l : LineState = line_of w side in
-    hold-made w e side (Loses p) (without_path l.link.downs p) (without_path l.link.ups p) paths tt (among-without l.link.downs p) (among-without l.link.ups p)
+    hold-made w e side (Loses p) (without_path l.link.downs p) (without_path l.link.ups p) paths its tt (among-without l.link.downs p) (among-without l.link.ups p)
 
-down-made : (w : WorldState) (e : WorldEvent) (side : Side) (p : ℕ) → OnDone (λ l. Made w e (with_line w side l)) (goes_down (line_of w side) p)
-down-made w e side p =
+down-made : (w : WorldState) (e : WorldEvent) (side : Side) (p : ℕ) → Hold_acts side (Loses p) ≡ cause_of w e → OnDone (λ l. Made w e (with_line w side l)) (goes_down (line_of w side) p)
+down-made w e side p its =
     let l : LineState = line_of w side in
-    done-if (λ m. Made w e (with_line w side m)) (is_up l.up p) NotNow (cut (line_with_path l p false) p) (cut-made w e side p (slice_set l.up p false))
+    done-if (λ m. Made w e (with_line w side m)) (is_up l.up p) NotNow (cut (line_with_path l p false) p) (cut-made w e side p (slice_set l.up p false) its)
 
-reset-made : (w : WorldState) (e : WorldEvent) (side : Side) (p : ℕ) → OnDone (λ l. Made w e (with_line w side l)) (is_cut (line_of w side) p)
-reset-made w e side p =
+reset-made : (w : WorldState) (e : WorldEvent) (side : Side) (p : ℕ) → Hold_acts side (Loses p) ≡ cause_of w e → OnDone (λ l. Made w e (with_line w side l)) (is_cut (line_of w side) p)
+reset-made w e side p its =
     let l : LineState = line_of w side in
-    done-if (λ m. Made w e (with_line w side m)) (is_up l.up p) NotNow (cut l p) (cut-made w e side p l.up)
+    done-if (λ m. Made w e (with_line w side m)) (is_up l.up p) NotNow (cut l p) (cut-made w e side p l.up its)
 
-up-made : (w : WorldState) (e : WorldEvent) (side : Side) (p : ℕ) → OnDone (λ l. Made w e (with_line w side l)) (comes_up (line_of w side) p)
-up-made w e side p =
+up-made : (w : WorldState) (e : WorldEvent) (side : Side) (p : ℕ) → Hold_acts side Nothing ≡ cause_of w e → OnDone (λ l. Made w e (with_line w side l)) (comes_up (line_of w side) p)
+up-made w e side p its =
     let l : LineState = line_of w side in
     done-unless (λ m. Made w e (with_line w side m)) (is_up l.up p) NotNow (line_with_path l p true)
-    (hold-made w e side Nothing l.link.downs l.link.ups (slice_set l.up p true) tt (among-same l.link.downs) (among-same l.link.ups))
+    (hold-made w e side Nothing l.link.downs l.link.ups (slice_set l.up p true) its tt (among-same l.link.downs) (among-same l.link.ups))
 
 -- the unit takes a signal
 met-tells : (w : WorldState) (side : Side) (place : ℕ) (keep may : Bool) (x : OnPath Down) → slice_get (line_of w side).link.downs place ≡ Some x →
@@ -250,7 +316,7 @@ met-made : (w : WorldState) (side : Side) (place : ℕ) (keep may : Bool) (x : O
     OnDone (λ b. Made w (event.Down side place keep may) (record (with_line w side b.line) { «unit» = b.«unit» })) (met (both_of w side) side x place keep may)
 met-made w side place keep may None is = tt
 met-made w side place keep may (Some x) is =
-    unit-made w (event.Down side place keep may) side (Takes_down side x may) (left_after (line_of w side).link.downs place keep) (λ s. refl)
+    unit-made w (event.Down side place keep may) side (Takes_down side x may) (left_after (line_of w side).link.downs place keep) (ap (λ (o : Option (OnPath Down)). met_cause side o may) (sym is)) (λ s. refl)
     (contains-link w side x (contains-got (line_of w side).link.downs place x is)) (among-left (line_of w side).link.downs place keep)
     (met-tells w side place keep may x is)
 
@@ -259,6 +325,7 @@ restart-made : (w : WorldState) → Made w event.Restart (record w { «unit» = 
 restart-made w =
     record {
       cause = Unit_acts Restarts;
+      its = refl;
       step = record { given = tt; «unit» = refl; first = still-linked w.first.link; second = still-linked w.second.link };
       tells = λ s h. absurd h;
     }
@@ -284,12 +351,17 @@ made-kept keeps ends w e g new made = (
 )
 
 -- both holds are reset, one after the other
+pub first-reset : (w : WorldState) → Made w (event.Clear First) (with_line w First (acts w.first Is_reset))
+first-reset w = act-made w (event.Clear First) First Is_reset refl tt
+
+pub second-reset : (w : WorldState) → Made w (event.Clear Second) (with_line w Second (acts w.second Is_reset))
+second-reset w = act-made w (event.Clear Second) Second Is_reset refl tt
+
 all_reset-kept : Keeps → Ends → (w : WorldState) → IsGood (links_of w) → Kept w event.SubsystemReset (all_reset w)
 all_reset-kept keeps ends w g =
-    let e : WorldEvent = event.SubsystemReset in
     let mid : WorldState = with_line w First (acts w.first Is_reset) in
-    let once : Kept w e mid = made-kept keeps ends w e g mid (act-made w e First Is_reset tt) in
-    let twice : Kept mid e (all_reset w) = made-kept keeps ends mid e once.0 (all_reset w) (act-made mid e Second Is_reset tt) in (
+    let once : Kept w (event.Clear First) mid = made-kept keeps ends w (event.Clear First) g mid (first-reset w) in
+    let twice : Kept mid (event.Clear Second) (all_reset w) = made-kept keeps ends mid (event.Clear Second) once.0 (all_reset w) (second-reset mid) in (
       twice.0,
       λ side due.
           elim (once.1 side due) [
@@ -298,83 +370,88 @@ all_reset-kept keeps ends w g =
           ],
     )
 
-at-kept : Keeps → Ends → (w : WorldState) (e : WorldEvent) → IsGood (links_of w) → (turn : WorldTurn) → OnDone (Made w e) turn → OnDone (Kept w e) turn
-at-kept keeps ends w e g turn made = done-weaker (Made w e) (Kept w e) (made-kept keeps ends w e g) turn made
-
 side-made : (w : WorldState) (e : WorldEvent) (side : Side) (turn : LineTurn) → OnDone (λ l. Made w e (with_line w side l)) turn → OnDone (Made w e) (at_side w side turn)
 side-made w e side turn h = done-at_side (Made w e) w side turn h
 
-path-made : (w : WorldState) (e : WorldEvent) (named : Result ℕ Fault) (turn : ℕ → WorldTurn) → ((p : ℕ) → OnDone (Made w e) (turn p)) → OnDone (Made w e) (on_path named turn)
-path-made w e named turn h = done-on_path (Made w e) named turn h
+path-made : (w : WorldState) (e : WorldEvent) (p : ℕ) (turn : ℕ → WorldTurn) → OnDone (Made w e) (turn p) → OnDone (Made w e) (on_path (path_named p) turn)
+path-made w e p turn h = done-on_one (Made w e) p turn h
 
 -- what the unit does for its program
-owner-made : (w : WorldState) (e : WorldEvent) (act : UnitAct) → ((s : Side) → is_to w.«unit» act s ≡ is_owner_side w.«unit».own s) →
+owner-made : (w : WorldState) (e : WorldEvent) (act : UnitAct) → Unit_acts act ≡ cause_of w e → ((s : Side) → is_to w.«unit» act s ≡ is_owner_side w.«unit».own s) →
     IsUnitGiven (links_of w) act → ((s : Side) → IsResetTaken (links_of w) (Unit_acts act) s → IsResetTakenBy w e s) →
     OnDone (Made w e) (at_owner w w.«unit».own (λ side. at_world_unit w side (acts_for (both_of w side) act)))
-owner-made w e act to g tells =
+owner-made w e act its to g tells =
     done-at_owner (Made w e) w w.«unit».own (λ side. at_world_unit w side (acts_for (both_of w side) act))
-    (λ side is. acts-made w e side act (λ s. to s ∙ is s) g tells)
+    (λ side is. acts-made w e side act its (λ s. to s ∙ is s) g tells)
+
+-- each event is its step, or a reset of both holds
+abbrev pub MadeOf : WorldState → WorldEvent → WorldState → Type 0
+MadeOf w event.SubsystemReset new = new ≡ all_reset w
+MadeOf w (event.Send side p signal) new = (may_send (line_of w side).link.hold.phase p signal ≡ true) × Made w (event.Send side p signal) new
+MadeOf w e new = Made w e new
+
+pub turn-made : (w : WorldState) (e : WorldEvent) → OnDone (MadeOf w e) (world_turn_of w e)
+turn-made w (event.Choose side p single) =
+    path-made w (event.Choose side p single) p (λ q. at_side w side (line_chosen (line_of w side) (line_of w side).link.hold.phase q single))
+    (side-made w (event.Choose side p single) side (line_chosen (line_of w side) (line_of w side).link.hold.phase p single)
+    (chosen-made w (event.Choose side p single) side (line_of w side).link.hold.phase p single refl))
+turn-made w (event.Down side place keep may) =
+    done-at_unit (Made w (event.Down side place keep may)) w side (unit_meets (both_of w side) side place keep may)
+    (met-made w side place keep may (slice_get (line_of w side).link.downs place) refl)
+turn-made w (event.Up side place keep may) =
+    side-made w (event.Up side place keep may) side (hears (line_of w side) place keep may)
+    (heard-made w (event.Up side place keep may) side place keep may (slice_get (line_of w side).link.ups place) refl refl)
+turn-made w (event.LoseDown side place) =
+    side-made w (event.LoseDown side place) side (loses_down (line_of w side) place) (lost_down-made w (event.LoseDown side place) side place refl)
+turn-made w (event.LoseUp side place) =
+    side-made w (event.LoseUp side place) side (loses_up (line_of w side) place) (lost_up-made w (event.LoseUp side place) side place refl)
+turn-made w (event.PathDown side p) =
+    path-made w (event.PathDown side p) p (λ q. at_side w side (goes_down (line_of w side) q))
+    (side-made w (event.PathDown side p) side (goes_down (line_of w side) p) (down-made w (event.PathDown side p) side p refl))
+turn-made w (event.PathUp side p) =
+    path-made w (event.PathUp side p) p (λ q. at_side w side (comes_up (line_of w side) q))
+    (side-made w (event.PathUp side p) side (comes_up (line_of w side) p) (up-made w (event.PathUp side p) side p refl))
+turn-made w (event.PathReset side p) =
+    path-made w (event.PathReset side p) p (λ q. at_side w side (is_cut (line_of w side) q))
+    (side-made w (event.PathReset side p) side (is_cut (line_of w side) p) (reset-made w (event.PathReset side p) side p refl))
+turn-made w (event.LetGo side) =
+    side-made w (event.LetGo side) side (line_let_go (line_of w side) (line_of w side).link.hold.phase)
+    (let_go-made w (event.LetGo side) side (line_of w side).link.hold.phase refl)
+turn-made w (event.Send side p signal) =
+    done-on_one (MadeOf w (event.Send side p signal)) p (λ q. at_side w side (line_sends (line_of w side) q signal))
+    (done-at_side (MadeOf w (event.Send side p signal)) w side (line_sends (line_of w side) p signal) (sends-made w (event.Send side p signal) side p signal refl))
+turn-made w (event.Clear side) = act-made w (event.Clear side) side Is_reset refl tt
+turn-made w event.SubsystemReset = refl
+turn-made w event.Leave = owner-made w event.Leave Leaves refl (λ s. refl) tt (λ s h. absurd h)
+turn-made w (event.Ask p) =
+    path-made w (event.Ask p) p (λ q. at_owner w w.«unit».own (λ side. at_world_unit w side (acts_for (both_of w side) (Asks q))))
+    (owner-made w (event.Ask p) (Asks p) refl (λ s. refl) tt (λ s h. absurd h))
+turn-made w (event.Attention side p) =
+    path-made w (event.Attention side p) p (λ q. at_world_unit w side (acts_for (both_of w side) (Attends side q)))
+    (acts-made w (event.Attention side p) side (Attends side p) refl (λ s. refl) tt (λ s h. absurd h))
+turn-made w (event.Notice side p) =
+    path-made w (event.Notice side p) p (λ q. at_world_unit w side (acts_for (both_of w side) (Notices side q)))
+    (acts-made w (event.Notice side p) side (Notices side p) refl (λ s. refl) tt (λ s h. absurd h))
+turn-made w event.Restart = restart-made w
+turn-made w (event.Report report) = owner-made w (event.Report report) (Reports report) refl (λ s. refl) tt (λ s h. absurd h)
 
 -- what is kept after each event
 pub turn-kept : Keeps → Ends → (w : WorldState) (e : WorldEvent) → IsGood (links_of w) → OnDone (Kept w e) (world_turn_of w e)
-turn-kept keeps ends w (event.Choose side p single) g =
-    let e : WorldEvent = event.Choose side p single in
-    at-kept keeps ends w e g (world_turn_of w e)
-    (path-made w e (path_named p) (λ q. at_side w side (line_chosen (line_of w side) (line_of w side).link.hold.phase q single))
-    (λ q. side-made w e side (line_chosen (line_of w side) (line_of w side).link.hold.phase q single) (chosen-made w e side (line_of w side).link.hold.phase q single)))
-turn-kept keeps ends w (event.Down side place keep may) g =
-    let e : WorldEvent = event.Down side place keep may in
-    at-kept keeps ends w e g (world_turn_of w e)
-    (done-at_unit (Made w e) w side (unit_meets (both_of w side) side place keep may)
-    (met-made w side place keep may (slice_get (line_of w side).link.downs place) refl))
-turn-kept keeps ends w (event.Up side place keep may) g =
-    let e : WorldEvent = event.Up side place keep may in
-    at-kept keeps ends w e g (world_turn_of w e)
-    (side-made w e side (hears (line_of w side) place keep may) (heard-made w e side place keep may (slice_get (line_of w side).link.ups place) refl))
-turn-kept keeps ends w (event.LoseDown side place) g =
-    let e : WorldEvent = event.LoseDown side place in
-    at-kept keeps ends w e g (world_turn_of w e) (side-made w e side (loses_down (line_of w side) place) (lost_down-made w e side place))
-turn-kept keeps ends w (event.LoseUp side place) g =
-    let e : WorldEvent = event.LoseUp side place in
-    at-kept keeps ends w e g (world_turn_of w e) (side-made w e side (loses_up (line_of w side) place) (lost_up-made w e side place))
-turn-kept keeps ends w (event.PathDown side p) g =
-    let e : WorldEvent = event.PathDown side p in
-    at-kept keeps ends w e g (world_turn_of w e)
-    (path-made w e (path_named p) (λ q. at_side w side (goes_down (line_of w side) q)) (λ q. side-made w e side (goes_down (line_of w side) q) (down-made w e side q)))
-turn-kept keeps ends w (event.PathUp side p) g =
-    let e : WorldEvent = event.PathUp side p in
-    at-kept keeps ends w e g (world_turn_of w e)
-    (path-made w e (path_named p) (λ q. at_side w side (comes_up (line_of w side) q)) (λ q. side-made w e side (comes_up (line_of w side) q) (up-made w e side q)))
-turn-kept keeps ends w (event.PathReset side p) g =
-    let e : WorldEvent = event.PathReset side p in
-    at-kept keeps ends w e g (world_turn_of w e)
-    (path-made w e (path_named p) (λ q. at_side w side (is_cut (line_of w side) q)) (λ q. side-made w e side (is_cut (line_of w side) q) (reset-made w e side q)))
-turn-kept keeps ends w (event.LetGo side) g =
-    let e : WorldEvent = event.LetGo side in
-    at-kept keeps ends w e g (world_turn_of w e)
-    (side-made w e side (line_let_go (line_of w side) (line_of w side).link.hold.phase) (let_go-made w e side (line_of w side).link.hold.phase))
-turn-kept keeps ends w (event.Clear side) g =
-    let e : WorldEvent = event.Clear side in
-    at-kept keeps ends w e g (world_turn_of w e) (act-made w e side Is_reset tt)
 turn-kept keeps ends w event.SubsystemReset g = all_reset-kept keeps ends w g
-turn-kept keeps ends w event.Leave g =
-    at-kept keeps ends w event.Leave g (world_turn_of w event.Leave) (owner-made w event.Leave Leaves (λ s. refl) tt (λ s h. absurd h))
-turn-kept keeps ends w (event.Ask p) g =
-    let e : WorldEvent = event.Ask p in
-    at-kept keeps ends w e g (world_turn_of w e)
-    (path-made w e (path_named p) (λ q. at_owner w w.«unit».own (λ side. at_world_unit w side (acts_for (both_of w side) (Asks q))))
-    (λ q. owner-made w e (Asks q) (λ s. refl) tt (λ s h. absurd h)))
-turn-kept keeps ends w (event.Attention side p) g =
-    let e : WorldEvent = event.Attention side p in
-    at-kept keeps ends w e g (world_turn_of w e)
-    (path-made w e (path_named p) (λ q. at_world_unit w side (acts_for (both_of w side) (Attends side q)))
-    (λ q. acts-made w e side (Attends side q) (λ s. refl) tt (λ s h. absurd h)))
-turn-kept keeps ends w (event.Notice side p) g =
-    let e : WorldEvent = event.Notice side p in
-    at-kept keeps ends w e g (world_turn_of w e)
-    (path-made w e (path_named p) (λ q. at_world_unit w side (acts_for (both_of w side) (Notices side q)))
-    (λ q. acts-made w e side (Notices side q) (λ s. refl) tt (λ s h. absurd h)))
-turn-kept keeps ends w event.Restart g = at-kept keeps ends w event.Restart g (world_turn_of w event.Restart) (restart-made w)
-turn-kept keeps ends w (event.Report report) g =
-    let e : WorldEvent = event.Report report in
-    at-kept keeps ends w e g (world_turn_of w e) (owner-made w e (Reports report) (λ s. refl) tt (λ s h. absurd h))
+turn-kept keeps ends w (event.Choose side p single) g = done-weaker (Made w (event.Choose side p single)) (Kept w (event.Choose side p single)) (made-kept keeps ends w (event.Choose side p single) g) (world_turn_of w (event.Choose side p single)) (turn-made w (event.Choose side p single))
+turn-kept keeps ends w (event.Down side place keep may) g = done-weaker (Made w (event.Down side place keep may)) (Kept w (event.Down side place keep may)) (made-kept keeps ends w (event.Down side place keep may) g) (world_turn_of w (event.Down side place keep may)) (turn-made w (event.Down side place keep may))
+turn-kept keeps ends w (event.Up side place keep may) g = done-weaker (Made w (event.Up side place keep may)) (Kept w (event.Up side place keep may)) (made-kept keeps ends w (event.Up side place keep may) g) (world_turn_of w (event.Up side place keep may)) (turn-made w (event.Up side place keep may))
+turn-kept keeps ends w (event.LoseDown side place) g = done-weaker (Made w (event.LoseDown side place)) (Kept w (event.LoseDown side place)) (made-kept keeps ends w (event.LoseDown side place) g) (world_turn_of w (event.LoseDown side place)) (turn-made w (event.LoseDown side place))
+turn-kept keeps ends w (event.LoseUp side place) g = done-weaker (Made w (event.LoseUp side place)) (Kept w (event.LoseUp side place)) (made-kept keeps ends w (event.LoseUp side place) g) (world_turn_of w (event.LoseUp side place)) (turn-made w (event.LoseUp side place))
+turn-kept keeps ends w (event.PathDown side p) g = done-weaker (Made w (event.PathDown side p)) (Kept w (event.PathDown side p)) (made-kept keeps ends w (event.PathDown side p) g) (world_turn_of w (event.PathDown side p)) (turn-made w (event.PathDown side p))
+turn-kept keeps ends w (event.PathUp side p) g = done-weaker (Made w (event.PathUp side p)) (Kept w (event.PathUp side p)) (made-kept keeps ends w (event.PathUp side p) g) (world_turn_of w (event.PathUp side p)) (turn-made w (event.PathUp side p))
+turn-kept keeps ends w (event.PathReset side p) g = done-weaker (Made w (event.PathReset side p)) (Kept w (event.PathReset side p)) (made-kept keeps ends w (event.PathReset side p) g) (world_turn_of w (event.PathReset side p)) (turn-made w (event.PathReset side p))
+turn-kept keeps ends w (event.LetGo side) g = done-weaker (Made w (event.LetGo side)) (Kept w (event.LetGo side)) (made-kept keeps ends w (event.LetGo side) g) (world_turn_of w (event.LetGo side)) (turn-made w (event.LetGo side))
+turn-kept keeps ends w (event.Send side p signal) g = done-weaker (MadeOf w (event.Send side p signal)) (Kept w (event.Send side p signal)) (λ new h. made-kept keeps ends w (event.Send side p signal) g new h.1) (world_turn_of w (event.Send side p signal)) (turn-made w (event.Send side p signal))
+turn-kept keeps ends w (event.Clear side) g = done-weaker (Made w (event.Clear side)) (Kept w (event.Clear side)) (made-kept keeps ends w (event.Clear side) g) (world_turn_of w (event.Clear side)) (turn-made w (event.Clear side))
+turn-kept keeps ends w event.Leave g = done-weaker (Made w event.Leave) (Kept w event.Leave) (made-kept keeps ends w event.Leave g) (world_turn_of w event.Leave) (turn-made w event.Leave)
+turn-kept keeps ends w (event.Ask p) g = done-weaker (Made w (event.Ask p)) (Kept w (event.Ask p)) (made-kept keeps ends w (event.Ask p) g) (world_turn_of w (event.Ask p)) (turn-made w (event.Ask p))
+turn-kept keeps ends w (event.Attention side p) g = done-weaker (Made w (event.Attention side p)) (Kept w (event.Attention side p)) (made-kept keeps ends w (event.Attention side p) g) (world_turn_of w (event.Attention side p)) (turn-made w (event.Attention side p))
+turn-kept keeps ends w (event.Notice side p) g = done-weaker (Made w (event.Notice side p)) (Kept w (event.Notice side p)) (made-kept keeps ends w (event.Notice side p) g) (world_turn_of w (event.Notice side p)) (turn-made w (event.Notice side p))
+turn-kept keeps ends w event.Restart g = done-weaker (Made w event.Restart) (Kept w event.Restart) (made-kept keeps ends w event.Restart g) (world_turn_of w event.Restart) (turn-made w event.Restart)
+turn-kept keeps ends w (event.Report report) g = done-weaker (Made w (event.Report report)) (Kept w (event.Report report)) (made-kept keeps ends w (event.Report report) g) (world_turn_of w (event.Report report)) (turn-made w (event.Report report))

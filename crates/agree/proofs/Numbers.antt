@@ -19,9 +19,10 @@ use Rattle.chan_model.specs.UnitTable.{unit_after}
 use Rattle.agreement_laws.specs.Moving.{HoldAct, Nothing, Offers, Sends_reset, Lets_go, Is_reset, Loses, Takes, Sends, hold_acts, hold_stepped, hold_offered, reset_again, still, hold_taken, UnitAct, Takes_down, Leaves, Asks, Attends, Restarts, Notices, Reports, unit_steps}
 use Rattle.agree.specs.declared.event.WorldEvent.{WorldEvent}
 use Rattle.agree.specs.declared.event.WorldEvent.TheVariants as event
+use Rattle.agree.specs.Sending.{may_send}
 use Rattle.agree.specs.State.{LineState, WorldState, line_of, with_line, is_up}
 use Rattle.agree.specs.Lines as line
-use Rattle.agree.specs.Lines.{LineTurn, acts_for, line_chosen, line_let_go, heard, hears, met, unit_meets, loses_down, loses_up, cut, goes_down, comes_up, is_cut, with_downs, with_ups, line_with_path}
+use Rattle.agree.specs.Lines.{LineTurn, acts_for, line_chosen, line_let_go, line_sends, heard, hears, met, unit_meets, loses_down, loses_up, cut, goes_down, comes_up, is_cut, with_downs, with_ups, line_with_path}
 use Rattle.agree.specs.Turns.{WorldTurn, at_side, at_world_unit, at_owner, both_of, on_path, path_named, world_turn_of}
 use Rattle.agree.specs.Bounds.{IsWorldUnitWithin, IsWorldWithin}
 use Rattle.agree.proofs.Making.{OnDone, done-at_unit, done-at_owner, done-on_path, done-if, done-unless, done-stepping}
@@ -161,6 +162,11 @@ event-within n w (event.PathReset side p) h =
 event-within n w (event.LetGo side) h =
     let l : LineState = line_of w side in
     turn-within n w side (line_let_go l l.link.hold.phase) h (let_go-draws l l.link.hold.phase)
+event-within n w (event.Send side p signal) h =
+    let l : LineState = line_of w side in
+    path-within n (path_named p) (λ q. at_side w side (line_sends l q signal))
+    (λ q. turn-within n w side (line_sends l q signal) h
+    (done-if (Draws l) (may_send l.link.hold.phase q signal) NotNow (line.acts l (Sends (record { path = q; signal = signal }))) (acts-drawn l.link.drawn l.link.hold (Sends (record { path = q; signal = signal })))))
 event-within n w (event.Clear side) h =
     let l : LineState = line_of w side in
     turn-within n w side (Ok (line.acts l Is_reset)) h (acts-drawn l.link.drawn l.link.hold Is_reset)

@@ -13,11 +13,12 @@ use Rattle.chan_model.specs.declared.signal.Up.{Up}
 use Rattle.chan_model.specs.declared.unit_state.Own.{Own}
 use Rattle.chan_model.specs.declared.unit_state.Own.TheVariants.{Idle, Owned}
 use Rattle.chan_model.specs.UnitTable.{UnitStep}
-use Rattle.agreement_laws.specs.Moving.{UnitAct, Leaves, Asks, Attends, Notices, Reports, unit_steps}
+use Rattle.agreement_laws.specs.Moving.{Sends, UnitAct, Leaves, Asks, Attends, Notices, Reports, unit_steps}
 use Rattle.agree.specs.declared.event.WorldEvent.{WorldEvent}
 use Rattle.agree.specs.declared.event.WorldEvent.TheVariants as event
+use Rattle.agree.specs.Sending.{may_send}
 use Rattle.agree.specs.State.{LineState, WorldState, line_of, is_up}
-use Rattle.agree.specs.Lines.{GivesTurn, LineTurn, UnitLine, acts_for, stepping, line_chosen, line_let_go, heard, hears, met, unit_meets, loses_down, loses_up, cut, goes_down, comes_up, is_cut, with_downs, with_ups, line_with_path}
+use Rattle.agree.specs.Lines.{GivesTurn, LineTurn, UnitLine, acts_for, stepping, line_chosen, line_let_go, line_sends, acts, heard, hears, met, unit_meets, loses_down, loses_up, cut, goes_down, comes_up, is_cut, with_downs, with_ups, line_with_path}
 use Rattle.agree.specs.Turns.{WorldTurn, at_side, at_world_unit, at_owner, both_of, on_path, path_named, world_turn_of, counted, max_steps, world_turn}
 use Rattle.agree.specs.Rooms.{LineRoom, WorldRoom, LineLoses, Loses, TakesRoom, IsFullFor, IsWorldSpent}
 
@@ -113,6 +114,11 @@ never w (event.PathReset side p) =
 never w (event.LetGo side) =
     let l : LineState = line_of w side in
     sided w side (line_let_go l l.link.hold.phase) (let_go_sound l l.link.hold.phase)
+never w (event.Send side p signal) =
+    let l : LineState = line_of w side in
+    on_one p (λ q. at_side w side (line_sends l q signal))
+    (λ q. sided w side (line_sends l q signal)
+    (cond_both (may_send l.link.hold.phase q signal) (Ok (acts l (Sends (record { path = q; signal = signal })))) (Err NotNow) (λ r. Sound r) (λ e. tt) (λ e f. cc f)))
 never w (event.Clear side) = tt
 never w event.SubsystemReset = tt
 never w event.Leave = owner_sound w Leaves

@@ -1,6 +1,12 @@
 pub mod State
+pub mod Sending
 pub mod Lines
 pub mod Turns
+pub mod Replies
 pub mod Rooms
+pub mod Histories
+pub mod ByItsPath
+pub mod OneHolder
+pub mod BothAgree
 pub mod Bounds
 pub mod Promises

@@ -11,7 +11,8 @@ use Rattle.chan_model.specs.declared.names.Side.{Side}
 use Rattle.chan_model.specs.declared.unit_state.UnitState.{UnitState}
 use Rattle.chan_model.specs.UnitTable.{UnitStep, unit_after, came_of}
 use Rattle.agreement_laws.specs.Links.{with_accepted}
-use Rattle.agreement_laws.specs.Moving.{HoldAct, HoldActed, hold_acts, Offers, Sends_reset, Lets_go, Loses, Takes, UnitAct, Takes_down, unit_steps}
+use Rattle.agreement_laws.specs.Moving.{HoldAct, HoldActed, hold_acts, Offers, Sends_reset, Lets_go, Loses, Takes, Sends, UnitAct, Takes_down, unit_steps}
+use Rattle.agree.specs.Sending.{may_send}
 use Rattle.agree.specs.State.{LineState, is_up}
 
 -- the signals with one sent behind them; on a path that is down it vanishes
@@ -66,6 +67,10 @@ line_let_go l (Offer t q) = Err NotNow
 line_let_go l (Away t) = Err NotNow
 line_let_go l (Letting t q) = Err NotNow
 line_let_go l (Reset r) = Err NotNow
+
+-- the hold sends a signal of its program on a path
+abbrev pub line_sends : LineState → ℕ → Down → LineTurn
+line_sends l p signal = if may_send l.link.hold.phase p signal then Ok (acts l (Sends (record { path = p; signal = signal }))) else Err NotNow
 
 -- the hold takes the signal at a place
 abbrev pub heard : LineState → Option (OnPath Up) → ℕ → Bool → Bool → LineTurn

@@ -6,6 +6,8 @@ use Rattle.chan_model.specs.declared.signal.OnPath.{OnPath}
 use Rattle.chan_model.specs.declared.signal.Down.{Down}
 use Rattle.chan_model.specs.declared.unit_state.UnitState.{UnitState}
 use Rattle.chan_model.specs.Sides.{same_side}
+use Rattle.chan_model.specs.UnitTable.{owns}
+use Rattle.unit.specs.UnitWords.{LeavesOther, other_of}
 use Rattle.agreement_laws.specs.Links.{link_of}
 use Rattle.agreement_laws.specs.Claims.{IsSound, IsReset, IsResetDue, DoAgree}
 use Rattle.agree.specs.declared.event.WorldEvent.{WorldEvent}
@@ -36,3 +38,35 @@ EndsByEvent old e new = (side : Side) → IsResetDue (links_of old) side →
 abbrev pub EachEnds : WorldState → List WorldEvent → Type 0
 EachEnds w [] = Unit {0}
 EachEnds w (e ∷ es) = EndsByEvent w e (world_after w e) × EachEnds (world_after w e) es
+
+-- What is done at one side leaves the other: its hold, its signals and paths; and of the unit its floor, its mark of a restart, and
+-- its program, and the unit gets no program of it.
+pub record IsApart (side : Side) (old new : WorldState) : Type 0 where
+  pub «unit» : LeavesOther side old.«unit» new.«unit»
+  pub line : line_of new (other_of side) ≡ line_of old (other_of side)
+
+-- Leave, Ask and a report are of the side whose program holds the device; a reset of the subsystem and a restart are of both
+abbrev pub LeavesApart : WorldState → WorldEvent → WorldState → Type 0
+LeavesApart old (event.Choose side p single) new = IsApart side old new
+LeavesApart old (event.Down side place keep may) new = IsApart side old new
+LeavesApart old (event.Up side place keep may) new = IsApart side old new
+LeavesApart old (event.LoseDown side place) new = IsApart side old new
+LeavesApart old (event.LoseUp side place) new = IsApart side old new
+LeavesApart old (event.PathDown side p) new = IsApart side old new
+LeavesApart old (event.PathUp side p) new = IsApart side old new
+LeavesApart old (event.PathReset side p) new = IsApart side old new
+LeavesApart old (event.LetGo side) new = IsApart side old new
+LeavesApart old (event.Send side p signal) new = IsApart side old new
+LeavesApart old (event.Clear side) new = IsApart side old new
+LeavesApart old event.SubsystemReset new = Unit {0}
+LeavesApart old event.Leave new = (side : Side) → owns old.«unit».own side ≡ true → IsApart side old new
+LeavesApart old (event.Ask p) new = (side : Side) → owns old.«unit».own side ≡ true → IsApart side old new
+LeavesApart old (event.Attention side p) new = IsApart side old new
+LeavesApart old (event.Notice side p) new = IsApart side old new
+LeavesApart old event.Restart new = Unit {0}
+LeavesApart old (event.Report report) new = (side : Side) → owns old.«unit».own side ≡ true → IsApart side old new
+
+-- the same of each event of a list
+abbrev pub EachApart : WorldState → List WorldEvent → Type 0
+EachApart w [] = Unit {0}
+EachApart w (e ∷ es) = LeavesApart w e (world_after w e) × EachApart (world_after w e) es

@@ -84,6 +84,7 @@ IsFullFor w room (event.PathDown side p) = ⊥
 IsFullFor w room (event.PathUp side p) = ⊥
 IsFullFor w room (event.PathReset side p) = ⊥
 IsFullFor w room (event.LetGo side) = IsFullDown (line_room_of room side)
+IsFullFor w room (event.Send side p signal) = IsFullDown (line_room_of room side)
 IsFullFor w room (event.Clear side) = ⊥
 IsFullFor w room event.SubsystemReset = ⊥
 IsFullFor w room event.Leave = IsOwnerFull room w.«unit».own

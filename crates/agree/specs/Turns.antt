@@ -10,7 +10,7 @@ use Rattle.agreement_laws.specs.Moving.{Is_reset, Leaves, Asks, Attends, Notices
 use Rattle.agree.specs.declared.event.WorldEvent.{WorldEvent}
 use Rattle.agree.specs.declared.event.WorldEvent.TheVariants as event
 use Rattle.agree.specs.State.{WorldState, line_of, with_line}
-use Rattle.agree.specs.Lines.{LineTurn, UnitLine, unit_line, acts, acts_for, unit_meets, line_chosen, line_let_go, hears, loses_down, loses_up, goes_down, comes_up, is_cut}
+use Rattle.agree.specs.Lines.{LineTurn, UnitLine, unit_line, acts, acts_for, unit_meets, line_chosen, line_let_go, line_sends, hears, loses_down, loses_up, goes_down, comes_up, is_cut}
 
 abbrev pub WorldTurn : Type 0
 WorldTurn = Result WorldState Fault
@@ -55,6 +55,7 @@ world_turn_of w (event.PathDown side p) = on_path (path_named p) (λ q. at_side 
 world_turn_of w (event.PathUp side p) = on_path (path_named p) (λ q. at_side w side (comes_up (line_of w side) q))
 world_turn_of w (event.PathReset side p) = on_path (path_named p) (λ q. at_side w side (is_cut (line_of w side) q))
 world_turn_of w (event.LetGo side) = at_side w side (line_let_go (line_of w side) (line_of w side).link.hold.phase)
+world_turn_of w (event.Send side p signal) = on_path (path_named p) (λ q. at_side w side (line_sends (line_of w side) q signal))
 world_turn_of w (event.Clear side) = at_side w side (Ok (acts (line_of w side) Is_reset))
 world_turn_of w event.SubsystemReset = Ok (all_reset w)
 world_turn_of w event.Leave = at_owner w w.«unit».own (λ side. at_world_unit w side (acts_for (both_of w side) Leaves))

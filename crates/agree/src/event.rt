@@ -4,6 +4,7 @@ ghost use Rattle.std.specs.Prelude.{◌≡◌};
 
 use chan_model::names::Side;
 use chan_model::report::Report;
+use chan_model::signal::Down;
 
 /// One thing that may happen. A path is its index, and a place counts the signals that were sent one way at one side and
 /// have not vanished, from 0.
@@ -60,6 +61,12 @@ pub enum WorldEvent {
     /// The subsystem lets the device go.
     LetGo {
         side: Side,
+    },
+    /// The subsystem sends a signal of the program of a side: a Command, Took, Give or Halt.
+    Send {
+        side: Side,
+        path: u8,
+        signal: Down,
     },
     /// The program clears the subchannel.
     Clear {
@@ -147,6 +154,11 @@ impl WorldEvent {
                 path: *path,
             },
             WorldEvent::LetGo { side } => WorldEvent::LetGo { side: *side },
+            WorldEvent::Send { side, path, signal } => WorldEvent::Send {
+                side: *side,
+                path: *path,
+                signal: signal.copy(),
+            },
             WorldEvent::Clear { side } => WorldEvent::Clear { side: *side },
             WorldEvent::SubsystemReset => WorldEvent::SubsystemReset,
             WorldEvent::Leave => WorldEvent::Leave,

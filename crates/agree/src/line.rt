@@ -1,19 +1,24 @@
 //! One side of a unit: its hold, the signals between both, and its paths.
 
+mod program;
 mod signals;
 mod told;
 
-ghost use Rattle.std.specs.Prelude.{◌≡◌, ◌≤◌, ◌^◌, Ok, length};
+ghost use Rattle.std.specs.Prelude.{◌≡◌, ◌≤◌, ◌^◌, IfOk, Ok, length, slice_get};
 ghost use Rattle.agree.specs.Lines as spec;
+ghost use Rattle.agree.specs.Replies as reply_spec;
 ghost use Rattle.agree.specs.Rooms as room_spec;
 ghost use Rattle.agree.specs.State as state_spec;
+ghost use Rattle.agree.specs.declared.reply.WorldReply.TheVariants as reply;
 ghost use Rattle.agreement_laws.specs.Moving as moving;
 
+use crate::reply::{WorldReply, copy_down};
 use chan_model::fault::Fault;
 use chan_model::hold_state::{HoldPhase, HoldState};
-use chan_model::names::Path;
+use chan_model::names::{Path, Side};
 use chan_model::signal::{Down, OnPath, Up};
 use hold::Hold;
+use program::{is_taken, may_send};
 use signals::{cut_downs, cut_ups, is_up, post, with_path};
 use std::alloc::Global;
 use std::marker::Model;
@@ -96,8 +101,9 @@ impl SideLine {
     }
 
     /// Offers a program on a path, or sends the Reset on it.
-    pub fn choose(&mut self, path: Path, single_path: bool) -> Result<(), Fault>
+    pub fn choose(&mut self, side: Side, path: Path, single_path: bool) -> Result<WorldReply, Fault>
         requires { self.old.line.link.drawn ≤ 2 ^ 62 }
+        ensures reply { IfOk result (λ r. r ≡ reply_spec.hold_reply side self.old.line (reply_spec.chosen_act self.old.line.link.hold.phase path single_path)) }
         ensures gives { spec.GivesTurn self.old.line (spec.line_chosen self.old.line self.old.line.link.hold.phase path single_path) (room_spec.IsFullDown self.new.room) result self.new.line }
         ensures room { room_spec.LineTakes result self.old.room self.new.room }
     {
@@ -105,19 +111,24 @@ impl SideLine {
         match hold.state().phase {
             HoldPhase::Free => {
                 let number = self.drawn + 1;
-                let select = hold.offer(number, path, single_path);
-                self.keep(number, hold, Some(select))
+                let select = Some(hold.offer(number, path, single_path));
+                let reply = WorldReply::of_side(side, &select);
+                self.keep(number, hold, select)?;
+                Ok(reply)
             }
             HoldPhase::Reset { .. } => {
                 let reset = hold.send_reset(path);
-                self.keep(self.drawn, hold, reset)
+                let reply = WorldReply::of_side(side, &reset);
+                self.keep(self.drawn, hold, reset)?;
+                Ok(reply)
             }
             _ => Err(Fault::NotNow),
         }
     }
 
     /// Lets the device go.
-    pub fn let_go(&mut self) -> Result<(), Fault>
+    pub fn let_go(&mut self, side: Side) -> Result<WorldReply, Fault>
+        ensures reply { IfOk result (λ r. r ≡ reply_spec.hold_reply side self.old.line moving.Lets_go) }
         ensures gives { spec.GivesTurn self.old.line (spec.line_let_go self.old.line self.old.line.link.hold.phase) (room_spec.IsFullDown self.new.room) result self.new.line }
         ensures room { room_spec.LineTakes result self.old.room self.new.room }
     {
@@ -125,10 +136,30 @@ impl SideLine {
         match hold.state().phase {
             HoldPhase::On { .. } => {
                 let release = hold.let_go();
-                self.keep(self.drawn, hold, release)
+                let reply = WorldReply::of_side(side, &release);
+                self.keep(self.drawn, hold, release)?;
+                Ok(reply)
             }
             _ => Err(Fault::NotNow),
         }
+    }
+
+    /// The hold sends a signal of its program on a path.
+    pub fn send(&mut self, side: Side, path: Path, signal: &Down) -> Result<WorldReply, Fault>
+        ensures reply { IfOk result (λ r. r ≡ reply.SentDown side (record { path = path; signal = signal.now })) }
+        ensures gives { spec.GivesTurn self.old.line (spec.line_sends self.old.line path signal.now) (room_spec.IsFullDown self.new.room) result self.new.line }
+        ensures room { room_spec.LineTakes result self.old.room self.new.room }
+    {
+        if !may_send(&self.hold, path, signal) {
+            return Err(Fault::NotNow);
+        }
+        let signal = OnPath {
+            path,
+            signal: Down::copy(signal),
+        };
+        let sent = Some(OnPath::<Down>::copy(&signal));
+        self.keep(self.drawn, self.hold, sent)?;
+        Ok(WorldReply::SentDown { side, signal })
     }
 
     /// The hold is reset.
@@ -142,8 +173,15 @@ impl SideLine {
     }
 
     /// The hold takes the signal at a place.
-    pub fn hear(&mut self, place: usize, keep: bool, may: bool) -> Result<(), Fault>
+    pub fn hear(
+        &mut self,
+        side: Side,
+        place: usize,
+        keep: bool,
+        may: bool,
+    ) -> Result<WorldReply, Fault>
         requires { self.old.line.link.drawn ≤ 2 ^ 62 }
+        ensures reply { IfOk result (λ r. r ≡ reply_spec.heard_reply side self.old.line (slice_get self.old.line.link.ups place) may) }
         ensures gives { spec.GivesTurn self.old.line (spec.hears self.old.line place keep may) (room_spec.IsFullDown self.new.room) result self.new.line }
         ensures room { room_spec.LineTakes result self.old.room self.new.room }
     {
@@ -151,13 +189,20 @@ impl SideLine {
             return Err(Fault::NotSent);
         }
         let mut hold = self.hold;
-        let signal = &self.ups[place];
-        let (drawn, sent) = taken(self.drawn, &mut hold, signal, may);
+        let signal = self.ups[place].copy();
+        let taken = is_taken(&hold, &signal, may);
+        let (drawn, sent) = takes(self.drawn, &mut hold, &signal, may);
+        let answer = copy_down(&sent);
         self.keep(drawn, hold, sent)?;
         if !keep {
             self.ups.remove(place);
         }
-        Ok(())
+        Ok(WorldReply::Up {
+            side,
+            signal,
+            taken,
+            sent: answer,
+        })
     }
 
     /// The signal to the unit at a place vanishes.
@@ -240,7 +285,7 @@ impl SideLine {
 
 /// The hold takes a signal: how many numbers are drawn then, and what is sent. A Notice of more restarts than are known is a
 /// cause of a reset.
-fn taken(drawn: u64, hold: &mut Hold, signal: &OnPath<Up>, may: bool) -> (u64, Option<OnPath<Down>>)
+fn takes(drawn: u64, hold: &mut Hold, signal: &OnPath<Up>, may: bool) -> (u64, Option<OnPath<Down>>)
     requires { drawn ≤ 2 ^ 62 }
     ensures { record { drawn = result.0; hold = hold.new; sent = result.1 } ≡ moving.hold_taken drawn hold.old signal.now.path signal.now.signal may }
 {

@@ -1,8 +1,9 @@
 //! A unit and both of its sides, with nothing said of how they go together.
 
-ghost use Rattle.std.specs.Prelude.{◌≡◌, ◌<◌, ◌^◌, Ok, length};
+ghost use Rattle.std.specs.Prelude.{◌≡◌, ◌<◌, ◌^◌, IfOk, Ok, length};
 ghost use Rattle.agree.specs.Bounds.{IsWorldWithin};
 ghost use Rattle.agree.specs.Lines.{GivesTurn};
+ghost use Rattle.agree.specs.Replies as reply_spec;
 ghost use Rattle.agree.specs.Rooms.{IsFullFor, Loses, TakesRoom, no_room};
 ghost use Rattle.agree.specs.State as state_spec;
 ghost use Rattle.agree.specs.Turns as spec;
@@ -10,10 +11,12 @@ ghost use Rattle.agree.specs.declared.event.WorldEvent.TheVariants as event_spec
 
 use crate::event::WorldEvent;
 use crate::line::SideLine;
+use crate::reply::WorldReply;
 use chan_model::fault::Fault;
 use chan_model::hold_state::HoldState;
 use chan_model::names::{Path, Side};
 use chan_model::report::Report;
+use chan_model::signal::Down;
 use chan_model::unit_state::Own;
 use std::alloc::Global;
 use std::marker::Model;
@@ -81,19 +84,21 @@ impl Parts {
         }
     }
 
-    fn choose(&mut self, side: Side, path: u8, single_path: bool) -> Result<(), Fault>
+    fn choose(&mut self, side: Side, path: u8, single_path: bool) -> Result<WorldReply, Fault>
         requires { IsWorldWithin (2 ^ 62) self.old.world }
+        ensures reply { IfOk result (λ r. r ≡ reply_spec.reply_of self.old.world (event_spec.Choose side path single_path)) }
         ensures gives { GivesTurn self.old.world (spec.world_turn_of self.old.world (event_spec.Choose side path single_path)) (IsFullFor self.old.world self.new.room (event_spec.Choose side path single_path)) result self.new.world }
         ensures room { TakesRoom result self.old.room self.new.room }
     {
         let path = path_named(path)?;
         match side {
-            Side::First => self.first.choose(path, single_path),
-            Side::Second => self.second.choose(path, single_path),
+            Side::First => self.first.choose(side, path, single_path),
+            Side::Second => self.second.choose(side, path, single_path),
         }
     }
 
-    fn down(&mut self, side: Side, place: usize, keep: bool, may: bool) -> Result<(), Fault>
+    fn down(&mut self, side: Side, place: usize, keep: bool, may: bool) -> Result<WorldReply, Fault>
+        ensures reply { IfOk result (λ r. r ≡ reply_spec.reply_of self.old.world (event_spec.Down side place keep may)) }
         ensures gives { GivesTurn self.old.world (spec.world_turn_of self.old.world (event_spec.Down side place keep may)) (IsFullFor self.old.world self.new.room (event_spec.Down side place keep may)) result self.new.world }
         ensures room { TakesRoom result self.old.room self.new.room }
     {
@@ -103,14 +108,15 @@ impl Parts {
         }
     }
 
-    fn up(&mut self, side: Side, place: usize, keep: bool, may: bool) -> Result<(), Fault>
+    fn up(&mut self, side: Side, place: usize, keep: bool, may: bool) -> Result<WorldReply, Fault>
         requires { IsWorldWithin (2 ^ 62) self.old.world }
+        ensures reply { IfOk result (λ r. r ≡ reply_spec.reply_of self.old.world (event_spec.Up side place keep may)) }
         ensures gives { GivesTurn self.old.world (spec.world_turn_of self.old.world (event_spec.Up side place keep may)) (IsFullFor self.old.world self.new.room (event_spec.Up side place keep may)) result self.new.world }
         ensures room { TakesRoom result self.old.room self.new.room }
     {
         match side {
-            Side::First => self.first.hear(place, keep, may),
-            Side::Second => self.second.hear(place, keep, may),
+            Side::First => self.first.hear(side, place, keep, may),
+            Side::Second => self.second.hear(side, place, keep, may),
         }
     }
 
@@ -169,13 +175,26 @@ impl Parts {
         }
     }
 
-    fn let_go(&mut self, side: Side) -> Result<(), Fault>
+    fn let_go(&mut self, side: Side) -> Result<WorldReply, Fault>
+        ensures reply { IfOk result (λ r. r ≡ reply_spec.reply_of self.old.world (event_spec.LetGo side)) }
         ensures gives { GivesTurn self.old.world (spec.world_turn_of self.old.world (event_spec.LetGo side)) (IsFullFor self.old.world self.new.room (event_spec.LetGo side)) result self.new.world }
         ensures room { TakesRoom result self.old.room self.new.room }
     {
         match side {
-            Side::First => self.first.let_go(),
-            Side::Second => self.second.let_go(),
+            Side::First => self.first.let_go(side),
+            Side::Second => self.second.let_go(side),
+        }
+    }
+
+    fn send(&mut self, side: Side, path: u8, signal: &Down) -> Result<WorldReply, Fault>
+        ensures reply { IfOk result (λ r. r ≡ reply_spec.reply_of self.old.world (event_spec.Send side path signal.now)) }
+        ensures gives { GivesTurn self.old.world (spec.world_turn_of self.old.world (event_spec.Send side path signal.now)) (IsFullFor self.old.world self.new.room (event_spec.Send side path signal.now)) result self.new.world }
+        ensures room { TakesRoom result self.old.room self.new.room }
+    {
+        let path = path_named(path)?;
+        match side {
+            Side::First => self.first.send(side, path, signal),
+            Side::Second => self.second.send(side, path, signal),
         }
     }
 
@@ -199,7 +218,8 @@ impl Parts {
         self.second.clear();
     }
 
-    fn leave(&mut self) -> Result<(), Fault>
+    fn leave(&mut self) -> Result<WorldReply, Fault>
+        ensures reply { IfOk result (λ r. r ≡ reply_spec.reply_of self.old.world event_spec.Leave) }
         ensures gives { GivesTurn self.old.world (spec.world_turn_of self.old.world event_spec.Leave) (IsFullFor self.old.world self.new.room event_spec.Leave) result self.new.world }
         ensures room { TakesRoom result self.old.room self.new.room }
     {
@@ -208,16 +228,17 @@ impl Parts {
             Own::Owned {
                 side: Side::First,
                 ..
-            } => self.first.leave(&mut self.unit),
+            } => self.first.leave(&mut self.unit, Side::First),
             Own::Owned {
                 side: Side::Second,
                 ..
-            } => self.second.leave(&mut self.unit),
+            } => self.second.leave(&mut self.unit, Side::Second),
         }
     }
 
-    fn ask(&mut self, path: u8) -> Result<(), Fault>
+    fn ask(&mut self, path: u8) -> Result<WorldReply, Fault>
         requires { IsWorldWithin (2 ^ 62) self.old.world }
+        ensures reply { IfOk result (λ r. r ≡ reply_spec.reply_of self.old.world (event_spec.Ask path)) }
         ensures gives { GivesTurn self.old.world (spec.world_turn_of self.old.world (event_spec.Ask path)) (IsFullFor self.old.world self.new.room (event_spec.Ask path)) result self.new.world }
         ensures room { TakesRoom result self.old.room self.new.room }
     {
@@ -227,16 +248,17 @@ impl Parts {
             Own::Owned {
                 side: Side::First,
                 ..
-            } => self.first.ask(&mut self.unit, path),
+            } => self.first.ask(&mut self.unit, Side::First, path),
             Own::Owned {
                 side: Side::Second,
                 ..
-            } => self.second.ask(&mut self.unit, path),
+            } => self.second.ask(&mut self.unit, Side::Second, path),
         }
     }
 
-    fn attention(&mut self, side: Side, path: u8) -> Result<(), Fault>
+    fn attention(&mut self, side: Side, path: u8) -> Result<WorldReply, Fault>
         requires { IsWorldWithin (2 ^ 62) self.old.world }
+        ensures reply { IfOk result (λ r. r ≡ reply_spec.reply_of self.old.world (event_spec.Attention side path)) }
         ensures gives { GivesTurn self.old.world (spec.world_turn_of self.old.world (event_spec.Attention side path)) (IsFullFor self.old.world self.new.room (event_spec.Attention side path)) result self.new.world }
         ensures room { TakesRoom result self.old.room self.new.room }
     {
@@ -247,7 +269,8 @@ impl Parts {
         }
     }
 
-    fn notice(&mut self, side: Side, path: u8) -> Result<(), Fault>
+    fn notice(&mut self, side: Side, path: u8) -> Result<WorldReply, Fault>
+        ensures reply { IfOk result (λ r. r ≡ reply_spec.reply_of self.old.world (event_spec.Notice side path)) }
         ensures gives { GivesTurn self.old.world (spec.world_turn_of self.old.world (event_spec.Notice side path)) (IsFullFor self.old.world self.new.room (event_spec.Notice side path)) result self.new.world }
         ensures room { TakesRoom result self.old.room self.new.room }
     {
@@ -266,8 +289,9 @@ impl Parts {
         self.unit.restart();
     }
 
-    fn report(&mut self, report: &Report) -> Result<(), Fault>
+    fn report(&mut self, report: &Report) -> Result<WorldReply, Fault>
         requires { IsWorldWithin (2 ^ 62) self.old.world }
+        ensures reply { IfOk result (λ r. r ≡ reply_spec.reply_of self.old.world (event_spec.Report report.now)) }
         ensures gives { GivesTurn self.old.world (spec.world_turn_of self.old.world (event_spec.Report report.now)) (IsFullFor self.old.world self.new.room (event_spec.Report report.now)) result self.new.world }
         ensures room { TakesRoom result self.old.room self.new.room }
     {
@@ -276,17 +300,18 @@ impl Parts {
             Own::Owned {
                 side: Side::First,
                 ..
-            } => self.first.report(&mut self.unit, report),
+            } => self.first.report(&mut self.unit, Side::First, report),
             Own::Owned {
                 side: Side::Second,
                 ..
-            } => self.second.report(&mut self.unit, report),
+            } => self.second.report(&mut self.unit, Side::Second, report),
         }
     }
 
     /// One event, which is not counted.
-    pub fn perform(&mut self, event: &WorldEvent) -> Result<(), Fault>
+    pub fn perform(&mut self, event: &WorldEvent) -> Result<WorldReply, Fault>
         requires { IsWorldWithin (2 ^ 62) self.old.world }
+        ensures reply { IfOk result (λ r. r ≡ reply_spec.reply_of self.old.world event.now) }
         ensures gives { GivesTurn self.old.world (spec.world_turn_of self.old.world event.now) (IsFullFor self.old.world self.new.room event.now) result self.new.world }
         ensures room { TakesRoom result self.old.room self.new.room }
     {
@@ -308,19 +333,44 @@ impl Parts {
                 keep,
                 may,
             } => self.up(*side, *place, *keep, *may),
-            WorldEvent::LoseDown { side, place } => self.lose_down(*side, *place),
-            WorldEvent::LoseUp { side, place } => self.lose_up(*side, *place),
-            WorldEvent::PathDown { side, path } => self.path_down(*side, *path),
-            WorldEvent::PathUp { side, path } => self.path_up(*side, *path),
-            WorldEvent::PathReset { side, path } => self.path_reset(*side, *path),
+            WorldEvent::LoseDown { side, place } => {
+                self.lose_down(*side, *place)?;
+                Ok(WorldReply::Done)
+            }
+            WorldEvent::LoseUp { side, place } => {
+                self.lose_up(*side, *place)?;
+                Ok(WorldReply::Done)
+            }
+            WorldEvent::PathDown { side, path } => {
+                self.path_down(*side, *path)?;
+                Ok(WorldReply::Done)
+            }
+            WorldEvent::PathUp { side, path } => {
+                self.path_up(*side, *path)?;
+                Ok(WorldReply::Done)
+            }
+            WorldEvent::PathReset { side, path } => {
+                self.path_reset(*side, *path)?;
+                Ok(WorldReply::Done)
+            }
             WorldEvent::LetGo { side } => self.let_go(*side),
-            WorldEvent::Clear { side } => Ok(self.clear(*side)),
-            WorldEvent::SubsystemReset => Ok(self.subsystem_reset()),
+            WorldEvent::Send { side, path, signal } => self.send(*side, *path, signal),
+            WorldEvent::Clear { side } => {
+                self.clear(*side);
+                Ok(WorldReply::Done)
+            }
+            WorldEvent::SubsystemReset => {
+                self.subsystem_reset();
+                Ok(WorldReply::Done)
+            }
             WorldEvent::Leave => self.leave(),
             WorldEvent::Ask { path } => self.ask(*path),
             WorldEvent::Attention { side, path } => self.attention(*side, *path),
             WorldEvent::Notice { side, path } => self.notice(*side, *path),
-            WorldEvent::Restart => Ok(self.restart()),
+            WorldEvent::Restart => {
+                self.restart();
+                Ok(WorldReply::Done)
+            }
             WorldEvent::Report(report) => self.report(report),
         }
     }

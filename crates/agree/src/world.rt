@@ -1,10 +1,11 @@
 //! A unit and both of its sides, which agree after each event.
 
-ghost use Rattle.std.specs.Prelude.{◌≡◌, ℕ, List, ◌⊎◌, Err, OnOk, OnErr, IfErr, Some, None, length, take};
+ghost use Rattle.std.specs.Prelude.{◌≡◌, ℕ, List, ◌⊎◌, Err, IfOk, OnOk, OnErr, IfErr, Some, None, length, take};
 ghost use Rattle.chan_model.specs.declared.fault.Fault.TheVariants as fault_spec;
 ghost use Rattle.agree.specs.Bounds.{IsWell};
 ghost use Rattle.agree.specs.Lines.{GivesTurn};
-ghost use Rattle.agree.specs.Promises.{AreSound, EndsByEvent, EachEnds};
+ghost use Rattle.agree.specs.Promises.{AreSound, EndsByEvent, EachEnds, LeavesApart, EachApart};
+ghost use Rattle.agree.specs.Replies as reply_spec;
 ghost use Rattle.agree.specs.Rooms.{HasEnded, IsWorldAsBefore, IsFullFor, IsWorldSpent, Loses, TakesRoom, no_room};
 ghost use Rattle.agree.specs.State as state_spec;
 ghost use Rattle.agree.specs.declared.event.WorldEvent.{WorldEvent};
@@ -12,6 +13,7 @@ ghost use Rattle.agree.specs.Turns as spec;
 
 use crate::event::WorldEvent;
 use crate::parts::Parts;
+use crate::reply::WorldReply;
 use agreement_laws::{agreement, resets};
 use chan_model::fault::Fault;
 use chan_model::hold_state::HoldState;
@@ -85,7 +87,8 @@ impl World {
 
     /// One event. It is refused `NoMemory` only where the steps are used up, or a list that it may add to has no room and
     /// can't grow; a refusal changes nothing.
-    pub fn step(&mut self, event: &WorldEvent) -> Result<(), Fault>
+    pub fn step(&mut self, event: &WorldEvent) -> Result<WorldReply, Fault>
+        ensures reply { IfOk result (λ r. r ≡ reply_spec.reply_of self.old.world event.now) }
         ensures done { OnOk result (self.new.world ≡ spec.world_after self.old.world event.now) }
         ensures accepted { OnOk result (spec.refusal_of self.old.world event.now ≡ None) }
         ensures room { TakesRoom result self.old.room self.new.room }
@@ -95,6 +98,7 @@ impl World {
         ensures spent { result ≡ Err fault_spec.NoMemory → IsWorldSpent self.new event.now }
         ensures sound { AreSound self.new.world }
         ensures ends { OnOk result (EndsByEvent self.old.world event.now self.new.world) }
+        ensures apart { OnOk result (LeavesApart self.old.world event.now self.new.world) }
     {
         agreement();
         resets();
@@ -126,6 +130,7 @@ impl World {
         // What holds after the whole list holds after each beginning of it.
         ensures sound { (i : ℕ) → AreSound (spec.worlds_after self.old.world (take i events.now)) }
         ensures ends { EachEnds self.old.world events.now }
+        ensures apart { EachApart self.old.world events.now }
     {
         self.is_sound();
         for event in events {
@@ -140,6 +145,7 @@ impl World {
         ensures now { AreSound self.now.world }
         ensures later { (events : List WorldEvent) → AreSound (spec.worlds_after self.now.world events) }
         ensures ends { (events : List WorldEvent) → EachEnds self.now.world events }
+        ensures apart { (events : List WorldEvent) → EachApart self.now.world events }
     {
         agreement();
         resets();
@@ -148,8 +154,9 @@ impl World {
 }
 
 /// One event, with nothing known of how the sides go together.
-fn step_parts(parts: &mut Parts, event: &WorldEvent) -> Result<(), Fault>
+fn step_parts(parts: &mut Parts, event: &WorldEvent) -> Result<WorldReply, Fault>
     requires { IsWell parts.old.world }
+    ensures reply { IfOk result (λ r. r ≡ reply_spec.reply_of parts.old.world event.now) }
     ensures gives { GivesTurn parts.old.world (spec.world_turn parts.old.world event.now) (IsFullFor parts.old.world parts.new.room event.now) result parts.new.world }
     ensures room { TakesRoom result parts.old.room parts.new.room }
 {
@@ -157,7 +164,7 @@ fn step_parts(parts: &mut Parts, event: &WorldEvent) -> Result<(), Fault>
     if steps >= (1 << 62) - 1 {
         return Err(Fault::NoMemory);
     }
-    parts.perform(event)?;
+    let reply = parts.perform(event)?;
     parts.count(steps + 1);
-    Ok(())
+    Ok(reply)
 }

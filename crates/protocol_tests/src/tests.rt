@@ -1,5 +1,6 @@
 //! A module for each crate that is tested.
 
+mod agree_programs;
 mod agree_tests;
 mod allegiance_tests;
 mod chan_events_tests;

@@ -1,13 +1,15 @@
 //! What the unit does, and how one side is told of it.
 
-ghost use Rattle.std.specs.Prelude.{◌≡◌, ◌<◌, ◌^◌};
+ghost use Rattle.std.specs.Prelude.{◌≡◌, ◌<◌, ◌^◌, IfOk, slice_get};
 ghost use Rattle.agree.specs.Lines as spec;
+ghost use Rattle.agree.specs.Replies as reply_spec;
 ghost use Rattle.agree.specs.Rooms as room_spec;
 ghost use Rattle.agreement_laws.specs.Moving as moving;
 ghost use Rattle.unit.specs.UnitWords as words;
 
 use super::SideLine;
 use super::signals::{make_room, tell};
+use crate::reply::{WorldReply, copy_up};
 use chan_model::fault::Fault;
 use chan_model::names::{Path, Side};
 use chan_model::report::Report;
@@ -22,7 +24,8 @@ impl SideLine {
         place: usize,
         keep: bool,
         may: bool,
-    ) -> Result<(), Fault>
+    ) -> Result<WorldReply, Fault>
+        ensures reply { IfOk result (λ r. r ≡ reply_spec.met_reply side unit.old (slice_get self.old.line.link.downs place) may) }
         ensures gives { spec.GivesTurn (spec.unit_line unit.old self.old.line) (spec.unit_meets (spec.unit_line unit.old self.old.line) side place keep may) (room_spec.IsFullUp self.new.room) result (spec.unit_line unit.new self.new.line) }
         ensures room { room_spec.LineTakes result self.old.room self.new.room }
     {
@@ -30,17 +33,24 @@ impl SideLine {
             return Err(Fault::NotSent);
         }
         make_room(&mut self.ups, &mut self.accepted)?;
-        let signal = &self.downs[place];
+        let signal = self.downs[place].copy();
         let came = unit.take(side, signal.path, &signal.signal, may);
         if !keep {
             self.downs.remove(place);
         }
+        let answer = copy_up(&came.sent);
         tell(&mut self.ups, &mut self.accepted, &self.up, came.sent);
-        Ok(())
+        Ok(WorldReply::Down {
+            side,
+            signal,
+            taken: came.taken,
+            sent: answer,
+        })
     }
 
     /// The unit leaves the path of its program.
-    pub fn leave(&mut self, unit: &mut Unit) -> Result<(), Fault>
+    pub fn leave(&mut self, unit: &mut Unit, side: Side) -> Result<WorldReply, Fault>
+        ensures reply { IfOk result (λ r. r ≡ reply_spec.unit_reply side unit.old moving.Leaves) }
         ensures gives { spec.GivesTurn (spec.unit_line unit.old self.old.line) (spec.acts_for (spec.unit_line unit.old self.old.line) moving.Leaves) (room_spec.IsFullUp self.new.room) result (spec.unit_line unit.new self.new.line) }
         ensures room { room_spec.LineTakes result self.old.room self.new.room }
     {
@@ -49,13 +59,15 @@ impl SideLine {
         if sent.is_none() {
             return Err(Fault::NotNow);
         }
+        let reply = WorldReply::of_unit(side, &sent);
         tell(&mut self.ups, &mut self.accepted, &self.up, sent);
-        Ok(())
+        Ok(reply)
     }
 
     /// The unit asks for a path.
-    pub fn ask(&mut self, unit: &mut Unit, path: Path) -> Result<(), Fault>
+    pub fn ask(&mut self, unit: &mut Unit, side: Side, path: Path) -> Result<WorldReply, Fault>
         requires { words.last_connection unit.old.own < 2 ^ 63 }
+        ensures reply { IfOk result (λ r. r ≡ reply_spec.unit_reply side unit.old (moving.Asks path)) }
         ensures gives { spec.GivesTurn (spec.unit_line unit.old self.old.line) (spec.acts_for (spec.unit_line unit.old self.old.line) (moving.Asks path)) (room_spec.IsFullUp self.new.room) result (spec.unit_line unit.new self.new.line) }
         ensures room { room_spec.LineTakes result self.old.room self.new.room }
     {
@@ -64,13 +76,20 @@ impl SideLine {
         if sent.is_none() {
             return Err(Fault::NotNow);
         }
+        let reply = WorldReply::of_unit(side, &sent);
         tell(&mut self.ups, &mut self.accepted, &self.up, sent);
-        Ok(())
+        Ok(reply)
     }
 
     /// The unit asks this side for attention.
-    pub fn attention(&mut self, unit: &mut Unit, side: Side, path: Path) -> Result<(), Fault>
+    pub fn attention(
+        &mut self,
+        unit: &mut Unit,
+        side: Side,
+        path: Path,
+    ) -> Result<WorldReply, Fault>
         requires { unit.old.attentions < 2 ^ 63 }
+        ensures reply { IfOk result (λ r. r ≡ reply_spec.unit_reply side unit.old (moving.Attends side path)) }
         ensures gives { spec.GivesTurn (spec.unit_line unit.old self.old.line) (spec.acts_for (spec.unit_line unit.old self.old.line) (moving.Attends side path)) (room_spec.IsFullUp self.new.room) result (spec.unit_line unit.new self.new.line) }
         ensures room { room_spec.LineTakes result self.old.room self.new.room }
     {
@@ -79,12 +98,14 @@ impl SideLine {
         if sent.is_none() {
             return Err(Fault::NotNow);
         }
+        let reply = WorldReply::of_unit(side, &sent);
         tell(&mut self.ups, &mut self.accepted, &self.up, sent);
-        Ok(())
+        Ok(reply)
     }
 
     /// The unit tells this side how often it was restarted.
-    pub fn notice(&mut self, unit: &Unit, side: Side, path: Path) -> Result<(), Fault>
+    pub fn notice(&mut self, unit: &Unit, side: Side, path: Path) -> Result<WorldReply, Fault>
+        ensures reply { IfOk result (λ r. r ≡ reply_spec.unit_reply side unit.now (moving.Notices side path)) }
         ensures gives { spec.GivesTurn (spec.unit_line unit.now self.old.line) (spec.acts_for (spec.unit_line unit.now self.old.line) (moving.Notices side path)) (room_spec.IsFullUp self.new.room) result (spec.unit_line unit.now self.new.line) }
         ensures room { room_spec.LineTakes result self.old.room self.new.room }
     {
@@ -93,13 +114,20 @@ impl SideLine {
         if sent.is_none() {
             return Err(Fault::NotNow);
         }
+        let reply = WorldReply::of_unit(side, &sent);
         tell(&mut self.ups, &mut self.accepted, &self.up, sent);
-        Ok(())
+        Ok(reply)
     }
 
     /// The unit takes its device's answer.
-    pub fn report(&mut self, unit: &mut Unit, report: &Report) -> Result<(), Fault>
+    pub fn report(
+        &mut self,
+        unit: &mut Unit,
+        side: Side,
+        report: &Report,
+    ) -> Result<WorldReply, Fault>
         requires { words.last_sequence unit.old.at_hand < 2 ^ 63 }
+        ensures reply { IfOk result (λ r. r ≡ reply_spec.unit_reply side unit.old (moving.Reports report.now)) }
         ensures gives { spec.GivesTurn (spec.unit_line unit.old self.old.line) (spec.acts_for (spec.unit_line unit.old self.old.line) (moving.Reports report.now)) (room_spec.IsFullUp self.new.room) result (spec.unit_line unit.new self.new.line) }
         ensures room { room_spec.LineTakes result self.old.room self.new.room }
     {
@@ -108,7 +136,8 @@ impl SideLine {
         if !came.taken {
             return Err(Fault::NotNow);
         }
+        let reply = WorldReply::of_unit(side, &came.sent);
         tell(&mut self.ups, &mut self.accepted, &self.up, came.sent);
-        Ok(())
+        Ok(reply)
     }
 }

@@ -1,0 +1,89 @@
+-- A subchannel takes no signal that a side of a world would not take.
+use Rattle.std.proofs.Common.{◌≡◌, refl, ap, ℕ, ◌==◌, ◌&&◌, nat_lt, Bool, true, false, Option, None, Some}
+use Rattle.std.specs.Prelude.{if◌then◌else◌}
+use Rattle.storage_keys.specs.Storage.{Contents}
+use Rattle.chan_model.specs.declared.hold_state.HoldPhase.{HoldPhase}
+use Rattle.chan_model.specs.declared.hold_state.HoldPhase.TheVariants as hold
+use Rattle.chan_model.specs.declared.hold_state.HoldState.{HoldState}
+use Rattle.chan_model.specs.declared.signal.Up.{Up}
+use Rattle.chan_model.specs.declared.signal.Up.TheVariants as up
+use Rattle.chan_model.specs.HoldTable.{HoldStep, hold_quietly, program_begun, offer_accepted, asked_back, granting, refusing, reset_cleared, attended, came_of, hold_after, is_connected, is_on}
+use Rattle.subchannel_model.specs.Losing.{reset_for}
+use Rattle.subchannel_model.specs.declared.state.SubchannelState.{SubchannelState}
+use Rattle.subchannel_model.specs.declared.state.UpStep.{UpStep}
+use Rattle.subchannel_model.specs.declared.signals.EndSignal.{EndSignal}
+use Rattle.subchannel_model.specs.declared.signals.DataSignal.{DataSignal}
+use Rattle.subchannel_model.specs.Taking.{Met, meets, ignoring, quietly, accepted_by, move_data, end_of, reset_taken, goes_ahead, may_attend, takes_up}
+use Rattle.agree.specs.Replies.{is_taken}
+
+-- the first of two is what was done, where the second takes nothing
+if-step : (b : Bool) (x y : UpStep) → y.came.taken ≡ false → (if b then x else y).came.taken ≡ true → b ≡ true
+if-step true x y n e = cc
+if-step false x y n e = absurd (cc (n, e))
+
+if-met : (b : Bool) (x y : Met) → y.step.came.taken ≡ false → (if b then x else y).step.came.taken ≡ true → b ≡ true
+if-met true x y n e = cc
+if-met false x y n e = absurd (cc (n, e))
+
+with-true : (b : Bool) → b ≡ true → (b && true) ≡ true
+with-true b e = ap (λ (x : Bool). x && true) e
+
+-- what `may` says decides what is done, not whether
+begun-taken : (h : HoldState) (t p : ℕ) (b : Bool) (may : Bool) → (came_of (if b then Some (program_begun h t p may) else None)).taken ≡ true → (came_of (if b then Some (program_begun h t p true) else None)).taken ≡ true
+begun-taken h t p true may e = cc
+begun-taken h t p false may e = e
+
+accept-taken : (h : HoldState) (phase : HoldPhase) (t : ℕ) (may : Bool) → (came_of (offer_accepted h phase t may)).taken ≡ true → (came_of (offer_accepted h phase t true)).taken ≡ true
+accept-taken h (hold.Offer u q) t may e = begun-taken h u q (t == u) may e
+accept-taken h hold.Free t may e = e
+accept-taken h (hold.On u q c) t may e = e
+accept-taken h (hold.Away u) t may e = e
+accept-taken h (hold.Letting u q) t may e = e
+accept-taken h (hold.Reset r) t may e = e
+
+away-taken : (h : HoldState) (p t c : ℕ) (b may : Bool) → (came_of (if b then (if may then Some (granting h p t c) else Some (refusing h p t c)) else None)).taken ≡ true →
+    (came_of (if b then Some (granting h p t c) else None)).taken ≡ true
+away-taken h p t c true may e = cc
+away-taken h p t c false may e = e
+
+back-taken : (h : HoldState) (phase : HoldPhase) (p t c : ℕ) (may : Bool) → (came_of (asked_back h phase p t c may)).taken ≡ true → (came_of (asked_back h phase p t c true)).taken ≡ true
+back-taken h (hold.Away u) p t c may e = away-taken h p u c ((t == u) && nat_lt h.seen c) may e
+back-taken h (hold.On u q d) p t c may e = e
+back-taken h hold.Free p t c may e = e
+back-taken h (hold.Offer u q) p t c may e = e
+back-taken h (hold.Letting u q) p t c may e = e
+back-taken h (hold.Reset r) p t c may e = e
+
+attn-taken : (h : HoldState) (phase : HoldPhase) (p a : ℕ) (may : Bool) → (came_of (attended h phase p a may)).taken ≡ true → (came_of (attended h phase p a true)).taken ≡ true
+attn-taken h hold.Free p a may e = cc
+attn-taken h (hold.Offer u q) p a may e = e
+attn-taken h (hold.On u q d) p a may e = e
+attn-taken h (hold.Away u) p a may e = e
+attn-taken h (hold.Letting u q) p a may e = e
+attn-taken h (hold.Reset r) p a may e = e
+
+reset-taken : (s : SubchannelState) (step : Option HoldStep) → (reset_taken s step).came.taken ≡ true → (came_of step).taken ≡ true
+reset-taken s None e = e
+reset-taken s (Some step) e = e
+
+notice-taken : (h : HoldState) (b : ℕ) (more : Bool) → more ≡ true → (came_of (if more then Some (hold_quietly (record h { known = b })) else None)).taken ≡ true
+notice-taken h b true e = cc
+notice-taken h b false e = absurd (cc e)
+
+pub machine-takes : (returns : Bool) (storage : Contents) (s : SubchannelState) (p : ℕ) (x : Up) → (takes_up returns storage s p x).step.came.taken ≡ true → is_taken s.hold p x true ≡ true
+machine-takes returns storage s p (up.Accept t) e =
+    let step : Option HoldStep = offer_accepted s.hold s.hold.phase t (goes_ahead s) in
+    accept-taken s.hold s.hold.phase t (goes_ahead s) (if-step (came_of step).taken (accepted_by storage (record s { hold = hold_after s.hold step }) (hold_after s.hold step).phase (came_of step)) (ignoring s) refl e)
+machine-takes returns storage s p (up.Data t c n m load) e =
+    let signal : DataSignal = record { path = p; number = t; connection = c; command = n; sequence = m } in
+    with-true (is_connected s.hold.phase p t c) (if-met (is_connected s.hold.phase p t c) (move_data storage s s.begun signal load) (meets storage (ignoring s)) refl e)
+machine-takes returns storage s p (up.End t n status more) e =
+    let signal : EndSignal = record { path = p; number = t; command = n; status = status; more = more } in
+    with-true (is_on s.hold.phase t) (if-step (is_on s.hold.phase t) (end_of storage s s.begun signal) (ignoring s) refl e)
+machine-takes returns storage s p (up.Cleared r) e = reset-taken s (reset_cleared s.hold s.hold.phase r) e
+machine-takes returns storage s p (up.Back t c) e = back-taken s.hold s.hold.phase p t c returns e
+machine-takes returns storage s p (up.Notice b) e = notice-taken s.hold b (nat_lt s.hold.known b) (if-step (nat_lt s.hold.known b) (quietly (reset_for (record s { hold = record s.hold { known = b } }))) (ignoring s) refl e)
+machine-takes returns storage s p (up.Attn a status) e = attn-taken s.hold s.hold.phase p a (may_attend s) e
+machine-takes returns storage s p (up.Busy t) e = e
+machine-takes returns storage s p (up.Leave t c) e = e
+machine-takes returns storage s p (up.Released t) e = e

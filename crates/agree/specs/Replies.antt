@@ -1,0 +1,82 @@
+-- What is seen of each event that is accepted: which signal arrived, whether it was taken, and what was sent (own).
+use Rattle.std.specs.Prelude.{ℕ, Bool, ◌&&◌, Option, None, Some, slice_get}
+use Rattle.chan_model.specs.declared.hold_state.HoldPhase.{HoldPhase}
+use Rattle.chan_model.specs.declared.hold_state.HoldPhase.TheVariants.{Free, Reset}
+use Rattle.chan_model.specs.declared.hold_state.HoldState.{HoldState}
+use Rattle.chan_model.specs.declared.names.Side.{Side}
+use Rattle.chan_model.specs.declared.signal.OnPath.{OnPath}
+use Rattle.chan_model.specs.declared.signal.Taken.{Taken}
+use Rattle.chan_model.specs.declared.signal.Down.{Down}
+use Rattle.chan_model.specs.declared.signal.Up.{Up}
+use Rattle.chan_model.specs.declared.signal.Up.TheVariants as up
+use Rattle.chan_model.specs.declared.unit_state.Own.{Own}
+use Rattle.chan_model.specs.declared.unit_state.Own.TheVariants as own
+use Rattle.chan_model.specs.declared.unit_state.UnitState.{UnitState}
+use Rattle.chan_model.specs.HoldTable as hold_table
+use Rattle.chan_model.specs.UnitTable as unit_table
+use Rattle.agreement_laws.specs.Moving.{HoldAct, Nothing, Offers, Sends_reset, Lets_go, Takes, hold_acts, UnitAct, Takes_down, Leaves, Asks, Attends, Notices, Reports, unit_steps}
+use Rattle.agree.specs.declared.event.WorldEvent.{WorldEvent}
+use Rattle.agree.specs.declared.event.WorldEvent.TheVariants as event
+use Rattle.agree.specs.declared.reply.WorldReply.{WorldReply}
+use Rattle.agree.specs.declared.reply.WorldReply.TheVariants as reply
+use Rattle.agree.specs.State.{LineState, WorldState, line_of}
+
+abbrev pub told_down : Side → Option (OnPath Down) → WorldReply
+told_down side None = reply.Done
+told_down side (Some x) = reply.SentDown side x
+
+abbrev pub told_up : Side → Option (OnPath Up) → WorldReply
+told_up side None = reply.Done
+told_up side (Some x) = reply.SentUp side x
+
+-- Whether a signal that came by a path is taken. A Data is taken where its program is connected on that path by that connection, an
+-- End where its program is connected, by whatever path it came; and where the program waits for it, as `may` says. All else is
+-- taken as the table of the hold says.
+abbrev pub is_taken : HoldState → ℕ → Up → Bool → Bool
+is_taken h p (up.Data t c n s load) may = hold_table.is_connected h.phase p t c && may
+is_taken h p (up.End t n status more) may = hold_table.is_on h.phase t && may
+is_taken h p signal may = (hold_table.came_of (hold_table.hold_takes h p signal may)).taken
+
+-- what a side sends as it is chosen
+abbrev pub chosen_act : HoldPhase → ℕ → Bool → HoldAct
+chosen_act Free p single = Offers p single
+chosen_act (Reset r) p single = Sends_reset p
+chosen_act phase p single = Nothing
+
+abbrev pub hold_sends : LineState → HoldAct → Option (OnPath Down)
+hold_sends l act = (hold_acts l.link.drawn l.link.hold act).sent
+
+abbrev pub hold_reply : Side → LineState → HoldAct → WorldReply
+hold_reply side l act = told_down side (hold_sends l act)
+
+abbrev pub heard_reply : Side → LineState → Option (OnPath Up) → Bool → WorldReply
+heard_reply side l None may = reply.Done
+heard_reply side l (Some x) may = reply.Up side x (is_taken l.link.hold x.path x.signal may) (hold_sends l (Takes x may))
+
+abbrev pub unit_reply : Side → UnitState → UnitAct → WorldReply
+unit_reply side u act = told_up side (unit_table.came_of (unit_steps u act)).sent
+
+abbrev pub arrived_reply : Side → OnPath Down → Taken Up → WorldReply
+arrived_reply side x came = reply.Down side x came.taken came.sent
+
+abbrev pub met_reply : Side → UnitState → Option (OnPath Down) → Bool → WorldReply
+met_reply side u None may = reply.Done
+met_reply side u (Some x) may = arrived_reply side x (unit_table.came_of (unit_steps u (Takes_down side x may)))
+
+abbrev pub owner_reply : Own → UnitState → UnitAct → WorldReply
+owner_reply own.Idle u act = reply.Done
+owner_reply (own.Owned side t place) u act = unit_reply side u act
+
+-- of each event
+abbrev pub reply_of : WorldState → WorldEvent → WorldReply
+reply_of w (event.Choose side p single) = hold_reply side (line_of w side) (chosen_act (line_of w side).link.hold.phase p single)
+reply_of w (event.Down side place keep may) = met_reply side w.«unit» (slice_get (line_of w side).link.downs place) may
+reply_of w (event.Up side place keep may) = heard_reply side (line_of w side) (slice_get (line_of w side).link.ups place) may
+reply_of w (event.LetGo side) = hold_reply side (line_of w side) Lets_go
+reply_of w (event.Send side p signal) = reply.SentDown side (record { path = p; signal = signal })
+reply_of w event.Leave = owner_reply w.«unit».own w.«unit» Leaves
+reply_of w (event.Ask p) = owner_reply w.«unit».own w.«unit» (Asks p)
+reply_of w (event.Attention side p) = unit_reply side w.«unit» (Attends side p)
+reply_of w (event.Notice side p) = unit_reply side w.«unit» (Notices side p)
+reply_of w (event.Report report) = owner_reply w.«unit».own w.«unit» (Reports report)
+reply_of w e = reply.Done
