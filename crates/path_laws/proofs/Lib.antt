@@ -1,16 +1,16 @@
 mod Named
-mod PathSets
-mod Offering
-mod SameState
-mod Signals
+pub mod PathSets
+pub mod Offering
+pub mod SameState
+pub mod Signals
 mod Told
 mod Calm
-mod Meeting
+pub mod Meeting
 mod Units
-mod Moving
-mod Passing
-mod Sweeps
-mod Turning
+pub mod Moving
+pub mod Passing
+pub mod Sweeps
+pub mod Turning
 mod OneEngine
 mod Remembering
 mod Showing

@@ -1,0 +1,283 @@
+-- What each event leaves of the dedicated allegiance of a subchannel.
+use Rattle.std.proofs.Common.{◌≡◌, refl, sym, ◌∙◌, ℕ, ◌+◌, ◌==◌, ◌&&◌, nat_lt, Bool, true, false, not, Option, None, Some, Result, IfOk, if◌then◌else◌}
+use Rattle.std.proofs.lemmas.Bool.{and_parts}
+use Rattle.std.specs.Prelude.{is_some, ◌||◌}
+use Rattle.channel_program.specs.Walks.{WalkPlace}
+use Rattle.chan_model.specs.declared.fault.Fault.{Fault}
+use Rattle.chan_model.specs.declared.hold_state.HoldPhase.{HoldPhase}
+use Rattle.chan_model.specs.declared.hold_state.HoldPhase.TheVariants as hold
+use Rattle.chan_model.specs.declared.hold_state.HoldState.{HoldState}
+use Rattle.chan_model.specs.declared.signal.Down.TheVariants as down
+use Rattle.chan_model.specs.declared.signal.Load.{Load}
+use Rattle.chan_model.specs.declared.signal.Up.{Up}
+use Rattle.chan_model.specs.declared.signal.Up.TheVariants as up
+use Rattle.chan_model.specs.HoldTable.{HoldStep, program_begun, offer_accepted, hold_takes, came_of, is_connected, is_on}
+use Rattle.chan_model.specs.Loads.{load_length}
+use Rattle.chan_model.specs.UnitReports.{is_last_end, is_outward, has_device_end, has_unit_check}
+use Rattle.data_move.specs.Moving.{residual}
+use Rattle.storage_keys.specs.Storage.{Contents}
+use Rattle.transfer.specs.declared.Beginning.{Beginning}
+use Rattle.transfer.specs.declared.CommandStart.{CommandStart}
+use Rattle.transfer.specs.declared.CommandStart.TheVariants as came
+use Rattle.transfer.specs.Commands.{first_command, next_command, begun_with_room}
+use Rattle.transfer.specs.Chunks.{brought, is_answered}
+use Rattle.subchannel_model.specs.declared.cause.StatusCause.{StatusCause}
+use Rattle.subchannel_model.specs.declared.cause.StatusCause.TheVariants as cause
+use Rattle.subchannel_model.specs.declared.signals.DataSignal.{DataSignal}
+use Rattle.subchannel_model.specs.declared.signals.EndSignal.{EndSignal}
+use Rattle.subchannel_model.specs.declared.state.ActiveProgram.{ActiveProgram}
+use Rattle.subchannel_model.specs.declared.state.Chosen.{Chosen}
+use Rattle.subchannel_model.specs.declared.state.Chosen.TheVariants.{Idle, Resets, PerformsClear, Halts, PerformsHalt, FindsNoPath, Offers}
+use Rattle.subchannel_model.specs.declared.state.Program.{Program}
+use Rattle.subchannel_model.specs.declared.state.ProgramPosition.{ProgramPosition}
+use Rattle.subchannel_model.specs.declared.state.Subchannel.{Subchannel}
+use Rattle.subchannel_model.specs.declared.state.SubchannelState.{SubchannelState}
+use Rattle.subchannel_model.specs.declared.state.UpStep.{UpStep}
+use Rattle.subchannel_model.specs.Causes.{without_begun, without_waiting, programs_after_end, with_cause}
+use Rattle.subchannel_model.specs.Ends.{has_status_modifier, breaks_chain, chains_command, has_unit_exception, shows_length}
+use Rattle.subchannel_model.specs.Halt.{status_dropped, halt_begun, halted, drops_status}
+use Rattle.subchannel_model.specs.Losing.{is_offered_or_held, reset_with, reset_for, loses_at, shows_at}
+use Rattle.subchannel_model.specs.Parts.{suspended_alone, standing_still, chain_with, end_shown_at, has_any}
+use Rattle.subchannel_model.specs.Programs.{without_programs}
+use Rattle.subchannel_model.specs.Sending.{carried_by, finds_full}
+use Rattle.subchannel_model.specs.Test.{tested_wholly, ends_suspended, tested}
+use Rattle.subchannel_model.proofs.Named.{with_known, give_next, with_attention}
+use Rattle.subchannel_model.specs.Taking.{Met, meets, ignoring, quietly, let_go, by_hold, without_pci, interrupted, standing, goes_ahead, path_used, taking_over, suspending, beginning, begin_standing, halt_done, clear_done, accept, take_in, bytes_of_load, move_bytes, move_data, with_end, end_taken, dedicated_by_end, chaining, goes_on, stops_at, command_ended, end_of, reset_taken, may_attend, takes_up}
+use Rattle.machine_model.specs.ChooseSteps.{choose_sub}
+use Rattle.machine_model.specs.Turns.{SubTurn}
+use Rattle.chan_model.specs.ResetCauses.{rests_on}
+
+-- it stays
+abbrev pub IsStill : SubchannelState → SubchannelState → Type 0
+IsStill s x = x.dedicated ≡ s.dedicated
+
+if-still : (s : SubchannelState) (b : Bool) (x y : SubchannelState) → IsStill s x → IsStill s y → IsStill s (if b then x else y)
+if-still s true x y e f = e
+if-still s false x y e f = f
+
+after_end-still : (s : SubchannelState) (b : ActiveProgram) (last : Bool) → IsStill s (programs_after_end s b last)
+after_end-still s b true = refl
+after_end-still s b false = refl
+
+without_begun-still : (s : SubchannelState) (b : Option ActiveProgram) → IsStill s (without_begun b s)
+without_begun-still s None = refl
+without_begun-still s (Some b) = refl
+
+without_waiting-still : (s : SubchannelState) (w : Option Program) → IsStill s (without_waiting w s)
+without_waiting-still s None = refl
+without_waiting-still s (Some w) = refl
+
+pub cause-still : (s : SubchannelState) (c : StatusCause) → IsStill s (with_cause s c)
+cause-still s (cause.End b status more) = after_end-still s b (is_last_end status)
+cause-still s (cause.FetchFault tried check count) = without_begun-still s s.begun
+cause-still s cause.Attention = refl
+cause-still s cause.NoPath = without_waiting-still s s.waiting
+cause-still s cause.InterfaceControlCheck = refl
+cause-still s (cause.Pci tried count) = refl
+cause-still s (cause.Suspension tried count) = refl
+cause-still s cause.ClearDone = refl
+cause-still s cause.HaltDone = refl
+
+interrupted-still : (s : SubchannelState) (b : Option ActiveProgram) → IsStill s (interrupted s b)
+interrupted-still s None = refl
+interrupted-still s (Some b) =
+    if-still s b.transfer.pci_pending (with_cause (record s { begun = Some (without_pci b) }) (cause.Pci b.transfer.walk.tried (residual b.transfer.moving))) s refl refl
+
+suspending-still : (s : SubchannelState) (program : Program) (walk : WalkPlace) (count : ℕ) → IsStill s (suspending s program walk count)
+suspending-still s program walk count =
+    if-still s program.orb.suppress_suspended
+    (record (standing_still s program walk count) { scsw = suspended_alone s.scsw }) (with_cause (standing_still s program walk count) (cause.Suspension walk.tried count)) refl refl
+
+halt_done-still : (s : SubchannelState) → IsStill s (halt_done s)
+halt_done-still s = if-still s s.scsw.activity.halt_pending (with_cause s cause.HaltDone) s refl refl
+
+clear_done-still : (s : SubchannelState) → IsStill s (clear_done s)
+clear_done-still s = if-still s s.scsw.activity.clear_pending (with_cause s cause.ClearDone) s refl refl
+
+attention-still : (s : SubchannelState) (shows : Bool) → IsStill s (with_attention s shows)
+attention-still s shows = if-still s shows (with_cause s cause.Attention) s refl refl
+
+-- the instructions
+pub tested-still : (s : SubchannelState) → IsStill s (tested_wholly s)
+tested-still s = if-still s (ends_suspended s.scsw) (without_programs (tested s)) (tested s) refl refl
+
+pub halted-still : (s : SubchannelState) → IsStill s (halted s)
+halted-still s = if-still s (drops_status s.scsw) (status_dropped (halt_begun s)) (halt_begun s) refl refl
+
+-- a path that is lost
+reset-still : (s : SubchannelState) (shows : Bool) → IsStill s (reset_with s shows)
+reset-still s true = refl
+reset-still s false = refl
+
+reset_for-still : (s : SubchannelState) → IsStill s (reset_for s)
+reset_for-still s = reset-still s (is_offered_or_held s.hold.phase && has_any s.waiting s.begun s.suspended)
+
+pub loses-still : (sub : Subchannel) (o : Option ℕ) → IsStill sub.state (loses_at o sub).state
+loses-still sub None = refl
+loses-still sub (Some p) = if-still sub.state (rests_on sub.state.hold p) (reset_for sub.state) sub.state (reset_for-still sub.state) refl
+
+pub shows-still : (sub : Subchannel) (o : Option ℕ) (b : Bool) → IsStill sub.state (shows_at o b sub).state
+shows-still sub None b = refl
+shows-still sub (Some p) b = refl
+
+-- choosing
+if-ok : {A : Type 0} (P : A → Type 0) (b : Bool) (x y : Result A Fault) → IfOk x P → IfOk y P → IfOk (if b then x else y) P
+if-ok P true x y e f = e
+if-ok P false x y e f = f
+
+pub choose-still : (sub : Subchannel) (c : Chosen) → IfOk (choose_sub sub c) (λ t. IsStill sub.state t.sub.state)
+choose-still sub Idle = refl
+choose-still sub (Resets r path) =
+    if-ok (λ (t : SubTurn). IsStill sub.state t.sub.state) (finds_full sub.wires.down (carried_by sub (Some (record { path = path; signal = down.Reset r sub.state.hold.known })))) _ _ tt refl
+choose-still sub PerformsClear = cause-still sub.state cause.ClearDone
+choose-still sub (Halts t path) =
+    if-ok (λ (t : SubTurn). IsStill sub.state t.sub.state) (finds_full sub.wires.down (carried_by sub (Some (record { path = path; signal = down.Halt t })))) _ _ tt refl
+choose-still sub PerformsHalt = cause-still sub.state cause.HaltDone
+choose-still sub FindsNoPath = cause-still sub.state cause.NoPath
+choose-still sub (Offers c path) =
+    if-ok (λ (t : SubTurn). IsStill sub.state t.sub.state) (finds_full sub.wires.down (carried_by sub (Some (record { path = path; signal = down.Select (sub.state.drawn + 1) })))) _ _ tt refl
+
+-- a signal that came up: a Data that is taken may end it, and so may an End; an End with unit check brings one to its path
+abbrev pub IsByCheck : Bool → ℕ → Option ℕ → Type 0
+IsByCheck true p new = new ≡ Some p
+IsByCheck false p new = Unit {0}
+
+abbrev pub IsLeft : ℕ → Up → Bool → Option ℕ → Option ℕ → Type 0
+IsLeft p (up.Data t c n s load) true old new = Unit {0}
+IsLeft p (up.End t n status more) true old new = IsByCheck (has_unit_check status) p new
+IsLeft p x taken old new = new ≡ old
+
+abbrev Left : ℕ → Up → SubchannelState → UpStep → Type 0
+Left p x s step = IsLeft p x step.came.taken s.dedicated step.state.dedicated
+
+if-left : (p : ℕ) (x : Up) (s : SubchannelState) (b : Bool) (y z : UpStep) → (b ≡ true → Left p x s y) → Left p x s z → Left p x s (if b then y else z)
+if-left p x s true y z k l = k refl
+if-left p x s false y z k l = l
+
+if-met : (p : ℕ) (x : Up) (s : SubchannelState) (b : Bool) (y z : Met) → Left p x s y.step → Left p x s z.step → Left p x s (if b then y else z).step
+if-met p x s true y z k l = k
+if-met p x s false y z k l = l
+
+-- Accept
+beginning-left : (storage : Contents) (s : SubchannelState) (p t : ℕ) (st : ProgramPosition) (walk : WalkPlace) (r : CommandStart) → IsStill s (beginning storage s p t st walk r).state
+beginning-left storage s p t st walk (came.Begins transfer) =
+    let next : SubchannelState = taking_over s st.program (begun_with_room storage transfer).transfer in interrupted-still next next.begun
+beginning-left storage s p t st walk came.Suspends = suspending-still s st.program walk st.count
+beginning-left storage s p t st walk (came.Stops check) = cause-still s (cause.FetchFault walk.tried check st.count)
+
+standing-left : (storage : Contents) (s : SubchannelState) (p t : ℕ) (st : Option ProgramPosition) → IsStill s (begin_standing storage s p t st).state
+standing-left storage s p t None = refl
+standing-left storage s p t (Some st) = beginning-left storage s p t st (first_command storage st.walk).walk (first_command storage st.walk).came
+
+abbrev phased : SubchannelState → HoldState → HoldPhase → SubchannelState
+phased s h phase = record s { hold = record h { phase = phase } }
+
+begun-left : (storage : Contents) (s : SubchannelState) (h : HoldState) (t q : ℕ) (may same : Bool) →
+    IsStill s (accept storage (phased s h (hold.Offer t q)) (if same then Some (program_begun (record h { phase = hold.Offer t q }) t q may) else None)).state
+begun-left storage s h t q true true =
+    standing-left storage (record s { hold = record h { phase = hold.On t q 0; seen = 0; first_path = Some q }; pmcw = path_used s.pmcw q }) q t (standing s)
+begun-left storage s h t q false true = halt_done-still (record s { hold = record h { phase = hold.Letting t q; seen = 0; first_path = Some q }; pmcw = path_used s.pmcw q })
+begun-left storage s h t q may false = refl
+
+accept-left : (storage : Contents) (s : SubchannelState) (h : HoldState) (phase : HoldPhase) (u : ℕ) (may : Bool) →
+    IsStill s (accept storage (phased s h phase) (offer_accepted (record h { phase = phase }) phase u may)).state
+accept-left storage s h hold.Free u may = refl
+accept-left storage s h (hold.Offer t q) u may = begun-left storage s h t q may (u == t)
+accept-left storage s h (hold.On t q c) u may = refl
+accept-left storage s h (hold.Away t) u may = refl
+accept-left storage s h (hold.Letting t q) u may = refl
+accept-left storage s h (hold.Reset r) u may = refl
+
+-- Data
+data-left : (storage : Contents) (s : SubchannelState) (b : Option ActiveProgram) (p t c n q : ℕ) (load : Load) →
+    Left p (up.Data t c n q load) s (move_data storage s b (record { path = p; number = t; connection = c; command = n; sequence = q }) load).step
+data-left storage s None p t c n q load = refl
+data-left storage s (Some b) p t c n q load =
+    let signal : DataSignal = record { path = p; number = t; connection = c; command = n; sequence = q } in
+    if-met p (up.Data t c n q load) s (is_answered b.transfer n q) (move_bytes storage s b signal load) (meets storage (ignoring s))
+    (if-met p (up.Data t c n q load) s (is_outward b.transfer.code) (meets storage (give_next storage s b signal (load_length load)))
+    (take_in s b signal (brought storage b.transfer q (bytes_of_load load))) tt tt)
+    refl
+
+-- End
+abbrev end_up : EndSignal → Up
+end_up x = up.End x.number x.command x.status x.more
+
+by-check : (check : Bool) (p : ℕ) (old new : Option ℕ) → new ≡ (if check then Some p else old) → IsByCheck check p new
+by-check true p old new e = e
+by-check false p old new e = tt
+
+end-check : (s : SubchannelState) (x : EndSignal) → dedicated_by_end s.dedicated x ≡ (if has_unit_check x.status then Some x.path else None)
+end-check s x = refl
+
+ended-left : (s y : SubchannelState) (x : EndSignal) → y.dedicated ≡ dedicated_by_end s.dedicated x → IsByCheck (has_unit_check x.status) x.path y.dedicated
+ended-left s y x e = by-check (has_unit_check x.status) x.path None y.dedicated (e ∙ end-check s x)
+
+-- nothing is chained after unit check
+no-check : (a b c d : Bool) → (a && (b && (c && not d))) ≡ true → d ≡ false
+no-check a b c true e = absurd (cc (sym (and_parts c false (and_parts b (c && false) (and_parts a (b && (c && false)) e).1).1).1))
+no-check a b c false e = refl
+
+chained-check : (s : SubchannelState) (b : ActiveProgram) (x : EndSignal) → chains_command s.scsw b x.status x.more ≡ true → has_unit_check x.status ≡ false
+chained-check s b x e =
+    first-false (has_unit_check x.status) (has_unit_exception x.status || (shows_length s.scsw b x.status x.more || (is_some b.transfer.fault || s.scsw.functions.halt)))
+    (no-check b.transfer.moving.ccw.chain_command (not b.transfer.moving.ccw.chain_data) (not b.transfer.unchained) (breaks_chain s.scsw b x.status x.more) e)
+  where
+    first-false : (a b : Bool) → (a || b) ≡ false → a ≡ false
+    first-false true b e = e
+    first-false false b e = refl
+
+unchecked : (check : Bool) (p : ℕ) (new : Option ℕ) → check ≡ false → IsByCheck check p new
+unchecked true p new e = absurd (cc e)
+unchecked false p new e = tt
+
+chaining-left : (storage : Contents) (s : SubchannelState) (b : ActiveProgram) (x : EndSignal) (walk : WalkPlace) (r : CommandStart) → has_unit_check x.status ≡ false →
+    Left x.path (end_up x) s (chaining storage s b x walk r)
+chaining-left storage s b x walk (came.Begins transfer) e = unchecked (has_unit_check x.status) x.path _ e
+chaining-left storage s b x walk came.Suspends e = unchecked (has_unit_check x.status) x.path _ e
+chaining-left storage s b x walk (came.Stops check) e = unchecked (has_unit_check x.status) x.path _ e
+
+stops-left : (s : SubchannelState) (b : ActiveProgram) (x : EndSignal) → Left x.path (end_up x) s (stops_at s b x)
+stops-left s b x =
+    let y : SubchannelState = end_shown_at s b x in
+    if-left x.path (end_up x) s (is_last_end x.status) (let_go y) (quietly y) (λ e. ended-left s y x refl) (ended-left s y x refl)
+
+end-left : (storage : Contents) (s : SubchannelState) (b : Option ActiveProgram) (x : EndSignal) → Left x.path (end_up x) s (end_of storage s b x)
+end-left storage s None x = refl
+end-left storage s (Some b) x =
+    let next : Beginning = next_command storage (with_end b).transfer (has_status_modifier x.status) in
+    if-left x.path (end_up x) s (x.command == b.transfer.command) (command_ended storage s b x) (ignoring s)
+    (λ h.
+    if-left x.path (end_up x) s (chains_command s.scsw b x.status x.more) (goes_on storage s (with_end b) x) (stops_at s b x)
+    (λ e.
+    if-left x.path (end_up x) s (has_device_end x.status) (chain_with storage s (with_end b) x next) _ (λ f. chaining-left storage s (with_end b) x next.walk next.came (chained-check s b x e))
+    (ended-left s (record (end_taken s x) { begun = Some (with_end b) }) x refl))
+    (stops-left s b x))
+    refl
+
+-- the others
+reset-left : (s : SubchannelState) (step : Option HoldStep) → IsStill s (reset_taken s step).state
+reset-left s None = refl
+reset-left s (Some step) = clear_done-still (record s { hold = step.state })
+
+notice-left : (s : SubchannelState) (b : ℕ) (more : Bool) → IsStill s (if more then quietly (reset_for (with_known s b)) else ignoring s).state
+notice-left s b true = reset_for-still (with_known s b)
+notice-left s b false = refl
+
+pub takes-left : (returns : Bool) (storage : Contents) (s : SubchannelState) (p : ℕ) (x : Up) → Left p x s (takes_up returns storage s p x).step
+takes-left returns storage s p (up.Accept t) = accept-left storage s s.hold s.hold.phase t (goes_ahead s)
+takes-left returns storage s p (up.Busy t) = refl
+takes-left returns storage s p (up.Leave t c) = refl
+takes-left returns storage s p (up.Back t c) = refl
+takes-left returns storage s p (up.Data t c n q load) =
+    let signal : DataSignal = record { path = p; number = t; connection = c; command = n; sequence = q } in
+    if-met p (up.Data t c n q load) s (is_connected s.hold.phase p t c) (move_data storage s s.begun signal load) (meets storage (ignoring s)) (data-left storage s s.begun p t c n q load) refl
+takes-left returns storage s p (up.End t n status more) =
+    let x : EndSignal = record { path = p; number = t; command = n; status = status; more = more } in
+    if-left p (end_up x) s (is_on s.hold.phase t) (end_of storage s s.begun x) (ignoring s) (λ e. end-left storage s s.begun x) refl
+takes-left returns storage s p (up.Released t) = refl
+takes-left returns storage s p (up.Cleared r) = reset-left s (hold_takes s.hold p (up.Cleared r) false)
+takes-left returns storage s p (up.Notice b) = notice-left s b (nat_lt s.hold.known b)
+takes-left returns storage s p (up.Attn a status) =
+    let step : Option HoldStep = hold_takes s.hold p (up.Attn a status) (may_attend s) in
+    attention-still (by_hold s step).state ((came_of step).taken && not (status.0 == 0x20))

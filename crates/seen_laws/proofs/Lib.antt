@@ -1,0 +1,39 @@
+mod Lists
+pub mod Meets
+mod Ties
+mod UnitMoves
+mod UnitSends
+mod Bounds
+mod UnitBounds
+mod Calms
+mod Fits
+mod RunPaths
+pub mod Starts
+pub mod Overs
+pub mod OwnRuns
+mod Holdings
+mod HolderActs
+mod Sharers
+mod Ways
+mod WaySignals
+mod WayWires
+mod WayRuns
+mod MemberSteps
+pub mod UnitTurns
+pub mod HolderRuns
+mod Agrees
+mod LinkHolds
+mod LinkMeets
+mod LinkUnits
+mod LinkPaths
+mod LinkLosses
+mod LinkSubs
+mod LinkPassing
+mod LinkChoices
+mod LinkLists
+mod LinkRuns
+mod EngineRuns
+mod PathSteps
+mod PathReportRuns
+mod Dedicating
+mod DedicatedRuns

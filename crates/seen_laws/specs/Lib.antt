@@ -1,0 +1,10 @@
+pub mod ByItsPath
+pub mod BeginsItsOwn
+pub mod Devices
+pub mod OneHolder
+pub mod DevicePaths
+pub mod BothAgree
+pub mod Links
+pub mod Engines
+pub mod PathReports
+pub mod Dedicated
