@@ -184,6 +184,7 @@ module _ (laws : AreAccesses) where
   pub record IsStore (old new : Contents) (m : Moving) (bytes : List ℕ) : Type 0 where
     pub stands : (i place : ℕ) → slice_get (each_below (next_place m) (length bytes)) i ≡ Some (Some place) → slice_get new.bytes place ≡ slice_get bytes i
     pub others : (place : ℕ) → Contains (each_below (next_place m) (length bytes)) (Some place) ⊎ (slice_get new.bytes place ≡ slice_get old.bytes place)
+    pub alone : new ≡ record old { bytes = new.bytes }
 
   stored-by : (storage after : Contents) (key : ℕ) (m : Moving) (bytes : List ℕ) (b : Bool) → m.skipped ≡ b →
       (if b then Ok storage else checked (keys.stored_bytes storage key m.piece bytes)) ≡ Ok after → IsStore storage after m bytes
@@ -193,6 +194,7 @@ module _ (laws : AreAccesses) where
       (record {
         stands = λ i place h. let w : next_place m i ≡ Some place = (each-within (next_place m) (length bytes) i (Some place) h).1 in absurd (cc (sym (no-place m s i) ∙ w));
         others = λ place. inr refl;
+        alone = refl;
       })
   stored-by storage after key m bytes false s e =
       let got : keys.stored_bytes storage key m.piece bytes ≡ Ok after = was-checked (keys.stored_bytes storage key m.piece bytes) after e in
@@ -205,6 +207,7 @@ module _ (laws : AreAccesses) where
             let here : m.piece + i ≡ place = cc (sym (place-is m s i) ∙ w.1) in
             ap (λ (k : ℕ). slice_get (put_at storage m.piece bytes).bytes k) (sym here) ∙ put-stands storage m.piece bytes did.0 i w.0;
         others = λ place. put-others storage m bytes s did.0 place;
+        alone = refl;
       })
 
   pub stored-bytes : (storage after : Contents) (key : ℕ) (m : Moving) (bytes : List ℕ) → access.stored_or_skipped storage key m bytes ≡ Ok after → IsStore storage after m bytes

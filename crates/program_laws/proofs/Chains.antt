@@ -1,6 +1,6 @@
 -- What a subchannel does for its program with an End is what is seen of it.
 use Rattle.std.proofs.Common.{◌≡◌, refl, sym, ◌∙◌, ap, subst, arith, ℕ, ◌+◌, ◌<◌, ◌==◌, Bool, true, false, List, ◌∷◌, ◌++◌, Option, Some, None, inl, inr}
-use Rattle.std.specs.Prelude.{if◌then◌else◌, ◌||◌, not, is_none}
+use Rattle.std.specs.Prelude.{if◌then◌else◌, ◌&&◌, ◌||◌, not, is_none, is_some, length}
 use Rattle.std.proofs.lemmas.Bool.{eqb-true}
 use Rattle.scsw_irb.specs.declared.status.DeviceStatus.{DeviceStatus}
 use Rattle.storage_keys.specs.Storage.{Contents}
@@ -8,7 +8,8 @@ use Rattle.chan_model.specs.declared.signal.Up.TheVariants as up
 use Rattle.chan_model.specs.declared.hold_state.HoldPhase.{HoldPhase}
 use Rattle.chan_model.specs.declared.hold_state.HoldPhase.TheVariants as hold
 use Rattle.chan_model.specs.HoldTable.{is_on}
-use Rattle.chan_model.specs.UnitReports.{has_device_end, is_last_end}
+use Rattle.chan_model.specs.UnitReports.{has_device_end, has_unit_check, is_last_end}
+use Rattle.channel_program.specs.Programs.{latest, next}
 use Rattle.channel_program.specs.Acts.{Act, End}
 use Rattle.channel_program.specs.Walks.{WalkPlace}
 use Rattle.transfer.specs.declared.Beginning.{Beginning}
@@ -21,15 +22,23 @@ use Rattle.subchannel_model.specs.declared.state.ActiveProgram.{ActiveProgram}
 use Rattle.subchannel_model.specs.declared.state.SubchannelState.{SubchannelState}
 use Rattle.subchannel_model.specs.declared.state.UpStep.{UpStep}
 use Rattle.subchannel_model.specs.declared.status.Shown.{Shown}
-use Rattle.subchannel_model.specs.Ends.{has_status_modifier, breaks_chain, chains_command, end_shown}
+use Rattle.subchannel_model.specs.Ends.{has_status_modifier, has_unit_exception, is_unit_check_alone, is_channel_end_alone, shows_length, breaks_chain, chains_command, end_shown}
+use Rattle.scsw_irb.specs.declared.scsw.Scsw.{Scsw}
+use Rattle.orb_block.specs.declared.Orb.{Orb}
+use Rattle.ccw_codec.specs.declared.Ccw.{Ccw}
+use Rattle.channel_program.specs.declared.Latest.{Latest}
+use Rattle.data_move.specs.Moving.{residual}
 use Rattle.subchannel_model.specs.Status.{serials_made}
 use Rattle.subchannel_model.specs.Taking as taking
 use Rattle.subchannel_model.specs.Parts as taking_parts
 use Rattle.subchannel_model.specs.Taking.{let_go, with_end}
-use Rattle.program_laws.specs.Traces.{ProgramTrace}
+use Rattle.program_laws.specs.Traces.{CommandTrace, ProgramTrace}
 use Rattle.program_laws.specs.Shows.{IsCountBy}
-use Rattle.program_laws.specs.Tells.{IsChained, Chains, Meets}
-use Rattle.program_laws.proofs.Latest.{next-chains}
+use Rattle.program_laws.specs.Tells.{is_length_wrong, IsChained, Chains, Meets}
+use Rattle.program_laws.proofs.Latest.{IsLatest, latest-of, next-chains}
+use Rattle.program_laws.proofs.Used.{rest-none}
+use Rattle.program_laws.proofs.Ties.{spot-counts}
+use Rattle.program_laws.specs.DataAreas.{data_areas, counts}
 use Rattle.program_laws.proofs.MachineActs.{next_acts}
 use Rattle.program_laws.proofs.MachineTraces as stories
 use Rattle.program_laws.proofs.Accesses.{AreAccesses}
@@ -55,13 +64,43 @@ made-more false x e = absurd (cc e)
 
 module _ (laws : AreLaws) (accesses : AreAccesses) where
   -- the command chains, or not
-  is-chained : (s : SubchannelState) (b : ActiveProgram) (k : ProgramTrace) (status : DeviceStatus) (more x : Bool) → s.begun ≡ Some b → HasWork (Some b) k →
-      chains_command s.scsw b status more ≡ x → IsChained x s status more k
-  is-chained s b k status more x e w c = (
-    b,
-    e,
-    next-chains k.earlier k.orb k.now.acts k.now.moved b.transfer (has_status_modifier status) b.transfer.unchained (breaks_chain s.scsw b status more) w.0.tied ∙ c,
-  )
+  abbrev wrong-by : Orb → CommandTrace → Bool → DeviceStatus → Bool → Option Latest → Bool
+  wrong-by orb k halted status more last = elim last [ None ↦ false | Some x ↦ is_length_wrong orb k halted status more x.ccw ]
+
+  length-by : (scsw : Scsw) (b : ActiveProgram) (k : ProgramTrace) (status : DeviceStatus) (more : Bool) (last : Option Latest) → IsLatest last b.transfer.moving.ccw → HasWork (Some b) k →
+      shows_length scsw b status more ≡ wrong-by k.orb k.now scsw.functions.halt status more last
+  length-by scsw b k status more None l w = absurd l
+  length-by scsw b k status more (Some last) l w =
+      let t = b.transfer in
+      let h : Bool = scsw.functions.halt in
+      let all : counts (data_areas k.orb k.now.acts) ≡ length k.now.moved + residual t.moving =
+      spot-counts k.orb (data_areas k.orb k.now.acts) t k.now.moved w.0.tied.spot in
+      let whole : (residual t.moving == 0) ≡ (length k.now.moved == counts (data_areas k.orb k.now.acts)) =
+      sym (rest-none (counts (data_areas k.orb k.now.acts)) (length k.now.moved) (residual t.moving) (residual t.moving == 0) all refl) in
+      ap (λ (e : Bool). not e && ((not (residual t.moving == 0) || more) && (not (is_unit_check_alone status) && (not h
+      && (not (t.moving.ccw.suppress_length && not t.moving.ccw.chain_data)
+      && (not (is_channel_end_alone status) || (b.program.orb.format_one && not b.program.orb.suppress_length))))))) (sym w.3.4)
+      ∙ ap (λ (e : Bool). not k.now.ended && ((not e || more) && (not (is_unit_check_alone status) && (not h
+      && (not (t.moving.ccw.suppress_length && not t.moving.ccw.chain_data)
+      && (not (is_channel_end_alone status) || (b.program.orb.format_one && not b.program.orb.suppress_length))))))) whole
+      ∙ ap (λ (c : Ccw). not k.now.ended && ((not (length k.now.moved == counts (data_areas k.orb k.now.acts)) || more) && (not (is_unit_check_alone status) && (not h
+      && (not (c.suppress_length && not c.chain_data)
+      && (not (is_channel_end_alone status) || (b.program.orb.format_one && not b.program.orb.suppress_length))))))) (sym l)
+      ∙ ap (λ (o : Orb). not k.now.ended && ((not (length k.now.moved == counts (data_areas k.orb k.now.acts)) || more) && (not (is_unit_check_alone status) && (not h
+      && (not (last.ccw.suppress_length && not last.ccw.chain_data) && (not (is_channel_end_alone status) || (o.format_one && not o.suppress_length))))))) w.4
+
+  is-chained : (s : SubchannelState) (b : ActiveProgram) (k : ProgramTrace) (status : DeviceStatus) (more x : Bool) → HasWork (Some b) k →
+      chains_command s.scsw b status more ≡ x → IsChained x s.scsw.functions.halt status more k
+  is-chained s b k status more x w c =
+      let last : Option Latest = latest k.orb k.now.acts in
+      let h : Bool = s.scsw.functions.halt in
+      let n : Bool = is_some (next k.orb (End (record { goes_on = true; modifier = has_status_modifier status }) ∷ k.now.acts)) in
+      let wrong : Bool = wrong-by k.orb k.now h status more last in
+      ap (λ (u : Bool). n && not (u || (has_unit_check status || (has_unit_exception status || (wrong || (k.now.kept || h)))))) w.3.5
+      ∙ ap (λ (f : Bool). n && not (b.transfer.unchained || (has_unit_check status || (has_unit_exception status || (wrong || (f || h)))))) w.3.3
+      ∙ ap (λ (y : Bool). n && not (b.transfer.unchained || (has_unit_check status || (has_unit_exception status || (y || (is_some b.transfer.fault || h))))))
+      (sym (length-by s.scsw b k status more last (latest-of k.earlier k.orb k.now.acts k.now.moved b.transfer w.0.tied) w))
+      ∙ next-chains k.earlier k.orb k.now.acts k.now.moved b.transfer (has_status_modifier status) b.transfer.unchained (breaks_chain s.scsw b status more) w.0.tied ∙ c
 
   abbrev EndBy : Contents → SubchannelState → EndSignal → UpStep → ProgramTrace → ProgramTrace → Type 0
   EndBy storage s signal x k after =
@@ -73,7 +112,7 @@ module _ (laws : AreLaws) (accesses : AreAccesses) where
       has_device_end signal.status ≡ true → HasWork (Some b) k → signal.number ≡ k.number →
       let next : Beginning = next_command storage b.transfer (has_status_modifier signal.status) in
       let acts : List Act = next_acts storage b.transfer (has_status_modifier signal.status) in
-      Chains storage signal.status (taking_parts.chain_with storage s (with_end b) signal next).came.sent k (stories.trace_goes_on next.came acts k)
+      Chains storage signal.status (taking_parts.chain_with storage s (with_end b) signal next).came.sent k (stories.trace_goes_on storage next.came acts k)
   chains-on storage s b k signal c d w m =
       let modifier : Bool = has_status_modifier signal.status in
       let f = chains-facts laws accesses s.scsw b signal.status signal.more c in
@@ -93,43 +132,45 @@ module _ (laws : AreLaws) (accesses : AreAccesses) where
 
   -- none
   stops-meets : (storage : Contents) (s : SubchannelState) (b : ActiveProgram) (k : ProgramTrace) (signal : EndSignal) (shown : Shown) (last : Bool) →
-      IsChained false s signal.status signal.more k →
+      IsChained false s.scsw.functions.halt signal.status signal.more k → signal.number ≡ k.number → signal.command ≡ k.sent →
       let x : UpStep = if last then let_go (end-left laws accesses s b signal shown last) else taking.quietly (end-left laws accesses s b signal shown last) in
       let after : ProgramTrace = stories.ends_alone signal.status k in
       IsCountBy (is_none s.waiting || not (is_last_end signal.status)) s x.state after →
       Meets storage storage s x.state (up.End signal.number signal.command signal.status signal.more) x.came.taken x.came.sent k after
-  stops-meets storage s b k signal shown true c r = inl (c, refl, let_go-silent (end-left laws accesses s b signal shown true), made-more s.pmcw.enabled s.serials, r)
-  stops-meets storage s b k signal shown false c r = inl (c, refl, refl, made-more s.pmcw.enabled s.serials, r)
+  stops-meets storage s b k signal shown true c m n r = (m, n, refl, inl (c, refl, let_go-silent (end-left laws accesses s b signal shown true), made-more s.pmcw.enabled s.serials, r))
+  stops-meets storage s b k signal shown false c m n r = (m, n, refl, inl (c, refl, refl, made-more s.pmcw.enabled s.serials, r))
 
   goes-meets : (storage : Contents) (s : SubchannelState) (b : ActiveProgram) (k : ProgramTrace) (signal : EndSignal) (x y : Bool) → chains_command s.scsw b signal.status signal.more ≡ x →
-      has_device_end signal.status ≡ y → s.begun ≡ Some b → HasWork (Some b) k → signal.number ≡ k.number →
+      has_device_end signal.status ≡ y → s.begun ≡ Some b → HasWork (Some b) k → signal.number ≡ k.number → signal.command ≡ k.sent →
       EndBy storage s signal
       (if x then (if y then taking_parts.chain_with storage s (with_end b) signal (next_command storage (with_end b).transfer (has_status_modifier signal.status))
       else taking.quietly (record (taking.end_taken s signal) { begun = Some (with_end b) }))
       else taking.stops_at s b signal) k
-      (if x then (if y then stories.trace_goes_on (next_command storage b.transfer (has_status_modifier signal.status)).came (next_acts storage b.transfer (has_status_modifier signal.status)) k else k)
+      (if x then (if y then stories.trace_goes_on storage (next_command storage b.transfer (has_status_modifier signal.status)).came (next_acts storage b.transfer (has_status_modifier signal.status)) k else stories.with_ended k)
       else stories.ends_alone signal.status k)
-  goes-meets storage s b k signal true true c d e w m r =
+  goes-meets storage s b k signal true true c d e w m n r =
       let next : Beginning = next_command storage b.transfer (has_status_modifier signal.status) in
       let x : UpStep = taking_parts.chain_with storage s (with_end b) signal next in
-      let after : ProgramTrace = stories.trace_goes_on next.came (next_acts storage b.transfer (has_status_modifier signal.status)) k in
+      let after : ProgramTrace = stories.trace_goes_on storage next.came (next_acts storage b.transfer (has_status_modifier signal.status)) k in
       subst (λ (t : Bool). Meets storage storage s x.state (up.End signal.number signal.command signal.status signal.more) t x.came.sent k after)
-      (sym (chaining-taken storage s (with_end b) signal next.walk next.came)) (inr (is-chained s b k signal.status signal.more true e w c, chains-on storage s b k signal c d w m, next-shows laws accesses storage s b k signal c w r))
-  goes-meets storage s b k signal true false c d e w m r =
-      inr (is-chained s b k signal.status signal.more true e w c, inr (d, refl, refl), unmade s.serials.made (record (taking.end_taken s signal) { begun = Some (with_end b) }) k refl)
-  goes-meets storage s b k signal false y c d e w m r =
-      stops-meets storage s b k signal (end_shown s b signal.status signal.more) (is_last_end signal.status) (is-chained s b k signal.status signal.more false e w c)
+      (sym (chaining-taken storage s (with_end b) signal next.walk next.came)) (m, n, refl, inr (is-chained s b k signal.status signal.more true w c, chains-on storage s b k signal c d w m, next-shows laws accesses storage s b k signal c w r))
+  goes-meets storage s b k signal true false c d e w m n r =
+      (m, n, refl, inr (is-chained s b k signal.status signal.more true w c, inr (d, refl, refl), unmade s.serials.made (record (taking.end_taken s signal) { begun = Some (with_end b) }) (stories.with_ended k) refl))
+  goes-meets storage s b k signal false y c d e w m n r =
+      stops-meets storage s b k signal (end_shown s b signal.status signal.more) (is_last_end signal.status) (is-chained s b k signal.status signal.more false w c) m n
       (stops-shows laws accesses s b k signal w)
 
-  command-meets : (storage : Contents) (s : SubchannelState) (b : ActiveProgram) (k : ProgramTrace) (signal : EndSignal) (x : Bool) → s.begun ≡ Some b → HasWork (Some b) k → signal.number ≡ k.number →
+  command-meets : (storage : Contents) (s : SubchannelState) (b : ActiveProgram) (k : ProgramTrace) (signal : EndSignal) (x : Bool) → (signal.command == b.transfer.command) ≡ x → s.begun ≡ Some b → HasWork (Some b) k → signal.number ≡ k.number →
       EndBy storage s signal (if x then taking.command_ended storage s b signal else taking.ignoring s) k (if x then stories.chains storage s b signal.status signal.more k else k)
-  command-meets storage s b k signal true e w m r = goes-meets storage s b k signal (chains_command s.scsw b signal.status signal.more) (has_device_end signal.status) refl refl e w m r
-  command-meets storage s b k signal false e w m r = (refl, none-counted s s k refl)
+  command-meets storage s b k signal true i e w m r =
+      goes-meets storage s b k signal (chains_command s.scsw b signal.status signal.more) (has_device_end signal.status) refl refl e w m
+      (eqb-true signal.command b.transfer.command i ∙ w.1) r
+  command-meets storage s b k signal false i e w m r = (refl, refl, none-counted s s k refl)
 
   work-ends : (storage : Contents) (s : SubchannelState) (b : Option ActiveProgram) (k : ProgramTrace) (signal : EndSignal) → s.begun ≡ b → HasWork b k → signal.number ≡ k.number →
       EndBy storage s signal (taking.end_of storage s b signal) k (stories.trace_ends storage s b signal.command signal.status signal.more k)
-  work-ends storage s None k signal e w m r = (refl, none-counted s s k refl)
-  work-ends storage s (Some b) k signal e w m r = command-meets storage s b k signal (signal.command == b.transfer.command) e w m r
+  work-ends storage s None k signal e w m r = (refl, refl, none-counted s s k refl)
+  work-ends storage s (Some b) k signal e w m r = command-meets storage s b k signal (signal.command == b.transfer.command) refl e w m r
 
   -- the program is connected under its number
   on-number : (phase : HoldPhase) (u n sent : ℕ) (b : Option ActiveProgram) → is_on phase u ≡ true → IsPhase phase n b sent → u ≡ n
@@ -144,7 +185,7 @@ module _ (laws : AreLaws) (accesses : AreAccesses) where
       EndBy storage s signal (if x then taking.end_of storage s s.begun signal else taking.ignoring s) k
       (if x then stories.trace_ends storage s s.begun signal.command signal.status signal.more k else k)
   end-by storage s k signal true e h r = work-ends storage s s.begun k signal refl h.work (on-number s.hold.phase signal.number k.number k.sent s.begun e h.phase) r
-  end-by storage s k signal false e h r = (refl, none-counted s s k refl)
+  end-by storage s k signal false e h r = (refl, refl, none-counted s s k refl)
 
   pub end-meets : (storage : Contents) (s : SubchannelState) (k : ProgramTrace) (signal : EndSignal) (x : Bool) → is_on s.hold.phase signal.number ≡ x → IsHeld s k →
       let met : UpStep = if x then taking.end_of storage s s.begun signal else taking.ignoring s in

@@ -104,13 +104,13 @@ module _ (accesses : AreAccesses) where
       copy-if storage u (with_acts (trace_answered storage t s count p) (located_acts storage a)) (has_stopped u) (answer-if storage t s count p (s == t.sequence + 1) c)
 
   -- the story
-  goes-copied : (c : CommandStart) (acts : List Act) (k : ProgramTrace) → AreCopied k → AreCopied (stories.trace_goes_on c acts k)
-  goes-copied (came.Begins t) acts k c = (All-nil IsCopied, c.0)
-  goes-copied came.Suspends acts k c = c
-  goes-copied (came.Stops check) acts k c = c
+  goes-copied : (storage : Contents) (c : CommandStart) (acts : List Act) (k : ProgramTrace) → AreCopied k → AreCopied (stories.trace_goes_on storage c acts k)
+  goes-copied storage (came.Begins t) acts k c = (All-nil IsCopied, c.0)
+  goes-copied storage came.Suspends acts k c = c
+  goes-copied storage (came.Stops check) acts k c = c
 
   begins-copied : (storage : Contents) (walk : WalkPlace) (k : ProgramTrace) → AreCopied k → AreCopied (stories.trace_begins storage walk k)
-  begins-copied storage walk k c = goes-copied (first_command storage walk).came (first_acts storage walk) k c
+  begins-copied storage walk k c = goes-copied storage (first_command storage walk).came (first_acts storage walk) k c
 
   again-if : (storage : Contents) (st : ProgramPosition) (k : ProgramTrace) (b : Bool) → AreCopied k → AreCopied (if b then stories.begins_again storage st k else k)
   again-if storage st k true c = begins-copied storage st.walk (record k { earlier = length (commands k.orb k.now.acts); now = past_part k.now }) (All-nil IsCopied, c.1)
@@ -163,9 +163,9 @@ module _ (accesses : AreAccesses) where
   data-if storage s n seq load k false c = c
 
   chains-if : (storage : Contents) (b : ActiveProgram) (status : DeviceStatus) (k : ProgramTrace) (x y : Bool) → AreCopied k →
-      AreCopied (if x then (if y then stories.trace_goes_on (next_command storage b.transfer (has_status_modifier status)).came (next_acts storage b.transfer (has_status_modifier status)) k else k)
+      AreCopied (if x then (if y then stories.trace_goes_on storage (next_command storage b.transfer (has_status_modifier status)).came (next_acts storage b.transfer (has_status_modifier status)) k else stories.with_ended k)
       else stories.ends_alone status k)
-  chains-if storage b status k true true c = goes-copied (next_command storage b.transfer (has_status_modifier status)).came (next_acts storage b.transfer (has_status_modifier status)) k c
+  chains-if storage b status k true true c = goes-copied storage (next_command storage b.transfer (has_status_modifier status)).came (next_acts storage b.transfer (has_status_modifier status)) k c
   chains-if storage b status k true false c = c
   chains-if storage b status k false y c = c
 

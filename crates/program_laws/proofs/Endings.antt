@@ -1,5 +1,5 @@
 -- A command to which none is chained ends: what is kept of its program agrees with the longer story.
-use Rattle.std.proofs.Common.{◌≡◌, refl, ap, sym, ◌∙◌, subst, ℕ, Bool, true, false, List, ◌∷◌, Option, Some, None}
+use Rattle.std.proofs.Common.{◌≡◌, refl, ap, sym, ◌∙◌, ℕ, Bool, true, false, List, ◌∷◌, Option, Some, None}
 use Rattle.orb_block.specs.declared.Orb.{Orb}
 use Rattle.scsw_irb.specs.declared.status.DeviceStatus.{DeviceStatus}
 use Rattle.channel_program.specs.declared.Latest.{Latest}
@@ -7,14 +7,11 @@ use Rattle.channel_program.specs.Acts.{Act, End}
 use Rattle.channel_program.specs.Programs.{role_of, latest, next_ended, tried}
 use Rattle.channel_program.specs.Walks.{WalkPlace}
 use Rattle.transfer.specs.declared.Transfer.{Transfer}
-use Rattle.subchannel_model.specs.declared.state.ActiveProgram.{ActiveProgram}
-use Rattle.subchannel_model.specs.declared.state.SubchannelState.{SubchannelState}
 use Rattle.subchannel_model.specs.Ends.{has_status_modifier}
 use Rattle.program_laws.specs.Traces.{ProgramTrace}
-use Rattle.program_laws.proofs.MachineTraces.{ends_alone}
+use Rattle.program_laws.proofs.MachineTraces.{ends_alone, with_ended}
 use Rattle.program_laws.proofs.Ties.{Tied}
 use Rattle.program_laws.proofs.Parts.{IsAtWork, HasArrived}
-use Rattle.program_laws.proofs.Holds.{HasWork, IsHeld, none-stands, standing-some}
 
 -- no block is next then
 ended-next : (last : Option Latest) (modifier : Bool) → next_ended last (record { goes_on = false; modifier = modifier }) ≡ None
@@ -35,6 +32,8 @@ ended-tied earlier orb acts ps t modifier k = record {
   kind = k.kind;
   spot = k.spot;
   number = k.number;
+  ends = k.ends;
+  checked = k.checked;
 }
 
 arrived-ended : (k : ProgramTrace) (status : DeviceStatus) (t : Transfer) (d : Bool) → HasArrived k.now t.fault t.sequence d →
@@ -49,11 +48,10 @@ ended-work k status t d w = record {
   arrived = arrived-ended k status t d w.arrived;
 }
 
-pub ended-held : (s : SubchannelState) (b : ActiveProgram) (k : ProgramTrace) (status : DeviceStatus) → s.begun ≡ Some b → HasWork (Some b) k → IsHeld s k → IsHeld s (ends_alone status k)
-ended-held s b k status e w h = record {
-  number = h.number;
-  phase = h.phase;
-  drawn = h.drawn;
-  work = subst (λ (x : Option ActiveProgram). HasWork x (ends_alone status k)) (sym e) (ended-work k status b.transfer _ w.0, w.1, w.2);
-  standing = none-stands s.waiting s.begun s.suspended (ends_alone status k) (standing-some s.waiting s.begun b s.suspended k e h.standing);
-}
+-- an End came, and the command goes on
+arrived-with : (k : ProgramTrace) (t : Transfer) (d : Bool) → HasArrived k.now t.fault t.sequence d → HasArrived (with_ended k).now t.fault t.sequence d
+arrived-with k t true a = a
+arrived-with k t false a = a
+
+pub with_ended-work : (k : ProgramTrace) (t : Transfer) (d : Bool) → IsAtWork k.earlier k.orb k.now t d → IsAtWork k.earlier k.orb (with_ended k).now t d
+with_ended-work k t d w = record { tied = w.tied; arrived = arrived-with k t d w.arrived }

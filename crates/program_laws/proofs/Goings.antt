@@ -1,5 +1,5 @@
 -- A program goes on by the command that is sent, or none is sent and none comes to it.
-use Rattle.std.proofs.Common.{◌≡◌, refl, sym, ◌∙◌, ap, subst, arith, ℕ, ◌+◌, List, [], ◌∷◌, ◌++◌, length, map, Option, Some, None, length-append}
+use Rattle.std.proofs.Common.{◌≡◌, refl, sym, ◌∙◌, ap, subst, arith, ℕ, ◌+◌, List, [], ◌∷◌, ◌++◌, length, map, is_some, Option, Some, None, length-append}
 use Rattle.std.proofs.lemmas.List.{length-map}
 use Rattle.orb_block.specs.declared.Orb.{Orb}
 use Rattle.storage_keys.specs.Storage.{Contents}
@@ -27,6 +27,7 @@ use Rattle.subchannel_model.specs.Taking as taking
 use Rattle.subchannel_model.specs.Taking.{let_go}
 use Rattle.program_laws.specs.Traces.{ProgramTrace}
 use Rattle.program_laws.specs.Tells.{SentCommand, command_sent, GoesTo}
+use Rattle.program_laws.specs.Reached.{BeginsData}
 use Rattle.program_laws.proofs.MachineActs.{with_acts}
 use Rattle.program_laws.proofs.MachineTraces as stories
 use Rattle.program_laws.proofs.Ties.{AreLaws}
@@ -60,46 +61,49 @@ same-codes orb more before l =
     (length-map (commands orb (more ++ before)) code ∙ l ∙ sym (length-map (commands orb before) code))
 
 -- none is sent
-pub unsent-goes : (sent : Option (OnPath Down)) (acts before : List Act) (k : ProgramTrace) → command_sent sent ≡ None → commands k.orb (acts ++ k.now.acts) ≡ commands k.orb before →
-    commands k.orb before ≡ commands k.orb k.now.acts → GoesTo (command_sent sent) (acts ++ k.now.acts) k (record k { now = with_acts k.now acts })
-unsent-goes sent acts before k e f g =
-    subst (λ (c : Option SentCommand). GoesTo c (acts ++ k.now.acts) k (record k { now = with_acts k.now acts })) (sym e) (ap (λ (cs : List Command). map code cs) (f ∙ g), refl)
+pub unsent-goes : (storage : Contents) (sent : Option (OnPath Down)) (acts before : List Act) (k : ProgramTrace) → command_sent sent ≡ None → commands k.orb (acts ++ k.now.acts) ≡ commands k.orb before →
+    commands k.orb before ≡ commands k.orb k.now.acts → GoesTo storage (command_sent sent) (acts ++ k.now.acts) k (record k { now = with_acts k.now acts })
+unsent-goes storage sent acts before k e f g =
+    subst (λ (c : Option SentCommand). GoesTo storage c (acts ++ k.now.acts) k (record k { now = with_acts k.now acts })) (sym e) (ap (λ (cs : List Command). map code cs) (f ∙ g), refl)
 
 module _ (laws : AreLaws) where
   -- the next is sent
   sent-goes : (storage : Contents) (acts before : List Act) (n t : ℕ) (walk : WalkPlace) (transfer : Transfer) (k : ProgramTrace) →
       WentOn k.earlier laws storage k.orb before (acts ++ k.now.acts) n walk (came.Begins transfer) → commands k.orb before ≡ commands k.orb k.now.acts → t ≡ k.number → n ≡ k.sent + 1 →
-      GoesTo (Some (record { number = t; command = (begun_with_room storage transfer).transfer.command; sent_code = (begun_with_room storage transfer).transfer.code }))
-      (acts ++ k.now.acts) k (stories.trace_goes_on (came.Begins transfer) acts k)
+      GoesTo storage (Some (record { number = t; command = (begun_with_room storage transfer).transfer.command; sent_code = (begun_with_room storage transfer).transfer.code; room = (begun_with_room storage transfer).room }))
+      (acts ++ k.now.acts) k (stories.trace_goes_on storage (came.Begins transfer) acts k)
   sent-goes storage acts before n t walk transfer k w e f g =
       let c : ℕ = (begun_with_room storage transfer).transfer.code in
       let same : code w.2.0 ≡ c = w.2.2 ∙ sym (room-same storage transfer).0 in (
         f,
         (room-same storage transfer).1 ∙ w.1 ∙ g,
         ap (λ (cs : List Command). map code cs) w.2.1 ∙ ap (λ (x : ℕ). x ∷ map code (commands k.orb before)) same ∙ ap (λ (cs : List Command). c ∷ map code cs) e,
+        is_some (begun_with_room storage transfer).transfer.fault,
+        subst (λ (y : ℕ). BeginsData storage k.orb y (begun_with_room storage transfer).room (is_some (begun_with_room storage transfer).transfer.fault) (acts ++ k.now.acts))
+            (sym (room-same storage transfer).0) w.3,
         refl,
       )
 
   -- at an Accept
   pub begins-goes : (storage : Contents) (s : SubchannelState) (p t : ℕ) (st : ProgramPosition) (walk : WalkPlace) (k : ProgramTrace) (c : CommandStart) (acts : List Act) (n : ℕ) →
       WentOn k.earlier laws storage k.orb k.now.acts (acts ++ k.now.acts) n walk c → t ≡ k.number → n ≡ k.sent + 1 →
-      GoesTo (command_sent (taking.beginning storage s p t st walk c).came.sent) (acts ++ k.now.acts) k (stories.trace_goes_on c acts k)
+      GoesTo storage (command_sent (taking.beginning storage s p t st walk c).came.sent) (acts ++ k.now.acts) k (stories.trace_goes_on storage c acts k)
   begins-goes storage s p t st walk k (came.Begins transfer) acts n w f g = sent-goes storage acts k.now.acts n t walk transfer k w refl f g
   begins-goes storage s p t st walk k came.Suspends acts n w f g =
       let x : SubchannelState = taking.suspending s st.program walk st.count in
-      unsent-goes (let_go x).came.sent acts k.now.acts k (let_go-silent x) w.2 refl
+      unsent-goes storage (let_go x).came.sent acts k.now.acts k (let_go-silent x) w.2 refl
   begins-goes storage s p t st walk k (came.Stops check) acts n w f g =
       let x : SubchannelState = with_cause s (cause.FetchFault walk.tried check st.count) in
-      unsent-goes (let_go x).came.sent acts k.now.acts k (let_go-silent x) w.2 refl
+      unsent-goes storage (let_go x).came.sent acts k.now.acts k (let_go-silent x) w.2 refl
 
   -- and at an End
   pub chains-goes : (storage : Contents) (s : SubchannelState) (b : ActiveProgram) (signal : EndSignal) (walk : WalkPlace) (k : ProgramTrace) (c : CommandStart) (acts before : List Act) (n : ℕ) →
       WentOn k.earlier laws storage k.orb before (acts ++ k.now.acts) n walk c → commands k.orb before ≡ commands k.orb k.now.acts → signal.number ≡ k.number → n ≡ k.sent + 1 →
-      GoesTo (command_sent (taking.chaining storage s b signal walk c).came.sent) (acts ++ k.now.acts) k (stories.trace_goes_on c acts k)
+      GoesTo storage (command_sent (taking.chaining storage s b signal walk c).came.sent) (acts ++ k.now.acts) k (stories.trace_goes_on storage c acts k)
   chains-goes storage s b signal walk k (came.Begins transfer) acts before n w e f g = sent-goes storage acts before n signal.number walk transfer k w e f g
   chains-goes storage s b signal walk k came.Suspends acts before n w e f g =
       let x : SubchannelState = taking.suspending (taking.end_taken s signal) b.program walk (residual b.transfer.moving) in
-      unsent-goes (let_go x).came.sent acts before k (let_go-silent x) w.2 e
+      unsent-goes storage (let_go x).came.sent acts before k (let_go-silent x) w.2 e
   chains-goes storage s b signal walk k (came.Stops check) acts before n w e f g =
       let x : SubchannelState = with_cause (taking.end_taken s signal) (cause.FetchFault walk.tried check (residual b.transfer.moving)) in
-      unsent-goes (let_go x).came.sent acts before k (let_go-silent x) w.2 e
+      unsent-goes storage (let_go x).came.sent acts before k (let_go-silent x) w.2 e

@@ -53,25 +53,27 @@ use Rattle.program_laws.proofs.MachineActs.{with_acts, goes_acts, first_acts, ne
 use Rattle.program_laws.proofs.MachineTraces as stories
 use Rattle.program_laws.specs.Traces.{ProgramTrace, past_part}
 use Rattle.program_laws.proofs.MachineTraces.{trace_meets}
-use Rattle.program_laws.specs.Claims.{IsBeginning, places_of, places_arrived}
+use Rattle.program_laws.specs.Claims.{IsBeginning, places_of, places_arrived, IsSuspended, EndsAtCheck}
 use Rattle.program_laws.specs.DataAreas.{data_areas, counts}
 use Rattle.program_laws.proofs.Named.{IsRest, IsWhole}
 use Rattle.program_laws.proofs.Accesses.{AreAccesses}
 use Rattle.program_laws.proofs.Ties.{AreLaws, Tied, changed, spot-counts}
 use Rattle.program_laws.proofs.Parts.{IsDone, IsAtWork, HasArrived, done-of, arrived-none, gives-work, takes_in-work, WentOn, goes-on, IsSame, absorbed-same, next_given-same, located-same, brought-same, room-same}
 use Rattle.subchannel_model.specs.Losing.{is_offered_or_held, reset_with, reset_for}
-use Rattle.program_laws.proofs.Holds.{IsPhase, IsDrawn, HasWork, IsStanding, IsHeld, IsHold, done-held, phase-some, phase-none, busy-phase, left-phase, back-phase, released-phase, attended-phase, by_hold-held, back-held, attention-held, let_go-held, standing-some, none-stands, halt_done-held, reset_taken-held, nothing-done, past-done}
-use Rattle.program_laws.proofs.Endings.{ended-held, ended-work}
+use Rattle.program_laws.proofs.Holds.{IsPhase, IsDrawn, fresh-marked, IsMarked, HasWork, IsStanding, IsHeld, IsHold, done-held, phase-some, phase-none, busy-phase, left-phase, back-phase, released-phase, attended-phase, by_hold-held, back-held, attention-held, let_go-held, standing-some, none-stands, halt_done-held, reset_taken-held, nothing-done, past-done}
+use Rattle.program_laws.proofs.Endings.{ended-work, with_ended-work}
+use Rattle.program_laws.proofs.Standing.{suspended-unchecked}
 
 module _ (laws : AreLaws) (accesses : AreAccesses) where
   -- the program is over or suspended, where a command can't begin
   over-done : (orb : Orb) (before acts : List Act) (p : CommandTrace) → IsProgram orb acts → data_areas orb acts ≡ data_areas orb before → data_areas orb before ≡ data_areas orb p.acts →
-      IsWhole orb acts → IsDone orb p → IsDone orb (record p { acts = acts })
-  over-done orb before acts p w f e o d =
+      IsWhole orb acts → EndsAtCheck orb acts → IsDone orb p → IsDone orb (record p { acts = acts })
+  over-done orb before acts p w f e o en d =
       let same : places_of orb acts ≡ places_of orb p.acts = ap (places_of_bytes (block (kind_of orb))) (f ∙ e) in
       record {
         program = w;
         whole = o;
+        ends = en;
         moves = subst (λ (xs : List (Option ℕ)). IsBeginning p.moved xs) (sym same) d.moves;
         arrived = d.arrived;
         arrives = subst (λ (xs : List (Option ℕ)). IsBeginning (places_arrived p.arrived) xs) (sym same) d.arrives;
@@ -91,6 +93,8 @@ module _ (laws : AreLaws) (accesses : AreAccesses) where
           record { tied = changed k.earlier k.orb k.now.acts k.now.moved b.transfer t refl refl refl refl (λ y. y) (λ y. y) w.0.tied; arrived = w.0.arrived },
           w.1,
           w.2,
+          w.3,
+          w.4,
         );
         standing = none-stands s.waiting (Some (without_pci b)) s.suspended k (standing-some s.waiting s.begun b s.suspended k e h.standing);
       }
@@ -103,15 +107,15 @@ module _ (laws : AreLaws) (accesses : AreAccesses) where
   -- the program is suspended, or over as a command can't begin
   suspends-held : (s : SubchannelState) (program : Program) (walk : WalkPlace) (count : ℕ) (k : ProgramTrace) → k.number ≤ s.drawn →
       IsHold s.drawn k.number s.begun k.sent s.hold.phase → IsDone k.orb k.now → walk ≡ walk_place k.orb k.now.acts → (role_of k.orb k.now.acts).chained ≡ false → IsRest count k →
-      IsHeld (let_go (suspending s program walk count)).state k
-  suspends-held s program walk count k n p d w c r = by program.orb.suppress_suspended
+      IsSuspended k.orb k.now.acts → program.orb ≡ k.orb → IsHeld (let_go (suspending s program walk count)).state k
+  suspends-held s program walk count k n p d w c r su o = by program.orb.suppress_suspended
     where
       by : (x : Bool) → IsHeld (let_go (if x then record (standing_still s program walk count) { scsw = suspended_alone s.scsw }
           else with_cause (standing_still s program walk count) (cause.Suspension walk.tried count))).state k
       by true =
-          let_go-held (record (standing_still s program walk count) { scsw = suspended_alone s.scsw }) k n (phase-none s.hold.phase k.number s.begun k.sent p.0, p.1) refl d (refl, refl, w, c, r)
+          let_go-held (record (standing_still s program walk count) { scsw = suspended_alone s.scsw }) k n (phase-none s.hold.phase k.number s.begun k.sent p.0, p.1) refl d (refl, refl, w, c, r, su, o)
       by false =
-          let_go-held (with_cause (standing_still s program walk count) (cause.Suspension walk.tried count)) k n (phase-none s.hold.phase k.number s.begun k.sent p.0, p.1) refl d (refl, refl, w, c, r)
+          let_go-held (with_cause (standing_still s program walk count) (cause.Suspension walk.tried count)) k n (phase-none s.hold.phase k.number s.begun k.sent p.0, p.1) refl d (refl, refl, w, c, r, su, o)
 
   abbrev fault-left : SubchannelState → Option ActiveProgram → ℕ → Check → ℕ → SubchannelState
   fault-left s b tried check count =
@@ -134,10 +138,10 @@ module _ (laws : AreLaws) (accesses : AreAccesses) where
 
   begins-held : (storage : Contents) (s : SubchannelState) (p t : ℕ) (st : ProgramPosition) (walk : WalkPlace) (k : ProgramTrace) (c : CommandStart) (acts : List Act) →
       WentOn k.earlier laws storage k.orb k.now.acts (acts ++ k.now.acts) 1 walk c → k.number ≤ s.drawn → s.hold.phase ≡ hold.On t p 0 → t ≡ k.number →
-      s.begun ≡ None → k.sent ≡ 0 → IsDone k.orb k.now → IsRest st.count k → IsHeld (taking.beginning storage s p t st walk c).state (stories.trace_goes_on c acts k)
-  begins-held storage s p t st walk k (came.Begins transfer) acts w n on f z none d r =
+      s.begun ≡ None → k.sent ≡ 0 → IsDone k.orb k.now → IsRest st.count k → st.program.orb ≡ k.orb → IsHeld (taking.beginning storage s p t st walk c).state (stories.trace_goes_on storage c acts k)
+  begins-held storage s p t st walk k (came.Begins transfer) acts w n on f z none d r o =
       let b : ActiveProgram = record { program = st.program; primary_shown = false; transfer = (begun_with_room storage transfer).transfer } in
-      let new : ProgramTrace = stories.trace_goes_on (came.Begins transfer) acts k in
+      let new : ProgramTrace = stories.trace_goes_on storage (came.Begins transfer) acts k in
       let next : SubchannelState = taking_over s st.program (begun_with_room storage transfer).transfer in
       let x : IsHold s.drawn k.number (Some b) (k.sent + 1) s.hold.phase = on-hold s t p k.number (k.sent + 1) on f (Some b) in
       interrupted-held next (Some b) new refl
@@ -146,40 +150,42 @@ module _ (laws : AreLaws) (accesses : AreAccesses) where
         phase = x.0;
         drawn = x.1;
         work = (
-          record { tied = w.0; arrived = arrived-none (record no_trace { acts = acts ++ k.now.acts }) b.transfer.fault b.transfer.sequence (is_outward b.transfer.code) refl refl w.2.3 },
+          record { tied = w.0; arrived = arrived-none new.now b.transfer.fault b.transfer.sequence (is_outward b.transfer.code) refl refl w.2.3.0 },
           (room-same storage transfer).1 ∙ w.1 ∙ (let y : 1 ≡ k.sent + 1 = omega (arith, none) in y),
           omega arith,
+          fresh-marked b.transfer w.2.3,
+          o,
         );
         standing = tt;
       })
-  begins-held storage s p t st walk k came.Suspends acts w n on f z none d r =
+  begins-held storage s p t st walk k came.Suspends acts w n on f z none d r o =
       suspends-held s st.program walk st.count (record k { now = with_acts k.now acts }) n (on-hold s t p k.number k.sent on f s.begun)
-      (over-done k.orb k.now.acts (acts ++ k.now.acts) k.now w.0 w.1 refl (inr (inr w.5)) d) w.4 w.3 (ap counts w.1 ∙ r)
-  begins-held storage s p t st walk k (came.Stops check) acts w n on f z none d r =
+      (over-done k.orb k.now.acts (acts ++ k.now.acts) k.now w.0 w.1 refl (inr (inr w.5)) w.6 d) w.4 w.3 (ap counts w.1 ∙ r) w.5 o
+  begins-held storage s p t st walk k (came.Stops check) acts w n on f z none d r o =
       fault-held s walk.tried check st.count (record k { now = with_acts k.now acts }) n (on-hold s t p k.number k.sent on f s.begun)
-      (over-done k.orb k.now.acts (acts ++ k.now.acts) k.now w.0 w.1 refl (inr (inl w.3)) d) (λ c e. absurd (cc (sym z ∙ e)))
+      (over-done k.orb k.now.acts (acts ++ k.now.acts) k.now w.0 w.1 refl (inr (inl w.3)) w.4 d) (λ c e. absurd (cc (sym z ∙ e)))
 
   -- where it was suspended
   again-held : (storage : Contents) (s : SubchannelState) (p t : ℕ) (k : ProgramTrace) (st : ProgramPosition) (x : Bool) → IsHeld s k → s.hold.phase ≡ hold.On t p 0 → t ≡ k.number → s.begun ≡ None →
-      k.sent ≡ 0 → st.walk ≡ walk_place k.orb k.now.acts → (role_of k.orb k.now.acts).chained ≡ false → IsRest st.count k →
+      k.sent ≡ 0 → st.walk ≡ walk_place k.orb k.now.acts → (role_of k.orb k.now.acts).chained ≡ false → IsRest st.count k → IsSuspended k.orb k.now.acts → st.program.orb ≡ k.orb →
       IsHeld (taking.begin_standing storage s p t (if x then Some st else None)).state (if x then stories.begins_again storage st k else k)
-  again-held storage s p t k st true h on f z none w c r =
+  again-held storage s p t k st true h on f z none w c r su o =
       let past : ProgramTrace = record k { earlier = length (commands k.orb k.now.acts); now = past_part k.now } in
       let d : IsDone k.orb k.now = done-held s k h in
       subst
       (λ (old : WalkPlace). IsHeld (taking.beginning storage s p t st (first_command storage old).walk (first_command storage old).came).state
-      (stories.trace_goes_on (first_command storage old).came (first_acts storage old) past))
+      (stories.trace_goes_on storage (first_command storage old).came (first_acts storage old) past))
       (sym w)
       (let old : WalkPlace = walk_place k.orb k.now.acts in
       begins-held storage s p t st (first_command storage old).walk past (first_command storage old).came (first_acts storage old)
-      (goes-on past.earlier laws storage k.orb k.now.acts 1 c refl d.program) h.number on f z none (past-done k.orb k.now d) r)
-  again-held storage s p t k st false h on f z none w c r = h
+      (goes-on past.earlier laws storage k.orb k.now.acts 1 c refl d.program (suspended-unchecked k.orb k.now.acts su d.ends) d.ends) h.number on f z none (past-done k.orb k.now d) r o)
+  again-held storage s p t k st false h on f z none w c r su o = h
 
   suspended-held : (storage : Contents) (s : SubchannelState) (p t : ℕ) (k : ProgramTrace) (w : Option Program) (b : Option ActiveProgram) (st : Option ProgramPosition) (start : ℕ) → IsHeld s k →
       s.hold.phase ≡ hold.On t p 0 → t ≡ k.number → s.begun ≡ None → k.sent ≡ 0 → IsStanding w b st k →
       IsHeld (taking.begin_standing storage s p t (suspended_as st start)).state (stories.again_as storage st start k)
   suspended-held storage s p t k w b None start h on f z none x = h
-  suspended-held storage s p t k w b (Some st) start h on f z none x = again-held storage s p t k st (st.program.start == start) h on f z none x.2 x.3 x.4
+  suspended-held storage s p t k w b (Some st) start h on f z none x = again-held storage s p t k st (st.program.start == start) h on f z none x.2 x.3 x.4 x.5 x.6
 
   anew-held : (storage : Contents) (s : SubchannelState) (p t : ℕ) (k : ProgramTrace) (w : Option Program) (b : Option ActiveProgram) (st : Option ProgramPosition) (start : ℕ) (program : Program) (x : Bool) →
       IsHeld s k → s.hold.phase ≡ hold.On t p 0 → t ≡ k.number → s.begun ≡ None → k.sent ≡ 0 → IsStanding w b st k →
@@ -188,7 +194,7 @@ module _ (laws : AreLaws) (accesses : AreAccesses) where
   anew-held storage s p t k w b st start program true h on f z none x =
       let old : WalkPlace = walk_place program.orb [] in
       begins-held storage s p t (from_start program) (first_command storage old).walk (record k { orb = program.orb; earlier = 0; now = no_trace }) (first_command storage old).came
-      (first_acts storage old) (goes-on 0 laws storage program.orb [] 1 refl refl tt) h.number on f z none (nothing-done program.orb) refl
+      (first_acts storage old) (goes-on 0 laws storage program.orb [] 1 refl refl tt refl tt) h.number on f z none (nothing-done program.orb) refl refl
   anew-held storage s p t k w b st start program false h on f z none x = suspended-held storage s p t k w b st start h on f z none x
 
   stands-held : (storage : Contents) (s : SubchannelState) (p t : ℕ) (k : ProgramTrace) (w : Option Program) (b : Option ActiveProgram) (st : Option ProgramPosition) (start : ℕ) → IsHeld s k →
@@ -225,23 +231,24 @@ module _ (laws : AreLaws) (accesses : AreAccesses) where
 
   -- Data
   transfer-held : (s : SubchannelState) (b : ActiveProgram) (k : ProgramTrace) (t : Transfer) (now : CommandTrace) → s.begun ≡ Some b → IsHeld s k → IsSame b.transfer t →
-      IsAtWork k.earlier k.orb now t (is_outward b.transfer.code) → (b.transfer.command ≡ k.sent) × (1 ≤ k.sent) → IsHeld (taking.moving_on s b t) (record k { now = now })
-  transfer-held s b k t now e h same w n =
+      IsAtWork k.earlier k.orb now t (is_outward b.transfer.code) → (b.transfer.command ≡ k.sent) × (1 ≤ k.sent) → IsMarked now t → b.program.orb ≡ k.orb →
+      IsHeld (taking.moving_on s b t) (record k { now = now })
+  transfer-held s b k t now e h same w n marks o =
       interrupted-held (taking.with_transfer s b t) (Some (record b { transfer = t })) (record k { now = now }) refl
       (record {
         number = h.number;
         phase = phase-some s.hold.phase k.number b (record b { transfer = t }) k.sent k.sent (subst (λ (x : Option ActiveProgram). IsPhase s.hold.phase k.number x k.sent) e h.phase);
         drawn = h.drawn;
-        work = (subst (λ (c : ℕ). IsAtWork k.earlier k.orb now t (is_outward c)) (sym same.0) w, same.1 ∙ n.0, n.1);
+        work = (subst (λ (c : ℕ). IsAtWork k.earlier k.orb now t (is_outward c)) (sym same.0) w, same.1 ∙ n.0, n.1, marks, o);
         standing = none-stands s.waiting (Some (record b { transfer = t })) s.suspended (record k { now = now }) (standing-some s.waiting s.begun b s.suspended k e h.standing);
       })
 
   out-held : (storage : Contents) (s : SubchannelState) (b : ActiveProgram) (k : ProgramTrace) (signal : DataSignal) (load : Load) (x : Bool) → is_outward b.transfer.code ≡ x → s.begun ≡ Some b → IsHeld s k →
-      IsAtWork k.earlier k.orb k.now b.transfer (is_outward b.transfer.code) → (b.transfer.command ≡ k.sent) × (1 ≤ k.sent) →
+      IsAtWork k.earlier k.orb k.now b.transfer (is_outward b.transfer.code) → (b.transfer.command ≡ k.sent) × (1 ≤ k.sent) → b.program.orb ≡ k.orb →
       IsHeld (if x then taking.meets storage (pieces.give_next storage s b signal (load_length load))
       else taking.take_in s b signal (brought storage b.transfer signal.sequence (bytes_of_load load))).step.state
       (if x then record k { now = gives storage b.transfer signal.sequence (load_length load) k.now } else record k { now = takes_in storage b.transfer signal.sequence (bytes_of_load load) k.now })
-  out-held storage s b k signal load true d e h w m =
+  out-held storage s b k signal load true d e h w m o =
       let a : Transfer = taken_by_device storage b.transfer signal.sequence (load_length load) in
       let u : Transfer = (next_given storage a).transfer in
       let f : IsSame b.transfer a = absorbed-same storage b.transfer signal.sequence (load_length load) in
@@ -249,8 +256,8 @@ module _ (laws : AreLaws) (accesses : AreAccesses) where
       transfer-held s b k u (gives storage b.transfer signal.sequence (load_length load) k.now) e h (g.0 ∙ f.0, g.1 ∙ f.1)
       (subst (λ (y : Bool). IsAtWork k.earlier k.orb (gives storage b.transfer signal.sequence (load_length load) k.now) u y) (sym d)
       (gives-work k.earlier laws storage k.orb k.now b.transfer signal.sequence (load_length load) (subst (λ (y : Bool). IsAtWork k.earlier k.orb k.now b.transfer y) d w)))
-      m
-  out-held storage s b k signal load false d e h w m =
+      m (refl, refl, refl, refl, refl, refl) o
+  out-held storage s b k signal load false d e h w m o =
       let a = brought storage b.transfer signal.sequence (bytes_of_load load) in
       let u : Transfer = (with_room a.storage a.transfer).transfer in
       let f : IsSame b.transfer a.transfer = brought-same storage b.transfer signal.sequence (bytes_of_load load) in
@@ -258,19 +265,19 @@ module _ (laws : AreLaws) (accesses : AreAccesses) where
       transfer-held s b k u (takes_in storage b.transfer signal.sequence (bytes_of_load load) k.now) e h (g.0 ∙ f.0, g.1 ∙ f.1)
       (subst (λ (y : Bool). IsAtWork k.earlier k.orb (takes_in storage b.transfer signal.sequence (bytes_of_load load) k.now) u y) (sym d)
       (takes_in-work k.earlier laws accesses storage k.orb k.now b.transfer signal.sequence (bytes_of_load load) (subst (λ (y : Bool). IsAtWork k.earlier k.orb k.now b.transfer y) d w)))
-      m
+      m (refl, refl, refl, refl, refl, refl) o
 
   answered-held : (storage : Contents) (s : SubchannelState) (b : ActiveProgram) (k : ProgramTrace) (signal : DataSignal) (load : Load) (x : Bool) → s.begun ≡ Some b → IsHeld s k →
-      IsAtWork k.earlier k.orb k.now b.transfer (is_outward b.transfer.code) → (b.transfer.command ≡ k.sent) × (1 ≤ k.sent) →
+      IsAtWork k.earlier k.orb k.now b.transfer (is_outward b.transfer.code) → (b.transfer.command ≡ k.sent) × (1 ≤ k.sent) → b.program.orb ≡ k.orb →
       IsHeld (if x then taking.move_bytes storage s b signal load else taking.meets storage (taking.ignoring s)).step.state
       (if x then stories.moves storage b.transfer signal.sequence load k else k)
-  answered-held storage s b k signal load true e h w m = out-held storage s b k signal load (is_outward b.transfer.code) refl e h w m
-  answered-held storage s b k signal load false e h w m = h
+  answered-held storage s b k signal load true e h w m o = out-held storage s b k signal load (is_outward b.transfer.code) refl e h w m o
+  answered-held storage s b k signal load false e h w m o = h
 
   data-held : (storage : Contents) (s : SubchannelState) (b : Option ActiveProgram) (k : ProgramTrace) (signal : DataSignal) (load : Load) → s.begun ≡ b → IsHeld s k → HasWork b k →
       IsHeld (taking.move_data storage s b signal load).step.state (stories.answers storage b signal.command signal.sequence load k)
   data-held storage s None k signal load e h w = h
-  data-held storage s (Some b) k signal load e h w = answered-held storage s b k signal load (is_answered b.transfer signal.command signal.sequence) e h w.0 (w.1, w.2)
+  data-held storage s (Some b) k signal load e h w = answered-held storage s b k signal load (is_answered b.transfer signal.command signal.sequence) e h w.0 (w.1, w.2) w.4
 
   connected-held : (storage : Contents) (s : SubchannelState) (k : ProgramTrace) (signal : DataSignal) (load : Load) (x : Bool) → IsHeld s k →
       IsHeld (if x then taking.move_data storage s s.begun signal load else taking.meets storage (taking.ignoring s)).step.state
@@ -317,7 +324,7 @@ module _ (laws : AreLaws) (accesses : AreAccesses) where
       let old : WalkPlace = walk_place orb before in
       let m : length (commands orb before) ≡ earlier + t.command = k.number in
       let went : WentOn earlier laws storage orb before (goes_acts storage n old ++ before) n (goes_to storage n old).walk (goes_to storage n old).came =
-      goes-on earlier laws storage orb before n (k.chained f ∙ d) (omega (arith, m)) (k.stands, k.program) in
+      goes-on earlier laws storage orb before n (k.chained f ∙ d) (omega (arith, m)) (k.stands, k.program) (k.checked f) k.ends in
       subst
       (λ (w : WalkPlace). WentOn earlier laws storage orb before ((goes_acts storage n (walk_after_end w (ending modifier)) ++ End (ending modifier) ∷ []) ++ p.acts) n
       (goes_to storage n (walk_after_end w (ending modifier))).walk (goes_to storage n (walk_after_end w (ending modifier))).came)
@@ -327,46 +334,48 @@ module _ (laws : AreLaws) (accesses : AreAccesses) where
 
   chains-held : (storage : Contents) (s : SubchannelState) (b : ActiveProgram) (k : ProgramTrace) (signal : EndSignal) (walk : WalkPlace) (c : CommandStart) (acts before : List Act) (n : ℕ) →
       s.begun ≡ Some b → IsHeld s k → IsDone k.orb k.now → WentOn k.earlier laws storage k.orb before (acts ++ k.now.acts) n walk c →
-      data_areas k.orb before ≡ data_areas k.orb k.now.acts → n ≡ k.sent + 1 → IsHeld (taking.chaining storage s (with_end b) signal walk c).state (stories.trace_goes_on c acts k)
+      data_areas k.orb before ≡ data_areas k.orb k.now.acts → n ≡ k.sent + 1 → IsHeld (taking.chaining storage s (with_end b) signal walk c).state (stories.trace_goes_on storage c acts k)
   chains-held storage s b k signal walk (came.Begins transfer) acts before n e h d w r m =
       let u : Transfer = (begun_with_room storage transfer).transfer in
       let next : ActiveProgram = record (with_end b) { transfer = u } in
-      interrupted-held (taking.with_transfer s (with_end b) u) (Some next) (stories.trace_goes_on (came.Begins transfer) acts k) refl
+      interrupted-held (taking.with_transfer s (with_end b) u) (Some next) (stories.trace_goes_on storage (came.Begins transfer) acts k) refl
       (record {
         number = h.number;
         phase = phase-some s.hold.phase k.number b next k.sent (k.sent + 1) (subst (λ (x : Option ActiveProgram). IsPhase s.hold.phase k.number x k.sent) e h.phase);
         drawn = h.drawn;
         work = (
-          record { tied = w.0; arrived = arrived-none (record no_trace { acts = acts ++ k.now.acts }) u.fault u.sequence (is_outward u.code) refl refl w.2.3 },
+          record { tied = w.0; arrived = arrived-none (stories.trace_goes_on storage (came.Begins transfer) acts k).now u.fault u.sequence (is_outward u.code) refl refl w.2.3.0 },
           (room-same storage transfer).1 ∙ w.1 ∙ m,
           omega arith,
+          fresh-marked u w.2.3,
+          (subst (λ (x : Option ActiveProgram). HasWork x k) e h.work).4,
         );
-        standing = none-stands s.waiting (Some next) s.suspended (stories.trace_goes_on (came.Begins transfer) acts k) (standing-some s.waiting s.begun b s.suspended k e h.standing);
+        standing = none-stands s.waiting (Some next) s.suspended (stories.trace_goes_on storage (came.Begins transfer) acts k) (standing-some s.waiting s.begun b s.suspended k e h.standing);
       })
   chains-held storage s b k signal walk came.Suspends acts before n e h d w r m =
       let work : HasWork (Some b) k = subst (λ (x : Option ActiveProgram). HasWork x k) e h.work in
       suspends-held (taking.end_taken s signal) b.program walk (residual b.transfer.moving) (record k { now = with_acts k.now acts }) h.number (h.phase, h.drawn)
-      (over-done k.orb before (acts ++ k.now.acts) k.now w.0 w.1 r (inr (inr w.5)) d) w.4 w.3
-      (ap counts (w.1 ∙ r) ∙ spot-counts k.orb (data_areas k.orb k.now.acts) b.transfer k.now.moved work.0.tied.spot)
+      (over-done k.orb before (acts ++ k.now.acts) k.now w.0 w.1 r (inr (inr w.5)) w.6 d) w.4 w.3
+      (ap counts (w.1 ∙ r) ∙ spot-counts k.orb (data_areas k.orb k.now.acts) b.transfer k.now.moved work.0.tied.spot) w.5 work.4
   chains-held storage s b k signal walk (came.Stops check) acts before n e h d w r m =
       fault-held (taking.end_taken s signal) walk.tried check (residual b.transfer.moving) (record k { now = with_acts k.now acts }) h.number (h.phase, h.drawn)
-      (over-done k.orb before (acts ++ k.now.acts) k.now w.0 w.1 r (inr (inl w.3)) d) (λ c f. standing-some s.waiting s.begun c s.suspended k f h.standing)
+      (over-done k.orb before (acts ++ k.now.acts) k.now w.0 w.1 r (inr (inl w.3)) w.4 d) (λ c f. standing-some s.waiting s.begun c s.suspended k f h.standing)
 
   -- the transfer has ended
-  shown-held : (s : SubchannelState) (b c : ActiveProgram) (k : ProgramTrace) (u : SubchannelState) → s.begun ≡ Some b → IsHeld s k →
-      IsAtWork k.earlier k.orb k.now b.transfer (is_outward b.transfer.code) → (b.transfer.command ≡ k.sent) × (1 ≤ k.sent) → u.begun ≡ Some c → u.hold ≡ s.hold → u.drawn ≡ s.drawn →
+  shown-held : (s : SubchannelState) (b c : ActiveProgram) (k : ProgramTrace) (now : CommandTrace) (u : SubchannelState) → s.begun ≡ Some b → IsHeld s k →
+      IsAtWork k.earlier k.orb now b.transfer (is_outward b.transfer.code) → (b.transfer.command ≡ k.sent) × (1 ≤ k.sent) → IsMarked now c.transfer → c.program.orb ≡ k.orb → u.begun ≡ Some c → u.hold ≡ s.hold → u.drawn ≡ s.drawn →
       u.suspended ≡ s.suspended → c.transfer.walk ≡ b.transfer.walk → c.transfer.moving ≡ b.transfer.moving → c.transfer.code ≡ b.transfer.code →
-      c.transfer.command ≡ b.transfer.command → c.transfer.fault ≡ b.transfer.fault → c.transfer.sequence ≡ b.transfer.sequence → IsHeld u k
-  shown-held s b c k u e h w m f g n v walk moving code command f2 last =
+      c.transfer.command ≡ b.transfer.command → c.transfer.fault ≡ b.transfer.fault → c.transfer.sequence ≡ b.transfer.sequence → IsHeld u (record k { now = now })
+  shown-held s b c k now u e h w m marks o f g n v walk moving code command f2 last =
       let t : Transfer = b.transfer in
       let z : Transfer = c.transfer in
-      let work : IsAtWork k.earlier k.orb k.now z (is_outward z.code) =
-      subst (λ (x : ℕ). IsAtWork k.earlier k.orb k.now z (is_outward x)) (sym code)
+      let work : IsAtWork k.earlier k.orb now z (is_outward z.code) =
+      subst (λ (x : ℕ). IsAtWork k.earlier k.orb now z (is_outward x)) (sym code)
       (record {
-        tied = changed k.earlier k.orb k.now.acts k.now.moved t z walk moving code command (λ y. ap (λ x. is_some x) (sym f2) ∙ y) (λ y. ap (λ x. is_some x) f2 ∙ y) w.tied;
+        tied = changed k.earlier k.orb now.acts now.moved t z walk moving code command (λ y. ap (λ x. is_some x) (sym f2) ∙ y) (λ y. ap (λ x. is_some x) f2 ∙ y) w.tied;
         arrived =
-            subst (λ (x : ℕ). HasArrived k.now z.fault x (is_outward t.code)) (sym last)
-            (subst (λ (x : Option Check). HasArrived k.now x t.sequence (is_outward t.code)) (sym f2) w.arrived);
+            subst (λ (x : ℕ). HasArrived now z.fault x (is_outward t.code)) (sym last)
+            (subst (λ (x : Option Check). HasArrived now x t.sequence (is_outward t.code)) (sym f2) w.arrived);
       }) in
       record {
         number = subst (λ (x : ℕ). k.number ≤ x) (sym n) h.number;
@@ -375,8 +384,8 @@ module _ (laws : AreLaws) (accesses : AreAccesses) where
             (subst (λ (x : HoldState). IsPhase x.phase k.number (Some c) k.sent) (sym g)
             (phase-some s.hold.phase k.number b c k.sent k.sent (subst (λ (x : Option ActiveProgram). IsPhase s.hold.phase k.number x k.sent) e h.phase)));
         drawn = subst (λ (x : HoldState). IsDrawn x.phase u.drawn) (sym g) (subst (λ (x : ℕ). IsDrawn s.hold.phase x) (sym n) h.drawn);
-        work = subst (λ (x : Option ActiveProgram). HasWork x k) (sym f) (work, command ∙ m.0, m.1);
-        standing = none-stands u.waiting u.begun u.suspended k (v ∙ standing-some s.waiting s.begun b s.suspended k e h.standing);
+        work = subst (λ (x : Option ActiveProgram). HasWork x (record k { now = now })) (sym f) (work, command ∙ m.0, m.1, marks, o);
+        standing = none-stands u.waiting u.begun u.suspended (record k { now = now }) (v ∙ standing-some s.waiting s.begun b s.suspended k e h.standing);
       }
 
   abbrev pub end-left : SubchannelState → ActiveProgram → EndSignal → Shown → Bool → SubchannelState
@@ -385,45 +394,49 @@ module _ (laws : AreLaws) (accesses : AreAccesses) where
         dedicated = taking.dedicated_by_end s.dedicated signal;
       }
 
-  stops-held : (s : SubchannelState) (b : ActiveProgram) (k : ProgramTrace) (signal : EndSignal) (shown : Shown) (last : Bool) → s.begun ≡ Some b → IsHeld s k →
-      IsAtWork k.earlier k.orb k.now b.transfer (is_outward b.transfer.code) → (b.transfer.command ≡ k.sent) × (1 ≤ k.sent) →
-      IsHeld (if last then let_go (end-left s b signal shown last) else taking.quietly (end-left s b signal shown last)).state k
-  stops-held s b k signal shown true e h w m =
-      let_go-held (end-left s b signal shown true) k h.number (phase-none s.hold.phase k.number s.begun k.sent h.phase, h.drawn) refl
-      (done-of k.earlier k.orb k.now b.transfer (is_outward b.transfer.code) w) tt
-  stops-held s b k signal shown false e h w m =
-      shown-held s b (has_shown b) k (end-left s b signal shown false) e h w m refl refl refl refl refl refl refl refl refl refl
+  stops-held : (s : SubchannelState) (b : ActiveProgram) (k : ProgramTrace) (now : CommandTrace) (signal : EndSignal) (shown : Shown) (last : Bool) → s.begun ≡ Some b → IsHeld s k →
+      IsAtWork k.earlier k.orb now b.transfer (is_outward b.transfer.code) → (b.transfer.command ≡ k.sent) × (1 ≤ k.sent) → IsMarked now (has_shown b).transfer → b.program.orb ≡ k.orb →
+      IsHeld (if last then let_go (end-left s b signal shown last) else taking.quietly (end-left s b signal shown last)).state (record k { now = now })
+  stops-held s b k now signal shown true e h w m marks o =
+      let_go-held (end-left s b signal shown true) (record k { now = now }) h.number (phase-none s.hold.phase k.number s.begun k.sent h.phase, h.drawn) refl
+      (done-of k.earlier k.orb now b.transfer (is_outward b.transfer.code) w) tt
+  stops-held s b k now signal shown false e h w m marks o =
+      shown-held s b (has_shown b) k now (end-left s b signal shown false) e h w m marks o refl refl refl refl refl refl refl refl refl refl
 
   goes-held : (storage : Contents) (s : SubchannelState) (b : ActiveProgram) (k : ProgramTrace) (signal : EndSignal) (x y : Bool) → chains_command s.scsw b signal.status signal.more ≡ x →
       s.begun ≡ Some b → IsHeld s k → IsAtWork k.earlier k.orb k.now b.transfer (is_outward b.transfer.code) → (b.transfer.command ≡ k.sent) × (1 ≤ k.sent) →
-      IsHeld (if x then (if y then taking_parts.chain_with storage s (with_end b) signal (next_command storage (with_end b).transfer (has_status_modifier signal.status))
+      IsMarked k.now b.transfer → b.program.orb ≡ k.orb → IsHeld (if x then (if y then taking_parts.chain_with storage s (with_end b) signal (next_command storage (with_end b).transfer (has_status_modifier signal.status))
       else taking.quietly (record (taking.end_taken s signal) { begun = Some (with_end b) }))
       else taking.stops_at s b signal).state
-      (if x then (if y then stories.trace_goes_on (next_command storage b.transfer (has_status_modifier signal.status)).came (next_acts storage b.transfer (has_status_modifier signal.status)) k else k)
+      (if x then (if y then stories.trace_goes_on storage (next_command storage b.transfer (has_status_modifier signal.status)).came (next_acts storage b.transfer (has_status_modifier signal.status)) k else stories.with_ended k)
       else stories.ends_alone signal.status k)
-  goes-held storage s b k signal true true c e h w m =
+  goes-held storage s b k signal true true c e h w m marks o =
       let f : (_ : b.transfer.moving.ccw.chain_data ≡ false) × (is_some b.transfer.fault ≡ false) = chains-facts s.scsw b signal.status signal.more c in
       let modifier : Bool = has_status_modifier signal.status in
       let next : Beginning = next_command storage b.transfer modifier in
       chains-held storage s b k signal next.walk next.came (next_acts storage b.transfer modifier) (End (ending modifier) ∷ k.now.acts) (b.transfer.command + 1) e h
       (done-of k.earlier k.orb k.now b.transfer (is_outward b.transfer.code) w) (next-went k.earlier storage k.orb k.now b.transfer modifier w.tied f.0 f.1) refl
       (ap (λ (n : ℕ). n + 1) m.0)
-  goes-held storage s b k signal true false c e h w m =
-      shown-held s b (with_end b) k (record (taking.end_taken s signal) { begun = Some (with_end b) }) e h w m refl refl refl refl refl refl refl refl refl refl
-  goes-held storage s b k signal false y c e h w m =
-      stops-held s b (stories.ends_alone signal.status k) signal (end_shown s b signal.status signal.more) (is_last_end signal.status) e
-      (ended-held s b k signal.status e (w, m.0, m.1) h) (ended-work k signal.status b.transfer (is_outward b.transfer.code) w) m
+  goes-held storage s b k signal true false c e h w m marks o =
+      shown-held s b (with_end b) k (stories.with_ended k).now (record (taking.end_taken s signal) { begun = Some (with_end b) }) e h
+      (with_ended-work k b.transfer (is_outward b.transfer.code) w) m
+      (marks.0, marks.1, marks.2, marks.3, refl, marks.5) o refl refl refl refl refl refl refl refl refl refl
+  goes-held storage s b k signal false y c e h w m marks o =
+      stops-held s b k (stories.ends_alone signal.status k).now signal (end_shown s b signal.status signal.more) (is_last_end signal.status) e
+      h (ended-work k signal.status b.transfer (is_outward b.transfer.code) w) m
+      (marks.0, marks.1, marks.2, marks.3, refl, refl) o
 
   same-command-held : (storage : Contents) (s : SubchannelState) (b : ActiveProgram) (k : ProgramTrace) (signal : EndSignal) (x : Bool) → s.begun ≡ Some b → IsHeld s k →
-      IsAtWork k.earlier k.orb k.now b.transfer (is_outward b.transfer.code) → (b.transfer.command ≡ k.sent) × (1 ≤ k.sent) →
+      IsAtWork k.earlier k.orb k.now b.transfer (is_outward b.transfer.code) → (b.transfer.command ≡ k.sent) × (1 ≤ k.sent) → IsMarked k.now b.transfer → b.program.orb ≡ k.orb →
       IsHeld (if x then taking.command_ended storage s b signal else taking.ignoring s).state (if x then stories.chains storage s b signal.status signal.more k else k)
-  same-command-held storage s b k signal true e h w m = goes-held storage s b k signal (chains_command s.scsw b signal.status signal.more) (has_device_end signal.status) refl e h w m
-  same-command-held storage s b k signal false e h w m = h
+  same-command-held storage s b k signal true e h w m marks o =
+      goes-held storage s b k signal (chains_command s.scsw b signal.status signal.more) (has_device_end signal.status) refl e h w m marks o
+  same-command-held storage s b k signal false e h w m marks o = h
 
   end-held : (storage : Contents) (s : SubchannelState) (b : Option ActiveProgram) (k : ProgramTrace) (signal : EndSignal) → s.begun ≡ b → IsHeld s k → HasWork b k →
       IsHeld (taking.end_of storage s b signal).state (stories.trace_ends storage s b signal.command signal.status signal.more k)
   end-held storage s None k signal e h w = h
-  end-held storage s (Some b) k signal e h w = same-command-held storage s b k signal (signal.command == b.transfer.command) e h w.0 (w.1, w.2)
+  end-held storage s (Some b) k signal e h w = same-command-held storage s b k signal (signal.command == b.transfer.command) e h w.0 (w.1, w.2) w.3 w.4
 
   on-held : (storage : Contents) (s : SubchannelState) (k : ProgramTrace) (signal : EndSignal) (x : Bool) → IsHeld s k →
       IsHeld (if x then taking.end_of storage s s.begun signal else taking.ignoring s).state (if x then stories.trace_ends storage s s.begun signal.command signal.status signal.more k else k)

@@ -1,6 +1,6 @@
 -- What a subchannel keeps of its program agrees with the program's story, at each event.
 use Rattle.std.proofs.Common.{◌≡◌, refl, sym, ◌∙◌, subst, ℕ, ◌≤◌, ◌<◌, Bool, true, false, [], Option, Some, None, inl}
-use Rattle.std.specs.Prelude.{if◌then◌else◌, ◌==◌, ◌&&◌, nat_lt}
+use Rattle.std.specs.Prelude.{is_some, if◌then◌else◌, ◌==◌, ◌&&◌, nat_lt}
 use Rattle.std.proofs.lemmas.List.Elements.{All-nil}
 use Rattle.orb_block.specs.declared.Orb.{Orb}
 use Rattle.chan_model.specs.declared.hold_state.HoldPhase.{HoldPhase}
@@ -11,6 +11,7 @@ use Rattle.chan_model.specs.HoldTable.{HoldStep, hold_after, letting_go}
 use Rattle.chan_model.specs.UnitReports.{is_outward}
 use Rattle.channel_program.specs.Programs.{role_of}
 use Rattle.channel_program.specs.Walks.{walk_place}
+use Rattle.transfer.specs.declared.Transfer.{Transfer}
 use Rattle.scsw_irb.specs.declared.scsw.Scsw.{Scsw}
 use Rattle.subchannel_model.specs.declared.state.ActiveProgram.{ActiveProgram}
 use Rattle.subchannel_model.specs.declared.state.PmcwState.{PmcwState}
@@ -25,8 +26,9 @@ use Rattle.subchannel_model.specs.Taking.{let_go, by_hold, back, halt_done, clea
 use Rattle.program_laws.specs.Traces.{CommandTrace, no_trace}
 use Rattle.program_laws.specs.Traces.{ProgramTrace, past_part}
 use Rattle.program_laws.proofs.Named.{IsRest}
-use Rattle.program_laws.specs.Claims.{IsStored, places_of}
+use Rattle.program_laws.specs.Claims.{IsStored, places_of, IsSuspended}
 use Rattle.program_laws.proofs.Lists.{begins-all}
+use Rattle.program_laws.proofs.Ties.{IsFresh}
 use Rattle.program_laws.proofs.Parts.{IsDone, IsAtWork, done-of}
 
 -- the number of a hold's phase is that of the offer, or of a Reset that was drawn later; a program is at work only where it
@@ -49,9 +51,22 @@ IsDrawn (hold.Letting t p) drawn = Unit {0}
 IsDrawn (hold.Reset r) drawn = r ≤ drawn
 
 -- the program is at work, or over
+-- its marks are those of the transfer
+abbrev pub IsMarked : CommandTrace → Transfer → Type 0
+IsMarked p t =
+    (p.sequence ≡ t.sequence) × (p.given ≡ t.offered) × (p.stopped ≡ t.stopped) × (p.kept ≡ is_some t.fault) × (p.ended ≡ t.ended) × (p.unchained ≡ t.unchained)
+
+-- those of a command that begins
+abbrev FreshMarked : Transfer → Type 0
+FreshMarked t = (0 ≡ t.sequence) × (0 ≡ t.offered) × (false ≡ t.stopped) × (is_some t.fault ≡ is_some t.fault) × (false ≡ t.ended) × (false ≡ t.unchained)
+
+pub fresh-marked : (t : Transfer) → IsFresh t → FreshMarked t
+fresh-marked t f = (sym f.0, sym f.1, sym f.2, refl, sym f.3, sym f.4)
+
 abbrev pub HasWork : Option ActiveProgram → ProgramTrace → Type 0
 HasWork None k = IsDone k.orb k.now
 HasWork (Some b) k = IsAtWork k.earlier k.orb k.now b.transfer (is_outward b.transfer.code) × (b.transfer.command ≡ k.sent) × (1 ≤ k.sent)
+    × IsMarked k.now b.transfer × (b.program.orb ≡ k.orb)
 
 -- one that is suspended stands where the story left it, where a command may begin, with the count that was left; no other waits or
 -- is at work
@@ -59,6 +74,7 @@ abbrev pub IsStanding : Option Program → Option ActiveProgram → Option Progr
 IsStanding waiting begun None k = Unit {0}
 IsStanding waiting begun (Some st) k =
     (waiting ≡ None) × (begun ≡ None) × (st.walk ≡ walk_place k.orb k.now.acts) × ((role_of k.orb k.now.acts).chained ≡ false) × IsRest st.count k
+    × IsSuspended k.orb k.now.acts × (st.program.orb ≡ k.orb)
 
 pub record IsHeld (s : SubchannelState) (k : ProgramTrace) : Type 0 where
   pub number : k.number ≤ s.drawn
@@ -244,7 +260,7 @@ halt_done-held s k h = by s.scsw.activity.halt_pending
 -- attention: a start that waits is over
 unwaiting : (w : Option Program) (b : Option ActiveProgram) (st : Option ProgramPosition) (k : ProgramTrace) → IsStanding w b st k → IsStanding None b st k
 unwaiting w b None k x = tt
-unwaiting w b (Some st) k x = (refl, x.1, x.2, x.3, x.4)
+unwaiting w b (Some st) k x = (refl, x.1, x.2, x.3, x.4, x.5, x.6)
 
 pub attention-held : (s : SubchannelState) (k : ProgramTrace) (shows : Bool) → IsHeld s k → IsHeld (with_attention s shows) k
 attention-held s k true h =
@@ -282,7 +298,7 @@ none-begun s None h e = h.begun
 none-begun s (Some k) h e = phase-free s.hold.phase k.number s.begun k.sent e h.phase
 
 pub nothing-done : (orb : Orb) → IsDone orb no_trace
-nothing-done orb = record { program = tt; whole = inl refl; moves = begins-all (places_of orb []); arrived = All-nil IsStored; arrives = begins-all (places_of orb []) }
+nothing-done orb = record { program = tt; whole = inl refl; ends = tt; moves = begins-all (places_of orb []); arrived = All-nil IsStored; arrives = begins-all (places_of orb []) }
 
 pub past-done : (orb : Orb) (p : CommandTrace) → IsDone orb p → IsDone orb (past_part p)
-past-done orb p d = record { program = d.program; whole = d.whole; moves = d.moves; arrived = All-nil IsStored; arrives = begins-all (places_of orb p.acts) }
+past-done orb p d = record { program = d.program; whole = d.whole; ends = d.ends; moves = d.moves; arrived = All-nil IsStored; arrives = begins-all (places_of orb p.acts) }

@@ -1,9 +1,9 @@
-mod Named
+pub mod Named
 mod MachineActs
 mod MachineTraces
-mod Vanishing
+pub mod Vanishing
 mod Marks
-mod Sweeps
+pub mod Sweeps
 mod Turns
 mod Lists
 mod Advances
@@ -34,7 +34,7 @@ mod Choices
 mod UnitFlows
 mod LinkViews
 mod UnitHands
-mod UnitActs
+pub mod UnitActs
 mod UnitTold
 mod LinkWires
 mod LinkModes
@@ -44,12 +44,18 @@ mod LinkIdle
 mod LinkMeets
 mod LinkFlows
 mod RunFlows
+mod Latest
+mod Used
+mod Kept
 mod Fetches
 mod Shows
-mod Latest
 mod Goings
-mod Accepts
+pub mod Offers
+mod OfferRuns
+pub mod Accepts
 mod Moves
+mod NextChunks
+mod DataMeets
 mod Chains
 mod Follows
 mod Told

@@ -33,7 +33,7 @@ use Rattle.program_laws.specs.Traces.{CommandTrace}
 use Rattle.program_laws.specs.DataAreas.{data_areas}
 use Rattle.program_laws.specs.Traces.{ProgramTrace, taken_at, absorbs}
 use Rattle.program_laws.proofs.Named.{takes, reported}
-use Rattle.program_laws.proofs.MachineTraces.{ends_alone}
+use Rattle.program_laws.proofs.MachineTraces.{ends_alone, with_ended}
 use Rattle.program_laws.specs.Claims.{AbsorbsInOrder, IsBeginning, IsFirstOf, places_of}
 use Rattle.program_laws.proofs.Ties.{AreLaws, Tied, spot-begins, with_moved-tied}
 use Rattle.program_laws.proofs.Holds.{HasWork, HeldBy}
@@ -211,6 +211,13 @@ mode-ended status side begun k downs ups u (Waits b e n s m a w) = Waits b e n s
 mode-ended status side begun k downs ups u (Over e n z a w) = Over e n z a w
 mode-ended status side begun k downs ups u (Reads b e n o z w) = Reads b e n o z w
 mode-ended status side begun k downs ups u (Writes b e n o lead f w) = Writes b e n o lead f w
+
+pub mode-with : (side : Side) (begun : Option ActiveProgram) (k : ProgramTrace) (downs : List (List Down)) (ups : List (List Up)) (u : UnitState) →
+    Mode side begun k downs ups u → Mode side begun (with_ended k) downs ups u
+mode-with side begun k downs ups u (Waits b e n s m a w) = Waits b e n s m a w
+mode-with side begun k downs ups u (Over e n z a w) = Over e n z a w
+mode-with side begun k downs ups u (Reads b e n o z w) = Reads b e n o z w
+mode-with side begun k downs ups u (Writes b e n o lead f w) = Writes b e n o lead f w
 
 -- what was absorbed is of the command that the story has last
 module _ (laws : AreLaws) (k : ProgramTrace) where

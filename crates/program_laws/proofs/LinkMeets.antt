@@ -72,7 +72,7 @@ use Rattle.program_laws.proofs.LinkSent.{IsOfHold, SendsHoldSignal, busy-mutters
 use Rattle.program_laws.proofs.LinkNeeds.{IsLast, on-number, connected-number, held-needs}
 use Rattle.program_laws.proofs.LinkViews.{view_of, answers-view, repeats-view, goes-new, current-facts}
 use Rattle.program_laws.proofs.LinkWires.{HandClosed, IsClosed, IsGiving, IsTelling, IsWired, wired-holds, sent-hold}
-use Rattle.program_laws.proofs.LinkCourses.{mode-marked, mode-ended, interrupted-mode, flow-absorbs, absorbs-on}
+use Rattle.program_laws.proofs.LinkCourses.{mode-marked, mode-ended, mode-with, interrupted-mode, flow-absorbs, absorbs-on}
 use Rattle.program_laws.proofs.LinkModes.{AnyGive, NoGive, AnyData, HandPlain, HandFlow, Mode, Waits, Over, Reads, Writes, mode-carried, absorbs-none}
 
 -- any but a Notice, which may empty what is begun
@@ -132,13 +132,13 @@ module _ (laws : AreLaws) (accesses : AreAccesses) (storage : Contents) (side : 
 
   begins-goes : (r : SubchannelState) (p t : ℕ) (st : ProgramPosition) (walk : WalkPlace) (c : CommandStart) (orb : Orb) (earlier : ℕ) (part : CommandTrace) → (first_command storage st.walk).came ≡ c → r.begun ≡ s.begun →
       s.begun ≡ None → k.sent ≡ 0 →
-      Goes (taking.beginning storage r p t st walk c) (stories.trace_goes_on c (first_acts storage st.walk) (from orb earlier part))
+      Goes (taking.beginning storage r p t st walk c) (stories.trace_goes_on storage c (first_acts storage st.walk) (from orb earlier part))
   begins-goes r p t st walk (came.Begins tr) orb earlier part c e n z =
       let f = over-facts s.begun mode n in
       let x : Transfer = (begun_with_room storage tr).transfer in
       let b : ActiveProgram = record { program = st.program; primary_shown = false; transfer = x } in
       let one : Option (OnPath Down) = Some (record { path = p; signal = down.Command t x.command x.code (begun_with_room storage tr).room }) in
-      let new : ProgramTrace = stories.trace_goes_on (came.Begins tr) (first_acts storage st.walk) (from orb earlier part) in
+      let new : ProgramTrace = stories.trace_goes_on storage (came.Begins tr) (first_acts storage st.walk) (from orb earlier part) in
       let made : Mode side (Some b) new (with_any_sent downs one) (taken ups path) u =
       Waits b refl (ap (λ (i : ℕ). i + 1) f.0) (room-seq storage tr ∙ goes-new storage 1 st.walk tr c) refl (absorbs-none orb part k.absorbed (f.1 z))
       (wired-holds side k.number m HandClosed HandClosed AnyGive AnyGive AnyData AnyData downs ups u one path (λ x y. y) (λ i bytes y. y) (λ i l y. y) tt f.2) in
@@ -387,16 +387,16 @@ module _ (laws : AreLaws) (accesses : AreAccesses) (storage : Contents) (side : 
       (subst (λ (x : Option ActiveProgram). Mode side x k (with_any_sent downs one) (taken ups path) u) e (quiet s.begun one refl h)))
 
   -- the next command, or the program is suspended or over
-  next-over : (b : ActiveProgram) (x : SubchannelState) (acts : List Act) → x.begun ≡ None → IsOver b → data_areas k.orb (acts ++ k.now.acts) ≡ data_areas k.orb k.now.acts →
-      Goes (taking.let_go x) (record k { now = with_acts k.now acts })
-  next-over b x acts e o r =
+  next-over : (b : ActiveProgram) (x : SubchannelState) (now : CommandTrace) → x.begun ≡ None → IsOver b → now.copied ≡ k.now.copied → data_areas k.orb now.acts ≡ data_areas k.orb k.now.acts →
+      Goes (taking.let_go x) (record k { now = now })
+  next-over b x now e o c r =
       let one : Option (OnPath Down) = (came_of (letting_go x.hold x.hold.phase)).sent in
-      Over e o.taken_all o.some (absorbs-on laws k (with_acts k.now acts) refl r o.absorbs) (o.wires one (sent-hold k.number m AnyGive one (letting-mutters x.hold x.hold.phase)))
+      Over e o.taken_all o.some (absorbs-on laws k now c r o.absorbs) (o.wires one (sent-hold k.number m AnyGive one (letting-mutters x.hold x.hold.phase)))
 
   chains-goes : (b : ActiveProgram) (signal : EndSignal) (walk : WalkPlace) (c : CommandStart) → (next_command storage b.transfer (has_status_modifier signal.status)).walk ≡ walk →
       (next_command storage b.transfer (has_status_modifier signal.status)).came ≡ c → s.begun ≡ Some b → IsOver b →
       b.transfer.moving.ccw.chain_data ≡ false → is_some b.transfer.fault ≡ false →
-      Goes (taking.chaining storage s (with_end b) signal walk c) (stories.trace_goes_on c (next_acts storage b.transfer (has_status_modifier signal.status)) k)
+      Goes (taking.chaining storage s (with_end b) signal walk c) (stories.trace_goes_on storage c (next_acts storage b.transfer (has_status_modifier signal.status)) k)
   chains-goes b signal walk c at is e o d f = by c is
     where
       acts : List Act
@@ -411,22 +411,22 @@ module _ (laws : AreLaws) (accesses : AreAccesses) (storage : Contents) (side : 
           WentOn k.earlier laws storage k.orb (End (record { goes_on = true; modifier = has_status_modifier signal.status }) ∷ k.now.acts) (acts ++ k.now.acts) (b.transfer.command + 1)
           (next_command storage b.transfer (has_status_modifier signal.status)).walk c
 
-      by : (c : CommandStart) → (next_command storage b.transfer (has_status_modifier signal.status)).came ≡ c → Goes (taking.chaining storage s (with_end b) signal walk c) (stories.trace_goes_on c acts k)
+      by : (c : CommandStart) → (next_command storage b.transfer (has_status_modifier signal.status)).came ≡ c → Goes (taking.chaining storage s (with_end b) signal walk c) (stories.trace_goes_on storage c acts k)
       by (came.Begins tr) c =
           let x : Transfer = (begun_with_room storage tr).transfer in
           let n : ActiveProgram = record (with_end b) { transfer = x } in
           let one : Option (OnPath Down) = Some (record { path = signal.path; signal = down.Command signal.number x.command x.code (begun_with_room storage tr).room }) in
-          let new : ProgramTrace = stories.trace_goes_on (came.Begins tr) acts k in
+          let new : ProgramTrace = stories.trace_goes_on storage (came.Begins tr) acts k in
           let made : Mode side (Some n) new (with_any_sent downs one) (taken ups path) u =
           Waits n refl (ap (λ (i : ℕ). i + 1) o.taken_all)
           (room-seq storage tr ∙ goes-new storage (b.transfer.command + 1) (walk_after_end b.transfer.walk (record { goes_on = true; modifier = has_status_modifier signal.status })) tr c) refl o.absorbs (o.wires one tt) in
           interrupted-mode side (taking.with_transfer s (with_end b) x) n new (with_any_sent downs one) (taken ups path) u refl made
       by came.Suspends c =
-          next-over b (taking.suspending (taking.end_taken s signal) (with_end b).program walk (residual (with_end b).transfer.moving)) acts
-          (suspending-workless (taking.end_taken s signal) (with_end b).program walk (residual (with_end b).transfer.moving)).begun o (subst Went c went).1
+          next-over b (taking.suspending (taking.end_taken s signal) (with_end b).program walk (residual (with_end b).transfer.moving)) (with_acts k.now acts)
+          (suspending-workless (taking.end_taken s signal) (with_end b).program walk (residual (with_end b).transfer.moving)).begun o refl (subst Went c went).1
       by (came.Stops check) c =
-          next-over b (with_cause (taking.end_taken s signal) (cause.FetchFault walk.tried check (residual (with_end b).transfer.moving))) acts
-          (fault-begun (taking.end_taken s signal) s.begun refl) o (subst Went c went).1
+          next-over b (with_cause (taking.end_taken s signal) (cause.FetchFault walk.tried check (residual (with_end b).transfer.moving))) (with_acts k.now acts)
+          (fault-begun (taking.end_taken s signal) s.begun refl) o refl (subst Went c went).1
 
   end-begun : (b : ActiveProgram) (signal : EndSignal) (last : Bool) → is_last_end signal.status ≡ last →
       (taking_parts.end_shown_at s b signal).begun ≡ (if last then None else Some (has_shown b))
@@ -441,18 +441,18 @@ module _ (laws : AreLaws) (accesses : AreAccesses) (storage : Contents) (side : 
       (if x then (if y then taking_parts.chain_with storage s (with_end b) signal (next_command storage (with_end b).transfer (has_status_modifier signal.status))
       else taking.quietly (record (taking.end_taken s signal) { begun = Some (with_end b) }))
       else taking.stops_at s b signal)
-      (if x then (if y then stories.trace_goes_on (next_command storage b.transfer (has_status_modifier signal.status)).came (next_acts storage b.transfer (has_status_modifier signal.status)) k else k) else stories.ends_alone signal.status k)
+      (if x then (if y then stories.trace_goes_on storage (next_command storage b.transfer (has_status_modifier signal.status)).came (next_acts storage b.transfer (has_status_modifier signal.status)) k else stories.with_ended k) else stories.ends_alone signal.status k)
   ends-by b signal true true c e o =
       let f = chains-facts laws accesses s.scsw b signal.status signal.more c in
       chains-goes b signal (next_command storage b.transfer (has_status_modifier signal.status)).walk (next_command storage b.transfer (has_status_modifier signal.status)).came refl refl e o f.0 f.1
-  ends-by b signal true false c e o = marked b (with_end b) (Some (with_end b)) None e refl (record { code = refl; command = refl; sequence = refl; moving = refl }) tt
+  ends-by b signal true false c e o = mode-with side (Some (with_end b)) k downs (taken ups path) u (marked b (with_end b) (Some (with_end b)) None e refl (record { code = refl; command = refl; sequence = refl; moving = refl }) tt)
   ends-by b signal false y c e o = stops (is_last_end signal.status) refl
     where
       x : SubchannelState
       x = taking_parts.end_shown_at s b signal
 
       stops : (last : Bool) → is_last_end signal.status ≡ last → Goes (if last then taking.let_go x else taking.quietly x) (stories.ends_alone signal.status k)
-      stops true l = next-over b x (End (record { goes_on = false; modifier = has_status_modifier signal.status }) ∷ []) (end-begun b signal true l) o refl
+      stops true l = next-over b x (stories.ends_alone signal.status k).now (end-begun b signal true l) o refl refl
       stops false l =
           mode-ended signal.status side x.begun k downs (taken ups path) u
           (marked b (has_shown b) x.begun None e (end-begun b signal false l) (record { code = refl; command = refl; sequence = refl; moving = refl }) tt)

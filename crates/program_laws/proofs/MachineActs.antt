@@ -1,6 +1,6 @@
 -- What is done for a program, act by act, as the subsystem begins its commands and moves their bytes (SA22-7832, chapter
 -- 15). The acts of a list stand the latest first.
-use Rattle.std.specs.Prelude.{ℕ, ◌+◌, ◌==◌, Bool, true, min, if◌then◌else◌, is_some, List, [], ◌∷◌, ◌++◌, length, Result, Ok, Err}
+use Rattle.std.specs.Prelude.{ℕ, ◌+◌, ◌==◌, Bool, true, min, if◌then◌else◌, is_some, Option, None, Some, List, [], ◌∷◌, ◌++◌, length, Result, Ok, Err}
 use Rattle.ccw_codec.specs.Command.{class_of}
 use Rattle.storage_keys.specs.Storage.{Contents}
 use Rattle.channel_program.specs.declared.check.Check.{Check}
@@ -8,6 +8,8 @@ use Rattle.channel_program.specs.declared.Ended.{Ended}
 use Rattle.channel_program.specs.Acts.{Act, PlacedBytes, Used_up, End, Word}
 use Rattle.channel_program.specs.Walks.{WalkPlace, advance_acts}
 use Rattle.channel_program.proofs.Named.{after_used_up, walk_after_end}
+use Rattle.idaw.specs.declared.WordFault.{WordFault}
+use Rattle.idaw.specs.Lists.{word_fault}
 use Rattle.idaw.specs.Places.{each_below}
 use Rattle.data_move.specs.Moving.{Moving, needs_word, next_place, room}
 use Rattle.data_move.specs.Accesses as access
@@ -16,15 +18,19 @@ use Rattle.transfer.specs.declared.Transfer.{Transfer}
 use Rattle.transfer.specs.declared.CommandStart.{CommandStart}
 use Rattle.transfer.specs.declared.CommandStart.TheVariants.{Begins, Suspends, Stops}
 use Rattle.transfer.specs.Commands.{goes_to, located_transfer, has_stopped, brings}
-use Rattle.transfer.specs.Chunks.{Brought, with_moved, chains_data, with_answer, taken_by_device, fitting, brought}
+use Rattle.transfer.specs.Chunks.{Brought, with_moved, chains_data, with_answer, taken_by_device, next_given, fitting, brought}
 
 -- a word of an indirect list is fetched where it is needed
-abbrev pub act_of_word : Result ℕ Check → List Act
-act_of_word (Ok word) = Word word ∷ []
-act_of_word (Err check) = []
+abbrev pub act_of_right : Option WordFault → ℕ → List Act
+act_of_right None word = Word word ∷ []
+act_of_right (Some fault) word = []
+
+abbrev pub act_of_word : Moving → ℕ → Result ℕ Check → List Act
+act_of_word m size (Ok word) = act_of_right (word_fault m.kind (m.words == 0) word size) word
+act_of_word m size (Err check) = []
 
 abbrev pub word_acts : Contents → ℕ → Moving → List Act
-word_acts storage key m = if needs_word m then act_of_word (access.word_fetched storage key m) else []
+word_acts storage key m = if needs_word m then act_of_word m (length storage.bytes) (access.word_fetched storage key m) else []
 
 abbrev pub located_acts : Contents → Transfer → List Act
 located_acts storage t = if is_some t.fault then [] else word_acts storage t.walk.orb.key t.moving
@@ -82,9 +88,14 @@ copying storage t k = if has_stopped t then k else with_copy storage t (access.c
 abbrev pub trace_giving : Contents → Transfer → CommandTrace → CommandTrace
 trace_giving storage t k = copying storage (located_transfer storage t) (with_acts k (located_acts storage t))
 
+-- what is kept of the transfer
+abbrev pub marked : Transfer → CommandTrace → CommandTrace
+marked t k = record k { sequence = t.sequence; given = t.offered; stopped = t.stopped; kept = is_some t.fault; ended = t.ended; unchained = t.unchained }
+
 -- a Data of a command that takes bytes to the device
 abbrev pub gives : Contents → Transfer → ℕ → ℕ → CommandTrace → CommandTrace
-gives storage t s count k = trace_giving storage (taken_by_device storage t s count) (trace_answered storage t s count k)
+gives storage t s count k =
+    marked (next_given storage (taken_by_device storage t s count)).transfer (trace_giving storage (taken_by_device storage t s count) (trace_answered storage t s count k))
 
 -- the bytes of chunk s of a read are stored
 abbrev pub with_arrival : Contents → Transfer → List ℕ → Result Contents Check → CommandTrace → CommandTrace
@@ -104,4 +115,5 @@ abbrev pub located_after : Brought → CommandTrace → CommandTrace
 located_after x k = with_acts k (located_acts x.storage x.transfer)
 
 abbrev pub takes_in : Contents → Transfer → ℕ → List ℕ → CommandTrace → CommandTrace
-takes_in storage t s bytes k = located_after (brought storage t s bytes) (arriving storage t s bytes k)
+takes_in storage t s bytes k =
+    marked (located_transfer (brought storage t s bytes).storage (brought storage t s bytes).transfer) (located_after (brought storage t s bytes) (arriving storage t s bytes k))

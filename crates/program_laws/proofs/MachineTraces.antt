@@ -1,5 +1,5 @@
 -- What was done for the program that a subchannel offered last: a function of the run (SA22-7832, chapter 15).
-use Rattle.std.specs.Prelude.{ℕ, ◌+◌, ◌==◌, Bool, false, if◌then◌else◌, Option, None, Some, List, [], ◌∷◌, ◌++◌, length, slice_get}
+use Rattle.std.specs.Prelude.{ℕ, ◌+◌, ◌==◌, Bool, true, false, is_some, if◌then◌else◌, Option, None, Some, List, [], ◌∷◌, ◌++◌, length, slice_get}
 use Rattle.scsw_irb.specs.declared.status.DeviceStatus.{DeviceStatus}
 use Rattle.storage_keys.specs.Storage.{Contents}
 use Rattle.chan_model.specs.declared.hold_state.HoldPhase.{HoldPhase}
@@ -22,7 +22,7 @@ use Rattle.channel_program.specs.Walks.{WalkPlace, walk_place}
 use Rattle.transfer.specs.declared.Transfer.{Transfer}
 use Rattle.transfer.specs.declared.CommandStart.{CommandStart}
 use Rattle.transfer.specs.declared.CommandStart.TheVariants as came
-use Rattle.transfer.specs.Commands.{first_command, next_command}
+use Rattle.transfer.specs.Commands.{first_command, next_command, begun_with_room}
 use Rattle.transfer.specs.Chunks.{is_answered}
 use Rattle.wires.specs.Queues.{first_of}
 use Rattle.subchannel_model.specs.declared.state.ActiveProgram.{ActiveProgram}
@@ -40,14 +40,15 @@ use Rattle.program_laws.specs.Traces.{no_trace, ProgramTrace, past_part, chosen_
 use Rattle.chan_model.specs.ResetCauses.{is_path}
 
 -- a command begins, or can't, or the program is suspended
-abbrev pub trace_goes_on : CommandStart → List Act → ProgramTrace → ProgramTrace
-trace_goes_on (came.Begins t) acts k = record k { sent = k.sent + 1; now = record no_trace { acts = acts ++ k.now.acts }; before = k.now }
-trace_goes_on came.Suspends acts k = record k { now = with_acts k.now acts }
-trace_goes_on (came.Stops check) acts k = record k { now = with_acts k.now acts }
+abbrev pub trace_goes_on : Contents → CommandStart → List Act → ProgramTrace → ProgramTrace
+trace_goes_on storage (came.Begins t) acts k =
+    record k { sent = k.sent + 1; now = record no_trace { acts = acts ++ k.now.acts; kept = is_some (begun_with_room storage t).transfer.fault }; before = k.now }
+trace_goes_on storage came.Suspends acts k = record k { now = with_acts k.now acts }
+trace_goes_on storage (came.Stops check) acts k = record k { now = with_acts k.now acts }
 
 -- Accept: the first of a program that waited, or of one that was suspended the next
 abbrev pub trace_begins : Contents → WalkPlace → ProgramTrace → ProgramTrace
-trace_begins storage walk k = trace_goes_on (first_command storage walk).came (first_acts storage walk) k
+trace_begins storage walk k = trace_goes_on storage (first_command storage walk).came (first_acts storage walk) k
 
 abbrev pub begins_anew : Contents → Program → ProgramTrace → ProgramTrace
 begins_anew storage program k = trace_begins storage (walk_place program.orb []) (record k { orb = program.orb; earlier = 0; now = no_trace })
@@ -83,15 +84,20 @@ answers storage (Some b) n s load k = if is_answered b.transfer n s then moves s
 
 -- End: the command ends, and none is chained to it
 abbrev pub ends_alone : DeviceStatus → ProgramTrace → ProgramTrace
-ends_alone status k = record k { now = with_acts k.now (End (record { goes_on = false; modifier = has_status_modifier status }) ∷ []) }
+ends_alone status k =
+    record k { now = record k.now { acts = End (record { goes_on = false; modifier = has_status_modifier status }) ∷ k.now.acts; ended = true; unchained = true } }
+
+-- an End of it came
+abbrev pub with_ended : ProgramTrace → ProgramTrace
+with_ended k = record k { now = record k.now { ended = true } }
 
 -- the next command is chained to as device end comes; until then the command has not ended
 abbrev pub chains : Contents → SubchannelState → ActiveProgram → DeviceStatus → Bool → ProgramTrace → ProgramTrace
 chains storage s b status more k =
     if chains_command s.scsw b status more then
     (if has_device_end status
-    then trace_goes_on (next_command storage b.transfer (has_status_modifier status)).came (next_acts storage b.transfer (has_status_modifier status)) k
-    else k)
+    then trace_goes_on storage (next_command storage b.transfer (has_status_modifier status)).came (next_acts storage b.transfer (has_status_modifier status)) k
+    else with_ended k)
     else ends_alone status k
 
 abbrev pub trace_ends : Contents → SubchannelState → Option ActiveProgram → ℕ → DeviceStatus → Bool → ProgramTrace → ProgramTrace

@@ -1,6 +1,6 @@
 -- What is done for a program with each signal, and what is kept of its transfer.
 use Rattle.std.proofs.Common.{◌≡◌, refl, ap, sym, ◌∙◌, subst, ℕ, suc, ◌+◌, ◌≤◌, Bool, true, false, List, [], ◌∷◌, ◌++◌, length, Option, Some, None, Result, Ok, Err, inl, inr, arith, append_assoc}
-use Rattle.std.specs.Prelude.{◌==◌, min, is_some, if◌then◌else◌, All, take}
+use Rattle.std.specs.Prelude.{◌&&◌, ◌||◌, not, ◌==◌, min, is_some, if◌then◌else◌, All, take}
 use Rattle.std.proofs.lemmas.Bool.{eqb-true}
 use Rattle.std.proofs.lemmas.List.{length-take}
 use Rattle.std.proofs.lemmas.List.Elements.{All-nil, All-cons}
@@ -15,6 +15,8 @@ use Rattle.channel_program.specs.Acts.{Act}
 use Rattle.channel_program.specs.Programs.{IsProgram, Command, role_of, next, commands, code}
 use Rattle.channel_program.specs.Walks.{WalkPlace, walk_place, advance_acts, after_acts, advance_of}
 use Rattle.channel_program.proofs.Named.{after_used_up}
+use Rattle.idaw.specs.declared.WordFault.{WordFault}
+use Rattle.idaw.specs.Lists.{word_fault}
 use Rattle.idaw.specs.Places.{each_below}
 use Rattle.data_move.specs.Moving.{Moving, next_place, room, needs_word}
 use Rattle.data_move.specs.Accesses as access
@@ -30,10 +32,12 @@ use Rattle.program_laws.proofs.MachineActs as doing
 use Rattle.program_laws.specs.Traces.{CommandTrace, Arrival}
 use Rattle.program_laws.proofs.MachineActs.{with_acts, with_places, with_copy, located_acts, room_acts, goes_acts, chunk_of, chained_acts, trace_answered, trace_giving, gives, with_arrival, storing, arriving, takes_in}
 use Rattle.program_laws.proofs.Named.{IsWhole}
-use Rattle.program_laws.specs.Claims.{IsSuspended, IsStored, places_arrived, IsBeginning, places_of}
+use Rattle.program_laws.specs.Claims.{IsSuspended, IsStored, places_arrived, IsBeginning, places_of, has_check, EndsAtCheck}
 use Rattle.program_laws.proofs.Lists.{length-each_below}
 use Rattle.program_laws.proofs.Accesses.{AreAccesses, IsStore, stored-bytes}
-use Rattle.program_laws.proofs.Ties.{AreLaws, Tied, changed, spot-begins, Begins, goes-begins, located-tied, room-tied}
+use Rattle.program_laws.proofs.Ties.{AreLaws, IsFresh, Tied, changed, spot-begins, Begins, goes-begins, located-tied, room-tied}
+use Rattle.program_laws.specs.Reached.{room_of, BeginsData}
+use Rattle.program_laws.proofs.Kept.{room-same as reached-room, short-same, located-kept}
 use Rattle.program_laws.proofs.Chainings.{moved_on-tied}
 
 -- the command at work and its code stay
@@ -129,13 +133,13 @@ chained_to-through t walk (Some advance.Suspends) = (refl, λ e. absurd (cc e))
 chained_to-through t walk (Some (advance.Stops check)) = (refl, λ e. absurd (cc e))
 chained_to-through t walk None = (refl, λ e. e)
 
-moved_on-through : (storage : Contents) (t : Transfer) (n : ℕ) (b : Bool) → IsThrough t (if b then chained storage (with_moved t n) else with_moved t n)
+pub moved_on-through : (storage : Contents) (t : Transfer) (n : ℕ) (b : Bool) → IsThrough t (if b then chained storage (with_moved t n) else with_moved t n)
 moved_on-through storage t n true =
     let old : WalkPlace = after_used_up t.walk in
     chained_to-through (with_moved t n) (after_acts old (advance_acts storage old)) (advance_of old (advance_acts storage old))
 moved_on-through storage t n false = (refl, λ e. e)
 
-located-through : (t : Transfer) (r : Result Moving Check) (b : Bool) → IsThrough t (if b then t else with_located t r)
+pub located-through : (t : Transfer) (r : Result Moving Check) (b : Bool) → IsThrough t (if b then t else with_located t r)
 located-through t r true = (refl, λ e. e)
 located-through t (Ok m) false = (refl, λ e. e)
 located-through t (Err check) false = (refl, λ e. absurd (cc e))
@@ -146,6 +150,19 @@ room-through storage t false = (refl, λ e. e)
 
 pub room-seq : (storage : Contents) (t : Transfer) → (begun_with_room storage t).transfer.sequence ≡ t.sequence
 room-seq storage t = (room-through storage t (brings (class_of t.code))).0
+
+-- nothing is moved, shown or ended as a word is fetched
+located-fresh : (t : Transfer) (b : Bool) (r : Result Moving Check) → IsFresh t → IsFresh (if b then t else with_located t r)
+located-fresh t true r f = f
+located-fresh t false (Ok m) f = f
+located-fresh t false (Err check) f = f
+
+fresh-if : (storage : Contents) (t : Transfer) (b : Bool) → IsFresh t → IsFresh (if b then with_room storage t else record { transfer = t; room = 0 }).transfer
+fresh-if storage t true f = located-fresh t (is_some t.fault) (access.located storage t.walk.orb.key t.moving) f
+fresh-if storage t false f = f
+
+pub room-fresh : (storage : Contents) (t : Transfer) → IsFresh t → IsFresh (begun_with_room storage t).transfer
+room-fresh storage t f = fresh-if storage t (brings (class_of t.code)) f
 
 -- what arrived, by the direction of the command: without a fault each Data of a read as far as the last that came
 abbrev pub HasArrived : CommandTrace → Option Check → ℕ → Bool → Type 0
@@ -161,6 +178,7 @@ arrived-none p fault last false e f z =
 pub record IsDone (orb : Orb) (p : CommandTrace) : Type 0 where
   pub program : IsProgram orb p.acts
   pub whole : IsWhole orb p.acts
+  pub ends : EndsAtCheck orb p.acts
   pub moves : IsBeginning p.moved (places_of orb p.acts)
   pub arrived : All IsStored p.arrived
   pub arrives : IsBeginning (places_arrived p.arrived) (places_of orb p.acts)
@@ -172,6 +190,13 @@ room-left t n =
     omega (arith, f, g)
 
 -- bytes that are moved
+pub fitting-left : (t : Transfer) (bytes : List ℕ) → length (fitting t bytes) ≤ t.moving.left
+fitting-left t bytes =
+    let e : length (take (room t.moving) bytes) ≡ min (room t.moving) (length bytes) = length-take (room t.moving) bytes in
+    let f : min (room t.moving) (length bytes) ≤ room t.moving = min-le_left (room t.moving) (length bytes) in
+    let g : room t.moving ≤ t.moving.left = min-le_left t.moving.left 256 in
+    omega (arith, e, f, g)
+
 pub moved_on-parts : (storage : Contents) (t : Transfer) (n : ℕ) (p : CommandTrace) (b : Bool) →
     let q : CommandTrace = if b then with_acts (with_places p t.moving n) (chained_acts storage (with_moved t n)) else with_places p t.moving n in
     (_ : q.moved ≡ p.moved ++ each_below (next_place t.moving) n) × (q.arrived ≡ p.arrived)
@@ -198,6 +223,7 @@ module _ (earlier : ℕ) where
       record {
         program = k.tied.program;
         whole = inr (inl k.tied.stands);
+        ends = k.tied.ends;
         moves = spot-begins orb (data_areas orb p.acts) t p.moved k.tied.spot;
         arrived = subst (λ (xs : List Arrival). All IsStored xs) (sym none) (All-nil IsStored);
         arrives = subst (λ (xs : List Arrival). IsBeginning (places_arrived xs) (places_of orb p.acts)) (sym none) (places_of orb p.acts, refl);
@@ -207,6 +233,7 @@ module _ (earlier : ℕ) where
       record {
         program = k.tied.program;
         whole = inr (inl k.tied.stands);
+        ends = k.tied.ends;
         moves = spot-begins orb (data_areas orb p.acts) t p.moved k.tied.spot;
         arrived = k.arrived.0;
         arrives = subst (λ (xs : List (Option ℕ)). IsBeginning xs (places_of orb p.acts)) (sym same) (spot-begins orb (data_areas orb p.acts) t p.moved k.tied.spot);
@@ -221,7 +248,7 @@ module _ (earlier : ℕ) where
     }
 
     -- a Data of a command that takes bytes to the device
-    answer-tied : (orb : Orb) (p : CommandTrace) (t : Transfer) (s count : ℕ) → IsAtWork orb p t true → IsAtWork orb p (with_answer t s count) true
+    pub answer-tied : (orb : Orb) (p : CommandTrace) (t : Transfer) (s count : ℕ) → IsAtWork orb p t true → IsAtWork orb p (with_answer t s count) true
     answer-tied orb p t s count k = record {
       tied = changed earlier orb p.acts p.moved t (with_answer t s count) refl refl refl refl (λ e. e) (λ e. e) k.tied;
       arrived = k.arrived;
@@ -270,7 +297,8 @@ module _ (earlier : ℕ) where
     pub gives-work : (storage : Contents) (orb : Orb) (p : CommandTrace) (t : Transfer) (s count : ℕ) → IsAtWork orb p t true →
         IsAtWork orb (gives storage t s count p) (next_given storage (taken_by_device storage t s count)).transfer true
     gives-work storage orb p t s count k =
-        giving-work storage orb (trace_answered storage t s count p) (taken_by_device storage t s count) (answer-by storage orb p t s count (s == t.sequence + 1) k)
+        let w = giving-work storage orb (trace_answered storage t s count p) (taken_by_device storage t s count) (answer-by storage orb p t s count (s == t.sequence + 1) k) in
+        record { tied = w.tied; arrived = w.arrived }
 
     -- a Data of a command that brings bytes in
     module _ (accesses : AreAccesses) where
@@ -310,13 +338,6 @@ module _ (earlier : ℕ) where
           record { tied = k.tied; arrived = (k.stored, k.places, λ z. absurd (cc (sym (ap (λ (x : Option Check). is_some x) z) ∙ f))) }
       store-by storage orb p t bytes false f l k = arrival-by storage orb p t bytes (access.stored_or_skipped storage t.walk.orb.key t.moving bytes) refl l k
 
-      fitting-left : (t : Transfer) (bytes : List ℕ) → length (fitting t bytes) ≤ t.moving.left
-      fitting-left t bytes =
-          let e : length (take (room t.moving) bytes) ≡ min (room t.moving) (length bytes) = length-take (room t.moving) bytes in
-          let f : min (room t.moving) (length bytes) ≤ room t.moving = min-le_left (room t.moving) (length bytes) in
-          let g : room t.moving ≤ t.moving.left = min-le_left t.moving.left 256 in
-          omega (arith, e, f, g)
-
       pub bring-by : (storage : Contents) (orb : Orb) (p : CommandTrace) (t : Transfer) (s : ℕ) (bytes : List ℕ) (b : Bool) → (s == t.sequence + 1) ≡ b → IsAtWork orb p t false →
           IsAtWork orb (if b then storing storage (record t { sequence = s }) (fitting t bytes) p else p)
           (if b then brought_in storage (record t { sequence = s }) (fitting t bytes) else record { transfer = t; storage = storage }).transfer false
@@ -333,23 +354,29 @@ module _ (earlier : ℕ) where
       pub takes_in-work : (storage : Contents) (orb : Orb) (p : CommandTrace) (t : Transfer) (s : ℕ) (bytes : List ℕ) → IsAtWork orb p t false →
           IsAtWork orb (takes_in storage t s bytes p) (with_room (brought storage t s bytes).storage (brought storage t s bytes).transfer).transfer false
       takes_in-work storage orb p t s bytes k =
-          located-work (brought storage t s bytes).storage orb (arriving storage t s bytes p) (brought storage t s bytes).transfer false
-          (bring-by storage orb p t s bytes (s == t.sequence + 1) refl k)
+          let w = located-work (brought storage t s bytes).storage orb (arriving storage t s bytes p) (brought storage t s bytes).transfer false
+          (bring-by storage orb p t s bytes (s == t.sequence + 1) refl k) in
+          record { tied = w.tied; arrived = w.arrived }
 
     -- a command begins from these acts, or can't, or the program is suspended
     abbrev pub WentOn : Contents → Orb → List Act → List Act → ℕ → WalkPlace → CommandStart → Type 0
     WentOn storage orb before acts n walk (came.Begins t) =
-        Tied earlier orb acts [] (begun_with_room storage t).transfer × (t.command ≡ n) × ((c : Command) × (commands orb acts ≡ c ∷ commands orb before) × (code c ≡ t.code) × ((begun_with_room storage t).transfer.sequence ≡ 0))
+        Tied earlier orb acts [] (begun_with_room storage t).transfer × (t.command ≡ n) × ((c : Command) × (commands orb acts ≡ c ∷ commands orb before) × (code c ≡ t.code) × IsFresh (begun_with_room storage t).transfer)
+        × BeginsData storage orb t.code (begun_with_room storage t).room (is_some (begun_with_room storage t).transfer.fault) acts
     WentOn storage orb before acts n walk came.Suspends =
-        IsProgram orb acts × (data_areas orb acts ≡ data_areas orb before) × (commands orb acts ≡ commands orb before) × ((role_of orb acts).chained ≡ false) × (walk ≡ walk_place orb acts) × IsSuspended orb acts
+        IsProgram orb acts × (data_areas orb acts ≡ data_areas orb before) × (commands orb acts ≡ commands orb before) × ((role_of orb acts).chained ≡ false) × (walk ≡ walk_place orb acts) × IsSuspended orb acts × EndsAtCheck orb acts
     WentOn storage orb before acts n walk (came.Stops check) =
-        IsProgram orb acts × (data_areas orb acts ≡ data_areas orb before) × (commands orb acts ≡ commands orb before) × (next orb acts ≡ None)
+        IsProgram orb acts × (data_areas orb acts ≡ data_areas orb before) × (commands orb acts ≡ commands orb before) × (next orb acts ≡ None) × EndsAtCheck orb acts
+
+    right-commands : (orb : Orb) (acts : List Act) (word : ℕ) (f : Option WordFault) → commands orb (doing.act_of_right f word ++ acts) ≡ commands orb acts
+    right-commands orb acts word None = refl
+    right-commands orb acts word (Some fault) = refl
 
     located-commands : (storage : Contents) (orb : Orb) (acts : List Act) (t : Transfer) (b c : Bool) (w : Result ℕ Check) →
-        commands orb ((if b then [] else (if c then doing.act_of_word w else [])) ++ acts) ≡ commands orb acts
+        commands orb ((if b then [] else (if c then doing.act_of_word t.moving (length storage.bytes) w else [])) ++ acts) ≡ commands orb acts
     located-commands storage orb acts t true c w = refl
     located-commands storage orb acts t false false w = refl
-    located-commands storage orb acts t false true (Ok word) = refl
+    located-commands storage orb acts t false true (Ok word) = right-commands orb acts word (word_fault t.moving.kind (t.moving.words == 0) word (length storage.bytes))
     located-commands storage orb acts t false true (Err check) = refl
 
     room-commands : (storage : Contents) (orb : Orb) (acts : List Act) (t : Transfer) (b : Bool) →
@@ -358,19 +385,46 @@ module _ (earlier : ℕ) where
         located-commands storage orb acts t (is_some t.fault) (needs_word t.moving) (access.word_fetched storage t.walk.orb.key t.moving)
     room-commands storage orb acts t false = refl
 
+    if-flip : (b : Bool) (n : ℕ) → (if b then 0 else n) ≡ (if true && not b then n else 0)
+    if-flip true n = refl
+    if-flip false n = refl
+
+    -- how many bytes may come as a command begins
+    begins-data : (storage : Contents) (orb : Orb) (acts : List Act) (t : Transfer) → Tied earlier orb acts [] t → is_some t.fault ≡ false → IsFresh t → (b : Bool) → brings (class_of t.code) ≡ b →
+        let x = if b then with_room storage t else record { transfer = t; room = 0 } in
+        BeginsData storage orb t.code x.room (is_some x.transfer.fault) ((if b then located_acts storage t else []) ++ acts)
+    begins-data storage orb acts t k g f true e =
+        let u : Transfer = located_transfer storage t in
+        let now : List Act = located_acts storage t ++ acts in
+        let w : Tied earlier orb now [] u = located-tied earlier laws storage orb acts [] t k in
+        let l = located-kept earlier storage orb acts [] t k in
+        let fu : IsFresh u = located-fresh t (is_some t.fault) (access.located storage t.walk.orb.key t.moving) f in (
+          ap (λ (b : Bool). if b || is_some u.fault then 0 else room u.moving) fu.2
+              ∙ ap (λ (n : ℕ). if is_some u.fault then 0 else n) (reached-room earlier orb now [] u w)
+              ∙ if-flip (is_some u.fault) (room_of orb now [])
+              ∙ ap (λ (b : Bool). if b && not (is_some u.fault) then room_of orb now [] else 0) (sym e),
+          λ x. elim (l.0 x) [ inl y ↦ absurd (cc (sym g ∙ y)) | inr y ↦ y ],
+          λ x y. short-same earlier orb now [] u w ∙ l.1 x,
+        )
+    begins-data storage orb acts t k g f false e = (
+      ap (λ (b : Bool). if b && not (is_some t.fault) then room_of orb acts [] else 0) (sym e),
+      λ x. absurd (cc (sym g ∙ x)),
+      λ x y. absurd (cc (sym e ∙ y)),
+    )
+
     went-by : (storage : Contents) (orb : Orb) (before acts : List Act) (n : ℕ) (walk : WalkPlace) (c : CommandStart) → walk ≡ walk_place orb acts → Begins earlier laws orb before acts n c →
         WentOn storage orb before (room_acts storage c ++ acts) n walk c
     went-by storage orb before acts n walk (came.Begins t) w k =
-        (room-tied earlier laws storage orb acts t k.0, k.1, (k.2.0, room-commands storage orb acts t (brings (class_of t.code)) ∙ k.2.1, k.2.2, room-seq storage t ∙ k.2.3))
-    went-by storage orb before acts n walk came.Suspends w k = (k.0, k.1, k.2, k.3, w, k.4)
+        (room-tied earlier laws storage orb acts t k.0, k.1, (k.2.0, room-commands storage orb acts t (brings (class_of t.code)) ∙ k.2.1, k.2.2, room-fresh storage t k.2.3), begins-data storage orb acts t k.0 k.3 k.2.3 (brings (class_of t.code)) refl)
+    went-by storage orb before acts n walk came.Suspends w k = (k.0, k.1, k.2, k.3, w, k.4, k.5)
     went-by storage orb before acts n walk (came.Stops check) w k = k
 
     pub goes-on : (storage : Contents) (orb : Orb) (before : List Act) (n : ℕ) → (role_of orb before).chained ≡ false → length (commands orb before) + 1 ≡ earlier + n →
-        IsProgram orb before →
+        IsProgram orb before → has_check orb before ≡ false → EndsAtCheck orb before →
         WentOn storage orb before (goes_acts storage n (walk_place orb before) ++ before) n (goes_to storage n (walk_place orb before)).walk (goes_to storage n (walk_place orb before)).came
-    goes-on storage orb before n c l p =
+    goes-on storage orb before n c l p hc en =
         let old : WalkPlace = walk_place orb before in
         let new : Beginning = goes_to storage n old in
         subst (λ (xs : List Act). WentOn storage orb before xs n new.walk new.came) (sym (append_assoc (room_acts storage new.came) (advance_acts storage old) before))
         (went-by storage orb before (advance_acts storage old ++ before) n new.walk new.came (laws.leads orb before (advance_acts storage old))
-        (goes-begins earlier laws storage orb before n c l p))
+        (goes-begins earlier laws storage orb before n c l p hc en))

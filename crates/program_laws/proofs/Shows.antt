@@ -157,11 +157,11 @@ module _ (laws : AreLaws) (accesses : AreAccesses) where
 
   chains-shows : (storage : Contents) (s : SubchannelState) (b : ActiveProgram) (k : ProgramTrace) (signal : EndSignal) (walk : WalkPlace) (c : CommandStart) (acts before : List Act) (n : ℕ) →
       WentOn k.earlier laws storage k.orb before (acts ++ k.now.acts) n walk c → data_areas k.orb before ≡ data_areas k.orb k.now.acts →
-      IsRest (residual b.transfer.moving) k → IsHeld (taking.chaining storage s (with_end b) signal walk c).state (stories.trace_goes_on c acts k) →
-      ShowsRest s.serials.made (taking.chaining storage s (with_end b) signal walk c).state (stories.trace_goes_on c acts k)
+      IsRest (residual b.transfer.moving) k → IsHeld (taking.chaining storage s (with_end b) signal walk c).state (stories.trace_goes_on storage c acts k) →
+      ShowsRest s.serials.made (taking.chaining storage s (with_end b) signal walk c).state (stories.trace_goes_on storage c acts k)
   chains-shows storage s b k signal walk (came.Begins transfer) acts before n w e r h =
       let t = (begun_with_room storage transfer).transfer in
-      interrupted-shows (taking.with_transfer s (with_end b) t) (record (with_end b) { transfer = t }) (stories.trace_goes_on (came.Begins transfer) acts k) t.pci_pending h
+      interrupted-shows (taking.with_transfer s (with_end b) t) (record (with_end b) { transfer = t }) (stories.trace_goes_on storage (came.Begins transfer) acts k) t.pci_pending h
   chains-shows storage s b k signal walk came.Suspends acts before n w e r h =
       suspended-shows (taking.end_taken s signal) b.program walk (residual b.transfer.moving) (record k { now = with_acts k.now acts }) b.program.orb.suppress_suspended
       (rest-stays k acts before (residual b.transfer.moving) w.1 e r)
@@ -173,7 +173,7 @@ module _ (laws : AreLaws) (accesses : AreAccesses) where
       HasWork (Some b) k →
       let next : Beginning = next_command storage b.transfer (has_status_modifier signal.status) in
       let after : SubchannelState = (chain_with storage s (with_end b) signal next).state in
-      let now : ProgramTrace = stories.trace_goes_on next.came (next_acts storage b.transfer (has_status_modifier signal.status)) k in
+      let now : ProgramTrace = stories.trace_goes_on storage next.came (next_acts storage b.transfer (has_status_modifier signal.status)) k in
       IsHeld after now → ShowsRest s.serials.made after now
   next-shows storage s b k signal c w h =
       let f : (_ : b.transfer.moving.ccw.chain_data ≡ false) × (is_some b.transfer.fault ≡ false) = chains-facts laws accesses s.scsw b signal.status signal.more c in

@@ -1,8 +1,7 @@
 -- What is kept of a transfer agrees with what was done for its program, act by act.
-use Rattle.std.proofs.Common.{◌≡◌, refl, ap, sym, ◌∙◌, subst, ℕ, suc, ◌+◌, ◌-◌, ◌%◌, ◌≤◌, ◌<◌, Bool, true, false, List, [], ◌∷◌, ◌++◌, length, Option, Some, None, Result, Ok, Err, inl, inr, arith, append_assoc, length-append}
+use Rattle.std.proofs.Common.{◌≡◌, refl, ap, sym, ◌∙◌, subst, ℕ, suc, ◌+◌, ◌%◌, ◌≤◌, ◌<◌, Bool, true, false, List, [], ◌∷◌, ◌++◌, length, Option, Some, None, Result, Ok, Err, inl, inr, arith, append_assoc, length-append}
 use Rattle.std.specs.Prelude.{◌⊎◌, ◌&&◌, ◌==◌, not, min, nat_lt, is_some, IsSome, ◌↔◌, if◌then◌else◌}
 use Rattle.std.proofs.lemmas.Bool.{and_parts, eqb-true, ltb-true}
-use Rattle.std.proofs.lemmas.List.{append-nil}
 use Rattle.std.proofs.Math.Nat.{min-le_right}
 use Rattle.orb_block.specs.declared.Orb.{Orb}
 use Rattle.ccw_codec.specs.declared.Ccw.{Ccw}
@@ -12,7 +11,7 @@ use Rattle.channel_program.specs.declared.check.Check.TheVariants.{Program}
 use Rattle.channel_program.specs.declared.Advance.{Advance}
 use Rattle.channel_program.specs.declared.Advance.TheVariants as advance
 use Rattle.channel_program.specs.declared.Reading.TheVariants.{Takes}
-use Rattle.channel_program.specs.Acts.{Act, Word}
+use Rattle.channel_program.specs.Acts.{Act}
 use Rattle.channel_program.specs.Programs.{IsProgram, Command, role_of, next, commands, commands_after, join_last, code}
 use Rattle.channel_program.proofs.Named.{acts_at}
 use Rattle.channel_program.specs.Walks.{WalkPlace, walk_place, after_acts, advance_acts, advance_of}
@@ -40,10 +39,10 @@ use Rattle.machine_model.specs.Steps.{Run}
 use Rattle.program_laws.proofs.Named.{word_after, has_leftmost_bit, is_outside, where_right}
 use Rattle.program_laws.specs.DataAreas.{reach, data_areas, reaches_after, counts}
 use Rattle.program_laws.proofs.Named.{reaches_with}
-use Rattle.program_laws.proofs.MachineActs.{act_of_word, word_acts, located_acts, room_acts}
-use Rattle.program_laws.specs.Claims.{IsBeginning, IsSuspended}
+use Rattle.program_laws.proofs.MachineActs.{act_of_right, act_of_word, word_acts, located_acts, room_acts}
+use Rattle.program_laws.specs.Claims.{IsBeginning, IsSuspended, has_check, EndsAtCheck}
 use Rattle.program_laws.proofs.Lists.{some-begin, length-places, length-each_below}
-use Rattle.program_laws.proofs.Advances.{Went, advance-went}
+use Rattle.program_laws.proofs.Advances.{Went, UnlessStops, advance-went, advance-ends}
 use Rattle.program_laws.proofs.Standing.{Stands, acts-stand}
 
 -- what is proved below of a command word's data, and of a program that goes on
@@ -66,34 +65,18 @@ abbrev pub HasCode : List Command → ℕ → Type 0
 HasCode [] c = ⊥
 HasCode (x ∷ xs) c = code x ≡ c
 
--- after a fault nothing may be left to be moved
-pub record IsStuck (r : Reach) (t : Transfer) : Type 0 where
-  pub ccw : t.moving.ccw ≡ r.ccw
-  pub left : t.moving.left ≡ 0
-  pub within : t.moving.done ≤ r.ccw.count
-  pub fault : is_some t.fault ≡ true
-
 -- the places of the bytes that were moved are those of the blocks before, and the first of the latest
 abbrev pub IsMovedTo : Orb → List Reach → Transfer → List (Option ℕ) → Type 0
 IsMovedTo orb [] t ps = ⊥
 IsMovedTo orb (r ∷ rs) t ps =
-    (IsAt r t.moving ⊎ IsStuck r t) × (ps ≡ places_of_bytes (block (kind_of orb)) rs ++ each_below (place_of_byte (block (kind_of orb)) r) t.moving.done)
+    IsAt r t.moving × (ps ≡ places_of_bytes (block (kind_of orb)) rs ++ each_below (place_of_byte (block (kind_of orb)) r) t.moving.done)
 
 -- a change of what isn't told of
 pub spot-changed : (orb : Orb) (rs : List Reach) (t u : Transfer) (ps : List (Option ℕ)) → u.moving ≡ t.moving → (is_some t.fault ≡ true → is_some u.fault ≡ true) →
     IsMovedTo orb rs t ps → IsMovedTo orb rs u ps
 spot-changed orb [] t u ps m f k = k
 spot-changed orb (r ∷ rs) t u ps m f k = (
-  elim k.0 [
-    | inl a ↦ inl (subst (λ (x : Moving). IsAt r x) (sym m) a)
-    | inr a ↦
-        inr (record {
-          ccw = ap (λ (x : Moving). x.ccw) m ∙ a.ccw;
-          left = ap (λ (x : Moving). x.left) m ∙ a.left;
-          within = subst (λ (x : Moving). x.done ≤ r.ccw.count) (sym m) a.within;
-          fault = f a.fault;
-        })
-  ],
+  subst (λ (x : Moving). IsAt r x) (sym m) k.0,
   k.1 ∙ ap (λ (x : Moving). places_of_bytes (block (kind_of orb)) rs ++ each_below (place_of_byte (block (kind_of orb)) r) x.done) (sym m),
 )
 
@@ -108,16 +91,14 @@ lists-within false r m e a = let f : m.done + m.left ≡ m.ccw.count = a.whole e
 pub at-within : (r : Reach) (m : Moving) → IsAt r m → m.done + m.left ≤ m.ccw.count
 at-within r m a = lists-within (uses_list m) r m refl a
 
-pub done-within : (r : Reach) (t : Transfer) → IsAt r t.moving ⊎ IsStuck r t → t.moving.done ≤ r.ccw.count
-done-within r t (inl a) =
+pub done-within : (r : Reach) (t : Transfer) → IsAt r t.moving → t.moving.done ≤ r.ccw.count
+done-within r t a =
     let f : t.moving.done + t.moving.left ≤ t.moving.ccw.count = at-within r t.moving a in
     let g : t.moving.ccw.count ≡ r.ccw.count = ap (λ (x : Ccw). x.count) a.ccw in
     omega (arith, f, g)
-done-within r t (inr a) = a.within
 
-pub ccw-of : (r : Reach) (t : Transfer) → IsAt r t.moving ⊎ IsStuck r t → t.moving.ccw ≡ r.ccw
-ccw-of r t (inl a) = a.ccw
-ccw-of r t (inr a) = a.ccw
+pub ccw-of : (r : Reach) (t : Transfer) → IsAt r t.moving → t.moving.ccw ≡ r.ccw
+ccw-of r t a = a.ccw
 
 -- so the places are a beginning of the command's, and the count is right
 pub spot-begins : (orb : Orb) (rs : List Reach) (t : Transfer) (ps : List (Option ℕ)) → IsMovedTo orb rs t ps → IsBeginning ps (places_of_bytes (block (kind_of orb)) rs)
@@ -136,6 +117,10 @@ spot-counts orb (r ∷ rs) t ps k =
     let same : t.moving.ccw.count ≡ r.ccw.count = ap (λ (x : Ccw). x.count) (ccw-of r t k.0) in
     omega (arith, e, f, g, h, same)
 
+-- nothing was moved, shown or ended of it
+abbrev pub IsFresh : Transfer → Type 0
+IsFresh t = (t.sequence ≡ 0) × (t.offered ≡ 0) × (t.stopped ≡ false) × (t.ended ≡ false) × (t.unchained ≡ false)
+
 -- so many commands were sent under earlier numbers
 module _ (earlier : ℕ) where
   pub record Tied (orb : Orb) (acts : List Act) (ps : List (Option ℕ)) (t : Transfer) : Type 0 where
@@ -147,6 +132,8 @@ module _ (earlier : ℕ) where
     pub kind : t.moving.kind ≡ kind_of orb
     pub spot : IsMovedTo orb (data_areas orb acts) t ps
     pub number : length (commands orb acts) ≡ earlier + t.command
+    pub ends : EndsAtCheck orb acts
+    pub checked : is_some t.fault ≡ false → has_check orb acts ≡ false
 
   -- a transfer of the same command, as far as it has come
   same-command : (orb : Orb) (acts : List Act) (ps qs : List (Option ℕ)) (t u : Transfer) → u.walk ≡ t.walk → u.moving.ccw ≡ t.moving.ccw → u.moving.kind ≡ t.moving.kind →
@@ -160,6 +147,8 @@ module _ (earlier : ℕ) where
     kind = kind ∙ k.kind;
     spot = spot;
     number = k.number ∙ ap (λ (x : ℕ). earlier + x) (sym n);
+    ends = k.ends;
+    checked = λ e. k.checked (f e);
   }
 
   pub changed : (orb : Orb) (acts : List Act) (ps : List (Option ℕ)) (t u : Transfer) → u.walk ≡ t.walk → u.moving ≡ t.moving → u.code ≡ t.code → u.command ≡ t.command →
@@ -174,18 +163,19 @@ module _ (earlier : ℕ) where
     -- a command begins, or can't, or the program is suspended where one may begin
     abbrev pub Begins : Orb → List Act → List Act → ℕ → CommandStart → Type 0
     Begins orb before acts n (came.Begins t) =
-        Tied orb acts [] t × (t.command ≡ n) × ((c : Command) × (commands orb acts ≡ c ∷ commands orb before) × (code c ≡ t.code) × (t.sequence ≡ 0))
+        Tied orb acts [] t × (t.command ≡ n) × ((c : Command) × (commands orb acts ≡ c ∷ commands orb before) × (code c ≡ t.code) × IsFresh t)
+        × (is_some t.fault ≡ false)
     Begins orb before acts n came.Suspends =
-        IsProgram orb acts × (data_areas orb acts ≡ data_areas orb before) × (commands orb acts ≡ commands orb before) × ((role_of orb acts).chained ≡ false) × IsSuspended orb acts
+        IsProgram orb acts × (data_areas orb acts ≡ data_areas orb before) × (commands orb acts ≡ commands orb before) × ((role_of orb acts).chained ≡ false) × IsSuspended orb acts × EndsAtCheck orb acts
     Begins orb before acts n (came.Stops check) =
-        IsProgram orb acts × (data_areas orb acts ≡ data_areas orb before) × (commands orb acts ≡ commands orb before) × (next orb acts ≡ None)
+        IsProgram orb acts × (data_areas orb acts ≡ data_areas orb before) × (commands orb acts ≡ commands orb before) × (next orb acts ≡ None) × EndsAtCheck orb acts
 
     taken-begins : (orb : Orb) (before acts : List Act) (walk : WalkPlace) (n : ℕ) (ccw : Ccw) → walk ≡ walk_place orb acts →
         (role_of orb before).chained ≡ false → length (commands orb before) + 1 ≡ earlier + n → IsProgram orb acts →
         commands orb acts ≡ commands_after (role_of orb before).chained (commands orb before) (Takes ccw) →
         data_areas orb acts ≡ reaches_after (role_of orb before).chained (commands orb before) (data_areas orb before) (Takes ccw) → next orb acts ≡ None →
-        (role_of orb acts).chained ≡ ccw.chain_data → Begins orb before acts n (came.Begins (transfer_of walk n ccw))
-    taken-begins orb before acts walk n ccw w c l p f g h i =
+        (role_of orb acts).chained ≡ ccw.chain_data → EndsAtCheck orb acts → has_check orb acts ≡ false → Begins orb before acts n (came.Begins (transfer_of walk n ccw))
+    taken-begins orb before acts walk n ccw w c l p f g h i en hc =
         let cs : List Command = commands orb before in
         let commanded : commands orb acts ≡ record { first = ccw; more = [] } ∷ cs =
         f ∙ ap (λ (x : Bool). if x then join_last cs ccw else record { first = ccw; more = [] } ∷ cs) c in
@@ -200,21 +190,25 @@ module _ (earlier : ℕ) where
             kind = ap (λ (x : WalkPlace). kind_of x.orb) w;
             spot =
                 subst (λ (rs : List Reach). IsMovedTo orb rs (transfer_of walk n ccw) []) (sym reached)
-                (inl (laws.begins (kind_of walk.orb) ccw (is_skipped ccw.command ccw)), refl);
+                (laws.begins (kind_of walk.orb) ccw (is_skipped ccw.command ccw), refl);
             number = ap length commanded ∙ (let z : suc (length cs) ≡ length cs + 1 = omega arith in z) ∙ l;
+            ends = en;
+            checked = λ z. hc;
           },
           refl,
-          (record { first = ccw; more = [] }, commanded, refl, refl),
+          (record { first = ccw; more = [] }, commanded, refl, (refl, refl, refl, refl, refl)),
+          refl,
         )
 
     advance-begins : (orb : Orb) (before acts : List Act) (walk : WalkPlace) (n : ℕ) (a : Option Advance) → walk ≡ walk_place orb acts → (role_of orb before).chained ≡ false →
         length (commands orb before) + 1 ≡ earlier + n → IsProgram orb acts →
         Went (role_of orb before).chained (commands orb before) (commands orb acts) (data_areas orb before) (data_areas orb acts) (next orb acts) (role_of orb acts) a →
-        ((x : Advance) → a ≡ Some x → Stands orb acts x) → (a ≡ None → next orb acts ≡ None) → Begins orb before acts n (command_begins walk n a)
-    advance-begins orb before acts walk n (Some (advance.Takes ccw)) w c l p k s z = taken-begins orb before acts walk n ccw w c l p k.0 k.1 k.2 k.3
-    advance-begins orb before acts walk n (Some advance.Suspends) w c l p k s z = (p, k.1, k.0, k.2 ∙ c, s advance.Suspends refl)
-    advance-begins orb before acts walk n (Some (advance.Stops check)) w c l p k s z = (p, k.1, k.0, s (advance.Stops check) refl)
-    advance-begins orb before acts walk n None w c l p k s z = (p, k.1, k.0, z refl)
+        ((x : Advance) → a ≡ Some x → Stands orb acts x) → (a ≡ None → next orb acts ≡ None) → EndsAtCheck orb acts × UnlessStops a (has_check orb acts) →
+        Begins orb before acts n (command_begins walk n a)
+    advance-begins orb before acts walk n (Some (advance.Takes ccw)) w c l p k s z x = taken-begins orb before acts walk n ccw w c l p k.0 k.1 k.2 k.3 x.0 x.1
+    advance-begins orb before acts walk n (Some advance.Suspends) w c l p k s z x = (p, k.1, k.0, k.2 ∙ c, s advance.Suspends refl, x.0)
+    advance-begins orb before acts walk n (Some (advance.Stops check)) w c l p k s z x = (p, k.1, k.0, s (advance.Stops check) refl, x.0)
+    advance-begins orb before acts walk n None w c l p k s z x = (p, k.1, k.0, z refl, x.0)
 
     -- where a program does not go on, no block was next
     pub none-next : (storage : Contents) (orb : Orb) (before : List Act) → let old : WalkPlace = walk_place orb before in
@@ -231,8 +225,9 @@ module _ (earlier : ℕ) where
             absurd (cc (sym (ap (λ (x : Option Advance). is_some x) a) ∙ s))
 
     pub goes-begins : (storage : Contents) (orb : Orb) (before : List Act) (n : ℕ) → (role_of orb before).chained ≡ false → length (commands orb before) + 1 ≡ earlier + n →
-        IsProgram orb before → Begins orb before (advance_acts storage (walk_place orb before) ++ before) n (goes_to storage n (walk_place orb before)).came
-    goes-begins storage orb before n c l p =
+        IsProgram orb before → has_check orb before ≡ false → EndsAtCheck orb before →
+        Begins orb before (advance_acts storage (walk_place orb before) ++ before) n (goes_to storage n (walk_place orb before)).came
+    goes-begins storage orb before n c l p hc en =
         let old : WalkPlace = walk_place orb before in
         advance-begins orb before (advance_acts storage old ++ before) (after_acts old (advance_acts storage old)) n (advance_of old (advance_acts storage old))
         (laws.leads orb before (advance_acts storage old)) c l (laws.goes storage orb before p) (advance-went storage orb before)
@@ -240,6 +235,7 @@ module _ (earlier : ℕ) where
         (λ e.
         let none : next orb before ≡ None = none-next storage orb before e in
         subst (λ (xs : List Act). next orb (xs ++ before) ≡ None) (sym (ap (λ (x : Option ℕ). acts_at storage old x) none)) none)
+        (advance-ends storage orb before hc en)
 
     -- a word of an indirect list
     needed-left : (m : Moving) → needs_word m ≡ true → m.left ≡ 0
@@ -280,39 +276,18 @@ module _ (earlier : ℕ) where
         subst (λ (x : ListKind). each_below (place_of_byte (block x) r) m.done ≡ each_below (place_of_byte (block x) (reach_with_word r word)) m.done) e
         (sym (laws.stays r m word a (list-used (uses_list m) r m refl a n)))
 
-    wrong-spot : (orb : Orb) (rs : List Reach) (t : Transfer) (ps : List (Option ℕ)) (word : ℕ) → t.moving.kind ≡ kind_of orb → is_some t.fault ≡ false →
-        needs_word t.moving ≡ true → IsMovedTo orb rs t ps → IsMovedTo orb (word_after rs word) (record t { fault = Some Program }) ps
-    wrong-spot orb [] t ps word e f n k = k
-    wrong-spot orb (r ∷ rs) t ps word e f n k =
-        elim k.0 [
-          | inl a ↦ (
-            inr (record {
-              ccw = a.ccw;
-              left = needed-left t.moving n;
-              within = done-within r t (inl a);
-              fault = refl;
-            }),
-            k.1 ∙ ap (λ (xs : List (Option ℕ)). places_of_bytes (block (kind_of orb)) rs ++ xs) (same-places orb r t.moving word e a n),
-          )
-          | inr a ↦ absurd (cc (sym a.fault ∙ f))
-        ]
-
     right-spot : (orb : Orb) (rs : List Reach) (t : Transfer) (ps : List (Option ℕ)) (word size : ℕ) → t.moving.kind ≡ kind_of orb → is_some t.fault ≡ false →
         needs_word t.moving ≡ true → word_fault t.moving.kind (t.moving.words == 0) word size ≡ None → IsMovedTo orb rs t ps →
         IsMovedTo orb (word_after rs word) (record t { moving = with_piece t.moving word }) ps
     right-spot orb [] t ps word size e f n w k = k
-    right-spot orb (r ∷ rs) t ps word size e f n w k =
-        elim k.0 [
-          | inl a ↦ (
-            inl (laws.word r t.moving word a (may-fetch r t.moving word size a n w)),
-            k.1 ∙ ap (λ (xs : List (Option ℕ)). places_of_bytes (block (kind_of orb)) rs ++ xs) (same-places orb r t.moving word e a n),
-          )
-          | inr a ↦ absurd (cc (sym a.fault ∙ f))
-        ]
+    right-spot orb (r ∷ rs) t ps word size e f n w k = (
+      laws.word r t.moving word k.0 (may-fetch r t.moving word size k.0 n w),
+      k.1 ∙ ap (λ (xs : List (Option ℕ)). places_of_bytes (block (kind_of orb)) rs ++ xs) (same-places orb r t.moving word e k.0 n),
+    )
 
     right-tied : (orb : Orb) (acts : List Act) (ps : List (Option ℕ)) (t : Transfer) (word size : ℕ) (w : Option WordFault) →
         word_fault t.moving.kind (t.moving.words == 0) word size ≡ w → is_some t.fault ≡ false → needs_word t.moving ≡ true → Tied orb acts ps t →
-        Tied orb (Word word ∷ acts) ps (with_located t (where_right w (with_piece t.moving word)))
+        Tied orb (act_of_right w word ++ acts) ps (with_located t (where_right w (with_piece t.moving word)))
     right-tied orb acts ps t word size None e f n k = record {
       walk = k.walk;
       program = k.program;
@@ -322,26 +297,19 @@ module _ (earlier : ℕ) where
       kind = k.kind;
       spot = right-spot orb (data_areas orb acts) t ps word size k.kind f n e k.spot;
       number = k.number;
+      ends = (k.checked f, k.ends);
+      checked = λ z. k.checked f;
     }
-    right-tied orb acts ps t word size (Some fault) e f n k = record {
-      walk = k.walk;
-      program = k.program;
-      stands = k.stands;
-      chained = λ z. absurd (cc z);
-      coded = k.coded;
-      kind = k.kind;
-      spot = wrong-spot orb (data_areas orb acts) t ps word k.kind f n k.spot;
-      number = k.number;
-    }
+    right-tied orb acts ps t word size (Some fault) e f n k = faulted orb acts ps t Program k
 
     word-tied : (orb : Orb) (acts : List Act) (ps : List (Option ℕ)) (t : Transfer) (size : ℕ) (w : Result ℕ Check) → is_some t.fault ≡ false →
-        needs_word t.moving ≡ true → Tied orb acts ps t → Tied orb (act_of_word w ++ acts) ps (with_located t (access.piece_begun t.moving size w))
+        needs_word t.moving ≡ true → Tied orb acts ps t → Tied orb (act_of_word t.moving size w ++ acts) ps (with_located t (access.piece_begun t.moving size w))
     word-tied orb acts ps t size (Ok word) f n k = right-tied orb acts ps t word size (word_fault t.moving.kind (t.moving.words == 0) word size) refl f n k
     word-tied orb acts ps t size (Err check) f n k = faulted orb acts ps t check k
 
     need-tied : (storage : Contents) (orb : Orb) (acts : List Act) (ps : List (Option ℕ)) (t : Transfer) (b : Bool) → needs_word t.moving ≡ b → is_some t.fault ≡ false →
         Tied orb acts ps t →
-        Tied orb ((if b then act_of_word (access.word_fetched storage t.walk.orb.key t.moving) else []) ++ acts) ps
+        Tied orb ((if b then act_of_word t.moving (length storage.bytes) (access.word_fetched storage t.walk.orb.key t.moving) else []) ++ acts) ps
         (with_located t (if b then access.piece_begun t.moving (length storage.bytes) (access.word_fetched storage t.walk.orb.key t.moving) else Ok t.moving))
     need-tied storage orb acts ps t true n f k = word-tied orb acts ps t (length storage.bytes) (access.word_fetched storage t.walk.orb.key t.moving) f n k
     need-tied storage orb acts ps t false n f k = k
@@ -373,30 +341,14 @@ module _ (earlier : ℕ) where
     moved-spot orb (r ∷ rs) t ps n e l k =
         let b : ℕ = block (kind_of orb) in
         let m : Moving = t.moving in
-        elim k.0 [
-          | inl a ↦
-              let more : each_below (place_of_byte b r) m.done ++ each_below (next_place m) n ≡ each_below (place_of_byte b r) (m.done + n) =
-              subst (λ (x : ListKind). each_below (place_of_byte (block x) r) m.done ++ each_below (next_place m) n ≡ each_below (place_of_byte (block x) r) (m.done + n)) e
-              (laws.places r m n a l) in (
-                inl (laws.moved r m n a l),
-                ap (λ (xs : List (Option ℕ)). xs ++ each_below (next_place m) n) k.1
-                    ∙ append_assoc (places_of_bytes b rs) (each_below (place_of_byte b r) m.done) (each_below (next_place m) n)
-                    ∙ ap (λ (xs : List (Option ℕ)). places_of_bytes b rs ++ xs) more,
-              )
-          | inr a ↦
-              let z : n ≡ 0 = let h : m.left ≡ 0 = a.left in omega (arith, l, h) in
-              let left : m.left - n ≡ 0 = let h : m.left ≡ 0 = a.left in omega (arith, h) in
-              let done : m.done + n ≡ m.done = omega (arith, z) in (
-                inr (record {
-                  ccw = a.ccw;
-                  left = left;
-                  within = subst (λ (x : ℕ). x ≤ r.ccw.count) (sym done) a.within;
-                  fault = a.fault;
-                }),
-                ap (λ (x : ℕ). ps ++ each_below (next_place m) x) z ∙ append-nil ps ∙ k.1
-                    ∙ ap (λ (x : ℕ). places_of_bytes b rs ++ each_below (place_of_byte b r) x) (sym done),
-              )
-        ]
+        let more : each_below (place_of_byte b r) m.done ++ each_below (next_place m) n ≡ each_below (place_of_byte b r) (m.done + n) =
+        subst (λ (x : ListKind). each_below (place_of_byte (block x) r) m.done ++ each_below (next_place m) n ≡ each_below (place_of_byte (block x) r) (m.done + n)) e
+        (laws.places r m n k.0 l) in (
+          laws.moved r m n k.0 l,
+          ap (λ (xs : List (Option ℕ)). xs ++ each_below (next_place m) n) k.1
+              ∙ append_assoc (places_of_bytes b rs) (each_below (place_of_byte b r) m.done) (each_below (next_place m) n)
+              ∙ ap (λ (xs : List (Option ℕ)). places_of_bytes b rs ++ xs) more,
+        )
 
     pub with_moved-tied : (orb : Orb) (acts : List Act) (ps : List (Option ℕ)) (t : Transfer) (n : ℕ) → n ≤ t.moving.left → Tied orb acts ps t →
         Tied orb acts (ps ++ each_below (next_place t.moving) n) (with_moved t n)

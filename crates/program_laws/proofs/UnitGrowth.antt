@@ -38,7 +38,7 @@ use Rattle.subchannel_model.specs.Taking.{goes_ahead, bytes_of_load}
 use Rattle.program_laws.specs.Traces.{CommandTrace, no_trace}
 use Rattle.program_laws.proofs.MachineActs.{with_acts, with_places, trace_moved_on, trace_answered, with_copy, copying, trace_giving, gives, with_arrival, storing, arriving, takes_in, located_acts, chained_acts, chunk_of, first_acts, next_acts}
 use Rattle.program_laws.specs.Traces.{ProgramTrace, past_part}
-use Rattle.program_laws.proofs.MachineTraces.{trace_goes_on, trace_begins, begins_anew, begins_again, again_as, begins_as, accepted_at, trace_accepted, moves, answers, ends_alone, chains, trace_ends, trace_meets}
+use Rattle.program_laws.proofs.MachineTraces.{trace_goes_on, trace_begins, begins_anew, begins_again, again_as, begins_as, accepted_at, trace_accepted, moves, answers, ends_alone, with_ended, chains, trace_ends, trace_meets}
 
 -- the codes of the commands after the earlier ones, the latest first
 abbrev pub later_codes : ℕ → List ℕ → List ℕ
@@ -189,17 +189,17 @@ now-grown k now a =
       codes = inl (c.0, ap (λ (l : List Act). later_codes k.earlier (map code (commands k.orb l))) a.1 ∙ c.1);
     }
 
-goes_on-grown : (c : CommandStart) (acts : List Act) (k : ProgramTrace) → IsGrown k (trace_goes_on c acts k)
-goes_on-grown (came.Begins t) acts k = record { number = refl; taken = refl; absorbed = refl; sent = omega arith; codes = inl (codes-add k acts) }
-goes_on-grown came.Suspends acts k = now-grown k (with_acts k.now acts) (acts, refl)
-goes_on-grown (came.Stops check) acts k = now-grown k (with_acts k.now acts) (acts, refl)
+goes_on-grown : (storage : Contents) (c : CommandStart) (acts : List Act) (k : ProgramTrace) → IsGrown k (trace_goes_on storage c acts k)
+goes_on-grown storage (came.Begins t) acts k = record { number = refl; taken = refl; absorbed = refl; sent = omega arith; codes = inl (codes-add k acts) }
+goes_on-grown storage came.Suspends acts k = now-grown k (with_acts k.now acts) (acts, refl)
+goes_on-grown storage (came.Stops check) acts k = now-grown k (with_acts k.now acts) (acts, refl)
 
 -- where none was sent
 begins-grown : (storage : Contents) (walk : WalkPlace) (k new : ProgramTrace) → k.sent ≡ 0 → new.number ≡ k.number → new.taken ≡ k.taken → new.absorbed ≡ k.absorbed →
     IsGrown k (trace_begins storage walk new)
 begins-grown storage walk k new e f g h = by (first_command storage walk).came
   where
-    by : (c : CommandStart) → IsGrown k (trace_goes_on c (first_acts storage walk) new)
+    by : (c : CommandStart) → IsGrown k (trace_goes_on storage c (first_acts storage walk) new)
     by (came.Begins t) = record { number = f; taken = g; absorbed = h; sent = omega (arith, e); codes = inr e }
     by came.Suspends = record { number = f; taken = g; absorbed = h; sent = omega (arith, e); codes = inr e }
     by (came.Stops check) = record { number = f; taken = g; absorbed = h; sent = omega (arith, e); codes = inr e }
@@ -255,9 +255,10 @@ chains-grown : (storage : Contents) (s : SubchannelState) (b : ActiveProgram) (s
 chains-grown storage s b status more k =
     let acts : List Act = End (record { goes_on = false; modifier = has_status_modifier status }) ∷ [] in
     if-grown k (chains_command s.scsw b status more) _ (ends_alone status k)
-    (if-grown k (has_device_end status) _ k
-    (goes_on-grown (next_command storage b.transfer (has_status_modifier status)).came (next_acts storage b.transfer (has_status_modifier status)) k) (same-grown k))
-    (now-grown k (with_acts k.now acts) (acts, refl))
+    (if-grown k (has_device_end status) _ (with_ended k)
+    (goes_on-grown storage (next_command storage b.transfer (has_status_modifier status)).came (next_acts storage b.transfer (has_status_modifier status)) k)
+    (now-grown k (record k.now { ended = true }) ([], refl)))
+    (now-grown k (record k.now { acts = acts ++ k.now.acts; ended = true; unchained = true }) (acts, refl))
 
 ends-grown : (storage : Contents) (s : SubchannelState) (b : Option ActiveProgram) (n : ℕ) (status : DeviceStatus) (more : Bool) (k : ProgramTrace) → IsGrown k (trace_ends storage s b n status more k)
 ends-grown storage s None n status more k = same-grown k

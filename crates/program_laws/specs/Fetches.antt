@@ -1,24 +1,27 @@
 -- What a program is made of is what storage held as it was fetched (SA22-7832, chapter 15).
-use Rattle.std.specs.Prelude.{◌≡◌, ◌⊎◌, ◌&&◌, ℕ, true, List, [], ◌∷◌, ◌++◌, length, Ok, Err}
+use Rattle.std.specs.Prelude.{◌≡◌, ◌⊎◌, ◌&&◌, ◌==◌, ◌%◌, ℕ, true, None, List, [], ◌∷◌, ◌++◌, length, Ok, Err}
 use Rattle.orb_block.specs.declared.Orb.{Orb}
 use Rattle.storage_keys.specs.Storage.{Contents, fetched}
 use Rattle.channel_program.specs.declared.check.Check.TheVariants.{Program}
 use Rattle.channel_program.specs.Acts.{Act, Block, Unfetched, Word}
 use Rattle.channel_program.specs.Programs.{role_of}
 use Rattle.channel_program.specs.Walks.{is_program_misplaced}
-use Rattle.idaw.specs.Lists.{kind_of, width, address_of_word}
+use Rattle.idaw.specs.Lists.{kind_of, width, address_of_word, word_fault}
 use Rattle.idaw.specs.Places.{Reach}
 use Rattle.data_move.specs.Accesses.{checked, list_word_of}
 use Rattle.program_laws.specs.DataAreas.{data_areas}
 
--- an indirect word is the next of the list of the latest block, by the key of the operation-request block
+-- an indirect word is the next of the list of the latest block, by the key of the operation-request block; the list is on a boundary of
+-- its words, and the word is right
 abbrev pub IsNextWord : Contents → Orb → List Reach → ℕ → Type 0
 IsNextWord storage orb [] word = ⊥
 IsNextWord storage orb (r ∷ rs) word =
     let kind = kind_of orb in
-    list_word_of kind (checked (fetched storage orb.key (address_of_word kind r.ccw.address (length r.words)) (width kind))) ≡ Ok word
+    (r.ccw.address % width kind ≡ 0)
+    × (list_word_of kind (checked (fetched storage orb.key (address_of_word kind r.ccw.address (length r.words)) (width kind))) ≡ Ok word)
+    × (word_fault kind (length r.words == 0) word (length storage.bytes) ≡ None)
 
--- a block is the eight bytes at its address, by that key; one that could not be fetched is refused by storage with this check, or
+-- what is fetched: a block is the eight bytes at its address, by that key; one that could not be fetched is refused by storage with this check, or
 -- it is the first, at an address where no program may begin
 abbrev pub IsFetched : Contents → Orb → List Act → Act → Type 0
 IsFetched storage orb before (Block address bytes) = fetched storage orb.key address 8 ≡ Ok bytes
@@ -26,7 +29,7 @@ IsFetched storage orb before (Unfetched address check) =
     (checked (fetched storage orb.key address 8) ≡ Err check)
     ⊎ (((role_of orb before).first && is_program_misplaced orb address ≡ true) × (check ≡ Program))
 IsFetched storage orb before (Word word) = IsNextWord storage orb (data_areas orb before) word
-IsFetched storage orb before act = Unit {0}
+IsFetched storage orb before act = ⊥
 
 -- acts, the latest first, after those before
 abbrev pub AreFetched : Contents → Orb → List Act → List Act → Type 0

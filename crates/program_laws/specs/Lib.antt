@@ -4,3 +4,4 @@ pub mod Claims
 pub mod Shows
 pub mod Fetches
 pub mod Tells
+pub mod Reached

@@ -1,7 +1,8 @@
 -- How what was done for a program goes on with each event, told by what is seen: the signals that are taken and sent, and what
 -- storage holds in that step (SA22-7832, chapter 15).
-use Rattle.std.specs.Prelude.{◌≡◌, ◌⊎◌, ◌&&◌, ◌||◌, not, ℕ, ◌==◌, ◌+◌, ◌<◌, min, Bool, true, false, is_none, is_some, if◌then◌else◌, Option, None, Some, List, [], ◌∷◌, ◌++◌, length, map, take, slice_get, IfSome}
+use Rattle.std.specs.Prelude.{◌≡◌, ◌⊎◌, ◌&&◌, ◌||◌, not, ℕ, ◌==◌, ◌+◌, ◌<◌, nat_lt, min, Bool, true, false, is_none, is_some, if◌then◌else◌, Option, None, Some, List, [], ◌∷◌, ◌++◌, length, map, take, slice_get, IfSome}
 use Rattle.orb_block.specs.declared.Orb.{Orb}
+use Rattle.ccw_codec.specs.declared.Ccw.{Ccw}
 use Rattle.scsw_irb.specs.declared.status.DeviceStatus.{DeviceStatus}
 use Rattle.storage_keys.specs.Storage.{Contents}
 use Rattle.chan_model.specs.declared.signal.Down.{Down}
@@ -11,61 +12,56 @@ use Rattle.chan_model.specs.declared.signal.OnPath.{OnPath}
 use Rattle.chan_model.specs.declared.signal.Up.{Up}
 use Rattle.chan_model.specs.declared.signal.Up.TheVariants as up
 use Rattle.chan_model.specs.Loads.{load_length}
-use Rattle.chan_model.specs.UnitReports.{has_device_end, is_last_end}
+use Rattle.chan_model.specs.UnitReports.{has_device_end, has_unit_check, is_last_end}
 use Rattle.chan_events.specs.declared.event.Event.{Event}
 use Rattle.chan_events.specs.declared.event.Event.TheVariants as event
 use Rattle.chan_events.specs.declared.reply.Entry.{Entry}
 use Rattle.chan_events.specs.declared.reply.Reply.{Reply}
 use Rattle.chan_events.specs.declared.reply.Reply.TheVariants as reply
-use Rattle.channel_program.specs.Acts.{Act, End}
-use Rattle.channel_program.specs.Programs.{next, commands, code}
-use Rattle.data_move.specs.Moving.{room}
-use Rattle.transfer.specs.declared.Transfer.{Transfer}
-use Rattle.transfer.specs.Commands.{has_stopped}
-use Rattle.subchannel_model.specs.declared.state.ActiveProgram.{ActiveProgram}
+use Rattle.channel_program.specs.Acts.{Act, Used_up, End}
+use Rattle.channel_program.specs.Programs.{latest, next, next_used_up, commands, code}
 use Rattle.subchannel_model.specs.declared.state.Program.{Program}
 use Rattle.subchannel_model.specs.declared.state.ProgramPosition.{ProgramPosition}
 use Rattle.subchannel_model.specs.declared.state.Subchannel.{Subchannel}
 use Rattle.subchannel_model.specs.declared.state.SubchannelState.{SubchannelState}
 use Rattle.subchannel_model.specs.Choosing.{unsent_reset, clear_chosen}
-use Rattle.subchannel_model.specs.Ends.{has_status_modifier, breaks_chain}
+use Rattle.subchannel_model.specs.Ends.{has_status_modifier, has_unit_exception, is_unit_check_alone, is_channel_end_alone}
 use Rattle.subchannel_model.specs.Taking.{bytes_of_load}
 use Rattle.machine_model.specs.State.{State, place_of}
 use Rattle.machine_model.specs.Steps.{Run, Opened, Stepped}
-use Rattle.program_laws.specs.Traces.{CommandTrace, no_trace, ProgramTrace, past_part, told_after}
+use Rattle.program_laws.specs.Traces.{CommandTrace, no_trace, ProgramTrace, told_after}
 use Rattle.chan_model.specs.ResetCauses.{is_path}
+use Rattle.program_laws.specs.DataAreas.{data_areas, counts}
 use Rattle.program_laws.specs.Fetches.{AddsFetched}
-use Rattle.program_laws.specs.Claims.{IsBeginning, places_of, TraceCorrect}
+use Rattle.program_laws.specs.Claims.{IsBeginning, places_of, IsSuspended, has_check, TraceCorrect}
+use Rattle.program_laws.specs.Reached.{BeginsData, room_of, is_short, skips, CantReach, CantStore, CantFetch}
 use Rattle.program_laws.specs.Shows.{IsCountShown, IsCountLeft, IsCountZero, IsCountBy, IsCountOf}
 
--- a command that was sent: the number of its program, which of the commands under that number it is, and its code
+-- a command that was sent: the number of its program, which of the commands under that number it is, its code, and how many bytes may come
 pub record SentCommand : Type 0 where
   pub number : ℕ
   pub command : ℕ
   pub sent_code : ℕ
+  pub room : ℕ
 
 abbrev pub command_sent : Option (OnPath Down) → Option SentCommand
 command_sent None = None
 command_sent (Some sent) =
-    elim sent.signal [ down.Command t n code room ↦ Some (record { number = t; command = n; sent_code = code }) | other ↦ None ]
+    elim sent.signal [ down.Command t n code room ↦ Some (record { number = t; command = n; sent_code = code; room = room }) | other ↦ None ]
 
 -- a program goes as far as these acts: the command that is sent is the one that came to it with them, or none is sent and none
 -- came
-abbrev pub GoesTo : Option SentCommand → List Act → ProgramTrace → ProgramTrace → Type 0
-GoesTo (Some c) acts k after =
+abbrev pub GoesTo : Contents → Option SentCommand → List Act → ProgramTrace → ProgramTrace → Type 0
+GoesTo storage (Some c) acts k after =
     (c.number ≡ k.number) × (c.command ≡ k.sent + 1) × (map code (commands k.orb acts) ≡ c.sent_code ∷ map code (commands k.orb k.now.acts))
-    × (after ≡ record k { sent = k.sent + 1; now = record no_trace { acts = acts }; before = k.now })
-GoesTo None acts k after =
+    × (kept : Bool) × BeginsData storage k.orb c.sent_code c.room kept acts
+    × (after ≡ record k { sent = k.sent + 1; now = record no_trace { acts = acts; kept = kept }; before = k.now })
+GoesTo storage None acts k after =
     (map code (commands k.orb acts) ≡ map code (commands k.orb k.now.acts)) × (after ≡ record k { now = record k.now { acts = acts } })
 
 -- from some acts on it is fetched from storage
 abbrev pub GoesOn : Contents → Option (OnPath Down) → List Act → ProgramTrace → ProgramTrace → Type 0
-GoesOn storage sent before k after = (acts : List Act) × AddsFetched storage k.orb before acts × GoesTo (command_sent sent) acts k after
-
--- Accept: the program that waits begins, or else one that was suspended goes on
-abbrev pub beginning : Option Program → ProgramTrace → ProgramTrace
-beginning None k = record k { earlier = length (commands k.orb k.now.acts); now = past_part k.now }
-beginning (Some program) k = record k { orb = program.orb; earlier = 0; now = no_trace }
+GoesOn storage sent before k after = (acts : List Act) × AddsFetched storage k.orb before acts × GoesTo storage (command_sent sent) acts k after
 
 -- the start that was offered neither waits any more nor is suspended, or a halt is pending
 abbrev pub IsOver : SubchannelState → Type 0
@@ -74,18 +70,38 @@ IsOver s =
     ⊎ (((program : Program) → s.waiting ≡ Some program → program.start ≡ s.offered → ⊥)
     × ((position : ProgramPosition) → s.suspended ≡ Some position → position.program.start ≡ s.offered → ⊥))
 
+-- Accept: where the start that was offered is not over, its program begins, or goes on from where it was suspended. The block that
+-- is next is fetched, and so on, up to a command, a check or a suspension
+pub record Begins (storage : Contents) (sent : Option (OnPath Down)) (k after : ProgramTrace) : Type 0 where
+  pub goes : GoesOn storage sent k.now.acts k after
+  pub fetches : after.now.acts ≡ k.now.acts → ⊥
+  pub whole : (next k.orb after.now.acts ≡ None) ⊎ IsSuspended k.orb after.now.acts
+
 abbrev pub Accepted : Contents → SubchannelState → SubchannelState → Option (OnPath Down) → ProgramTrace → ProgramTrace → Type 0
 Accepted storage s next sent k after =
     (IsOver s × (command_sent sent ≡ None) × (after ≡ k) × IsCountOf s next (Some k))
-    ⊎ (GoesOn storage sent (beginning s.waiting k).now.acts (beginning s.waiting k) after × IsCountShown s next after)
+    ⊎ ((IsOver s → ⊥) × Begins storage sent k after × IsCountShown s next after)
 
--- How many bytes a Data moves, by the transfer at work as it stands: of a write, of those that the device says it absorbed, where it
--- is the next, as many as there is room for at the next places; and of a write, how many are given next
-abbrev pub absorbed_of : Transfer → ℕ → ℕ → ℕ
-absorbed_of t s count = if s == t.sequence + 1 then min count (room t.moving) else 0
+-- How many bytes a Data moves: of a write, of those that the device says it absorbed, where it is the next, as many as there is room
+-- for at the next places; and of a write, how many are given next
+abbrev pub has_stopped : CommandTrace → Bool
+has_stopped k = k.stopped || k.kept
 
-abbrev pub given_of : Transfer → ℕ
-given_of t = if has_stopped t || t.moving.skipped then 0 else room t.moving
+abbrev pub room_in : Orb → CommandTrace → ℕ
+room_in orb k = room_of orb k.acts k.moved
+
+abbrev pub absorbed_of : Orb → CommandTrace → ℕ → ℕ → ℕ
+absorbed_of orb k s count = if s == k.sequence + 1 then min count (room_in orb k) else 0
+
+abbrev pub given_of : Orb → CommandTrace → ℕ
+given_of orb now = if has_stopped now || skips (data_areas orb now.acts) then 0 else room_in orb now
+
+-- A check stops the transfer and is kept for the End: of a block that was chained to, or as the next bytes can't be reached, or for this
+-- other cause
+pub record Keeps (cause : Type 0) (storage : Contents) (orb : Orb) (k now : CommandTrace) : Type 0 where
+  pub stays : k.kept ≡ true → now.kept ≡ true
+  pub because : now.kept ≡ true → (k.kept ≡ true) ⊎ ((has_check orb now.acts ≡ true) ⊎ (CantReach storage orb now.acts now.moved ⊎ cause))
+  pub without : now.kept ≡ false → (has_check orb now.acts ≡ false) × (is_short orb now.acts now.moved ≡ false)
 
 -- Data of a write: what the device absorbed of a chunk is moved; and the next chunk that is given is copied from the next places.
 -- Those places the next chunk and the count tell
@@ -104,66 +120,116 @@ pub record Gives (storage : Contents) (orb : Orb) (count next : ℕ) (bytes : Li
   pub arrived : now.arrived ≡ k.arrived
 
 -- Data of a read: its bytes are stored, as many as there is room for, where it is the next, so that none is stored twice; or none
--- are, and storage stays, where it is another or a check stopped the transfer
-abbrev pub Stores : Contents → Contents → ℕ → Bool → ℕ → List ℕ → CommandTrace → CommandTrace → Type 0
-Stores former storage fits faulty s bytes k now =
-    ((s ≡ length k.arrived + 1 → faulty ≡ true) × (storage ≡ former) × (now.arrived ≡ k.arrived) × (now.moved ≡ k.moved))
+-- are, and storage stays, where it is another, a check was kept before, or storage refuses them
+abbrev pub Stores : Contents → Contents → Orb → ℕ → Bool → ℕ → List ℕ → CommandTrace → CommandTrace → Type 0
+Stores former storage orb fits kept s bytes k now =
+    ((s ≡ length k.arrived + 1 → (kept ≡ true) ⊎ CantStore former orb k.acts k.moved (take fits bytes)) × (storage ≡ former) × (now.arrived ≡ k.arrived) × (now.moved ≡ k.moved))
     ⊎ ((s ≡ length k.arrived + 1) × (places : List (Option ℕ))
     × (now.arrived ≡ record { former = former.bytes; chunk = record { storage = storage.bytes; places = places; bytes = take fits bytes } } ∷ k.arrived)
-    × (now.moved ≡ k.moved ++ places))
+    × (now.moved ≡ k.moved ++ places) × (storage ≡ record former { bytes = storage.bytes }))
+
+-- Data of a write: the next chunk is given; a device that absorbed fewer than were given stops the transfer
+pub record GivesNext (storage : Contents) (orb : Orb) (s count : ℕ) (bytes : List ℕ) (k now : CommandTrace) : Type 0 where
+  pub gives : Gives storage orb (absorbed_of orb k s count) (given_of orb now) bytes k now
+  pub keeps : Keeps (CantFetch storage orb now.acts now.moved) storage orb k now
+  pub sequence : now.sequence ≡ s
+  pub given : now.given ≡ length bytes
+  pub stopped : now.stopped ≡ (k.stopped || (s == k.sequence + 1 && nat_lt count k.given))
+
+-- Data of a read: its bytes are stored, and the device is told how many more there is room for
+pub record TakesNext (former storage : Contents) (orb : Orb) (s : ℕ) (bytes : List ℕ) (more : ℕ) (k now : CommandTrace) : Type 0 where
+  pub stores : Stores former storage orb (room_in orb k) k.kept s bytes k now
+  pub copied : now.copied ≡ k.copied
+  pub keeps : Keeps (CantStore former orb k.acts k.moved (take (room_in orb k) bytes)) storage orb k now
+  pub more_room : more ≡ (if has_stopped now then 0 else room_in orb now)
+  pub sequence : now.sequence ≡ s
+  pub given : now.given ≡ k.given
+  pub stopped : now.stopped ≡ k.stopped
 
 -- a Data is answered by what it is answered with
-abbrev pub MovesBy : Contents → Contents → Orb → Transfer → Transfer → ℕ → Load → Down → CommandTrace → CommandTrace → Type 0
-MovesBy former storage orb old new s load (down.Give t c n next bytes) k now =
-    Gives storage orb (absorbed_of old s (load_length load)) (given_of new) bytes k now
-MovesBy former storage orb old new s load (down.Took t n last more) k now =
-    Stores former storage (room old.moving) (is_some new.fault) s (bytes_of_load load) k now × (now.copied ≡ k.copied)
-MovesBy former storage orb old new s load signal k now = ⊥
+abbrev pub MovesBy : Contents → Contents → Orb → ℕ → Load → Down → CommandTrace → CommandTrace → Type 0
+MovesBy former storage orb s load (down.Give t c n next bytes) k now = (storage ≡ former) × GivesNext storage orb s (load_length load) bytes k now
+MovesBy former storage orb s load (down.Took t n last more) k now = TakesNext former storage orb s (bytes_of_load load) more k now
+MovesBy former storage orb s load signal k now = ⊥
 
-abbrev pub Moves : Contents → Contents → Transfer → Transfer → ℕ → Load → Option (OnPath Down) → ProgramTrace → ProgramTrace → Type 0
-Moves former storage old new s load None k after = ⊥
-Moves former storage old new s load (Some sent) k after =
-    (now : CommandTrace) × (after ≡ record k { now = now }) × AddsFetched storage k.orb k.now.acts now.acts
-    × (map code (commands k.orb now.acts) ≡ map code (commands k.orb k.now.acts)) × MovesBy former storage k.orb old new s load sent.signal k.now now
+-- Data is chained where bytes were moved, and those that were moved so far are all that the counts ask for, unless a check was kept:
+-- the latest block says whether another is next
+abbrev pub is_used_up : Orb → Bool → CommandTrace → CommandTrace → Bool
+is_used_up orb kept k now =
+    nat_lt (length k.moved) (length now.moved)
+    && ((length now.moved == counts (data_areas orb k.acts)) && (is_some (next_used_up (latest orb k.acts)) && not kept))
+
+abbrev pub acts_used : Bool → List Act → List Act
+acts_used used acts = if used then Used_up ∷ acts else acts
+
+-- and by its numbers: a Give has the number of the next chunk, and a Took that of its own
+abbrev pub IsAnswerTo : ℕ → ℕ → ℕ → ℕ → Option (OnPath Down) → Type 0
+IsAnswerTo t c n s None = ⊥
+IsAnswerTo t c n s (Some sent) = elim sent.signal [
+  | down.Give u d m next bytes ↦ (u ≡ t) × (d ≡ c) × (m ≡ n) × (next ≡ s + 1)
+  | down.Took u m last more ↦ (u ≡ t) × (m ≡ n) × (last ≡ s)
+  | other ↦ ⊥
+]
+
+abbrev pub Moves : Contents → Contents → ℕ → Load → Option (OnPath Down) → ProgramTrace → ProgramTrace → Type 0
+Moves former storage s load None k after = ⊥
+Moves former storage s load (Some sent) k after =
+    (now : CommandTrace) × (after ≡ record k { now = now })
+    × AddsFetched storage k.orb (acts_used (is_used_up k.orb k.now.kept k.now now) k.now.acts) now.acts
+    × (map code (commands k.orb now.acts) ≡ map code (commands k.orb k.now.acts)) × (now.ended ≡ k.now.ended) × (now.unchained ≡ k.now.unchained)
+    × MovesBy former storage k.orb s load sent.signal k.now now
 
 -- End: a command is chained to where one is next by the program, nothing breaks the chain (chapter 16), and no earlier End of
 -- the command was shown
 abbrev pub ended : Bool → DeviceStatus → Act
 ended goes_on status = End (record { goes_on = goes_on; modifier = has_status_modifier status })
 
-abbrev pub IsChained : Bool → SubchannelState → DeviceStatus → Bool → ProgramTrace → Type 0
-IsChained chains s status more k = (b : ActiveProgram) × (s.begun ≡ Some b)
-    × ((is_some (next k.orb (ended true status ∷ k.now.acts)) && not (b.transfer.unchained || breaks_chain s.scsw b status more)) ≡ chains)
+-- an incorrect length is shown at the first End of a command, where bytes are left on one side; not with unit check alone, nor where a
+-- halt is specified, nor where SLI is one and CD zero; of a command that ended at once only in format 1 where L is zero (own)
+abbrev pub is_length_wrong : Orb → CommandTrace → Bool → DeviceStatus → Bool → Ccw → Bool
+is_length_wrong orb k halted status more ccw =
+    not k.ended && ((not (length k.moved == counts (data_areas orb k.acts)) || more)
+    && (not (is_unit_check_alone status) && (not halted
+    && (not (ccw.suppress_length && not ccw.chain_data) && (not (is_channel_end_alone status) || (orb.format_one && not orb.suppress_length))))))
+
+-- what breaks the chain: an earlier End that did, unit check, unit exception, an incorrect length, a check that was kept, and a halt
+abbrev pub breaks : Orb → CommandTrace → Bool → DeviceStatus → Bool → Bool
+breaks orb k halted status more =
+    k.unchained || (has_unit_check status || (has_unit_exception status
+    || (elim (latest orb k.acts) [ None ↦ false | Some last ↦ is_length_wrong orb k halted status more last.ccw ] || (k.kept || halted))))
+
+abbrev pub IsChained : Bool → Bool → DeviceStatus → Bool → ProgramTrace → Type 0
+IsChained chains halted status more k = (is_some (next k.orb (ended true status ∷ k.now.acts)) && not (breaks k.orb k.now halted status more)) ≡ chains
 
 -- the program goes on as device end comes; until then the command has not ended
 abbrev pub Chains : Contents → DeviceStatus → Option (OnPath Down) → ProgramTrace → ProgramTrace → Type 0
 Chains storage status sent k after =
     ((has_device_end status ≡ true) × GoesOn storage sent (ended true status ∷ k.now.acts) k after)
-    ⊎ ((has_device_end status ≡ false) × (sent ≡ None) × (after ≡ k))
+    ⊎ ((has_device_end status ≡ false) × (sent ≡ None) × (after ≡ record k { now = record k.now { ended = true } }))
 
 -- or none is, and status is made; the last End of a program while a start waits leaves the count of that start
 abbrev pub Ends : Contents → SubchannelState → SubchannelState → DeviceStatus → Bool → Option (OnPath Down) → ProgramTrace → ProgramTrace → Type 0
 Ends storage s next status more sent k after =
-    (IsChained false s status more k × (after ≡ record k { now = record k.now { acts = ended false status ∷ k.now.acts } })
+    (IsChained false s.scsw.functions.halt status more k × (after ≡ record k { now = record k.now { acts = ended false status ∷ k.now.acts; ended = true; unchained = true } })
     × (command_sent sent ≡ None) × (s.pmcw.enabled ≡ true → s.serials.made < next.serials.made)
     × IsCountBy (is_none s.waiting || not (is_last_end status)) s next after)
-    ⊎ (IsChained true s status more k × Chains storage status sent k after × IsCountShown s next after)
+    ⊎ (IsChained true s.scsw.functions.halt status more k × Chains storage status sent k after × IsCountShown s next after)
 
 -- what a signal that is taken tells, and the count of the status that it makes
 abbrev pub Meets : Contents → Contents → SubchannelState → SubchannelState → Up → Bool → Option (OnPath Down) → ProgramTrace → ProgramTrace → Type 0
-Meets former storage s next (up.Accept t) true sent k after = Accepted storage s next sent k after
+Meets former storage s next (up.Accept t) true sent k after = (t ≡ k.number) × (storage ≡ former) × Accepted storage s next sent k after
 Meets former storage s next (up.Data t c n seq load) true sent k after =
-    ((b c : ActiveProgram) × (s.begun ≡ Some b) × (next.begun ≡ Some c) × Moves former storage b.transfer c.transfer seq load sent k after)
-    × IsCountShown s next after
-Meets former storage s next (up.End t n status more) true sent k after = Ends storage s next status more sent k after
-Meets former storage s next (up.Cleared r) taken sent k after = (after ≡ k) × IsCountZero s next
-Meets former storage s next (up.Attn a status) taken sent k after = (after ≡ k) × IsCountLeft s next
-Meets former storage s next signal taken sent k after = (after ≡ k) × IsCountOf s next (Some k)
+    (t ≡ k.number) × (n ≡ k.sent) × IsAnswerTo t c n seq sent
+    × Moves former storage seq load sent k after × IsCountShown s next after
+Meets former storage s next (up.End t n status more) true sent k after = (t ≡ k.number) × (n ≡ k.sent) × (storage ≡ former) × Ends storage s next status more sent k after
+Meets former storage s next (up.Cleared r) taken sent k after = (after ≡ k) × (storage ≡ former) × IsCountZero s next
+Meets former storage s next (up.Attn a status) taken sent k after = (after ≡ k) × (storage ≡ former) × IsCountLeft s next
+Meets former storage s next signal taken sent k after = (after ≡ k) × (storage ≡ former) × IsCountOf s next (Some k)
 
 -- and where there is no program
-abbrev pub MeetsNone : SubchannelState → SubchannelState → Up → Type 0
-MeetsNone s next (up.Cleared r) = IsCountZero s next
-MeetsNone s next signal = IsCountLeft s next
+abbrev pub MeetsNone : Contents → Contents → SubchannelState → SubchannelState → Up → Type 0
+MeetsNone former storage s next (up.Cleared r) = (storage ≡ former) × IsCountZero s next
+MeetsNone former storage s next signal = (storage ≡ former) × IsCountLeft s next
 
 abbrev pub OfBoth : Type 0 → (ProgramTrace → ProgramTrace → Type 0) → Option ProgramTrace → Option ProgramTrace → Type 0
 OfBoth N P None None = N
@@ -185,7 +251,7 @@ abbrev pub GoesBy : ℕ → State → Event → Reply → State → Option Progr
 GoesBy place s (event.Up word path) (reply.Up signal taken sent) new k after =
     (is_path (place_of s word) place ≡ false → (after ≡ k) × AtPlace place s new (λ sub next. next.serials.made ≡ sub.serials.made))
     × (is_path (place_of s word) place ≡ true →
-    AtPlace place s new (λ sub next. OfBoth (MeetsNone sub next signal) (Meets s.storage new.storage sub next signal taken sent) k after))
+    AtPlace place s new (λ sub next. OfBoth (MeetsNone s.storage new.storage sub next signal) (Meets s.storage new.storage sub next signal taken sent) k after))
 GoesBy place s e r new k after = (after ≡ told_after place s e r k) × AtPlace place s new (λ sub next. ShowsBy e sub next k)
 
 -- what is done for the program of a place, throughout a run: none at first, and in each step it goes on by what is seen, and is correct

@@ -1,6 +1,6 @@
 -- What was done for the program that a subchannel offered last, and what offers, devices and their reports tell of it
 -- (SA22-7832, chapter 15).
-use Rattle.std.specs.Prelude.{ℕ, ◌==◌, true, false, if◌then◌else◌, Option, None, Some, option_map, List, [], ◌∷◌, ◌++◌, length, take, slice_get}
+use Rattle.std.specs.Prelude.{ℕ, ◌==◌, Bool, true, false, if◌then◌else◌, Option, None, Some, option_map, List, [], ◌∷◌, ◌++◌, length, take, slice_get}
 use Rattle.orb_block.specs.declared.Orb.{Orb}
 use Rattle.chan_model.specs.declared.signal.Down.TheVariants as down
 use Rattle.chan_model.specs.declared.report.DeviceAnswer.TheVariants.{Absorbed}
@@ -31,9 +31,28 @@ pub record CommandTrace : Type 0 where
   pub copied : List PlacedBytes
   pub arrived : List Arrival
   pub moved : List (Option ℕ)
+  -- the number of the chunk that came last, how many bytes were given last, and whether the device ever absorbed fewer than given
+  pub sequence : ℕ
+  pub given : ℕ
+  pub stopped : Bool
+  -- whether a check stops its data, which its End shows; whether an End of it came; and whether nothing is chained to it any more
+  pub kept : Bool
+  pub ended : Bool
+  pub unchained : Bool
 
 abbrev pub no_trace : CommandTrace
-no_trace = record { acts = []; copied = []; arrived = []; moved = [] }
+no_trace = record {
+  acts = [];
+  copied = [];
+  arrived = [];
+  moved = [];
+  sequence = 0;
+  given = 0;
+  stopped = false;
+  kept = false;
+  ended = false;
+  unchained = false;
+}
 
 -- what was done for the program that was offered under this number
 pub record ProgramTrace : Type 0 where
@@ -57,7 +76,7 @@ trace_offered t orb = record { number = t; orb = orb; earlier = 0; sent = 0; now
 
 -- what was done before: the acts, and the places of the bytes that the last command moved
 abbrev pub past_part : CommandTrace → CommandTrace
-past_part p = record p { copied = []; arrived = [] }
+past_part p = record no_trace { acts = p.acts; moved = p.moved }
 
 abbrev pub trace_resumed : ℕ → ProgramTrace → ProgramTrace
 trace_resumed t k = record (trace_offered t k.orb) { earlier = length (commands k.orb k.now.acts); now = past_part k.now }

@@ -1,0 +1,153 @@
+-- What a subchannel does for its program with a Data is what is seen of it.
+use Rattle.std.proofs.Common.{◌≡◌, refl, sym, ◌∙◌, subst, ℕ, ◌+◌, ◌==◌, Bool, true, false, List, Option, Some, None}
+use Rattle.std.proofs.lemmas.Bool.{eqb-true}
+use Rattle.std.specs.Prelude.{◌||◌, ◌&&◌, if◌then◌else◌, is_some}
+use Rattle.storage_keys.specs.Storage.{Contents}
+use Rattle.chan_model.specs.declared.hold_state.HoldPhase.{HoldPhase}
+use Rattle.chan_model.specs.declared.hold_state.HoldPhase.TheVariants as hold
+use Rattle.chan_model.specs.HoldTable.{is_connected}
+use Rattle.chan_model.specs.declared.signal.Load.{Load}
+use Rattle.chan_model.specs.declared.signal.Up.TheVariants as up
+use Rattle.chan_model.specs.Loads.{load_length}
+use Rattle.chan_model.specs.UnitReports.{is_outward}
+use Rattle.transfer.specs.declared.NextChunk.{NextChunk}
+use Rattle.transfer.specs.declared.Transfer.{Transfer}
+use Rattle.transfer.specs.Commands.{located_transfer}
+use Rattle.transfer.specs.Chunks.{Brought, taken_by_device, next_given, brought, is_answered}
+use Rattle.subchannel_model.specs.declared.signals.DataSignal.{DataSignal}
+use Rattle.subchannel_model.specs.declared.state.ActiveProgram.{ActiveProgram}
+use Rattle.subchannel_model.specs.declared.state.SubchannelState.{SubchannelState}
+use Rattle.subchannel_model.specs.Taking as taking
+use Rattle.subchannel_model.proofs.Named as pieces
+use Rattle.subchannel_model.specs.Taking.{Met, bytes_of_load}
+use Rattle.program_laws.specs.Traces.{CommandTrace, ProgramTrace}
+use Rattle.program_laws.specs.Fetches.{AddsFetched}
+use Rattle.program_laws.specs.Tells.{is_used_up, acts_used, Moves, Meets}
+use Rattle.program_laws.proofs.MachineActs.{gives, takes_in}
+use Rattle.program_laws.proofs.MachineTraces as stories
+use Rattle.program_laws.proofs.Accesses.{AreAccesses}
+use Rattle.program_laws.proofs.Ties.{AreLaws}
+use Rattle.program_laws.proofs.Parts.{IsSame, IsAtWork, absorbed-same, next_given-same, located-same, brought-same, gives-work, takes_in-work}
+use Rattle.program_laws.proofs.Holds.{IsPhase, IsMarked, HasWork, IsHeld}
+use Rattle.program_laws.proofs.Fetches.{gives-adds, takes_in-adds}
+use Rattle.program_laws.proofs.Shows.{ShowsRest, data-shows}
+use Rattle.program_laws.proofs.StatusCounts.{none-counted}
+use Rattle.program_laws.proofs.Moves.{work-codes}
+use Rattle.program_laws.proofs.NextChunks.{gives-next, takes-next, gives-flags, takes-flags}
+
+module _ (laws : AreLaws) (accesses : AreAccesses) where
+  abbrev MovesOf : Contents → Met → ℕ → Load → ProgramTrace → ProgramTrace → Type 0
+  MovesOf storage x seq load k after = Moves storage x.storage seq load x.step.came.sent k after
+
+  out-told : (storage : Contents) (s : SubchannelState) (b : ActiveProgram) (k : ProgramTrace) (signal : DataSignal) (load : Load) → IsAtWork k.earlier k.orb k.now b.transfer true → IsMarked k.now b.transfer →
+      ((signal.sequence == b.transfer.sequence) || (signal.sequence == b.transfer.sequence + 1)) ≡ true →
+      MovesOf storage (taking.meets storage (pieces.give_next storage s b signal (load_length load))) signal.sequence load k (record k { now = gives storage b.transfer signal.sequence (load_length load) k.now })
+  out-told storage s b k signal load w marks at =
+      let t : Transfer = b.transfer in
+      let count : ℕ = load_length load in
+      let a : Transfer = taken_by_device storage t signal.sequence count in
+      let given : NextChunk = next_given storage a in
+      let f : IsSame t a = absorbed-same storage t signal.sequence count in
+      let g : IsSame a given.transfer = next_given-same storage a in
+      let now : CommandTrace = gives storage t signal.sequence count k.now in
+      let used : Bool = is_used_up k.orb (is_some t.fault) k.now now in
+      let adds : AddsFetched storage k.orb (acts_used used k.now.acts) now.acts = gives-adds k.earlier laws storage k.orb k.now t signal.sequence count w in
+      let flags = gives-flags laws accesses k.earlier storage k.now t signal.sequence count marks in (
+        now,
+        refl,
+        subst (λ (x : Bool). AddsFetched storage k.orb (acts_used (is_used_up k.orb x k.now now) k.now.acts) now.acts) (sym marks.3) adds,
+        work-codes k.earlier storage k.orb k.now now used t given.transfer true true (g.0 ∙ f.0, g.1 ∙ f.1) w
+            (gives-work k.earlier laws storage k.orb k.now t signal.sequence count w) adds,
+        flags.0,
+        flags.1,
+        (refl, gives-next laws accesses k.earlier storage k.orb k.now t signal.sequence count w marks at),
+      )
+
+  in-told : (storage : Contents) (s : SubchannelState) (b : ActiveProgram) (k : ProgramTrace) (signal : DataSignal) (load : Load) → IsAtWork k.earlier k.orb k.now b.transfer false → IsMarked k.now b.transfer →
+      ((signal.sequence == b.transfer.sequence) || (signal.sequence == b.transfer.sequence + 1)) ≡ true →
+      MovesOf storage (taking.take_in s b signal (brought storage b.transfer signal.sequence (bytes_of_load load))) signal.sequence load k
+      (record k { now = takes_in storage b.transfer signal.sequence (bytes_of_load load) k.now })
+  in-told storage s b k signal load w marks at =
+      let t : Transfer = b.transfer in
+      let bytes : List ℕ = bytes_of_load load in
+      let a : Brought = brought storage t signal.sequence bytes in
+      let f : IsSame t a.transfer = brought-same storage t signal.sequence bytes in
+      let u : Transfer = located_transfer a.storage a.transfer in
+      let g : IsSame a.transfer u = located-same a.storage a.transfer in
+      let now : CommandTrace = takes_in storage t signal.sequence bytes k.now in
+      let used : Bool = is_used_up k.orb (is_some t.fault) k.now now in
+      let adds : AddsFetched a.storage k.orb (acts_used used k.now.acts) now.acts = takes_in-adds k.earlier laws accesses storage k.orb k.now t signal.sequence bytes w in
+      let flags = takes-flags laws accesses k.earlier storage k.now t signal.sequence bytes marks in (
+        now,
+        refl,
+        subst (λ (x : Bool). AddsFetched a.storage k.orb (acts_used (is_used_up k.orb x k.now now) k.now.acts) now.acts) (sym marks.3) adds,
+        work-codes k.earlier a.storage k.orb k.now now used t u false false (g.0 ∙ f.0, g.1 ∙ f.1) w
+            (takes_in-work k.earlier laws accesses storage k.orb k.now t signal.sequence bytes w) adds,
+        flags.0,
+        flags.1,
+        takes-next laws accesses k.earlier storage k.orb k.now t signal.sequence bytes w marks at,
+      )
+
+  and-left : (a b : Bool) → (a && b) ≡ true → a ≡ true
+  and-left true b e = refl
+  and-left false b e = absurd (cc e)
+
+  and-right : (a b : Bool) → (a && b) ≡ true → b ≡ true
+  and-right true b e = e
+  and-right false b e = absurd (cc e)
+
+  connected-number : (phase : HoldPhase) (signal : DataSignal) (n : ℕ) (b : Option ActiveProgram) (sent : ℕ) → is_connected phase signal.path signal.number signal.connection ≡ true →
+      IsPhase phase n b sent → signal.number ≡ n
+  connected-number hold.Free signal n b sent e k = absurd (cc e)
+  connected-number (hold.Offer t p) signal n b sent e k = absurd (cc e)
+  connected-number (hold.On t p c) signal n b sent e k = eqb-true signal.number t (and-left _ _ e) ∙ k
+  connected-number (hold.Away t) signal n b sent e k = absurd (cc e)
+  connected-number (hold.Letting t p) signal n b sent e k = absurd (cc e)
+  connected-number (hold.Reset r) signal n b sent e k = absurd (cc e)
+
+  -- a Data
+  abbrev DataBy : Contents → SubchannelState → DataSignal → Load → Met → ProgramTrace → ProgramTrace → Type 0
+  DataBy storage s signal load x k after =
+      ShowsRest s.serials.made x.step.state after →
+      Meets storage x.storage s x.step.state (up.Data signal.number signal.connection signal.command signal.sequence load) x.step.came.taken x.step.came.sent k after
+
+  moves-meets : (storage : Contents) (s : SubchannelState) (b : ActiveProgram) (k : ProgramTrace) (signal : DataSignal) (load : Load) (x : Bool) → s.begun ≡ Some b → is_outward b.transfer.code ≡ x →
+      signal.number ≡ k.number → signal.command ≡ k.sent → IsMarked k.now b.transfer →
+      ((signal.sequence == b.transfer.sequence) || (signal.sequence == b.transfer.sequence + 1)) ≡ true → IsAtWork k.earlier k.orb k.now b.transfer (is_outward b.transfer.code) →
+      DataBy storage s signal load (if x then taking.meets storage (pieces.give_next storage s b signal (load_length load))
+      else taking.take_in s b signal (brought storage b.transfer signal.sequence (bytes_of_load load))) k
+      (if x then record k { now = gives storage b.transfer signal.sequence (load_length load) k.now } else record k { now = takes_in storage b.transfer signal.sequence (bytes_of_load load) k.now })
+  moves-meets storage s b k signal load true is d u n marks at w r =
+      (u, n, (refl, refl, refl, refl), out-told storage s b k signal load (subst (λ (y : Bool). IsAtWork k.earlier k.orb k.now b.transfer y) d w) marks at, r)
+  moves-meets storage s b k signal load false is d u n marks at w r =
+      (u, n, (refl, refl, refl), in-told storage s b k signal load (subst (λ (y : Bool). IsAtWork k.earlier k.orb k.now b.transfer y) d w) marks at, r)
+
+  answers-meets : (storage : Contents) (s : SubchannelState) (b : ActiveProgram) (k : ProgramTrace) (signal : DataSignal) (load : Load) (x : Bool) → is_answered b.transfer signal.command signal.sequence ≡ x → s.begun ≡ Some b →
+      signal.number ≡ k.number → b.transfer.command ≡ k.sent → IsMarked k.now b.transfer → IsAtWork k.earlier k.orb k.now b.transfer (is_outward b.transfer.code) →
+      DataBy storage s signal load (if x then taking.move_bytes storage s b signal load else taking.meets storage (taking.ignoring s)) k
+      (if x then stories.moves storage b.transfer signal.sequence load k else k)
+  answers-meets storage s b k signal load true e is u m marks w r =
+      let n : signal.command ≡ b.transfer.command = eqb-true signal.command b.transfer.command (and-left _ _ (and-left _ _ e)) in
+      moves-meets storage s b k signal load (is_outward b.transfer.code) is refl u (n ∙ m) marks (and-right _ _ (and-left _ _ e)) w r
+  answers-meets storage s b k signal load false e is u m marks w r = (refl, refl, none-counted s s k refl)
+
+  work-meets : (storage : Contents) (s : SubchannelState) (b : Option ActiveProgram) (k : ProgramTrace) (signal : DataSignal) (load : Load) → s.begun ≡ b → HasWork b k → signal.number ≡ k.number →
+      DataBy storage s signal load (taking.move_data storage s b signal load) k (stories.answers storage b signal.command signal.sequence load k)
+  work-meets storage s None k signal load is w u r = (refl, refl, none-counted s s k refl)
+  work-meets storage s (Some b) k signal load is w u r = answers-meets storage s b k signal load (is_answered b.transfer signal.command signal.sequence) refl is u w.1 w.3 w.0 r
+
+  data-by : (storage : Contents) (s : SubchannelState) (k : ProgramTrace) (signal : DataSignal) (load : Load) (x : Bool) → is_connected s.hold.phase signal.path signal.number signal.connection ≡ x → IsHeld s k →
+      DataBy storage s signal load (if x then taking.move_data storage s s.begun signal load else taking.meets storage (taking.ignoring s)) k
+      (if x then stories.answers storage s.begun signal.command signal.sequence load k else k)
+  data-by storage s k signal load true e h r =
+      work-meets storage s s.begun k signal load refl h.work (connected-number s.hold.phase signal k.number s.begun k.sent e h.phase) r
+  data-by storage s k signal load false e h r = (refl, refl, none-counted s s k refl)
+
+  pub data-meets : (storage : Contents) (s : SubchannelState) (k : ProgramTrace) (signal : DataSignal) (load : Load) (x : Bool) → is_connected s.hold.phase signal.path signal.number signal.connection ≡ x → IsHeld s k →
+      let met : Met = if x then taking.move_data storage s s.begun signal load else taking.meets storage (taking.ignoring s) in
+      let after : ProgramTrace = if x then stories.answers storage s.begun signal.command signal.sequence load k else k in
+      IsHeld met.step.state after →
+      Meets storage met.storage s met.step.state (up.Data signal.number signal.connection signal.command signal.sequence load) met.step.came.taken met.step.came.sent k after
+  data-meets storage s k signal load x e h g =
+      data-by storage s k signal load x e h
+      (data-shows storage s signal load (if x then stories.answers storage s.begun signal.command signal.sequence load k else k) x g)
