@@ -1,0 +1,7 @@
+pub mod CodeTable
+pub mod Shown
+pub mod Codes
+pub mod Functions
+pub mod Serials
+pub mod Choices
+pub mod Interruptions

@@ -1,0 +1,75 @@
+//! What STORE SUBCHANNEL shows of the status of a subchannel, in every run: theorems over the list of its entries alone.
+#![tactic(auto)]
+
+ghost use Rattle.std.specs.Prelude.{List};
+ghost use Rattle.chan_events.specs.declared.reply.Entry.{Entry};
+ghost use Rattle.channel_config.specs.Setup.{Setup, set_count};
+ghost use Rattle.machine_model.specs.State.{State, opening_of};
+ghost use Rattle.machine_model.specs.Steps.{Run};
+ghost use Rattle.shown_laws.specs.Choices.{AreChoicesRight};
+ghost use Rattle.shown_laws.specs.Codes.{AreCodesRight, AreThree};
+ghost use Rattle.shown_laws.specs.Functions.{DoFunctionsFollow};
+ghost use Rattle.shown_laws.specs.Interruptions.{IsAskedFor, IsGivenOnce, IsLowestFirst, IsOldestFirst};
+ghost use Rattle.shown_laws.specs.Serials.{AreMade, ArePendingShown};
+
+use machine_laws::{numbers, setups, steps};
+use step_laws::walks;
+
+/// In each run an instruction on a subchannel answers the condition code of its table for the status that STORE SUBCHANNEL shows
+/// just before, and 3 where its word names no subchannel that is configured (SA22-7832, chapter 14).
+pub fn codes()
+    ensures table { (setup : Setup) (h : List Entry) (s : State) → Run (opening_of setup) h s → AreCodesRight (set_count setup) h }
+    ensures absent { (setup : Setup) (h : List Entry) (s : State) → Run (opening_of setup) h s → AreThree setup h }
+{
+    walks();
+    setups();
+    steps();
+}
+
+/// In each run the functions and the activity that STORE SUBCHANNEL shows are those of the instructions that were accepted and
+/// not tested, a choice leaves of the activity what its reply tells, no signal or lost path makes anything pending, and what
+/// changes nothing of a subchannel leaves its status as it was (SA22-7832, chapters 14 and 16).
+pub fn functions()
+    ensures follow { (setup : Setup) (h : List Entry) (s : State) → Run (opening_of setup) h s → DoFunctionsFollow (set_count setup) h }
+{
+    walks();
+    setups();
+    steps();
+}
+
+/// In each run an entry makes as many statuses as its cause makes due, clears all or none, and changes what is shown beside only
+/// as it makes one; and status is pending exactly where fewer were cleared than made (SA22-7832, chapters 14 and 16).
+pub fn serials()
+    ensures made { (setup : Setup) (h : List Entry) (s : State) → Run (opening_of setup) h s → AreMade (set_count setup) h }
+    ensures pending { (setup : Setup) (h : List Entry) (s : State) → Run (opening_of setup) h s → ArePendingShown (set_count setup) h }
+{
+    walks();
+    setups();
+    steps();
+    numbers();
+}
+
+/// In each run the subsystem chooses by the status that STORE SUBCHANNEL shows just before, and but where it makes status
+/// pending leaves all of it but the halt that it sends and whether a path was not operational (SA22-7832, chapters 14 to 16).
+pub fn choices()
+    ensures reasons { (setup : Setup) (h : List Entry) (s : State) → Run (opening_of setup) h s → AreChoicesRight (set_count setup) h }
+{
+    walks();
+    setups();
+    steps();
+}
+
+/// In each run TEST PENDING INTERRUPTION of all subclasses gives a request where one stands; it gives none of a subchannel of
+/// which none stands; and of two that it gives right after each other the first is of the lower subclass, or of the same and
+/// not the newer (SA22-7832, chapters 14 and 16).
+pub fn requests()
+    ensures asked { (setup : Setup) (h : List Entry) (s : State) → Run (opening_of setup) h s → IsAskedFor (set_count setup) h }
+    ensures once { (setup : Setup) (h : List Entry) (s : State) → Run (opening_of setup) h s → IsGivenOnce setup h }
+    ensures lowest { (setup : Setup) (h : List Entry) (s : State) → Run (opening_of setup) h s → IsLowestFirst h }
+    ensures oldest { (setup : Setup) (h : List Entry) (s : State) → Run (opening_of setup) h s → IsOldestFirst setup h }
+{
+    walks();
+    setups();
+    steps();
+    event_laws::codes();
+}
