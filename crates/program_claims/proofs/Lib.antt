@@ -1,0 +1,11 @@
+mod StorageSteps
+mod Waits
+mod Waiting
+mod Starting
+mod Telling
+mod Overs
+mod OverRuns
+mod Functions
+mod FunctionSteps
+mod Halts
+mod Runs

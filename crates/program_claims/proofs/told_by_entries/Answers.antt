@@ -1,0 +1,9 @@
+use Rattle.program_claims.proofs.Runs.{run-programs}
+use Rattle.program_claims.proofs.told_by_entries.Goals as goal
+
+pub returns : goal.returns
+returns c =
+    record {
+      told = λ setup lawful h s run.
+          run-programs (record { walks = c.walks.ensures.each; runs = record { set_up = c.setups.ensures.set_up; above = c.reset_numbers.ensures.above } }) setup lawful (c.programs.ensures.told setup lawful) h s run;
+    }

@@ -1,0 +1,2 @@
+pub mod StorageTold
+pub mod ProgramTold
