@@ -1,22 +1,82 @@
--- The headline: what holds of a channel subsystem at its opening, in each step, and after each step of its history.
+-- The headline: what holds of the history of a channel subsystem by its entries alone; and what holds of its states at the opening, in each
+-- step, and after each step.
 use Rattle.std.specs.Prelude.{List, All}
 use Rattle.chan_events.specs.declared.event.Event.{Event}
 use Rattle.chan_events.specs.declared.reply.Entry.{Entry}
 use Rattle.chan_events.specs.declared.reply.Reply.{Reply}
-use Rattle.channel_config.specs.Setup.{Setup}
+use Rattle.channel_config.specs.Setup.{Setup, set_count}
 use Rattle.event_laws.specs.Clearing.{ClearsByCause}
 use Rattle.event_laws.specs.Codes.{IsByTable}
 use Rattle.event_laws.specs.Counts.{CountsByStatus}
 use Rattle.event_laws.specs.Resets.{ResetsByCause, StaysReset}
 use Rattle.machine_laws.specs.Agreeing.{AllAgree, HoldEndsByReset}
-use Rattle.machine_laws.specs.Claims.{IsPendingUncleared}
+use Rattle.machine_laws.specs.Beginnings.{IsBegunOnce}
+use Rattle.machine_laws.specs.Claims.{IsPendingUncleared, IsClearedOnce}
 use Rattle.machine_model.specs.Setups.{IsSetUp}
 use Rattle.machine_model.specs.State.{State, opening_of}
 use Rattle.machine_model.specs.Steps.{HasRun, Run, Opened, Step, Stepped}
 use Rattle.path_laws.specs.Engines.{IsOnePath}
 use Rattle.path_laws.specs.Returns.{OffersOnDedicated, ReturnsByFirst}
 use Rattle.path_laws.specs.Shown.{AreShown}
+use Rattle.program_claims.specs.ProgramTold.{AreProgramsTold}
 use Rattle.program_laws.specs.Tells.{AllTold}
+use Rattle.seen_laws.specs.BeginsItsOwn.{BeginsItsOwn}
+use Rattle.seen_laws.specs.BothAgree.{DoBothAgree}
+use Rattle.seen_laws.specs.ByItsPath.{IsByItsPath}
+use Rattle.seen_laws.specs.Dedicated as dedicated
+use Rattle.seen_laws.specs.DevicePaths.{HasOneWayEach}
+use Rattle.seen_laws.specs.Engines.{HasOneEngine}
+use Rattle.seen_laws.specs.Links.{KeepsLinks}
+use Rattle.seen_laws.specs.OneHolder.{HasOneHolder}
+use Rattle.seen_laws.specs.PathReports.{AnswersByPaths}
+use Rattle.shown_laws.specs.Choices.{AreChoicesRight}
+use Rattle.shown_laws.specs.Codes.{AreCodesRight, AreThree}
+use Rattle.shown_laws.specs.Functions.{DoFunctionsFollow}
+use Rattle.shown_laws.specs.Interruptions.{IsAskedFor, IsGivenOnce, IsLowestFirst, IsOldestFirst}
+use Rattle.shown_laws.specs.Serials.{AreMade, ArePendingShown}
+
+-- of a history, by its entries alone
+pub record HeadlineHolds (setup : Setup) (h : List Entry) : Type 0 where
+  -- one path: what a subchannel takes of its program, and what it sends to it, goes by the path of the last Accept or Grant
+  pub by_its_path : IsByItsPath (set_count setup) h
+  -- and what comes up or down under a connection comes by its path, where a device takes a Give too
+  pub device_paths : HasOneWayEach setup h
+  -- one engine serves a subchannel, on a path that is up, and each serves one
+  pub one_engine : HasOneEngine setup h
+  -- what a subchannel takes, sends and chooses is due where its program is
+  pub links : KeepsLinks setup h
+  -- one holder: what a unit does with each signal is due by the program that holds its device
+  pub one_holder : HasOneHolder setup h
+  -- both sides agree on it, or the unit was restarted and that reset isn't yet taken
+  pub both_agree : DoBothAgree setup h
+  -- an Accept begins the program of the start that was offered, or none
+  pub begins_its_own : BeginsItsOwn (set_count setup) h
+  -- after an End with unit check, offers are by its path
+  pub dedicated_offers : dedicated.OffersOnDedicated (set_count setup) h
+  -- each accepted start begins at most one program
+  pub begun_once : IsBegunOnce (set_count setup) h
+  -- each status is cleared by at most one TEST SUBCHANNEL
+  pub cleared_once : IsClearedOnce (set_count setup) h
+  -- condition codes are the tables', by the status that STORE SUBCHANNEL shows just before; 3 where there is no such subchannel
+  pub codes : AreCodesRight (set_count setup) h
+  pub absent : AreThree setup h
+  -- functions and activity are those of the instructions that were accepted and not tested
+  pub functions : DoFunctionsFollow (set_count setup) h
+  -- each cause makes one status; status is pending exactly where fewer were cleared than made
+  pub made : AreMade (set_count setup) h
+  pub pending : ArePendingShown (set_count setup) h
+  -- a status that is made asks for an interruption until it is given or taken away; it is given once, lower subclasses first, and of one
+  -- subclass the oldest first
+  pub asked : IsAskedFor (set_count setup) h
+  pub given_once : IsGivenOnce setup h
+  pub lowest_first : IsLowestFirst h
+  pub oldest_first : IsOldestFirst setup h
+  -- the subsystem chooses by the status that is shown just before
+  pub choices : AreChoicesRight (set_count setup) h
+  -- RESET CHANNEL PATH and STORE CHANNEL REPORT WORD answer by the paths that are up, the resets that are asked for and what happened
+  pub path_reports : AnswersByPaths setup h
+  -- what is done for each program can be told: its blocks and words as storage held them, the commands that are sent, the bytes moved
+  pub programs : AreProgramsTold setup h
 
 -- of each state
 pub record HoldsAfter (opening : State) (h : List Entry) (s : State) (run : Run opening h s) : Type 0 where
@@ -55,7 +115,9 @@ HoldsThroughout opening _ _ Opened = HoldsAfter opening _ _ Opened
 HoldsThroughout opening _ _ (Stepped h old e r new run step) =
     HoldsThroughout opening h old run × HoldsIn opening h old run e r new step × HoldsAfter opening _ _ (Stepped h old e r new run step)
 
--- these entries lead there from the opening of each set-up that the machine has, and by whatever states they do, all that holds
-abbrev pub HasHeld : List Entry → State → Type 0
-HasHeld h s =
-    HasRun h s × ((setup : Setup) → IsSetUp setup s → (run : Run (opening_of setup) h s) → HoldsThroughout (opening_of setup) h s run)
+-- these entries lead there from the opening of each set-up that the machine has; by them alone the headline holds, and by whatever
+-- states they lead there, all that holds of states and steps
+pub record HasHeld (h : List Entry) (s : State) : Type 0 where
+  pub leads : HasRun h s
+  pub seen : (setup : Setup) → IsSetUp setup s → HeadlineHolds setup h
+  pub throughout : (setup : Setup) → IsSetUp setup s → (run : Run (opening_of setup) h s) → HoldsThroughout (opening_of setup) h s run

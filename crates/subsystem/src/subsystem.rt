@@ -21,6 +21,7 @@ ghost use Rattle.machine_laws.specs.Claims.{IsClearedOnce};
 ghost use Rattle.machine_laws.specs.Beginnings.{IsBegunOnce};
 ghost use Rattle.signal_places.specs.Answers.{answer_at};
 
+use crate::seen::headline;
 use chan_events::event::Event;
 use chan_events::reply::Reply;
 use chan_model::fault::Fault;
@@ -289,6 +290,7 @@ impl<P: PathChoice + Drop> Subsystem<P> {
         event_laws::counts();
         event_laws::resets();
         programs();
+        headline();
         let _ = &self.history;
     }
 

@@ -26,6 +26,7 @@ pub returns-clause-headline : goal.returns-clause-headline
 returns-clause-headline g c =
     subst (λ (x : Past). HasHeld x.history x.state) c.self.view_is
     (past-held
+    c.headline.ensures.holds
     (λ setup lawful h s run. record {
       one_path = c.engines.ensures.one setup h s lawful run;
       agree = c.agreements.ensures.agree setup h s lawful run;
