@@ -5,9 +5,10 @@ use crate::cycle::{IRB, Kind};
 use crate::floor::Seated;
 use chan_events::event::Instruction;
 use chan_model::names::Cpu;
+use core_lock::executing::CpuInstruction;
 use core_lock::locked::{Core, Seat, audit};
-use core_lock::machine::{CpuInstruction, Machine};
 use core_parts::naming::Naming;
+use machine_lock::machine::Machine;
 use path_select::Rotating;
 use std::alloc::{AllocError, Global};
 use std::sync::Wait;
@@ -199,9 +200,9 @@ fn race_from<J: Naming + Send + Sync, R: Threads + Wait + Sync>(
 ) -> Option<RaceCount> {
     let mut core = core;
     let runners = runners_of(alloc, &mut core, race);
-    let machine = Machine::new(core);
+    let (machine, stock) = Machine::new(core);
     let ran = ran(rt, alloc, &machine, seat, runners, race.times);
-    let core = machine.into_core();
+    let core = machine.into_core(stock);
     let (seats, instructions, looks) = ran?;
     Some(counted(core, seats, instructions, looks))
 }

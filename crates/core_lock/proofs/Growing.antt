@@ -13,10 +13,11 @@ use Rattle.core_parts.specs.declared.turns.KeptReport.{KeptReport}
 use Rattle.core_parts.specs.declared.turns.Turn.{Turn}
 use Rattle.core_parts.specs.declared.turns.Turn.TheVariants.{Enters, Leaves, Owes, Rests}
 use Rattle.core_parts.specs.Directory.{Directory, directory_of}
-use Rattle.core_parts.specs.Seats.{Locked, Seated, entry}
+use Rattle.path_select.specs.Choice.{Rule}
+use Rattle.core_parts.specs.Seats.{Guarded, GuardedCore, HeldSeat, Seated, entry}
 use Rattle.core_lock.specs.Entering.{entered}
 use Rattle.core_parts.specs.Turns.{turn_of, report_event, kept_after, path_turn_among}
-use Rattle.core_lock.specs.Turns.{turned, with_kept, with_left, with_owed, Tries, Passes, HandsIn, TakesTurn, TakesUnitTurn, TakesPathTurn, MayStand, MayTurn, IsOfPath, IsOfWorker, Grew, IsKeptFrom, IsOwedBy, WorksPath, WorksUnit, count_in}
+use Rattle.core_lock.specs.Turns.{turned, turned_seat, emptied_seat, turn_of_path, with_kept, with_left, with_owed, Tries, Passes, HandsIn, TakesTurn, TakesUnitTurn, TakesPathTurn, MayStand, MayTurn, IsOfPath, IsOfWorker, Grew, IsKeptFrom, IsOwedBy, WorksPath, WorksUnit, count_in}
 
 all_none : (P : Entry → Type 0) → All P []
 all_none P k d lt = absurd (omega arith)
@@ -36,13 +37,13 @@ module _ (P : Event → Type 0) where
   grew_more a b c m n (xs, b_is, lm, pm) (ys, c_is, ln, pn) =
       (xs ++ ys, c_is ∙ ap (λ l. l ++ ys) b_is ∙ append_assoc a xs ys, length-append xs ys ∙ (λ i. lm i + ln i), All-append (λ (e : Entry). P e.event) xs ys pm pn)
 
-  tries_grows : (old : Locked) (seat last : Seated) (e : Event) (result : Result Bool Fault) (new : Locked) (after : Seated) → last.log ≡ seat.log → P e → Tries old seat last e result new after → Grew P seat.log after.log (count_in result)
-  tries_grows old seat last e (Ok true) new after same p (r, enters) =
-      grew_one seat.log after.log e r (ap (λ (s : Seated). s.log) enters.4 ∙ ap (λ l. l ++ entry e r ∷ []) same) p
-  tries_grows old seat last e (Ok false) new after same p t = absurd t
-  tries_grows old seat last e (Err f) new after same p (may, core, is) = grew_none seat.log after.log (ap (λ (s : Seated). s.log) is)
+  tries_grows : (picks : Rule) (old : GuardedCore) (seat : HeldSeat) (last : Seated) (e : Event) (result : Result Bool Fault) (new : Guarded) (after : Seated) → last.log ≡ seat.value.log → P e → Tries picks old seat last e result new after → Grew P seat.value.log after.log (count_in result)
+  tries_grows picks old seat last e (Ok true) new after same p (r, enters) =
+      grew_one seat.value.log after.log e r (ap (λ (s : Seated). s.log) enters.0.3 ∙ ap (λ l. l ++ entry e r ∷ []) same) p
+  tries_grows picks old seat last e (Ok false) new after same p t = absurd t
+  tries_grows picks old seat last e (Err f) new after same p (may, core, is) = grew_none seat.value.log after.log (ap (λ (s : Seated). s.log) is)
 
-  passes_grows : (old : Locked) (seat : Seated) (result : Result Bool Fault) (new : Locked) (after : Seated) → Passes old seat result new after → Grew P seat.log after.log (count_in result)
+  passes_grows : (old : GuardedCore) (seat : Seated) (result : Result Bool Fault) (new : Guarded) (after : Seated) → Passes old seat result new after → Grew P seat.log after.log (count_in result)
   passes_grows old seat result new after (is, core, same) =
       subst (λ n. Grew P seat.log after.log n) (sym (ap count_in is)) (grew_none seat.log after.log (ap (λ (s : Seated). s.log) same))
 
@@ -51,32 +52,37 @@ grew_wider P Q old new n wider (more, is, len, all) = (more, is, len, All-weaker
 
 -- what an event that is entered does not change of a seat
 module _ {A : Type 0} (f : Seated → A) (stays : (s : Seated) (e : Event) (r : Reply) → f (entered s e r) ≡ f s) where
-  tries_same : (old : Locked) (seat last : Seated) (e : Event) (result : Result Bool Fault) (new : Locked) (after : Seated) → f last ≡ f seat → Tries old seat last e result new after → f after ≡ f seat
-  tries_same old seat last e (Ok true) new after same (r, enters) = ap f enters.4 ∙ stays last e r ∙ same
-  tries_same old seat last e (Ok false) new after same t = absurd t
-  tries_same old seat last e (Err fault) new after same (may, core, is) = ap f is
+  tries_same : (picks : Rule) (old : GuardedCore) (seat : HeldSeat) (last : Seated) (e : Event) (result : Result Bool Fault) (new : Guarded) (after : Seated) → f last ≡ f seat.value → Tries picks old seat last e result new after → f after ≡ f seat.value
+  tries_same picks old seat last e (Ok true) new after same (r, enters) = ap f enters.0.3 ∙ stays last e r ∙ same
+  tries_same picks old seat last e (Ok false) new after same t = absurd t
+  tries_same picks old seat last e (Err fault) new after same (may, core, is) = ap f is
 
 -- what turns of a path's worker leave
-takes_path_turn : (chpid : ℕ) (old : Locked) (seat : Seated) (o : Option Event) (result : Result Bool Fault) (new : Locked) (after : Seated) → ((e : Event) → o ≡ Some e → IsOfPath seat.directory chpid e) → TakesPathTurn old seat o result new after → WorksPath chpid seat after (count_in result)
-takes_path_turn chpid old seat None result new after all t = record {
+takes_path_turn : (picks : Rule) (chpid : ℕ) (old : GuardedCore) (seat : HeldSeat) (o : Option Event) (result : Result Bool Fault) (new : Guarded) (after : Seated) → ((e : Event) → o ≡ Some e → IsOfPath seat.value.directory chpid e) → TakesPathTurn picks old seat o result new after → WorksPath chpid seat.value after (count_in result)
+takes_path_turn picks chpid old seat None result new after all t = record {
   number = ap (λ (s : Seated). s.number) t.2;
   directory = ap (λ (s : Seated). s.directory) t.2;
   owed = ap (λ (s : Seated). s.owed) t.2;
-  log = passes_grows (IsOfPath seat.directory chpid) old seat result new after t;
+  log = passes_grows (IsOfPath seat.value.directory chpid) old seat.value result new after t;
 }
-takes_path_turn chpid old seat (Some e) result new after all t = record {
-  number = tries_same (λ (s : Seated). s.number) (λ s x r. refl) old seat seat e result new after refl t;
-  directory = tries_same (λ (s : Seated). s.directory) (λ s x r. refl) old seat seat e result new after refl t;
-  owed = tries_same (λ (s : Seated). s.owed) (λ s x r. refl) old seat seat e result new after refl t;
-  log = tries_grows (IsOfPath seat.directory chpid) old seat seat e result new after refl (all e refl) t;
+takes_path_turn picks chpid old seat (Some e) result new after all t = record {
+  number = tries_same (λ (s : Seated). s.number) (λ s x r. refl) picks old seat seat.value e result new after refl t;
+  directory = tries_same (λ (s : Seated). s.directory) (λ s x r. refl) picks old seat seat.value e result new after refl t;
+  owed = tries_same (λ (s : Seated). s.owed) (λ s x r. refl) picks old seat seat.value e result new after refl t;
+  log = tries_grows (IsOfPath seat.value.directory chpid) picks old seat seat.value e result new after refl (all e refl) t;
 }
 
-pub path_works : (old : Locked) (seat : Seated) (chpid : ℕ) (result : Result Bool Fault) (new : Locked) (after : Seated) → MayStand seat.directory old.state → TakesPathTurn old (turned seat) (path_turn_among old.state chpid (directory_of old.state).setups) result new after → WorksPath chpid seat after (count_in result)
-path_works old seat chpid result new after stands t =
-    let among : (e : Event) → path_turn_among old.state chpid (directory_of old.state).setups ≡ Some e → IsOfPath seat.directory chpid e =
-    λ e is. (old.state, stands, subst (λ (d : Directory). path_turn_among old.state chpid d.setups ≡ Some e) stands.2 is) in
-    let w = takes_path_turn chpid old (turned seat) (path_turn_among old.state chpid (directory_of old.state).setups) result new after among t in
+pub path_works : (picks : Rule) (old : GuardedCore) (seat : HeldSeat) (chpid : ℕ) (result : Result Bool Fault) (new : Guarded) (after : Seated) → MayStand seat.value.directory old.value.state → TakesPathTurn picks old (turned_seat seat) (turn_of_path old.value.state chpid) result new after → WorksPath chpid seat.value after (count_in result)
+path_works picks old seat chpid result new after stands t =
+    let among : (e : Event) → turn_of_path old.value.state chpid ≡ Some e → IsOfPath seat.value.directory chpid e =
+    λ e is. (old.value.state, stands, subst (λ (d : Directory). path_turn_among old.value.state chpid d.setups ≡ Some e) stands.2 is) in
+    let w = takes_path_turn picks chpid old (turned_seat seat) (turn_of_path old.value.state chpid) result new after among t in
     record { number = w.number; directory = w.directory; owed = w.owed; log = w.log }
+
+-- a turn of a path's worker is counted by itself
+pub path_turns : (picks : Rule) (old : GuardedCore) (seat : HeldSeat) (o : Option Event) (result : Result Bool Fault) (new : Guarded) (after : Seated) → TakesPathTurn picks old seat o result new after → after.turns ≡ seat.value.turns
+path_turns picks old seat None result new after t = ap (λ (s : Seated). s.turns) t.2
+path_turns picks old seat (Some e) result new after t = tries_same (λ (s : Seated). s.turns) (λ s x r. refl) picks old seat seat.value e result new after refl t
 
 -- what turns of a unit's worker leave
 module _ (d : Directory) (roam : Bool) (at : ℕ) where
@@ -108,33 +114,33 @@ module _ (d : Directory) (roam : Bool) (at : ℕ) where
   of_worker a b e p (inl is) = inl is
   of_worker a b e p (inr (kept, from, is)) = inr (kept, kept_on a b (Some kept) p from, is)
 
-takes_turn : (old : Locked) (seat : Seated) (roam : Bool) (at : ℕ) (t : Turn) (result : Result Bool Fault) (new : Locked) (after : Seated) → MayTurn seat.directory roam at t → seat.kept ≡ None → TakesTurn old seat t result new after → WorksUnit roam at seat after (count_in result)
-takes_turn old seat roam at (Enters e) result new after may none t = record {
-  number = tries_same (λ (s : Seated). s.number) (λ s x r. refl) old seat seat e result new after refl t;
-  directory = tries_same (λ (s : Seated). s.directory) (λ s x r. refl) old seat seat e result new after refl t;
-  kept = none_kept seat.directory roam at seat.kept after.kept (tries_same (λ (s : Seated). s.kept) (λ s x r. refl) old seat seat e result new after refl t ∙ none);
-  log = tries_grows (IsOfWorker seat.directory roam at seat.kept) old seat seat e result new after refl (inl (Enters e, may, refl)) t;
+takes_turn : (picks : Rule) (old : GuardedCore) (seat : HeldSeat) (roam : Bool) (at : ℕ) (t : Turn) (result : Result Bool Fault) (new : Guarded) (after : Seated) → MayTurn seat.value.directory roam at t → seat.value.kept ≡ None → TakesTurn picks old seat t result new after → WorksUnit roam at seat.value after (count_in result)
+takes_turn picks old seat roam at (Enters e) result new after may none t = record {
+  number = tries_same (λ (s : Seated). s.number) (λ s x r. refl) picks old seat seat.value e result new after refl t;
+  directory = tries_same (λ (s : Seated). s.directory) (λ s x r. refl) picks old seat seat.value e result new after refl t;
+  kept = none_kept seat.value.directory roam at seat.value.kept after.kept (tries_same (λ (s : Seated). s.kept) (λ s x r. refl) picks old seat seat.value e result new after refl t ∙ none);
+  log = tries_grows (IsOfWorker seat.value.directory roam at seat.value.kept) picks old seat seat.value e result new after refl (inl (Enters e, may, refl)) t;
 }
-takes_turn old seat roam at (Leaves command) result new after may none t =
-    let last = with_left seat (Some command) in
+takes_turn picks old seat roam at (Leaves command) result new after may none t =
+    let last = with_left seat.value (Some command) in
     let e = event.Act command.«unit» act.Leave in
     record {
-      number = tries_same (λ (s : Seated). s.number) (λ s x r. refl) old seat last e result new after refl t;
-      directory = tries_same (λ (s : Seated). s.directory) (λ s x r. refl) old seat last e result new after refl t;
-      kept = none_kept seat.directory roam at seat.kept after.kept (tries_same (λ (s : Seated). s.kept) (λ s x r. refl) old seat last e result new after refl t ∙ none);
-      log = tries_grows (IsOfWorker seat.directory roam at seat.kept) old seat last e result new after refl (inl (Leaves command, may, refl)) t;
+      number = tries_same (λ (s : Seated). s.number) (λ s x r. refl) picks old seat last e result new after refl t;
+      directory = tries_same (λ (s : Seated). s.directory) (λ s x r. refl) picks old seat last e result new after refl t;
+      kept = none_kept seat.value.directory roam at seat.value.kept after.kept (tries_same (λ (s : Seated). s.kept) (λ s x r. refl) picks old seat last e result new after refl t ∙ none);
+      log = tries_grows (IsOfWorker seat.value.directory roam at seat.value.kept) picks old seat last e result new after refl (inl (Leaves command, may, refl)) t;
     }
-takes_turn old seat roam at (Owes owed) result new after may none t = record {
+takes_turn picks old seat roam at (Owes owed) result new after may none t = record {
   number = ap (λ (s : Seated). s.number) t.2;
   directory = ap (λ (s : Seated). s.directory) t.2;
-  kept = none_kept seat.directory roam at seat.kept after.kept (ap (λ (s : Seated). s.kept) t.2 ∙ none);
-  log = passes_grows (IsOfWorker seat.directory roam at seat.kept) old (with_owed seat (Some owed)) result new after t;
+  kept = none_kept seat.value.directory roam at seat.value.kept after.kept (ap (λ (s : Seated). s.kept) t.2 ∙ none);
+  log = passes_grows (IsOfWorker seat.value.directory roam at seat.value.kept) old (with_owed seat.value (Some owed)) result new after t;
 }
-takes_turn old seat roam at Rests result new after may none t = record {
+takes_turn picks old seat roam at Rests result new after may none t = record {
   number = ap (λ (s : Seated). s.number) t.2;
   directory = ap (λ (s : Seated). s.directory) t.2;
-  kept = none_kept seat.directory roam at seat.kept after.kept (ap (λ (s : Seated). s.kept) t.2 ∙ none);
-  log = passes_grows (IsOfWorker seat.directory roam at seat.kept) old seat result new after t;
+  kept = none_kept seat.value.directory roam at seat.value.kept after.kept (ap (λ (s : Seated). s.kept) t.2 ∙ none);
+  log = passes_grows (IsOfWorker seat.value.directory roam at seat.value.kept) old seat.value result new after t;
 }
 
 -- what is handed in
@@ -145,79 +151,79 @@ pub record Handed (roam : Bool) (at : ℕ) (report : KeptReport) (seat after : S
   pub kept : IsKeptFrom seat.directory roam at (Some report) after.kept
   pub log : Grew (IsOfWorker seat.directory roam at (Some report)) seat.log after.log count
 
-handed : (old : Locked) (seat : Seated) (roam : Bool) (at : ℕ) (kept : KeptReport) (result : Result Bool Fault) (new : Locked) (after : Seated) → seat.kept ≡ None → HandsIn old seat kept result new after → Handed roam at kept seat after (count_in result)
-handed old seat roam at kept (Ok true) new after none (r, enters) = record {
-  number = ap (λ (s : Seated). s.number) enters.4;
-  directory = ap (λ (s : Seated). s.directory) enters.4;
-  owed = ap (λ (s : Seated). s.owed) enters.4;
-  kept = none_kept seat.directory roam at (Some kept) after.kept (ap (λ (s : Seated). s.kept) enters.4 ∙ none);
-  log = grew_one (IsOfWorker seat.directory roam at (Some kept)) seat.log after.log (report_event kept) r (ap (λ (s : Seated). s.log) enters.4) (inr (kept, inr refl, refl));
+handed : (picks : Rule) (old : GuardedCore) (seat : HeldSeat) (roam : Bool) (at : ℕ) (kept : KeptReport) (result : Result Bool Fault) (new : Guarded) (after : Seated) → seat.value.kept ≡ None → HandsIn picks old seat kept result new after → Handed roam at kept seat.value after (count_in result)
+handed picks old seat roam at kept (Ok true) new after none (r, enters) = record {
+  number = ap (λ (s : Seated). s.number) enters.0.3;
+  directory = ap (λ (s : Seated). s.directory) enters.0.3;
+  owed = ap (λ (s : Seated). s.owed) enters.0.3;
+  kept = none_kept seat.value.directory roam at (Some kept) after.kept (ap (λ (s : Seated). s.kept) enters.0.3 ∙ none);
+  log = grew_one (IsOfWorker seat.value.directory roam at (Some kept)) seat.value.log after.log (report_event kept) r (ap (λ (s : Seated). s.log) enters.0.3) (inr (kept, inr refl, refl));
 }
-handed old seat roam at kept (Ok false) new after none (may, core, is) = record {
+handed picks old seat roam at kept (Ok false) new after none (may, core, is) = record {
   number = ap (λ (s : Seated). s.number) is;
   directory = ap (λ (s : Seated). s.directory) is;
   owed = ap (λ (s : Seated). s.owed) is;
-  kept = none_kept seat.directory roam at (Some kept) after.kept (ap (λ (s : Seated). s.kept) is);
-  log = grew_none (IsOfWorker seat.directory roam at (Some kept)) seat.log after.log (ap (λ (s : Seated). s.log) is);
+  kept = none_kept seat.value.directory roam at (Some kept) after.kept (ap (λ (s : Seated). s.kept) is);
+  log = grew_none (IsOfWorker seat.value.directory roam at (Some kept)) seat.value.log after.log (ap (λ (s : Seated). s.log) is);
 }
-handed old seat roam at kept (Err f) new after none (other, may, core, is) = record {
+handed picks old seat roam at kept (Err f) new after none (other, may, core, is) = record {
   number = ap (λ (s : Seated). s.number) is;
   directory = ap (λ (s : Seated). s.directory) is;
   owed = ap (λ (s : Seated). s.owed) is;
-  kept = kept_by seat.directory roam at kept f after.kept (ap (λ (s : Seated). s.kept) is);
-  log = grew_none (IsOfWorker seat.directory roam at (Some kept)) seat.log after.log (ap (λ (s : Seated). s.log) is);
+  kept = kept_by seat.value.directory roam at kept f after.kept (ap (λ (s : Seated). s.kept) is);
+  log = grew_none (IsOfWorker seat.value.directory roam at (Some kept)) seat.value.log after.log (ap (λ (s : Seated). s.log) is);
 }
 
-unit_turn_works : (old : Locked) (seat : Seated) (k : Option KeptReport) (at : ℕ) (roam : Bool) (result : Result Bool Fault) (new : Locked) (after : Seated) → MayStand seat.directory old.state → seat.kept ≡ k → TakesUnitTurn old (turned seat) k at roam result new after → WorksUnit roam at seat after (count_in result)
-unit_turn_works old seat None at roam result new after stands is t =
-    let w = takes_turn old (turned seat) roam at (turn_of roam seat.left at old.state) result new after (old.state, stands, seat.left, refl) is t in
+unit_turn_works : (picks : Rule) (old : GuardedCore) (seat : HeldSeat) (k : Option KeptReport) (at : ℕ) (roam : Bool) (result : Result Bool Fault) (new : Guarded) (after : Seated) → MayStand seat.value.directory old.value.state → seat.value.kept ≡ k → TakesUnitTurn picks old (turned_seat seat) k at roam result new after → WorksUnit roam at seat.value after (count_in result)
+unit_turn_works picks old seat None at roam result new after stands is t =
+    let w = takes_turn picks old (turned_seat seat) roam at (turn_of roam seat.value.left at old.value.state) result new after (old.value.state, stands, seat.value.left, refl) is t in
     record { number = w.number; directory = w.directory; kept = w.kept; log = w.log }
-unit_turn_works old seat (Some kept) at roam result new after stands is t =
-    let w = handed old (with_kept (turned seat) None) roam at kept result new after refl t in
+unit_turn_works picks old seat (Some kept) at roam result new after stands is t =
+    let w = handed picks old (emptied_seat (turned_seat seat)) roam at kept result new after refl t in
     record {
       number = w.number;
       directory = w.directory;
-      kept = subst (λ (o : Option KeptReport). IsKeptFrom seat.directory roam at o after.kept) (sym is) w.kept;
-      log = subst (λ (o : Option KeptReport). Grew (IsOfWorker seat.directory roam at o) seat.log after.log (count_in result)) (sym is) w.log;
+      kept = subst (λ (o : Option KeptReport). IsKeptFrom seat.value.directory roam at o after.kept) (sym is) w.kept;
+      log = subst (λ (o : Option KeptReport). Grew (IsOfWorker seat.value.directory roam at o) seat.value.log after.log (count_in result)) (sym is) w.log;
     }
 
-pub unit_works : (old : Locked) (seat : Seated) (at : ℕ) (roam : Bool) (result : Result Bool Fault) (new : Locked) (after : Seated) → MayStand seat.directory old.state → TakesUnitTurn old (turned seat) seat.kept at roam result new after → WorksUnit roam at seat after (count_in result)
-unit_works old seat at roam result new after stands t = unit_turn_works old seat seat.kept at roam result new after stands refl t
+pub unit_works : (picks : Rule) (old : GuardedCore) (seat : HeldSeat) (at : ℕ) (roam : Bool) (result : Result Bool Fault) (new : Guarded) (after : Seated) → MayStand seat.value.directory old.value.state → TakesUnitTurn picks old (turned_seat seat) seat.value.kept at roam result new after → WorksUnit roam at seat.value after (count_in result)
+unit_works picks old seat at roam result new after stands t = unit_turn_works picks old seat seat.value.kept at roam result new after stands refl t
 
 -- what is owed after a turn
-turn_owed : (old : Locked) (seat : Seated) (roam : Bool) (at : ℕ) (t : Turn) (result : Result Bool Fault) (new : Locked) (after : Seated) → MayTurn seat.directory roam at t → seat.owed ≡ None → TakesTurn old seat t result new after → IsOwedBy seat.directory roam at after.owed
-turn_owed old seat roam at (Enters e) result new after may none t =
-    subst (IsOwedBy seat.directory roam at) (sym (tries_same (λ (s : Seated). s.owed) (λ s x r. refl) old seat seat e result new after refl t ∙ none)) tt
-turn_owed old seat roam at (Leaves command) result new after may none t =
-    subst (IsOwedBy seat.directory roam at) (sym (tries_same (λ (s : Seated). s.owed) (λ s x r. refl) old seat (with_left seat (Some command)) (event.Act command.«unit» act.Leave) result new after refl t ∙ none)) tt
-turn_owed old seat roam at (Owes owed) result new after may none t = subst (IsOwedBy seat.directory roam at) (sym (ap (λ (s : Seated). s.owed) t.2)) may
-turn_owed old seat roam at Rests result new after may none t = subst (IsOwedBy seat.directory roam at) (sym (ap (λ (s : Seated). s.owed) t.2 ∙ none)) tt
+turn_owed : (picks : Rule) (old : GuardedCore) (seat : HeldSeat) (roam : Bool) (at : ℕ) (t : Turn) (result : Result Bool Fault) (new : Guarded) (after : Seated) → MayTurn seat.value.directory roam at t → seat.value.owed ≡ None → TakesTurn picks old seat t result new after → IsOwedBy seat.value.directory roam at after.owed
+turn_owed picks old seat roam at (Enters e) result new after may none t =
+    subst (IsOwedBy seat.value.directory roam at) (sym (tries_same (λ (s : Seated). s.owed) (λ s x r. refl) picks old seat seat.value e result new after refl t ∙ none)) tt
+turn_owed picks old seat roam at (Leaves command) result new after may none t =
+    subst (IsOwedBy seat.value.directory roam at) (sym (tries_same (λ (s : Seated). s.owed) (λ s x r. refl) picks old seat (with_left seat.value (Some command)) (event.Act command.«unit» act.Leave) result new after refl t ∙ none)) tt
+turn_owed picks old seat roam at (Owes owed) result new after may none t = subst (IsOwedBy seat.value.directory roam at) (sym (ap (λ (s : Seated). s.owed) t.2)) may
+turn_owed picks old seat roam at Rests result new after may none t = subst (IsOwedBy seat.value.directory roam at) (sym (ap (λ (s : Seated). s.owed) t.2 ∙ none)) tt
 
-unit_turn_owed : (old : Locked) (seat : Seated) (k : Option KeptReport) (at : ℕ) (roam : Bool) (result : Result Bool Fault) (new : Locked) (after : Seated) → MayStand seat.directory old.state → seat.owed ≡ None → TakesUnitTurn old seat k at roam result new after → IsOwedBy seat.directory roam at after.owed
-unit_turn_owed old seat None at roam result new after stands none t =
-    turn_owed old seat roam at (turn_of roam seat.left at old.state) result new after (old.state, stands, seat.left, refl) none t
-unit_turn_owed old seat (Some kept) at roam result new after stands none t =
-    subst (IsOwedBy seat.directory roam at) (sym ((handed old (with_kept seat None) roam at kept result new after refl t).owed ∙ none)) tt
+unit_turn_owed : (picks : Rule) (old : GuardedCore) (seat : HeldSeat) (k : Option KeptReport) (at : ℕ) (roam : Bool) (result : Result Bool Fault) (new : Guarded) (after : Seated) → MayStand seat.value.directory old.value.state → seat.value.owed ≡ None → TakesUnitTurn picks old seat k at roam result new after → IsOwedBy seat.value.directory roam at after.owed
+unit_turn_owed picks old seat None at roam result new after stands none t =
+    turn_owed picks old seat roam at (turn_of roam seat.value.left at old.value.state) result new after (old.value.state, stands, seat.value.left, refl) none t
+unit_turn_owed picks old seat (Some kept) at roam result new after stands none t =
+    subst (IsOwedBy seat.value.directory roam at) (sym ((handed picks old (emptied_seat seat) roam at kept result new after refl t).owed ∙ none)) tt
 
-pub unit_owed : (old : Locked) (seat : Seated) (at : ℕ) (roam : Bool) (result : Result Bool Fault) (new : Locked) (after : Seated) → MayStand seat.directory old.state → seat.owed ≡ None → TakesUnitTurn old (turned seat) seat.kept at roam result new after → IsOwedBy seat.directory roam at after.owed
-unit_owed old seat at roam result new after stands none t = unit_turn_owed old (turned seat) seat.kept at roam result new after stands none t
+pub unit_owed : (picks : Rule) (old : GuardedCore) (seat : HeldSeat) (at : ℕ) (roam : Bool) (result : Result Bool Fault) (new : Guarded) (after : Seated) → MayStand seat.value.directory old.value.state → seat.value.owed ≡ None → TakesUnitTurn picks old (turned_seat seat) seat.value.kept at roam result new after → IsOwedBy seat.value.directory roam at after.owed
+unit_owed picks old seat at roam result new after stands none t = unit_turn_owed picks old (turned_seat seat) seat.value.kept at roam result new after stands none t
 
 -- a turn is counted by itself: what it is for adds none
-takes_turns : (old : Locked) (seat : Seated) (t : Turn) (result : Result Bool Fault) (new : Locked) (after : Seated) → TakesTurn old seat t result new after → after.turns ≡ seat.turns
-takes_turns old seat (Enters e) result new after t = tries_same (λ (s : Seated). s.turns) (λ s x r. refl) old seat seat e result new after refl t
-takes_turns old seat (Leaves command) result new after t =
-    tries_same (λ (s : Seated). s.turns) (λ s x r. refl) old seat (with_left seat (Some command)) (event.Act command.«unit» act.Leave) result new after refl t
-takes_turns old seat (Owes owed) result new after t = ap (λ (s : Seated). s.turns) t.2
-takes_turns old seat Rests result new after t = ap (λ (s : Seated). s.turns) t.2
+takes_turns : (picks : Rule) (old : GuardedCore) (seat : HeldSeat) (t : Turn) (result : Result Bool Fault) (new : Guarded) (after : Seated) → TakesTurn picks old seat t result new after → after.turns ≡ seat.value.turns
+takes_turns picks old seat (Enters e) result new after t = tries_same (λ (s : Seated). s.turns) (λ s x r. refl) picks old seat seat.value e result new after refl t
+takes_turns picks old seat (Leaves command) result new after t =
+    tries_same (λ (s : Seated). s.turns) (λ s x r. refl) picks old seat (with_left seat.value (Some command)) (event.Act command.«unit» act.Leave) result new after refl t
+takes_turns picks old seat (Owes owed) result new after t = ap (λ (s : Seated). s.turns) t.2
+takes_turns picks old seat Rests result new after t = ap (λ (s : Seated). s.turns) t.2
 
-hands_turns : (old : Locked) (seat : Seated) (kept : KeptReport) (result : Result Bool Fault) (new : Locked) (after : Seated) → HandsIn old seat kept result new after → after.turns ≡ seat.turns
-hands_turns old seat kept (Ok true) new after (r, enters) = ap (λ (s : Seated). s.turns) enters.4
-hands_turns old seat kept (Ok false) new after (may, core, is) = ap (λ (s : Seated). s.turns) is
-hands_turns old seat kept (Err f) new after (other, may, core, is) = ap (λ (s : Seated). s.turns) is
+hands_turns : (picks : Rule) (old : GuardedCore) (seat : HeldSeat) (kept : KeptReport) (result : Result Bool Fault) (new : Guarded) (after : Seated) → HandsIn picks old seat kept result new after → after.turns ≡ seat.value.turns
+hands_turns picks old seat kept (Ok true) new after (r, enters) = ap (λ (s : Seated). s.turns) enters.0.3
+hands_turns picks old seat kept (Ok false) new after (may, core, is) = ap (λ (s : Seated). s.turns) is
+hands_turns picks old seat kept (Err f) new after (other, may, core, is) = ap (λ (s : Seated). s.turns) is
 
-pub unit_turns : (old : Locked) (seat : Seated) (k : Option KeptReport) (at : ℕ) (roam : Bool) (result : Result Bool Fault) (new : Locked) (after : Seated) → TakesUnitTurn old seat k at roam result new after → after.turns ≡ seat.turns
-unit_turns old seat None at roam result new after t = takes_turns old seat (turn_of roam seat.left at old.state) result new after t
-unit_turns old seat (Some kept) at roam result new after t = hands_turns old (with_kept seat None) kept result new after t
+pub unit_turns : (picks : Rule) (old : GuardedCore) (seat : HeldSeat) (k : Option KeptReport) (at : ℕ) (roam : Bool) (result : Result Bool Fault) (new : Guarded) (after : Seated) → TakesUnitTurn picks old seat k at roam result new after → after.turns ≡ seat.value.turns
+unit_turns picks old seat None at roam result new after t = takes_turns picks old seat (turn_of roam seat.value.left at old.value.state) result new after t
+unit_turns picks old seat (Some kept) at roam result new after t = hands_turns picks old (emptied_seat seat) kept result new after t
 
 -- turn after turn
 pub works_more : (roam : Bool) (at : ℕ) (a b c : Seated) (m n : ℕ) → WorksUnit roam at a b m → WorksUnit roam at b c n → WorksUnit roam at a c (m + n)

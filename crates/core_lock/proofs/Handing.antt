@@ -4,33 +4,33 @@ use Rattle.chan_model.specs.declared.fault.Fault.{Fault}
 use Rattle.chan_model.specs.declared.fault.Fault.TheVariants as fault
 use Rattle.chan_events.specs.declared.event.Event.{Event}
 use Rattle.core_parts.specs.declared.turns.KeptReport.{KeptReport}
-use Rattle.core_parts.specs.Seats.{Locked, Seated}
-use Rattle.core_lock.specs.Entering.{Enters, MayRefuse}
+use Rattle.path_select.specs.Choice.{Rule}
+use Rattle.core_parts.specs.Seats.{Guarded, GuardedCore, HeldSeat, Seated}
 use Rattle.core_parts.specs.Turns.{kept_after, refusal_of, report_event}
-use Rattle.core_lock.specs.Turns.{HandsIn, Tries, with_kept}
+use Rattle.core_lock.specs.Turns.{EntersBy, HandsIn, IsRefusedBy, Tries, with_kept}
 
-pub handed_ok : (old : Locked) (seat : Seated) (kept : KeptReport) (e : Event) (b : Bool) (new : Locked) (after : Seated) → e ≡ report_event kept → Tries old seat seat e (Ok b) new after → HandsIn old seat kept (Ok b) new after
-handed_ok old seat kept e true new after is (r, enters) = (r, subst (λ (x : Event). Enters old seat x r new after) is enters)
-handed_ok old seat kept e false new after is t = absurd t
+pub handed_ok : (picks : Rule) (old : GuardedCore) (seat : HeldSeat) (kept : KeptReport) (e : Event) (b : Bool) (new : Guarded) (after : Seated) → e ≡ report_event kept → Tries picks old seat seat.value e (Ok b) new after → HandsIn picks old seat kept (Ok b) new after
+handed_ok picks old seat kept e true new after is (r, enters) = (r, subst (λ (x : Event). EntersBy picks old.value seat.value x r new after) is enters)
+handed_ok picks old seat kept e false new after is t = absurd t
 
-may : (old : Locked) (kept : KeptReport) (e : Event) (f : Fault) → e ≡ report_event kept → MayRefuse old.state e f → MayRefuse old.state (report_event kept) f
-may old kept e f is refused = subst (λ (x : Event). MayRefuse old.state x f) is refused
+may : (picks : Rule) (old : GuardedCore) (seat : HeldSeat) (kept : KeptReport) (e : Event) (f : Fault) → e ≡ report_event kept → IsRefusedBy picks old seat e f → IsRefusedBy picks old seat (report_event kept) f
+may picks old seat kept e f is refused = subst (λ (x : Event). IsRefusedBy picks old seat x f) is refused
 
 left : (seat mid after : Seated) (o : Option KeptReport) → mid ≡ seat → after ≡ with_kept mid o → after ≡ with_kept seat o
 left seat mid after o same is = is ∙ ap (λ (s : Seated). with_kept s o) same
 
-refused : (old : Locked) (seat : Seated) (kept : KeptReport) (e : Event) (f : Fault) (new : Locked) (mid after : Seated) → f ≢ fault.NotNow → e ≡ report_event kept → Tries old seat seat e (Err f) new mid → after ≡ with_kept mid (kept_after kept f) → HandsIn old seat kept (Err f) new after
-refused old seat kept e f new mid after other is t keeps = (other, may old kept e f is t.0, t.1, left seat mid after (kept_after kept f) t.2 keeps)
+refused : (picks : Rule) (old : GuardedCore) (seat : HeldSeat) (kept : KeptReport) (e : Event) (f : Fault) (new : Guarded) (mid after : Seated) → f ≢ fault.NotNow → e ≡ report_event kept → Tries picks old seat seat.value e (Err f) new mid → after ≡ with_kept mid (kept_after kept f) → HandsIn picks old seat kept (Err f) new after
+refused picks old seat kept e f new mid after other is t keeps = (other, may picks old seat kept e f is t.0, t.1, left seat.value mid after (kept_after kept f) t.2 keeps)
 
-pub handed_err : (old : Locked) (seat : Seated) (kept : KeptReport) (e : Event) (f : Fault) (new : Locked) (mid after : Seated) → e ≡ report_event kept → Tries old seat seat e (Err f) new mid → after ≡ with_kept mid (kept_after kept f) → HandsIn old seat kept (refusal_of f) new after
-handed_err old seat kept e fault.NotNow new mid after is t keeps = (may old kept e fault.NotNow is t.0, t.1, left seat mid after None t.2 keeps)
-handed_err old seat kept e fault.NoMemory new mid after is t keeps = refused old seat kept e fault.NoMemory new mid after (λ x. absurd (cc)) is t keeps
-handed_err old seat kept e fault.WireFull new mid after is t keeps = refused old seat kept e fault.WireFull new mid after (λ x. absurd (cc)) is t keeps
-handed_err old seat kept e fault.NotSent new mid after is t keeps = refused old seat kept e fault.NotSent new mid after (λ x. absurd (cc)) is t keeps
-handed_err old seat kept e fault.NoSuchSubchannel new mid after is t keeps = refused old seat kept e fault.NoSuchSubchannel new mid after (λ x. absurd (cc)) is t keeps
-handed_err old seat kept e fault.NoSuchPath new mid after is t keeps = refused old seat kept e fault.NoSuchPath new mid after (λ x. absurd (cc)) is t keeps
-handed_err old seat kept e fault.NoSuchUnit new mid after is t keeps = refused old seat kept e fault.NoSuchUnit new mid after (λ x. absurd (cc)) is t keeps
-handed_err old seat kept e (fault.ConfigBad rule) new mid after is t keeps = refused old seat kept e (fault.ConfigBad rule) new mid after (λ x. absurd (cc)) is t keeps
-handed_err old seat kept e (fault.ScriptBad line rule) new mid after is t keeps = refused old seat kept e (fault.ScriptBad line rule) new mid after (λ x. absurd (cc)) is t keeps
-handed_err old seat kept e (fault.Storage kind) new mid after is t keeps = refused old seat kept e (fault.Storage kind) new mid after (λ x. absurd (cc)) is t keeps
-handed_err old seat kept e fault.Operand new mid after is t keeps = refused old seat kept e fault.Operand new mid after (λ x. absurd (cc)) is t keeps
+pub handed_err : (picks : Rule) (old : GuardedCore) (seat : HeldSeat) (kept : KeptReport) (e : Event) (f : Fault) (new : Guarded) (mid after : Seated) → e ≡ report_event kept → Tries picks old seat seat.value e (Err f) new mid → after ≡ with_kept mid (kept_after kept f) → HandsIn picks old seat kept (refusal_of f) new after
+handed_err picks old seat kept e fault.NotNow new mid after is t keeps = (may picks old seat kept e fault.NotNow is t.0, t.1, left seat.value mid after None t.2 keeps)
+handed_err picks old seat kept e fault.NoMemory new mid after is t keeps = refused picks old seat kept e fault.NoMemory new mid after (λ x. absurd (cc)) is t keeps
+handed_err picks old seat kept e fault.WireFull new mid after is t keeps = refused picks old seat kept e fault.WireFull new mid after (λ x. absurd (cc)) is t keeps
+handed_err picks old seat kept e fault.NotSent new mid after is t keeps = refused picks old seat kept e fault.NotSent new mid after (λ x. absurd (cc)) is t keeps
+handed_err picks old seat kept e fault.NoSuchSubchannel new mid after is t keeps = refused picks old seat kept e fault.NoSuchSubchannel new mid after (λ x. absurd (cc)) is t keeps
+handed_err picks old seat kept e fault.NoSuchPath new mid after is t keeps = refused picks old seat kept e fault.NoSuchPath new mid after (λ x. absurd (cc)) is t keeps
+handed_err picks old seat kept e fault.NoSuchUnit new mid after is t keeps = refused picks old seat kept e fault.NoSuchUnit new mid after (λ x. absurd (cc)) is t keeps
+handed_err picks old seat kept e (fault.ConfigBad rule) new mid after is t keeps = refused picks old seat kept e (fault.ConfigBad rule) new mid after (λ x. absurd (cc)) is t keeps
+handed_err picks old seat kept e (fault.ScriptBad line rule) new mid after is t keeps = refused picks old seat kept e (fault.ScriptBad line rule) new mid after (λ x. absurd (cc)) is t keeps
+handed_err picks old seat kept e (fault.Storage kind) new mid after is t keeps = refused picks old seat kept e (fault.Storage kind) new mid after (λ x. absurd (cc)) is t keeps
+handed_err picks old seat kept e fault.Operand new mid after is t keeps = refused picks old seat kept e fault.Operand new mid after (λ x. absurd (cc)) is t keeps

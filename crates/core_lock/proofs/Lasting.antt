@@ -1,23 +1,20 @@
--- A core stays whole when an event is entered.
+-- What a lock guards stays whole when an event is entered.
 use Rattle.std.proofs.Common.{◌≡◌, ℕ, List, length, ◌∙◌}
 use Rattle.glance_cell.specs.Shown.{Words}
 use Rattle.machine_model.specs.State.{Past}
 use Rattle.subsystem.specs.Keeping.{StaysSetUp, all_serials}
 use Rattle.core_parts.specs.Directory.{Directory}
-use Rattle.core_lock.specs.Keeping.{IsCore, Part}
+use Rattle.core_lock.specs.Keeping.{IsGuarded}
 use Rattle.core_parts.specs.Named.{MachineName, cells_of, shown}
 use Rattle.core_lock.proofs.Directories.{stays_named}
 
-pub stays_core : (past new : Past) (by more : List ℕ) (seats counted count : ℕ) (left turns : Part) (writers news : List Words) (held : Directory) (name : MachineName)
-    → IsCore past by seats counted left turns writers held name
+pub stays_guarded : (past new : Past) (by more : List ℕ) (counted count : ℕ) (writers news : List Words) (held : Directory) (name : MachineName)
+    → IsGuarded past by counted writers held name
     → length more ≡ length new.history → count ≡ length new.history → shown news ≡ all_serials new.state → cells_of news ≡ cells_of writers → StaysSetUp past.state new.state
-    → IsCore new more seats count left turns news held name
-stays_core past new by more seats counted count left turns writers news held name i beside entries shows cells set_up = record {
+    → IsGuarded new more count news held name
+stays_guarded past new by more counted count writers news held name i beside entries shows cells set_up = record {
   beside = beside;
   entries = entries;
-  most = i.most;
-  rest = i.rest;
-  turns = i.turns;
   shown = shows;
   cells = cells ∙ i.cells;
   directory = i.directory;

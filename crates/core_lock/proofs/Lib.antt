@@ -3,6 +3,7 @@ pub mod Directories
 pub mod Growing
 pub mod Raising
 pub mod Handing
-pub mod Calling
 pub mod Lengthening
 pub mod Lasting
+pub mod Trying
+pub mod Answering

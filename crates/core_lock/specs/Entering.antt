@@ -1,5 +1,5 @@
 -- What entering an event leaves, and what a look finds (own).
-use Rattle.std.specs.Prelude.{◌≡◌, ◌≤◌, ◌^◌, ◌⊎◌, ℕ, ◌+◌, ◌-◌, [], ◌∷◌, ◌++◌, length, min, Some, Vec, vec_capacity, vec_len, slice_get, slice_set}
+use Rattle.std.specs.Prelude.{◌≡◌, ◌≤◌, ◌^◌, ◌⊎◌, ℕ, ◌+◌, ◌-◌, [], ◌∷◌, ◌++◌, length, min, Some, Result, Ok, Err, Vec, vec_capacity, vec_len, slice_get, slice_set}
 use Rattle.scsw_irb.specs.declared.serials.Serials.{Serials}
 use Rattle.chan_model.specs.declared.fault.Fault.{Fault}
 use Rattle.chan_model.specs.declared.fault.Fault.TheVariants as fault
@@ -9,24 +9,27 @@ use Rattle.chan_events.specs.declared.reply.Reply.{Reply}
 use Rattle.glance_cell.specs.Shown.{Words}
 use Rattle.machine_model.specs.State.{Past, State}
 use Rattle.machine_model.specs.Steps.{Step, IsRefused}
-use Rattle.core_lock.specs.declared.machine.CpuInstruction.{CpuInstruction}
-use Rattle.core_lock.specs.declared.machine.CpuInstruction.TheVariants as cpu_instruction
+use Rattle.core_lock.specs.declared.executing.CpuInstruction.{CpuInstruction}
+use Rattle.core_lock.specs.declared.executing.CpuInstruction.TheVariants as cpu_instruction
 use Rattle.core_parts.specs.Directory.{place_named}
 use Rattle.core_parts.specs.Named.{counts_of}
-use Rattle.core_parts.specs.Seats.{HeldSeat, Locked, LockedCore, Seated, entry, greater, raised}
+use Rattle.core_parts.specs.Seats.{Guarded, GuardedCore, HeldSeat, LockedCore, Seated, entry, greater, raised}
 
 -- a seat after an event that it entered: its log has the entry
 abbrev pub entered : Seated → Event → Reply → Seated
 entered seat e r = record seat { log = seat.log ++ entry e r ∷ []; pairs = raised seat e r }
 
 -- one step, one entry of the history with the number of its seat beside it, and the same in the log of the seat
-abbrev pub Enters : Locked → Seated → Event → Reply → Locked → Seated → Type 0
+abbrev pub Enters : Guarded → Seated → Event → Reply → Guarded → Seated → Type 0
 Enters old seat e r new after =
     Step old.state e r new.state
     × (new.history ≡ old.history ++ entry e r ∷ [])
     × (new.by ≡ old.by ++ seat.number ∷ [])
-    × (new.seats ≡ old.seats)
     × (after ≡ entered seat e r)
+
+-- what the lock of a core guards
+abbrev pub guarded_in : LockedCore → GuardedCore
+guarded_in core = record { value = record { state = core.value.state; history = core.value.history; by = core.value.by }; room = core.room }
 
 -- an event may be refused so
 abbrev pub MayRefuse : State → Event → Fault → Type 0
@@ -40,8 +43,17 @@ room_of past by = min past.room (vec_capacity by - vec_len by)
 abbrev pub LacksSpace : ℕ → ℕ → ℕ → Type 0
 LacksSpace core seat entries = (min core seat ≡ 0) ⊎ (2 ^ 62 ≤ entries + 1)
 
+abbrev pub LacksRoom : GuardedCore → HeldSeat → Type 0
+LacksRoom core seat = LacksSpace core.room seat.room (length core.value.history)
+
 abbrev pub HasNoRoom : LockedCore → HeldSeat → Type 0
 HasNoRoom core seat = LacksSpace core.room seat.room (length core.value.history)
+
+-- how often an event was refused a seat for want of memory, after this answer; the greatest number of 64 bits stays
+abbrev pub starved_after : Result Reply Fault → ℕ → ℕ
+starved_after (Ok r) starved = starved
+starved_after (Err fault.NoMemory) starved = min (starved + 1) 0xFFFFFFFFFFFFFFFF
+starved_after (Err f) starved = starved
 
 -- the event of an instruction
 abbrev pub event_of : ℕ → CpuInstruction → Event

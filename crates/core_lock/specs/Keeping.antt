@@ -23,18 +23,21 @@ pub record Part : Type 0 where
 abbrev pub IsRest : Part → ℕ → Type 0
 IsRest rest seats = (rest.parts + seats ≡ 1025) × (rest.amount ≡ 0)
 
--- a machine under its lock, whose past and cells are these: each entry has its seat, and the ledger counts the entries; each
--- writer's view is the counts of its subchannel
-pub record IsCore (past : Past) (by : List ℕ) (seats counted : ℕ) (left turns_left : Part) (writers : List Words) (held : Directory) (name : MachineName) : Type 0 where
+-- what the lock of a machine guards, whose past and cells are these: each entry has its seat, and the ledger counts the entries;
+-- each writer's view is the counts of its subchannel
+pub record IsGuarded (past : Past) (by : List ℕ) (counted : ℕ) (writers : List Words) (held : Directory) (name : MachineName) : Type 0 where
   pub beside : length by ≡ length past.history
   pub entries : counted ≡ length past.history
-  pub most : seats ≤ 1024
-  pub rest : IsRest left seats
-  pub turns : IsRest turns_left seats
   pub shown : shown writers ≡ all_serials past.state
   pub cells : cells_of writers ≡ name.cells
   pub directory : held ≡ name.directory
   pub named : IsNamedBy name.directory past.state
+
+-- the seats that can still be made, of which so many were made: the rest of both ledgers
+pub record IsStock (made : ℕ) (left turns_left : Part) : Type 0 where
+  pub most : made ≤ 1024
+  pub rest : IsRest left made
+  pub turns : IsRest turns_left made
 
 -- a seat: its share is the length of its log; it has a pair, in order, and a reader for each subchannel
 pub record IsSeat (counted : Part) (turn_parts : ℕ) (log : List Entry) (pairs : List Serials) (readers : List Words) (held : Directory) (name : MachineName) : Type 0 where

@@ -1,3 +1,4 @@
 pub mod Entering
 pub mod Turns
 pub mod Keeping
+pub mod Outside

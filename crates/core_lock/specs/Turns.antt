@@ -9,18 +9,20 @@ use Rattle.chan_events.specs.declared.event.Event.TheVariants as event
 use Rattle.chan_events.specs.declared.event.UnitAct.TheVariants as act
 use Rattle.chan_events.specs.declared.reply.Entry.{Entry}
 use Rattle.chan_events.specs.declared.reply.Reply.{Reply}
+use Rattle.machine_model.specs.Ruled.{GoesByRule}
 use Rattle.machine_model.specs.State.{State}
-use Rattle.machine_model.specs.Steps.{HasRun}
+use Rattle.machine_model.specs.Steps.{HasRun, IsRefused}
+use Rattle.path_select.specs.Choice.{Rule}
 use Rattle.core_parts.specs.declared.turns.OwedCall.{OwedCall}
 use Rattle.core_parts.specs.declared.turns.KeptReport.{KeptReport}
 use Rattle.core_parts.specs.declared.turns.TakenCommand.{TakenCommand}
 use Rattle.core_parts.specs.declared.turns.Turn.{Turn}
 use Rattle.core_parts.specs.declared.turns.Turn.TheVariants.{Enters, Leaves, Owes, Rests}
 use Rattle.core_parts.specs.Directory.{Directory, directory_of}
-use Rattle.core_parts.specs.Seats.{Locked, Seated}
+use Rattle.core_parts.specs.Seats.{Guarded, GuardedCore, HeldSeat, Seated}
 use Rattle.core_parts.specs.Turns.{kept_after, path_turn_among, report_event, turn_of}
 use Rattle.core_lock.specs.Entering as entering
-use Rattle.core_lock.specs.Entering.{MayRefuse}
+use Rattle.core_lock.specs.Entering.{LacksRoom}
 
 -- a seat with one turn more
 abbrev pub turned : Seated → Seated
@@ -35,39 +37,66 @@ with_owed seat owed = record seat { owed = owed }
 abbrev pub with_left : Seated → Option TakenCommand → Seated
 with_left seat left = record seat { left = left }
 
+abbrev pub turned_seat : HeldSeat → HeldSeat
+turned_seat seat = record seat { value = turned seat.value }
+
+abbrev pub emptied_seat : HeldSeat → HeldSeat
+emptied_seat seat = record seat { value = with_kept seat.value None }
+
+-- an event is entered; a path that is chosen is the one of the rule
+abbrev pub EntersBy : Rule → Guarded → Seated → Event → Reply → Guarded → Seated → Type 0
+EntersBy picks old last e r new after = entering.Enters old last e r new after × GoesByRule picks old.state e (Ok r) new.state
+
+-- an event is refused so, for a seat: for want of memory only where there is no room, and otherwise as the machine refuses it
+abbrev pub IsRefusedBy : Rule → GuardedCore → HeldSeat → Event → Fault → Type 0
+IsRefusedBy picks core seat e f =
+    ((f ≡ fault.NoMemory) × LacksRoom core seat)
+    ⊎ (IsRefused core.value.state e f × GoesByRule picks core.value.state e (Err f) core.value.state)
+
 -- an event is tried: it is entered, and the seat is left as the last one with the entry; or it is refused, and all is left as it was
-abbrev pub Tries : Locked → Seated → Seated → Event → Result Bool Fault → Locked → Seated → Type 0
-Tries old seat last e (Ok true) new after = (r : Reply) × entering.Enters old last e r new after
-Tries old seat last e (Ok false) new after = ⊥
-Tries old seat last e (Err f) new after = MayRefuse old.state e f × (new ≡ old) × (after ≡ seat)
+abbrev pub Tries : Rule → GuardedCore → HeldSeat → Seated → Event → Result Bool Fault → Guarded → Seated → Type 0
+Tries picks core seat last e (Ok true) new after = (r : Reply) × EntersBy picks core.value last e r new after
+Tries picks core seat last e (Ok false) new after = ⊥
+Tries picks core seat last e (Err f) new after = IsRefusedBy picks core seat e f × (new ≡ core.value) × (after ≡ seat.value)
+
+-- an event is executed: it is entered, with its reply; or it is refused, and all is left as it was
+abbrev pub Executes : Rule → GuardedCore → HeldSeat → Event → Result Reply Fault → Guarded → Seated → Type 0
+Executes picks core seat e (Ok r) new after = EntersBy picks core.value seat.value e r new after
+Executes picks core seat e (Err f) new after = IsRefusedBy picks core seat e f × (new ≡ core.value) × (after ≡ seat.value)
 
 -- nothing is entered
-abbrev pub Passes : Locked → Seated → Result Bool Fault → Locked → Seated → Type 0
-Passes old seat result new after = (result ≡ Ok false) × (new ≡ old) × (after ≡ seat)
+abbrev pub Passes : GuardedCore → Seated → Result Bool Fault → Guarded → Seated → Type 0
+Passes core seat result new after = (result ≡ Ok false) × (new ≡ core.value) × (after ≡ seat)
 
 -- a report that is kept is handed in: it is entered, or refused; a stale one is dropped then
-abbrev pub HandsIn : Locked → Seated → KeptReport → Result Bool Fault → Locked → Seated → Type 0
-HandsIn old seat kept (Ok true) new after = (r : Reply) × entering.Enters old seat (report_event kept) r new after
-HandsIn old seat kept (Ok false) new after = MayRefuse old.state (report_event kept) fault.NotNow × (new ≡ old) × (after ≡ with_kept seat None)
-HandsIn old seat kept (Err f) new after =
-    (f ≢ fault.NotNow) × MayRefuse old.state (report_event kept) f × (new ≡ old) × (after ≡ with_kept seat (kept_after kept f))
+abbrev pub HandsIn : Rule → GuardedCore → HeldSeat → KeptReport → Result Bool Fault → Guarded → Seated → Type 0
+HandsIn picks core seat kept (Ok true) new after = (r : Reply) × EntersBy picks core.value seat.value (report_event kept) r new after
+HandsIn picks core seat kept (Ok false) new after =
+    IsRefusedBy picks core seat (report_event kept) fault.NotNow × (new ≡ core.value) × (after ≡ with_kept seat.value None)
+HandsIn picks core seat kept (Err f) new after =
+    (f ≢ fault.NotNow) × IsRefusedBy picks core seat (report_event kept) f × (new ≡ core.value) × (after ≡ with_kept seat.value (kept_after kept f))
 
-abbrev pub TakesTurn : Locked → Seated → Turn → Result Bool Fault → Locked → Seated → Type 0
-TakesTurn old seat (Enters e) result new after = Tries old seat seat e result new after
-TakesTurn old seat (Leaves command) result new after =
-    Tries old seat (with_left seat (Some command)) (event.Act command.«unit» act.Leave) result new after
-TakesTurn old seat (Owes call) result new after = Passes old (with_owed seat (Some call)) result new after
-TakesTurn old seat Rests result new after = Passes old seat result new after
+abbrev pub TakesTurn : Rule → GuardedCore → HeldSeat → Turn → Result Bool Fault → Guarded → Seated → Type 0
+TakesTurn picks core seat (Enters e) result new after = Tries picks core seat seat.value e result new after
+TakesTurn picks core seat (Leaves command) result new after =
+    Tries picks core seat (with_left seat.value (Some command)) (event.Act command.«unit» act.Leave) result new after
+TakesTurn picks core seat (Owes call) result new after = Passes core (with_owed seat.value (Some call)) result new after
+TakesTurn picks core seat Rests result new after = Passes core seat.value result new after
 
 -- a turn of a unit's worker, by a seat with one turn more
-abbrev pub TakesUnitTurn : Locked → Seated → Option KeptReport → ℕ → Bool → Result Bool Fault → Locked → Seated → Type 0
-TakesUnitTurn old seat (Some kept) at roam result new after = HandsIn old (with_kept seat None) kept result new after
-TakesUnitTurn old seat None at roam result new after = TakesTurn old seat (turn_of roam seat.left at old.state) result new after
+abbrev pub TakesUnitTurn : Rule → GuardedCore → HeldSeat → Option KeptReport → ℕ → Bool → Result Bool Fault → Guarded → Seated → Type 0
+TakesUnitTurn picks core seat (Some kept) at roam result new after = HandsIn picks core (emptied_seat seat) kept result new after
+TakesUnitTurn picks core seat None at roam result new after =
+    TakesTurn picks core seat (turn_of roam seat.value.left at core.value.state) result new after
 
 -- a turn of a channel path's worker
-abbrev pub TakesPathTurn : Locked → Seated → Option Event → Result Bool Fault → Locked → Seated → Type 0
-TakesPathTurn old seat None result new after = Passes old seat result new after
-TakesPathTurn old seat (Some e) result new after = Tries old seat seat e result new after
+abbrev pub TakesPathTurn : Rule → GuardedCore → HeldSeat → Option Event → Result Bool Fault → Guarded → Seated → Type 0
+TakesPathTurn picks core seat None result new after = Passes core seat.value result new after
+TakesPathTurn picks core seat (Some e) result new after = Tries picks core seat seat.value e result new after
+
+-- a turn of this channel path's worker
+abbrev pub turn_of_path : State → ℕ → Option Event
+turn_of_path s chpid = path_turn_among s chpid (directory_of s).setups
 
 -- the report of what a device answered to a call
 abbrev pub report_of : OwedCall → DeviceAnswer → KeptReport
@@ -80,12 +109,18 @@ report_of owed answer = record {
 abbrev pub one_call_more : ℕ → ℕ
 one_call_more calls = min (calls + 1) 0xFFFFFFFFFFFFFFFF
 
--- the call that is owed is made: by the relation of the device, between the device before it, the call, its answer and the device
--- after it; the answer is kept as a report, and nothing is owed
-abbrev pub Calls : {D : Type 0} → (D → Call → DeviceAnswer → D → Type 0) → Seated → D → Seated → D → Type 0
-Calls answers old device new after =
-    (owed : OwedCall) × (answer : DeviceAnswer) × (old.owed ≡ Some owed) × answers device owed.call answer after
+-- the call that is owed is made: the gate let it pass, by its unit and the number that the seat's calls have with it; it is made by
+-- the relation of the device, between the device before it, the call, its answer and the device after it; the answer is kept as a
+-- report, and nothing is owed
+abbrev pub Calls : {D : Type 0} → (ℕ → ℕ → Type 0) → (D → Call → DeviceAnswer → D → Type 0) → Seated → D → Seated → D → Type 0
+Calls passes answers old device new after =
+    (owed : OwedCall) × (answer : DeviceAnswer) × (old.owed ≡ Some owed)
+    × passes owed.«unit» (one_call_more old.calls) × answers device owed.call answer after
     × (new ≡ record old { calls = one_call_more old.calls; owed = None; kept = Some (report_of owed answer) })
+
+-- what a lock guards is of a machine with these subchannels: its history led to its state
+abbrev pub IsOfMachine : Directory → Guarded → Type 0
+IsOfMachine directory core = HasRun core.history core.state × (directory_of core.state ≡ directory)
 
 -- a history of a machine with these subchannels may lead to this state
 abbrev pub MayStand : Directory → State → Type 0

@@ -1,12 +1,12 @@
 //! One event at a subsystem, entered from a seat. This module alone adds to the history and to the log of a seat.
 
-ghost use Rattle.std.specs.Prelude.{◌≡◌, ◌≢◌, ◌+◌, ◌≤◌, [], ◌∷◌, ◌++◌, length, IfOk, IfErr, OnErr, OnOk, Ok, Err};
+ghost use Rattle.std.specs.Prelude.{◌≡◌, ◌≢◌, ◌+◌, ◌≤◌, [], ◌∷◌, ◌++◌, length, IfOk, IfErr, OnErr, OnOk, Ok, Err, true};
 ghost use Rattle.chan_model.specs.declared.fault.Fault.TheVariants as fault_spec;
 ghost use Rattle.machine_model.specs.Ruled.{GoesByRule};
 ghost use Rattle.machine_model.specs.Steps.{Step};
 ghost use Rattle.signal_places.specs.Answers.{answer_at, reply_at};
 ghost use Rattle.subsystem.specs.Keeping.{StaysSetUp, all_serials};
-ghost use Rattle.core_lock.specs.Entering.{LacksSpace, MayRefuse, entered, room_of};
+ghost use Rattle.core_lock.specs.Entering.{LacksSpace, MayRefuse, entered, room_of, starved_after};
 ghost use Rattle.core_parts.specs.Named.{cells_of, shown};
 ghost use Rattle.core_parts.specs.Seats.{entry};
 
@@ -30,6 +30,34 @@ pub(crate) fn came(place: &AnswerPlace) -> Result<(), Fault>
     match place.outcome {
         Outcome::Refused(fault) => Err(fault),
         _ => Ok(()),
+    }
+}
+
+/// Whether an event was entered, by the answer that stands in a place.
+pub(crate) fn entered_in(place: &AnswerPlace) -> Result<bool, Fault>
+    ensures entered { IfOk result (λ did. (did ≡ true) × (answer_at place.now ≡ Ok (reply_at place.now))) }
+    ensures refused { IfErr result (λ f. answer_at place.now ≡ Err f) }
+{
+    came(place)?;
+    Ok(true)
+}
+
+/// Counts a refusal, where it is for want of memory.
+fn starved_by(fault: Fault, starved: u64) -> u64
+    ensures { result ≡ starved_after (Err fault) starved }
+{
+    match fault {
+        Fault::NoMemory => starved.saturating_add(1),
+        _ => starved,
+    }
+}
+
+/// Counts an answer that stands in a place, where it is a refusal for want of memory.
+fn count_starved(starved: &mut u64, place: &AnswerPlace)
+    ensures { starved.new ≡ starved_after (answer_at place.now) starved.old }
+{
+    if let Outcome::Refused(fault) = place.outcome {
+        *starved = starved_by(fault, *starved);
     }
 }
 
@@ -65,6 +93,7 @@ pub(crate) fn keep_entry<J: Naming, P: PathChoice + Drop>(
     ensures past { OnErr (answer_at place.new) (subsystem.new.history ≡ subsystem.old.history) }
     ensures numbers { OnErr (answer_at place.new) (by.new.items ≡ by.old.items) }
     ensures seat { OnErr (answer_at place.new) (seat.new.value ≡ seat.old.value) }
+    ensures starved { seat.new.starved ≡ starved_after (answer_at place.new) seat.old.starved }
     ensures room { room_of subsystem.old by.old ≤ room_of subsystem.new by.new + 1 }
     ensures seat_room { seat.old.room ≤ seat.new.room + 1 }
     ensures kept { OnErr (answer_at place.new) ((room_of subsystem.old by.old ≤ room_of subsystem.new by.new) × (seat.old.room ≤ seat.new.room)) }
@@ -72,10 +101,12 @@ pub(crate) fn keep_entry<J: Naming, P: PathChoice + Drop>(
     let touched = touched_by(subsystem, event);
     if by.reserve(1).is_err() || seat.log.make_room().is_err() {
         place.outcome = Outcome::Refused(Fault::NoMemory);
+        count_starved(&mut seat.starved, place);
         return;
     }
     touches();
     subsystem.step_place(event, place);
+    count_starved(&mut seat.starved, place);
     if place.is_reply() {
         publish(writers, subsystem, touched);
         entries.add(&mut seat.share, 1);

@@ -9,9 +9,11 @@
 #![tactic(auto)]
 
 mod entering;
+pub mod executing;
+pub mod guarded;
 pub mod locked;
 mod looking;
-pub mod machine;
 pub mod parts;
 mod same_log;
+pub mod stock;
 mod turning;

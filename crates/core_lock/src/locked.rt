@@ -1,6 +1,6 @@
 //! The subsystem under its lock, and its seats.
 
-ghost use Rattle.std.specs.Prelude.{◌≡◌, ◌≢◌, ◌⊎◌, ◌+◌, ◌↔◌, ℕ, [], ◌∷◌, ◌++◌, length, vec_len, sum_by, All, Err, true, IsTrue, IfOk, IfErr, IfSome, IfNone, IsSome, OnErr, OnOk, None, Some, Ok, is_some, slice_get, ◌≤◌};
+ghost use Rattle.std.specs.Prelude.{◌≡◌, ◌≢◌, ◌⊎◌, ◌+◌, ◌↔◌, ℕ, [], ◌∷◌, ◌++◌, length, vec_len, sum_by, All, Err, true, IsTrue, IfOk, IfErr, IfSome, IfNone, OnErr, OnOk, None, Some, Ok, ◌≤◌};
 ghost use Rattle.chan_model.specs.declared.fault.Fault.TheVariants as fault_spec;
 ghost use Rattle.machine_laws.specs.Agreeing.{AllAgree};
 ghost use Rattle.machine_laws.specs.Beginnings.{IsBegunOnce};
@@ -12,25 +12,22 @@ ghost use Rattle.subsystem.specs.Headline.{HasHeld};
 ghost use Rattle.signal_places.specs.Answers.{answer_at, reply_at};
 ghost use Rattle.subsystem.specs.Keeping.{all_serials};
 ghost use Rattle.core_parts.specs.Directory.{directory_of, place_named};
-ghost use Rattle.core_lock.specs.Entering.{HasNoRoom, MayRefuse, entered};
+ghost use Rattle.core_lock.specs.Entering.{HasNoRoom, MayRefuse, entered, guarded_in, starved_after};
 ghost use Rattle.core_parts.specs.Named.{shown};
 ghost use Rattle.core_parts.specs.Seats.{entries_by, entry};
-ghost use Rattle.core_lock.specs.Turns as turn_spec;
 
-use crate::entering::{came, keep_entry};
+use crate::guarded::{FirstLook, Guarded, open};
 use crate::parts::Parts;
-use crate::same_log::is_log;
+use crate::stock::SeatStock;
 use chan_events::event::Event;
 use chan_events::reply::Reply;
 use chan_model::fault::Fault;
 use core_parts::directory::Directory;
 use core_parts::naming::{Entries, Naming, Turns};
-use core_parts::pairs::{first_pairs, watch};
 use core_parts::supplies::CoreSupply;
 use core_parts::turns::{KeptReport, OwedCall, TakenCommand};
-use event_log::history::History;
 use event_log::logs::Log;
-use glance_cell::cell::{Reader, Writer};
+use glance_cell::cell::Reader;
 use path_select::PathChoice;
 use scsw_irb::serials::Serials;
 use signal_places::answers::AnswerPlace;
@@ -44,37 +41,22 @@ use supply::Given;
 /// The most seats of one machine.
 pub const MOST_SEATS: u16 = 1024;
 
-/// A subsystem that is to be locked, with the seat of each entry of its history, and the glance cells of its subchannels.
+/// A subsystem that is to be locked: what its lock will guard, and the seats that can still be made.
 #[derive(Drop)]
 pub struct Core<J: Naming, P: PathChoice + Drop> {
-    alloc: Global,
-    pub(crate) subsystem: Subsystem<P>,
-    by: Vec<u16>,
-    seats: u16,
-    writers: Vec<Writer>,
-    pub(crate) directory: Arc<Directory>,
-    entries: Book<Entries<J>>,
-    rest: Share<Entries<J>>,
-    pub(crate) turns: Book<Turns<J>>,
-    turns_left: Share<Turns<J>>,
-    /// For the answer of an event whose caller has no place for it.
-    answer: AnswerPlace,
+    guarded: Guarded<J, P>,
+    stock: SeatStock<J>,
 }
 
 impl<J: Naming, P: PathChoice + Drop> Model for Core<J, P> {
-    ghost use Rattle.std.specs.Arc.{arc_value};
-    ghost use Rattle.std.specs.Prelude.{◌-◌, min, vec_len, vec_capacity};
     ghost use Rattle.core_parts.specs.Seats.{LockedCore};
-    ghost use Rattle.core_lock.specs.Keeping.{IsCore};
 
     ghost Value = { LockedCore };
 
     ghost view = { λ c. record {
-      value = record { state = c.subsystem.state; history = c.subsystem.history; by = c.by.items; seats = c.seats };
-      room = min c.subsystem.room (vec_capacity c.by - vec_len c.by);
+      value = record { state = c.guarded.value.state; history = c.guarded.value.history; by = c.guarded.value.by; seats = c.stock };
+      room = c.guarded.room;
     } };
-
-    ghost invariant = { λ c. IsCore c.subsystem c.by.items c.seats c.entries.total (record { parts = c.rest.parts; amount = c.rest.amount }) (record { parts = c.turns_left.parts; amount = c.turns_left.amount }) c.writers.items (arc_value c.directory) J.name };
 }
 
 /// There was no memory for a core: what it was to be made of.
@@ -95,6 +77,8 @@ pub struct Seat<J: Naming> {
     pub(crate) share: Share<Entries<J>>,
     pub(crate) turns: Share<Turns<J>>,
     pub(crate) calls: u64,
+    /// How often an event was refused it for want of memory.
+    pub(crate) starved: u64,
     pub(crate) owed: Option<OwedCall>,
     pub(crate) kept: Option<KeptReport>,
     pub(crate) left: Option<TakenCommand>,
@@ -121,6 +105,7 @@ impl<J: Naming> Model for Seat<J> {
         left = s.left;
       };
       room = s.log.room;
+      starved = s.starved;
     } };
 
     ghost invariant = { λ s. IsSeat (record { parts = s.share.parts; amount = s.share.amount }) s.turns.parts s.log.entries s.pairs.items s.readers.items (arc_value s.directory) J.name };
@@ -163,28 +148,8 @@ impl<J: Naming, P: PathChoice + Drop> Core<J, P> {
         if supply.reserve(&mut by, 1).is_err() {
             return Err(NotMade { subsystem, parts });
         }
-        let _ = subsystem.history();
-        let Parts {
-            entries,
-            turns,
-            writers,
-            directory,
-        } = parts;
-        let (entries, rest) = entries.open::<Entries<J>>();
-        let (turns, turns_left) = turns.open::<Turns<J>>();
-        Ok(Core {
-            alloc,
-            subsystem,
-            by,
-            seats: 0,
-            writers,
-            directory,
-            entries,
-            rest,
-            turns,
-            turns_left,
-            answer: AnswerPlace::new(),
-        })
+        let (guarded, stock) = open(alloc, subsystem, by, parts);
+        Ok(Core { guarded, stock })
     }
 
     /// The subsystem, to look at. Whoever holds the core, under its lock or not, has what every run of a subsystem keeps.
@@ -198,8 +163,7 @@ impl<J: Naming, P: PathChoice + Drop> Core<J, P> {
         ensures headline { HasHeld self.now.value.history self.now.value.state }
         ensures beside { length self.now.value.by ≡ length self.now.value.history }
     {
-        let _ = self.subsystem.history();
-        &self.subsystem
+        self.guarded.subsystem()
     }
 
     /// One more seat. It is refused NotNow where 1,024 were made, and otherwise only where no memory is left.
@@ -218,6 +182,7 @@ impl<J: Naming, P: PathChoice + Drop> Core<J, P> {
             left = None;
           };
           room = 0;
+          starved = 0;
         }) }
         ensures loaded { IfOk result (λ s. shown s.value.loaded ≡ all_serials self.old.value.state) }
         // A seat finds a subchannel where the subsystem has it.
@@ -246,6 +211,7 @@ impl<J: Naming, P: PathChoice + Drop> Core<J, P> {
             left = None;
           };
           room = 0;
+          starved = 0;
         }) }
         ensures loaded { IfOk result (λ s. shown s.value.loaded ≡ all_serials self.old.value.state) }
         // A seat finds a subchannel where the subsystem has it.
@@ -256,23 +222,20 @@ impl<J: Naming, P: PathChoice + Drop> Core<J, P> {
         ensures given { OnOk result (S.refused supply.new ≡ S.refused supply.old) }
         ensures memory { result ≡ Err fault_spec.NoMemory → S.refused supply.new ≡ true }
     {
-        if self.seats >= MOST_SEATS {
+        let number = self.stock.made();
+        if number >= MOST_SEATS {
             return Err(Fault::NotNow);
         }
-        let alloc = self.alloc;
-        let Ok(directory) = supply.share_again(&self.directory) else {
+        let alloc = self.stock.alloc();
+        let Ok(look) = self.guarded.first_look(alloc, supply) else {
             return Err(Fault::NoMemory);
         };
-        let Ok(readers) = watch(alloc, supply, &mut self.writers) else {
-            return Err(Fault::NoMemory);
-        };
-        let Ok(pairs) = first_pairs(alloc, supply, &self.subsystem) else {
-            return Err(Fault::NoMemory);
-        };
-        let share = self.rest.split_off(1, 0);
-        let turns = self.turns_left.split_off(1, 0);
-        let number = self.seats;
-        self.seats += 1;
+        let FirstLook {
+            directory,
+            readers,
+            pairs,
+        } = look;
+        let (share, turns) = self.stock.take();
         Ok(Seat {
             number,
             log: Log::new(alloc),
@@ -282,6 +245,7 @@ impl<J: Naming, P: PathChoice + Drop> Core<J, P> {
             share,
             turns,
             calls: 0,
+            starved: 0,
             owed: None,
             kept: None,
             left: None,
@@ -295,36 +259,32 @@ impl<J: Naming, P: PathChoice + Drop> Core<J, P> {
         ensures logs { IfSome result (λ count. count ≡ sum_by (λ s. length s.value.log) seats.items) }
         ensures none { IfNone result (vec_len seats ≢ self.value.seats) }
     {
-        let made = usize::from(self.seats);
-        let count = self.by.len() as u64;
-        let (mut entries, rest) = self.into_ledger();
-        if seats.len() != made {
+        let Core { guarded, stock } = self;
+        if seats.len() != usize::from(stock.made()) {
             return None;
         }
-        settle(&mut entries, rest, seats);
+        let (count, mut entries) = guarded.into_ledger();
+        settle(&mut entries, stock.into_rest(), seats);
         Some(count)
     }
 
-    /// The ledger of its entries, and the parts of it that no seat has.
-    fn into_ledger(self) -> (Book<Entries<J>>, Share<Entries<J>>)
-        ensures entries { result.0.total ≡ length self.value.history }
-        ensures parts { result.1.parts + self.value.seats ≡ 1025 }
-        ensures amount { result.1.amount ≡ 0 }
+    /// What its lock is to guard, and the seats that can still be made.
+    pub fn split(self) -> (Guarded<J, P>, SeatStock<J>)
+        ensures guarded { result.0 ≡ guarded_in self }
+        ensures stock { result.1 ≡ self.value.seats }
     {
-        let Core {
-            alloc: _,
-            subsystem: _,
-            by: _,
-            seats: _,
-            writers: _,
-            directory: _,
-            entries,
-            rest,
-            turns: _,
-            turns_left: _,
-            answer: _,
-        } = self;
-        (entries, rest)
+        let Core { guarded, stock } = self;
+        (guarded, stock)
+    }
+
+    /// The core of what a lock guarded, and of the seats that can still be made.
+    pub fn join(guarded: Guarded<J, P>, stock: SeatStock<J>) -> Core<J, P>
+        ensures guarded { guarded_in result ≡ guarded }
+        ensures seats { result.value.seats ≡ stock }
+        ensures replays { HasRun result.value.history result.value.state }
+    {
+        let _ = guarded.subsystem();
+        Core { guarded, stock }
     }
 
     /// One step, entered from a seat: its reply, with the entry in the history and in the seat's log. Where it is refused all
@@ -343,6 +303,7 @@ impl<J: Naming, P: PathChoice + Drop> Core<J, P> {
         ensures spent { result ≡ Err fault_spec.NoMemory → HasNoRoom self.old seat.old }
         ensures core { OnErr result (self.new.value ≡ self.old.value) }
         ensures seat { OnErr result (seat.new.value ≡ seat.old.value) }
+        ensures starved { seat.new.starved ≡ starved_after result seat.old.starved }
         ensures room { self.old.room ≤ self.new.room + 1 }
         ensures seat_room { seat.old.room ≤ seat.new.room + 1 }
         // Where it is refused no room is lost.
@@ -367,21 +328,13 @@ impl<J: Naming, P: PathChoice + Drop> Core<J, P> {
         ensures spent { answer.new ≡ Err fault_spec.NoMemory → HasNoRoom self.old seat.old }
         ensures core { OnErr answer.new (self.new.value ≡ self.old.value) }
         ensures seat { OnErr answer.new (seat.new.value ≡ seat.old.value) }
+        ensures starved { seat.new.starved ≡ starved_after answer.new seat.old.starved }
         ensures room { self.old.room ≤ self.new.room + 1 }
         ensures seat_room { seat.old.room ≤ seat.new.room + 1 }
         // Where it is refused no room is lost.
         ensures kept { OnErr answer.new ((self.old.room ≤ self.new.room) × (seat.old.room ≤ seat.new.room)) }
     {
-        keep_entry(
-            &mut self.subsystem,
-            &mut self.by,
-            &mut self.writers,
-            &mut self.entries,
-            seat,
-            event,
-            &mut self.answer,
-        );
-        self.answer.answer_to(answer);
+        self.guarded.enter_to(seat, event, answer);
     }
 
     /// One step, as `enter` has it, with its answer in a place that is made once: no more bytes move than its signals have.
@@ -403,6 +356,7 @@ impl<J: Naming, P: PathChoice + Drop> Core<J, P> {
         ensures spent { answer_at place.new ≡ Err fault_spec.NoMemory → HasNoRoom self.old seat.old }
         ensures core { OnErr (answer_at place.new) (self.new.value ≡ self.old.value) }
         ensures seat { OnErr (answer_at place.new) (seat.new.value ≡ seat.old.value) }
+        ensures starved { seat.new.starved ≡ starved_after (answer_at place.new) seat.old.starved }
         ensures room { self.old.room ≤ self.new.room + 1 }
         ensures seat_room { seat.old.room ≤ seat.new.room + 1 }
         // Where it is refused no room is lost.
@@ -411,33 +365,7 @@ impl<J: Naming, P: PathChoice + Drop> Core<J, P> {
         ensures replied { OnOk result (answer_at place.new ≡ Ok (reply_at place.new)) }
         ensures refused { IfErr result (λ f. answer_at place.new ≡ Err f) }
     {
-        keep_entry(
-            &mut self.subsystem,
-            &mut self.by,
-            &mut self.writers,
-            &mut self.entries,
-            seat,
-            event,
-            place,
-        );
-        came(place)
-    }
-
-    /// One step, as `enter` has it, whose reply nobody looks at.
-    pub(crate) fn try_enter(&mut self, seat: &mut Seat<J>, event: &Event) -> Result<bool, Fault>
-        ensures { turn_spec.Tries self.old.value seat.old.value seat.old.value event.now result self.new.value seat.new.value }
-    {
-        keep_entry(
-            &mut self.subsystem,
-            &mut self.by,
-            &mut self.writers,
-            &mut self.entries,
-            seat,
-            event,
-            &mut self.answer,
-        );
-        came(&self.answer)?;
-        Ok(true)
+        self.guarded.enter_place(seat, event, place)
     }
 }
 
@@ -455,6 +383,7 @@ impl<J: Naming> Seat<J> {
             share,
             turns: _,
             calls: _,
+            starved: _,
             owed: _,
             kept: _,
             left: _,
@@ -483,17 +412,9 @@ pub fn audit<J: Naming, P: PathChoice + Drop>(core: &Core<J, P>, seats: &[Seat<J
     ensures { IsTrue result ↔ All (λ s. entries_by s.value.number core.now.value.by core.now.value.history ≡ s.value.log) seats.now }
 {
     for seat in seats {
-        if !has_log(core.by.as_slice(), &core.subsystem.history(), seat) {
+        if !core.guarded.has_log(seat) {
             return false;
         }
     }
     true
-}
-
-/// Whether the log of a seat is what the history has of it.
-fn has_log<J: Naming>(by: &[u16], history: &History, seat: &Seat<J>) -> bool
-    requires { length by.now ≡ length history.now }
-    ensures { IsTrue result ↔ (entries_by seat.now.value.number by.now history.now ≡ seat.now.value.log) }
-{
-    is_log(seat.number, by, history, &seat.log.history())
 }

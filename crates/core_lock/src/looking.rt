@@ -10,12 +10,10 @@ ghost use Rattle.core_lock.specs.Turns as turn_spec;
 use crate::locked::Seat;
 use chan_model::fault::Fault;
 use chan_model::report::Report;
-use core_parts::gate::Gate;
+use core_parts::gate::{Gate, Gated};
 use core_parts::naming::Naming;
 use core_parts::pairs::greater;
 use core_parts::turns::KeptReport;
-use device_law::Device;
-use device_law::answering::answer;
 use glance_cell::words::Glance;
 use scsw_irb::serials::Serials;
 
@@ -28,9 +26,9 @@ impl<J: Naming> Seat<J> {
     }
 
     /// Passes the gate, makes the call that is owed, and keeps the device's answer as a report. It takes no lock and no memory.
-    pub fn call<D: Device, G: Gate>(&mut self, device: &mut D, gate: &G)
+    pub fn call<D: Gated, G: Gate>(&mut self, device: &mut D, gate: &G)
         requires { IsSome self.old.value.owed }
-        ensures calls { turn_spec.Calls D.answers self.old.value device.old self.new.value device.new }
+        ensures calls { turn_spec.Calls (G.passes gate.now) D.answers self.old.value device.old self.new.value device.new }
         ensures room { self.new.room ≡ self.old.room }
     {
         let Some(owed) = self.owed.take() else {
@@ -38,6 +36,7 @@ impl<J: Naming> Seat<J> {
         };
         self.calls = self.calls.saturating_add(1);
         gate.pass(owed.unit, self.calls);
+        let answer = device.call_through(gate, owed.unit, self.calls, &owed.call);
         self.kept = Some(KeptReport {
             unit: owed.unit,
             report: Report {
@@ -45,7 +44,7 @@ impl<J: Naming> Seat<J> {
                 number: owed.number,
                 command: owed.command,
                 sequence: owed.sequence,
-                answer: answer(device, &owed.call),
+                answer,
             },
         });
     }

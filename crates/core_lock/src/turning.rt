@@ -1,11 +1,12 @@
 //! The turns of workers, under the lock.
 
 ghost use Rattle.std.specs.Prelude.{◌≡◌, ◌+◌, None};
-ghost use Rattle.core_parts.specs.Directory.{directory_of};
+ghost use Rattle.core_lock.specs.Outside.{IsPathTurn, IsUnitTurn};
 ghost use Rattle.core_lock.specs.Turns as turn_spec;
 ghost use Rattle.core_parts.specs.Turns as part_spec;
 
-use crate::locked::{Core, Seat};
+use crate::guarded::Guarded;
+use crate::locked::Seat;
 use chan_events::event::{Event, UnitAct};
 use chan_model::fault::Fault;
 use core_parts::naming::Naming;
@@ -14,13 +15,14 @@ use core_parts::turns::{
 };
 use path_select::PathChoice;
 
-impl<J: Naming, P: PathChoice + Drop> Core<J, P> {
+impl<J: Naming, P: PathChoice + Drop> Guarded<J, P> {
     /// One turn of the worker of a channel path: the first event that there is for a subchannel of that path is entered. False
     /// where there is none. Refused, all but the number of turns is as before.
     pub fn path_step(&mut self, seat: &mut Seat<J>, chpid: u8) -> Result<bool, Fault>
         ensures turns { seat.new.value.turns ≡ seat.old.value.turns + 1 }
-        ensures turn { turn_spec.TakesPathTurn self.old.value (turn_spec.turned seat.old.value)
-            (part_spec.path_turn_among self.old.value.state chpid (directory_of self.old.value.state).setups) result self.new.value seat.new.value }
+        ensures turn { turn_spec.TakesPathTurn P.picks self.old (turn_spec.turned_seat seat.old)
+            (turn_spec.turn_of_path self.old.value.state chpid) result self.new.value seat.new.value }
+        ensures told { IsPathTurn P.picks chpid seat.old result seat.new.value }
         ensures works { turn_spec.WorksPath chpid seat.old.value seat.new.value (turn_spec.count_in result) }
     {
         self.stands(seat);
@@ -31,14 +33,14 @@ impl<J: Naming, P: PathChoice + Drop> Core<J, P> {
 
     /// The first event that there is for a subchannel of a channel path.
     fn path_event(&self, chpid: u8) -> Option<Event>
-        ensures { result ≡ part_spec.path_turn_among self.now.value.state chpid (directory_of self.now.value.state).setups }
+        ensures { result ≡ turn_spec.turn_of_path self.now.value.state chpid }
     {
         path_turn_of(&self.subsystem, &self.directory, chpid)
     }
 
     /// Takes a turn of the worker of a channel path.
     fn take_path_turn(&mut self, seat: &mut Seat<J>, turn: Option<Event>) -> Result<bool, Fault>
-        ensures { turn_spec.TakesPathTurn self.old.value seat.old.value turn result self.new.value seat.new.value }
+        ensures { turn_spec.TakesPathTurn P.picks self.old seat.old turn result self.new.value seat.new.value }
     {
         match turn {
             Some(event) => self.try_enter(seat, &event),
@@ -52,7 +54,8 @@ impl<J: Naming, P: PathChoice + Drop> Core<J, P> {
     pub fn unit_step(&mut self, seat: &mut Seat<J>, unit: u32, roam: bool) -> Result<bool, Fault>
         requires { seat.old.value.owed ≡ None }
         ensures turns { seat.new.value.turns ≡ seat.old.value.turns + 1 }
-        ensures turn { turn_spec.TakesUnitTurn self.old.value (turn_spec.turned seat.old.value) seat.old.value.kept «unit» roam result self.new.value seat.new.value }
+        ensures turn { turn_spec.TakesUnitTurn P.picks self.old (turn_spec.turned_seat seat.old) seat.old.value.kept «unit» roam result self.new.value seat.new.value }
+        ensures told { IsUnitTurn P.picks roam «unit» seat.old result seat.new.value }
         ensures works { turn_spec.WorksUnit roam «unit» seat.old.value seat.new.value (turn_spec.count_in result) }
         ensures owes { turn_spec.IsOwedBy seat.old.value.directory roam «unit» seat.new.value.owed }
     {
@@ -64,7 +67,7 @@ impl<J: Naming, P: PathChoice + Drop> Core<J, P> {
     /// Takes the turn of a unit's worker that there is.
     fn unit_turn(&mut self, seat: &mut Seat<J>, unit: u32, roam: bool) -> Result<bool, Fault>
         requires { seat.old.value.owed ≡ None }
-        ensures { turn_spec.TakesUnitTurn self.old.value seat.old.value seat.old.value.kept «unit» roam result self.new.value seat.new.value }
+        ensures { turn_spec.TakesUnitTurn P.picks self.old seat.old seat.old.value.kept «unit» roam result self.new.value seat.new.value }
     {
         match &seat.kept {
             Some(kept) => {
@@ -82,15 +85,14 @@ impl<J: Naming, P: PathChoice + Drop> Core<J, P> {
     /// Counts one turn, in the ledger alone.
     fn count_turn(&mut self, seat: &mut Seat<J>)
         ensures core { self.new ≡ self.old }
-        ensures seat { seat.new.value ≡ turn_spec.turned seat.old.value }
-        ensures room { seat.new.room ≡ seat.old.room }
+        ensures seat { seat.new ≡ turn_spec.turned_seat seat.old }
     {
         self.turns.add(&mut seat.turns, 1);
     }
 
     /// Hands in a report that was kept.
     fn hand_in(&mut self, seat: &mut Seat<J>, kept: KeptReport) -> Result<bool, Fault>
-        ensures { turn_spec.HandsIn self.old.value seat.old.value kept result self.new.value seat.new.value }
+        ensures { turn_spec.HandsIn P.picks self.old seat.old kept result self.new.value seat.new.value }
     {
         let event = kept.event();
         let came = self.try_enter(seat, &event);
@@ -103,7 +105,7 @@ impl<J: Naming, P: PathChoice + Drop> Core<J, P> {
     /// Takes a turn of a unit's worker.
     fn take_turn(&mut self, seat: &mut Seat<J>, turn: Turn) -> Result<bool, Fault>
         requires { seat.old.value.owed ≡ None }
-        ensures { turn_spec.TakesTurn self.old.value seat.old.value turn result self.new.value seat.new.value }
+        ensures { turn_spec.TakesTurn P.picks self.old seat.old turn result self.new.value seat.new.value }
     {
         match turn {
             Turn::Enters(event) => self.try_enter(seat, &event),
@@ -118,7 +120,7 @@ impl<J: Naming, P: PathChoice + Drop> Core<J, P> {
 
     /// The unit leaves its path, for this command once.
     fn leave(&mut self, seat: &mut Seat<J>, command: TakenCommand) -> Result<bool, Fault>
-        ensures { turn_spec.TakesTurn self.old.value seat.old.value (part_spec.leaves command) result self.new.value seat.new.value }
+        ensures { turn_spec.TakesTurn P.picks self.old seat.old (part_spec.leaves command) result self.new.value seat.new.value }
     {
         let event = Event::Act {
             unit: command.unit,
@@ -129,9 +131,9 @@ impl<J: Naming, P: PathChoice + Drop> Core<J, P> {
         Ok(entered)
     }
 
-    /// A history of the seat's machine led to the state.
+    /// What is guarded is of the seat's machine, and its history led to its state.
     pub(crate) fn stands(&self, seat: &Seat<J>)
-        ensures { turn_spec.MayStand seat.now.value.directory self.now.value.state }
+        ensures { turn_spec.IsOfMachine seat.now.value.directory self.now.value }
     {
         let _ = self.subsystem.history();
         let _ = &seat.directory;

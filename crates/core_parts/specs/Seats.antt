@@ -23,6 +23,12 @@ pub record Locked : Type 0 where
   pub by : List ℕ
   pub seats : ℕ
 
+-- what the lock of a machine guards: its state and the history that led there, and the seat of each entry of it
+pub record Guarded : Type 0 where
+  pub state : State
+  pub history : List Entry
+  pub by : List ℕ
+
 -- a seat: its number, and what it entered; the subchannels of its machine, what it saw of the counts of each, and what its readers
 -- loaded last; how many turns it made and calls it began, the call that it owes, the report that it keeps, and the command after
 -- which its unit left its path
@@ -43,10 +49,16 @@ pub record LockedCore : Type 0 where
   pub value : Locked
   pub room : ℕ
 
--- a seat, and for how many more entries its log has room
+-- what the lock guards, and for how many more entries there is room
+pub record GuardedCore : Type 0 where
+  pub value : Guarded
+  pub room : ℕ
+
+-- a seat, for how many more entries its log has room, and how often an event was refused it for want of memory
 pub record HeldSeat : Type 0 where
   pub value : Seated
   pub room : ℕ
+  pub starved : ℕ
 
 abbrev pub entry : Event → Reply → Entry
 entry e r = record { event = e; reply = r }

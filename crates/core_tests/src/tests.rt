@@ -5,6 +5,7 @@ mod crowds;
 mod gate_tests;
 mod growths_tests;
 mod hands;
+mod idle_tests;
 mod looking_tests;
 mod machines;
 mod replaying;

@@ -9,8 +9,8 @@ use Rattle.chan_model.specs.ConditionCodes.{code_of}
 use Rattle.chan_model.specs.declared.answer.ConditionCode.{ConditionCode}
 use Rattle.chan_model.specs.declared.answer.ConditionCode.TheVariants.{Zero, One, Two, Three}
 use Rattle.chan_model.specs.declared.fault.Fault.{Fault}
-use Rattle.core_lock.specs.declared.machine.CpuInstruction.{CpuInstruction}
-use Rattle.core_lock.specs.declared.machine.CpuInstruction.TheVariants as cpu_instruction
+use Rattle.core_lock.specs.declared.executing.CpuInstruction.{CpuInstruction}
+use Rattle.core_lock.specs.declared.executing.CpuInstruction.TheVariants as cpu_instruction
 use Rattle.core_lock.specs.Entering.{event_of}
 use Rattle.core_parts.specs.Seats.{HeldSeat, Locked, entries_by}
 use Rattle.script_rows.specs.declared.race.Race.{Race}

@@ -7,10 +7,11 @@ ghost use Rattle.racing.specs.Racing.{AreMade, HasRaced, HasTested, HaveRaced, I
 use crate::tally::Tally;
 use chan_events::event::Instruction;
 use chan_model::names::Cpu;
+use core_lock::executing::CpuInstruction;
 use core_lock::locked::{Core, Seat};
-use core_lock::machine::{CpuInstruction, Machine};
 use core_parts::naming::Naming;
 use core_parts::supplies::CoreSupply;
+use machine_lock::machine::Machine;
 use path_select::Rotating;
 use script_rows::race::Race;
 use std::alloc::{AllocError, Global};
@@ -160,10 +161,10 @@ impl<J: Naming> Racers<J> {
             mut seats,
         } = self;
         seats.push_reserved(own);
-        let machine = Machine::new(core);
+        let (machine, stock) = Machine::new(core);
         run_all(rt, &machine, race, &mut cpus);
         let (seats, tally) = gather(seats, cpus);
-        (machine.into_core(), seats, tally)
+        (machine.into_core(stock), seats, tally)
     }
 }
 

@@ -3,7 +3,7 @@
 use crate::tests::machines::{ORB, enable, word_of};
 use chan_events::event::{Instruction, OtherInstruction};
 use chan_model::names::Cpu;
-use core_lock::machine::CpuInstruction;
+use core_lock::executing::CpuInstruction;
 
 /// How many subchannels a CPU has.
 pub const EACH: u32 = 4;

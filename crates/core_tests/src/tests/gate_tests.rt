@@ -6,10 +6,10 @@ use crate::tests::stories::{Story, goes};
 use chan_events::event::Event;
 use chan_model::names::Cpu;
 use core_lock::locked::{Core, Seat};
-use core_lock::machine::Machine;
 use core_parts::gate::Gate;
 use core_parts::naming::Naming;
 use crossbeam_utils::Backoff;
+use machine_lock::machine::Machine;
 use path_select::Rotating;
 use std::alloc::Global;
 use std::sync::Wait;
@@ -45,6 +45,8 @@ impl Meeting {
 }
 
 impl Gate for Meeting {
+    ghost passes = { λ _ _ _. Unit {0} };
+
     fn pass(&self, _unit: u32, call: u64) {
         if call != 1 {
             return;

@@ -9,6 +9,7 @@ use crate::tests::crowd_tests::{answered, are_enough, begins_crowd, crowds};
 use crate::tests::gate_tests::{begins_both, meets};
 use crate::tests::growths_tests::{granting, grows};
 use crate::tests::hands::{Hand, seats_of};
+use crate::tests::idle_tests::{are_beside, begins_idle, idles};
 use crate::tests::looking_tests::{begins_looks, has_made, looks};
 use crate::tests::machines::{apart, config_of};
 use crate::tests::replaying::replays;
@@ -16,9 +17,9 @@ use crate::tests::seats_tests::{answers, fills, leaves_out, sees};
 use crate::tests::workers_tests::{begins_work, has_roamed, roams};
 use channel_config::config::Config;
 use core_lock::locked::{Core, NotMade, Seat, audit};
-use core_lock::machine::Machine;
 use core_lock::parts::Parts;
 use core_parts::naming::Naming;
+use machine_lock::machine::Machine;
 use path_select::Rotating;
 use std::alloc::Global;
 use std::marker::Brand;
@@ -47,6 +48,8 @@ pub enum Story {
     Crowds,
     /// Requests for memory are refused.
     Grows,
+    /// A CPU executes beside a worker that has nothing to do.
+    Idles,
 }
 
 /// The machine of a story.
@@ -57,7 +60,8 @@ pub fn setting(alloc: Global, story: Story) -> Config {
         | Story::LeavesOut
         | Story::Fills
         | Story::Looks
-        | Story::Grows => config_of(alloc, 1, &[0x10]),
+        | Story::Grows
+        | Story::Idles => config_of(alloc, 1, &[0x10]),
         Story::Meets => apart(alloc, 2),
         Story::Roams => config_of(alloc, 1, &[0x10, 0x11, 0x12, 0x13, 0x14, 0x15, 0x16, 0x17]),
         Story::Crowds => config_of(alloc, 64, &[0x10, 0x11, 0x12, 0x13]),
@@ -98,6 +102,7 @@ fn enters<J: Naming>(
         Story::Roams => begins_work(alloc, core, first, hands),
         Story::Crowds => begins_crowd(alloc, core, first, hands),
         Story::Grows => grows(core, hands),
+        Story::Idles => begins_idle(core, hands),
     }
 }
 
@@ -127,6 +132,7 @@ fn plays<J: Naming + Send + Sync, R: Threads + Wait + Sync>(
         Story::Looks => looks(rt, machine, hands),
         Story::Roams => roams(rt, machine, first, hands),
         Story::Crowds => crowds(rt, machine, hands),
+        Story::Idles => idles(rt, machine, hands),
         _ => Some(hands),
     }
 }
@@ -194,6 +200,7 @@ fn are_due(story: Story, answered: u64, entries: Option<u64>) -> bool {
         Story::Meets | Story::Roams => entries.is_some(),
         Story::Looks => has_made(entries),
         Story::Crowds => are_enough(answered, entries),
+        Story::Idles => are_beside(answered, entries),
     }
 }
 
@@ -218,9 +225,9 @@ fn tell<J: Naming + Send + Sync, R: Threads + Wait + Sync>(
 ) -> bool {
     let mut core = core;
     let cast = begins(alloc, &mut core, story);
-    let machine = Machine::new(core);
+    let (machine, stock) = Machine::new(core);
     let acted = acts(rt, alloc, &machine, cast, story);
-    ends(alloc, machine.into_core(), acted, story)
+    ends(alloc, machine.into_core(stock), acted, story)
 }
 
 /// The same, on a core that is made of what was handed back.

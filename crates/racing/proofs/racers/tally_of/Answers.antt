@@ -1,6 +1,6 @@
 use Rattle.std.proofs.Common.{◌≡◌, ◌+◌, rules, sym, subst}
 use Rattle.std.specs.Prelude.{MatchResult}
-use Rattle.core_lock.specs.declared.machine.CpuInstruction.{CpuInstruction}
+use Rattle.core_lock.specs.declared.executing.CpuInstruction.{CpuInstruction}
 use Rattle.core_lock.specs.Entering.{entered, event_of}
 use Rattle.racing.specs.declared.tally.Tally.{Tally}
 use Rattle.racing.specs.Racing.{HasTested}

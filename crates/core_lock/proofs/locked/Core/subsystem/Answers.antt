@@ -5,7 +5,7 @@ use Rattle.core_parts.specs.Seats.{LockedCore}
 use Rattle.core_lock.proofs.locked.Core.subsystem.Goals as goal
 
 pub returns-clause-agree : goal.returns-clause-agree
-returns-clause-agree g c = subst (λ (l : LockedCore). AllAgree l.value.state) c.self.view_is c.history.ensures.agree
+returns-clause-agree g c = subst (λ (l : LockedCore). AllAgree l.value.state) c.self.view_is c.subsystem.ensures.agree
 
 pub returns-clause-headline : goal.returns-clause-headline
-returns-clause-headline g c = subst (λ (l : LockedCore). HasHeld l.value.history l.value.state) c.self.view_is c.history.ensures.headline
+returns-clause-headline g c = subst (λ (l : LockedCore). HasHeld l.value.history l.value.state) c.self.view_is c.subsystem.ensures.headline

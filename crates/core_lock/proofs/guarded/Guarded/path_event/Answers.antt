@@ -1,0 +1,13 @@
+use Rattle.std.proofs.Common.{sym, ap, ◌∙◌}
+use Rattle.core_parts.specs.Directory.{Directory, directory_of}
+use Rattle.core_parts.specs.Seats.{GuardedCore}
+use Rattle.core_parts.specs.Turns.{path_turn_among}
+use Rattle.core_lock.proofs.Directories.{is_named}
+use Rattle.core_lock.proofs.guarded.Guarded.path_event.Goals as goal
+
+pub returns : goal.returns
+returns g c =
+    let i = c.self.invariant in
+    let state = c.self.inside.subsystem.state in
+    let directory = c.deref.ensures ∙ i.directory ∙ sym (is_named state g.J.Naming.name.directory i.named) in
+    c.path_turn_of.ensures ∙ ap (λ (d : Directory). path_turn_among state c.args.chpid d.setups) directory ∙ ap (λ (l : GuardedCore). path_turn_among l.value.state c.args.chpid (directory_of l.value.state).setups) c.self.view_is

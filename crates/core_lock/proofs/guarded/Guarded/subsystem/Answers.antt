@@ -1,0 +1,11 @@
+use Rattle.std.proofs.Common.{subst}
+use Rattle.machine_laws.specs.Agreeing.{AllAgree}
+use Rattle.subsystem.specs.Headline.{HasHeld}
+use Rattle.core_parts.specs.Seats.{GuardedCore}
+use Rattle.core_lock.proofs.guarded.Guarded.subsystem.Goals as goal
+
+pub returns-clause-agree : goal.returns-clause-agree
+returns-clause-agree g c = subst (λ (l : GuardedCore). AllAgree l.value.state) c.self.view_is c.history.ensures.agree
+
+pub returns-clause-headline : goal.returns-clause-headline
+returns-clause-headline g c = subst (λ (l : GuardedCore). HasHeld l.value.history l.value.state) c.self.view_is c.history.ensures.headline

@@ -1,0 +1,19 @@
+use Rattle.std.proofs.Common.{length, sym, ap, ◌∙◌}
+use Rattle.core_parts.specs.Named.{MachineName, MachineParts}
+use Rattle.core_lock.proofs.Directories.{run_named}
+use Rattle.core_lock.proofs.guarded.open.Goals as goal
+
+pub invariant_of-guarded : goal.invariant_of-guarded
+invariant_of-guarded g c =
+    let past = c.args.subsystem in
+    let none = sym (ap length c.requires.fresh) in
+    let is = c.parts.view_is in
+    let named = c.requires.named in
+    record {
+      beside = ap length c.requires.empty ∙ none;
+      entries = c.open-entries.ensures.total ∙ none;
+      shown = ap (λ (p : MachineParts). p.serials) is ∙ c.requires.serials;
+      cells = ap (λ (p : MachineParts). p.name.cells) is ∙ ap (λ (n : MachineName). n.cells) named;
+      directory = ap (λ (p : MachineParts). p.name.directory) is ∙ ap (λ (n : MachineName). n.directory) named;
+      named = run_named past.history past.state g.J.Naming.name.directory c.history.ensures.replays (sym c.requires.directory ∙ ap (λ (n : MachineName). n.directory) named);
+    }

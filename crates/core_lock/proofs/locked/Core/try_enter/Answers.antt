@@ -1,7 +1,0 @@
-use Rattle.core_lock.proofs.Lasting.{stays_core}
-use Rattle.core_lock.proofs.locked.Core.try_enter.Goals as goal
-
-pub invariant_of-self : goal.invariant_of-self
-invariant_of-self g c =
-    let k = c.keep_entry.ensures in
-    stays_core _ _ _ _ _ _ _ _ _ _ _ _ _ c.self.invariant k.beside k.entries k.shown k.cells k.set_up

@@ -1,0 +1,57 @@
+-- What a call of a device leaves of a seat, and a turn with the call that it left owed.
+use Rattle.std.proofs.Common.{◌≡◌, ℕ, Bool, true, false, List, Option, None, Some, refl, sym, ap, ◌∙◌, subst, inl, inr}
+use Rattle.std.specs.Prelude.{is_some}
+use Rattle.chan_model.specs.declared.report.Call.{Call}
+use Rattle.chan_model.specs.declared.report.DeviceAnswer.{DeviceAnswer}
+use Rattle.chan_events.specs.declared.reply.Entry.{Entry}
+use Rattle.core_parts.specs.declared.turns.OwedCall.{OwedCall}
+use Rattle.core_parts.specs.declared.turns.KeptReport.{KeptReport}
+use Rattle.core_parts.specs.Directory.{Directory}
+use Rattle.core_parts.specs.Seats.{Seated}
+use Rattle.machine_lock.specs.Working.{MakesOwed}
+use Rattle.core_lock.specs.Turns.{Calls, Grew, IsAnswered, IsCalled, IsKeptFrom, IsOfWorker, IsOwedBy, WorksUnit, one_call_more, report_of}
+
+none_owed : (o : Option OwedCall) → is_some o ≡ false → o ≡ None
+none_owed None is = refl
+none_owed (Some owed) is = absurd (cc)
+
+pub not_called : (seat : Seated) → is_some seat.owed ≡ false → IsCalled seat seat
+not_called seat is =
+    let none = none_owed seat.owed is in
+    record {
+      number = refl;
+      directory = refl;
+      log = refl;
+      turns = refl;
+      owed = none;
+      kept = subst (λ (o : Option OwedCall). IsAnswered o seat.kept seat.kept) (sym none) refl;
+    }
+
+pub called : (old new : Seated) (owed : OwedCall) (answer : DeviceAnswer) → old.owed ≡ Some owed → new ≡ record old { calls = one_call_more old.calls; owed = None; kept = Some (report_of owed answer) } → IsCalled old new
+called old new owed answer was is = record {
+  number = ap (λ (s : Seated). s.number) is;
+  directory = ap (λ (s : Seated). s.directory) is;
+  log = ap (λ (s : Seated). s.log) is;
+  turns = ap (λ (s : Seated). s.turns) is;
+  owed = ap (λ (s : Seated). s.owed) is;
+  kept = subst (λ (o : Option OwedCall). IsAnswered o old.kept new.kept) (sym was) (answer, ap (λ (s : Seated). s.kept) is);
+}
+
+kept_called : (d : Directory) (roam : Bool) (at : ℕ) (first old new : Option KeptReport) (o : Option OwedCall) → IsOwedBy d roam at o → IsAnswered o old new → IsKeptFrom d roam at first old → IsKeptFrom d roam at first new
+kept_called d roam at first old new None by is from = subst (IsKeptFrom d roam at first) (sym is) from
+kept_called d roam at first old new (Some owed) by (answer, is) from = subst (IsKeptFrom d roam at first) (sym is) (inl (owed, answer, by, refl))
+
+pub works_called : (roam : Bool) (at : ℕ) (a b c : Seated) (n : ℕ) → WorksUnit roam at a b n → IsOwedBy a.directory roam at b.owed → IsCalled b c → WorksUnit roam at a c n
+works_called roam at a b c n works by called = record {
+  number = called.number ∙ works.number;
+  directory = called.directory ∙ works.directory;
+  kept = kept_called a.directory roam at a.kept b.kept c.kept b.owed by called.kept works.kept;
+  log = subst (λ (l : List Entry). Grew (IsOfWorker a.directory roam at a.kept) a.log l n) (sym called.log) works.log;
+}
+
+module _ {D : Type 0} (passes : ℕ → ℕ → Type 0) (answers : D → Call → DeviceAnswer → D → Type 0) where
+  pub not_owed : (seat : Seated) (device : D) → is_some seat.owed ≡ false → MakesOwed passes answers seat device seat device
+  not_owed seat device is = inl (none_owed seat.owed is, refl, refl)
+
+  pub was_called : (old : Seated) (device : D) (new : Seated) (after : D) → Calls passes answers old device new after → IsCalled old new
+  was_called old device new after c = called old new c.0 c.1 c.2 c.5
