@@ -3,14 +3,14 @@ mod Sound
 mod Moves
 mod RunSound
 mod RunSerials
-mod Growth
-mod SameHold
+pub mod Growth
+pub mod SameHold
 mod HoldEvents
 mod UnitPlain
 mod UnitNumbers
 mod UnitEvents
-mod Linked
-mod RunAgrees
+pub mod Linked
+pub mod RunAgrees
 mod Prefixes
 mod Waits
 mod Resetting

@@ -1,5 +1,5 @@
 -- What a subchannel does for its program with an Accept is what is seen of it.
-use Rattle.std.proofs.Common.{◌≡◌, refl, sym, ◌∙◌, ap, subst, arith, ℕ, ◌+◌, ◌==◌, Bool, true, false, List, ◌++◌, length, Option, Some, None, ◌⊎◌, inl, inr}
+use Rattle.std.proofs.Common.{◌≡◌, refl, sym, ◌∙◌, ap, subst, arith, ℕ, ◌+◌, ◌≤◌, ◌==◌, Bool, true, false, List, ◌++◌, length, Option, Some, None, ◌⊎◌, inl, inr, length-append}
 use Rattle.std.specs.Prelude.{if◌then◌else◌, is_some, not, ◌&&◌}
 use Rattle.std.proofs.lemmas.Bool.{eq-eqb}
 use Rattle.storage_keys.specs.Storage.{Contents}
@@ -9,8 +9,8 @@ use Rattle.chan_model.specs.declared.signal.Up.TheVariants as up
 use Rattle.chan_model.specs.HoldTable as hold_table
 use Rattle.chan_model.specs.HoldTable.{HoldStep}
 use Rattle.channel_program.specs.Acts.{Act}
-use Rattle.channel_program.specs.Programs.{IsProgram, role_of, commands}
-use Rattle.channel_program.specs.Walks.{WalkPlace, walk_place}
+use Rattle.channel_program.specs.Programs.{IsProgram, role_of, next, commands}
+use Rattle.channel_program.specs.Walks.{WalkPlace, walk_place, advance_acts}
 use Rattle.transfer.specs.declared.CommandStart.{CommandStart}
 use Rattle.transfer.specs.declared.CommandStart.TheVariants as came
 use Rattle.transfer.specs.Commands.{first_command, begun_with_room}
@@ -22,9 +22,10 @@ use Rattle.subchannel_model.specs.declared.state.UpStep.{UpStep}
 use Rattle.subchannel_model.specs.Taking as taking
 use Rattle.subchannel_model.specs.Taking.{goes_ahead, halt_done, path_used, from_start, suspended_as, standing_as, standing}
 use Rattle.program_laws.specs.Traces.{ProgramTrace}
-use Rattle.program_laws.specs.Tells.{GoesOn, beginning, IsOver, Accepted, Meets}
+use Rattle.program_laws.specs.Tells.{IsOver, Begins, Accepted, Meets}
+use Rattle.program_laws.specs.Claims.{IsSuspended, has_check, EndsAtCheck}
 use Rattle.program_laws.proofs.Named.{IsRest}
-use Rattle.program_laws.proofs.MachineActs.{with_acts, first_acts}
+use Rattle.program_laws.proofs.MachineActs.{with_acts, room_acts, first_acts}
 use Rattle.program_laws.proofs.MachineTraces as stories
 use Rattle.program_laws.proofs.Ties.{AreLaws}
 use Rattle.program_laws.proofs.Parts.{WentOn, goes-on}
@@ -33,6 +34,9 @@ use Rattle.program_laws.proofs.StatusCounts.{none-counted, of-program, halt-show
 use Rattle.program_laws.proofs.Holds.{IsPhase, IsStanding, IsHeld, done-held}
 use Rattle.program_laws.proofs.Fetches.{goes-fetched}
 use Rattle.program_laws.proofs.Goings.{begins-goes}
+use Rattle.program_laws.proofs.Advances.{advance-some}
+use Rattle.program_laws.proofs.Standing.{suspended-unchecked, suspended-next}
+use Rattle.program_laws.proofs.Offers.{IsOffered, IsOfferedAt, beginning, begins-same, ahead-over}
 
 -- the signal is taken
 starts-taken : (storage : Contents) (s : SubchannelState) (p t : ℕ) (st : ProgramPosition) (walk : WalkPlace) (c : CommandStart) →
@@ -79,10 +83,16 @@ over-by false w st start e = inr (waits w e, stays w st e)
 pub over : (s : SubchannelState) → goes_ahead s ≡ false → IsOver s
 over s e = over-by s.scsw.activity.halt_pending s.waiting s.suspended s.offered e
 
+longer : (more before : List Act) → 1 ≤ length more → more ++ before ≡ before → ⊥
+longer more before l e =
+    let many : length (more ++ before) ≡ length more + length before = length-append more before in
+    let same : length (more ++ before) ≡ length before = ap length e in
+    absurd (omega (arith, l, many, same))
+
 module _ (laws : AreLaws) where
   -- a program goes on from where it stands, and what status shows then is its count
   abbrev Starts : Contents → ℕ → UpStep → ProgramTrace → ProgramTrace → Type 0
-  Starts storage made x k after = IsHeld x.state after → GoesOn storage x.came.sent k.now.acts k after × ShowsRest made x.state after
+  Starts storage made x k after = IsHeld x.state after → Begins storage x.came.sent k after × ShowsRest made x.state after
 
   starts-shows : (storage : Contents) (s : SubchannelState) (p t : ℕ) (st : ProgramPosition) (walk : WalkPlace) (k : ProgramTrace) (c : CommandStart) (acts : List Act) (n : ℕ) →
       WentOn k.earlier laws storage k.orb k.now.acts (acts ++ k.now.acts) n walk c → IsRest st.count k →
@@ -97,52 +107,79 @@ module _ (laws : AreLaws) where
   starts-shows storage s p t st walk k (came.Stops check) acts n w r h =
       fault-shows s s.begun walk.tried check st.count (record k { now = with_acts k.now acts }) (rest-stays k acts k.now.acts st.count w.1 refl r)
 
+  -- something is fetched
+  starts-some : (storage : Contents) (c : CommandStart) (acts : List Act) (k : ProgramTrace) → 1 ≤ length acts →
+      (stories.trace_goes_on c acts k).now.acts ≡ k.now.acts → ⊥
+  starts-some storage (came.Begins transfer) acts k l e = longer acts k.now.acts l e
+  starts-some storage came.Suspends acts k l e = longer acts k.now.acts l e
+  starts-some storage (came.Stops check) acts k l e = longer acts k.now.acts l e
+
+  -- and all that is next
+  starts-whole : (storage : Contents) (k : ProgramTrace) (acts : List Act) (n : ℕ) (walk : WalkPlace) (c : CommandStart) →
+      WentOn k.earlier laws storage k.orb k.now.acts (acts ++ k.now.acts) n walk c →
+      (next k.orb (stories.trace_goes_on c acts k).now.acts ≡ None) ⊎ IsSuspended k.orb (stories.trace_goes_on c acts k).now.acts
+  starts-whole storage k acts n walk (came.Begins transfer) w = inl w.0.stands
+  starts-whole storage k acts n walk came.Suspends w = inr w.5
+  starts-whole storage k acts n walk (came.Stops check) w = inl w.3
+
   starts-on : (storage : Contents) (s : SubchannelState) (p t : ℕ) (st : ProgramPosition) (k : ProgramTrace) → st.walk ≡ walk_place k.orb k.now.acts →
       (role_of k.orb k.now.acts).chained ≡ false → length (commands k.orb k.now.acts) ≡ k.earlier → IsProgram k.orb k.now.acts → t ≡ k.number → k.sent ≡ 0 → IsRest st.count k →
+      has_check k.orb k.now.acts ≡ false → EndsAtCheck k.orb k.now.acts → (address : ℕ) → next k.orb k.now.acts ≡ Some address →
       Starts storage s.serials.made (taking.begin_standing storage s p t (Some st)) k (stories.trace_begins storage st.walk k)
-  starts-on storage s p t st k w c l p' f z r =
+  starts-on storage s p t st k w c l p' f z r hc en address at =
       let old : WalkPlace = walk_place k.orb k.now.acts in
       let many : length (commands k.orb k.now.acts) + 1 ≡ k.earlier + 1 = ap (λ (n : ℕ). n + 1) l in
-      let went = goes-on k.earlier laws storage k.orb k.now.acts 1 c many p' in
+      let went = goes-on k.earlier laws storage k.orb k.now.acts 1 c many p' hc en in
+      let first = first_command storage old in
+      let some : 1 ≤ length (advance_acts storage old) = advance-some storage k.orb k.now.acts address at in
+      let all : length (first_acts storage old) ≡ length (room_acts storage first.came) + length (advance_acts storage old) =
+      length-append (room_acts storage first.came) (advance_acts storage old) in
       subst
       (λ (x : WalkPlace). Starts storage s.serials.made (taking.beginning storage s p t st (first_command storage x).walk (first_command storage x).came) k
       (stories.trace_begins storage x k))
       (sym w)
       (λ h. (
-        (
-          first_acts storage old ++ k.now.acts,
-          (first_acts storage old, refl, goes-fetched k.earlier laws storage k.orb k.now.acts 1 c many p'),
-          begins-goes laws storage s p t st (first_command storage old).walk k (first_command storage old).came (first_acts storage old) 1 went f
-              (let n : 1 ≡ k.sent + 1 = omega (arith, z) in n),
-        ),
-        starts-shows storage s p t st (first_command storage old).walk k (first_command storage old).came (first_acts storage old) 1 went r h,
+        record {
+          goes = (
+            first_acts storage old ++ k.now.acts,
+            (first_acts storage old, refl, goes-fetched k.earlier laws storage k.orb k.now.acts 1 c many p' hc en),
+            begins-goes laws storage s p t st first.walk k first.came (first_acts storage old) 1 went f
+                (let n : 1 ≡ k.sent + 1 = omega (arith, z) in n),
+          );
+          fetches = starts-some storage first.came (first_acts storage old) k (omega (arith, some, all));
+          whole = starts-whole storage k (first_acts storage old) 1 first.walk first.came went;
+        },
+        starts-shows storage s p t st first.walk k first.came (first_acts storage old) 1 went r h,
       ))
 
   again-on : (storage : Contents) (s : SubchannelState) (p t : ℕ) (st : ProgramPosition) (k : ProgramTrace) (x : Bool) → is_some (if x then Some st else None) ≡ true →
       st.walk ≡ walk_place k.orb k.now.acts → (role_of k.orb k.now.acts).chained ≡ false → IsProgram k.orb k.now.acts → t ≡ k.number → k.sent ≡ 0 → IsRest st.count k →
+      IsSuspended k.orb k.now.acts → EndsAtCheck k.orb k.now.acts →
       Starts storage s.serials.made (taking.begin_standing storage s p t (if x then Some st else None)) (beginning None k) (if x then stories.begins_again storage st k else k)
-  again-on storage s p t st k true e w c p' f z r = starts-on storage s p t st (beginning None k) w c refl p' f z r
-  again-on storage s p t st k false e w c p' f z r = absurd (cc e)
+  again-on storage s p t st k true e w c p' f z r su en =
+      let at = suspended-next k.orb k.now.acts su in
+      starts-on storage s p t st (beginning None k) w c refl p' f z r (suspended-unchecked k.orb k.now.acts su en) en at.0 at.1
+  again-on storage s p t st k false e w c p' f z r su en = absurd (cc e)
 
   suspended-on : (storage : Contents) (s : SubchannelState) (p t : ℕ) (b : Option ActiveProgram) (st : Option ProgramPosition) (start : ℕ) (k : ProgramTrace) →
-      is_some (suspended_as st start) ≡ true → IsStanding None b st k → IsProgram k.orb k.now.acts → t ≡ k.number → k.sent ≡ 0 →
+      is_some (suspended_as st start) ≡ true → IsStanding None b st k → IsProgram k.orb k.now.acts → EndsAtCheck k.orb k.now.acts → t ≡ k.number → k.sent ≡ 0 →
       Starts storage s.serials.made (taking.begin_standing storage s p t (suspended_as st start)) (beginning None k) (stories.again_as storage st start k)
-  suspended-on storage s p t b None start k e x p' f z = absurd (cc e)
-  suspended-on storage s p t b (Some st) start k e x p' f z = again-on storage s p t st k (st.program.start == start) e x.2 x.3 p' f z x.4
+  suspended-on storage s p t b None start k e x p' en f z = absurd (cc e)
+  suspended-on storage s p t b (Some st) start k e x p' en f z = again-on storage s p t st k (st.program.start == start) e x.2 x.3 p' f z x.4 x.5 en
 
   anew-on : (storage : Contents) (s : SubchannelState) (p t : ℕ) (program : Program) (b : Option ActiveProgram) (st : Option ProgramPosition) (start : ℕ) (k : ProgramTrace) (x : Bool) →
       is_some (if x then Some (from_start program) else suspended_as st start) ≡ true → IsStanding (Some program) b st k → t ≡ k.number → k.sent ≡ 0 →
       Starts storage s.serials.made (taking.begin_standing storage s p t (if x then Some (from_start program) else suspended_as st start)) (beginning (Some program) k)
       (if x then stories.begins_anew storage program k else stories.again_as storage st start k)
-  anew-on storage s p t program b st start k true e x f z = starts-on storage s p t (from_start program) (beginning (Some program) k) refl refl refl tt f z refl
+  anew-on storage s p t program b st start k true e x f z = starts-on storage s p t (from_start program) (beginning (Some program) k) refl refl refl tt f z refl refl tt program.orb.program refl
   anew-on storage s p t program b None start k false e x f z = absurd (cc e)
   anew-on storage s p t program b (Some st) start k false e x f z = absurd (cc x.0)
 
   standing-on : (storage : Contents) (s : SubchannelState) (p t : ℕ) (w : Option Program) (b : Option ActiveProgram) (st : Option ProgramPosition) (start : ℕ) (k : ProgramTrace) →
-      is_some (standing_as w st start) ≡ true → IsStanding w b st k → IsProgram k.orb k.now.acts → t ≡ k.number → k.sent ≡ 0 →
+      is_some (standing_as w st start) ≡ true → IsStanding w b st k → IsProgram k.orb k.now.acts → EndsAtCheck k.orb k.now.acts → t ≡ k.number → k.sent ≡ 0 →
       Starts storage s.serials.made (taking.begin_standing storage s p t (standing_as w st start)) (beginning w k) (stories.begins_as storage w st start k)
-  standing-on storage s p t None b st start k e x p' f z = suspended-on storage s p t b st start k e x p' f z
-  standing-on storage s p t (Some program) b st start k e x p' f z = anew-on storage s p t program b st start k (program.start == start) e x f z
+  standing-on storage s p t None b st start k e x p' en f z = suspended-on storage s p t b st start k e x p' en f z
+  standing-on storage s p t (Some program) b st start k e x p' en f z = anew-on storage s p t program b st start k (program.start == start) e x f z
 
   -- an Accept
   abbrev AcceptsBy : Contents → SubchannelState → ℕ → Option HoldStep → ProgramTrace → Type 0
@@ -159,29 +196,35 @@ module _ (laws : AreLaws) where
   and-true true b e = refl
   and-true false b e = absurd (cc e)
 
-  begun-meets : (storage : Contents) (s : SubchannelState) (k : ProgramTrace) (u t q : ℕ) (may : Bool) → goes_ahead s ≡ may → IsHeld s k → t ≡ k.number → k.sent ≡ 0 →
+  begun-meets : (storage : Contents) (s : SubchannelState) (k : ProgramTrace) (u t q : ℕ) (may : Bool) → goes_ahead s ≡ may → IsHeld s k → IsOfferedAt (hold.Offer t q) s.waiting s.suspended s.offered k → t ≡ k.number → k.sent ≡ 0 →
       AcceptsBy storage s u (Some (hold_table.program_begun s.hold t q may)) k
-  begun-meets storage s k u t q true e h f z g =
+  begun-meets storage s k u t q true e h o f z g =
       let on : SubchannelState = record s { hold = record s.hold { phase = hold.On t q 0; seen = 0; first_path = Some q }; pmcw = path_used s.pmcw q } in
       let x : UpStep = taking.begin_standing storage on q t (standing s) in
+      let stands : is_some (standing s) ≡ true = and-true (is_some (standing s)) (not s.scsw.activity.halt_pending) e in
+      let done = done-held s k h in
+      let same : beginning s.waiting k ≡ k = begins-same s.waiting s.begun s.suspended s.offered k stands h.standing o.0 o.1 in
+      let starts =
+      subst (λ (y : ProgramTrace). Starts storage s.serials.made x y (stories.begins_as storage s.waiting s.suspended s.offered k)) same
+      (standing-on storage on q t s.waiting s.begun s.suspended s.offered k stands h.standing done.program done.ends f z) g in
       taken-meets storage s u x k (stories.begins_as storage s.waiting s.suspended s.offered k) (standing-taken storage on q t (standing s))
-      (inr (standing-on storage on q t s.waiting s.begun s.suspended s.offered k (and-true (is_some (standing s)) (not s.scsw.activity.halt_pending) e) h.standing (done-held s k h).program f z g))
-  begun-meets storage s k u t q false e h f z g =
+      (inr (ahead-over s e, starts.0, starts.1))
+  begun-meets storage s k u t q false e h o f z g =
       let letting : SubchannelState = record s { hold = record s.hold { phase = hold.Letting t q; seen = 0; first_path = Some q }; pmcw = path_used s.pmcw q } in
       inl (over s e, refl, refl, of-program s (halt_done letting) (Some k) h (halt-shows letting))
 
-  offer-meets : (storage : Contents) (s : SubchannelState) (k : ProgramTrace) (u t q : ℕ) (x : Bool) → IsHeld s k → t ≡ k.number → k.sent ≡ 0 →
+  offer-meets : (storage : Contents) (s : SubchannelState) (k : ProgramTrace) (u t q : ℕ) (x : Bool) → IsHeld s k → IsOfferedAt (hold.Offer t q) s.waiting s.suspended s.offered k → t ≡ k.number → k.sent ≡ 0 →
       AcceptsBy storage s u (if x then Some (hold_table.program_begun s.hold t q (goes_ahead s)) else None) k
-  offer-meets storage s k u t q true h f z g = begun-meets storage s k u t q (goes_ahead s) refl h f z g
-  offer-meets storage s k u t q false h f z g = (refl, none-counted s s k refl)
+  offer-meets storage s k u t q true h o f z g = begun-meets storage s k u t q (goes_ahead s) refl h o f z g
+  offer-meets storage s k u t q false h o f z g = (refl, none-counted s s k refl)
 
-  pub accept-meets : (storage : Contents) (s : SubchannelState) (k : ProgramTrace) (u : ℕ) (phase : HoldPhase) → s.hold.phase ≡ phase → IsHeld s k →
+  pub accept-meets : (storage : Contents) (s : SubchannelState) (k : ProgramTrace) (u : ℕ) (phase : HoldPhase) → s.hold.phase ≡ phase → IsHeld s k → IsOffered s k →
       AcceptsBy storage s u (hold_table.offer_accepted s.hold phase u (goes_ahead s)) k
-  accept-meets storage s k u hold.Free e h g = (refl, none-counted s s k refl)
-  accept-meets storage s k u (hold.Offer t q) e h g =
+  accept-meets storage s k u hold.Free e h o g = (refl, none-counted s s k refl)
+  accept-meets storage s k u (hold.Offer t q) e h o g =
       let f : IsPhase (hold.Offer t q) k.number s.begun k.sent = subst (λ (x : HoldPhase). IsPhase x k.number s.begun k.sent) e h.phase in
-      offer-meets storage s k u t q (u == t) h f.0 f.2 g
-  accept-meets storage s k u (hold.On t p c) e h g = (refl, none-counted s s k refl)
-  accept-meets storage s k u (hold.Away t) e h g = (refl, none-counted s s k refl)
-  accept-meets storage s k u (hold.Letting t p) e h g = (refl, none-counted s s k refl)
-  accept-meets storage s k u (hold.Reset r) e h g = (refl, none-counted s s k refl)
+      offer-meets storage s k u t q (u == t) h (subst (λ (x : HoldPhase). IsOfferedAt x s.waiting s.suspended s.offered k) e o) f.0 f.2 g
+  accept-meets storage s k u (hold.On t p c) e h o g = (refl, none-counted s s k refl)
+  accept-meets storage s k u (hold.Away t) e h o g = (refl, none-counted s s k refl)
+  accept-meets storage s k u (hold.Letting t p) e h o g = (refl, none-counted s s k refl)
+  accept-meets storage s k u (hold.Reset r) e h o g = (refl, none-counted s s k refl)

@@ -1,6 +1,6 @@
 -- What a program's going on does to its commands and to the data of the command at work.
-use Rattle.std.proofs.Common.{◌≡◌, refl, ap, subst, ℕ, Bool, true, false, List, [], ◌∷◌, ◌++◌, Option, Some, None, Result, Ok, Err}
-use Rattle.std.specs.Prelude.{◌&&◌, if◌then◌else◌}
+use Rattle.std.proofs.Common.{◌≡◌, refl, ap, sym, ◌∙◌, subst, arith, ℕ, ◌≤◌, length, Bool, true, false, List, [], ◌∷◌, ◌++◌, Option, Some, None, Result, Ok, Err}
+use Rattle.std.specs.Prelude.{◌&&◌, ◌||◌, if◌then◌else◌}
 use Rattle.orb_block.specs.declared.Orb.{Orb}
 use Rattle.storage_keys.specs.declared.StorageFault.{StorageFault}
 use Rattle.storage_keys.specs.Storage.{Contents, fetched}
@@ -12,13 +12,14 @@ use Rattle.channel_program.specs.declared.Advance.TheVariants as advance
 use Rattle.channel_program.specs.declared.Role.{Role}
 use Rattle.channel_program.specs.declared.Reading.{Reading}
 use Rattle.channel_program.specs.declared.Reading.TheVariants.{Transfers, Takes, Suspends, Shows}
-use Rattle.channel_program.specs.Acts.{Act, Block, Unfetched}
+use Rattle.channel_program.specs.Acts.{Act, Block, Unfetched, Used_up, End, Word}
 use Rattle.channel_program.specs.Blocks.{reads}
 use Rattle.channel_program.specs.Programs.{Command, next, next_after, role_of, role_after, commands, commands_after}
 use Rattle.channel_program.proofs.Named.{acts_at}
-use Rattle.channel_program.specs.Walks.{walk_place, is_program_misplaced, fetch_act, acts_from, advance_acts, advance_of}
+use Rattle.channel_program.specs.Walks.{WalkPlace, walk_place, is_program_misplaced, fetch_act, acts_from, advance_acts, advance_of}
 use Rattle.channel_program.proofs.Named.{after_block, act_of_fetch, with_target, block_advance}
 use Rattle.idaw.specs.Places.{Reach}
+use Rattle.program_laws.specs.Claims.{shows_check, has_check, EndsAtCheck}
 use Rattle.program_laws.specs.DataAreas.{data_areas, reaches_after}
 
 -- a block is fetched, or cannot be
@@ -47,6 +48,17 @@ block-went cs rs address role (Transfers target) = (refl, refl)
 block-went cs rs address role (Takes ccw) = (refl, refl, refl, refl)
 block-went cs rs address role Suspends = (refl, refl, refl)
 block-went cs rs address role Shows = (refl, refl)
+
+-- a check ends the program
+abbrev pub UnlessStops : Option Advance → Bool → Type 0
+UnlessStops (Some (advance.Stops check)) b = Unit {0}
+UnlessStops a b = b ≡ false
+
+block-checks : (r : Reading) (b : Bool) → b ≡ false → UnlessStops (block_advance r) (shows_check r || b)
+block-checks (Transfers target) b e = e
+block-checks (Takes ccw) b e = e
+block-checks Suspends b e = e
+block-checks Shows b e = tt
 
 -- from the acts before to those after
 abbrev pub WentTo : Orb → List Act → List Act → Type 0
@@ -87,3 +99,52 @@ at-went storage orb before (Some address) =
 
 pub advance-went : (storage : Contents) (orb : Orb) (before : List Act) → WentTo orb before (advance_acts storage (walk_place orb before))
 advance-went storage orb before = at-went storage orb before (next orb before)
+
+-- none is fetched after a check
+abbrev EndsTo : Orb → List Act → List Act → Type 0
+EndsTo orb before acts = EndsAtCheck orb (acts ++ before) × UnlessStops (advance_of (walk_place orb before) acts) (has_check orb (acts ++ before))
+
+target-ends : (storage : Contents) (orb : Orb) (before : List Act) (address : ℕ) (bytes : List ℕ) (r : Reading) → reads orb (role_of orb before) bytes ≡ r →
+    has_check orb before ≡ false → EndsAtCheck orb before →
+    EndsTo orb before (with_target storage (after_block (walk_place orb before) address bytes) r (Block address bytes ∷ []))
+target-ends storage orb before address bytes (Transfers target) e h k =
+    let mid : List Act = Block address bytes ∷ before in
+    let unchecked : has_check orb mid ≡ false = ap (λ (r : Reading). shows_check r || has_check orb before) e ∙ h in
+    fetch_cases (λ act. EndsTo orb before (act ∷ Block address bytes ∷ [])) storage orb (role_of orb mid) target
+    (λ more. ((unchecked, (h, k)), block-checks (reads orb (role_of orb mid) more) (has_check orb mid) unchecked))
+    (λ check. ((unchecked, (h, k)), tt))
+target-ends storage orb before address bytes (Takes ccw) e h k = ((h, k), block-checks (reads orb (role_of orb before) bytes) (has_check orb before) h)
+target-ends storage orb before address bytes Suspends e h k = ((h, k), block-checks (reads orb (role_of orb before) bytes) (has_check orb before) h)
+target-ends storage orb before address bytes Shows e h k = ((h, k), block-checks (reads orb (role_of orb before) bytes) (has_check orb before) h)
+
+at-ends : (storage : Contents) (orb : Orb) (before : List Act) (n : Option ℕ) → has_check orb before ≡ false → EndsAtCheck orb before →
+    EndsTo orb before (acts_at storage (walk_place orb before) n)
+at-ends storage orb before None h k = (k, h)
+at-ends storage orb before (Some address) h k =
+    fetch_cases (λ act. EndsTo orb before (acts_from storage (walk_place orb before) act)) storage orb (role_of orb before) address
+    (λ bytes. target-ends storage orb before address bytes (reads orb (role_of orb before) bytes) refl h k)
+    (λ check. ((h, k), tt))
+
+pub advance-ends : (storage : Contents) (orb : Orb) (before : List Act) → has_check orb before ≡ false → EndsAtCheck orb before →
+    EndsTo orb before (advance_acts storage (walk_place orb before))
+advance-ends storage orb before h k = at-ends storage orb before (next orb before) h k
+
+-- where a block is next, one is fetched
+from-some : (storage : Contents) (old : WalkPlace) (act : Act) → 1 ≤ length (acts_from storage old act)
+from-some storage old (Block address bytes) = by (reads old.orb old.role bytes)
+  where
+    by : (r : Reading) → 1 ≤ length (with_target storage (after_block old address bytes) r (Block address bytes ∷ []))
+    by (Transfers target) = omega arith
+    by (Takes ccw) = omega arith
+    by Suspends = omega arith
+    by Shows = omega arith
+from-some storage old (Unfetched address check) = omega arith
+from-some storage old Used_up = omega arith
+from-some storage old (End ended) = omega arith
+from-some storage old (Word word) = omega arith
+
+pub advance-some : (storage : Contents) (orb : Orb) (before : List Act) (address : ℕ) → next orb before ≡ Some address →
+    1 ≤ length (advance_acts storage (walk_place orb before))
+advance-some storage orb before address e =
+    let old : WalkPlace = walk_place orb before in
+    subst (λ (n : Option ℕ). 1 ≤ length (acts_at storage old n)) (sym e) (from-some storage old (fetch_act storage orb old.role address))

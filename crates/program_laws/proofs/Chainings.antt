@@ -23,13 +23,14 @@ use Rattle.transfer.specs.declared.Transfer.{Transfer}
 use Rattle.transfer.specs.Commands.{is_skipped, data_of}
 use Rattle.transfer.specs.Chunks.{chains_data, chained_to, chained_from, chained, with_moved, moved_on}
 use Rattle.program_laws.proofs.Named.{chained_reach}
+use Rattle.program_laws.specs.Claims.{has_check, EndsAtCheck}
 use Rattle.program_laws.specs.DataAreas.{reach, data_areas, reaches_after}
 use Rattle.program_laws.proofs.Named.{reaches_with}
 use Rattle.program_laws.proofs.MachineActs as doing
 use Rattle.program_laws.specs.Traces.{CommandTrace}
 use Rattle.program_laws.proofs.MachineActs.{chained_acts, with_acts, with_places}
 use Rattle.program_laws.proofs.Lists.{none-some}
-use Rattle.program_laws.proofs.Advances.{Went, advance-went}
+use Rattle.program_laws.proofs.Advances.{Went, UnlessStops, advance-went, advance-ends}
 use Rattle.program_laws.proofs.Standing.{Stands, acts-stand, suspended-unchained}
 use Rattle.program_laws.proofs.Ties.{AreLaws, HasCode, IsMovedTo, Tied, none-next, spot-changed, ccw-of, done-within, with_moved-tied}
 
@@ -66,9 +67,9 @@ module _ (laws : AreLaws) where
         length (commands orb before) ≡ earlier + t.command → IsMovedTo orb (data_areas orb before) t ps → residual t.moving ≡ 0 →
         commands orb acts ≡ commands_after (role_of orb before).chained (commands orb before) (Takes ccw) →
         data_areas orb acts ≡ reaches_after (role_of orb before).chained (commands orb before) (data_areas orb before) (Takes ccw) → next orb acts ≡ None →
-        (role_of orb acts).chained ≡ ccw.chain_data →
+        (role_of orb acts).chained ≡ ccw.chain_data → EndsAtCheck orb acts → has_check orb acts ≡ false →
         Tied earlier orb acts ps (record t { walk = walk; moving = data_of walk t.code ccw; pci_pending = ccw.program_controlled })
-    joins orb before acts t walk ps ccw w p c h m l s z f g n i =
+    joins orb before acts t walk ps ccw w p c h m l s z f g n i en hc =
         let cs : List Command = commands orb before in
         let commanded : commands orb acts ≡ join_last cs ccw = f ∙ ap (λ (x : Bool). if x then join_last cs ccw else record { first = ccw; more = [] } ∷ cs) c in
         let reached : data_areas orb acts ≡ chained_reach cs (data_areas orb before) ccw =
@@ -84,14 +85,16 @@ module _ (laws : AreLaws) where
               subst (λ (rs : List Reach). IsMovedTo orb rs (record t { walk = walk; moving = data_of walk t.code ccw; pci_pending = ccw.program_controlled }) ps) (sym reached)
               (joined-spot orb cs (data_areas orb before) t walk ps ccw (ap (λ (x : WalkPlace). x.orb) w) h (whole orb (data_areas orb before) t ps z s));
           number = ap length commanded ∙ joined-length cs ccw ∙ l;
+          ends = en;
+          checked = λ x. hc;
         }
 
     -- none is: the program stopped
     unjoined : (orb : Orb) (before acts : List Act) (t : Transfer) (walk : WalkPlace) (ps : List (Option ℕ)) (check : Check) → walk ≡ walk_place orb acts → IsProgram orb acts →
         HasCode (commands orb before) t.code → t.moving.kind ≡ kind_of orb → length (commands orb before) ≡ earlier + t.command → IsMovedTo orb (data_areas orb before) t ps →
-        commands orb acts ≡ commands orb before → data_areas orb acts ≡ data_areas orb before → next orb acts ≡ None →
+        commands orb acts ≡ commands orb before → data_areas orb acts ≡ data_areas orb before → next orb acts ≡ None → EndsAtCheck orb acts →
         Tied earlier orb acts ps (record t { walk = walk; fault = Some check })
-    unjoined orb before acts t walk ps check w p h m l s f g n = record {
+    unjoined orb before acts t walk ps check w p h m l s f g n en = record {
       walk = w;
       program = p;
       stands = n;
@@ -102,6 +105,8 @@ module _ (laws : AreLaws) where
           subst (λ (rs : List Reach). IsMovedTo orb rs (record t { walk = walk; fault = Some check }) ps) (sym g)
           (spot-changed orb (data_areas orb before) t (record t { walk = walk; fault = Some check }) ps refl (λ x. refl) s);
       number = ap length f ∙ l;
+      ends = en;
+      checked = λ x. absurd (cc x);
     }
 
     -- no block is next: nothing is done
@@ -117,19 +122,22 @@ module _ (laws : AreLaws) where
       kind = k.kind;
       spot = k.spot;
       number = k.number;
+      ends = k.ends;
+      checked = k.checked;
     }
 
     chained-by : (storage : Contents) (orb : Orb) (before acts : List Act) (t : Transfer) (walk : WalkPlace) (ps : List (Option ℕ)) (a : Option Advance) → walk ≡ walk_place orb acts →
         IsProgram orb acts → (role_of orb before).chained ≡ true → residual t.moving ≡ 0 → Tied earlier orb before ps t →
         Went (role_of orb before).chained (commands orb before) (commands orb acts) (data_areas orb before) (data_areas orb acts) (next orb acts) (role_of orb acts) a →
-        ((x : Advance) → a ≡ Some x → Stands orb acts x) → (a ≡ None → Tied earlier orb acts ps t) → Tied earlier orb acts ps (chained_to t walk a)
-    chained-by storage orb before acts t walk ps (Some (advance.Takes ccw)) w p c z k g e o =
-        joins orb before acts t walk ps ccw w p c k.coded k.kind k.number k.spot z g.0 g.1 g.2 g.3
-    chained-by storage orb before acts t walk ps (Some advance.Suspends) w p c z k g e o =
+        ((x : Advance) → a ≡ Some x → Stands orb acts x) → (a ≡ None → Tied earlier orb acts ps t) → EndsAtCheck orb acts × UnlessStops a (has_check orb acts) →
+        Tied earlier orb acts ps (chained_to t walk a)
+    chained-by storage orb before acts t walk ps (Some (advance.Takes ccw)) w p c z k g e o x =
+        joins orb before acts t walk ps ccw w p c k.coded k.kind k.number k.spot z g.0 g.1 g.2 g.3 x.0 x.1
+    chained-by storage orb before acts t walk ps (Some advance.Suspends) w p c z k g e o x =
         absurd (cc (sym (g.2 ∙ c) ∙ suspended-unchained orb acts (e advance.Suspends refl)))
-    chained-by storage orb before acts t walk ps (Some (advance.Stops check)) w p c z k g e o =
-        unjoined orb before acts t walk ps check w p k.coded k.kind k.number k.spot g.0 g.1 (e (advance.Stops check) refl)
-    chained-by storage orb before acts t walk ps None w p c z k g e o = o refl
+    chained-by storage orb before acts t walk ps (Some (advance.Stops check)) w p c z k g e o x =
+        unjoined orb before acts t walk ps check w p k.coded k.kind k.number k.spot g.0 g.1 (e (advance.Stops check) refl) x.0
+    chained-by storage orb before acts t walk ps None w p c z k g e o x = o refl
 
     chained-tied : (storage : Contents) (orb : Orb) (acts : List Act) (ps : List (Option ℕ)) (t : Transfer) → is_some t.fault ≡ false → t.moving.ccw.chain_data ≡ true →
         residual t.moving ≡ 0 → Tied earlier orb acts ps t → Tied earlier orb (chained_acts storage t ++ acts) ps (chained storage t)
@@ -145,7 +153,8 @@ module _ (laws : AreLaws) where
         (λ e.
         let n : next orb used ≡ None = none-next earlier laws storage orb used e in
         let none : news ≡ [] = ap (λ (x : Option ℕ). acts_at storage old x) n in
-        subst (λ (xs : List Act). Tied earlier orb (xs ++ used) ps t) (sym none) (stays-tied orb acts t ps n k)) in
+        subst (λ (xs : List Act). Tied earlier orb (xs ++ used) ps t) (sym none) (stays-tied orb acts t ps n k))
+        (advance-ends storage orb used (k.checked f) k.ends) in
         subst (λ (w : WalkPlace). Tied earlier orb ((advance_acts storage (after_used_up w) ++ Used_up ∷ []) ++ acts) ps (chained_from storage t (after_used_up w))) (sym k.walk)
         (subst (λ (xs : List Act). Tied earlier orb xs ps (chained_from storage t old)) (sym (append_assoc news (Used_up ∷ []) acts)) by)
 

@@ -101,7 +101,7 @@ waiting-alone : (w : Option Program) (b : Option ActiveProgram) (st : Option Pro
 waiting-alone w b None program k e x = refl
 waiting-alone w b (Some st) program k e x = absurd (cc (sym e ∙ x.0))
 
-alone-kept : (s : SubchannelState) (program : Program) (k : Option ProgramTrace) → s.waiting ≡ Some program → KeptBy s k → s.suspended ≡ None
+pub alone-kept : (s : SubchannelState) (program : Program) (k : Option ProgramTrace) → s.waiting ≡ Some program → KeptBy s k → s.suspended ≡ None
 alone-kept s program None e h = h.suspended
 alone-kept s program (Some k) e h = waiting-alone s.waiting s.begun s.suspended program k e h.0.standing
 
@@ -145,7 +145,7 @@ found-held sub program path false k z f h =
 found-held sub program path true k z f h = resumed-held sub.state program path f.0 k z f.1 h
 
 -- a change of nothing that is told of
-same-kept : (s u : SubchannelState) (k : Option ProgramTrace) → u.hold.phase ≡ s.hold.phase → u.drawn ≡ s.drawn → u.begun ≡ s.begun → u.waiting ≡ s.waiting →
+pub same-kept : (s u : SubchannelState) (k : Option ProgramTrace) → u.hold.phase ≡ s.hold.phase → u.drawn ≡ s.drawn → u.begun ≡ s.begun → u.waiting ≡ s.waiting →
     u.suspended ≡ s.suspended → KeptBy s k → KeptBy u k
 same-kept s u None e d b w q h = record {
   phase = subst (λ (x : HoldPhase). IsUnheld x u.drawn) (sym e) (subst (λ (n : ℕ). IsUnheld s.hold.phase n) (sym d) h.phase);

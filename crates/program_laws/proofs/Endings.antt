@@ -35,6 +35,8 @@ ended-tied earlier orb acts ps t modifier k = record {
   kind = k.kind;
   spot = k.spot;
   number = k.number;
+  ends = k.ends;
+  checked = k.checked;
 }
 
 arrived-ended : (k : ProgramTrace) (status : DeviceStatus) (t : Transfer) (d : Bool) → HasArrived k.now t.fault t.sequence d →

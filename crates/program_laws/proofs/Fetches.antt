@@ -1,5 +1,5 @@
 -- What comes to a program, act by act, is what storage holds.
-use Rattle.std.proofs.Common.{◌≡◌, refl, ap, sym, ◌∙◌, subst, ℕ, ◌+◌, Bool, true, false, List, [], ◌∷◌, ◌++◌, length, Option, Some, None, Result, Ok, Err, inl, inr, arith, append_assoc}
+use Rattle.std.proofs.Common.{◌≡◌, refl, ap, sym, ◌∙◌, subst, ℕ, ◌+◌, ◌≤◌, Bool, true, false, List, [], ◌∷◌, ◌++◌, length, Option, Some, None, Result, Ok, Err, inl, inr, arith, append_assoc}
 use Rattle.std.specs.Prelude.{◌==◌, ◌&&◌, ◌%◌, not, min, is_some, if◌then◌else◌}
 use Rattle.orb_block.specs.declared.Orb.{Orb}
 use Rattle.ccw_codec.specs.declared.Ccw.{Ccw}
@@ -30,12 +30,15 @@ use Rattle.transfer.specs.Commands.{goes_to, located_transfer, has_stopped, brin
 use Rattle.transfer.specs.Chunks.{chains_data, with_moved, with_answer, taken_by_device, brought_by, brought_in, brought, fitting}
 use Rattle.program_laws.specs.DataAreas.{data_areas}
 use Rattle.program_laws.proofs.MachineActs as doing
-use Rattle.program_laws.specs.Traces.{CommandTrace}
+use Rattle.program_laws.specs.Traces.{Arrival, CommandTrace}
 use Rattle.program_laws.proofs.MachineActs.{act_of_word, located_acts, room_acts, goes_acts, next_acts, chained_acts, with_acts, with_places, with_copy, copying, trace_answered, gives, with_arrival, storing, arriving, takes_in}
+use Rattle.program_laws.specs.Claims.{has_check, EndsAtCheck}
 use Rattle.program_laws.specs.Fetches.{IsNextWord, IsFetched, AreFetched, AddsFetched}
 use Rattle.program_laws.proofs.Accesses.{AreAccesses}
-use Rattle.program_laws.proofs.Ties.{AreLaws, IsMovedTo, Tied, Begins, goes-begins}
-use Rattle.program_laws.proofs.Parts.{IsAtWork, answer-by, bring-by}
+use Rattle.program_laws.proofs.Ties.{AreLaws, IsMovedTo, Tied, changed, Begins, goes-begins}
+use Rattle.program_laws.proofs.Parts.{IsAtWork, moved_on-parts, room-left, answer-tied, answer-by, fitting-left, bring-by}
+use Rattle.program_laws.proofs.Used.{used-same, none-used, used-by}
+use Rattle.program_laws.specs.Tells.{is_used_up, acts_used}
 
 pub adds-none : (storage : Contents) (orb : Orb) (before : List Act) → AddsFetched storage orb before before
 adds-none storage orb before = ([], refl, tt)
@@ -90,19 +93,19 @@ advance-fetched : (storage : Contents) (orb : Orb) (before : List Act) → AreFe
 advance-fetched storage orb before = at-fetched storage orb before (next orb before)
 
 -- data is chained
-chained-fetched : (storage : Contents) (orb : Orb) (acts : List Act) (t : Transfer) → t.walk ≡ walk_place orb acts → AreFetched storage orb acts (chained_acts storage t)
-chained-fetched storage orb acts t e =
-    subst (λ (w : WalkPlace). AreFetched storage orb acts (advance_acts storage (after_used_up w) ++ Used_up ∷ [])) (sym e)
-    (fetched-append storage orb (advance_acts storage (walk_place orb (Used_up ∷ acts))) (Used_up ∷ []) acts (advance-fetched storage orb (Used_up ∷ acts)) (tt, tt))
+chained-adds : (storage : Contents) (orb : Orb) (acts : List Act) (t : Transfer) → t.walk ≡ walk_place orb acts →
+    AddsFetched storage orb (Used_up ∷ acts) (chained_acts storage t ++ acts)
+chained-adds storage orb acts t e =
+    let more : WalkPlace → List Act = λ w. advance_acts storage (after_used_up w) in (
+      more t.walk,
+      append_assoc (more t.walk) (Used_up ∷ []) acts,
+      subst (λ (w : WalkPlace). AreFetched storage orb (Used_up ∷ acts) (more w)) (sym e) (advance-fetched storage orb (Used_up ∷ acts)),
+    )
 
 moved_on-if : (storage : Contents) (orb : Orb) (p : CommandTrace) (t : Transfer) (n : ℕ) (b : Bool) → t.walk ≡ walk_place orb p.acts →
-    AddsFetched storage orb p.acts (if b then with_acts (with_places p t.moving n) (chained_acts storage (with_moved t n)) else with_places p t.moving n).acts
-moved_on-if storage orb p t n true e = (chained_acts storage (with_moved t n), refl, chained-fetched storage orb p.acts (with_moved t n) e)
+    AddsFetched storage orb (acts_used b p.acts) (if b then with_acts (with_places p t.moving n) (chained_acts storage (with_moved t n)) else with_places p t.moving n).acts
+moved_on-if storage orb p t n true e = chained-adds storage orb p.acts (with_moved t n) e
 moved_on-if storage orb p t n false e = adds-none storage orb p.acts
-
-moved_on-adds : (storage : Contents) (orb : Orb) (p : CommandTrace) (t : Transfer) (n : ℕ) → t.walk ≡ walk_place orb p.acts →
-    AddsFetched storage orb p.acts (doing.trace_moved_on storage t n p).acts
-moved_on-adds storage orb p t n e = moved_on-if storage orb p t n (chains_data (with_moved t n) n) e
 
 -- a word of an indirect list
 aligned-word : (b : Bool) (x : Result ℕ Check) (word : ℕ) → (if b then Err Program else x) ≡ Ok word → x ≡ Ok word
@@ -160,11 +163,11 @@ module _ (earlier : ℕ) where
     room-fetched storage orb before acts n (came.Stops check) k = tt
 
     pub goes-fetched : (storage : Contents) (orb : Orb) (before : List Act) (n : ℕ) → (role_of orb before).chained ≡ false → length (commands orb before) + 1 ≡ earlier + n →
-        IsProgram orb before → AreFetched storage orb before (goes_acts storage n (walk_place orb before))
-    goes-fetched storage orb before n c l p =
+        IsProgram orb before → has_check orb before ≡ false → EndsAtCheck orb before → AreFetched storage orb before (goes_acts storage n (walk_place orb before))
+    goes-fetched storage orb before n c l p hc en =
         let old : WalkPlace = walk_place orb before in
         fetched-append storage orb (room_acts storage (goes_to storage n old).came) (advance_acts storage old) before
-        (room-fetched storage orb before (advance_acts storage old ++ before) n (goes_to storage n old).came (goes-begins earlier laws storage orb before n c l p))
+        (room-fetched storage orb before (advance_acts storage old ++ before) n (goes_to storage n old).came (goes-begins earlier laws storage orb before n c l p hc en))
         (advance-fetched storage orb before)
 
     abbrev ending : Bool → Ended
@@ -179,60 +182,91 @@ module _ (earlier : ℕ) where
           more t.walk,
           append_assoc (more t.walk) (End (ending modifier) ∷ []) acts,
           subst (λ (w : WalkPlace). AreFetched storage orb before (more w)) (sym k.walk)
-              (goes-fetched storage orb before (t.command + 1) (k.chained f ∙ d) (omega (arith, m)) (k.stands, k.program)),
+              (goes-fetched storage orb before (t.command + 1) (k.chained f ∙ d) (omega (arith, m)) (k.stands, k.program) (k.checked f) k.ends),
         )
 
     -- a Data of a command that takes bytes to the device
-    answer-if : (storage : Contents) (orb : Orb) (p : CommandTrace) (t : Transfer) (s count : ℕ) (b : Bool) → t.walk ≡ walk_place orb p.acts →
-        AddsFetched storage orb p.acts (if b then doing.trace_moved_on storage (with_answer t s count) (min count (room t.moving)) p else p).acts
-    answer-if storage orb p t s count true e = moved_on-adds storage orb p (with_answer t s count) (min count (room t.moving)) e
-    answer-if storage orb p t s count false e = adds-none storage orb p.acts
+    -- so many bytes are moved, and then the words that are next are fetched
+    abbrev UsedAdds : Contents → Orb → Bool → CommandTrace → CommandTrace → Type 0
+    UsedAdds storage orb kept p q = AddsFetched storage orb (acts_used (is_used_up orb kept p q) p.acts) q.acts
 
-    copy-by : (storage : Contents) (t : Transfer) (r : Result (List ℕ) Check) (p : CommandTrace) → (with_copy storage t r p).acts ≡ p.acts
-    copy-by storage t (Ok bytes) p = refl
-    copy-by storage t (Err check) p = refl
+    unused-adds : (storage : Contents) (orb : Orb) (kept : Bool) (p q : CommandTrace) → q.moved ≡ p.moved → q.acts ≡ p.acts → UsedAdds storage orb kept p q
+    unused-adds storage orb kept p q e f =
+        subst (λ (b : Bool). AddsFetched storage orb (acts_used b p.acts) q.acts) (sym (none-used orb kept p q e))
+        (subst (λ (acts : List Act). AddsFetched storage orb p.acts acts) (sym f) (adds-none storage orb p.acts))
 
-    copy-if : (storage : Contents) (t : Transfer) (r : Result (List ℕ) Check) (p : CommandTrace) (b : Bool) → (if b then p else with_copy storage t r p).acts ≡ p.acts
-    copy-if storage t r p true = refl
+    moved_on-adds : (storage : Contents) (orb : Orb) (p : CommandTrace) (t : Transfer) (n : ℕ) (arrived : List Arrival) → n ≤ t.moving.left → Tied earlier orb p.acts p.moved t →
+        UsedAdds storage orb (is_some t.fault) p (doing.trace_moved_on storage t n (record p { arrived = arrived }))
+    moved_on-adds storage orb p t n arrived l k =
+        let r : CommandTrace = record p { arrived = arrived } in
+        let q : CommandTrace = doing.trace_moved_on storage t n r in
+        subst (λ (b : Bool). AddsFetched storage orb (acts_used b p.acts) q.acts)
+        (sym (used-same laws earlier orb p q t n l k (moved_on-parts storage t n r (chains_data (with_moved t n) n)).0))
+        (moved_on-if storage orb r t n (chains_data (with_moved t n) n) k.walk)
+
+    answer-if : (storage : Contents) (orb : Orb) (p : CommandTrace) (t : Transfer) (s count : ℕ) (b : Bool) → IsAtWork earlier orb p t true →
+        UsedAdds storage orb (is_some t.fault) p (if b then doing.trace_moved_on storage (with_answer t s count) (min count (room t.moving)) p else p)
+    answer-if storage orb p t s count true k =
+        moved_on-adds storage orb p (with_answer t s count) (min count (room t.moving)) p.arrived (room-left t count) (answer-tied earlier laws orb p t s count k).tied
+    answer-if storage orb p t s count false k = unused-adds storage orb (is_some t.fault) p p refl refl
+
+    later-adds : (storage : Contents) (orb : Orb) (kept : Bool) (p q r : CommandTrace) (acts : List Act) → r.moved ≡ q.moved → r.acts ≡ acts ++ q.acts → UsedAdds storage orb kept p q →
+        AreFetched storage orb q.acts acts → UsedAdds storage orb kept p r
+    later-adds storage orb kept p q r acts e f a b =
+        subst (λ (x : Bool). AddsFetched storage orb (acts_used x p.acts) r.acts) (sym (used-by orb kept p q r e))
+        (subst (λ (xs : List Act). AddsFetched storage orb (acts_used (is_used_up orb kept p q) p.acts) xs) (sym f)
+        (adds-more storage orb (acts_used (is_used_up orb kept p q) p.acts) q.acts acts a b))
+
+    copy-by : (storage : Contents) (t : Transfer) (r : Result (List ℕ) Check) (p : CommandTrace) →
+        (_ : (with_copy storage t r p).acts ≡ p.acts) × ((with_copy storage t r p).moved ≡ p.moved)
+    copy-by storage t (Ok bytes) p = (refl, refl)
+    copy-by storage t (Err check) p = (refl, refl)
+
+    copy-if : (storage : Contents) (t : Transfer) (r : Result (List ℕ) Check) (p : CommandTrace) (b : Bool) →
+        (_ : (if b then p else with_copy storage t r p).acts ≡ p.acts) × ((if b then p else with_copy storage t r p).moved ≡ p.moved)
+    copy-if storage t r p true = (refl, refl)
     copy-if storage t r p false = copy-by storage t r p
 
-    copy-same : (storage : Contents) (t : Transfer) (p : CommandTrace) → (copying storage t p).acts ≡ p.acts
+    copy-same : (storage : Contents) (t : Transfer) (p : CommandTrace) → (_ : (copying storage t p).acts ≡ p.acts) × ((copying storage t p).moved ≡ p.moved)
     copy-same storage t p = copy-if storage t (access.copied storage t.walk.orb.key t.moving) p (has_stopped t)
 
     pub gives-adds : (storage : Contents) (orb : Orb) (p : CommandTrace) (t : Transfer) (s count : ℕ) → IsAtWork earlier orb p t true →
-        AddsFetched storage orb p.acts (gives storage t s count p).acts
+        UsedAdds storage orb (is_some t.fault) p (gives storage t s count p)
     gives-adds storage orb p t s count k =
         let q : CommandTrace = trace_answered storage t s count p in
         let u : Transfer = taken_by_device storage t s count in
         let w : IsAtWork earlier orb q u true = answer-by earlier laws storage orb p t s count (s == t.sequence + 1) k in
-        subst (λ (xs : List Act). AddsFetched storage orb p.acts xs) (sym (copy-same storage (located_transfer storage u) (with_acts q (located_acts storage u))))
-        (adds-more storage orb p.acts q.acts (located_acts storage u) (answer-if storage orb p t s count (s == t.sequence + 1) k.tied.walk)
-        (located-fetched storage orb q.acts q.moved u w.tied))
+        let same = copy-same storage (located_transfer storage u) (with_acts q (located_acts storage u)) in
+        later-adds storage orb (is_some t.fault) p q (gives storage t s count p) (located_acts storage u) same.1 same.0
+        (answer-if storage orb p t s count (s == t.sequence + 1) k) (located-fetched storage orb q.acts q.moved u w.tied)
 
     -- a Data of a command that brings bytes in: they are stored first
-    arrival-adds : (storage : Contents) (orb : Orb) (p : CommandTrace) (t : Transfer) (bytes : List ℕ) (r : Result Contents Check) → t.walk ≡ walk_place orb p.acts →
-        AddsFetched (brought_by storage t (length bytes) r).storage orb p.acts (with_arrival storage t bytes r p).acts
-    arrival-adds storage orb p t bytes (Ok after) e =
-        moved_on-adds after orb (record p { arrived = record { former = storage.bytes; chunk = doing.chunk_of after t.moving bytes } ∷ p.arrived }) t (length bytes) e
-    arrival-adds storage orb p t bytes (Err check) e = adds-none storage orb p.acts
+    arrival-adds : (storage : Contents) (orb : Orb) (p : CommandTrace) (t : Transfer) (bytes : List ℕ) (r : Result Contents Check) → length bytes ≤ t.moving.left → Tied earlier orb p.acts p.moved t →
+        UsedAdds (brought_by storage t (length bytes) r).storage orb (is_some t.fault) p (with_arrival storage t bytes r p)
+    arrival-adds storage orb p t bytes (Ok after) l k =
+        moved_on-adds after orb p t (length bytes) (record { former = storage.bytes; chunk = doing.chunk_of after t.moving bytes } ∷ p.arrived) l k
+    arrival-adds storage orb p t bytes (Err check) l k = unused-adds storage orb (is_some t.fault) p p refl refl
 
-    store-if : (storage : Contents) (orb : Orb) (p : CommandTrace) (t : Transfer) (bytes : List ℕ) (r : Result Contents Check) (b : Bool) → t.walk ≡ walk_place orb p.acts →
-        AddsFetched (if b then record { transfer = t; storage = storage } else brought_by storage t (length bytes) r).storage orb p.acts (if b then p else with_arrival storage t bytes r p).acts
-    store-if storage orb p t bytes r true e = adds-none storage orb p.acts
-    store-if storage orb p t bytes r false e = arrival-adds storage orb p t bytes r e
+    store-if : (storage : Contents) (orb : Orb) (p : CommandTrace) (t : Transfer) (bytes : List ℕ) (r : Result Contents Check) (b : Bool) → length bytes ≤ t.moving.left →
+        Tied earlier orb p.acts p.moved t →
+        UsedAdds (if b then record { transfer = t; storage = storage } else brought_by storage t (length bytes) r).storage orb (is_some t.fault) p (if b then p else with_arrival storage t bytes r p)
+    store-if storage orb p t bytes r true l k = unused-adds storage orb (is_some t.fault) p p refl refl
+    store-if storage orb p t bytes r false l k = arrival-adds storage orb p t bytes r l k
 
-    bring-if : (storage : Contents) (orb : Orb) (p : CommandTrace) (t : Transfer) (s : ℕ) (bytes : List ℕ) (b : Bool) → t.walk ≡ walk_place orb p.acts →
-        AddsFetched (if b then brought_in storage (record t { sequence = s }) (fitting t bytes) else record { transfer = t; storage = storage }).storage orb p.acts
-        (if b then storing storage (record t { sequence = s }) (fitting t bytes) p else p).acts
-    bring-if storage orb p t s bytes true e =
-        store-if storage orb p (record t { sequence = s }) (fitting t bytes) (access.stored_or_skipped storage t.walk.orb.key t.moving (fitting t bytes)) (is_some t.fault) e
-    bring-if storage orb p t s bytes false e = adds-none storage orb p.acts
+    bring-if : (storage : Contents) (orb : Orb) (p : CommandTrace) (t : Transfer) (s : ℕ) (bytes : List ℕ) (b : Bool) → Tied earlier orb p.acts p.moved t →
+        UsedAdds (if b then brought_in storage (record t { sequence = s }) (fitting t bytes) else record { transfer = t; storage = storage }).storage orb (is_some t.fault) p
+        (if b then storing storage (record t { sequence = s }) (fitting t bytes) p else p)
+    bring-if storage orb p t s bytes true k =
+        let u : Transfer = record t { sequence = s } in
+        store-if storage orb p u (fitting t bytes) (access.stored_or_skipped storage t.walk.orb.key t.moving (fitting t bytes)) (is_some t.fault) (fitting-left t bytes)
+        (changed earlier orb p.acts p.moved t u refl refl refl refl (λ e. e) (λ e. e) k)
+    bring-if storage orb p t s bytes false k = unused-adds storage orb (is_some t.fault) p p refl refl
 
     pub takes_in-adds : (accesses : AreAccesses) (storage : Contents) (orb : Orb) (p : CommandTrace) (t : Transfer) (s : ℕ) (bytes : List ℕ) → IsAtWork earlier orb p t false →
-        AddsFetched (brought storage t s bytes).storage orb p.acts (takes_in storage t s bytes p).acts
+        UsedAdds (brought storage t s bytes).storage orb (is_some t.fault) p (takes_in storage t s bytes p)
     takes_in-adds accesses storage orb p t s bytes k =
         let q : CommandTrace = arriving storage t s bytes p in
         let x = brought storage t s bytes in
         let w : IsAtWork earlier orb q x.transfer false = bring-by earlier laws accesses storage orb p t s bytes (s == t.sequence + 1) refl k in
-        adds-more x.storage orb p.acts q.acts (located_acts x.storage x.transfer) (bring-if storage orb p t s bytes (s == t.sequence + 1) k.tied.walk)
-        (located-fetched x.storage orb q.acts q.moved x.transfer w.tied)
+        later-adds x.storage orb (is_some t.fault) p q (takes_in storage t s bytes p) (located_acts x.storage x.transfer) refl refl
+        (bring-if storage orb p t s bytes (s == t.sequence + 1) k.tied) (located-fetched x.storage orb q.acts q.moved x.transfer w.tied)

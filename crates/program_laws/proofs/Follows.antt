@@ -41,6 +41,8 @@ use Rattle.program_laws.proofs.Accepts.{accept-meets}
 use Rattle.program_laws.proofs.Moves.{data-meets}
 use Rattle.program_laws.proofs.Chains.{end-meets}
 use Rattle.program_laws.proofs.Choices.{unheld-by}
+use Rattle.program_laws.proofs.Offers.{IsOffered}
+use Rattle.program_laws.proofs.OfferRuns.{OfferedBy}
 use Rattle.program_laws.proofs.StatusCounts.{none-counted, none-left, of-program, cleared-zero, noticed-shows, attended-left}
 use Rattle.program_laws.proofs.StepCounts.{walk-shows}
 use Rattle.program_laws.proofs.UnitActs.{if-ok}
@@ -50,24 +52,24 @@ module _ (laws : AreLaws) (accesses : AreAccesses) where
   abbrev MeetsBy : Contents → SubchannelState → Up → Met → ProgramTrace → ProgramTrace → Type 0
   MeetsBy storage s signal x k after = Meets storage x.storage s x.step.state signal x.step.came.taken x.step.came.sent k after
 
-  signal-meets : (returns : Bool) (storage : Contents) (s : SubchannelState) (p : ℕ) (signal : Up) (k : ProgramTrace) → IsHeld s k →
+  signal-meets : (returns : Bool) (storage : Contents) (s : SubchannelState) (p : ℕ) (signal : Up) (k : ProgramTrace) → IsHeld s k → IsOffered s k →
       MeetsBy storage s signal (takes_up returns storage s p signal) k (trace_meets storage s p signal k)
-  signal-meets returns storage s p (up.Accept t) k h =
-      accept-meets laws storage s k t s.hold.phase refl h (signal-held laws accesses returns storage s p (up.Accept t) k h)
-  signal-meets returns storage s p (up.Data t c n seq load) k h =
+  signal-meets returns storage s p (up.Accept t) k h o =
+      accept-meets laws storage s k t s.hold.phase refl h o (signal-held laws accesses returns storage s p (up.Accept t) k h)
+  signal-meets returns storage s p (up.Data t c n seq load) k h o =
       data-meets laws accesses storage s k (record { path = p; number = t; connection = c; command = n; sequence = seq }) load (is_connected s.hold.phase p t c) h
       (signal-held laws accesses returns storage s p (up.Data t c n seq load) k h)
-  signal-meets returns storage s p (up.End t n status more) k h =
+  signal-meets returns storage s p (up.End t n status more) k h o =
       end-meets laws accesses storage s k (record { path = p; number = t; command = n; status = status; more = more }) (is_on s.hold.phase t) refl h
       (signal-held laws accesses returns storage s p (up.End t n status more) k h)
-  signal-meets returns storage s p (up.Busy t) k h = (refl, none-counted s (takes_up returns storage s p (up.Busy t)).step.state k refl)
-  signal-meets returns storage s p (up.Leave t c) k h = (refl, none-counted s (takes_up returns storage s p (up.Leave t c)).step.state k refl)
-  signal-meets returns storage s p (up.Back t c) k h = (refl, none-counted s (takes_up returns storage s p (up.Back t c)).step.state k refl)
-  signal-meets returns storage s p (up.Released t) k h = (refl, none-counted s (takes_up returns storage s p (up.Released t)).step.state k refl)
-  signal-meets returns storage s p (up.Cleared r) k h = (refl, cleared-zero s s.hold.phase r)
-  signal-meets returns storage s p (up.Notice b) k h =
+  signal-meets returns storage s p (up.Busy t) k h o = (refl, none-counted s (takes_up returns storage s p (up.Busy t)).step.state k refl)
+  signal-meets returns storage s p (up.Leave t c) k h o = (refl, none-counted s (takes_up returns storage s p (up.Leave t c)).step.state k refl)
+  signal-meets returns storage s p (up.Back t c) k h o = (refl, none-counted s (takes_up returns storage s p (up.Back t c)).step.state k refl)
+  signal-meets returns storage s p (up.Released t) k h o = (refl, none-counted s (takes_up returns storage s p (up.Released t)).step.state k refl)
+  signal-meets returns storage s p (up.Cleared r) k h o = (refl, cleared-zero s s.hold.phase r)
+  signal-meets returns storage s p (up.Notice b) k h o =
       (refl, of-program s (takes_up returns storage s p (up.Notice b)).step.state (Some k) h (noticed-shows s b (nat_lt s.hold.known b)))
-  signal-meets returns storage s p (up.Attn a status) k h = (refl, attended-left s p a status)
+  signal-meets returns storage s p (up.Attn a status) k h o = (refl, attended-left s p a status)
 
   -- where nothing was offered
   unoffered : (returns : Bool) (storage : Contents) (s : SubchannelState) (p : ℕ) (signal : Up) → IsUntold s → MeetsNone s (takes_up returns storage s p signal).step.state signal
@@ -93,13 +95,13 @@ module _ (laws : AreLaws) (accesses : AreAccesses) where
   abbrev TurnMeets : Contents → Subchannel → UpTurn → Option ProgramTrace → Option ProgramTrace → Type 0
   TurnMeets storage sub t k after =
       (signal : Up) × (taken : Bool) × (sent : Option (OnPath Down)) × (t.reply ≡ reply.Up signal taken sent)
-      × (HeldBy sub.state k → OfBoth (MeetsNone sub.state t.sub.state signal) (Meets storage t.storage sub.state t.sub.state signal taken sent) k after)
+      × (HeldBy sub.state k → OfferedBy sub.state k → OfBoth (MeetsNone sub.state t.sub.state signal) (Meets storage t.storage sub.state t.sub.state signal taken sent) k after)
 
-  any-meets : (returns : Bool) (storage : Contents) (s : SubchannelState) (p : ℕ) (signal : Up) (k : Option ProgramTrace) → HeldBy s k →
+  any-meets : (returns : Bool) (storage : Contents) (s : SubchannelState) (p : ℕ) (signal : Up) (k : Option ProgramTrace) → HeldBy s k → OfferedBy s k →
       let x : Met = takes_up returns storage s p signal in
       OfBoth (MeetsNone s x.step.state signal) (Meets storage x.storage s x.step.state signal x.step.came.taken x.step.came.sent) k (met_with storage s p (Some signal) k)
-  any-meets returns storage s p signal None h = unoffered returns storage s p signal h
-  any-meets returns storage s p signal (Some k) h = signal-meets returns storage s p signal k h
+  any-meets returns storage s p signal None h o = unoffered returns storage s p signal h
+  any-meets returns storage s p signal (Some k) h o = signal-meets returns storage s p signal k h o
 
   front-meets : (returns : Bool) (storage : Contents) (sub : Subchannel) (path : ℕ) (front : Option Up) (k : Option ProgramTrace) →
       IfOk (up_front returns storage sub path front) (λ t. TurnMeets storage sub t k (met_with storage sub.state path front k))
@@ -116,7 +118,8 @@ module _ (laws : AreLaws) (accesses : AreAccesses) where
       (up_front returns storage sub path (slice_get (queue sub.wires.up path) 0)) (Err fault.NoSuchPath)
       (front-meets returns storage sub path (slice_get (queue sub.wires.up path) 0) k) tt
 
-  module _ (s : State) (place : ℕ) (k : Option ProgramTrace) (held : (sub : Subchannel) → slice_get s.subs place ≡ Some sub → HeldBy sub.state k) where
+  module _ (s : State) (place : ℕ) (k : Option ProgramTrace) (held : (sub : Subchannel) → slice_get s.subs place ≡ Some sub → HeldBy sub.state k)
+      (offers : (sub : Subchannel) → slice_get s.subs place ≡ Some sub → OfferedBy sub.state k) where
     abbrev Goes : Event → Reply → State → Type 0
     Goes e r new = GoesBy place s e r new k (trace_after place s e r k)
 
@@ -158,7 +161,7 @@ module _ (laws : AreLaws) (accesses : AreAccesses) where
                 ap (λ (b : Bool). if b then met_at s.storage (slice_get s.subs place) path k else k) e ∙ ap (λ (o : Option Subchannel). met_at s.storage o path k) found in
                 subst (λ (z : Option ProgramTrace). P x next z) (sym told)
                 (subst (λ (y : Subchannel). P y next (met_at s.storage (Some sub) path k)) old
-                (subst (λ (y : Subchannel). P sub y (met_at s.storage (Some sub) path k)) new (m.4 (held sub found))))),
+                (subst (λ (y : Subchannel). P sub y (met_at s.storage (Some sub) path k)) new (m.4 (held sub found) (offers sub found))))),
           ),
         )
 

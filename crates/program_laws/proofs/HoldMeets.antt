@@ -53,7 +53,7 @@ use Rattle.program_laws.proofs.MachineActs.{with_acts, goes_acts, first_acts, ne
 use Rattle.program_laws.proofs.MachineTraces as stories
 use Rattle.program_laws.specs.Traces.{ProgramTrace, past_part}
 use Rattle.program_laws.proofs.MachineTraces.{trace_meets}
-use Rattle.program_laws.specs.Claims.{IsBeginning, places_of, places_arrived}
+use Rattle.program_laws.specs.Claims.{IsBeginning, places_of, places_arrived, IsSuspended, EndsAtCheck}
 use Rattle.program_laws.specs.DataAreas.{data_areas, counts}
 use Rattle.program_laws.proofs.Named.{IsRest, IsWhole}
 use Rattle.program_laws.proofs.Accesses.{AreAccesses}
@@ -62,16 +62,18 @@ use Rattle.program_laws.proofs.Parts.{IsDone, IsAtWork, HasArrived, done-of, arr
 use Rattle.subchannel_model.specs.Losing.{is_offered_or_held, reset_with, reset_for}
 use Rattle.program_laws.proofs.Holds.{IsPhase, IsDrawn, HasWork, IsStanding, IsHeld, IsHold, done-held, phase-some, phase-none, busy-phase, left-phase, back-phase, released-phase, attended-phase, by_hold-held, back-held, attention-held, let_go-held, standing-some, none-stands, halt_done-held, reset_taken-held, nothing-done, past-done}
 use Rattle.program_laws.proofs.Endings.{ended-held, ended-work}
+use Rattle.program_laws.proofs.Standing.{suspended-unchecked}
 
 module _ (laws : AreLaws) (accesses : AreAccesses) where
   -- the program is over or suspended, where a command can't begin
   over-done : (orb : Orb) (before acts : List Act) (p : CommandTrace) → IsProgram orb acts → data_areas orb acts ≡ data_areas orb before → data_areas orb before ≡ data_areas orb p.acts →
-      IsWhole orb acts → IsDone orb p → IsDone orb (record p { acts = acts })
-  over-done orb before acts p w f e o d =
+      IsWhole orb acts → EndsAtCheck orb acts → IsDone orb p → IsDone orb (record p { acts = acts })
+  over-done orb before acts p w f e o en d =
       let same : places_of orb acts ≡ places_of orb p.acts = ap (places_of_bytes (block (kind_of orb))) (f ∙ e) in
       record {
         program = w;
         whole = o;
+        ends = en;
         moves = subst (λ (xs : List (Option ℕ)). IsBeginning p.moved xs) (sym same) d.moves;
         arrived = d.arrived;
         arrives = subst (λ (xs : List (Option ℕ)). IsBeginning (places_arrived p.arrived) xs) (sym same) d.arrives;
@@ -103,15 +105,15 @@ module _ (laws : AreLaws) (accesses : AreAccesses) where
   -- the program is suspended, or over as a command can't begin
   suspends-held : (s : SubchannelState) (program : Program) (walk : WalkPlace) (count : ℕ) (k : ProgramTrace) → k.number ≤ s.drawn →
       IsHold s.drawn k.number s.begun k.sent s.hold.phase → IsDone k.orb k.now → walk ≡ walk_place k.orb k.now.acts → (role_of k.orb k.now.acts).chained ≡ false → IsRest count k →
-      IsHeld (let_go (suspending s program walk count)).state k
-  suspends-held s program walk count k n p d w c r = by program.orb.suppress_suspended
+      IsSuspended k.orb k.now.acts → IsHeld (let_go (suspending s program walk count)).state k
+  suspends-held s program walk count k n p d w c r su = by program.orb.suppress_suspended
     where
       by : (x : Bool) → IsHeld (let_go (if x then record (standing_still s program walk count) { scsw = suspended_alone s.scsw }
           else with_cause (standing_still s program walk count) (cause.Suspension walk.tried count))).state k
       by true =
-          let_go-held (record (standing_still s program walk count) { scsw = suspended_alone s.scsw }) k n (phase-none s.hold.phase k.number s.begun k.sent p.0, p.1) refl d (refl, refl, w, c, r)
+          let_go-held (record (standing_still s program walk count) { scsw = suspended_alone s.scsw }) k n (phase-none s.hold.phase k.number s.begun k.sent p.0, p.1) refl d (refl, refl, w, c, r, su)
       by false =
-          let_go-held (with_cause (standing_still s program walk count) (cause.Suspension walk.tried count)) k n (phase-none s.hold.phase k.number s.begun k.sent p.0, p.1) refl d (refl, refl, w, c, r)
+          let_go-held (with_cause (standing_still s program walk count) (cause.Suspension walk.tried count)) k n (phase-none s.hold.phase k.number s.begun k.sent p.0, p.1) refl d (refl, refl, w, c, r, su)
 
   abbrev fault-left : SubchannelState → Option ActiveProgram → ℕ → Check → ℕ → SubchannelState
   fault-left s b tried check count =
@@ -154,16 +156,16 @@ module _ (laws : AreLaws) (accesses : AreAccesses) where
       })
   begins-held storage s p t st walk k came.Suspends acts w n on f z none d r =
       suspends-held s st.program walk st.count (record k { now = with_acts k.now acts }) n (on-hold s t p k.number k.sent on f s.begun)
-      (over-done k.orb k.now.acts (acts ++ k.now.acts) k.now w.0 w.1 refl (inr (inr w.5)) d) w.4 w.3 (ap counts w.1 ∙ r)
+      (over-done k.orb k.now.acts (acts ++ k.now.acts) k.now w.0 w.1 refl (inr (inr w.5)) w.6 d) w.4 w.3 (ap counts w.1 ∙ r) w.5
   begins-held storage s p t st walk k (came.Stops check) acts w n on f z none d r =
       fault-held s walk.tried check st.count (record k { now = with_acts k.now acts }) n (on-hold s t p k.number k.sent on f s.begun)
-      (over-done k.orb k.now.acts (acts ++ k.now.acts) k.now w.0 w.1 refl (inr (inl w.3)) d) (λ c e. absurd (cc (sym z ∙ e)))
+      (over-done k.orb k.now.acts (acts ++ k.now.acts) k.now w.0 w.1 refl (inr (inl w.3)) w.4 d) (λ c e. absurd (cc (sym z ∙ e)))
 
   -- where it was suspended
   again-held : (storage : Contents) (s : SubchannelState) (p t : ℕ) (k : ProgramTrace) (st : ProgramPosition) (x : Bool) → IsHeld s k → s.hold.phase ≡ hold.On t p 0 → t ≡ k.number → s.begun ≡ None →
-      k.sent ≡ 0 → st.walk ≡ walk_place k.orb k.now.acts → (role_of k.orb k.now.acts).chained ≡ false → IsRest st.count k →
+      k.sent ≡ 0 → st.walk ≡ walk_place k.orb k.now.acts → (role_of k.orb k.now.acts).chained ≡ false → IsRest st.count k → IsSuspended k.orb k.now.acts →
       IsHeld (taking.begin_standing storage s p t (if x then Some st else None)).state (if x then stories.begins_again storage st k else k)
-  again-held storage s p t k st true h on f z none w c r =
+  again-held storage s p t k st true h on f z none w c r su =
       let past : ProgramTrace = record k { earlier = length (commands k.orb k.now.acts); now = past_part k.now } in
       let d : IsDone k.orb k.now = done-held s k h in
       subst
@@ -172,14 +174,14 @@ module _ (laws : AreLaws) (accesses : AreAccesses) where
       (sym w)
       (let old : WalkPlace = walk_place k.orb k.now.acts in
       begins-held storage s p t st (first_command storage old).walk past (first_command storage old).came (first_acts storage old)
-      (goes-on past.earlier laws storage k.orb k.now.acts 1 c refl d.program) h.number on f z none (past-done k.orb k.now d) r)
-  again-held storage s p t k st false h on f z none w c r = h
+      (goes-on past.earlier laws storage k.orb k.now.acts 1 c refl d.program (suspended-unchecked k.orb k.now.acts su d.ends) d.ends) h.number on f z none (past-done k.orb k.now d) r)
+  again-held storage s p t k st false h on f z none w c r su = h
 
   suspended-held : (storage : Contents) (s : SubchannelState) (p t : ℕ) (k : ProgramTrace) (w : Option Program) (b : Option ActiveProgram) (st : Option ProgramPosition) (start : ℕ) → IsHeld s k →
       s.hold.phase ≡ hold.On t p 0 → t ≡ k.number → s.begun ≡ None → k.sent ≡ 0 → IsStanding w b st k →
       IsHeld (taking.begin_standing storage s p t (suspended_as st start)).state (stories.again_as storage st start k)
   suspended-held storage s p t k w b None start h on f z none x = h
-  suspended-held storage s p t k w b (Some st) start h on f z none x = again-held storage s p t k st (st.program.start == start) h on f z none x.2 x.3 x.4
+  suspended-held storage s p t k w b (Some st) start h on f z none x = again-held storage s p t k st (st.program.start == start) h on f z none x.2 x.3 x.4 x.5
 
   anew-held : (storage : Contents) (s : SubchannelState) (p t : ℕ) (k : ProgramTrace) (w : Option Program) (b : Option ActiveProgram) (st : Option ProgramPosition) (start : ℕ) (program : Program) (x : Bool) →
       IsHeld s k → s.hold.phase ≡ hold.On t p 0 → t ≡ k.number → s.begun ≡ None → k.sent ≡ 0 → IsStanding w b st k →
@@ -188,7 +190,7 @@ module _ (laws : AreLaws) (accesses : AreAccesses) where
   anew-held storage s p t k w b st start program true h on f z none x =
       let old : WalkPlace = walk_place program.orb [] in
       begins-held storage s p t (from_start program) (first_command storage old).walk (record k { orb = program.orb; earlier = 0; now = no_trace }) (first_command storage old).came
-      (first_acts storage old) (goes-on 0 laws storage program.orb [] 1 refl refl tt) h.number on f z none (nothing-done program.orb) refl
+      (first_acts storage old) (goes-on 0 laws storage program.orb [] 1 refl refl tt refl tt) h.number on f z none (nothing-done program.orb) refl
   anew-held storage s p t k w b st start program false h on f z none x = suspended-held storage s p t k w b st start h on f z none x
 
   stands-held : (storage : Contents) (s : SubchannelState) (p t : ℕ) (k : ProgramTrace) (w : Option Program) (b : Option ActiveProgram) (st : Option ProgramPosition) (start : ℕ) → IsHeld s k →
@@ -317,7 +319,7 @@ module _ (laws : AreLaws) (accesses : AreAccesses) where
       let old : WalkPlace = walk_place orb before in
       let m : length (commands orb before) ≡ earlier + t.command = k.number in
       let went : WentOn earlier laws storage orb before (goes_acts storage n old ++ before) n (goes_to storage n old).walk (goes_to storage n old).came =
-      goes-on earlier laws storage orb before n (k.chained f ∙ d) (omega (arith, m)) (k.stands, k.program) in
+      goes-on earlier laws storage orb before n (k.chained f ∙ d) (omega (arith, m)) (k.stands, k.program) (k.checked f) k.ends in
       subst
       (λ (w : WalkPlace). WentOn earlier laws storage orb before ((goes_acts storage n (walk_after_end w (ending modifier)) ++ End (ending modifier) ∷ []) ++ p.acts) n
       (goes_to storage n (walk_after_end w (ending modifier))).walk (goes_to storage n (walk_after_end w (ending modifier))).came)
@@ -346,11 +348,11 @@ module _ (laws : AreLaws) (accesses : AreAccesses) where
   chains-held storage s b k signal walk came.Suspends acts before n e h d w r m =
       let work : HasWork (Some b) k = subst (λ (x : Option ActiveProgram). HasWork x k) e h.work in
       suspends-held (taking.end_taken s signal) b.program walk (residual b.transfer.moving) (record k { now = with_acts k.now acts }) h.number (h.phase, h.drawn)
-      (over-done k.orb before (acts ++ k.now.acts) k.now w.0 w.1 r (inr (inr w.5)) d) w.4 w.3
-      (ap counts (w.1 ∙ r) ∙ spot-counts k.orb (data_areas k.orb k.now.acts) b.transfer k.now.moved work.0.tied.spot)
+      (over-done k.orb before (acts ++ k.now.acts) k.now w.0 w.1 r (inr (inr w.5)) w.6 d) w.4 w.3
+      (ap counts (w.1 ∙ r) ∙ spot-counts k.orb (data_areas k.orb k.now.acts) b.transfer k.now.moved work.0.tied.spot) w.5
   chains-held storage s b k signal walk (came.Stops check) acts before n e h d w r m =
       fault-held (taking.end_taken s signal) walk.tried check (residual b.transfer.moving) (record k { now = with_acts k.now acts }) h.number (h.phase, h.drawn)
-      (over-done k.orb before (acts ++ k.now.acts) k.now w.0 w.1 r (inr (inl w.3)) d) (λ c f. standing-some s.waiting s.begun c s.suspended k f h.standing)
+      (over-done k.orb before (acts ++ k.now.acts) k.now w.0 w.1 r (inr (inl w.3)) w.4 d) (λ c f. standing-some s.waiting s.begun c s.suspended k f h.standing)
 
   -- the transfer has ended
   shown-held : (s : SubchannelState) (b c : ActiveProgram) (k : ProgramTrace) (u : SubchannelState) → s.begun ≡ Some b → IsHeld s k →

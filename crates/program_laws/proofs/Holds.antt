@@ -25,7 +25,7 @@ use Rattle.subchannel_model.specs.Taking.{let_go, by_hold, back, halt_done, clea
 use Rattle.program_laws.specs.Traces.{CommandTrace, no_trace}
 use Rattle.program_laws.specs.Traces.{ProgramTrace, past_part}
 use Rattle.program_laws.proofs.Named.{IsRest}
-use Rattle.program_laws.specs.Claims.{IsStored, places_of}
+use Rattle.program_laws.specs.Claims.{IsStored, places_of, IsSuspended}
 use Rattle.program_laws.proofs.Lists.{begins-all}
 use Rattle.program_laws.proofs.Parts.{IsDone, IsAtWork, done-of}
 
@@ -59,6 +59,7 @@ abbrev pub IsStanding : Option Program → Option ActiveProgram → Option Progr
 IsStanding waiting begun None k = Unit {0}
 IsStanding waiting begun (Some st) k =
     (waiting ≡ None) × (begun ≡ None) × (st.walk ≡ walk_place k.orb k.now.acts) × ((role_of k.orb k.now.acts).chained ≡ false) × IsRest st.count k
+    × IsSuspended k.orb k.now.acts
 
 pub record IsHeld (s : SubchannelState) (k : ProgramTrace) : Type 0 where
   pub number : k.number ≤ s.drawn
@@ -244,7 +245,7 @@ halt_done-held s k h = by s.scsw.activity.halt_pending
 -- attention: a start that waits is over
 unwaiting : (w : Option Program) (b : Option ActiveProgram) (st : Option ProgramPosition) (k : ProgramTrace) → IsStanding w b st k → IsStanding None b st k
 unwaiting w b None k x = tt
-unwaiting w b (Some st) k x = (refl, x.1, x.2, x.3, x.4)
+unwaiting w b (Some st) k x = (refl, x.1, x.2, x.3, x.4, x.5)
 
 pub attention-held : (s : SubchannelState) (k : ProgramTrace) (shows : Bool) → IsHeld s k → IsHeld (with_attention s shows) k
 attention-held s k true h =
@@ -282,7 +283,7 @@ none-begun s None h e = h.begun
 none-begun s (Some k) h e = phase-free s.hold.phase k.number s.begun k.sent e h.phase
 
 pub nothing-done : (orb : Orb) → IsDone orb no_trace
-nothing-done orb = record { program = tt; whole = inl refl; moves = begins-all (places_of orb []); arrived = All-nil IsStored; arrives = begins-all (places_of orb []) }
+nothing-done orb = record { program = tt; whole = inl refl; ends = tt; moves = begins-all (places_of orb []); arrived = All-nil IsStored; arrives = begins-all (places_of orb []) }
 
 pub past-done : (orb : Orb) (p : CommandTrace) → IsDone orb p → IsDone orb (past_part p)
-past-done orb p d = record { program = d.program; whole = d.whole; moves = d.moves; arrived = All-nil IsStored; arrives = begins-all (places_of orb p.acts) }
+past-done orb p d = record { program = d.program; whole = d.whole; ends = d.ends; moves = d.moves; arrived = All-nil IsStored; arrives = begins-all (places_of orb p.acts) }

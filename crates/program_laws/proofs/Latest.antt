@@ -25,7 +25,7 @@ code-begun [] c h = h
 code-begun (x ∷ xs) c h = tt
 
 -- this block took control last
-abbrev IsLatest : Option Latest → Ccw → Type 0
+abbrev pub IsLatest : Option Latest → Ccw → Type 0
 IsLatest None ccw = ⊥
 IsLatest (Some last) ccw = last.ccw ≡ ccw
 
@@ -61,6 +61,10 @@ moved-latest : (orb : Orb) (ds : List Reach) (cs : List Command) (last : Option 
 moved-latest orb [] cs last t ps k h f = absurd k
 moved-latest orb (r ∷ rs) cs last t ps k h f = subst (λ (x : Ccw). IsLatest last x) (sym (ccw-of r t k.0)) (f r rs refl h)
 
+pub latest-of : (earlier : ℕ) (orb : Orb) (acts : List Act) (ps : List (Option ℕ)) (t : Transfer) → Tied earlier orb acts ps t → IsLatest (latest orb acts) t.moving.ccw
+latest-of earlier orb acts ps t k =
+    moved-latest orb (data_areas orb acts) (commands orb acts) (latest orb acts) t ps k.spot (code-begun (commands orb acts) t.code k.coded) (has-latest orb acts)
+
 -- by it a command is next where it chains commands, and no data
 chains-next : (last : Option Latest) (ccw : Ccw) (modifier : Bool) → IsLatest last ccw →
     is_some (next_ended last (record { goes_on = true; modifier = modifier })) ≡ (ccw.chain_command && not ccw.chain_data)
@@ -82,7 +86,5 @@ pub next-chains : (earlier : ℕ) (orb : Orb) (acts : List Act) (ps : List (Opti
     (is_some (next_ended (latest orb acts) (record { goes_on = true; modifier = modifier })) && not (u || v))
     ≡ (t.moving.ccw.chain_command && (not t.moving.ccw.chain_data && (not u && not v)))
 next-chains earlier orb acts ps t modifier u v k =
-    let cs : List Command = commands orb acts in
-    let l : IsLatest (latest orb acts) t.moving.ccw =
-    moved-latest orb (data_areas orb acts) cs (latest orb acts) t ps k.spot (code-begun cs t.code k.coded) (has-latest orb acts) in
+    let l : IsLatest (latest orb acts) t.moving.ccw = latest-of earlier orb acts ps t k in
     ap (λ (b : Bool). b && not (u || v)) (chains-next (latest orb acts) t.moving.ccw modifier l) ∙ parted t.moving.ccw.chain_command t.moving.ccw.chain_data u v

@@ -44,10 +44,13 @@ mod LinkIdle
 mod LinkMeets
 mod LinkFlows
 mod RunFlows
+mod Latest
+mod Used
 mod Fetches
 mod Shows
-mod Latest
 mod Goings
+mod Offers
+mod OfferRuns
 mod Accepts
 mod Moves
 mod Chains

@@ -4,16 +4,19 @@ use Rattle.std.proofs.lemmas.Bool.{eqb-true, eqb-false}
 use Rattle.std.proofs.Math.Nat.{min-le_left}
 use Rattle.std.specs.Prelude.{◌||◌, if◌then◌else◌, is_some}
 use Rattle.orb_block.specs.declared.Orb.{Orb}
-use Rattle.storage_keys.specs.Storage.{Contents}
+use Rattle.storage_keys.specs.declared.StorageFault.{StorageFault}
+use Rattle.storage_keys.specs.Storage.{Contents, stored_bytes}
 use Rattle.chan_model.specs.declared.signal.Load.{Load}
 use Rattle.chan_model.specs.declared.signal.Up.TheVariants as up
 use Rattle.chan_model.specs.Loads.{load_length}
 use Rattle.chan_model.specs.UnitReports.{is_outward}
 use Rattle.channel_program.specs.declared.check.Check.{Check}
 use Rattle.channel_program.specs.Acts.{Act}
-use Rattle.channel_program.specs.Programs.{commands, code}
+use Rattle.channel_program.specs.Programs.{Command, commands, code}
+use Rattle.channel_program.specs.Walks.{WalkPlace}
 use Rattle.idaw.specs.Places.{each_below}
 use Rattle.data_move.specs.Accesses as access
+use Rattle.data_move.specs.Accesses.{checked}
 use Rattle.data_move.specs.Moving.{next_place, residual, room}
 use Rattle.transfer.specs.declared.NextChunk.{NextChunk}
 use Rattle.transfer.specs.declared.Transfer.{Transfer}
@@ -29,15 +32,16 @@ use Rattle.subchannel_model.specs.Taking as taking
 use Rattle.subchannel_model.proofs.Named as pieces
 use Rattle.subchannel_model.specs.Taking.{Met, bytes_of_load}
 use Rattle.program_laws.specs.Traces.{CommandTrace, ProgramTrace}
+use Rattle.program_laws.specs.Claims.{IsBeginning, places_of}
 use Rattle.program_laws.specs.DataAreas.{data_areas}
 use Rattle.program_laws.specs.Fetches.{AddsFetched}
-use Rattle.program_laws.specs.Tells.{IsGiven, Gives, absorbed_of, given_of, Stores, Moves, Meets}
+use Rattle.program_laws.specs.Tells.{IsGiven, Gives, absorbed_of, given_of, CantStore, Stores, is_used_up, acts_used, Moves, Meets}
 use Rattle.program_laws.proofs.MachineActs.{with_acts, with_places, chained_acts, located_acts, chunk_of, with_copy, copying, trace_moved_on, trace_answered, gives, with_arrival, storing, takes_in}
 use Rattle.program_laws.proofs.MachineTraces as stories
 use Rattle.program_laws.proofs.Lists.{length-each_below}
 use Rattle.program_laws.proofs.Accesses.{AreAccesses, copied-room, copied-length}
-use Rattle.program_laws.proofs.Ties.{AreLaws, spot-begins, with_moved-tied}
-use Rattle.program_laws.proofs.Parts.{IsSame, IsAtWork, absorbed-same, next_given-same, located-same, brought-same, moved_on-parts, answer-by, gives-work, takes_in-work, located-work}
+use Rattle.program_laws.proofs.Ties.{AreLaws, Tied, changed, spot-begins, with_moved-tied}
+use Rattle.program_laws.proofs.Parts.{IsSame, IsAtWork, absorbed-same, next_given-same, located-same, brought-same, moved_on-parts, fitting-left, answer-by, gives-work, takes_in-work, located-work}
 use Rattle.program_laws.proofs.Holds.{HasWork, IsHeld}
 use Rattle.program_laws.proofs.Fetches.{gives-adds, takes_in-adds}
 use Rattle.program_laws.proofs.Shows.{ShowsRest, data-shows}
@@ -46,14 +50,21 @@ use Rattle.program_laws.proofs.Goings.{same-codes}
 
 -- the same command is at work: none came to the program
 module _ (earlier : ℕ) where
-  pub work-codes : (storage : Contents) (orb : Orb) (p q : CommandTrace) (t u : Transfer) (d e : Bool) → IsSame t u → IsAtWork earlier orb p t d → IsAtWork earlier orb q u e →
-      AddsFetched storage orb p.acts q.acts → map code (commands orb q.acts) ≡ map code (commands orb p.acts)
-  work-codes storage orb p q t u d e same k l a =
+  used-codes : (orb : Orb) (used : Bool) (acts : List Act) → commands orb (acts_used used acts) ≡ commands orb acts
+  used-codes orb true acts = refl
+  used-codes orb false acts = refl
+
+  pub work-codes : (storage : Contents) (orb : Orb) (p q : CommandTrace) (used : Bool) (t u : Transfer) (d e : Bool) → IsSame t u → IsAtWork earlier orb p t d → IsAtWork earlier orb q u e →
+      AddsFetched storage orb (acts_used used p.acts) q.acts → map code (commands orb q.acts) ≡ map code (commands orb p.acts)
+  work-codes storage orb p q used t u d e same k l a =
+      let before : List Act = acts_used used p.acts in
+      let same-before : commands orb before ≡ commands orb p.acts = used-codes orb used p.acts in
       let was : length (commands orb p.acts) ≡ earlier + t.command = k.tied.number in
       let is : length (commands orb q.acts) ≡ earlier + u.command = l.tied.number in
       let many : length (commands orb q.acts) ≡ length (commands orb p.acts) = let n : u.command ≡ t.command = same.1 in omega (arith, was, is, n) in
       ap (λ (acts : List Act). map code (commands orb acts)) a.1
-      ∙ same-codes orb a.0 p.acts (ap (λ (acts : List Act). length (commands orb acts)) (sym a.1) ∙ many)
+      ∙ same-codes orb a.0 before (ap (λ (acts : List Act). length (commands orb acts)) (sym a.1) ∙ many ∙ ap length (sym same-before))
+      ∙ ap (λ (cs : List Command). map code cs) same-before
 
   module _ (laws : AreLaws) (accesses : AreAccesses) where
     -- a write
@@ -162,28 +173,56 @@ module _ (earlier : ℕ) where
         }
 
     -- a read
-    abbrev StoresBy : Contents → Brought → ℕ → ℕ → List ℕ → CommandTrace → CommandTrace → Type 0
-    StoresBy storage x n s bytes p now = Stores storage x.storage n (is_some x.transfer.fault) s bytes p now
+    abbrev StoresBy : Contents → Brought → Orb → ℕ → Bool → ℕ → List ℕ → CommandTrace → CommandTrace → Type 0
+    StoresBy storage x orb n kept s bytes p now = Stores storage x.storage orb n kept s bytes p now
 
-    arrival-told : (storage : Contents) (t : Transfer) (bytes : List ℕ) (n : ℕ) (r : Result Contents Check) (p : CommandTrace) → t.sequence ≡ length p.arrived + 1 →
-        StoresBy storage (brought_by storage t (length (take n bytes)) r) n t.sequence bytes p (with_arrival storage t (take n bytes) r p)
+    -- bytes that storage refuses are of the place that is next
+    refused : (storage : Contents) (key place : ℕ) (bytes : List ℕ) (check : Check) → checked (stored_bytes storage key place bytes) ≡ Err check → 1 ≤ length bytes
+    refused storage key place [] check e = absurd (cc e)
+    refused storage key place (x ∷ bytes) check e = omega arith
+
+    not-stored : (r : Result Contents StorageFault) (check : Check) → checked r ≡ Err check → (after : Contents) → r ≡ Ok after → ⊥
+    not-stored r check e after f = cc (sym e ∙ ap checked f)
+
+    cant-by : (storage : Contents) (orb : Orb) (p : CommandTrace) (t : Transfer) (bytes : List ℕ) (check : Check) (b : Bool) → t.moving.skipped ≡ b →
+        (if b then Ok storage else checked (stored_bytes storage t.walk.orb.key t.moving.piece bytes)) ≡ Err check → length bytes ≤ t.moving.left → Tied earlier orb p.acts p.moved t →
+        CantStore storage orb p bytes
+    cant-by storage orb p t bytes check true s e l k = absurd (cc e)
+    cant-by storage orb p t bytes check false s e l k =
+        let m = t.moving in
+        let some : 1 ≤ length bytes = refused storage t.walk.orb.key m.piece bytes check e in
+        let place : next_place m 0 ≡ Some m.piece =
+        ap (λ (b : Bool). if b then None else Some (m.piece + 0)) s ∙ ap (λ (n : ℕ). Some n) (let z : m.piece + 0 ≡ m.piece = omega arith in z) in
+        let key : t.walk.orb.key ≡ orb.key = ap (λ (x : WalkPlace). x.orb.key) k.walk in (
+          m.piece,
+          subst (λ (x : Option ℕ). IsBeginning (p.moved ++ x ∷ []) (places_of orb p.acts)) place
+              (spot-begins orb (data_areas orb p.acts) (with_moved t 1) (p.moved ++ each_below (next_place m) 1)
+              (with_moved-tied earlier laws orb p.acts p.moved t 1 (omega (arith, some, l)) k).spot),
+          not-stored (stored_bytes storage orb.key m.piece bytes) check (ap (λ (x : ℕ). checked (stored_bytes storage x m.piece bytes)) (sym key) ∙ e),
+        )
+
+    arrival-told : (storage : Contents) (orb : Orb) (t : Transfer) (bytes : List ℕ) (n : ℕ) (r : Result Contents Check) (p : CommandTrace) (kept : Bool) → t.sequence ≡ length p.arrived + 1 →
+        access.stored_or_skipped storage t.walk.orb.key t.moving (take n bytes) ≡ r → length (take n bytes) ≤ t.moving.left → Tied earlier orb p.acts p.moved t →
+        StoresBy storage (brought_by storage t (length (take n bytes)) r) orb n kept t.sequence bytes p (with_arrival storage t (take n bytes) r p)
         × ((with_arrival storage t (take n bytes) r p).copied ≡ p.copied)
-    arrival-told storage t bytes n (Ok after) p next =
+    arrival-told storage orb t bytes n (Ok after) p kept next e l k =
         let some : List ℕ = take n bytes in
         let q : CommandTrace = record p { arrived = record { former = storage.bytes; chunk = chunk_of after t.moving some } ∷ p.arrived } in
         let parts = moved_on-parts after t (length some) q (chains_data (with_moved t (length some)) (length some)) in (
           inr (next, each_below (next_place t.moving) (length some), parts.1, parts.0),
           moved_on-copied after t (length some) q (chains_data (with_moved t (length some)) (length some)),
         )
-    arrival-told storage t bytes n (Err check) p next = (inl ((λ e. refl), refl, refl, refl), refl)
+    arrival-told storage orb t bytes n (Err check) p kept next e l k =
+        (inl ((λ f. inr (cant-by storage orb p t (take n bytes) check t.moving.skipped refl e l k)), refl, refl, refl), refl)
 
-    stored-told : (storage : Contents) (t : Transfer) (bytes : List ℕ) (n : ℕ) (r : Result Contents Check) (p : CommandTrace) (fault : Option Check) → t.fault ≡ fault →
-        (fault ≡ None → t.sequence ≡ length p.arrived + 1) → let b : Bool = is_some fault in
-        StoresBy storage (if b then record { transfer = t; storage = storage } else brought_by storage t (length (take n bytes)) r) n t.sequence bytes p
+    stored-told : (storage : Contents) (orb : Orb) (t : Transfer) (bytes : List ℕ) (n : ℕ) (r : Result Contents Check) (p : CommandTrace) (fault : Option Check) → t.fault ≡ fault →
+        (fault ≡ None → t.sequence ≡ length p.arrived + 1) →
+        access.stored_or_skipped storage t.walk.orb.key t.moving (take n bytes) ≡ r → length (take n bytes) ≤ t.moving.left → Tied earlier orb p.acts p.moved t → let b : Bool = is_some fault in
+        StoresBy storage (if b then record { transfer = t; storage = storage } else brought_by storage t (length (take n bytes)) r) orb n b t.sequence bytes p
         (if b then p else with_arrival storage t (take n bytes) r p)
         × ((if b then p else with_arrival storage t (take n bytes) r p).copied ≡ p.copied)
-    stored-told storage t bytes n r p (Some check) f next = (inl ((λ e. ap (λ (o : Option Check). is_some o) f), refl, refl, refl), refl)
-    stored-told storage t bytes n r p None f next = arrival-told storage t bytes n r p (next refl)
+    stored-told storage orb t bytes n r p (Some check) f next e l k = (inl ((λ x. inl refl), refl, refl, refl), refl)
+    stored-told storage orb t bytes n r p None f next e l k = arrival-told storage orb t bytes n r p false (next refl) e l k
 
     -- where it is next and none are stored, a check stopped the transfer before
     unstored : (fault : Option Check) (s n m : ℕ) → (s == n + 1) ≡ false → (fault ≡ None → n ≡ m) → s ≡ m + 1 → is_some fault ≡ true
@@ -191,37 +230,26 @@ module _ (earlier : ℕ) where
     unstored None s n m f g e = absurd (eqb-false s (n + 1) f (e ∙ sym (ap (λ (x : ℕ). x + 1) (g refl))))
 
     brought-told : (storage : Contents) (orb : Orb) (t : Transfer) (s : ℕ) (bytes : List ℕ) (p : CommandTrace) (b : Bool) → (s == t.sequence + 1) ≡ b → IsAtWork earlier orb p t false →
-        StoresBy storage (if b then brought_in storage (record t { sequence = s }) (fitting t bytes) else record { transfer = t; storage = storage }) (room t.moving) s bytes p
+        StoresBy storage (if b then brought_in storage (record t { sequence = s }) (fitting t bytes) else record { transfer = t; storage = storage }) orb (room t.moving) (is_some t.fault) s bytes p
         (if b then storing storage (record t { sequence = s }) (fitting t bytes) p else p)
         × ((if b then storing storage (record t { sequence = s }) (fitting t bytes) p else p).copied ≡ p.copied)
     brought-told storage orb t s bytes p true is k =
-        stored-told storage (record t { sequence = s }) bytes (room t.moving) (access.stored_or_skipped storage t.walk.orb.key t.moving (fitting t bytes)) p t.fault refl
-        (λ e. eqb-true s (t.sequence + 1) is ∙ ap (λ (n : ℕ). n + 1) (k.arrived.2 e))
+        let u : Transfer = record t { sequence = s } in
+        stored-told storage orb u bytes (room t.moving) (access.stored_or_skipped storage t.walk.orb.key t.moving (fitting t bytes)) p t.fault refl
+        (λ e. eqb-true s (t.sequence + 1) is ∙ ap (λ (n : ℕ). n + 1) (k.arrived.2 e)) refl (fitting-left t bytes)
+        (changed earlier orb p.acts p.moved t u refl refl refl refl (λ e. e) (λ e. e) k.tied)
     brought-told storage orb t s bytes p false is k =
-        (inl ((λ e. unstored t.fault s t.sequence (length p.arrived) is k.arrived.2 e), refl, refl, refl), refl)
-
--- a check that stopped the transfer is still there as the device is answered
-stores-by : (former storage : Contents) (n : ℕ) (x y : Bool) (s : ℕ) (bytes : List ℕ) (p now : CommandTrace) → (x ≡ true → y ≡ true) → Stores former storage n x s bytes p now →
-    Stores former storage n y s bytes p now
-stores-by former storage n x y s bytes p now f (inl w) = inl ((λ e. f (w.0 e)), w.1, w.2, w.3)
-stores-by former storage n x y s bytes p now f (inr w) = inr w
-
-located-fault : (storage : Contents) (t : Transfer) → is_some t.fault ≡ true → is_some (located_transfer storage t).fault ≡ true
-located-fault storage t e = by (is_some t.fault) e
-  where
-    by : (b : Bool) → b ≡ true → is_some (if b then t else with_located t (access.located storage t.walk.orb.key t.moving)).fault ≡ true
-    by true f = e
-    by false f = absurd (cc f)
+        (inl ((λ e. inl (unstored t.fault s t.sequence (length p.arrived) is k.arrived.2 e)), refl, refl, refl), refl)
 
 -- what is at work after it
 abbrev WorksAt : Option ActiveProgram → Transfer → Type 0
-WorksAt begun t = (c : ActiveProgram) × (begun ≡ Some c) × (given_of c.transfer ≡ given_of t) × (is_some c.transfer.fault ≡ is_some t.fault)
+WorksAt begun t = (c : ActiveProgram) × (begun ≡ Some c) × (given_of c.transfer ≡ given_of t)
 
 moved-work : (s : SubchannelState) (b : ActiveProgram) (t : Transfer) (x : Bool) →
     WorksAt (if x then with_cause (record (taking.with_transfer s b t) { begun = Some (taking.without_pci (record b { transfer = t })) }) (cause.Pci t.walk.tried (residual t.moving))
     else taking.with_transfer s b t).begun t
-moved-work s b t true = (taking.without_pci (record b { transfer = t }), refl, refl, refl)
-moved-work s b t false = (record b { transfer = t }, refl, refl, refl)
+moved-work s b t true = (taking.without_pci (record b { transfer = t }), refl, refl)
+moved-work s b t false = (record b { transfer = t }, refl, refl)
 
 module _ (laws : AreLaws) (accesses : AreAccesses) where
   abbrev MovesOf : Contents → SubchannelState → Met → ℕ → Load → ProgramTrace → ProgramTrace → Type 0
@@ -239,7 +267,8 @@ module _ (laws : AreLaws) (accesses : AreAccesses) where
       let f : IsSame t a = absorbed-same storage t signal.sequence count in
       let g : IsSame a given.transfer = next_given-same storage a in
       let now : CommandTrace = gives storage t signal.sequence count k.now in
-      let adds : AddsFetched storage k.orb k.now.acts now.acts = gives-adds k.earlier laws storage k.orb k.now t signal.sequence count w in
+      let used : Bool = is_used_up k.orb (is_some t.fault) k.now now in
+      let adds : AddsFetched storage k.orb (acts_used used k.now.acts) now.acts = gives-adds k.earlier laws storage k.orb k.now t signal.sequence count w in
       let at : WorksAt (pieces.give_next storage s b signal count).state.begun given.transfer = moved-work s b given.transfer given.transfer.pci_pending in (
         b,
         at.0,
@@ -249,7 +278,7 @@ module _ (laws : AreLaws) (accesses : AreAccesses) where
           now,
           refl,
           adds,
-          work-codes k.earlier storage k.orb k.now now t given.transfer true true (g.0 ∙ f.0, g.1 ∙ f.1) w
+          work-codes k.earlier storage k.orb k.now now used t given.transfer true true (g.0 ∙ f.0, g.1 ∙ f.1) w
               (gives-work k.earlier laws storage k.orb k.now t signal.sequence count w) adds,
           subst (λ (n : ℕ). Gives storage k.orb (absorbed_of t signal.sequence count) n given.bytes k.now now) (sym at.2)
               (gives-told k.earlier laws accesses storage k.orb k.now t signal.sequence count w),
@@ -269,7 +298,8 @@ module _ (laws : AreLaws) (accesses : AreAccesses) where
       let g : IsSame a.transfer u = located-same a.storage a.transfer in
       let now : CommandTrace = takes_in storage t signal.sequence bytes k.now in
       let told = brought-told k.earlier laws accesses storage k.orb t signal.sequence bytes k.now (signal.sequence == t.sequence + 1) refl w in
-      let adds : AddsFetched a.storage k.orb k.now.acts now.acts = takes_in-adds k.earlier laws accesses storage k.orb k.now t signal.sequence bytes w in
+      let used : Bool = is_used_up k.orb (is_some t.fault) k.now now in
+      let adds : AddsFetched a.storage k.orb (acts_used used k.now.acts) now.acts = takes_in-adds k.earlier laws accesses storage k.orb k.now t signal.sequence bytes w in
       let at : WorksAt (taking.take_in s b signal a).step.state.begun u = moved-work s b u u.pci_pending in (
         b,
         at.0,
@@ -279,13 +309,9 @@ module _ (laws : AreLaws) (accesses : AreAccesses) where
           now,
           refl,
           adds,
-          work-codes k.earlier a.storage k.orb k.now now t u false false (g.0 ∙ f.0, g.1 ∙ f.1) w
+          work-codes k.earlier a.storage k.orb k.now now used t u false false (g.0 ∙ f.0, g.1 ∙ f.1) w
               (takes_in-work k.earlier laws accesses storage k.orb k.now t signal.sequence bytes w) adds,
-          (
-            stores-by storage a.storage (room t.moving) (is_some a.transfer.fault) (is_some at.0.transfer.fault) signal.sequence bytes k.now now
-                (λ e. at.3 ∙ located-fault a.storage a.transfer e) told.0,
-            told.1,
-          ),
+          told,
         ),
       )
 

@@ -30,7 +30,7 @@ use Rattle.program_laws.proofs.MachineActs as doing
 use Rattle.program_laws.specs.Traces.{CommandTrace, Arrival}
 use Rattle.program_laws.proofs.MachineActs.{with_acts, with_places, with_copy, located_acts, room_acts, goes_acts, chunk_of, chained_acts, trace_answered, trace_giving, gives, with_arrival, storing, arriving, takes_in}
 use Rattle.program_laws.proofs.Named.{IsWhole}
-use Rattle.program_laws.specs.Claims.{IsSuspended, IsStored, places_arrived, IsBeginning, places_of}
+use Rattle.program_laws.specs.Claims.{IsSuspended, IsStored, places_arrived, IsBeginning, places_of, has_check, EndsAtCheck}
 use Rattle.program_laws.proofs.Lists.{length-each_below}
 use Rattle.program_laws.proofs.Accesses.{AreAccesses, IsStore, stored-bytes}
 use Rattle.program_laws.proofs.Ties.{AreLaws, Tied, changed, spot-begins, Begins, goes-begins, located-tied, room-tied}
@@ -161,6 +161,7 @@ arrived-none p fault last false e f z =
 pub record IsDone (orb : Orb) (p : CommandTrace) : Type 0 where
   pub program : IsProgram orb p.acts
   pub whole : IsWhole orb p.acts
+  pub ends : EndsAtCheck orb p.acts
   pub moves : IsBeginning p.moved (places_of orb p.acts)
   pub arrived : All IsStored p.arrived
   pub arrives : IsBeginning (places_arrived p.arrived) (places_of orb p.acts)
@@ -172,6 +173,13 @@ room-left t n =
     omega (arith, f, g)
 
 -- bytes that are moved
+pub fitting-left : (t : Transfer) (bytes : List ℕ) → length (fitting t bytes) ≤ t.moving.left
+fitting-left t bytes =
+    let e : length (take (room t.moving) bytes) ≡ min (room t.moving) (length bytes) = length-take (room t.moving) bytes in
+    let f : min (room t.moving) (length bytes) ≤ room t.moving = min-le_left (room t.moving) (length bytes) in
+    let g : room t.moving ≤ t.moving.left = min-le_left t.moving.left 256 in
+    omega (arith, e, f, g)
+
 pub moved_on-parts : (storage : Contents) (t : Transfer) (n : ℕ) (p : CommandTrace) (b : Bool) →
     let q : CommandTrace = if b then with_acts (with_places p t.moving n) (chained_acts storage (with_moved t n)) else with_places p t.moving n in
     (_ : q.moved ≡ p.moved ++ each_below (next_place t.moving) n) × (q.arrived ≡ p.arrived)
@@ -198,6 +206,7 @@ module _ (earlier : ℕ) where
       record {
         program = k.tied.program;
         whole = inr (inl k.tied.stands);
+        ends = k.tied.ends;
         moves = spot-begins orb (data_areas orb p.acts) t p.moved k.tied.spot;
         arrived = subst (λ (xs : List Arrival). All IsStored xs) (sym none) (All-nil IsStored);
         arrives = subst (λ (xs : List Arrival). IsBeginning (places_arrived xs) (places_of orb p.acts)) (sym none) (places_of orb p.acts, refl);
@@ -207,6 +216,7 @@ module _ (earlier : ℕ) where
       record {
         program = k.tied.program;
         whole = inr (inl k.tied.stands);
+        ends = k.tied.ends;
         moves = spot-begins orb (data_areas orb p.acts) t p.moved k.tied.spot;
         arrived = k.arrived.0;
         arrives = subst (λ (xs : List (Option ℕ)). IsBeginning xs (places_of orb p.acts)) (sym same) (spot-begins orb (data_areas orb p.acts) t p.moved k.tied.spot);
@@ -221,7 +231,7 @@ module _ (earlier : ℕ) where
     }
 
     -- a Data of a command that takes bytes to the device
-    answer-tied : (orb : Orb) (p : CommandTrace) (t : Transfer) (s count : ℕ) → IsAtWork orb p t true → IsAtWork orb p (with_answer t s count) true
+    pub answer-tied : (orb : Orb) (p : CommandTrace) (t : Transfer) (s count : ℕ) → IsAtWork orb p t true → IsAtWork orb p (with_answer t s count) true
     answer-tied orb p t s count k = record {
       tied = changed earlier orb p.acts p.moved t (with_answer t s count) refl refl refl refl (λ e. e) (λ e. e) k.tied;
       arrived = k.arrived;
@@ -310,13 +320,6 @@ module _ (earlier : ℕ) where
           record { tied = k.tied; arrived = (k.stored, k.places, λ z. absurd (cc (sym (ap (λ (x : Option Check). is_some x) z) ∙ f))) }
       store-by storage orb p t bytes false f l k = arrival-by storage orb p t bytes (access.stored_or_skipped storage t.walk.orb.key t.moving bytes) refl l k
 
-      fitting-left : (t : Transfer) (bytes : List ℕ) → length (fitting t bytes) ≤ t.moving.left
-      fitting-left t bytes =
-          let e : length (take (room t.moving) bytes) ≡ min (room t.moving) (length bytes) = length-take (room t.moving) bytes in
-          let f : min (room t.moving) (length bytes) ≤ room t.moving = min-le_left (room t.moving) (length bytes) in
-          let g : room t.moving ≤ t.moving.left = min-le_left t.moving.left 256 in
-          omega (arith, e, f, g)
-
       pub bring-by : (storage : Contents) (orb : Orb) (p : CommandTrace) (t : Transfer) (s : ℕ) (bytes : List ℕ) (b : Bool) → (s == t.sequence + 1) ≡ b → IsAtWork orb p t false →
           IsAtWork orb (if b then storing storage (record t { sequence = s }) (fitting t bytes) p else p)
           (if b then brought_in storage (record t { sequence = s }) (fitting t bytes) else record { transfer = t; storage = storage }).transfer false
@@ -341,9 +344,9 @@ module _ (earlier : ℕ) where
     WentOn storage orb before acts n walk (came.Begins t) =
         Tied earlier orb acts [] (begun_with_room storage t).transfer × (t.command ≡ n) × ((c : Command) × (commands orb acts ≡ c ∷ commands orb before) × (code c ≡ t.code) × ((begun_with_room storage t).transfer.sequence ≡ 0))
     WentOn storage orb before acts n walk came.Suspends =
-        IsProgram orb acts × (data_areas orb acts ≡ data_areas orb before) × (commands orb acts ≡ commands orb before) × ((role_of orb acts).chained ≡ false) × (walk ≡ walk_place orb acts) × IsSuspended orb acts
+        IsProgram orb acts × (data_areas orb acts ≡ data_areas orb before) × (commands orb acts ≡ commands orb before) × ((role_of orb acts).chained ≡ false) × (walk ≡ walk_place orb acts) × IsSuspended orb acts × EndsAtCheck orb acts
     WentOn storage orb before acts n walk (came.Stops check) =
-        IsProgram orb acts × (data_areas orb acts ≡ data_areas orb before) × (commands orb acts ≡ commands orb before) × (next orb acts ≡ None)
+        IsProgram orb acts × (data_areas orb acts ≡ data_areas orb before) × (commands orb acts ≡ commands orb before) × (next orb acts ≡ None) × EndsAtCheck orb acts
 
     located-commands : (storage : Contents) (orb : Orb) (acts : List Act) (t : Transfer) (b c : Bool) (w : Result ℕ Check) →
         commands orb ((if b then [] else (if c then doing.act_of_word w else [])) ++ acts) ≡ commands orb acts
@@ -362,15 +365,15 @@ module _ (earlier : ℕ) where
         WentOn storage orb before (room_acts storage c ++ acts) n walk c
     went-by storage orb before acts n walk (came.Begins t) w k =
         (room-tied earlier laws storage orb acts t k.0, k.1, (k.2.0, room-commands storage orb acts t (brings (class_of t.code)) ∙ k.2.1, k.2.2, room-seq storage t ∙ k.2.3))
-    went-by storage orb before acts n walk came.Suspends w k = (k.0, k.1, k.2, k.3, w, k.4)
+    went-by storage orb before acts n walk came.Suspends w k = (k.0, k.1, k.2, k.3, w, k.4, k.5)
     went-by storage orb before acts n walk (came.Stops check) w k = k
 
     pub goes-on : (storage : Contents) (orb : Orb) (before : List Act) (n : ℕ) → (role_of orb before).chained ≡ false → length (commands orb before) + 1 ≡ earlier + n →
-        IsProgram orb before →
+        IsProgram orb before → has_check orb before ≡ false → EndsAtCheck orb before →
         WentOn storage orb before (goes_acts storage n (walk_place orb before) ++ before) n (goes_to storage n (walk_place orb before)).walk (goes_to storage n (walk_place orb before)).came
-    goes-on storage orb before n c l p =
+    goes-on storage orb before n c l p hc en =
         let old : WalkPlace = walk_place orb before in
         let new : Beginning = goes_to storage n old in
         subst (λ (xs : List Act). WentOn storage orb before xs n new.walk new.came) (sym (append_assoc (room_acts storage new.came) (advance_acts storage old) before))
         (went-by storage orb before (advance_acts storage old ++ before) n new.walk new.came (laws.leads orb before (advance_acts storage old))
-        (goes-begins earlier laws storage orb before n c l p))
+        (goes-begins earlier laws storage orb before n c l p hc en))

@@ -17,7 +17,7 @@ use Rattle.channel_program.specs.Blocks.{format_of, block_reads, transfer_reads,
 use Rattle.channel_program.specs.Programs.{next, next_after, role_of, role_after}
 use Rattle.channel_program.specs.Walks.{WalkPlace, walk_place, after_acts, advance_of}
 use Rattle.channel_program.proofs.Named.{block_advance}
-use Rattle.program_laws.specs.Claims.{IsSuspended}
+use Rattle.program_laws.specs.Claims.{IsSuspended, shows_check, has_check, EndsAtCheck}
 
 -- a block to which data is chained does not suspend the program
 command-unchained : (x y s o c : Bool) (ccw : Ccw) → (if x || y || s && (o || c) then Shows else if s then Suspends else Takes ccw) ≡ Suspends → c ≡ false
@@ -58,6 +58,23 @@ suspended-unchained orb (Unfetched address check ∷ before) e = absurd e
 suspended-unchained orb (Used_up ∷ before) e = absurd e
 suspended-unchained orb (End ended ∷ before) e = absurd e
 suspended-unchained orb (Word word ∷ before) e = absurd e
+
+-- no check is there, and the block is next again
+pub suspended-unchecked : (orb : Orb) (acts : List Act) → IsSuspended orb acts → EndsAtCheck orb acts → has_check orb acts ≡ false
+suspended-unchecked orb (Block address bytes ∷ before) e k = ap (λ (r : Reading). shows_check r || has_check orb before) e ∙ k.0
+suspended-unchecked orb [] e k = absurd e
+suspended-unchecked orb (Unfetched address check ∷ before) e k = absurd e
+suspended-unchecked orb (Used_up ∷ before) e k = absurd e
+suspended-unchecked orb (End ended ∷ before) e k = absurd e
+suspended-unchecked orb (Word word ∷ before) e k = absurd e
+
+pub suspended-next : (orb : Orb) (acts : List Act) → IsSuspended orb acts → (address : ℕ) × (next orb acts ≡ Some address)
+suspended-next orb (Block address bytes ∷ before) e = (address, ap (λ (r : Reading). next_after address r) e)
+suspended-next orb [] e = absurd e
+suspended-next orb (Unfetched address check ∷ before) e = absurd e
+suspended-next orb (Used_up ∷ before) e = absurd e
+suspended-next orb (End ended ∷ before) e = absurd e
+suspended-next orb (Word word ∷ before) e = absurd e
 
 -- after acts that come to this
 abbrev pub Stands : Orb → List Act → Advance → Type 0

@@ -41,9 +41,9 @@ use Rattle.program_laws.proofs.Named.{word_after, has_leftmost_bit, is_outside, 
 use Rattle.program_laws.specs.DataAreas.{reach, data_areas, reaches_after, counts}
 use Rattle.program_laws.proofs.Named.{reaches_with}
 use Rattle.program_laws.proofs.MachineActs.{act_of_word, word_acts, located_acts, room_acts}
-use Rattle.program_laws.specs.Claims.{IsBeginning, IsSuspended}
+use Rattle.program_laws.specs.Claims.{IsBeginning, IsSuspended, has_check, EndsAtCheck}
 use Rattle.program_laws.proofs.Lists.{some-begin, length-places, length-each_below}
-use Rattle.program_laws.proofs.Advances.{Went, advance-went}
+use Rattle.program_laws.proofs.Advances.{Went, UnlessStops, advance-went, advance-ends}
 use Rattle.program_laws.proofs.Standing.{Stands, acts-stand}
 
 -- what is proved below of a command word's data, and of a program that goes on
@@ -147,6 +147,8 @@ module _ (earlier : ℕ) where
     pub kind : t.moving.kind ≡ kind_of orb
     pub spot : IsMovedTo orb (data_areas orb acts) t ps
     pub number : length (commands orb acts) ≡ earlier + t.command
+    pub ends : EndsAtCheck orb acts
+    pub checked : is_some t.fault ≡ false → has_check orb acts ≡ false
 
   -- a transfer of the same command, as far as it has come
   same-command : (orb : Orb) (acts : List Act) (ps qs : List (Option ℕ)) (t u : Transfer) → u.walk ≡ t.walk → u.moving.ccw ≡ t.moving.ccw → u.moving.kind ≡ t.moving.kind →
@@ -160,6 +162,8 @@ module _ (earlier : ℕ) where
     kind = kind ∙ k.kind;
     spot = spot;
     number = k.number ∙ ap (λ (x : ℕ). earlier + x) (sym n);
+    ends = k.ends;
+    checked = λ e. k.checked (f e);
   }
 
   pub changed : (orb : Orb) (acts : List Act) (ps : List (Option ℕ)) (t u : Transfer) → u.walk ≡ t.walk → u.moving ≡ t.moving → u.code ≡ t.code → u.command ≡ t.command →
@@ -176,16 +180,16 @@ module _ (earlier : ℕ) where
     Begins orb before acts n (came.Begins t) =
         Tied orb acts [] t × (t.command ≡ n) × ((c : Command) × (commands orb acts ≡ c ∷ commands orb before) × (code c ≡ t.code) × (t.sequence ≡ 0))
     Begins orb before acts n came.Suspends =
-        IsProgram orb acts × (data_areas orb acts ≡ data_areas orb before) × (commands orb acts ≡ commands orb before) × ((role_of orb acts).chained ≡ false) × IsSuspended orb acts
+        IsProgram orb acts × (data_areas orb acts ≡ data_areas orb before) × (commands orb acts ≡ commands orb before) × ((role_of orb acts).chained ≡ false) × IsSuspended orb acts × EndsAtCheck orb acts
     Begins orb before acts n (came.Stops check) =
-        IsProgram orb acts × (data_areas orb acts ≡ data_areas orb before) × (commands orb acts ≡ commands orb before) × (next orb acts ≡ None)
+        IsProgram orb acts × (data_areas orb acts ≡ data_areas orb before) × (commands orb acts ≡ commands orb before) × (next orb acts ≡ None) × EndsAtCheck orb acts
 
     taken-begins : (orb : Orb) (before acts : List Act) (walk : WalkPlace) (n : ℕ) (ccw : Ccw) → walk ≡ walk_place orb acts →
         (role_of orb before).chained ≡ false → length (commands orb before) + 1 ≡ earlier + n → IsProgram orb acts →
         commands orb acts ≡ commands_after (role_of orb before).chained (commands orb before) (Takes ccw) →
         data_areas orb acts ≡ reaches_after (role_of orb before).chained (commands orb before) (data_areas orb before) (Takes ccw) → next orb acts ≡ None →
-        (role_of orb acts).chained ≡ ccw.chain_data → Begins orb before acts n (came.Begins (transfer_of walk n ccw))
-    taken-begins orb before acts walk n ccw w c l p f g h i =
+        (role_of orb acts).chained ≡ ccw.chain_data → EndsAtCheck orb acts → has_check orb acts ≡ false → Begins orb before acts n (came.Begins (transfer_of walk n ccw))
+    taken-begins orb before acts walk n ccw w c l p f g h i en hc =
         let cs : List Command = commands orb before in
         let commanded : commands orb acts ≡ record { first = ccw; more = [] } ∷ cs =
         f ∙ ap (λ (x : Bool). if x then join_last cs ccw else record { first = ccw; more = [] } ∷ cs) c in
@@ -202,6 +206,8 @@ module _ (earlier : ℕ) where
                 subst (λ (rs : List Reach). IsMovedTo orb rs (transfer_of walk n ccw) []) (sym reached)
                 (inl (laws.begins (kind_of walk.orb) ccw (is_skipped ccw.command ccw)), refl);
             number = ap length commanded ∙ (let z : suc (length cs) ≡ length cs + 1 = omega arith in z) ∙ l;
+            ends = en;
+            checked = λ z. hc;
           },
           refl,
           (record { first = ccw; more = [] }, commanded, refl, refl),
@@ -210,11 +216,12 @@ module _ (earlier : ℕ) where
     advance-begins : (orb : Orb) (before acts : List Act) (walk : WalkPlace) (n : ℕ) (a : Option Advance) → walk ≡ walk_place orb acts → (role_of orb before).chained ≡ false →
         length (commands orb before) + 1 ≡ earlier + n → IsProgram orb acts →
         Went (role_of orb before).chained (commands orb before) (commands orb acts) (data_areas orb before) (data_areas orb acts) (next orb acts) (role_of orb acts) a →
-        ((x : Advance) → a ≡ Some x → Stands orb acts x) → (a ≡ None → next orb acts ≡ None) → Begins orb before acts n (command_begins walk n a)
-    advance-begins orb before acts walk n (Some (advance.Takes ccw)) w c l p k s z = taken-begins orb before acts walk n ccw w c l p k.0 k.1 k.2 k.3
-    advance-begins orb before acts walk n (Some advance.Suspends) w c l p k s z = (p, k.1, k.0, k.2 ∙ c, s advance.Suspends refl)
-    advance-begins orb before acts walk n (Some (advance.Stops check)) w c l p k s z = (p, k.1, k.0, s (advance.Stops check) refl)
-    advance-begins orb before acts walk n None w c l p k s z = (p, k.1, k.0, z refl)
+        ((x : Advance) → a ≡ Some x → Stands orb acts x) → (a ≡ None → next orb acts ≡ None) → EndsAtCheck orb acts × UnlessStops a (has_check orb acts) →
+        Begins orb before acts n (command_begins walk n a)
+    advance-begins orb before acts walk n (Some (advance.Takes ccw)) w c l p k s z x = taken-begins orb before acts walk n ccw w c l p k.0 k.1 k.2 k.3 x.0 x.1
+    advance-begins orb before acts walk n (Some advance.Suspends) w c l p k s z x = (p, k.1, k.0, k.2 ∙ c, s advance.Suspends refl, x.0)
+    advance-begins orb before acts walk n (Some (advance.Stops check)) w c l p k s z x = (p, k.1, k.0, s (advance.Stops check) refl, x.0)
+    advance-begins orb before acts walk n None w c l p k s z x = (p, k.1, k.0, z refl, x.0)
 
     -- where a program does not go on, no block was next
     pub none-next : (storage : Contents) (orb : Orb) (before : List Act) → let old : WalkPlace = walk_place orb before in
@@ -231,8 +238,9 @@ module _ (earlier : ℕ) where
             absurd (cc (sym (ap (λ (x : Option Advance). is_some x) a) ∙ s))
 
     pub goes-begins : (storage : Contents) (orb : Orb) (before : List Act) (n : ℕ) → (role_of orb before).chained ≡ false → length (commands orb before) + 1 ≡ earlier + n →
-        IsProgram orb before → Begins orb before (advance_acts storage (walk_place orb before) ++ before) n (goes_to storage n (walk_place orb before)).came
-    goes-begins storage orb before n c l p =
+        IsProgram orb before → has_check orb before ≡ false → EndsAtCheck orb before →
+        Begins orb before (advance_acts storage (walk_place orb before) ++ before) n (goes_to storage n (walk_place orb before)).came
+    goes-begins storage orb before n c l p hc en =
         let old : WalkPlace = walk_place orb before in
         advance-begins orb before (advance_acts storage old ++ before) (after_acts old (advance_acts storage old)) n (advance_of old (advance_acts storage old))
         (laws.leads orb before (advance_acts storage old)) c l (laws.goes storage orb before p) (advance-went storage orb before)
@@ -240,6 +248,7 @@ module _ (earlier : ℕ) where
         (λ e.
         let none : next orb before ≡ None = none-next storage orb before e in
         subst (λ (xs : List Act). next orb (xs ++ before) ≡ None) (sym (ap (λ (x : Option ℕ). acts_at storage old x) none)) none)
+        (advance-ends storage orb before hc en)
 
     -- a word of an indirect list
     needed-left : (m : Moving) → needs_word m ≡ true → m.left ≡ 0
@@ -322,6 +331,8 @@ module _ (earlier : ℕ) where
       kind = k.kind;
       spot = right-spot orb (data_areas orb acts) t ps word size k.kind f n e k.spot;
       number = k.number;
+      ends = (k.checked f, k.ends);
+      checked = λ z. k.checked f;
     }
     right-tied orb acts ps t word size (Some fault) e f n k = record {
       walk = k.walk;
@@ -332,6 +343,8 @@ module _ (earlier : ℕ) where
       kind = k.kind;
       spot = wrong-spot orb (data_areas orb acts) t ps word k.kind f n k.spot;
       number = k.number;
+      ends = (k.checked f, k.ends);
+      checked = λ z. k.checked f;
     }
 
     word-tied : (orb : Orb) (acts : List Act) (ps : List (Option ℕ)) (t : Transfer) (size : ℕ) (w : Result ℕ Check) → is_some t.fault ≡ false →

@@ -22,6 +22,7 @@ use Rattle.program_laws.proofs.Copies.{copied-part}
 use Rattle.program_laws.proofs.LinkNeeds.{held-needs}
 use Rattle.program_laws.proofs.RunOrders.{AllNeeds, run-takes}
 use Rattle.program_laws.proofs.Choices.{IsKept, KeptBy, kept-held, run-held}
+use Rattle.program_laws.proofs.OfferRuns.{run-offers}
 use Rattle.program_laws.proofs.RunFlows.{AllHeld, run-absorbs}
 
 module _ (laws : AreLaws) (accesses : AreAccesses) where
@@ -42,6 +43,7 @@ module _ (laws : AreLaws) (accesses : AreAccesses) where
       let done : IsDone k.orb k.now = done-held sub.state k kept.0 in
       record {
         program = done.program;
+        ends = done.ends;
         whole = done.whole;
         takes = run-takes laws.walks setup lawful (λ h s run. laws.above setup h s lawful run) (all-needs setup lawful) h s run place sub k e f;
         moves = done.moves;
@@ -64,7 +66,8 @@ module _ (laws : AreLaws) (accesses : AreAccesses) where
       let k : Option ProgramTrace = trace place (opening_of setup) h old run in (
         k,
         run-place setup lawful h old run place a.0 a.1,
-        step-goes laws accesses old place k (λ x f. kept-held x.state k (run-held laws accesses setup lawful h old run place x f)) e r new step,
+        step-goes laws accesses old place k (λ x f. kept-held x.state k (run-held laws accesses setup lawful h old run place x f))
+            (λ x f. (run-offers laws accesses setup lawful h old run place x f).1) e r new step,
         correct-if (trace_after place old e r k) (λ after f. run-correct setup lawful _ _ (Stepped h old e r new run step) place sub after at f),
       )
 

@@ -1,9 +1,10 @@
 -- What is claimed of the program that a subchannel offered last (SA22-7832, chapter 15).
-use Rattle.std.specs.Prelude.{◌≡◌, ◌⊎◌, ℕ, ◌==◌, Option, None, Some, List, [], ◌∷◌, ◌++◌, length, map, reverse, take, drop, slice_get, if◌then◌else◌, All, Contains}
+use Rattle.std.specs.Prelude.{◌≡◌, ◌⊎◌, ◌||◌, ℕ, ◌==◌, Bool, true, false, Option, None, Some, List, [], ◌∷◌, ◌++◌, length, map, reverse, take, drop, slice_get, if◌then◌else◌, All, Contains}
 use Rattle.std.specs.List.{flat_map}
 use Rattle.orb_block.specs.declared.Orb.{Orb}
-use Rattle.channel_program.specs.declared.Reading.TheVariants.{Suspends}
-use Rattle.channel_program.specs.Acts.{Act, Block, PlacedBytes}
+use Rattle.channel_program.specs.declared.Reading.{Reading}
+use Rattle.channel_program.specs.declared.Reading.TheVariants.{Suspends, Shows}
+use Rattle.channel_program.specs.Acts.{Act, Block, Unfetched, Word, PlacedBytes}
 use Rattle.channel_program.specs.Blocks.{reads}
 use Rattle.channel_program.specs.Programs.{IsProgram, role_of, next, commands, code}
 use Rattle.idaw.specs.Lists.{kind_of, block}
@@ -52,9 +53,30 @@ abbrev pub IsSuspended : Orb → List Act → Type 0
 IsSuspended orb (Block address bytes ∷ before) = reads orb (role_of orb before) bytes ≡ Suspends
 IsSuspended orb acts = ⊥
 
+-- a block that could not be fetched, or that shows a check
+abbrev pub shows_check : Reading → Bool
+shows_check Shows = true
+shows_check reading = false
+
+abbrev pub has_check : Orb → List Act → Bool
+has_check orb [] = false
+has_check orb (Block address bytes ∷ before) = shows_check (reads orb (role_of orb before) bytes) || has_check orb before
+has_check orb (Unfetched address check ∷ before) = true
+has_check orb (act ∷ before) = has_check orb before
+
+-- it ends the program: no block and no indirect word is fetched after it
+abbrev pub EndsAtCheck : Orb → List Act → Type 0
+EndsAtCheck orb [] = Unit {0}
+EndsAtCheck orb (Block address bytes ∷ before) = (has_check orb before ≡ false) × EndsAtCheck orb before
+EndsAtCheck orb (Unfetched address check ∷ before) = (has_check orb before ≡ false) × EndsAtCheck orb before
+EndsAtCheck orb (Word word ∷ before) = (has_check orb before ≡ false) × EndsAtCheck orb before
+EndsAtCheck orb (act ∷ before) = EndsAtCheck orb before
+
 pub record TraceCorrect (k : ProgramTrace) : Type 0 where
   -- each block is where the blocks before it say
   pub program : IsProgram k.orb k.now.acts
+  -- none was fetched after a check
+  pub ends : EndsAtCheck k.orb k.now.acts
   -- and each that is next was fetched, but of a program that did not begin, or that was suspended before the block took control
   pub whole : (k.now.acts ≡ []) ⊎ ((next k.orb k.now.acts ≡ None) ⊎ IsSuspended k.orb k.now.acts)
   -- the commands that the device took under this number are consecutive commands of the program, each once, from the first on,

@@ -18,7 +18,7 @@ IsNextWord storage orb (r ∷ rs) word =
     let kind = kind_of orb in
     list_word_of kind (checked (fetched storage orb.key (address_of_word kind r.ccw.address (length r.words)) (width kind))) ≡ Ok word
 
--- a block is the eight bytes at its address, by that key; one that could not be fetched is refused by storage with this check, or
+-- what is fetched: a block is the eight bytes at its address, by that key; one that could not be fetched is refused by storage with this check, or
 -- it is the first, at an address where no program may begin
 abbrev pub IsFetched : Contents → Orb → List Act → Act → Type 0
 IsFetched storage orb before (Block address bytes) = fetched storage orb.key address 8 ≡ Ok bytes
@@ -26,7 +26,7 @@ IsFetched storage orb before (Unfetched address check) =
     (checked (fetched storage orb.key address 8) ≡ Err check)
     ⊎ (((role_of orb before).first && is_program_misplaced orb address ≡ true) × (check ≡ Program))
 IsFetched storage orb before (Word word) = IsNextWord storage orb (data_areas orb before) word
-IsFetched storage orb before act = Unit {0}
+IsFetched storage orb before act = ⊥
 
 -- acts, the latest first, after those before
 abbrev pub AreFetched : Contents → Orb → List Act → List Act → Type 0

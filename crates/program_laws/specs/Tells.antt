@@ -1,9 +1,9 @@
 -- How what was done for a program goes on with each event, told by what is seen: the signals that are taken and sent, and what
 -- storage holds in that step (SA22-7832, chapter 15).
-use Rattle.std.specs.Prelude.{◌≡◌, ◌⊎◌, ◌&&◌, ◌||◌, not, ℕ, ◌==◌, ◌+◌, ◌<◌, min, Bool, true, false, is_none, is_some, if◌then◌else◌, Option, None, Some, List, [], ◌∷◌, ◌++◌, length, map, take, slice_get, IfSome}
+use Rattle.std.specs.Prelude.{◌≡◌, ◌⊎◌, ◌&&◌, ◌||◌, not, ℕ, ◌==◌, ◌+◌, ◌<◌, nat_lt, min, Bool, true, false, is_none, is_some, if◌then◌else◌, Option, None, Some, List, [], ◌∷◌, ◌++◌, length, map, take, slice_get, IfSome, Ok}
 use Rattle.orb_block.specs.declared.Orb.{Orb}
 use Rattle.scsw_irb.specs.declared.status.DeviceStatus.{DeviceStatus}
-use Rattle.storage_keys.specs.Storage.{Contents}
+use Rattle.storage_keys.specs.Storage.{Contents, stored_bytes}
 use Rattle.chan_model.specs.declared.signal.Down.{Down}
 use Rattle.chan_model.specs.declared.signal.Down.TheVariants as down
 use Rattle.chan_model.specs.declared.signal.Load.{Load}
@@ -17,8 +17,8 @@ use Rattle.chan_events.specs.declared.event.Event.TheVariants as event
 use Rattle.chan_events.specs.declared.reply.Entry.{Entry}
 use Rattle.chan_events.specs.declared.reply.Reply.{Reply}
 use Rattle.chan_events.specs.declared.reply.Reply.TheVariants as reply
-use Rattle.channel_program.specs.Acts.{Act, End}
-use Rattle.channel_program.specs.Programs.{next, commands, code}
+use Rattle.channel_program.specs.Acts.{Act, Used_up, End}
+use Rattle.channel_program.specs.Programs.{latest, next, next_used_up, commands, code}
 use Rattle.data_move.specs.Moving.{room}
 use Rattle.transfer.specs.declared.Transfer.{Transfer}
 use Rattle.transfer.specs.Commands.{has_stopped}
@@ -32,10 +32,11 @@ use Rattle.subchannel_model.specs.Ends.{has_status_modifier, breaks_chain}
 use Rattle.subchannel_model.specs.Taking.{bytes_of_load}
 use Rattle.machine_model.specs.State.{State, place_of}
 use Rattle.machine_model.specs.Steps.{Run, Opened, Stepped}
-use Rattle.program_laws.specs.Traces.{CommandTrace, no_trace, ProgramTrace, past_part, told_after}
+use Rattle.program_laws.specs.Traces.{CommandTrace, no_trace, ProgramTrace, told_after}
 use Rattle.chan_model.specs.ResetCauses.{is_path}
+use Rattle.program_laws.specs.DataAreas.{data_areas, counts}
 use Rattle.program_laws.specs.Fetches.{AddsFetched}
-use Rattle.program_laws.specs.Claims.{IsBeginning, places_of, TraceCorrect}
+use Rattle.program_laws.specs.Claims.{IsBeginning, places_of, IsSuspended, TraceCorrect}
 use Rattle.program_laws.specs.Shows.{IsCountShown, IsCountLeft, IsCountZero, IsCountBy, IsCountOf}
 
 -- a command that was sent: the number of its program, which of the commands under that number it is, and its code
@@ -62,11 +63,6 @@ GoesTo None acts k after =
 abbrev pub GoesOn : Contents → Option (OnPath Down) → List Act → ProgramTrace → ProgramTrace → Type 0
 GoesOn storage sent before k after = (acts : List Act) × AddsFetched storage k.orb before acts × GoesTo (command_sent sent) acts k after
 
--- Accept: the program that waits begins, or else one that was suspended goes on
-abbrev pub beginning : Option Program → ProgramTrace → ProgramTrace
-beginning None k = record k { earlier = length (commands k.orb k.now.acts); now = past_part k.now }
-beginning (Some program) k = record k { orb = program.orb; earlier = 0; now = no_trace }
-
 -- the start that was offered neither waits any more nor is suspended, or a halt is pending
 abbrev pub IsOver : SubchannelState → Type 0
 IsOver s =
@@ -74,10 +70,17 @@ IsOver s =
     ⊎ (((program : Program) → s.waiting ≡ Some program → program.start ≡ s.offered → ⊥)
     × ((position : ProgramPosition) → s.suspended ≡ Some position → position.program.start ≡ s.offered → ⊥))
 
+-- Accept: where the start that was offered is not over, its program begins, or goes on from where it was suspended. The block that
+-- is next is fetched, and so on, up to a command, a check or a suspension
+pub record Begins (storage : Contents) (sent : Option (OnPath Down)) (k after : ProgramTrace) : Type 0 where
+  pub goes : GoesOn storage sent k.now.acts k after
+  pub fetches : after.now.acts ≡ k.now.acts → ⊥
+  pub whole : (next k.orb after.now.acts ≡ None) ⊎ IsSuspended k.orb after.now.acts
+
 abbrev pub Accepted : Contents → SubchannelState → SubchannelState → Option (OnPath Down) → ProgramTrace → ProgramTrace → Type 0
 Accepted storage s next sent k after =
     (IsOver s × (command_sent sent ≡ None) × (after ≡ k) × IsCountOf s next (Some k))
-    ⊎ (GoesOn storage sent (beginning s.waiting k).now.acts (beginning s.waiting k) after × IsCountShown s next after)
+    ⊎ ((IsOver s → ⊥) × Begins storage sent k after × IsCountShown s next after)
 
 -- How many bytes a Data moves, by the transfer at work as it stands: of a write, of those that the device says it absorbed, where it
 -- is the next, as many as there is room for at the next places; and of a write, how many are given next
@@ -103,11 +106,17 @@ pub record Gives (storage : Contents) (orb : Orb) (count next : ℕ) (bytes : Li
   pub given : IsGiven storage orb bytes k now
   pub arrived : now.arrived ≡ k.arrived
 
+-- the next bytes can't be stored: storage refuses them at the place after those that were moved
+abbrev pub CantStore : Contents → Orb → CommandTrace → List ℕ → Type 0
+CantStore storage orb k bytes =
+    (place : ℕ) × IsBeginning (k.moved ++ Some place ∷ []) (places_of orb k.acts)
+    × ((after : Contents) → stored_bytes storage orb.key place bytes ≡ Ok after → ⊥)
+
 -- Data of a read: its bytes are stored, as many as there is room for, where it is the next, so that none is stored twice; or none
--- are, and storage stays, where it is another or a check stopped the transfer
-abbrev pub Stores : Contents → Contents → ℕ → Bool → ℕ → List ℕ → CommandTrace → CommandTrace → Type 0
-Stores former storage fits faulty s bytes k now =
-    ((s ≡ length k.arrived + 1 → faulty ≡ true) × (storage ≡ former) × (now.arrived ≡ k.arrived) × (now.moved ≡ k.moved))
+-- are, and storage stays, where it is another, a check was kept before, or storage refuses them
+abbrev pub Stores : Contents → Contents → Orb → ℕ → Bool → ℕ → List ℕ → CommandTrace → CommandTrace → Type 0
+Stores former storage orb fits kept s bytes k now =
+    ((s ≡ length k.arrived + 1 → (kept ≡ true) ⊎ CantStore former orb k (take fits bytes)) × (storage ≡ former) × (now.arrived ≡ k.arrived) × (now.moved ≡ k.moved))
     ⊎ ((s ≡ length k.arrived + 1) × (places : List (Option ℕ))
     × (now.arrived ≡ record { former = former.bytes; chunk = record { storage = storage.bytes; places = places; bytes = take fits bytes } } ∷ k.arrived)
     × (now.moved ≡ k.moved ++ places))
@@ -117,13 +126,24 @@ abbrev pub MovesBy : Contents → Contents → Orb → Transfer → Transfer →
 MovesBy former storage orb old new s load (down.Give t c n next bytes) k now =
     Gives storage orb (absorbed_of old s (load_length load)) (given_of new) bytes k now
 MovesBy former storage orb old new s load (down.Took t n last more) k now =
-    Stores former storage (room old.moving) (is_some new.fault) s (bytes_of_load load) k now × (now.copied ≡ k.copied)
+    Stores former storage orb (room old.moving) (is_some old.fault) s (bytes_of_load load) k now × (now.copied ≡ k.copied)
 MovesBy former storage orb old new s load signal k now = ⊥
+
+-- Data is chained where bytes were moved, and those that were moved so far are all that the counts ask for, unless a check was kept:
+-- the latest block says whether another is next
+abbrev pub is_used_up : Orb → Bool → CommandTrace → CommandTrace → Bool
+is_used_up orb kept k now =
+    nat_lt (length k.moved) (length now.moved)
+    && ((length now.moved == counts (data_areas orb k.acts)) && (is_some (next_used_up (latest orb k.acts)) && not kept))
+
+abbrev pub acts_used : Bool → List Act → List Act
+acts_used used acts = if used then Used_up ∷ acts else acts
 
 abbrev pub Moves : Contents → Contents → Transfer → Transfer → ℕ → Load → Option (OnPath Down) → ProgramTrace → ProgramTrace → Type 0
 Moves former storage old new s load None k after = ⊥
 Moves former storage old new s load (Some sent) k after =
-    (now : CommandTrace) × (after ≡ record k { now = now }) × AddsFetched storage k.orb k.now.acts now.acts
+    (now : CommandTrace) × (after ≡ record k { now = now })
+    × AddsFetched storage k.orb (acts_used (is_used_up k.orb (is_some old.fault) k.now now) k.now.acts) now.acts
     × (map code (commands k.orb now.acts) ≡ map code (commands k.orb k.now.acts)) × MovesBy former storage k.orb old new s load sent.signal k.now now
 
 -- End: a command is chained to where one is next by the program, nothing breaks the chain (chapter 16), and no earlier End of

@@ -16,16 +16,18 @@ use storage_keys::law as storage;
 /// In each run from the opening of a lawful set-up, what is done for the program that a subchannel offered last can be told
 /// from the opening on by what is seen: the offers, the signals that are taken and sent, the reports, and what storage holds in
 /// each step. In each step each block and each indirect word that comes to the program is what storage holds at its address; a
-/// command is sent exactly where a command came to the program, and it is that one; of a Data that is the next as many bytes
+/// command is sent exactly where a command came to the program, and it is that one; an Accept of a start that is not over goes
+/// on with the program that was offered, and fetches its next block; of a Data that is the next as many bytes
 /// are moved as there is room for at the next places: those of a read are stored, so that none is stored twice, unless a check
-/// stopped the transfer, and those that the device absorbed of a write count; a chunk that is given is copied from the next
+/// was kept before or storage refuses them, and those that the device absorbed of a write count; data is chained exactly where
+/// bytes were moved that use up the counts so far, and no check was kept before; a chunk that is given is copied from the next
 /// places, as many bytes as there is room for, or none where the transfer has stopped; an End chains a command exactly where by
 /// the program one is next, nothing breaks the chain and no earlier End of the command was shown, and otherwise makes status;
 /// and the count of status that an Accept, a Data or an End makes is the sum of the counts of the command's blocks less the
 /// bytes that were moved, but for the last End of a program while a start waits, which leaves the count. Status of a halt, of
 /// an interface-control check and of a program that finds no path shows the count of the program at work or suspended, and
 /// leaves it where a start waits or no program is there; attention leaves it, and a clear shows zero. After each step each
-/// block stands where the blocks before it say, and each that is next was fetched, but of a program that did not begin or that
+/// block stands where the blocks before it say, none was fetched after a check, and each that is next was fetched, but of a program that did not begin or that
 /// was suspended; the device took consecutive commands of the program under the number of its offer, each once, from the first
 /// on, or where it was suspended from the first that was not sent before; the bytes that were moved are those at the first
 /// places of the command at work, in order; a chunk for the device was copied from its places as storage stood then; what the

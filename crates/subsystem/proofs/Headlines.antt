@@ -7,9 +7,12 @@ use Rattle.channel_config.specs.Lawful.{IsLawful}
 use Rattle.channel_config.specs.Setup.{Setup}
 use Rattle.machine_model.specs.State.{State, opening_of}
 use Rattle.machine_model.specs.Steps.{HasRun, Step, Run, Opened, Stepped}
-use Rattle.subsystem.specs.Headline.{HoldsAfter, HoldsIn, HoldsThroughout, HasHeld}
+use Rattle.subsystem.specs.Headline.{HeadlineHolds, HoldsAfter, HoldsIn, HoldsThroughout, HasHeld}
 
--- what holds after each run, and in each step from where a run led
+-- what holds of the entries of each run, after each run, and in each step from where a run led
+abbrev pub BySeen : Type 0
+BySeen = (setup : Setup) → IsLawful setup → (h : List Entry) (s : State) → Run (opening_of setup) h s → HeadlineHolds setup h
+
 abbrev pub AfterEach : Type 0
 AfterEach = (setup : Setup) → IsLawful setup → (h : List Entry) (s : State) (run : Run (opening_of setup) h s) → HoldsAfter (opening_of setup) h s run
 
@@ -24,5 +27,9 @@ holds-throughout after each setup lawful _ _ Opened = after setup lawful _ _ Ope
 holds-throughout after each setup lawful _ _ (Stepped h old e r new run step) =
     (holds-throughout after each setup lawful h old run, each setup lawful h old run e r new step, after setup lawful _ _ (Stepped h old e r new run step))
 
-pub past-held : AfterEach → InEach → (h : List Entry) (s : State) → HasRun h s → HasHeld h s
-past-held after each h s past = (past, λ setup k run. holds-throughout after each setup k.lawful h s run)
+pub past-held : BySeen → AfterEach → InEach → (h : List Entry) (s : State) → HasRun h s → HasHeld h s
+past-held seen after each h s past = record {
+  leads = past;
+  seen = λ setup k. seen setup k.lawful h s (past.1 setup k);
+  throughout = λ setup k run. holds-throughout after each setup k.lawful h s run;
+}

@@ -1,15 +1,17 @@
--- The headline: what holds of a channel subsystem at its opening, in each step, and after each step of its history.
+-- The headline: what holds of the history of a channel subsystem by its entries alone; and what holds of its states at the opening, in each
+-- step, and after each step.
 use Rattle.std.specs.Prelude.{List, All}
 use Rattle.chan_events.specs.declared.event.Event.{Event}
 use Rattle.chan_events.specs.declared.reply.Entry.{Entry}
 use Rattle.chan_events.specs.declared.reply.Reply.{Reply}
-use Rattle.channel_config.specs.Setup.{Setup}
+use Rattle.channel_config.specs.Setup.{Setup, set_count}
 use Rattle.event_laws.specs.Clearing.{ClearsByCause}
 use Rattle.event_laws.specs.Codes.{IsByTable}
 use Rattle.event_laws.specs.Counts.{CountsByStatus}
 use Rattle.event_laws.specs.Resets.{ResetsByCause, StaysReset}
 use Rattle.machine_laws.specs.Agreeing.{AllAgree, HoldEndsByReset}
-use Rattle.machine_laws.specs.Claims.{IsPendingUncleared}
+use Rattle.machine_laws.specs.Beginnings.{IsBegunOnce}
+use Rattle.machine_laws.specs.Claims.{IsPendingUncleared, IsClearedOnce}
 use Rattle.machine_model.specs.Setups.{IsSetUp}
 use Rattle.machine_model.specs.State.{State, opening_of}
 use Rattle.machine_model.specs.Steps.{HasRun, Run, Opened, Step, Stepped}
@@ -17,6 +19,25 @@ use Rattle.path_laws.specs.Engines.{IsOnePath}
 use Rattle.path_laws.specs.Returns.{OffersOnDedicated, ReturnsByFirst}
 use Rattle.path_laws.specs.Shown.{AreShown}
 use Rattle.program_laws.specs.Tells.{AllTold}
+use Rattle.seen_laws.specs.BeginsItsOwn.{BeginsItsOwn}
+use Rattle.seen_laws.specs.BothAgree.{DoBothAgree}
+use Rattle.seen_laws.specs.ByItsPath.{IsByItsPath}
+use Rattle.seen_laws.specs.OneHolder.{HasOneHolder}
+
+-- of a history, by its entries alone
+pub record HeadlineHolds (setup : Setup) (h : List Entry) : Type 0 where
+  -- one path: what a subchannel takes of its program, and what it sends to it, goes by the path of the last Accept or Grant
+  pub by_its_path : IsByItsPath (set_count setup) h
+  -- one holder: a unit accepts a program where none holds its device, and takes signals of the one that holds it alone
+  pub one_holder : HasOneHolder setup h
+  -- both sides agree on it, or the unit was restarted and that reset isn't yet taken
+  pub both_agree : DoBothAgree setup h
+  -- an Accept begins the program of the start that was offered, or none
+  pub begins_its_own : BeginsItsOwn (set_count setup) h
+  -- each accepted start begins at most one program
+  pub begun_once : IsBegunOnce (set_count setup) h
+  -- each status is cleared by at most one TEST SUBCHANNEL
+  pub cleared_once : IsClearedOnce (set_count setup) h
 
 -- of each state
 pub record HoldsAfter (opening : State) (h : List Entry) (s : State) (run : Run opening h s) : Type 0 where
@@ -55,7 +76,9 @@ HoldsThroughout opening _ _ Opened = HoldsAfter opening _ _ Opened
 HoldsThroughout opening _ _ (Stepped h old e r new run step) =
     HoldsThroughout opening h old run × HoldsIn opening h old run e r new step × HoldsAfter opening _ _ (Stepped h old e r new run step)
 
--- these entries lead there from the opening of each set-up that the machine has, and by whatever states they do, all that holds
-abbrev pub HasHeld : List Entry → State → Type 0
-HasHeld h s =
-    HasRun h s × ((setup : Setup) → IsSetUp setup s → (run : Run (opening_of setup) h s) → HoldsThroughout (opening_of setup) h s run)
+-- these entries lead there from the opening of each set-up that the machine has; by them alone the headline holds, and by whatever
+-- states they lead there, all that holds of states and steps
+pub record HasHeld (h : List Entry) (s : State) : Type 0 where
+  pub leads : HasRun h s
+  pub seen : (setup : Setup) → IsSetUp setup s → HeadlineHolds setup h
+  pub throughout : (setup : Setup) → IsSetUp setup s → (run : Run (opening_of setup) h s) → HoldsThroughout (opening_of setup) h s run

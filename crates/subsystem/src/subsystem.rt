@@ -289,6 +289,10 @@ impl<P: PathChoice + Drop> Subsystem<P> {
         event_laws::counts();
         event_laws::resets();
         programs();
+        seen_laws::by_its_path();
+        seen_laws::one_holder();
+        seen_laws::both_agree();
+        seen_laws::begins_its_own();
         let _ = &self.history;
     }
 

@@ -27,6 +27,14 @@ returns-clause-headline g c =
     subst (λ (x : Past). HasHeld x.history x.state) c.self.view_is
     (past-held
     (λ setup lawful h s run. record {
+      by_its_path = c.by_its_path.ensures.paths setup h s lawful run;
+      one_holder = c.one_holder.ensures.one setup h s lawful run;
+      both_agree = c.both_agree.ensures.agree setup h s lawful run;
+      begins_its_own = c.begins_its_own.ensures.own setup h s run;
+      begun_once = c.beginnings.ensures.once setup h s lawful run;
+      cleared_once = c.serials.ensures.rises setup h s run;
+    })
+    (λ setup lawful h s run. record {
       one_path = c.engines.ensures.one setup h s lawful run;
       agree = c.agreements.ensures.agree setup h s lawful run;
       pending = c.numbers.ensures.pending setup h s run;

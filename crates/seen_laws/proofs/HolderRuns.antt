@@ -1,0 +1,466 @@
+-- After each run what was seen of each unit is what the unit keeps, and control units keep which units are held: each entry is right.
+use Rattle.std.proofs.Common.{◌≡◌, ◌≢◌, refl, sym, ◌∙◌, ap, subst, ℕ, zero, suc, ◌+◌, ◌<◌, ◌==◌, ◌&&◌, nat_lt, Bool, true, false, not, Option, None, Some, is_some, Result, List, [], ◌∷◌, ◌++◌, length, map, slice_get, slice_set, IfOk, if◌then◌else◌, inl, inr, arith}
+use Rattle.std.specs.Prelude.{◌⊎◌, unwrap_or, option_map}
+use Rattle.std.proofs.lemmas.List.{length-map, length-replicate}
+use Rattle.std.proofs.lemmas.Bool.{eq-eqb}
+use Rattle.std.proofs.lemmas.Option.{slice_get_within}
+use Rattle.chan_events.specs.declared.event.Event.{Event}
+use Rattle.chan_events.specs.declared.event.Event.TheVariants as event
+use Rattle.chan_events.specs.declared.event.UnitAct.{UnitAct}
+use Rattle.chan_events.specs.declared.event.UnitAct.TheVariants as act
+use Rattle.chan_events.specs.declared.reply.Entry.{Entry}
+use Rattle.chan_events.specs.declared.reply.Reply.{Reply}
+use Rattle.chan_model.specs.declared.fault.Fault.{Fault}
+use Rattle.chan_model.specs.declared.names.Side.{Side}
+use Rattle.chan_model.specs.declared.report.Report.{Report}
+use Rattle.chan_model.specs.declared.signal.Down.{Down}
+use Rattle.chan_model.specs.declared.signal.Down.TheVariants as down
+use Rattle.chan_model.specs.declared.unit_state.Own.{Own}
+use Rattle.chan_model.specs.declared.unit_state.Own.TheVariants as own
+use Rattle.chan_model.specs.declared.unit_state.UnitState.{UnitState}
+use Rattle.chan_model.specs.UnitReports.{unit_reports}
+use Rattle.chan_model.specs.UnitTable as unit_table
+use Rattle.chan_model.specs.UnitTable.{UnitStep, unit_takes, unit_after, restarted, is_idle}
+use Rattle.channel_config.specs.declared.names.SubchannelId.{SubchannelId}
+use Rattle.channel_config.specs.declared.parts.SubchannelSetup.{SubchannelSetup}
+use Rattle.channel_config.specs.declared.parts.UnitKind.{UnitKind}
+use Rattle.channel_config.specs.Lawful.{IsLawful}
+use Rattle.channel_config.specs.Setup.{Setup, set_count, groups_of, groups_from}
+use Rattle.channel_config.specs.SubchannelWords.{subchannel_named}
+use Rattle.control_units.specs.declared.Member.{Member}
+use Rattle.control_units.specs.Units.{idle_member, may_serve}
+use Rattle.wires.specs.Queues.{queue}
+use Rattle.subchannel_model.specs.declared.state.Subchannel.{Subchannel}
+use Rattle.subchannel_model.specs.Opening.{opened}
+use Rattle.subchannel_model.specs.Places.{is_named, place_in, place_of_id}
+use Rattle.subchannel_model.specs.Sending.{carried_by, finds_full}
+use Rattle.subchannel_model.proofs.Named.{one_later}
+use Rattle.machine_model.specs.ActSteps.{acts}
+use Rattle.machine_model.specs.DownSteps.{asks_at, down_front, down_sub}
+use Rattle.machine_model.specs.Setups.{IsSetUp, group_of}
+use Rattle.machine_model.specs.Sharing.{is_asked_for, may_take, members_after, owing_after}
+use Rattle.machine_model.specs.State.{State, opening_of, idle_of}
+use Rattle.machine_model.specs.Steps.{Run, Opened, Stepped, Step}
+use Rattle.machine_model.specs.Turns.{DownTurn}
+use Rattle.step_laws.proofs.Places.{get-set, get-other, map-get, same-or-not}
+use Rattle.seen_laws.specs.Devices.{Held, Holding, with_restart, nothing_held, first_named, setup_named, acted_after, held_met, holding_met, holding_after}
+use Rattle.seen_laws.specs.OneHolder.{Seen, IsFree, IsDownRight, IsSetRight, IsAnswerNumbered, reply_due, IsReportRight, IsActRight, IsEntryRight, seen_after, AreRight, HasOneHolder}
+use Rattle.machine_laws.specs.Agreeing.{AreAbove}
+use Rattle.seen_laws.proofs.UnitSends.{IsResetAbove}
+use Rattle.seen_laws.proofs.Holdings.{holder_in, holding_of, reply_of, Turns, IsAsked, takes-turns}
+use Rattle.seen_laws.proofs.HolderActs.{IfStep, reports-keep, reports-right, IsActed, acts-acted}
+use Rattle.seen_laws.proofs.MemberSteps.{IsOther, IsLeft, step-left, IsSunk, step-sunk, IsStepped, step-reported, IsActing, step-acting, step-restarted}
+use Rattle.seen_laws.proofs.MemberSteps as reading
+use Rattle.seen_laws.proofs.Sharers.{AreBegun, free-of, asked-holds, idle-stays, AfterIs, kept-after, members-after, begun-after, restarted-after}
+
+-- how the subchannels were set up
+abbrev pub setups : List Subchannel → List SubchannelSetup
+setups subs = map (λ (sub : Subchannel). sub.setup) subs
+
+opened-setups : (subs : List SubchannelSetup) → setups (map opened subs) ≡ subs
+opened-setups [] = refl
+opened-setups (x ∷ xs) = ap (λ (ys : List SubchannelSetup). x ∷ ys) (opened-setups xs)
+
+-- the subchannel that a word names is set up as the first of its name
+first-cases : (b : Bool) (later : Option ℕ) (place : ℕ) → (if b then Some 0 else one_later later) ≡ Some place →
+    ((b ≡ true) × (place ≡ 0)) ⊎ ((b ≡ false) × ((i : ℕ) × (later ≡ Some i) × (place ≡ suc i)))
+first-cases true later place e = let z : 0 ≡ place = cc e in inl (refl, sym z)
+first-cases false None place e = absurd (cc e)
+first-cases false (Some i) place e = let z : i + 1 ≡ place = cc e in inr (refl, (i, refl, omega (arith, z)))
+
+first-is : (id : SubchannelId) (subs : List Subchannel) (place : ℕ) (sub : Subchannel) → place_in id subs ≡ Some place → slice_get subs place ≡ Some sub →
+    first_named id (setups subs) ≡ Some sub.setup
+first-is id [] place sub e there = absurd (cc e)
+first-is id (x ∷ xs) place sub e there =
+    elim (first-cases (is_named id x) (place_in id xs) place e) [
+      | inl h ↦
+          let same : x ≡ sub = cc (subst (λ (k : ℕ). slice_get (x ∷ xs) k ≡ Some sub) h.1 there) in
+          ap (λ (b : Bool). if b then Some x.setup else first_named id (setups xs)) h.0 ∙ ap (λ (y : Subchannel). Some y.setup) same
+      | inr h ↦
+          ap (λ (b : Bool). if b then Some x.setup else first_named id (setups xs)) h.0
+          ∙ first-is id xs h.1.0 sub h.1.1 (subst (λ (k : ℕ). slice_get (x ∷ xs) k ≡ Some sub) h.1.2 there)
+    ]
+
+pub setup-is : (subs : List Subchannel) (x : Option SubchannelId) (place : ℕ) (sub : Subchannel) → place_of_id subs x ≡ Some place → slice_get subs place ≡ Some sub →
+    setup_named (setups subs) x ≡ Some sub.setup
+setup-is subs None place sub e there = absurd (cc e)
+setup-is subs (Some id) place sub e there = first-is id subs place sub e there
+
+-- steps of the unit
+pub if-ok : {A : Type 0} (P : A → Type 0) (b : Bool) (x y : Result A Fault) → IfOk x P → IfOk y P → IfOk (if b then x else y) P
+if-ok P true x y e f = e
+if-ok P false x y e f = f
+
+-- a Reset that waits first, where the unit would take it, is above the floor
+abbrev AreAboveFor : Subchannel → UnitState → Type 0
+AreAboveFor sub u = (p : ℕ) (d : Down) → slice_get (queue sub.wires.down p) 0 ≡ Some d → IsResetAbove u sub.setup.side d
+
+above-for : (s : State) (place : ℕ) (sub : Subchannel) (u : UnitState) → AreAbove s → slice_get s.subs place ≡ Some sub → slice_get s.units sub.setup.«unit» ≡ Some u → AreAboveFor sub u
+above-for s place sub u above there found p (down.Select t) front = tt
+above-for s place sub u above there found p (down.Command t n code room) front = tt
+above-for s place sub u above there found p (down.Grant t c) front = tt
+above-for s place sub u above there found p (down.Refuse t c) front = tt
+above-for s place sub u above there found p (down.Took t n q room) front = tt
+above-for s place sub u above there found p (down.Give t c n q bytes) front = tt
+above-for s place sub u above there found p (down.Halt t) front = tt
+above-for s place sub u above there found p (down.Release t) front = tt
+above-for s place sub u above there found p (down.Reset r b) front = λ e. above place sub u p r b there found front e
+above-for s place sub u above there found p (down.Got a) front = tt
+
+-- what its front signal does, and whether the control unit is asked
+pub record IsMet (sub : Subchannel) (path : ℕ) (u : UnitState) (may : Bool) (t : DownTurn) : Type 0 where
+  pub signal : Down
+  pub front : slice_get (queue sub.wires.down path) 0 ≡ Some signal
+  pub reply : t.reply ≡ reply_of signal (unit_takes u sub.setup.side path signal may)
+  pub «unit» : t.«unit» ≡ unit_after u (unit_takes u sub.setup.side path signal may)
+
+front-met : (may : Bool) (sub : Subchannel) (path : ℕ) (u : UnitState) (front : Option Down) → slice_get (queue sub.wires.down path) 0 ≡ front → IfOk (down_front may sub path u front) (IsMet sub path u may)
+front-met may sub path u None e = tt
+front-met may sub path u (Some d) e =
+    if-ok (IsMet sub path u may) (finds_full sub.wires.up (carried_by sub (unit_table.came_of (unit_takes u sub.setup.side path d may)).sent)) _ _ tt
+    (record { signal = d; front = e; reply = refl; «unit» = refl })
+
+downs-met : (may : Bool) (sub : Subchannel) (path : ℕ) (u : UnitState) → IfOk (down_sub may sub path u) (IsMet sub path u may)
+downs-met may sub path u =
+    if-ok (IsMet sub path u may) (nat_lt path (length sub.setup.paths)) (down_front may sub path u (slice_get (queue sub.wires.down path) 0)) _
+    (front-met may sub path u (slice_get (queue sub.wires.down path) 0) refl) tt
+
+-- what was seen of a unit is what it keeps
+abbrev pub IsSeen : ℕ → List UnitState → Holding → Type 0
+IsSeen at units k = (u : UnitState) → slice_get units at ≡ Some u → k ≡ holding_of u
+
+seen-set : (at i : ℕ) (units : List UnitState) (u v : UnitState) (k next : Holding) → slice_get units i ≡ Some u → ((i == at) ≡ true → k ≡ holding_of u → next ≡ holding_of v) →
+    ((i == at) ≡ false → next ≡ k) → IsSeen at units k → IsSeen at (slice_set units i v) next
+seen-set at i units u v k next found here other seen = λ w e.
+    elim (same-or-not i at) [
+      | inl h ↦
+          let is : v ≡ w = cc (sym (get-set units i u v found) ∙ subst (λ (n : ℕ). slice_get (slice_set units i v) n ≡ Some w) (sym h.0) e) in
+          here h.1 (seen u (subst (λ (n : ℕ). slice_get units n ≡ Some u) h.0 found)) ∙ ap holding_of is
+      | inr h ↦ other h.1 ∙ seen w (sym (get-other units i v at (λ q. h.0 (sym q))) ∙ e)
+    ]
+
+if-there : (b : Bool) (x y : Holding) → b ≡ true → (if b then x else y) ≡ x
+if-there true x y e = refl
+if-there false x y e = absurd (cc e)
+
+if-not : (b : Bool) (x y : Holding) → b ≡ false → (if b then x else y) ≡ y
+if-not true x y e = absurd (cc e)
+if-not false x y e = refl
+
+-- one unit was changed: what is seen of it, and of no other
+abbrev pub seen_at : ℕ → (Holding → Holding) → Seen → Seen
+seen_at i change seen = λ at. if i == at then change (seen at) else seen at
+
+abbrev AreSeen : List UnitState → Seen → Type 0
+AreSeen units seen = (at : ℕ) → IsSeen at units (seen at)
+
+one-seen : (units : List UnitState) (i : ℕ) (u v : UnitState) (change : Holding → Holding) (seen : Seen) → slice_get units i ≡ Some u → change (holding_of u) ≡ holding_of v → AreSeen units seen →
+    AreSeen (slice_set units i v) (seen_at i change seen)
+one-seen units i u v change seen found e all = λ at.
+    seen-set at i units u v (seen at) (if i == at then change (seen at) else seen at) found
+    (λ h k. if-there (i == at) (change (seen at)) (seen at) h ∙ (ap change k ∙ e)) (λ h. if-not (i == at) (change (seen at)) (seen at) h) (all at)
+
+here-is : (i : ℕ) (change : Holding → Holding) (seen : Seen) → seen_at i change seen i ≡ change (seen i)
+here-is i change seen = if-there (i == i) (change (seen i)) (seen i) (eq-eqb i i refl)
+
+others-are : (i : ℕ) (change : Holding → Holding) (seen : Seen) (at : ℕ) → at ≢ i → seen_at i change seen at ≡ seen at
+others-are i change seen at n =
+    elim (same-or-not i at) [
+      | inl h ↦ absurd (n (sym h.0))
+      | inr h ↦ if-not (i == at) (change (seen at)) (seen at) h.1
+    ]
+
+-- the entry is right, and what was seen stands after it
+pub record IsRight (s : State) (e : Event) (r : Reply) (new : State) (seen : Seen) : Type 0 where
+  pub right : IsEntryRight (map group_of s.members) s.sets (setups s.subs) seen e r
+  pub units : AreSeen new.units (seen_after s.sets (setups s.subs) e r seen)
+  pub begun : AreBegun new.members (seen_after s.sets (setups s.subs) e r seen)
+
+-- each unit is one that control units keep
+abbrev AreMembers : State → Type 0
+AreMembers s = (at : ℕ) (u : UnitState) → slice_get s.units at ≡ Some u → (m : Member) × (slice_get s.members at ≡ Some m)
+
+held-some : (u : UnitState) (o : Own) → is_some (holder_in u o) ≡ not (is_idle o)
+held-some u own.Idle = refl
+held-some u (own.Owned k t at) = refl
+
+asks-front : (sub : Subchannel) (path : ℕ) (u : UnitState) (d : Down) → slice_get (queue sub.wires.down path) 0 ≡ Some d → asks_at sub path u ≡ is_asked_for u sub.setup.side d
+asks-front sub path u d e = ap (λ (o : Option Down). elim o [ None ↦ false | Some signal ↦ is_asked_for u sub.setup.side signal ]) e
+
+may-asked : (members : List Member) (at : ℕ) (asks : Bool) → asks ≡ true → may_take members at asks ≡ may_serve members at
+may-asked members at true e = refl
+may-asked members at false e = absurd (cc e)
+
+free-asked : (u : UnitState) (side : Side) (d : Down) (members : List Member) (at : ℕ) (asks : Bool) → asks ≡ is_asked_for u side d → (is_asked_for u side d ≡ true → is_idle u.own ≡ true) →
+    IsAsked u side d (may_take members at asks) (is_idle u.own && may_serve members at)
+free-asked u side d members at asks e idle = record {
+  asks = λ f. may-asked members at asks (e ∙ f) ∙ ap (λ (b : Bool). b && may_serve members at) (sym (idle f));
+  held = λ f. ap (λ (b : Bool). b && may_serve members at) f;
+}
+
+right-down : (groups : List ℕ) (seen : Seen) (at : ℕ) (side : Side) (path : ℕ) (d : Down) (u : UnitState) (step : Option UnitStep) (free : Bool) → seen at ≡ holding_of u → IsFree groups seen at free →
+    Turns u side path d step (reply_due (holding_of u) side path free (unit_table.came_of step).taken d) → IsDownRight groups seen at side path (reply_of d step)
+right-down groups seen at side path d u step free is f turns = (
+  (free, f, turns.replies ∙ ap (λ (k : Holding). reply_due k side path free (unit_table.came_of step).taken d) (sym is)),
+  subst (λ (k : Holding). IsAnswerNumbered k side (unit_table.came_of step).sent) (sym is) turns.numbered,
+)
+
+abbrev met_by : Option SubchannelSetup → ℕ → Reply → Seen → Seen
+met_by o path r seen = λ at. holding_met at o path r (seen at)
+
+sunk-right : (s : State) (word path : ℕ) (r : Reply) (new : State) (seen : Seen) → IsSunk s word path r new → AreAbove s → AreMembers s → AreSeen s.units seen → AreBegun s.members seen →
+    IsRight s (event.Down word path) r new seen
+sunk-right s word path r new seen k above members units begun =
+    let sub : Subchannel = k.sub in
+    let at : ℕ = sub.setup.«unit» in
+    let side : Side = sub.setup.side in
+    let u : UnitState = k.«unit» in
+    let asks : Bool = asks_at sub path u in
+    let may : Bool = may_take s.members at asks in
+    let free : Bool = is_idle u.own && may_serve s.members at in
+    let met : IsMet sub path u may k.turn = subst (λ (x : Result DownTurn Fault). IfOk x (IsMet sub path u may)) k.ok (downs-met may sub path u) in
+    let d : Down = met.signal in
+    let step : Option UnitStep = unit_takes u side path d may in
+    let asked : asks ≡ is_asked_for u side d = asks-front sub path u d met.front in
+    let turns : Turns u side path d step (reply_due (holding_of u) side path free (unit_table.came_of step).taken d) =
+    takes-turns u side path d may free (above-for s k.place sub u above k.there k.found path d met.front)
+    (free-asked u side d s.members at asks asked (λ e. (asked-holds u side path d may e).0)) in
+    let is : seen at ≡ holding_of u = units at u k.found in
+    let reply : r ≡ reply_of d step = k.reply ∙ met.reply in
+    let named : setup_named (setups s.subs) (subchannel_named s.sets word) ≡ Some sub.setup = setup-is s.subs (subchannel_named s.sets word) k.place sub k.named k.there in
+    let m : (x : Member) × (slice_get s.members at ≡ Some x) = members at u k.found in
+    let after : UnitState = unit_after u step in
+    let change : Holding → Holding = held_met side path r in
+    let holder : is_some (seen at).holder ≡ not (is_idle u.own) = ap (λ (x : Holding). is_some x.holder) is ∙ held-some u u.own in
+    let next : change (holding_of u) ≡ holding_of after = ap (λ (x : Reply). held_met side path x (holding_of u)) reply ∙ sym turns.next in
+    let left : new.units ≡ slice_set s.units at (owing_after s.members at u after) =
+    k.units ∙ ap (λ (v : UnitState). slice_set s.units at (owing_after s.members at u v)) met.«unit» in
+    let moved : new.members ≡ members_after s.members at asks u after = k.members ∙ ap (λ (v : UnitState). members_after s.members at asks u v) met.«unit» in
+    let follows : AfterIs s.members (members_after s.members at asks u after) at (not (is_idle after.own)) =
+    members-after s.members at asks u after (λ x e. begun at x e ∙ holder)
+    (λ e. let h = asked-holds u side path d may (sym asked ∙ e) in (h.0, h.1 ∙ ap not (may-asked s.members at asks e)))
+    (λ e. idle-stays u side path d may (sym asked ∙ e)) in
+    record {
+      right =
+          subst (λ (o : Option SubchannelSetup). IsSetRight (map group_of s.members) seen o path r) (sym named)
+          (subst (λ (x : Reply). IsDownRight (map group_of s.members) seen at side path x) (sym reply)
+          (right-down (map group_of s.members) seen at side path d u step free is (free-of s.members seen at m.0 (is_idle u.own) m.1 begun holder) turns));
+      units =
+          subst (λ (o : Option SubchannelSetup). AreSeen new.units (met_by o path r seen)) (sym named)
+          (subst (λ (us : List UnitState). AreSeen us (seen_at at change seen)) (sym left)
+          (one-seen s.units at u (owing_after s.members at u after) change seen k.found next units));
+      begun =
+          subst (λ (o : Option SubchannelSetup). AreBegun new.members (met_by o path r seen)) (sym named)
+          (subst (λ (ms : List Member). AreBegun ms (seen_at at change seen)) (sym moved)
+          (begun-after s.members (members_after s.members at asks u after) seen (seen_at at change seen) at (not (is_idle after.own)) begun follows
+          (ap (λ (x : Holding). is_some x.holder) (here-is at change seen ∙ (ap change is ∙ next)) ∙ held-some after after.own)
+          (others-are at change seen)));
+    }
+
+restart-right : (s : State) (place : ℕ) (r : Reply) (new : State) (seen : Seen) → reading.IsRestarted s place new → AreSeen s.units seen → AreBegun s.members seen → IsRight s (event.Restart place) r new seen
+restart-right s place r new seen k units begun =
+    let u : UnitState = k.«unit» in
+    let is : seen place ≡ holding_of u = units place u k.found in
+    record {
+      right = tt;
+      units =
+          subst (λ (us : List UnitState). AreSeen us (seen_at place with_restart seen)) (sym k.units)
+          (one-seen s.units place u (owing_after s.members place u (restarted u)) with_restart seen k.found refl units);
+      begun =
+          subst (λ (ms : List Member). AreBegun ms (seen_at place with_restart seen)) (sym k.members)
+          (begun-after s.members _ seen (seen_at place with_restart seen) place false begun
+          (restarted-after s.members place u (λ m e. begun place m e ∙ (ap (λ (x : Holding). is_some x.holder) is ∙ held-some u u.own)))
+          (ap (λ (x : Holding). is_some x.holder) (here-is place with_restart seen)) (others-are place with_restart seen));
+    }
+
+-- reports and acts
+kept-seen : (units : List UnitState) (i : ℕ) (u v : UnitState) (seen : Seen) → slice_get units i ≡ Some u → holding_of v ≡ holding_of u → AreSeen units seen → AreSeen (slice_set units i v) seen
+kept-seen units i u v seen found e all = λ at. seen-set at i units u v (seen at) (seen at) found (λ h k. k ∙ sym e) (λ h. refl) (all at)
+
+report-right : (s : State) (at : ℕ) (report : Report) (r : Reply) (new : State) (seen : Seen) → IsStepped s at report.side new (λ u. unit_reports u report) → AreSeen s.units seen → AreBegun s.members seen →
+    IsRight s (event.Report at report) r new seen
+report-right s at report r new seen k units begun =
+    let u : UnitState = k.«unit» in
+    record {
+      right =
+          subst (λ (x : Holding). IsReportRight x report) (sym (units at u k.found))
+          (subst (λ (x : Option UnitStep). IfStep x (λ v. IsReportRight (holding_of u) report)) k.taken (reports-right u report));
+      units =
+          subst (λ (us : List UnitState). AreSeen us seen) (sym k.units)
+          (kept-seen s.units at u k.step.state seen k.found (ap (λ (x : Option UnitStep). holding_of (unit_after u x)) (sym k.taken) ∙ reports-keep u report) units);
+      begun = subst (λ (ms : List Member). AreBegun ms seen) (sym k.members) begun;
+    }
+
+map-some : (f : Held → Held) (h : Option Held) → is_some (option_map f h) ≡ is_some h
+map-some f None = refl
+map-some f (Some h) = refl
+
+acted-some : (what : UnitAct) (k : Holding) → is_some (acted_after what k).holder ≡ is_some k.holder
+acted-some act.Leave k = map-some _ k.holder
+acted-some (act.Ask path) k = map-some _ k.holder
+acted-some (act.Attention path side) k = refl
+acted-some (act.Notice path side) k = refl
+
+act-right : (s : State) (at : ℕ) (what : UnitAct) (r : Reply) (new : State) (seen : Seen) → IsActing s at what new → AreSeen s.units seen → AreBegun s.members seen → IsRight s (event.Act at what) r new seen
+act-right s at what r new seen acting units begun =
+    let side : Side = acting.side in
+    let k : IsStepped s at side new (λ u. acts u side what) = acting.steps in
+    let u : UnitState = k.«unit» in
+    let acted : IsActed u what k.step.state = subst (λ (x : Option UnitStep). IfStep x (IsActed u what)) k.taken (acts-acted u side what (acting.its u k.found)) in
+    let change : Holding → Holding = acted_after what in
+    record {
+      right = subst (λ (x : Holding). IsActRight x what) (sym (units at u k.found)) acted.0;
+      units = subst (λ (us : List UnitState). AreSeen us (seen_at at change seen)) (sym k.units) (one-seen s.units at u k.step.state change seen k.found (sym acted.1) units);
+      begun =
+          subst (λ (ms : List Member). AreBegun ms (seen_at at change seen)) (sym k.members)
+          (begun-after s.members s.members seen (seen_at at change seen) at (is_some (seen at).holder) begun (kept-after s.members at (is_some (seen at).holder) (begun at))
+          (ap (λ (x : Holding). is_some x.holder) (here-is at change seen) ∙ acted-some what (seen at)) (others-are at change seen));
+    }
+
+-- other events
+other-entry : (groups : List ℕ) (sets : ℕ) (subs : List SubchannelSetup) (seen : Seen) (e : Event) (r : Reply) → IsOther e → ((at : ℕ) → seen at ≡ seen_after sets subs e r seen at) × IsEntryRight groups sets subs seen e r
+other-entry groups sets subs seen (event.Put address bytes) r k = ((λ at. refl), tt)
+other-entry groups sets subs seen (event.SetKey address key) r k = ((λ at. refl), tt)
+other-entry groups sets subs seen (event.SetPrefix cpu address) r k = ((λ at. refl), tt)
+other-entry groups sets subs seen (event.Show address count) r k = ((λ at. refl), tt)
+other-entry groups sets subs seen (event.Execute cpu i) r k = ((λ at. refl), tt)
+other-entry groups sets subs seen (event.ExecuteOther cpu i) r k = ((λ at. refl), tt)
+other-entry groups sets subs seen (event.Choose word) r k = ((λ at. refl), tt)
+other-entry groups sets subs seen (event.Up word path) r k = ((λ at. refl), tt)
+other-entry groups sets subs seen (event.Down word path) r k = absurd k
+other-entry groups sets subs seen (event.Report place report) r k = absurd k
+other-entry groups sets subs seen (event.Act place what) r k = absurd k
+other-entry groups sets subs seen (event.Restart place) r k = absurd k
+other-entry groups sets subs seen (event.PathDown chpid) r k = ((λ at. refl), tt)
+other-entry groups sets subs seen (event.PathUp chpid) r k = ((λ at. refl), tt)
+other-entry groups sets subs seen (event.PathReset chpid) r k = ((λ at. refl), tt)
+other-entry groups sets subs seen event.SystemReset r k = ((λ at. refl), tt)
+
+other-right : (s : State) (e : Event) (r : Reply) (new : State) (seen : Seen) → IsOther e → IsLeft s new → AreSeen s.units seen → AreBegun s.members seen → IsRight s e r new seen
+other-right s e r new seen other k units begun =
+    let entry = other-entry (map group_of s.members) s.sets (setups s.subs) seen e r other in
+    record {
+      right = entry.1;
+      units = λ at. subst (λ (x : Holding). IsSeen at new.units x) (entry.0 at) (subst (λ (us : List UnitState). IsSeen at us (seen at)) (sym k.units) (units at));
+      begun = λ i m f. begun i m (subst (λ (ms : List Member). slice_get ms i ≡ Some m) k.members f) ∙ ap (λ (x : Holding). is_some x.holder) (entry.0 i);
+    }
+
+step-right : (s : State) (e : Event) (r : Reply) (new : State) (seen : Seen) → Step s e r new → AreAbove s → AreMembers s → AreSeen s.units seen → AreBegun s.members seen → IsRight s e r new seen
+step-right s (event.Put address bytes) r new seen step above members units begun = other-right s (event.Put address bytes) r new seen tt (step-left s (event.Put address bytes) r new tt step) units begun
+step-right s (event.SetKey address key) r new seen step above members units begun = other-right s (event.SetKey address key) r new seen tt (step-left s (event.SetKey address key) r new tt step) units begun
+step-right s (event.SetPrefix cpu address) r new seen step above members units begun = other-right s (event.SetPrefix cpu address) r new seen tt (step-left s (event.SetPrefix cpu address) r new tt step) units begun
+step-right s (event.Show address count) r new seen step above members units begun = other-right s (event.Show address count) r new seen tt (step-left s (event.Show address count) r new tt step) units begun
+step-right s (event.Execute cpu i) r new seen step above members units begun = other-right s (event.Execute cpu i) r new seen tt (step-left s (event.Execute cpu i) r new tt step) units begun
+step-right s (event.ExecuteOther cpu i) r new seen step above members units begun = other-right s (event.ExecuteOther cpu i) r new seen tt (step-left s (event.ExecuteOther cpu i) r new tt step) units begun
+step-right s (event.Choose word) r new seen step above members units begun = other-right s (event.Choose word) r new seen tt (step-left s (event.Choose word) r new tt step) units begun
+step-right s (event.Up word path) r new seen step above members units begun = other-right s (event.Up word path) r new seen tt (step-left s (event.Up word path) r new tt step) units begun
+step-right s (event.Down word path) r new seen step above members units begun = sunk-right s word path r new seen (step-sunk s word path r new step) above members units begun
+step-right s (event.Report place report) r new seen step above members units begun = report-right s place report r new seen (step-reported s place report r new step) units begun
+step-right s (event.Act place what) r new seen step above members units begun = act-right s place what r new seen (step-acting s place what r new step) units begun
+step-right s (event.Restart place) r new seen step above members units begun = restart-right s place r new seen (step-restarted s place r new step) units begun
+step-right s (event.PathDown chpid) r new seen step above members units begun = other-right s (event.PathDown chpid) r new seen tt (step-left s (event.PathDown chpid) r new tt step) units begun
+step-right s (event.PathUp chpid) r new seen step above members units begun = other-right s (event.PathUp chpid) r new seen tt (step-left s (event.PathUp chpid) r new tt step) units begun
+step-right s (event.PathReset chpid) r new seen step above members units begun = other-right s (event.PathReset chpid) r new seen tt (step-left s (event.PathReset chpid) r new tt step) units begun
+step-right s event.SystemReset r new seen step above members units begun = other-right s event.SystemReset r new seen tt (step-left s event.SystemReset r new tt step) units begun
+
+-- along a run, before which nothing was seen
+abbrev pub holding_through : ℕ → List SubchannelSetup → ℕ → Holding → List Entry → Holding
+holding_through sets subs at k [] = k
+holding_through sets subs at k (x ∷ xs) = holding_through sets subs at (holding_after sets subs at x.event x.reply k) xs
+
+through-more : (sets : ℕ) (subs : List SubchannelSetup) (at : ℕ) (k : Holding) (h : List Entry) (x : Entry) →
+    holding_through sets subs at k (h ++ x ∷ []) ≡ holding_after sets subs at x.event x.reply (holding_through sets subs at k h)
+through-more sets subs at k [] x = refl
+through-more sets subs at k (y ∷ h) x = through-more sets subs at (holding_after sets subs at y.event y.reply k) h x
+
+abbrev pub seen_through : ℕ → List SubchannelSetup → Seen → List Entry → Seen
+seen_through sets subs seen h = λ at. holding_through sets subs at (seen at) h
+
+right-more : (groups : List ℕ) (sets : ℕ) (subs : List SubchannelSetup) (seen : Seen) (h : List Entry) (x : Entry) → AreRight groups sets subs seen h →
+    IsEntryRight groups sets subs (seen_through sets subs seen h) x.event x.reply → AreRight groups sets subs seen (h ++ x ∷ [])
+right-more groups sets subs seen [] x all one = (one, tt)
+right-more groups sets subs seen (y ∷ h) x all one = (all.0, right-more groups sets subs (seen_after sets subs y.event y.reply seen) h x all.1 one)
+
+abbrev pub none_held : Seen
+none_held at = nothing_held
+
+abbrev pub run_seen : Setup → List Entry → Seen
+run_seen setup h = seen_through (set_count setup) setup.subchannels none_held h
+
+pub record IsRunRight (setup : Setup) (h : List Entry) (s : State) : Type 0 where
+  pub set_up : IsSetUp setup s
+  pub seen : (at : ℕ) → IsSeen at s.units (run_seen setup h at)
+  pub begun : AreBegun s.members (run_seen setup h)
+  pub right : AreRight (groups_of setup) (set_count setup) setup.subchannels none_held h
+
+opened-seen : (setup : Setup) (at : ℕ) → IsSeen at (opening_of setup).units nothing_held
+opened-seen setup at u e =
+    let p : (kind : UnitKind) × (slice_get setup.units at ≡ Some kind) × (idle_of kind ≡ u) = map-get idle_of setup.units at u e in
+    ap holding_of p.2
+
+opened-begun : (setup : Setup) → AreBegun (opening_of setup).members none_held
+opened-begun setup i m e =
+    let p : (g : ℕ) × (slice_get (groups_of setup) i ≡ Some g) × (idle_member g ≡ m) = map-get idle_member (groups_of setup) i m e in
+    ap (λ (x : Member). x.begun) (sym p.2)
+
+-- what is known of each step and each run
+pub record AreKnown : Type 0 where
+  pub set_up : (setup : Setup) (s : State) (e : Event) (r : Reply) (new : State) → Step s e r new → IsSetUp setup s → IsSetUp setup new
+  pub above : (setup : Setup) (h : List Entry) (s : State) → IsLawful setup → Run (opening_of setup) h s → AreAbove s
+
+map-back : {A B : Type 0} (f : A → B) (g : B → A) → ((x : A) → g (f x) ≡ x) → (xs : List A) → map g (map f xs) ≡ xs
+map-back f g same [] = refl
+map-back f g same (x ∷ xs) = ap (λ y. y ∷ map g (map f xs)) (same x) ∙ ap (λ ys. x ∷ ys) (map-back f g same xs)
+
+opening-set_up : (setup : Setup) → IsLawful setup → IsSetUp setup (opening_of setup)
+opening-set_up setup lawful = record {
+  lawful = lawful;
+  blocks = length-replicate (unwrap_or setup.blocks 16) _;
+  sets = refl;
+  chpids = refl;
+  subs = opened-setups setup.subchannels;
+  units = length-map setup.units idle_of;
+  groups = map-back idle_member group_of (λ x. refl) (groups_of setup);
+  requests = refl;
+}
+
+-- each unit is in a group
+pub there-is : {A : Type 0} (xs : List A) (n : ℕ) → n < length xs → (x : A) × (slice_get xs n ≡ Some x)
+there-is [] n l = absurd (omega (arith, l))
+there-is (x ∷ xs) zero l = (x, refl)
+there-is (x ∷ xs) (suc n) l = there-is xs n (omega (arith, l))
+
+groups-length : (n : ℕ) (groups : List (Option ℕ)) → length (groups_from n groups) ≡ length groups
+groups-length n [] = refl
+groups-length n (g ∷ gs) = ap (λ (k : ℕ). suc k) (groups-length (n + 1) gs)
+
+set_up-members : (setup : Setup) (s : State) → IsSetUp setup s → AreMembers s
+set_up-members setup s k at u found =
+    let same : length s.members ≡ length s.units =
+    sym (length-map s.members group_of) ∙ (ap (λ (gs : List ℕ). length gs) k.groups ∙ (groups-length 0 setup.shared ∙ (k.lawful.shared_units ∙ sym k.units))) in
+    there-is s.members at (subst (λ (n : ℕ). at < n) (sym same) (slice_get_within s.units at u found))
+
+pub run-right : AreKnown → (setup : Setup) (h : List Entry) (s : State) → IsLawful setup → Run (opening_of setup) h s → IsRunRight setup h s
+run-right known setup _ _ lawful Opened = record { set_up = opening-set_up setup lawful; seen = opened-seen setup; begun = opened-begun setup; right = tt }
+run-right known setup _ _ lawful (Stepped h old e r new run step) =
+    let before : IsRunRight setup h old = run-right known setup h old lawful run in
+    let seen : Seen = run_seen setup h in
+    let set : IsSetUp setup old = before.set_up in
+    let now : IsRight old e r new seen = step-right old e r new seen step (known.above setup h old lawful run) (set_up-members setup old set) before.seen before.begun in
+    let subs : setups old.subs ≡ setup.subchannels = set.subs in
+    let same : (at : ℕ) → seen_after old.sets (setups old.subs) e r seen at ≡ run_seen setup (h ++ record { event = e; reply = r } ∷ []) at =
+    λ at.
+    ap (λ (n : ℕ). holding_after n (setups old.subs) at e r (seen at)) set.sets ∙ (ap (λ (xs : List SubchannelSetup). holding_after (set_count setup) xs at e r (seen at)) subs
+    ∙ sym (through-more (set_count setup) setup.subchannels at nothing_held h (record { event = e; reply = r }))) in
+    record {
+      set_up = known.set_up setup old e r new step set;
+      seen = λ at. subst (λ (x : Holding). IsSeen at new.units x) (same at) (now.units at);
+      begun = λ i m f. now.begun i m f ∙ ap (λ (x : Holding). is_some x.holder) (same i);
+      right = right-more (groups_of setup) (set_count setup) setup.subchannels none_held h (record { event = e; reply = r }) before.right
+          (subst (λ (gs : List ℕ). IsEntryRight gs (set_count setup) setup.subchannels seen e r) set.groups
+          (subst (λ (n : ℕ). IsEntryRight (map group_of old.members) n setup.subchannels seen e r) set.sets
+          (subst (λ (xs : List SubchannelSetup). IsEntryRight (map group_of old.members) old.sets xs seen e r) subs now.right)));
+    }
+
+pub run-one-holder : AreKnown → (setup : Setup) (h : List Entry) (s : State) → IsLawful setup → Run (opening_of setup) h s → HasOneHolder setup h
+run-one-holder known setup h s lawful run = (run-right known setup h s lawful run).right
