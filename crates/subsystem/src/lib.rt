@@ -1,4 +1,5 @@
 //! A channel subsystem of many subchannels: one event at a time, with the history of all that was accepted.
 #![tactic(auto)]
 
+mod stepping;
 pub mod subsystem;
