@@ -7,6 +7,7 @@ mod growths_tests;
 mod hands;
 mod looking_tests;
 mod machines;
+mod race_tests;
 mod replaying;
 mod seats_tests;
 mod stories;
