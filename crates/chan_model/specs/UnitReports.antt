@@ -75,10 +75,11 @@ may_end halted x progress.Ended status more = false
 abbrev pub data_sent : UnitState → ℕ → ℕ → ℕ → AtHand → Load → Option UnitStep
 data_sent u p t c x load = sends (record u { at_hand = Some x }) p (up.Data t c u.last_command x.sequence load)
 
--- a command is begun: the bytes of a write are asked for
+-- the bytes that a write took, so many, to be answered with the next report
 abbrev pub with_absorbed : AtHand → ℕ → AtHand
 with_absorbed x count = record x { progress = progress.Working; given = None; unanswered = Some (load.Absorbed count) }
 
+-- a command is begun: the bytes of a write are asked for
 abbrev pub command_begun : UnitState → ℕ → ℕ → ℕ → AtHand → Option UnitStep
 command_begun u p t c x =
     if is_outward x.code then data_sent u p t c (with_absorbed x 0) (load.Absorbed 0)

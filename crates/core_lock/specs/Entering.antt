@@ -47,7 +47,7 @@ abbrev pub LacksRoom : GuardedCore → HeldSeat → Type 0
 LacksRoom core seat = LacksSpace core.room seat.room (length core.value.history)
 
 abbrev pub HasNoRoom : LockedCore → HeldSeat → Type 0
-HasNoRoom core seat = LacksSpace core.room seat.room (length core.value.history)
+HasNoRoom core seat = LacksRoom (guarded_in core) seat
 
 -- how often an event was refused a seat for want of memory, after this answer; the greatest number of 64 bits stays
 abbrev pub starved_after : Result Reply Fault → ℕ → ℕ

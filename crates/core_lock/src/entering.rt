@@ -1,6 +1,6 @@
 //! One event at a subsystem, entered from a seat. This module alone adds to the history and to the log of a seat.
 
-ghost use Rattle.std.specs.Prelude.{◌≡◌, ◌≢◌, ◌+◌, ◌≤◌, [], ◌∷◌, ◌++◌, length, IfOk, IfErr, OnErr, OnOk, Ok, Err, true};
+ghost use Rattle.std.specs.Prelude.{◌≡◌, ◌≢◌, ◌⊎◌, ◌+◌, ◌^◌, ◌≤◌, [], ◌∷◌, ◌++◌, length, IfOk, IfErr, OnErr, OnOk, Ok, Err, true};
 ghost use Rattle.chan_model.specs.declared.fault.Fault.TheVariants as fault_spec;
 ghost use Rattle.machine_model.specs.Ruled.{GoesByRule};
 ghost use Rattle.machine_model.specs.Steps.{Step};
@@ -21,6 +21,7 @@ use path_select::PathChoice;
 use signal_places::answers::{AnswerPlace, Outcome};
 use std::sync::ledger::Book;
 use subsystem::subsystem::Subsystem;
+use supply::{Supply, ensure_room};
 
 /// What is told of the answer that stands in a place, without its reply.
 pub(crate) fn came(place: &AnswerPlace) -> Result<(), Fault>
@@ -64,11 +65,12 @@ fn count_starved(starved: &mut u64, place: &AnswerPlace)
 /// One step at a subsystem, entered from a seat: its entry in the history with the number of its seat beside it, and in the
 /// seat's log, and the serials that it changed in the glance cells.
 #[inline(always)]
-pub(crate) fn keep_entry<J: Naming, P: PathChoice + Drop>(
+pub(crate) fn keep_entry<S: Supply, J: Naming, P: PathChoice + Drop>(
     subsystem: &mut Subsystem<P>,
     by: &mut Vec<u16>,
     writers: &mut Vec<Writer>,
     entries: &mut Book<Entries<J>>,
+    supply: &mut S,
     seat: &mut Seat<J>,
     event: &Event,
     place: &mut AnswerPlace,
@@ -89,6 +91,9 @@ pub(crate) fn keep_entry<J: Naming, P: PathChoice + Drop>(
         GoesByRule P.picks subsystem.old.state event.now (answer_at place.new) subsystem.new.state }
     ensures refusal { IfErr (answer_at place.new) (λ f. MayRefuse subsystem.old.state event.now f) }
     ensures spent { answer_at place.new ≡ Err fault_spec.NoMemory → LacksSpace (room_of subsystem.old by.old) seat.old.room (length subsystem.old.history) }
+    ensures given { answer_at place.new ≢ Err fault_spec.NoMemory → S.refused supply.new ≡ S.refused supply.old }
+    ensures memory { answer_at place.new ≡ Err fault_spec.NoMemory →
+        (S.refused supply.new ≡ true) ⊎ (2 ^ 62 ≤ length subsystem.old.history + 1) }
     ensures state { OnErr (answer_at place.new) (subsystem.new.state ≡ subsystem.old.state) }
     ensures past { OnErr (answer_at place.new) (subsystem.new.history ≡ subsystem.old.history) }
     ensures numbers { OnErr (answer_at place.new) (by.new.items ≡ by.old.items) }
@@ -99,13 +104,13 @@ pub(crate) fn keep_entry<J: Naming, P: PathChoice + Drop>(
     ensures kept { OnErr (answer_at place.new) ((room_of subsystem.old by.old ≤ room_of subsystem.new by.new) × (seat.old.room ≤ seat.new.room)) }
 {
     let touched = touched_by(subsystem, event);
-    if by.reserve(1).is_err() || seat.log.make_room().is_err() {
+    if ensure_room(supply, by, 1).is_err() || seat.log.make_room_with(supply).is_err() {
         place.outcome = Outcome::Refused(Fault::NoMemory);
         count_starved(&mut seat.starved, place);
         return;
     }
     touches();
-    subsystem.step_place(event, place);
+    subsystem.step_place_with(supply, event, place);
     count_starved(&mut seat.starved, place);
     if place.is_reply() {
         publish(writers, subsystem, touched);

@@ -15,6 +15,7 @@ use chan_model::fault::Fault;
 use chan_model::names::Cpu;
 use core_parts::naming::Naming;
 use path_select::PathChoice;
+use supply::Given;
 
 /// An I/O instruction of a CPU.
 #[derive(Clone, Copy, Debug)]
@@ -43,7 +44,7 @@ impl<J: Naming, P: PathChoice + Drop> Guarded<J, P> {
         self.stands(seat);
         let event = event_of(cpu, instruction);
         let mut answer = Err(Fault::NoMemory);
-        self.enter_to(seat, &event, &mut answer);
+        self.enter_to_with(&mut Given { refused: false }, seat, &event, &mut answer);
         answer
     }
 }

@@ -1,7 +1,7 @@
 //! What the lock of a machine guards: the subsystem with its history, and all that an event changes beside it. It can make no
 //! seat, and nothing makes one of it but the machine's stock of seats, which stays outside the lock.
 
-ghost use Rattle.std.specs.Prelude.{◌≡◌, ◌≢◌, ◌+◌, ◌↔◌, ◌≤◌, [], ◌∷◌, ◌++◌, All, IfErr, IfOk, IsTrue, OnErr, OnOk, Ok, Err, length, true};
+ghost use Rattle.std.specs.Prelude.{◌≡◌, ◌≢◌, ◌⊎◌, ◌+◌, ◌^◌, ◌↔◌, ◌≤◌, [], ◌∷◌, ◌++◌, All, IfErr, IfOk, IsTrue, OnErr, OnOk, Ok, Err, length, true};
 ghost use Rattle.std.specs.Arc.{arc_value};
 ghost use Rattle.chan_model.specs.declared.fault.Fault.TheVariants as fault_spec;
 ghost use Rattle.machine_laws.specs.Agreeing.{AllAgree};
@@ -39,6 +39,7 @@ use std::marker::Model;
 use std::sync::Arc;
 use std::sync::ledger::Book;
 use subsystem::subsystem::Subsystem;
+use supply::{Given, Supply};
 
 /// What the lock of a machine guards: its subsystem, the seat of each entry of its history, and the glance cells of its
 /// subchannels.
@@ -187,10 +188,16 @@ impl<J: Naming, P: PathChoice + Drop> Guarded<J, P> {
         (count, entries)
     }
 
-    /// One step, entered from a seat, with its answer in a place: its reply, with the entry in the history and in the seat's log.
-    /// Where it is refused all is as before; it is refused as `Core::enter` says.
+    /// One step, entered from a seat, with room for its entries from a supply and its answer in a place: its reply, with the
+    /// entry in the history and in the seat's log. Where it is refused all is as before; it is refused as `Core::enter_with` says.
     #[inline(never)]
-    pub fn enter_to(&mut self, seat: &mut Seat<J>, event: &Event, answer: &mut Result<Reply, Fault>)
+    pub(crate) fn enter_to_with<S: Supply>(
+        &mut self,
+        supply: &mut S,
+        seat: &mut Seat<J>,
+        event: &Event,
+        answer: &mut Result<Reply, Fault>,
+    )
         ensures step { IfOk answer.new (λ reply. Step self.old.value.state event.now reply self.new.value.state) }
         ensures history { IfOk answer.new (λ reply. self.new.value.history ≡ self.old.value.history ++ entry event.now reply ∷ []) }
         ensures by { IfOk answer.new (λ reply. self.new.value.by ≡ self.old.value.by ++ seat.old.value.number ∷ []) }
@@ -206,12 +213,16 @@ impl<J: Naming, P: PathChoice + Drop> Guarded<J, P> {
         ensures seat_room { seat.old.room ≤ seat.new.room + 1 }
         // Where it is refused no room is lost.
         ensures kept { OnErr answer.new ((self.old.room ≤ self.new.room) × (seat.old.room ≤ seat.new.room)) }
+        ensures given { answer.new ≢ Err fault_spec.NoMemory → S.refused supply.new ≡ S.refused supply.old }
+        ensures memory { answer.new ≡ Err fault_spec.NoMemory →
+            (S.refused supply.new ≡ true) ⊎ (2 ^ 62 ≤ length self.old.value.history + 1) }
     {
         keep_entry(
             &mut self.subsystem,
             &mut self.by,
             &mut self.writers,
             &mut self.entries,
+            supply,
             seat,
             event,
             &mut self.answer,
@@ -219,10 +230,12 @@ impl<J: Naming, P: PathChoice + Drop> Guarded<J, P> {
         self.answer.answer_to(answer);
     }
 
-    /// One step, as `enter_to` has it, with its answer in a place that is made once: no more bytes move than its signals have.
+    /// One step, as `enter_to_with` has it, with its answer in a place that is made once: no more bytes move than its signals
+    /// have.
     #[inline(always)]
-    pub fn enter_place(
+    pub(crate) fn enter_place_with<S: Supply>(
         &mut self,
+        supply: &mut S,
         seat: &mut Seat<J>,
         event: &Event,
         place: &mut AnswerPlace,
@@ -245,12 +258,16 @@ impl<J: Naming, P: PathChoice + Drop> Guarded<J, P> {
         // It is told which of both stands in the place: a reply, or this refusal.
         ensures replied { OnOk result (answer_at place.new ≡ Ok (reply_at place.new)) }
         ensures refused { IfErr result (λ f. answer_at place.new ≡ Err f) }
+        ensures given { answer_at place.new ≢ Err fault_spec.NoMemory → S.refused supply.new ≡ S.refused supply.old }
+        ensures memory { answer_at place.new ≡ Err fault_spec.NoMemory →
+            (S.refused supply.new ≡ true) ⊎ (2 ^ 62 ≤ length self.old.value.history + 1) }
     {
         keep_entry(
             &mut self.subsystem,
             &mut self.by,
             &mut self.writers,
             &mut self.entries,
+            supply,
             seat,
             event,
             place,
@@ -258,7 +275,7 @@ impl<J: Naming, P: PathChoice + Drop> Guarded<J, P> {
         came(place)
     }
 
-    /// One step, as `enter_to` has it, whose reply nobody looks at.
+    /// One step, as `enter_to_with` has it in what memory there is, whose reply nobody looks at.
     pub(crate) fn try_enter(&mut self, seat: &mut Seat<J>, event: &Event) -> Result<bool, Fault>
         ensures { turn_spec.Tries P.picks self.old seat.old seat.old.value event.now result self.new.value seat.new.value }
     {
@@ -267,6 +284,7 @@ impl<J: Naming, P: PathChoice + Drop> Guarded<J, P> {
             &mut self.by,
             &mut self.writers,
             &mut self.entries,
+            &mut Given { refused: false },
             seat,
             event,
             &mut self.answer,

@@ -1,5 +1,7 @@
 //! The subsystem under its lock, and its seats.
 
+mod events;
+
 ghost use Rattle.std.specs.Prelude.{◌≡◌, ◌≢◌, ◌⊎◌, ◌+◌, ◌↔◌, ℕ, [], ◌∷◌, ◌++◌, length, vec_len, sum_by, All, Err, true, IsTrue, IfOk, IfErr, IfSome, IfNone, OnErr, OnOk, None, Some, Ok, ◌≤◌};
 ghost use Rattle.chan_model.specs.declared.fault.Fault.TheVariants as fault_spec;
 ghost use Rattle.machine_laws.specs.Agreeing.{AllAgree};
@@ -309,13 +311,10 @@ impl<J: Naming, P: PathChoice + Drop> Core<J, P> {
         // Where it is refused no room is lost.
         ensures kept { OnErr result ((self.old.room ≤ self.new.room) × (seat.old.room ≤ seat.new.room)) }
     {
-        let mut answer = Err(Fault::NoMemory);
-        self.enter_to(seat, &event, &mut answer);
-        answer
+        self.enter_with(&mut Given { refused: false }, seat, event)
     }
 
     /// One step, as `enter` has it, with its answer in a place.
-    #[inline(never)]
     pub fn enter_to(&mut self, seat: &mut Seat<J>, event: &Event, answer: &mut Result<Reply, Fault>)
         ensures step { IfOk answer.new (λ reply. Step self.old.value.state event.now reply self.new.value.state) }
         ensures history { IfOk answer.new (λ reply. self.new.value.history ≡ self.old.value.history ++ entry event.now reply ∷ []) }
@@ -334,7 +333,7 @@ impl<J: Naming, P: PathChoice + Drop> Core<J, P> {
         // Where it is refused no room is lost.
         ensures kept { OnErr answer.new ((self.old.room ≤ self.new.room) × (seat.old.room ≤ seat.new.room)) }
     {
-        self.guarded.enter_to(seat, event, answer);
+        self.enter_to_with(&mut Given { refused: false }, seat, event, answer);
     }
 
     /// One step, as `enter` has it, with its answer in a place that is made once: no more bytes move than its signals have.
@@ -365,7 +364,7 @@ impl<J: Naming, P: PathChoice + Drop> Core<J, P> {
         ensures replied { OnOk result (answer_at place.new ≡ Ok (reply_at place.new)) }
         ensures refused { IfErr result (λ f. answer_at place.new ≡ Err f) }
     {
-        self.guarded.enter_place(seat, event, place)
+        self.enter_place_with(&mut Given { refused: false }, seat, event, place)
     }
 }
 

@@ -1,6 +1,6 @@
 //! Memory for a machine and its seats from a supply, of which contracts see whether it refused some.
 
-ghost use Rattle.std.specs.Prelude.{◌≡◌, true, IfOk, OnOk, OnErr};
+ghost use Rattle.std.specs.Prelude.{◌≡◌, ◌+◌, true, IfOk, OnOk, OnErr};
 ghost use Rattle.std.specs.Arc.{arc_value};
 
 use crate::directory::Directory;
@@ -44,7 +44,12 @@ impl CoreSupply for Given {
 }
 
 impl CoreSupply for Refusing {
-    fn share(&mut self, alloc: Global, directory: Directory) -> Result<Arc<Directory>, AllocError> {
+    fn share(&mut self, alloc: Global, directory: Directory) -> Result<Arc<Directory>, AllocError>
+        ensures shared { IfOk result (λ arc. arc_value arc ≡ directory) }
+        ensures given { OnOk result (self.new.refused ≡ self.old.refused) }
+        ensures taken { OnErr result (self.new.refused ≡ true) }
+        ensures counts { OnOk result (self.old.left ≡ self.new.left + 1) }
+    {
         if self.left == 0 {
             self.refused = true;
             return Err(AllocError);
@@ -57,7 +62,12 @@ impl CoreSupply for Refusing {
         Ok(shared)
     }
 
-    fn share_again(&mut self, directory: &Arc<Directory>) -> Result<Arc<Directory>, AllocError> {
+    fn share_again(&mut self, directory: &Arc<Directory>) -> Result<Arc<Directory>, AllocError>
+        ensures same { IfOk result (λ arc. arc_value arc ≡ arc_value directory.now) }
+        ensures given { OnOk result (self.new.refused ≡ self.old.refused) }
+        ensures taken { OnErr result (self.new.refused ≡ true) }
+        ensures counts { OnOk result (self.old.left ≡ self.new.left + 1) }
+    {
         if self.left == 0 {
             self.refused = true;
             return Err(AllocError);

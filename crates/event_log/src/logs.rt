@@ -1,6 +1,6 @@
 //! A log that grows at its end.
 
-ghost use Rattle.std.specs.Prelude.{◌≡◌, ◌≤◌, ◌<◌, ◌+◌, ◌++◌, ◌∷◌, [], ℕ, List, OnOk, OnErr, IsTrue, length, vec_len, vec_capacity};
+ghost use Rattle.std.specs.Prelude.{◌≡◌, ◌≤◌, ◌<◌, ◌+◌, ◌++◌, ◌∷◌, [], ℕ, List, OnOk, OnErr, IsTrue, true, length, vec_len, vec_capacity};
 ghost use Rattle.chan_events.specs.declared.event.Event.TheVariants as event_spec;
 ghost use Rattle.chan_events.specs.declared.reply.Reply.TheVariants as reply_spec;
 ghost use Rattle.kept_events.specs.Entries.{entry_bytes, entry_in, entry_length};
@@ -23,6 +23,7 @@ use signal_places::sent::{SentDown, SentUp};
 use signal_places::signals::{DownPlace, UpPlace};
 use std::alloc::{AllocError, Global};
 use std::marker::Model;
+use supply::{Given, Supply, ensure_room};
 
 /// As many bytes as an entry may have: a chunk of its event and two of its reply.
 pub const ENTRY_BYTES: usize = 768;
@@ -68,6 +69,7 @@ impl Log {
     }
 
     /// Makes room for one entry. It is refused only where there was none and a growth was refused, and changes nothing then.
+    #[inline(always)]
     pub fn make_room(&mut self) -> Result<(), AllocError>
         ensures entries { self.new.entries ≡ self.old.entries }
         ensures kept { self.old.room ≤ self.new.room }
@@ -75,10 +77,25 @@ impl Log {
         ensures refused { OnErr result (self.new ≡ self.old) }
         ensures spent { OnErr result (self.old.room ≡ 0) }
     {
+        self.make_room_with(&mut Given { refused: false })
+    }
+
+    /// Makes room for one entry, which is asked of a supply where there is none. It is refused only where the supply refuses
+    /// it, and changes nothing then.
+    #[inline(always)]
+    pub fn make_room_with<S: Supply>(&mut self, supply: &mut S) -> Result<(), AllocError>
+        ensures entries { self.new.entries ≡ self.old.entries }
+        ensures kept { self.old.room ≤ self.new.room }
+        ensures made { OnOk result (1 ≤ self.new.room) }
+        ensures refused { OnErr result (self.new ≡ self.old) }
+        ensures spent { OnErr result (self.old.room ≡ 0) }
+        ensures given { OnOk result (S.refused supply.new ≡ S.refused supply.old) }
+        ensures memory { OnErr result (S.refused supply.new ≡ true) }
+    {
         if self.has_room() {
             return Ok(());
         }
-        self.grow()
+        self.grow(supply)
     }
 
     /// Whether there is room for one entry.
@@ -90,18 +107,20 @@ impl Log {
             && ENTRY_BYTES <= self.bytes.capacity() - self.bytes.len()
     }
 
-    /// `make_room`, where there may be none: apart, as it is rare.
+    /// `make_room_with`, where there may be none: apart, as it is rare.
     #[cold]
     #[inline(never)]
-    fn grow(&mut self) -> Result<(), AllocError>
+    fn grow<S: Supply>(&mut self, supply: &mut S) -> Result<(), AllocError>
         ensures entries { self.new.entries ≡ self.old.entries }
         ensures kept { self.old.room ≤ self.new.room }
         ensures made { OnOk result (1 ≤ self.new.room) }
         ensures refused { OnErr result (self.new ≡ self.old) }
         ensures spent { OnErr result (self.old.room ≡ 0) }
+        ensures given { OnOk result (S.refused supply.new ≡ S.refused supply.old) }
+        ensures memory { OnErr result (S.refused supply.new ≡ true) }
     {
-        self.entries.reserve(1)?;
-        self.bytes.reserve(ENTRY_BYTES)
+        ensure_room(supply, &mut self.entries, 1)?;
+        ensure_room(supply, &mut self.bytes, ENTRY_BYTES)
     }
 
     /// Adds an event with its reply, for which there is room.

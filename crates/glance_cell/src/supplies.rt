@@ -1,6 +1,6 @@
 //! Cells and their readers from a supply, of which contracts see whether it refused one.
 
-ghost use Rattle.std.specs.Prelude.{◌≡◌, Bool, true, IfOk, OnOk, OnErr};
+ghost use Rattle.std.specs.Prelude.{◌≡◌, ◌+◌, Bool, true, IfOk, OnOk, OnErr};
 
 use crate::cell::{Reader, Writer};
 use std::alloc::{AllocError, Global};
@@ -41,7 +41,12 @@ impl CellSupply for Given {
 }
 
 impl CellSupply for Refusing {
-    fn cell(&mut self, alloc: Global) -> Result<Writer, AllocError> {
+    fn cell(&mut self, alloc: Global) -> Result<Writer, AllocError>
+        ensures zero { IfOk result (λ w. (w.made ≡ 0) × (w.cleared ≡ 0)) }
+        ensures given { OnOk result (self.new.refused ≡ self.old.refused) }
+        ensures taken { OnErr result (self.new.refused ≡ true) }
+        ensures counts { OnOk result (self.old.left ≡ self.new.left + 1) }
+    {
         if self.left == 0 {
             self.refused = true;
             return Err(AllocError);
@@ -54,7 +59,13 @@ impl CellSupply for Refusing {
         result
     }
 
-    fn reader(&mut self, writer: &mut Writer) -> Result<Reader, AllocError> {
+    fn reader(&mut self, writer: &mut Writer) -> Result<Reader, AllocError>
+        ensures same { writer.new ≡ writer.old }
+        ensures seen { IfOk result (λ r. r ≡ writer.old) }
+        ensures given { OnOk result (self.new.refused ≡ self.old.refused) }
+        ensures taken { OnErr result (self.new.refused ≡ true) }
+        ensures counts { OnOk result (self.old.left ≡ self.new.left + 1) }
+    {
         if self.left == 0 {
             self.refused = true;
             return Err(AllocError);

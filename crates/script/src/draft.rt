@@ -292,8 +292,7 @@ fn opening<S: Supply>(alloc: Global, supply: &mut S, text: &[u8]) -> Result<Draf
     ensures given { OnOk result (S.refused supply.new ≡ S.refused supply.old) }
     ensures memory { OnErr result (S.refused supply.new ≡ true) }
 {
-    let mut lines = Lines::new(alloc);
-    lines.make_room(supply, text.len() / COMMON + 1)?;
+    let lines = Lines::with_room(alloc, supply, text.len() / COMMON + 1)?;
     Ok(Draft {
         config: Config::new(alloc),
         begun: false,

@@ -1,6 +1,6 @@
 //! The lines of a script, packed over one arena of their bytes.
 
-ghost use Rattle.std.specs.Prelude.{◌≡◌, ◌≤◌, ◌++◌, ◌∷◌, [], true, IfSome, MatchOption, Some, None, OnOk, OnErr, length, slice_get};
+ghost use Rattle.std.specs.Prelude.{◌≡◌, ◌≤◌, ◌++◌, ◌∷◌, [], true, IfOk, IfSome, MatchOption, Some, None, OnOk, OnErr, length, slice_get, vec_capacity};
 ghost use Rattle.script_rows.specs.Places.{action_at, action_in, action_length};
 
 use crate::Line;
@@ -43,24 +43,37 @@ fn add_bytes<S: Supply>(supply: &mut S, list: &mut Vec<u8>, bytes: &[u8]) -> Res
     }
 }
 
-impl Lines {
-    /// No lines.
-    pub fn new(alloc: Global) -> Self
-        ensures { result ≡ [] }
-    {
-        Lines {
-            kept: Vec::new(alloc),
-            bytes: Vec::new(alloc),
-        }
-    }
+/// Room for so many lines, of which there are none.
+fn places<S: Supply>(
+    alloc: Global,
+    supply: &mut S,
+    count: usize,
+) -> Result<Vec<KeptLine>, AllocError>
+    ensures none { IfOk result (λ kept. kept.items ≡ []) }
+    ensures room { IfOk result (λ kept. count ≤ vec_capacity kept) }
+    ensures given { OnOk result (S.refused supply.new ≡ S.refused supply.old) }
+    ensures memory { OnErr result (S.refused supply.new ≡ true) }
+{
+    let mut kept = Vec::new(alloc);
+    make_room(supply, &mut kept, count)?;
+    Ok(kept)
+}
 
-    /// Makes room for so many lines more; that of their bytes is not made.
-    pub fn make_room<S: Supply>(&mut self, supply: &mut S, count: usize) -> Result<(), AllocError>
-        ensures kept { self.new ≡ self.old }
+impl Lines {
+    /// No lines, with room for so many; that of their bytes is not made.
+    pub fn with_room<S: Supply>(
+        alloc: Global,
+        supply: &mut S,
+        count: usize,
+    ) -> Result<Self, AllocError>
+        ensures made { IfOk result (λ l. l ≡ []) }
         ensures given { OnOk result (S.refused supply.new ≡ S.refused supply.old) }
         ensures memory { OnErr result (S.refused supply.new ≡ true) }
     {
-        make_room(supply, &mut self.kept, count)
+        Ok(Lines {
+            kept: places(alloc, supply, count)?,
+            bytes: Vec::new(alloc),
+        })
     }
 
     /// How many lines there are.

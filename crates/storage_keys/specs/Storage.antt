@@ -44,10 +44,10 @@ bit_number false = 0
 abbrev pub byte_of : Key → ℕ
 byte_of key = 16 * key.access + 8 * bit_number key.fetch_protected + 4 * bit_number key.referenced + 2 * bit_number key.changed
 
--- the key that a byte shows; bit 7 is ignored
 pub access-lt : (byte : ℕ) → byte / 16 % 16 < 16
 access-lt byte = mod_below (byte / 16) 16 (lit< tt)
 
+-- the key that a byte shows; bit 7 is ignored
 abbrev pub key_of_byte : ℕ → Key
 key_of_byte byte = record {
   access = byte / 16 % 16;

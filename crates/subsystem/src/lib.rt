@@ -2,4 +2,5 @@
 #![tactic(auto)]
 
 pub mod seen;
+mod stepping;
 pub mod subsystem;

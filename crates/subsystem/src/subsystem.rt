@@ -1,6 +1,6 @@
 //! The channel subsystem: its machine, and the history that led there.
 
-ghost use Rattle.std.specs.Prelude.{◌≡◌, ◌≢◌, ◌⊎◌, ◌+◌, ◌<◌, ◌≤◌, All, Err, List, ◌++◌, ◌∷◌, [], IfOk, IfErr, IfSome, OnErr, OnOk, length, slice_get, true, vec_len, vec_capacity};
+ghost use Rattle.std.specs.Prelude.{◌≡◌, ◌≢◌, ◌⊎◌, ◌+◌, ◌^◌, ◌<◌, ◌≤◌, All, Err, List, ◌++◌, ◌∷◌, [], IfOk, IfErr, IfSome, OnErr, OnOk, length, slice_get, true, vec_len, vec_capacity};
 ghost use Rattle.chan_events.specs.declared.reply.Entry.{Entry};
 ghost use Rattle.chan_model.specs.declared.fault.Fault.TheVariants as fault_spec;
 ghost use Rattle.machine_model.specs.State as state_spec;
@@ -16,12 +16,12 @@ ghost use Rattle.subchannel_steps.specs.PathTurns as path_spec;
 ghost use Rattle.machine_laws.specs.Agreeing.{AllAgree};
 ghost use Rattle.subsystem.specs.Headline.{HasHeld};
 ghost use Rattle.subsystem.specs.Keeping.{BringsOrdered, IsOrdered, Rises, StaysSetUp, all_serials};
-ghost use Rattle.subsystem.specs.Parts.{past_of};
 ghost use Rattle.machine_laws.specs.Claims.{IsClearedOnce};
 ghost use Rattle.machine_laws.specs.Beginnings.{IsBegunOnce};
 ghost use Rattle.signal_places.specs.Answers.{answer_at};
 
 use crate::seen::headline;
+use crate::stepping::keep_step;
 use chan_events::event::Event;
 use chan_events::reply::Reply;
 use chan_model::fault::Fault;
@@ -30,14 +30,14 @@ use event_laws::codes;
 use event_log::history::History;
 use event_log::logs::Log;
 use finding::tables::Places;
-use machine_laws::{agreements, beginnings, numbers, serials, setups, steps};
+use machine_laws::{agreements, beginnings, numbers, serials};
 use machine_model::state::UnitTurn;
 use machine_steps::machine::Machine;
 use machine_steps::opening::opened_machine;
 use path_select::PathChoice;
 use program_laws::programs;
 use scsw_irb::serials::Serials;
-use signal_places::answers::{AnswerPlace, Outcome};
+use signal_places::answers::AnswerPlace;
 use std::alloc::Global;
 use std::marker::Model;
 use subchannel_steps::kept_turns::KeptTurn;
@@ -133,13 +133,36 @@ impl<P: PathChoice + Drop> Subsystem<P> {
         ensures rises { Rises (all_serials self.old.state) (all_serials self.new.state) }
         ensures ordered { IfOk result (λ reply. BringsOrdered event.now reply) }
     {
+        self.step_with(&mut Given { refused: false }, event)
+    }
+
+    /// One event, as `step` has it, with room for its entry from a supply. It is refused `NoMemory` only where the history has
+    /// no room and the supply refuses it, or the numbers are used up.
+    #[inline]
+    pub fn step_with<S: Supply>(&mut self, supply: &mut S, event: &Event) -> Result<Reply, Fault>
+        ensures step { IfOk result (λ reply. Step self.old.state event.now reply self.new.state) }
+        ensures history { IfOk result (λ reply. self.new.history ≡
+            self.old.history ++ record { event = event.now; reply = reply } ∷ []) }
+        ensures set_up { StaysSetUp self.old.state self.new.state }
+        ensures ruled { result ≢ Err fault_spec.NoMemory →
+            GoesByRule P.picks self.old.state event.now result self.new.state }
+        ensures room { self.old.room ≤ self.new.room + 1 }
+        ensures refused { OnErr result (IsAsBefore self.old self.new) }
+        ensures refusal { IfErr result (λ f. (f ≡ fault_spec.NoMemory) ⊎ IsRefused self.old.state event.now f) }
+        ensures spent { result ≡ Err fault_spec.NoMemory → LacksRoom self.old self.new }
+        // Whatever the outcome, no subchannel comes or goes, and no serial falls.
+        ensures rises { Rises (all_serials self.old.state) (all_serials self.new.state) }
+        ensures ordered { IfOk result (λ reply. BringsOrdered event.now reply) }
+        ensures given { result ≢ Err fault_spec.NoMemory → S.refused supply.new ≡ S.refused supply.old }
+        ensures memory { result ≡ Err fault_spec.NoMemory →
+            (S.refused supply.new ≡ true) ⊎ (2 ^ 62 ≤ length self.old.history + 1) }
+    {
         let mut answer = Err(Fault::NoMemory);
-        self.step_to(event, &mut answer);
+        self.step_to_with(supply, event, &mut answer);
         answer
     }
 
     /// One event, as `step` has it, with its answer written where the caller has it.
-    #[inline(never)]
     pub fn step_to(&mut self, event: &Event, answer: &mut Result<Reply, Fault>)
         ensures step { IfOk answer.new (λ reply. Step self.old.state event.now reply self.new.state) }
         ensures history { IfOk answer.new (λ reply. self.new.history ≡
@@ -154,9 +177,37 @@ impl<P: PathChoice + Drop> Subsystem<P> {
         ensures rises { Rises (all_serials self.old.state) (all_serials self.new.state) }
         ensures ordered { IfOk answer.new (λ reply. BringsOrdered event.now reply) }
     {
+        self.step_to_with(&mut Given { refused: false }, event, answer);
+    }
+
+    /// One event, as `step_with` has it, with its answer written where the caller has it.
+    #[inline(never)]
+    pub fn step_to_with<S: Supply>(
+        &mut self,
+        supply: &mut S,
+        event: &Event,
+        answer: &mut Result<Reply, Fault>,
+    )
+        ensures step { IfOk answer.new (λ reply. Step self.old.state event.now reply self.new.state) }
+        ensures history { IfOk answer.new (λ reply. self.new.history ≡
+            self.old.history ++ record { event = event.now; reply = reply } ∷ []) }
+        ensures set_up { StaysSetUp self.old.state self.new.state }
+        ensures ruled { answer.new ≢ Err fault_spec.NoMemory →
+            GoesByRule P.picks self.old.state event.now answer.new self.new.state }
+        ensures room { self.old.room ≤ self.new.room + 1 }
+        ensures refused { OnErr answer.new (IsAsBefore self.old self.new) }
+        ensures refusal { IfErr answer.new (λ f. (f ≡ fault_spec.NoMemory) ⊎ IsRefused self.old.state event.now f) }
+        ensures spent { answer.new ≡ Err fault_spec.NoMemory → LacksRoom self.old self.new }
+        ensures rises { Rises (all_serials self.old.state) (all_serials self.new.state) }
+        ensures ordered { IfOk answer.new (λ reply. BringsOrdered event.now reply) }
+        ensures given { answer.new ≢ Err fault_spec.NoMemory → S.refused supply.new ≡ S.refused supply.old }
+        ensures memory { answer.new ≡ Err fault_spec.NoMemory →
+            (S.refused supply.new ≡ true) ⊎ (2 ^ 62 ≤ length self.old.history + 1) }
+    {
         keep_step(
             &mut self.machine,
             &mut self.history,
+            supply,
             &self.places,
             &self.choice,
             event,
@@ -180,9 +231,36 @@ impl<P: PathChoice + Drop> Subsystem<P> {
         ensures rises { Rises (all_serials self.old.state) (all_serials self.new.state) }
         ensures ordered { IfOk (answer_at place.new) (λ reply. BringsOrdered event.now reply) }
     {
+        self.step_place_with(&mut Given { refused: false }, event, place);
+    }
+
+    /// One event, as `step_with` has it, with its answer in a place that is made once.
+    pub fn step_place_with<S: Supply>(
+        &mut self,
+        supply: &mut S,
+        event: &Event,
+        place: &mut AnswerPlace,
+    )
+        ensures step { IfOk (answer_at place.new) (λ reply. Step self.old.state event.now reply self.new.state) }
+        ensures history { IfOk (answer_at place.new) (λ reply. self.new.history ≡
+            self.old.history ++ record { event = event.now; reply = reply } ∷ []) }
+        ensures set_up { StaysSetUp self.old.state self.new.state }
+        ensures ruled { (answer_at place.new) ≢ Err fault_spec.NoMemory →
+            GoesByRule P.picks self.old.state event.now (answer_at place.new) self.new.state }
+        ensures room { self.old.room ≤ self.new.room + 1 }
+        ensures refused { OnErr (answer_at place.new) (IsAsBefore self.old self.new) }
+        ensures refusal { IfErr (answer_at place.new) (λ f. (f ≡ fault_spec.NoMemory) ⊎ IsRefused self.old.state event.now f) }
+        ensures spent { (answer_at place.new) ≡ Err fault_spec.NoMemory → LacksRoom self.old self.new }
+        ensures rises { Rises (all_serials self.old.state) (all_serials self.new.state) }
+        ensures ordered { IfOk (answer_at place.new) (λ reply. BringsOrdered event.now reply) }
+        ensures given { (answer_at place.new) ≢ Err fault_spec.NoMemory → S.refused supply.new ≡ S.refused supply.old }
+        ensures memory { (answer_at place.new) ≡ Err fault_spec.NoMemory →
+            (S.refused supply.new ≡ true) ⊎ (2 ^ 62 ≤ length self.old.history + 1) }
+    {
         keep_step(
             &mut self.machine,
             &mut self.history,
+            supply,
             &self.places,
             &self.choice,
             event,
@@ -229,8 +307,9 @@ impl<P: PathChoice + Drop> Subsystem<P> {
         self.run_with(alloc, &mut Given { refused: false }, events)
     }
 
-    /// The events in order, as `run` has them, with room for the answers from a supply. It ends before its first event
-    /// only where the supply refused that room, and then nothing is changed.
+    /// The events in order, as `run` has them, with room for the answers and for each entry from a supply. It ends before its
+    /// first event only where the supply refused that room, and then nothing is changed; later only where the supply refused
+    /// room for an entry, or the numbers are used up.
     pub fn run_with<S: Supply>(
         &mut self,
         alloc: Global,
@@ -243,6 +322,7 @@ impl<P: PathChoice + Drop> Subsystem<P> {
         ensures room { self.old.room ≤ self.new.room + length events.now }
         ensures set_up { StaysSetUp self.old.state self.new.state }
         ensures given { OnOk result (S.refused supply.new ≡ S.refused supply.old) }
+        ensures memory { OnErr result ((S.refused supply.new ≡ true) ⊎ (2 ^ 62 ≤ length self.new.history + 1)) }
         // What `run` says of the history and the state.
         ensures replays { HasRun self.new.history self.new.state }
         ensures cleared_once { IsClearedOnce self.new.state.sets self.new.history }
@@ -257,7 +337,7 @@ impl<P: PathChoice + Drop> Subsystem<P> {
         }
         self.recalls();
         for event in events {
-            let answer = self.step(event);
+            let answer = self.step_with(supply, event);
             self.recalls();
             if ends(&answer) {
                 return Err(Fault::NoMemory);
@@ -369,52 +449,6 @@ impl<P: PathChoice + Drop> Subsystem<P> {
         ensures bound { length result.now ≤ 256 }
     {
         self.machine.given(unit)
-    }
-}
-
-/// One event at a machine, and its entry in the history that led there.
-#[inline(never)]
-fn keep_step<P: PathChoice + Drop>(
-    machine: &mut Machine,
-    history: &mut Log,
-    places: &Places,
-    choice: &P,
-    event: &Event,
-    place: &mut AnswerPlace,
-)
-    requires run { HasRun history.old.entries machine.old }
-    requires fits { Fits places.now machine.old.subs }
-    ensures run { HasRun history.new.entries machine.new }
-    ensures fits { Fits places.now machine.new.subs }
-    ensures step { IfOk (answer_at place.new) (λ reply. Step machine.old event.now reply machine.new) }
-    ensures history { IfOk (answer_at place.new) (λ reply. history.new.entries ≡
-        history.old.entries ++ record { event = event.now; reply = reply } ∷ []) }
-    ensures set_up { StaysSetUp machine.old machine.new }
-    ensures ruled { answer_at place.new ≢ Err fault_spec.NoMemory →
-        GoesByRule P.picks machine.old event.now (answer_at place.new) machine.new }
-    ensures room { history.old.room ≤ history.new.room + 1 }
-    ensures refused { OnErr (answer_at place.new) (IsAsBefore (past_of machine.old history.old) (past_of machine.new history.new)) }
-    ensures refusal { IfErr (answer_at place.new) (λ f. (f ≡ fault_spec.NoMemory) ⊎ IsRefused machine.old event.now f) }
-    ensures spent { answer_at place.new ≡ Err fault_spec.NoMemory →
-        LacksRoom (past_of machine.old history.old) (past_of machine.new history.new) }
-    ensures rises { Rises (all_serials machine.old) (all_serials machine.new) }
-    ensures ordered { IfOk (answer_at place.new) (λ reply. BringsOrdered event.now reply) }
-{
-    numbers();
-    setups();
-    steps();
-    codes();
-    if history.len() >= (1 << 62) - 1 {
-        place.outcome = Outcome::Refused(Fault::NoMemory);
-        return;
-    }
-    if history.make_room().is_err() {
-        place.outcome = Outcome::Refused(Fault::NoMemory);
-        return;
-    }
-    machine.perform(places, choice, event, place);
-    if place.is_reply() {
-        history.append_answer(event, place);
     }
 }
 

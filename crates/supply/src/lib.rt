@@ -18,7 +18,7 @@ pub trait Supply {
     ghost refused: { Self → Bool };
 
     /// Room for so many items more than the list has. They are at most 16,777,216 more than there is room for. Where it is
-    /// refused the list has the room that it had, or more.
+    /// refused the list has the room that it had.
     fn reserve<T>(&mut self, list: &mut Vec<T>, more: usize) -> Result<(), AllocError>
     where
         Self: Sized,
@@ -26,6 +26,7 @@ pub trait Supply {
         ensures items { list.new.items ≡ list.old.items }
         ensures len { vec_len list.new ≡ vec_len list.old }
         ensures kept { vec_capacity list.old ≤ vec_capacity list.new }
+        ensures stays { OnErr result (vec_capacity list.new ≡ vec_capacity list.old) }
         ensures room { OnOk result (vec_len list.new + more ≤ vec_capacity list.new) }
         ensures given { OnOk result (refused self.new ≡ refused self.old) }
         ensures taken { OnErr result (refused self.new ≡ true) };
@@ -63,7 +64,16 @@ pub struct Refusing {
 impl Supply for Refusing {
     ghost refused = { λ g. g.refused };
 
-    fn reserve<T>(&mut self, list: &mut Vec<T>, more: usize) -> Result<(), AllocError> {
+    fn reserve<T>(&mut self, list: &mut Vec<T>, more: usize) -> Result<(), AllocError>
+        ensures items { list.new.items ≡ list.old.items }
+        ensures len { vec_len list.new ≡ vec_len list.old }
+        ensures kept { vec_capacity list.old ≤ vec_capacity list.new }
+        ensures stays { OnErr result (vec_capacity list.new ≡ vec_capacity list.old) }
+        ensures room { OnOk result (vec_len list.new + more ≤ vec_capacity list.new) }
+        ensures given { OnOk result (self.new.refused ≡ self.old.refused) }
+        ensures taken { OnErr result (self.new.refused ≡ true) }
+        ensures counts { OnOk result (self.old.left ≡ self.new.left + 1) }
+    {
         if self.left == 0 || list.reserve(more).is_err() {
             self.refused = true;
             return Err(AllocError);
@@ -93,6 +103,30 @@ pub fn make_room<S: Supply, T: Drop>(
         supply.reserve(list, room)?;
     }
     Ok(())
+}
+
+/// Room for so many items more than the list has: the supply is asked only where there is less. Where it refuses, the list
+/// has the room that it had, which was too little.
+#[inline(always)]
+pub fn ensure_room<S: Supply, T: Drop>(
+    supply: &mut S,
+    list: &mut Vec<T>,
+    more: usize,
+) -> Result<(), AllocError>
+    requires modest { IsModest more }
+    ensures items { list.new.items ≡ list.old.items }
+    ensures len { vec_len list.new ≡ vec_len list.old }
+    ensures kept { vec_capacity list.old ≤ vec_capacity list.new }
+    ensures stays { OnErr result (vec_capacity list.new ≡ vec_capacity list.old) }
+    ensures room { OnOk result (vec_len list.new + more ≤ vec_capacity list.new) }
+    ensures full { OnErr result (vec_capacity list.old < vec_len list.old + more) }
+    ensures given { OnOk result (S.refused supply.new ≡ S.refused supply.old) }
+    ensures taken { OnErr result (S.refused supply.new ≡ true) }
+{
+    if more <= list.capacity() - list.len() {
+        return Ok(());
+    }
+    supply.reserve(list, more)
 }
 
 /// One item more. Where the growth is refused the items stay and the new one is lost.

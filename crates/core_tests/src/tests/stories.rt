@@ -101,7 +101,7 @@ fn enters<J: Naming>(
         Story::Looks => begins_looks(core, first, hands),
         Story::Roams => begins_work(alloc, core, first, hands),
         Story::Crowds => begins_crowd(alloc, core, first, hands),
-        Story::Grows => grows(core, hands),
+        Story::Grows => grows(core, first, hands),
         Story::Idles => begins_idle(core, hands),
     }
 }
@@ -196,7 +196,8 @@ fn are_due(story: Story, answered: u64, entries: Option<u64>) -> bool {
         Story::Sees => entries == Some(5),
         Story::Answers => entries == Some(1),
         Story::LeavesOut => entries.is_none(),
-        Story::Fills | Story::Grows => entries == Some(0),
+        Story::Fills => entries == Some(0),
+        Story::Grows => entries == Some(2),
         Story::Meets | Story::Roams => entries.is_some(),
         Story::Looks => has_made(entries),
         Story::Crowds => are_enough(answered, entries),

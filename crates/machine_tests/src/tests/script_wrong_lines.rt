@@ -3,7 +3,7 @@
 use crate::tests::script_lines::text_of;
 use script::{Script, ScriptBad};
 use std::alloc::{AllocError, Global};
-use supply::{Given, Refusing};
+use supply::{Given, Refusing, Supply};
 
 const WRONG: [(&[u8], u64, u8); 7] = [
     (b"", 1, 6),
@@ -115,6 +115,27 @@ fn a_line_is_at_most_1024_bytes(rt: HostRuntime) -> Result<(), AllocError> {
     Ok(())
 }
 
+/// What the allocator has. It adds up for how many items more than there was room for it was asked.
+#[derive(Drop)]
+struct Adding {
+    asked: usize,
+    refused: bool,
+}
+
+impl Supply for Adding {
+    ghost refused = { λ a. a.refused };
+
+    fn reserve<T>(&mut self, list: &mut Vec<T>, more: usize) -> Result<(), AllocError> {
+        let room = list.capacity() - list.len();
+        self.asked = self.asked.saturating_add(more.saturating_sub(room));
+        let result = list.reserve(more);
+        if result.is_err() {
+            self.refused = true;
+        }
+        result
+    }
+}
+
 /// Every growth that reading meets: of lines, words, numbers, paths, units, subchannels and actions.
 const GROWING: [&[u8]; 9] = [
     b"storage 10",
@@ -181,29 +202,53 @@ fn each_growth_is_refused_in_turn(rt: HostRuntime) -> Result<(), AllocError> {
     Ok(())
 }
 
-/// A text of 70,002 lines, of which the last asks for something.
-fn many_lines(alloc: Global) -> Result<Vec<u8>, AllocError> {
+/// A text that sets up storage, and then asks for something in so many lines, each of which has this text.
+fn many_lines(alloc: Global, count: usize, line: &[u8]) -> Result<Vec<u8>, AllocError> {
     let mut text = Vec::new(alloc);
     text.extend_from_slice(b"storage 10\n")?;
-    for _ in 0..70_000 {
-        text.push(b'\n')?;
+    for _ in 0..count {
+        text.extend_from_slice(line)?;
     }
-    text.extend_from_slice(b"dev 0\n")?;
     Ok(text)
 }
 
-/// How many actions a text asks for, and the number of the line of the first.
-fn first_line(alloc: Global, text: &[u8]) -> Option<(usize, u64)> {
+/// How many actions a text asks for, and the number of the line of the last.
+fn last_line(alloc: Global, text: &[u8]) -> Option<(usize, u64)> {
     let script = Script::read(alloc, false, text).ok()?;
-    let line = script.lines().get(0)?;
-    Some((script.lines().len(), line.number))
+    let count = script.lines().len();
+    let line = script.lines().get(count.checked_sub(1)?)?;
+    Some((count, line.number))
 }
 
 #[test]
 fn a_script_of_many_lines_is_read(rt: HostRuntime) -> Result<(), AllocError> {
-    let text = many_lines(rt.alloc())?;
-    let found = first_line(rt.alloc(), text.as_slice());
+    let text = many_lines(rt.alloc(), 70_000, b"\ndev 0\n")?;
+    let found = last_line(rt.alloc(), text.as_slice());
     drop(text);
-    assert!(rt; found == Some((1, 70_002)));
+    assert!(rt; found == Some((70_000, 140_001)));
+    Ok(())
+}
+
+/// How many items more than there is room for are asked of what the allocator has as a text is read; None where it is not read.
+fn asked_for(alloc: Global, text: &[u8]) -> Option<usize> {
+    let mut supply = Adding {
+        asked: 0,
+        refused: false,
+    };
+    if Script::read_with(alloc, &mut supply, false, text).is_ok() {
+        Some(supply.asked)
+    } else {
+        None
+    }
+}
+
+/// Room is asked for once: a line to eight bytes and one; and 16 words for each line in turn.
+#[test]
+fn a_script_asks_for_a_line_to_eight_bytes(rt: HostRuntime) -> Result<(), AllocError> {
+    let text = many_lines(rt.alloc(), 1_000, b"dev 000\n")?;
+    let asked = asked_for(rt.alloc(), text.as_slice()).unwrap_or(0);
+    let lines = text.len() / 8 + 1;
+    drop(text);
+    assert!(rt; lines <= asked && asked <= lines + 16, "{asked}");
     Ok(())
 }

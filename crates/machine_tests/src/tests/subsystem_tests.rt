@@ -366,9 +366,47 @@ fn is_refused(alloc: Global, subsystem: &mut Subsystem<Rotating>) -> bool {
         && is_to_take(subsystem)
 }
 
-/// Whether a run to which one request is granted is performed.
+/// Whether a run to which so many requests are granted is performed, where that is all of them, or else ends where one is
+/// refused, with fewer entries; None where it does neither.
+fn is_performed(alloc: Global, left: u64) -> Option<bool> {
+    let mut subsystem = begun(alloc, 6)?;
+    let mut supply = granting(left);
+    match run_rest(alloc, &mut subsystem, &mut supply) {
+        Ok(11) => if supply.refused || !has_entries(&subsystem, 17) {
+            None
+        } else {
+            Some(true)
+        },
+        Err(Fault::NoMemory) => if supply.refused && subsystem.history().len() < 17 {
+            Some(false)
+        } else {
+            None
+        },
+        _ => None,
+    }
+}
+
+/// How many requests a run makes, where it is refused each in turn and then performed.
+fn requests_of_run(alloc: Global) -> Option<u64> {
+    for left in 0..100 {
+        if is_performed(alloc, left)? {
+            return Some(left);
+        }
+    }
+    None
+}
+
+#[test]
+fn each_request_of_a_run_is_refused_in_turn(rt: HostRuntime) {
+    let Some(requests) = requests_of_run(rt.alloc()) else {
+        return assert!(rt; false, "a run is performed, or refused a request");
+    };
+    assert!(rt; requests > 1, "{requests}");
+}
+
+/// Whether a run to which its requests are granted is performed.
 fn is_granted(alloc: Global, subsystem: &mut Subsystem<Rotating>) -> bool {
-    let mut supply = granting(1);
+    let mut supply = granting(100);
     let outcome = run_rest(alloc, subsystem, &mut supply);
     !supply.refused && matches!(outcome, Ok(11)) && has_entries(subsystem, 17)
 }

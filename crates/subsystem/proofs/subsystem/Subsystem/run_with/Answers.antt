@@ -1,20 +1,20 @@
-use Rattle.std.proofs.Common.{length, arith, length-append, ap, ◌∷◌, []}
+use Rattle.std.proofs.Common.{◌∙◌, length, arith, length-append, ap, ◌∷◌, []}
 use Rattle.subsystem.proofs.Answering.{has-more}
 use Rattle.subsystem.proofs.subsystem.Subsystem.run_with.Goals as goal
 
 pub loop-event-preserved : goal.loop-event-preserved
 loop-event-preserved g c = record {
   answered =
-      has-more g.P.PathChoice.picks c.args.self.now c.loop-event.self c.step-answer.new.self c.args.events.now c.loop-event.event-index c.event-item.result c.event-item.result c.loop-event.answers.items
-      c.add.new.answers.items c.step-answer.result c.loop-event-test.true c.event-item.is c.loop-event.invariant.answered c.step-answer.ensures.step c.step-answer.ensures.history c.step-answer.ensures.ruled
-      c.step-answer.ensures.refused c.step-answer.ensures.refusal c.if-ends.ensures.other c.add.ensures.items;
-  held = omega (arith, c.loop-event.invariant.held, c.step-answer.ensures.room);
-  room = omega (arith, c.loop-event.invariant.room, c.add.ensures.capacity, length-append c.loop-event.answers.items (c.step-answer.result ∷ []), ap length c.add.ensures.items);
-  set_up = λ setup k. c.step-answer.ensures.set_up setup (c.loop-event.invariant.set_up setup k);
+      has-more g.P.PathChoice.picks c.args.self.now c.loop-event.self c.step_with-answer.new.self c.args.events.now c.loop-event.event-index c.event-item.result c.event-item.result c.loop-event.answers.items
+      c.add.new.answers.items c.step_with-answer.result c.loop-event-test.true c.event-item.is c.loop-event.invariant.answered c.step_with-answer.ensures.step c.step_with-answer.ensures.history c.step_with-answer.ensures.ruled
+      c.step_with-answer.ensures.refused c.step_with-answer.ensures.refusal c.if-ends.ensures.other c.add.ensures.items;
+  held = omega (arith, c.loop-event.invariant.held, c.step_with-answer.ensures.room);
+  room = omega (arith, c.loop-event.invariant.room, c.add.ensures.capacity, length-append c.loop-event.answers.items (c.step_with-answer.result ∷ []), ap length c.add.ensures.items);
+  set_up = λ setup k. c.step_with-answer.ensures.set_up setup (c.loop-event.invariant.set_up setup k);
   replays = c.recalls-in-loop-event.ensures.replays;
   cleared_once = c.recalls-in-loop-event.ensures.cleared_once;
   begun_once = c.recalls-in-loop-event.ensures.begun_once;
   agree = c.recalls-in-loop-event.ensures.agree;
   headline = c.recalls-in-loop-event.ensures.headline;
-  given = c.loop-event.invariant.given;
+  given = c.step_with-answer.ensures.given c.if-ends.ensures.other ∙ c.loop-event.invariant.given;
 }

@@ -8,7 +8,7 @@ use Rattle.signal_places.specs.Answers.{answer_at, reply_at}
 use Rattle.subsystem.proofs.Never.{never}
 use Rattle.subsystem.proofs.Pasts.{past-more, past-postable, performed-set_up}
 use Rattle.subsystem.proofs.Rising.{performed-brings, performed-rises}
-use Rattle.subsystem.proofs.subsystem.keep_step.Goals as goal
+use Rattle.subsystem.proofs.stepping.keep_step.Goals as goal
 
 pub perform-requires-clause-postable : goal.perform-requires-clause-postable
 perform-requires-clause-postable g c = past-postable c.args.history.now.entries c.args.machine.now c.requires.run
@@ -22,7 +22,7 @@ returns-then-is_reply-clause-run g c =
     subst (λ (r : Result Reply Fault). Performs machine c.args.event.now r next) c.if-is_reply.ensures.reply c.perform.ensures.performs in
     past-more c.setups.ensures.set_up c.args.history.now.entries c.append_answer.new.self.entries machine next c.args.event.now reply c.requires.run stepped
     (c.append_answer.ensures.entries
-    ∙ ap (λ (h : List Entry). h ++ record { event = c.args.event.now; reply = reply } ∷ []) c.make_room.ensures.entries)
+    ∙ ap (λ (h : List Entry). h ++ record { event = c.args.event.now; reply = reply } ∷ []) c.make_room_with.ensures.entries)
 
 pub returns-then-is_reply-clause-fits : goal.returns-then-is_reply-clause-fits
 returns-then-is_reply-clause-fits g c =
@@ -36,6 +36,11 @@ returns-then-is_reply-clause-fits g c =
 -- the machine refuses nothing for want of memory
 pub returns-else-is_reply-clause-spent : goal.returns-else-is_reply-clause-spent
 returns-else-is_reply-clause-spent g c = λ e.
+    absurd (never c.args.machine.now c.args.event.now
+    (subst (λ (r : Result Reply Fault). Performs c.args.machine.now c.args.event.now r c.perform.new.self) e c.perform.ensures.performs).0)
+
+pub returns-else-is_reply-clause-memory : goal.returns-else-is_reply-clause-memory
+returns-else-is_reply-clause-memory g c = λ e.
     absurd (never c.args.machine.now c.args.event.now
     (subst (λ (r : Result Reply Fault). Performs c.args.machine.now c.args.event.now r c.perform.new.self) e c.perform.ensures.performs).0)
 
