@@ -3,6 +3,8 @@ use Rattle.std.specs.Prelude.{ℕ, Bool, true, false, List, codes, Option, Some,
 use Rattle.serving.specs.Serving.{status_of}
 use Rattle.serving.specs.declared.Ending.{Ending}
 use Rattle.serving.specs.declared.Ending.TheVariants as ending
+use Rattle.std.specs.declared.io.ErrorKind.{ErrorKind}
+use Rattle.std.specs.declared.io.ErrorKind.TheVariants.{InvalidData}
 use Rattle.chsim.specs.declared.outcome.Outcome.{Outcome}
 use Rattle.chsim.specs.declared.outcome.Outcome.TheVariants.{Ended, NoCommand, NoMemory, NotUtf8}
 
@@ -12,6 +14,11 @@ exit_status (Ended e) = status_of e
 exit_status (NoCommand whole) = 2
 exit_status NoMemory = 1
 exit_status NotUtf8 = 1
+
+-- how the program ends for want of its words, by what kept them from it
+abbrev pub without_words : ErrorKind → Outcome
+without_words InvalidData = NotUtf8
+without_words other = NoMemory
 
 -- nothing where all that was due was written
 abbrev pub unwritten : Bool → Option (List ℕ)

@@ -7,10 +7,11 @@ use Rattle.command_words.specs.declared.Refused.TheVariants as refused
 use Rattle.command_words.specs.declared.Wanted.{Wanted}
 use Rattle.command_words.specs.declared.Wanted.TheVariants.{Run, Race, Check}
 use Rattle.command_words.specs.Plain.{plain}
-use Rattle.serving.specs.Serving.{Serves, ServesRace, Checks}
+use Rattle.command_words.specs.Texts.{Telling, IsTold}
+use Rattle.serving.specs.Serving.{Serves, ServesRace, Checks, IsForMemory}
 use Rattle.serving.specs.declared.Ending.{Ending}
 use Rattle.chsim.specs.declared.outcome.Outcome.{Outcome}
-use Rattle.chsim.specs.declared.outcome.Outcome.TheVariants.{Ended, NoCommand, NoMemory}
+use Rattle.chsim.specs.declared.outcome.Outcome.TheVariants.{Ended, NoCommand, NoMemory, NotUtf8}
 
 -- a command ends in one way
 abbrev pub Does : Wanted → Option (List ℕ) → Seen → Seen → Ending → Type 0
@@ -25,11 +26,18 @@ ShowsRefusal (refused.Text text) held now (NoCommand whole) = Puts held (string_
 ShowsRefusal refused.NoMemory held now NoMemory = now ≡ held
 ShowsRefusal refused held now other = ⊥
 
-abbrev pub Commands : Option Wanted → Option (List ℕ) → Seen → Seen → Outcome → Type 0
-Commands None input held now outcome = (refused : Refused) × ShowsRefusal refused held now outcome
-Commands (Some wanted) input held now (Ended ending) = Does wanted input held now ending
-Commands (Some wanted) input held now other = ⊥
+abbrev pub Commands : Telling → List (List ℕ) → Option Wanted → Option (List ℕ) → Seen → Seen → Outcome → Type 0
+Commands tells words None input held now outcome = (refused : Refused) × IsTold tells words refused × ShowsRefusal refused held now outcome
+Commands tells words (Some wanted) input held now (Ended ending) = Does wanted input held now ending
+Commands tells words (Some wanted) input held now other = ⊥
 
--- two words, the program's own name and a command's
-abbrev pub IsServed : List (List ℕ) → Option (List ℕ) → Seen → Seen → Outcome → Type 0
-IsServed words input held now outcome = Commands (plain words) input held now outcome
+-- two words, the program's own name and a command's; of other words their text is shown, which is one of those that may be told
+abbrev pub IsServed : Telling → List (List ℕ) → Option (List ℕ) → Seen → Seen → Outcome → Type 0
+IsServed tells words input held now outcome = Commands tells words (plain words) input held now outcome
+
+-- it ended for want of memory
+abbrev pub LacksMemory : Outcome → Type 0
+LacksMemory (Ended ending) = IsForMemory ending
+LacksMemory (NoCommand whole) = ⊥
+LacksMemory NoMemory = Unit {0}
+LacksMemory NotUtf8 = ⊥

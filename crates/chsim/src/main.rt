@@ -1,17 +1,21 @@
 //! `chsim`: simulates a channel subsystem by a script on standard input.
 #![tactic(auto)]
 
-ghost use Rattle.std.specs.Prelude.{◌≡◌, map, is_none, IsTrue};
+ghost use Rattle.std.specs.IoError.{error_kind};
+ghost use Rattle.std.specs.Prelude.{◌≡◌, ◌⊎◌, map, is_none, IsTrue, None, true};
+ghost use Rattle.std.specs.Process as process_spec;
 ghost use Rattle.command_words.specs.Plain.{plain};
-ghost use Rattle.chsim.specs.Program.{IsServed, ShowsRefusal};
+ghost use Rattle.chsim.specs.Outcomes as outcome_spec;
+ghost use Rattle.chsim.specs.Program.{IsServed, LacksMemory, ShowsRefusal};
 
 pub mod outcome;
 #[cfg(test)]
 mod tests;
 
 use crate::outcome::Outcome;
-use command_words::{Refused, Wanted, command_of};
-use serving::{check_script, race_script, serve_script};
+use command_words::{Refused, TextSupply, Wanted, command_of};
+use core_parts::supplies::CoreSupply;
+use serving::{check_script_with, race_script_with, serve_script_with};
 use std::alloc::Global;
 use std::io::ErrorKind;
 use std::process::ExitCode;
@@ -19,23 +23,28 @@ use std::sync::Wait;
 use std::thread::Threads;
 use std::{env, io};
 use streams::{Heard, Sink, Source, Watched};
+use supply::Given;
 
 /// Serves the program's words, its own name being the first of them, and answers how it ended. Words that name no command
-/// write a text, which is help where they ask for it, before anything is read; none where there is no memory for it.
-pub fn serve<'a, T: Threads + Wait + Sync, R: Source, S: Sink>(
+/// write the text about them, which is help where they ask for it, before anything is read; nothing where there is no memory
+/// for it. It ends for want of memory only where the supply refused some.
+pub fn serve<'a, T: Threads + Wait + Sync, M: CoreSupply + TextSupply, R: Source, S: Sink>(
     rt: &T,
     alloc: Global,
+    supply: &mut M,
     words: &'a [&'a str],
     reader: &mut R,
     sink: &mut S,
 ) -> Outcome
-    ensures served { IsServed (map (λ w. w.now) words.now) (R.left reader.old) (S.seen sink.old) (S.seen sink.new) result }
+    ensures served { IsServed M.tells (map (λ w. w.now) words.now) (R.left reader.old) (S.seen sink.old) (S.seen sink.new) result }
     ensures unread { IsTrue (is_none (plain (map (λ w. w.now) words.now))) → R.left reader.new ≡ R.left reader.old }
+    ensures memory { LacksMemory result → M.refused supply.new ≡ true }
+    ensures status { plain (map (λ w. w.now) words.now) ≡ None → (outcome_spec.exit_status result ≡ 2) ⊎ (M.refused supply.new ≡ true) }
 {
-    match command_of(alloc, words) {
-        Ok(Wanted::Run) => Outcome::Ended(serve_script(alloc, reader, sink)),
-        Ok(Wanted::Race) => Outcome::Ended(race_script(rt, alloc, reader, sink)),
-        Ok(Wanted::Check) => Outcome::Ended(check_script(alloc, reader, sink)),
+    match command_of(alloc, supply, words) {
+        Ok(Wanted::Run) => Outcome::Ended(serve_script_with(alloc, supply, reader, sink)),
+        Ok(Wanted::Race) => Outcome::Ended(race_script_with(rt, alloc, supply, reader, sink)),
+        Ok(Wanted::Check) => Outcome::Ended(check_script_with(alloc, supply, reader, sink)),
         Err(refused) => show(refused, sink),
     }
 }
@@ -63,15 +72,22 @@ fn words_of(rt: &HostRuntime) -> Result<Vec<String>, Outcome> {
 }
 
 /// How the program ends for want of its words.
-fn without_words(error: io::Error) -> Outcome {
+pub fn without_words(error: io::Error) -> Outcome
+    ensures kind { result ≡ outcome_spec.without_words (error_kind error) }
+{
     match error.kind() {
         ErrorKind::InvalidData => Outcome::NotUtf8,
         _ => Outcome::NoMemory,
     }
 }
 
-/// Serves the program's words over standard input and standard output, with threads for a race.
-fn run<T: Threads + Wait + Sync>(threads: &T, rt: &HostRuntime) -> Result<Outcome, Outcome> {
+/// Serves the program's words over standard input and standard output, with threads for a race and in what memory a supply
+/// has.
+fn run<T: Threads + Wait + Sync, M: CoreSupply + TextSupply>(
+    threads: &T,
+    rt: &HostRuntime,
+    supply: &mut M,
+) -> Result<Outcome, Outcome> {
     let owned = words_of(rt)?;
     let mut words = Vec::new(rt.alloc());
     for word in owned.iter() {
@@ -82,18 +98,32 @@ fn run<T: Threads + Wait + Sync>(threads: &T, rt: &HostRuntime) -> Result<Outcom
     Ok(serve(
         threads,
         rt.alloc(),
+        supply,
         words.as_slice(),
         &mut reader,
         &mut sink,
     ))
 }
 
+/// The line on standard error, where there is one. It has nowhere else to write, and where that fails too nothing is told.
+fn complain<E: Eprint>(rt: &E, outcome: Outcome) {
+    if let Some(line) = outcome.complaint() {
+        let _ = rt.eprintln(line);
+    }
+}
+
+/// What the process answers.
+pub fn code_of(outcome: Outcome) -> ExitCode
+    ensures { process_spec.exit_status result ≡ outcome_spec.exit_status outcome }
+{
+    ExitCode::from(outcome.status())
+}
+
 fn main(rt: HostRuntime) -> ExitCode {
-    let outcome = match run(&rt, &rt) {
+    let mut supply = Given { refused: false };
+    let outcome = match run(&rt, &rt, &mut supply) {
         Ok(outcome) | Err(outcome) => outcome,
     };
-    if let Some(line) = outcome.complaint() {
-        let _ = eprintln!(rt; "{line}");
-    }
-    ExitCode::from(outcome.status())
+    complain(&rt, outcome);
+    code_of(outcome)
 }

@@ -10,11 +10,11 @@ use crate::outcome::Outcome;
 use crate::serve;
 use crate::tests::memory::{Short, Slow};
 use crate::tests::scenes::Scene;
-use serving::{Ending, serve_script_with};
+use serving::Ending;
 use std::sync::Wait;
 use std::thread::Threads;
 use streams::{Heard, Watched};
-use supply::Refusing;
+use supply::{Given, Refusing};
 
 /// The output and the exit status of a command over a text.
 pub fn served<R: Threads + Wait + Sync + AllocGlobal>(
@@ -24,7 +24,15 @@ pub fn served<R: Threads + Wait + Sync + AllocGlobal>(
 ) -> (Vec<u8>, u8) {
     let mut reader = Heard::new(text);
     let mut sink = Watched::new(Vec::new(rt.alloc()));
-    let outcome = serve(rt, rt.alloc(), &["chsim", word], &mut reader, &mut sink);
+    let mut supply = Given { refused: false };
+    let outcome = serve(
+        rt,
+        rt.alloc(),
+        &mut supply,
+        &["chsim", word],
+        &mut reader,
+        &mut sink,
+    );
     (sink.writer, outcome.status())
 }
 
@@ -83,7 +91,15 @@ fn a_text_that_is_not_read_is_not_served(rt: HostRuntime) {
             fails_at,
         });
         let mut sink = Watched::new(Vec::new(rt.alloc()));
-        let outcome = serve(&rt, rt.alloc(), &["chsim", "run"], &mut reader, &mut sink);
+        let mut supply = Given { refused: false };
+        let outcome = serve(
+            &rt,
+            rt.alloc(),
+            &mut supply,
+            &["chsim", "run"],
+            &mut reader,
+            &mut sink,
+        );
         let out = sink.writer;
         if fails_at == 0 || fails_at > reader.reader.calls {
             assert!(rt; out.as_slice() == write.printed() && ends(outcome, 0, None));
@@ -106,7 +122,15 @@ fn nothing_is_performed_after_a_write_fails(rt: HostRuntime) {
             calls: 0,
             fails_at,
         });
-        let outcome = serve(&rt, rt.alloc(), &["chsim", "run"], &mut reader, &mut sink);
+        let mut supply = Given { refused: false };
+        let outcome = serve(
+            &rt,
+            rt.alloc(),
+            &mut supply,
+            &["chsim", "run"],
+            &mut reader,
+            &mut sink,
+        );
         let out = sink.writer;
         assert!(rt; write.printed().starts_with(out.text.as_slice()));
         if fails_at == 0 || fails_at > out.calls {
@@ -117,39 +141,71 @@ fn nothing_is_performed_after_a_write_fails(rt: HostRuntime) {
     }
 }
 
-/// How a script ends where so many requests for room are granted, and what it prints.
-fn served_with(rt: &HostRuntime, text: &[u8], left: u64) -> (Vec<u8>, Ending, bool) {
+/// How a command over a text ends where so many requests for memory are granted, what it prints, and whether one was refused.
+fn served_with(rt: &HostRuntime, word: &str, text: &[u8], left: u64) -> (Vec<u8>, Outcome, bool) {
     let mut reader = Heard::new(text);
     let mut sink = Watched::new(Vec::new(rt.alloc()));
     let mut supply = Refusing {
         left,
         refused: false,
     };
-    let ending = serve_script_with(rt.alloc(), &mut supply, &mut reader, &mut sink);
-    (sink.writer, ending, supply.refused)
+    let outcome = serve(
+        rt,
+        rt.alloc(),
+        &mut supply,
+        &["chsim", word],
+        &mut reader,
+        &mut sink,
+    );
+    (sink.writer, outcome, supply.refused)
+}
+
+/// Whether a command ends for want of memory, of which it writes a line alone, where just these requests are granted, from none
+/// to the answer's number less one, and otherwise well, with this printed.
+fn refusals(rt: &HostRuntime, word: &str, text: &[u8], printed: &[u8]) -> Option<u64> {
+    let mut refusals = 0u64;
+    for left in 0..1_000u64 {
+        let (out, outcome, refused) = served_with(rt, word, text, left);
+        let (ending, told): (Ending, &[u8]) = if refused {
+            (Ending::NoMemory { whole: true }, b"refused 1\n")
+        } else {
+            (Ending::Done { refused: false }, printed)
+        };
+        if outcome != Outcome::Ended(ending) || out.as_slice() != told {
+            return None;
+        }
+        if refused {
+            if refusals != left {
+                return None;
+            }
+            refusals = left + 1;
+        }
+    }
+    Some(refusals)
 }
 
 #[test]
 fn each_request_before_the_first_event_is_refused_in_turn(rt: HostRuntime) {
     let write = Scene::of_a_write(&rt);
-    let mut refusals = 0u64;
-    for left in 0..1_000u64 {
-        let (out, ending, refused) = served_with(&rt, write.text(), left);
+    // The text, its 22 lines, and the nine requests of the machine and its device at least.
+    let run = refusals(&rt, "run", write.text(), write.printed());
+    assert!(rt; matches!(run, Some(33..=999)));
+    // The text and its lines.
+    let check = refusals(&rt, "check", write.text(), b"script ok\n");
+    assert!(rt; matches!(check, Some(23..=999)));
+}
+
+#[test]
+fn a_text_about_words_is_refused_memory(rt: HostRuntime) {
+    for left in 0..3u64 {
+        let (out, outcome, refused) = served_with(&rt, "walk", GOOD, left);
         if refused {
-            assert!(rt;
-                ending == Ending::NoMemory { whole: true }
-                    && out.as_slice() == b"refused 1\n".as_slice()
-                    && refusals == left
-            );
-            refusals = left + 1;
+            let line = "chsim: there is no memory for the words";
+            assert!(rt; left == 0 && out.len() == 0 && ends(outcome, 1, Some(line)));
         } else {
-            assert!(rt;
-                ending == Ending::Done { refused: false } && out.as_slice() == write.printed()
-            );
+            assert!(rt; left > 0 && out.len() > 0 && ends(outcome, 2, None));
         }
     }
-    // The text, its 22 lines, and the nine requests of the machine and its device at least.
-    assert!(rt; refusals > 32 && refusals < 1_000);
 }
 
 /// A good script.
@@ -165,7 +221,8 @@ fn other_words_show_a_text(rt: HostRuntime) {
     for (words, begins) in rows {
         let mut reader = Heard::new(GOOD);
         let mut sink = Watched::new(Vec::new(rt.alloc()));
-        let outcome = serve(&rt, rt.alloc(), words, &mut reader, &mut sink);
+        let mut supply = Given { refused: false };
+        let outcome = serve(&rt, rt.alloc(), &mut supply, words, &mut reader, &mut sink);
         let out = sink.writer;
         assert!(rt; out.as_slice().starts_with(begins.as_bytes()), "{begins}");
         assert!(rt; ends(outcome, 2, None) && reader.reader.len() == GOOD.len());
@@ -188,7 +245,8 @@ fn what_is_not_written_is_told(rt: HostRuntime) {
             calls: 0,
             fails_at: 1,
         });
-        let outcome = serve(&rt, rt.alloc(), words, &mut reader, &mut sink);
+        let mut supply = Given { refused: false };
+        let outcome = serve(&rt, rt.alloc(), &mut supply, words, &mut reader, &mut sink);
         assert!(rt; sink.writer.text.len() == 0 && ends(outcome, status, Some(UNWRITTEN)));
     }
 }

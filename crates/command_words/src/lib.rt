@@ -1,13 +1,17 @@
 //! The program's words: the command that they name, and the text for words that name none.
 #![tactic(auto)]
 
-ghost use Rattle.std.specs.Prelude.{◌≡◌, map, Ok, Some, IfOk};
+ghost use Rattle.std.specs.Prelude.{◌≡◌, map, Err, Ok, Some, IfErr, IfOk, OnErr, OnOk, true};
+ghost use Rattle.std.specs.String.{string_bytes};
 ghost use Rattle.command_words.specs.Plain as spec;
+ghost use Rattle.command_words.specs.Texts.{IsTold};
+ghost use Rattle.command_words.specs.declared.Refused.TheVariants as refused_spec;
 ghost use Rattle.command_words.specs.declared.Wanted.{Wanted};
 
 use clap::Command;
 use clap::error::{Error, ErrorKind};
 use std::alloc::{AllocError, Global};
+use supply::{Given, Refusing, Supply};
 
 /// What the words ask for.
 #[derive(Clone, Copy, Debug, PartialEq, Eq)]
@@ -30,17 +34,71 @@ pub enum Refused {
     NoMemory,
 }
 
+/// Memory for the text about words that name no command. That it refused some can be seen from then on.
+pub trait TextSupply: Supply {
+    ghost use Rattle.command_words.specs.Texts.{Telling};
+
+    // What a text may be, by the words that it is about.
+    ghost tells: { Telling };
+
+    /// The text about these words. There is none only where memory for it was refused.
+    fn text<'a>(&mut self, alloc: Global, words: &'a [&'a str]) -> Result<String, AllocError>
+        ensures told { IfOk result (λ text. tells (map (λ word. word.now) words.now) (string_bytes text)) }
+        ensures given { OnOk result (Self.refused self.new ≡ Self.refused self.old) }
+        ensures taken { OnErr result (Self.refused self.new ≡ true) };
+}
+
+impl TextSupply for Given {
+    ghost use Rattle.command_words.specs.Texts.{SaysAnything};
+
+    ghost tells = { SaysAnything };
+
+    fn text<'a>(&mut self, alloc: Global, words: &'a [&'a str]) -> Result<String, AllocError> {
+        let result = text_for(alloc, words);
+        if result.is_err() {
+            self.refused = true;
+        }
+        result
+    }
+}
+
+impl TextSupply for Refusing {
+    ghost use Rattle.command_words.specs.Texts.{SaysAnything};
+
+    ghost tells = { SaysAnything };
+
+    fn text<'a>(&mut self, alloc: Global, words: &'a [&'a str]) -> Result<String, AllocError> {
+        if self.left == 0 {
+            self.refused = true;
+            return Err(AllocError);
+        }
+        self.left -= 1;
+        let result = text_for(alloc, words);
+        if result.is_err() {
+            self.refused = true;
+        }
+        result
+    }
+}
+
 /// Which command the words name, the program's own name being the first of them. They name `run`,
 /// `race` or `check` where that is the second word and there is no third; all other words, `--help`
-/// among them, are refused with a text.
-pub fn command_of<'a>(alloc: Global, words: &'a [&'a str]) -> Result<Wanted, Refused>
+/// among them, are refused with the text about them, and with `NoMemory` only where the supply
+/// refused memory for that text.
+pub fn command_of<'a, M: TextSupply>(
+    alloc: Global,
+    supply: &mut M,
+    words: &'a [&'a str],
+) -> Result<Wanted, Refused>
     ensures named { (wanted : Wanted) → spec.plain (map (λ word. word.now) words.now) ≡ Some wanted → result ≡ Ok wanted }
     ensures alone { IfOk result (λ wanted. spec.plain (map (λ word. word.now) words.now) ≡ Some wanted) }
+    ensures told { IfErr result (λ refused. IsTold M.tells (map (λ word. word.now) words.now) refused) }
+    ensures memory { result ≡ Err refused_spec.NoMemory → M.refused supply.new ≡ true }
 {
     if let Some(wanted) = plain(words) {
         return Ok(wanted);
     }
-    match text_for(alloc, words) {
+    match supply.text(alloc, words) {
         Ok(text) => Err(Refused::Text(text)),
         Err(_) => Err(Refused::NoMemory),
     }

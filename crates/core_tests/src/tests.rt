@@ -8,6 +8,7 @@ mod hands;
 mod idle_tests;
 mod looking_tests;
 mod machines;
+mod race_tests;
 mod replaying;
 mod seats_tests;
 mod stories;

@@ -7,13 +7,14 @@
 //! prints something else.
 #![tactic(auto)]
 
-use serving::{check_script, race_script, serve_script};
+use serving::{check_script_with, race_script_with, serve_script_with};
 use std::alloc::{AllocError, Global};
 use std::rt::Files;
 use std::sync::Wait;
 use std::thread::Threads;
 use std::{env, fs, io, str};
 use streams::{Heard, Watched};
+use supply::Given;
 
 /// Whether a line of the script is a race.
 fn races(script: &[u8]) -> bool {
@@ -40,10 +41,11 @@ impl Served {
     fn by_run<R: Threads + Wait + Sync>(rt: &R, alloc: Global, script: &[u8]) -> Served {
         let mut reader = Heard::new(script);
         let mut sink = Watched::new(Vec::new(alloc));
+        let mut supply = Given { refused: false };
         let ending = if races(script) {
-            race_script(rt, alloc, &mut reader, &mut sink)
+            race_script_with(rt, alloc, &mut supply, &mut reader, &mut sink)
         } else {
-            serve_script(alloc, &mut reader, &mut sink)
+            serve_script_with(alloc, &mut supply, &mut reader, &mut sink)
         };
         Served {
             printed: sink.writer,
@@ -55,7 +57,8 @@ impl Served {
     fn by_check(alloc: Global, script: &[u8]) -> Served {
         let mut reader = Heard::new(script);
         let mut sink = Watched::new(Vec::new(alloc));
-        let status = check_script(alloc, &mut reader, &mut sink).status();
+        let mut supply = Given { refused: false };
+        let status = check_script_with(alloc, &mut supply, &mut reader, &mut sink).status();
         Served {
             printed: sink.writer,
             status,

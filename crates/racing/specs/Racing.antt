@@ -12,9 +12,13 @@ use Rattle.chan_model.specs.declared.fault.Fault.{Fault}
 use Rattle.core_lock.specs.declared.executing.CpuInstruction.{CpuInstruction}
 use Rattle.core_lock.specs.declared.executing.CpuInstruction.TheVariants as cpu_instruction
 use Rattle.core_lock.specs.Entering.{event_of}
-use Rattle.core_parts.specs.Seats.{HeldSeat, Locked, entries_by}
+use Rattle.core_parts.specs.Directory.{directory_of}
+use Rattle.core_parts.specs.Named.{shown}
+use Rattle.core_parts.specs.Seats.{HeldSeat, Locked, Seated, entries_by}
+use Rattle.glance_cell.specs.Shown.{Words}
 use Rattle.script_rows.specs.declared.race.Race.{Race}
 use Rattle.script_text.specs.declared.race.RaceCount.{RaceCount}
+use Rattle.subsystem.specs.Keeping.{all_serials}
 use Rattle.racing.specs.declared.tally.Tally.{Tally}
 
 -- a CPU stores what it is answered at real 800 (hexadecimal) and 40 times its number
@@ -126,6 +130,25 @@ pub record HaveGathered (race : Race) (ready : List Runner) (others all : List H
   pub run : HaveRaced race ready raced
   pub seats : all ≡ others ++ seats_of raced
   pub total_is : total ≡ total_of raced
+
+-- a new seat of a machine, whose readers loaded these words: it did nothing yet
+abbrev pub new_seat : Locked → List Words → Seated
+new_seat core loaded = record {
+  number = core.seats;
+  log = [];
+  directory = directory_of core.state;
+  pairs = all_serials core.state;
+  loaded = loaded;
+  turns = 0;
+  calls = 0;
+  owed = None;
+  kept = None;
+  left = None;
+}
+
+-- what its readers loaded are the serials that the machine has
+abbrev pub IsNewSeat : Locked → Seated → Type 0
+IsNewSeat core seat = (seat ≡ new_seat core seat.loaded) × (shown seat.loaded ≡ all_serials core.state)
 
 -- the same machine, but for how many seats were made
 abbrev pub IsSeatedIn : Locked → Locked → Type 0

@@ -1,11 +1,17 @@
 -- What an audit tells, by itself and after a race.
 use Rattle.std.proofs.Common.{◌≡◌, ℕ, Bool, true, false, List, sym, ap, subst, ◌∙◌, true≢false}
-use Rattle.std.specs.Prelude.{IsTrue, ◌↔◌}
+use Rattle.std.specs.Prelude.{IsTrue, ◌↔◌, ◌≢◌, IfSome, IfNone, Option, Some, None}
 use Rattle.core_parts.specs.Seats.{HeldSeat, Locked, entries_by}
 use Rattle.script_text.specs.declared.race.RaceCount.{RaceCount}
 use Rattle.serving.specs.Acting.{Installed, IsAudited}
 use Rattle.racing.specs.declared.tally.Tally.{Tally}
 use Rattle.racing.specs.Racing.{HasLogs, count_of}
+
+-- a core was closed: it counted the entries both ways, and answers no count only where not all seats were given
+pub counted : (closed : Option ℕ) (given made entries logs : ℕ) → IfSome closed (λ c. c ≡ entries) → IfSome closed (λ c. c ≡ logs) → IfNone closed (given ≢ made)
+    → given ≡ made → entries ≡ logs
+counted None given made entries logs e l none all = absurd (none all)
+counted (Some c) given made entries logs e l none all = sym e ∙ l
 
 pub told_of : (r : RaceCount) (t total : Tally) (audited : Bool) → r ≡ count_of t audited → t ≡ total → r ≡ count_of total r.audited
 told_of r t total audited is same =
@@ -29,7 +35,7 @@ unsettled audited agrees inside A is view differed =
 
 -- the log of the one seat decides, where each look had shown what the machine had
 pub alone : (audited found : Bool) (view i : Installed) → audited ≡ found → view ≡ i → view.books.agrees ≡ true
-    → IsTrue found ↔ (entries_by view.books.number view.books.by view.past.history ≡ view.books.log) → IsTrue audited ↔ IsAudited i
+    → IsTrue found ↔ (entries_by view.books.seat.number view.books.by view.past.history ≡ view.books.seat.log) → IsTrue audited ↔ IsAudited i
 alone audited found view i is same agreed h =
     subst (λ (x : Installed). IsTrue audited ↔ IsAudited x) same
     (subst (λ (b : Bool). IsTrue b ↔ IsAudited view) (sym is) ((λ t. (agreed, h.0 t)), (λ both. h.1 both.1)))

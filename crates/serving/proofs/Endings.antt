@@ -11,10 +11,11 @@ use Rattle.script_text.specs.declared.ActionResult.TheVariants as told
 use Rattle.script_text.specs.declared.race.RaceCount.{RaceCount}
 use Rattle.serving.specs.declared.Ending.{Ending}
 use Rattle.serving.specs.declared.Ending.TheVariants.{NotRead, Bad, NoMemory, Done, Stopped, AuditFailed}
-use Rattle.serving.specs.Acting.{Installed, IsAudited}
+use Rattle.channel_config.specs.Setup.{Setup}
+use Rattle.serving.specs.Acting.{Installed, IsAudited, IsOpening}
 use Rattle.serving.specs.Performing.{HasPerformed, HasStopped, PerformsTo}
 use Rattle.serving.specs.Racing.{IsRaced}
-use Rattle.serving.specs.Serving.{EndsBy, FailsAudit, PerformsAll, Races, RacesAfter, TellsAudit, ending_of, IsRun, Serves}
+use Rattle.serving.specs.Serving.{EndsBy, FailsAudit, PerformsAll, Races, RacesAfter, TellsAudit, ending_of, IsRaceOf, IsRun, IsRunOf, Serves}
 
 -- what is so of the script that was read is so of a script of the text, where the text is known
 of_script : (input : Option (List ℕ)) (s : ScriptContents) (P : ScriptContents → Type 0) → IfSome input (λ text. IsScript false (lines_of text) s) → P s →
@@ -24,12 +25,31 @@ of_script (Some text) s P is p = (s, is, p)
 
 pub serves_script : (input : Option (List ℕ)) (s : ScriptContents) (held now : Seen) (e : Ending) → IfSome input (λ text. IsScript false (lines_of text) s) →
     IsRun s held now e → Serves input held now e
-serves_script input s held now NotRead is h = absurd h
+serves_script input s held now NotRead is h = absurd h.2
 serves_script input s held now (NoMemory whole) is h = h
-serves_script input s held now (Bad whole) is h = absurd h
+serves_script input s held now (Bad whole) is h = absurd h.2
 serves_script input s held now (Done refused) is h = of_script input s (λ t. IsRun t held now (Done refused)) is h
 serves_script input s held now (Stopped refused) is h = of_script input s (λ t. IsRun t held now (Stopped refused)) is h
 serves_script input s held now (AuditFailed whole) is h = of_script input s (λ t. IsRun t held now (AuditFailed whole)) is h
+
+-- a run, or a race, from an opening
+pub runs_from : (setup : Setup) (lines : List Line) (held now : Seen) (e : Ending) (opening : Installed) → IsOpening setup opening → PerformsAll opening lines held now e
+    → IsRunOf setup lines held now e
+runs_from setup lines held now NotRead opening is h = absurd h
+runs_from setup lines held now (Bad whole) opening is h = absurd h
+runs_from setup lines held now (NoMemory whole) opening is h = absurd h
+runs_from setup lines held now (Done refused) opening is h = (opening, is, h)
+runs_from setup lines held now (Stopped refused) opening is h = (opening, is, h)
+runs_from setup lines held now (AuditFailed whole) opening is h = (opening, is, h)
+
+pub races_from : (setup : Setup) (lines : List Line) (line : RaceLine) (held now : Seen) (e : Ending) (opening : Installed) → IsOpening setup opening
+    → Races opening lines line held now e → IsRaceOf setup lines line held now e
+races_from setup lines line held now NotRead opening is h = absurd h
+races_from setup lines line held now (Bad whole) opening is h = absurd h
+races_from setup lines line held now (NoMemory whole) opening is h = absurd h
+races_from setup lines line held now (Done refused) opening is h = (opening, is, h)
+races_from setup lines line held now (Stopped refused) opening is h = (opening, is, h)
+races_from setup lines line held now (AuditFailed whole) opening is h = (opening, is, h)
 
 -- the audit failed, and the line that says so was written or not
 fails : (old last : Installed) (lines : List Line) (held now : Seen) (whole : Bool) → TellsAudit old lines held now whole last → FailsAudit old lines held now whole last

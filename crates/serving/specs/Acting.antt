@@ -1,5 +1,5 @@
 -- What the actions of a script come to at a channel subsystem with its devices.
-use Rattle.std.specs.Prelude.{◌≡◌, ◌≤◌, ◌+◌, ◌==◌, ◌&&◌, ℕ, Bool, true, false, min, List, [], ◌∷◌, ◌++◌, length, map, replicate, slice_get, slice_set, Option, None, Some, Result, Ok, Err}
+use Rattle.std.specs.Prelude.{◌≡◌, ◌≤◌, ◌+◌, ◌==◌, ◌&&◌, ℕ, Bool, true, false, min, List, [], ◌∷◌, ◌++◌, length, map, replicate, slice_get, slice_set, MatchOption, Option, None, Some, Result, Ok, Err}
 use Rattle.chan_events.specs.declared.event.Event.{Event}
 use Rattle.chan_events.specs.declared.event.Event.TheVariants as event
 use Rattle.chan_model.specs.declared.fault.Fault.{Fault}
@@ -13,7 +13,9 @@ use Rattle.chan_model.specs.declared.report.Report.{Report}
 use Rattle.chan_model.specs.declared.report.Work.{Work}
 use Rattle.chan_model.specs.declared.report.Work.TheVariants as work
 use Rattle.channel_config.specs.Setup.{Setup}
-use Rattle.core_parts.specs.Seats.{LockedCore, HeldSeat, entry, entries_by}
+use Rattle.core_lock.specs.Entering.{Glances, entered}
+use Rattle.core_parts.specs.Directory.{place_named}
+use Rattle.core_parts.specs.Seats.{Locked, LockedCore, HeldSeat, Seated, entry, entries_by}
 use Rattle.device_models.specs.AnyDevices.{device_of, device_opening, answer_of, after}
 use Rattle.device_models.specs.declared.any_device.AnyDevice.{AnyDevice}
 use Rattle.machine_model.specs.Ruled.{GoesByRule}
@@ -28,6 +30,7 @@ use Rattle.script_rows.specs.declared.Action.TheVariants as action
 use Rattle.script_text.specs.declared.ActionResult.{ActionResult}
 use Rattle.script_text.specs.declared.ActionResult.TheVariants as told
 use Rattle.script_text.specs.Text.{told_of}
+use Rattle.racing.specs.Racing.{IsNewSeat}
 use Rattle.signal_places.specs.Answers.{answer_at}
 use Rattle.signal_places.specs.declared.answers.AnswerPlace.{AnswerPlace}
 use Rattle.serving.specs.declared.installation.Acted.{Acted}
@@ -37,12 +40,11 @@ use Rattle.serving.specs.declared.installation.Acted.TheVariants.{Answered, Look
 abbrev pub ActionOutcome : Type 0
 ActionOutcome = Result ActionResult Fault
 
--- what an audit compares: the number of the seat from which events are entered, the seat of each entry of the history, and
--- the seat's log; and whether each look at serials showed what the machine had
+-- what an audit compares: the seat from which events are entered, with its number and its log, and the seat of each entry of the
+-- history; and whether each look at serials from that seat found what the machine had
 pub record Books : Type 0 where
-  pub number : ℕ
   pub by : List ℕ
-  pub log : List Entry
+  pub seat : Seated
   pub agrees : Bool
 
 -- a machine, its books, and by unit its device and the report that is still to be handed in
@@ -57,27 +59,38 @@ abbrev pub past_of : LockedCore → HeldSeat → Past
 past_of core seat = record { state = core.value.state; history = core.value.history; room = min core.room seat.room }
 
 abbrev pub books_of : LockedCore → HeldSeat → Bool → Books
-books_of core seat agrees = record { number = seat.value.number; by = core.value.by; log = seat.value.log; agrees = agrees }
+books_of core seat agrees = record { by = core.value.by; seat = seat.value; agrees = agrees }
 
-abbrev pub opening_books : Books
-opening_books = record { number = 0; by = []; log = []; agrees = true }
+-- the first seat of a machine at its opening
+abbrev pub opening_locked : Setup → Locked
+opening_locked setup = record { state = opening_of setup; history = []; by = []; seats = 0 }
 
-abbrev pub opening_installed : Setup → Installed
-opening_installed setup = record {
+abbrev pub IsOpeningSeat : Setup → Seated → Type 0
+IsOpeningSeat setup seat = IsNewSeat (opening_locked setup) seat
+
+abbrev pub opening_books : Seated → Books
+opening_books seat = record { by = []; seat = seat; agrees = true }
+
+abbrev pub opening_installed : Setup → Seated → Installed
+opening_installed setup seat = record {
   past = record { state = opening_of setup; history = []; room = 0 };
-  books = opening_books;
+  books = opening_books seat;
   devices = map device_of setup.units;
   kept = replicate (length setup.units) None;
 }
 
+-- a machine at its opening, with its first seat
+abbrev pub IsOpening : Setup → Installed → Type 0
+IsOpening setup i = (i ≡ opening_installed setup i.books.seat) × IsOpeningSeat setup i.books.seat
+
 -- an audit finds what it should: each look showed what the machine had, and the entries of the history that have the number of
 -- the seat are its log, in order
 abbrev pub IsAudited : Installed → Type 0
-IsAudited i = (i.books.agrees ≡ true) × (entries_by i.books.number i.books.by i.past.history ≡ i.books.log)
+IsAudited i = (i.books.agrees ≡ true) × (entries_by i.books.seat.number i.books.by i.past.history ≡ i.books.seat.log)
 
--- the books after an event: an entry, with the number of the seat, where it was accepted
+-- the books after an event: an entry, with the number of the seat, where it was accepted, and the seat as it is then
 abbrev pub booked : Books → Event → Result Reply Fault → Books
-booked books e (Ok r) = record books { by = books.by ++ books.number ∷ []; log = books.log ++ entry e r ∷ [] }
+booked books e (Ok r) = record books { by = books.by ++ books.seat.number ∷ []; seat = entered books.seat e r }
 booked books e (Err f) = books
 
 -- an event: a step by the path that follows the last one, which the history keeps with its reply; or a refusal, after which
@@ -195,13 +208,24 @@ same_serials None (Some own) = false
 same_serials (Some found) None = false
 same_serials (Some found) (Some own) = (found.made == own.made) && (found.cleared == own.cleared)
 
--- the seat looked, and found these serials where the machine has those
-abbrev pub looked : Installed → Option Serials → Option Serials → Installed
-looked old found own = record old { books = record old.books { agrees = old.books.agrees && same_serials found own } }
+-- a seat looks at the serials of the subchannel that a word names: through its reader of that subchannel's cell; or it knows none of
+-- that name, and stays as it was
+abbrev pub LooksFrom : Seated → ℕ → Option Serials → Seated → Type 0
+LooksFrom old word found new =
+    MatchOption found ((place_named old.directory word ≡ None) × (new ≡ old)) (λ serials. Glances old word serials new)
 
--- what the machine has is shown, whatever the seat found
-abbrev pub Looks : Installed → Option Serials → ActionOutcome → Installed → Type 0
-Looks old own r new = (r ≡ glanced own) × ((found : Option Serials) × (new ≡ looked old found own))
+-- the seat looked and is this one then, and found these serials where the machine has those: it agrees from then on just where it
+-- did and both are the same
+abbrev pub looked : Installed → Seated → Option Serials → Option Serials → Installed
+looked old seat found own = record old {
+  books = record old.books { seat = seat; agrees = old.books.agrees && same_serials found own };
+}
+
+-- a look from the seat; what the machine has is shown, whatever the seat found
+abbrev pub Looks : Installed → ℕ → Option Serials → ActionOutcome → Installed → Type 0
+Looks old word own r new =
+    (r ≡ glanced own)
+    × ((found : Option Serials) × LooksFrom old.books.seat word found new.books.seat × (new ≡ looked old new.books.seat found own))
 
 -- where a restart of a unit was accepted its device is put back to its opening; a report that is kept for it is kept on
 abbrev pub put_back : List AnyDevice → ℕ → Option AnyDevice → List AnyDevice
@@ -227,7 +251,7 @@ abbrev pub PerformsAction : Installed → Action → ActionOutcome → Installed
 PerformsAction old (action.Event e) r new =
     (came : Result Reply Fault) × (r ≡ told_of came) × Happens old e came new
 PerformsAction old (action.Dev place) r new = (came : Result Reply Fault) × (r ≡ told_of came) × TakesTurn old place came new
-PerformsAction old (action.Glance word) r new = Looks old (serials_in (sub_of old.past.state word)) r new
+PerformsAction old (action.Glance word) r new = Looks old word (serials_in (sub_of old.past.state word)) r new
 
 -- the actions in order come to these outcomes
 abbrev pub Runs : Installed → List Action → List ActionOutcome → Installed → Type 0

@@ -11,7 +11,7 @@ use Rattle.script_text.specs.declared.ActionResult.TheVariants as told
 use Rattle.script_text.specs.declared.race.RaceCount.{RaceCount}
 use Rattle.serving.specs.declared.Ending.{Ending}
 use Rattle.serving.specs.declared.Ending.TheVariants.{NotRead, Bad, NoMemory, Done, Stopped, AuditFailed}
-use Rattle.serving.specs.Acting.{Installed, IsAudited, opening_installed}
+use Rattle.serving.specs.Acting.{Installed, IsAudited, IsOpening}
 use Rattle.serving.specs.Performing.{HasPerformed, HasStopped}
 use Rattle.serving.specs.Racing.{IsRaced}
 
@@ -80,7 +80,7 @@ PerformsAll old lines held now (AuditFailed whole) = (last : Installed) × Fails
 -- a script is run; or there was no memory before its first event
 abbrev pub IsRunOf : Setup → List Line → Seen → Seen → Ending → Type 0
 IsRunOf setup lines held now (NoMemory whole) = TellsNoMemory held now whole
-IsRunOf setup lines held now other = PerformsAll (opening_installed setup) lines held now other
+IsRunOf setup lines held now other = (opening : Installed) × IsOpening setup opening × PerformsAll opening lines held now other
 
 abbrev pub IsRun : ScriptContents → Seen → Seen → Ending → Type 0
 IsRun s held now ending = IsRunOf s.setup s.lines held now ending
@@ -113,7 +113,7 @@ Races old lines line held now (AuditFailed false) =
 
 abbrev pub IsRaceOf : Setup → List Line → RaceLine → Seen → Seen → Ending → Type 0
 IsRaceOf setup lines line held now (NoMemory whole) = TellsNoMemory held now whole
-IsRaceOf setup lines line held now other = Races (opening_installed setup) lines line held now other
+IsRaceOf setup lines line held now other = (opening : Installed) × IsOpening setup opening × Races opening lines line held now other
 
 -- a script is run, with the race of its last line where it asks for one
 abbrev pub RunsOrRaces : Option RaceLine → Setup → List Line → Seen → Seen → Ending → Type 0

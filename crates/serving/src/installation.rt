@@ -4,8 +4,10 @@
 ghost use Rattle.std.specs.Prelude.{◌≡◌, ◌+◌, Bool, IsTrue, IfOk, List, None, Some, OnErr, OnOk, length, slice_get, true, ◌↔◌, ◌≤◌, ℕ};
 ghost use Rattle.serving.specs.Acting as spec;
 ghost use Rattle.racing.specs.Racing.{AreMade, HasLogs};
-ghost use Rattle.serving.specs.Racing.{IsRaced};
-ghost use Rattle.serving.specs.Acting.{books_of, past_of, PerformsAction, Happens, IsAudited, Looks, TakesTurn, HandsIn, opening_installed, outcome_at};
+ghost use Rattle.serving.specs.Racing.{HasAll, IsRaced};
+ghost use Rattle.machine_model.specs.Steps.{HasRun};
+ghost use Rattle.subsystem.specs.Headline.{HasHeld};
+ghost use Rattle.serving.specs.Acting.{books_of, past_of, PerformsAction, Happens, IsAudited, IsOpening, Looks, LooksFrom, TakesTurn, HandsIn, outcome_at};
 ghost use Rattle.machine_model.specs.State.{opening_of, sub_of, serials_in, unit_turn_of};
 ghost use Rattle.subsystem.specs.Keeping.{all_serials};
 ghost use Rattle.signal_places.specs.Answers.{answer_at};
@@ -91,7 +93,7 @@ impl<J: Naming> Installation<J> {
         requires named { parts.name ≡ J.name }
         requires directory { parts.name.directory ≡ directory_of (opening_of config) }
         requires serials { parts.serials ≡ all_serials (opening_of config) }
-        ensures made { IfOk result (λ both. both.0 ≡ opening_installed config) }
+        ensures made { IfOk result (λ both. IsOpening config both.0) }
         ensures racers { IfOk result (λ both. AreMade cpus both.1) }
         ensures given { OnOk result (S.refused supply.new ≡ S.refused supply.old) }
         ensures memory { OnErr result (S.refused supply.new ≡ true) }
@@ -205,7 +207,9 @@ impl<J: Naming> Installation<J> {
         } = self;
         let before = core.subsystem().history().len() as u64;
         let (core, seats, total) = racers.race(rt, core, seat, race);
-        let audited = agrees && is_settled(core, seats, before, total.entries);
+        has_run(&core);
+        let settled = is_settled(core, seats, before, total.entries);
+        let audited = agrees && settled;
         (total.told(audited), total.refused)
     }
 
@@ -231,7 +235,7 @@ impl<J: Naming> Installation<J> {
 
     /// Looks from the seat at the serials of the subchannel that a word names, and shows those that the subsystem has.
     pub(crate) fn look(&mut self, subchannel: u32) -> Option<Serials>
-        ensures { Looks self.old (serials_in (sub_of self.old.past.state subchannel)) (spec.glanced result) self.new }
+        ensures { Looks self.old subchannel (serials_in (sub_of self.old.past.state subchannel)) (spec.glanced result) self.new }
     {
         let own = self.core.subsystem().serials(subchannel);
         let found = found_by(&mut self.seat, subchannel);
@@ -341,6 +345,15 @@ fn enter_from<J: Naming>(
     let _ = core.enter_place(seat, event, place);
 }
 
+/// What a core has, whoever was at work on it.
+fn has_run<J: Naming>(core: &Core<J, Rotating>)
+    ensures replays { HasRun core.now.value.history core.now.value.state }
+    ensures held { HasHeld core.now.value.history core.now.value.state }
+    ensures beside { length core.now.value.by ≡ length core.now.value.history }
+{
+    let _ = core.subsystem();
+}
+
 /// Whether the history has the log of each seat, all seats are given, and the history grew by so many entries.
 fn is_settled<J: Naming>(
     core: Core<J, Rotating>,
@@ -348,7 +361,8 @@ fn is_settled<J: Naming>(
     before: u64,
     entries: u64,
 ) -> bool
-    ensures { IsTrue result ↔ HasLogs core.value seats.items (before + entries) }
+    ensures logs { IsTrue result ↔ HasLogs core.value seats.items (before + entries) }
+    ensures entries { HasAll core.value seats.items }
 {
     let held = audit(&core, seats.as_slice());
     let closed = core.close(seats);
@@ -367,8 +381,7 @@ fn is_grown(closed: Option<u64>, before: u64, entries: u64) -> bool
 
 /// What a seat sees of the serials of the subchannel that a word names; None where it knows none of that name.
 fn found_by<J: Naming>(seat: &mut Seat<J>, subchannel: u32) -> Option<Serials>
-    ensures number { seat.new.value.number ≡ seat.old.value.number }
-    ensures log { seat.new.value.log ≡ seat.old.value.log }
+    ensures looks { LooksFrom seat.old.value subchannel result seat.new.value }
     ensures room { seat.new.room ≡ seat.old.room }
 {
     match seat.glance(subchannel) {

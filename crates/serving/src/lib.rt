@@ -10,6 +10,7 @@ ghost use Rattle.serving.specs.Serving.{Serves, ServesRace, Checks, HasNoScript,
 ghost use Rattle.serving.specs.Serving.{IsBadLineOutput, TellsNoMemoryBy, status_of};
 
 pub mod installation;
+pub mod law;
 mod opening;
 pub mod performing;
 pub mod places;
@@ -23,7 +24,7 @@ use std::alloc::Global;
 use std::sync::Wait;
 use std::thread::Threads;
 use streams::{NoText, Sink, Source};
-use supply::{Given, Supply};
+use supply::Supply;
 
 /// How the program ended.
 #[derive(Clone, Copy, Debug, PartialEq, Eq)]
@@ -57,14 +58,6 @@ impl Ending {
     }
 }
 
-/// Reads a script and performs its actions, as `serve_script_with` does, in what room the allocator has.
-pub fn serve_script<R: Source, S: Sink>(alloc: Global, reader: &mut R, sink: &mut S) -> Ending
-    ensures ends { Serves (R.left reader.old) (S.seen sink.old) (S.seen sink.new) result }
-    ensures read { result ≡ ending.NotRead → R.broken reader.new ≡ true }
-{
-    serve_script_with(alloc, &mut Given { refused: false }, reader, sink)
-}
-
 /// Reads a script and performs its actions from one seat, each of which prints one line. Where there is no memory before the first
 /// event, and only where the supply refused a growth, `refused 1` is written alone, without a line's number. At the end the seat's
 /// log is compared with the history: where it is another, or a `glance` line saw other serials than it printed, `audit failed` is
@@ -85,19 +78,6 @@ pub fn serve_script_with<M: CoreSupply, R: Source, S: Sink>(
     }
 }
 
-/// Reads a script whose last line may be a race and performs it, as `race_script_with` does, in what room the allocator has.
-pub fn race_script<T: Threads + Wait + Sync, R: Source, S: Sink>(
-    rt: &T,
-    alloc: Global,
-    reader: &mut R,
-    sink: &mut S,
-) -> Ending
-    ensures ends { ServesRace (R.left reader.old) (S.seen sink.old) (S.seen sink.new) result }
-    ensures read { result ≡ ending.NotRead → R.broken reader.new ≡ true }
-{
-    race_script_with(rt, alloc, &mut Given { refused: false }, reader, sink)
-}
-
 /// Reads a script and performs its actions as `serve_script_with` does. Where the last line is a race, the subsystem is then put
 /// under its lock, as many CPUs execute TEST SUBCHANNEL as often as that line says, each on a thread and from a seat of its own,
 /// and the audit is of all seats; its line is the last.
@@ -116,14 +96,6 @@ pub fn race_script_with<T: Threads + Wait + Sync, M: CoreSupply, R: Source, S: S
         Ok(script) => running::race_script(rt, alloc, supply, script, sink),
         Err(ending) => ending,
     }
-}
-
-/// Reads a script and performs nothing, as `check_script_with` does, in what room the allocator has.
-pub fn check_script<R: Source, S: Sink>(alloc: Global, reader: &mut R, sink: &mut S) -> Ending
-    ensures ends { Checks (R.left reader.old) (S.seen sink.old) (S.seen sink.new) result }
-    ensures read { result ≡ ending.NotRead → R.broken reader.new ≡ true }
-{
-    check_script_with(alloc, &mut Given { refused: false }, reader, sink)
 }
 
 /// Reads a script and performs nothing: `script ok` is written where it is good. There is no memory only where the

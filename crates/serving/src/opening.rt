@@ -2,8 +2,8 @@
 
 ghost use Rattle.std.specs.Prelude.{◌≡◌, [], IfOk, None, OnErr, OnOk, length, map, replicate, true};
 ghost use Rattle.serving.specs.Acting as spec;
-ghost use Rattle.serving.specs.Acting.{books_of, past_of};
-ghost use Rattle.racing.specs.Racing.{AreMade, IsSeatedIn};
+ghost use Rattle.serving.specs.Acting.{IsOpeningSeat, books_of, past_of};
+ghost use Rattle.racing.specs.Racing.{AreMade, IsNewSeat, IsSeatedIn};
 ghost use Rattle.machine_model.specs.State.{opening_of};
 ghost use Rattle.subsystem.specs.Keeping.{all_serials};
 ghost use Rattle.core_parts.specs.Directory.{directory_of};
@@ -58,7 +58,8 @@ pub(crate) fn opening_seats<J: Naming, S: CoreSupply>(
     requires directory { parts.name.directory ≡ directory_of (opening_of config) }
     requires serials { parts.serials ≡ all_serials (opening_of config) }
     ensures past { IfOk result (λ all. past_of all.0 all.1 ≡ record { state = opening_of config; history = []; room = 0 }) }
-    ensures books { IfOk result (λ all. books_of all.0 all.1 true ≡ spec.opening_books) }
+    ensures books { IfOk result (λ all. books_of all.0 all.1 true ≡ spec.opening_books all.1.value) }
+    ensures seat { IfOk result (λ all. IsOpeningSeat config all.1.value) }
     ensures racers { IfOk result (λ all. AreMade cpus all.2) }
     ensures given { OnOk result (S.refused supply.new ≡ S.refused supply.old) }
     ensures memory { OnErr result (S.refused supply.new ≡ true) }
@@ -78,8 +79,7 @@ fn first_seats<J: Naming, S: CoreSupply>(
     cpus: u32,
 ) -> Result<(Seat<J>, Racers<J>), AllocError>
     requires { core.old.value.seats ≡ 0 }
-    ensures number { IfOk result (λ both. both.0.value.number ≡ 0) }
-    ensures log { IfOk result (λ both. both.0.value.log ≡ []) }
+    ensures seat { IfOk result (λ both. IsNewSeat core.old.value both.0.value) }
     ensures room { IfOk result (λ both. both.0.room ≡ 0) }
     ensures racers { IfOk result (λ both. AreMade cpus both.1) }
     ensures core { IfOk result (λ _. IsSeatedIn core.old.value core.new.value) }

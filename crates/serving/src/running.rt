@@ -67,6 +67,7 @@ pub fn race_script<T: Threads + Wait + Sync, M: CoreSupply, S: Sink>(
 }
 
 /// Performs lines at a machine of this name.
+#[tactic(auto, using(crate::proofs::Endings::runs_from))]
 fn run_named<J: Naming, M: CoreSupply, S: Sink>(
     alloc: Global,
     supply: &mut M,
@@ -88,6 +89,7 @@ fn run_named<J: Naming, M: CoreSupply, S: Sink>(
 }
 
 /// Performs lines at a machine of this name, and then a race.
+#[tactic(auto, using(crate::proofs::Endings::races_from))]
 fn race_named<J: Naming + Send + Sync, T: Threads + Wait + Sync, M: CoreSupply, S: Sink>(
     rt: &T,
     alloc: Global,

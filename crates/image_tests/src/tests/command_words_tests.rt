@@ -2,9 +2,10 @@
 
 use command_words::{Refused, Wanted, command_of};
 use std::alloc::Global;
+use supply::{Given, Refusing};
 
 fn text_has<'a>(alloc: Global, words: &'a [&'a str], part: &str) -> bool {
-    match command_of(alloc, words) {
+    match command_of(alloc, &mut Given { refused: false }, words) {
         Err(Refused::Text(text)) => text.contains(part),
         _ => false,
     }
@@ -12,9 +13,10 @@ fn text_has<'a>(alloc: Global, words: &'a [&'a str], part: &str) -> bool {
 
 #[test]
 fn a_command_is_named(rt: HostRuntime) {
-    let run = command_of(rt.alloc(), &["chsim", "run"]);
+    let mut supply = Given { refused: false };
+    let run = command_of(rt.alloc(), &mut supply, &["chsim", "run"]);
     assert!(rt; matches!(run, Ok(Wanted::Run)));
-    let check = command_of(rt.alloc(), &["chsim", "check"]);
+    let check = command_of(rt.alloc(), &mut supply, &["chsim", "check"]);
     assert!(rt; matches!(check, Ok(Wanted::Check)));
 }
 
@@ -31,4 +33,14 @@ fn other_words_give_a_text(rt: HostRuntime) {
     for (words, part) in rows {
         assert!(rt; text_has(rt.alloc(), words, part), "{part}");
     }
+}
+
+#[test]
+fn a_text_without_memory_is_refused(rt: HostRuntime) {
+    let mut supply = Refusing {
+        left: 0,
+        refused: false,
+    };
+    let walk = command_of(rt.alloc(), &mut supply, &["chsim", "walk"]);
+    assert!(rt; matches!(walk, Err(Refused::NoMemory)) && supply.refused);
 }

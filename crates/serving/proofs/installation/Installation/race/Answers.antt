@@ -1,4 +1,6 @@
-use Rattle.std.proofs.Common.{◌≡◌, ◌+◌, ◌∷◌, ℕ, true, length, sym, ap, ◌∙◌}
+use Rattle.std.proofs.Common.{◌≡◌, ◌+◌, ◌∷◌, ℕ, List, true, length, sym, ap, subst, ◌∙◌}
+use Rattle.core_parts.specs.Seats.{HeldSeat}
+use Rattle.serving.specs.Racing.{HasAll}
 use Rattle.serving.specs.Acting.{Installed}
 use Rattle.racing.specs.declared.tally.Tally.{Tally}
 use Rattle.racing.specs.Racing.{HasLogs, seats_of, total_of}
@@ -26,12 +28,15 @@ returns g c =
       after = after;
       made = c.requires;
       run = e.run;
-      number = ap (λ (i : Installed). i.books.number) is;
-      log = ap (λ (i : Installed). i.books.log) is;
+      seat = ap (λ (i : Installed). i.books.seat) is;
+      replays = c.has_run.ensures.replays;
+      held = c.has_run.ensures.held;
+      beside = c.has_run.ensures.beside;
+      entries = subst (λ (l : List HeldSeat). HasAll after l) e.seats c.is_settled-settled.ensures.entries;
       told_is = told_of c.told.result race.result.2 total c.if-agrees.audited c.told.ensures e.total_is;
       audited = told_audited ((before.books.agrees ≡ true) × HasLogs after all (length before.past.history + total.entries)) c.told.result race.result.2 c.if-agrees.audited c.told.ensures
           (elim c.if-agrees.branch [
-            | then-agrees w ↦ settled c.if-agrees.audited w.is_settled-audited.result before.books.agrees c.self.inside.agrees after race.result.1.items all (c.len-before.result + race.result.2.entries) (length before.past.history + total.entries) w.audited-is agrees w.if-agrees.true e.seats count w.is_settled-audited.ensures
+            | then-agrees w ↦ settled c.if-agrees.audited c.is_settled-settled.result before.books.agrees c.self.inside.agrees after race.result.1.items all (c.len-before.result + race.result.2.entries) (length before.past.history + total.entries) w.audited-is agrees w.if-agrees.true e.seats count c.is_settled-settled.ensures.logs
             | else-agrees w ↦ unsettled c.if-agrees.audited before.books.agrees c.self.inside.agrees (HasLogs after all (length before.past.history + total.entries)) (w.audited-is ∙ w.if-agrees.false) agrees w.if-agrees.false
           ]);
       refused_is = ap (λ (t : Tally). t.refused) e.total_is;
