@@ -40,7 +40,7 @@ use Rattle.machine_model.specs.declared.state.Sweep.{Sweep}
 use Rattle.step_laws.specs.Walks as walked
 use Rattle.step_laws.specs.Walks.{Walked, Function, Resumes, Clears, Cancels, effect_of, instruction_of, OneSub, OneUnit}
 use Rattle.step_laws.proofs.Places.{set-get, map-get}
-use Rattle.seen_laws.proofs.OwnRuns.{IsApart, down-apart, step-apart, act-apart}
+use Rattle.seen_laws.proofs.OwnSteps.{IsApart, down-apart, step-apart, act-apart}
 use Rattle.program_laws.proofs.Sweeps.{swept-kept}
 use Rattle.program_laws.proofs.UnitActs.{if-ok}
 use Rattle.program_laws.proofs.Vanishing.{send-ok}

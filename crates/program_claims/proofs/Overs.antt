@@ -45,7 +45,7 @@ use Rattle.machine_laws.proofs.TaleEvents.{reset-phase}
 use Rattle.seen_laws.specs.BeginsItsOwn.{over_chosen}
 use Rattle.seen_laws.proofs.Meets.{phase-of, takes-meets}
 use Rattle.seen_laws.proofs.Overs.{start-over, test-over, halt-over, tested-phase, meets-offer, same-in}
-use Rattle.seen_laws.proofs.OwnRuns.{chosen-idle, offered-or}
+use Rattle.seen_laws.proofs.OwnSteps.{chosen-idle, offered-or}
 use Rattle.seen_laws.proofs.Starts.{Within, IsChosenBy, cause-within, takes-within, start-within, test-within, halt-within, reset-within, chosen-by}
 use Rattle.program_laws.proofs.Sweeps.{swept-kept}
 use Rattle.program_laws.proofs.UnitActs.{if-ok}

@@ -50,7 +50,8 @@ use Rattle.machine_laws.specs.Claims.{is_id}
 use Rattle.seen_laws.specs.BeginsItsOwn.{is_code_zero}
 use Rattle.seen_laws.specs.Dedicated.{dedicated_met, dedicated_cleared, dedicated_after, IsOfferOn, IsEntryRight, AreRight, OffersOnDedicated}
 use Rattle.seen_laws.proofs.Dedicating.{IsStill, IsByCheck, IsLeft, tested-still, halted-still, loses-still, shows-still, choose-still, takes-left}
-use Rattle.seen_laws.proofs.OwnRuns.{IsApart, down-apart, step-apart, act-apart, up-setup, choose-setup, sets-stay}
+use Rattle.seen_laws.proofs.OwnSteps.{IsApart, down-apart, step-apart, act-apart, up-setup, choose-setup}
+use Rattle.seen_laws.proofs.OwnRuns.{sets-stay}
 use Rattle.seen_laws.proofs.RunPaths.{named-is, named-place, place-map}
 
 -- an allegiance that is seen is that of the subchannel

@@ -4,12 +4,15 @@ mod Ties
 mod UnitMoves
 mod UnitSends
 mod Bounds
+mod BoundSteps
 mod UnitBounds
 mod Calms
 mod Fits
+mod RunBounds
 mod RunPaths
 pub mod Starts
 pub mod Overs
+pub mod OwnSteps
 pub mod OwnRuns
 mod Holdings
 mod HolderActs
