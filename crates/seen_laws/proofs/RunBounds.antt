@@ -333,3 +333,4 @@ opening-bound setup lawful place sub e =
     subst (λ (y : SubchannelSetup). IsPlaced (set_count setup) (length setup.units) setup.paths y) (get_or_from_slice_get setup.subchannels place p.0 p.0 p.1)
     (lawful.subchannels place p.0 (slice_get_within setup.subchannels place p.0 p.1)) in
     let kind : (k : UnitKind) × (slice_get setup.units p.0.«unit» ≡ Some k) = there-is setup.units p.0.«unit» placed.«unit» in
+    subst (λ (y : Subchannel). BoundAt (opening_of setup).units y) p.2 (idle_of kind.0, get-map idle_of setup.units p.0.«unit» kind.0 kind.1, opened-bound p.0 kind.0)
