@@ -58,12 +58,12 @@ use Rattle.seen_laws.proofs.Starts.{Within, cause-within, takes-within, test-wit
 
 -- of one subchannel
 pub record Owned (over : Bool) (s : SubchannelState) : Type 0 where
-  within : Within s
-  tied : Tied over s
+  pub within : Within s
+  pub tied : Tied over s
 
 pub record Goes (over next : Bool) (sub after : Subchannel) : Type 0 where
-  setup : after.setup ≡ sub.setup
-  owned : Owned over sub.state → Owned next after.state
+  pub setup : after.setup ≡ sub.setup
+  pub owned : Owned over sub.state → Owned next after.state
 
 still : (over : Bool) (sub : Subchannel) → Goes over over sub sub
 still over sub = record { setup = refl; owned = λ k. k }
