@@ -7,6 +7,7 @@ use Rattle.chan_model.specs.declared.fault.Fault.TheVariants.{NoMemory, NoSuchPa
 use Rattle.chan_model.specs.declared.hold_state.HoldPhase.{HoldPhase}
 use Rattle.chan_model.specs.declared.hold_state.HoldPhase.TheVariants as hold
 use Rattle.chan_model.specs.declared.names.Side.{Side}
+use Rattle.chan_model.specs.declared.names.Side.TheVariants.{First, Second}
 use Rattle.chan_model.specs.declared.signal.OnPath.{OnPath}
 use Rattle.chan_model.specs.declared.signal.Down.{Down}
 use Rattle.chan_model.specs.declared.signal.Up.{Up}
@@ -20,7 +21,7 @@ use Rattle.agree.specs.Sending.{may_send}
 use Rattle.agree.specs.State.{LineState, WorldState, line_of, is_up}
 use Rattle.agree.specs.Lines.{GivesTurn, LineTurn, UnitLine, acts_for, stepping, line_chosen, line_let_go, line_sends, acts, heard, hears, met, unit_meets, loses_down, loses_up, cut, goes_down, comes_up, is_cut, with_downs, with_ups, line_with_path}
 use Rattle.agree.specs.Turns.{WorldTurn, at_side, at_world_unit, at_owner, both_of, on_path, path_named, world_turn_of, counted, max_steps, world_turn}
-use Rattle.agree.specs.Rooms.{LineRoom, WorldRoom, LineLoses, Loses, TakesRoom, IsFullFor, IsWorldSpent}
+use Rattle.agree.specs.Rooms.{LineRoom, WorldRoom, LineLoses, Loses, TakesRoom, IsFullDown, IsFullUp, IsOwnerFull, IsFullFor, IsWorldSpent, line_room_of}
 
 -- it is not refused for want of memory
 abbrev Sound : {A : Type 0} → Result A Fault → Type 0
@@ -158,6 +159,53 @@ given-spent w room e new (Err f) given is =
       | inr turn ↦ inl (steps-spent w e (subst (λ (g : Fault). world_turn w e ≡ Err g) want turn))
     ])
 
+-- where no room was lost, a list that is full was full
+down-before : (a b : LineRoom) → LineLoses 0 a b → IsFullDown b → IsFullDown a
+down-before a b h full = omega (arith, h.downs, full)
+
+up-before : (a b : LineRoom) → LineLoses 0 a b → IsFullUp b → IsFullUp a
+up-before a b h (inl full) = inl (omega (arith, h.ups, full))
+up-before a b h (inr full) = inr (omega (arith, h.accepted, full))
+
+line-loses : (n : ℕ) (a b : WorldRoom) (side : Side) → Loses n a b → LineLoses n (line_room_of a side) (line_room_of b side)
+line-loses n a b First h = h.first
+line-loses n a b Second h = h.second
+
+owner-before : (a b : WorldRoom) (o : Own) → Loses 0 a b → IsOwnerFull b o → IsOwnerFull a o
+owner-before a b Idle h full = full
+owner-before a b (Owned side t place) h full = up-before (line_room_of a side) (line_room_of b side) (line-loses 0 a b side h) full
+
+full-before : (w : WorldState) (a b : WorldRoom) (e : WorldEvent) → Loses 0 a b → IsFullFor w b e → IsFullFor w a e
+full-before w a b (event.Choose side p single) h full = down-before (line_room_of a side) (line_room_of b side) (line-loses 0 a b side h) full
+full-before w a b (event.Down side place keep may) h full = up-before (line_room_of a side) (line_room_of b side) (line-loses 0 a b side h) full
+full-before w a b (event.Up side place keep may) h full = down-before (line_room_of a side) (line_room_of b side) (line-loses 0 a b side h) full
+full-before w a b (event.LoseDown side place) h full = full
+full-before w a b (event.LoseUp side place) h full = full
+full-before w a b (event.PathDown side p) h full = full
+full-before w a b (event.PathUp side p) h full = full
+full-before w a b (event.PathReset side p) h full = full
+full-before w a b (event.LetGo side) h full = down-before (line_room_of a side) (line_room_of b side) (line-loses 0 a b side h) full
+full-before w a b (event.Send side p signal) h full = down-before (line_room_of a side) (line_room_of b side) (line-loses 0 a b side h) full
+full-before w a b (event.Clear side) h full = full
+full-before w a b event.SubsystemReset h full = full
+full-before w a b event.Leave h full = owner-before a b w.«unit».own h full
+full-before w a b (event.Ask p) h full = owner-before a b w.«unit».own h full
+full-before w a b (event.Attention side p) h full = up-before (line_room_of a side) (line_room_of b side) (line-loses 0 a b side h) full
+full-before w a b (event.Notice side p) h full = up-before (line_room_of a side) (line_room_of b side) (line-loses 0 a b side h) full
+full-before w a b event.Restart h full = full
+full-before w a b (event.Report report) h full = owner-before a b w.«unit».own h full
+
+-- where there was room for the event, only the steps can be wanting
+pub given-room : {A : Type 0} → (w : WorldState) (a b : WorldRoom) (e : WorldEvent) (new : WorldState) (r : Result A Fault) → (IsFullFor w a e → ⊥) → TakesRoom r a b →
+    GivesTurn w (world_turn w e) (IsFullFor w b e) r new → r ≡ Err NoMemory → max_steps ≤ w.steps
+given-room w a b e new (Ok done) none taken given is = absurd (cc is)
+given-room w a b e new (Err f) none taken given is =
+    let want : f ≡ NoMemory = cc in
+    elim given.1 [
+      | inl full ↦ absurd (none (full-before w a b e taken full.1))
+      | inr turn ↦ steps-spent w e (subst (λ (g : Fault). world_turn w e ≡ Err g) want turn)
+    ]
+
 -- room that is lost bit by bit
 line-more : (n m : ℕ) (a b c : LineRoom) → LineLoses n a b → LineLoses m b c → LineLoses (n + m) a c
 line-more n m a b c h k = record {
@@ -188,3 +236,7 @@ loses-weaker n m a b le h = record {
 pub taken-more : {A F : Type 0} → (n : ℕ) (a b c : WorldRoom) (r : Result A F) → Loses n a b → TakesRoom r b c → Loses (n + 1) a c
 taken-more n a b c (Ok done) h k = world-more n 1 a b c h k
 taken-more n a b c (Err f) h k = world-more n 1 a b c h (loses-weaker 0 1 b c (omega arith) k)
+
+pub taken-after : {A F : Type 0} → (a b c : WorldRoom) (r : Result A F) → Loses 0 a b → TakesRoom r b c → TakesRoom r a c
+taken-after a b c (Ok done) h k = world-more 0 1 a b c h k
+taken-after a b c (Err f) h k = world-more 0 0 a b c h k

@@ -4,7 +4,7 @@ mod program;
 mod signals;
 mod told;
 
-ghost use Rattle.std.specs.Prelude.{◌≡◌, ◌≤◌, ◌^◌, IfOk, Ok, length, slice_get};
+ghost use Rattle.std.specs.Prelude.{◌≡◌, ◌≤◌, ◌^◌, IfOk, OnOk, OnErr, Ok, length, slice_get, true};
 ghost use Rattle.agree.specs.Lines as spec;
 ghost use Rattle.agree.specs.Replies as reply_spec;
 ghost use Rattle.agree.specs.Rooms as room_spec;
@@ -20,8 +20,9 @@ use chan_model::signal::{Down, OnPath, Up};
 use hold::Hold;
 use program::{is_taken, may_send};
 use signals::{cut_downs, cut_ups, is_up, post, with_path};
-use std::alloc::Global;
+use std::alloc::{AllocError, Global};
 use std::marker::Model;
+use supply::{Supply, ensure_room};
 
 /// One side: how many numbers were drawn, the hold, the signals that may still arrive, the numbers that the unit accepted,
 /// and which paths are up.
@@ -85,6 +86,31 @@ impl SideLine {
         ensures { result.now ≡ self.now.line.link.accepted }
     {
         self.accepted.as_slice()
+    }
+
+    /// Room for a signal to the unit, where there is none: in what memory a supply has.
+    pub fn room_down<S: Supply>(&mut self, supply: &mut S) -> Result<(), AllocError>
+        ensures line { self.new.line ≡ self.old.line }
+        ensures room { room_spec.LineLoses 0 self.old.room self.new.room }
+        ensures made { OnOk result (1 ≤ self.new.room.downs) }
+        ensures full { OnErr result (room_spec.IsFullDown self.new.room) }
+        ensures given { OnOk result (S.refused supply.new ≡ S.refused supply.old) }
+        ensures memory { OnErr result (S.refused supply.new ≡ true) }
+    {
+        ensure_room(supply, &mut self.downs, 1)
+    }
+
+    /// Room for a signal from the unit and for the number that it may accept, where there is none: in what memory a supply has.
+    pub fn room_up<S: Supply>(&mut self, supply: &mut S) -> Result<(), AllocError>
+        ensures line { self.new.line ≡ self.old.line }
+        ensures room { room_spec.LineLoses 0 self.old.room self.new.room }
+        ensures made { OnOk result ((1 ≤ self.new.room.ups) × (1 ≤ self.new.room.accepted)) }
+        ensures full { OnErr result (room_spec.IsFullUp self.new.room) }
+        ensures given { OnOk result (S.refused supply.new ≡ S.refused supply.old) }
+        ensures memory { OnErr result (S.refused supply.new ≡ true) }
+    {
+        ensure_room(supply, &mut self.ups, 1)?;
+        ensure_room(supply, &mut self.accepted, 1)
     }
 
     /// Keeps what the hold did, and sends what it sent.

@@ -1,10 +1,10 @@
 //! A unit and both of its sides, with nothing said of how they go together.
 
-ghost use Rattle.std.specs.Prelude.{◌≡◌, ◌<◌, ◌^◌, IfOk, Ok, length};
+ghost use Rattle.std.specs.Prelude.{◌≡◌, ◌<◌, ◌^◌, IfOk, OnOk, OnErr, Ok, length, true};
 ghost use Rattle.agree.specs.Bounds.{IsWorldWithin};
 ghost use Rattle.agree.specs.Lines.{GivesTurn};
 ghost use Rattle.agree.specs.Replies as reply_spec;
-ghost use Rattle.agree.specs.Rooms.{IsFullFor, Loses, TakesRoom, no_room};
+ghost use Rattle.agree.specs.Rooms.{IsFullDown, IsFullFor, IsFullUp, IsOwnerFull, Loses, TakesRoom, line_room_of, no_room};
 ghost use Rattle.agree.specs.State as state_spec;
 ghost use Rattle.agree.specs.Turns as spec;
 ghost use Rattle.agree.specs.declared.event.WorldEvent.TheVariants as event_spec;
@@ -18,8 +18,9 @@ use chan_model::names::{Path, Side};
 use chan_model::report::Report;
 use chan_model::signal::Down;
 use chan_model::unit_state::Own;
-use std::alloc::Global;
+use std::alloc::{AllocError, Global};
 use std::marker::Model;
+use supply::Supply;
 use unit::Unit;
 
 /// A unit, both of its sides, and how many steps were made.
@@ -81,6 +82,84 @@ impl Parts {
         match side {
             Side::First => &self.first,
             Side::Second => &self.second,
+        }
+    }
+
+    /// Room for a signal from the unit to the side of its program.
+    fn room_of_owner<S: Supply>(&mut self, supply: &mut S) -> Result<(), AllocError>
+        ensures world { self.new.world ≡ self.old.world }
+        ensures room { Loses 0 self.old.room self.new.room }
+        ensures made { OnOk result (IsOwnerFull self.new.room self.old.world.unit.own → ⊥) }
+        ensures full { OnErr result (IsOwnerFull self.new.room self.old.world.unit.own) }
+        ensures given { OnOk result (S.refused supply.new ≡ S.refused supply.old) }
+        ensures memory { OnErr result (S.refused supply.new ≡ true) }
+    {
+        match self.unit.own() {
+            Own::Idle => Ok(()),
+            Own::Owned {
+                side: Side::First,
+                ..
+            } => self.first.room_up(supply),
+            Own::Owned {
+                side: Side::Second,
+                ..
+            } => self.second.room_up(supply),
+        }
+    }
+
+    fn room_down<S: Supply>(&mut self, supply: &mut S, side: Side) -> Result<(), AllocError>
+        ensures world { self.new.world ≡ self.old.world }
+        ensures room { Loses 0 self.old.room self.new.room }
+        ensures made { OnOk result (IsFullDown (line_room_of self.new.room side) → ⊥) }
+        ensures full { OnErr result (IsFullDown (line_room_of self.new.room side)) }
+        ensures given { OnOk result (S.refused supply.new ≡ S.refused supply.old) }
+        ensures memory { OnErr result (S.refused supply.new ≡ true) }
+    {
+        match side {
+            Side::First => self.first.room_down(supply),
+            Side::Second => self.second.room_down(supply),
+        }
+    }
+
+    fn room_up<S: Supply>(&mut self, supply: &mut S, side: Side) -> Result<(), AllocError>
+        ensures world { self.new.world ≡ self.old.world }
+        ensures room { Loses 0 self.old.room self.new.room }
+        ensures made { OnOk result (IsFullUp (line_room_of self.new.room side) → ⊥) }
+        ensures full { OnErr result (IsFullUp (line_room_of self.new.room side)) }
+        ensures given { OnOk result (S.refused supply.new ≡ S.refused supply.old) }
+        ensures memory { OnErr result (S.refused supply.new ≡ true) }
+    {
+        match side {
+            Side::First => self.first.room_up(supply),
+            Side::Second => self.second.room_up(supply),
+        }
+    }
+
+    /// Room for what an event may send, where there is none: in what memory a supply has.
+    pub fn make_room<S: Supply>(
+        &mut self,
+        supply: &mut S,
+        event: &WorldEvent,
+    ) -> Result<(), AllocError>
+        ensures world { self.new.world ≡ self.old.world }
+        ensures room { Loses 0 self.old.room self.new.room }
+        ensures made { OnOk result (IsFullFor self.old.world self.new.room event.now → ⊥) }
+        ensures full { OnErr result (IsFullFor self.old.world self.new.room event.now) }
+        ensures given { OnOk result (S.refused supply.new ≡ S.refused supply.old) }
+        ensures memory { OnErr result (S.refused supply.new ≡ true) }
+    {
+        match event {
+            WorldEvent::Choose { side, .. }
+            | WorldEvent::Up { side, .. }
+            | WorldEvent::LetGo { side }
+            | WorldEvent::Send { side, .. } => self.room_down(supply, *side),
+            WorldEvent::Down { side, .. }
+            | WorldEvent::Attention { side, .. }
+            | WorldEvent::Notice { side, .. } => self.room_up(supply, *side),
+            WorldEvent::Leave | WorldEvent::Ask { .. } | WorldEvent::Report(_) => {
+                self.room_of_owner(supply)
+            }
+            _ => Ok(()),
         }
     }
 

@@ -1,6 +1,6 @@
 //! A unit and both of its sides, which agree after each event.
 
-ghost use Rattle.std.specs.Prelude.{◌≡◌, ℕ, List, ◌⊎◌, Err, IfOk, OnOk, OnErr, IfErr, Some, None, length, take};
+ghost use Rattle.std.specs.Prelude.{◌≡◌, ◌≢◌, ◌≤◌, ℕ, List, ◌⊎◌, true, Err, IfOk, OnOk, OnErr, IfErr, Some, None, length, take};
 ghost use Rattle.chan_model.specs.declared.fault.Fault.TheVariants as fault_spec;
 ghost use Rattle.agree.specs.Bounds.{IsWell};
 ghost use Rattle.agree.specs.Lines.{GivesTurn};
@@ -10,6 +10,7 @@ ghost use Rattle.agree.specs.Rooms.{HasEnded, IsWorldAsBefore, IsFullFor, IsWorl
 ghost use Rattle.agree.specs.State as state_spec;
 ghost use Rattle.agree.specs.declared.event.WorldEvent.{WorldEvent};
 ghost use Rattle.agree.specs.Turns as spec;
+ghost use Rattle.agree.specs.Turns.{max_steps};
 
 use crate::event::WorldEvent;
 use crate::parts::Parts;
@@ -21,6 +22,7 @@ use chan_model::names::Side;
 use chan_model::unit_state::Own;
 use std::alloc::Global;
 use std::marker::Model;
+use supply::{Given, Supply};
 
 /// A unit and both of its sides.
 #[derive(Drop)]
@@ -100,20 +102,49 @@ impl World {
         ensures ends { OnOk result (EndsByEvent self.old.world event.now self.new.world) }
         ensures apart { OnOk result (LeavesApart self.old.world event.now self.new.world) }
     {
+        self.step_with(&mut Given { refused: false }, event)
+    }
+
+    /// One event, with room for what it may send from a supply. It is refused `NoMemory` only where the supply refuses that
+    /// room, or the steps are used up; a refusal changes nothing.
+    pub fn step_with<S: Supply>(
+        &mut self,
+        supply: &mut S,
+        event: &WorldEvent,
+    ) -> Result<WorldReply, Fault>
+        ensures reply { IfOk result (λ r. r ≡ reply_spec.reply_of self.old.world event.now) }
+        ensures done { OnOk result (self.new.world ≡ spec.world_after self.old.world event.now) }
+        ensures accepted { OnOk result (spec.refusal_of self.old.world event.now ≡ None) }
+        ensures room { TakesRoom result self.old.room self.new.room }
+        ensures refused { OnErr result (IsWorldAsBefore self.old self.new) }
+        ensures refusal { IfErr result (λ f. (f ≡ fault_spec.NoMemory) ⊎ (spec.refusal_of self.old.world event.now ≡ Some f)) }
+        // No room after it, so none before it: the refused event takes none.
+        ensures spent { result ≡ Err fault_spec.NoMemory → IsWorldSpent self.new event.now }
+        ensures sound { AreSound self.new.world }
+        ensures ends { OnOk result (EndsByEvent self.old.world event.now self.new.world) }
+        ensures apart { OnOk result (LeavesApart self.old.world event.now self.new.world) }
+        ensures given { result ≢ Err fault_spec.NoMemory → S.refused supply.new ≡ S.refused supply.old }
+        ensures memory { result ≡ Err fault_spec.NoMemory → (S.refused supply.new ≡ true) ⊎ (max_steps ≤ self.old.world.steps) }
+    {
         agreement();
         resets();
+        let Ok(()) = self.parts.make_room(supply, event) else {
+            return Err(Fault::NoMemory);
+        };
         step_parts(&mut self.parts, event)
     }
 
     /// One event, where it is accepted. Want of memory alone is refused.
-    fn pass(&mut self, event: &WorldEvent) -> Result<(), Fault>
+    fn pass<S: Supply>(&mut self, supply: &mut S, event: &WorldEvent) -> Result<(), Fault>
         ensures done { OnOk result (self.new.world ≡ spec.world_after self.old.world event.now) }
         ensures room { TakesRoom result self.old.room self.new.room }
         ensures refused { OnErr result (IsWorldAsBefore self.old self.new) }
         ensures refusal { IfErr result (λ f. f ≡ fault_spec.NoMemory) }
         ensures spent { OnErr result (IsWorldSpent self.new event.now) }
+        ensures given { OnOk result (S.refused supply.new ≡ S.refused supply.old) }
+        ensures memory { OnErr result ((S.refused supply.new ≡ true) ⊎ (max_steps ≤ self.new.world.steps)) }
     {
-        match self.step(event) {
+        match self.step_with(supply, event) {
             Err(Fault::NoMemory) => Err(Fault::NoMemory),
             _ => Ok(()),
         }
@@ -132,9 +163,31 @@ impl World {
         ensures ends { EachEnds self.old.world events.now }
         ensures apart { EachApart self.old.world events.now }
     {
+        self.run_with(&mut Given { refused: false }, events)
+    }
+
+    /// The events in order, as `run` has them, with room from a supply. A run ends only where the supply refuses room for an
+    /// event, or the steps are used up.
+    pub fn run_with<S: Supply>(
+        &mut self,
+        supply: &mut S,
+        events: &[WorldEvent],
+    ) -> Result<(), Fault>
+        ensures ran { OnOk result (self.new.world ≡ spec.worlds_after self.old.world events.now) }
+        ensures ended { OnErr result (HasEnded self.old events.now self.new) }
+        ensures fault { IfErr result (λ f. f ≡ fault_spec.NoMemory) }
+        ensures room { Loses (length events.now) self.old.room self.new.room }
+        ensures sound_now { AreSound self.new.world }
+        // What holds after the whole list holds after each beginning of it.
+        ensures sound { (i : ℕ) → AreSound (spec.worlds_after self.old.world (take i events.now)) }
+        ensures ends { EachEnds self.old.world events.now }
+        ensures apart { EachApart self.old.world events.now }
+        ensures given { OnOk result (S.refused supply.new ≡ S.refused supply.old) }
+        ensures memory { OnErr result ((S.refused supply.new ≡ true) ⊎ (max_steps ≤ self.new.world.steps)) }
+    {
         self.is_sound();
         for event in events {
-            self.pass(event)?;
+            self.pass(supply, event)?;
             self.is_sound();
         }
         Ok(())

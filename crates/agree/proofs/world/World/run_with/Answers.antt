@@ -1,9 +1,10 @@
+use Rattle.std.proofs.Common.{◌∙◌}
 use Rattle.agree.proofs.Lasting.{worlds-step}
 use Rattle.agree.proofs.Wanting.{taken-more}
-use Rattle.agree.proofs.world.World.run.Goals as goal
+use Rattle.agree.proofs.world.World.run_with.Goals as goal
 
 pub loop-event-preserved : goal.loop-event-preserved
-loop-event-preserved c = record {
+loop-event-preserved g c = record {
   done =
       worlds-step c.args.self.now.world c.loop-event.self.world c.pass.new.self.world c.args.events.now c.loop-event.event-index c.event-item.result
       c.event-item.result c.loop-event-test.true c.event-item.is c.loop-event.invariant.done c.in_ok-pass.ensures.done;
@@ -11,4 +12,5 @@ loop-event-preserved c = record {
       taken-more c.loop-event.event-index c.args.self.now.room c.loop-event.self.room c.pass.new.self.room c.pass.result
       c.loop-event.invariant.room c.pass.ensures.room;
   sound = c.is_sound-in-loop-event.ensures.now;
+  given = c.in_ok-pass.ensures.given ∙ c.loop-event.invariant.given;
 }
