@@ -8,6 +8,10 @@ use chan_model::names::{Path, Side};
 use chan_model::report::{DeviceAnswer, Report};
 use chan_model::unit_state::{Own, Place};
 use hold::Hold;
+use supply::Refusing;
+
+/// More requests for room than an event makes.
+const MANY: u64 = 10;
 
 fn choose(side: Side, path: u8) -> WorldEvent {
     WorldEvent::Choose {
@@ -147,6 +151,38 @@ fn a_repeated_select_is_accepted_once(rt: HostRuntime) {
     drop(world);
     assert!(rt; repeated && accepted && downs == 1 && ups == 1);
     assert!(rt; lost && downs_left == 0 && ups_left == 0 && offered);
+}
+
+/// How many requests for room an event makes: it is refused each in turn, and then accepted. A list keeps the room that it was
+/// given before another was refused it.
+fn requests_of(world: &mut World, event: &WorldEvent) -> Option<u64> {
+    for left in 0..MANY {
+        let mut supply = Refusing {
+            left,
+            refused: false,
+        };
+        match world.step_with(&mut supply, event) {
+            Ok(_) => return if supply.refused { None } else { Some(left) },
+            Err(fault) => {
+                if !supply.refused || !matches!(fault, Fault::NoMemory) {
+                    return None;
+                }
+            }
+        }
+    }
+    None
+}
+
+#[test]
+fn each_request_of_an_event_is_refused_in_turn(rt: HostRuntime) {
+    let side = Side::First;
+    let mut world = World::new(rt.alloc());
+    let offer = requests_of(&mut world, &choose(side, 2));
+    let accept = requests_of(&mut world, &down(side));
+    let heard = requests_of(&mut world, &up(side));
+    let held = is_held_by(&world, side, 2, 0);
+    drop(world);
+    assert!(rt; offer == Some(1) && accept == Some(2) && heard == Some(0) && held);
 }
 
 #[test]
