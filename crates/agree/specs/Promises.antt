@@ -1,5 +1,5 @@
 -- What is promised of both sides after each event (own).
-use Rattle.std.specs.Prelude.{◌≡◌, ◌⊎◌, true, Option, None, Some, List, [], ◌∷◌, slice_get}
+use Rattle.std.specs.Prelude.{◌≡◌, ◌⊎◌, true, Option, None, Some, List, [], ◌∷◌, ◌++◌, slice_get}
 use Rattle.chan_model.specs.declared.names.Side.{Side}
 use Rattle.chan_model.specs.declared.hold_state.HoldPhase.{HoldPhase}
 use Rattle.chan_model.specs.declared.signal.OnPath.{OnPath}
@@ -12,8 +12,12 @@ use Rattle.agreement_laws.specs.Links.{link_of}
 use Rattle.agreement_laws.specs.Claims.{IsSound, IsReset, IsResetDue, DoAgree}
 use Rattle.agree.specs.declared.event.WorldEvent.{WorldEvent}
 use Rattle.agree.specs.declared.event.WorldEvent.TheVariants as event
-use Rattle.agree.specs.State.{WorldState, links_of, line_of}
-use Rattle.agree.specs.Turns.{world_after}
+use Rattle.agree.specs.BothAgree.{DoBothAgree}
+use Rattle.agree.specs.ByItsPath.{IsByItsPath}
+use Rattle.agree.specs.Histories.{WorldEntry, entries_of}
+use Rattle.agree.specs.OneHolder.{HasOneHolder, IsBegunOnce}
+use Rattle.agree.specs.State.{WorldState, links_of, line_of, opening_world}
+use Rattle.agree.specs.Turns.{world_after, worlds_after}
 
 -- both sides agree, except while a reset isn't yet taken; one path moves data; each number was accepted at most once
 abbrev pub AreSound : WorldState → Type 0
@@ -70,3 +74,12 @@ LeavesApart old (event.Report report) new = (side : Side) → owns old.«unit».
 abbrev pub EachApart : WorldState → List WorldEvent → Type 0
 EachApart w [] = Unit {0}
 EachApart w (e ∷ es) = LeavesApart w e (world_after w e) × EachApart (world_after w e) es
+
+-- what is claimed of a history by its entries alone
+abbrev pub IsHistorySound : List WorldEntry → Type 0
+IsHistorySound h = IsByItsPath h × HasOneHolder h × IsBegunOnce h × DoBothAgree h
+
+-- so it is of all that happened since the opening, whatever led to this world, and of these events after it
+abbrev pub GoesOnSound : WorldState → List WorldEvent → Type 0
+GoesOnSound w events =
+    (before : List WorldEvent) → w ≡ worlds_after opening_world before → IsHistorySound (entries_of opening_world (before ++ events))

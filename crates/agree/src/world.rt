@@ -4,7 +4,7 @@ ghost use Rattle.std.specs.Prelude.{◌≡◌, ◌≢◌, ◌≤◌, ℕ, List, 
 ghost use Rattle.chan_model.specs.declared.fault.Fault.TheVariants as fault_spec;
 ghost use Rattle.agree.specs.Bounds.{IsWell};
 ghost use Rattle.agree.specs.Lines.{GivesTurn};
-ghost use Rattle.agree.specs.Promises.{AreSound, EndsByEvent, EachEnds, LeavesApart, EachApart};
+ghost use Rattle.agree.specs.Promises.{AreSound, EndsByEvent, EachEnds, LeavesApart, EachApart, GoesOnSound};
 ghost use Rattle.agree.specs.Replies as reply_spec;
 ghost use Rattle.agree.specs.Rooms.{HasEnded, IsWorldAsBefore, IsFullFor, IsWorldSpent, Loses, TakesRoom, no_room};
 ghost use Rattle.agree.specs.State as state_spec;
@@ -15,6 +15,7 @@ ghost use Rattle.agree.specs.Turns.{max_steps};
 use crate::event::WorldEvent;
 use crate::parts::Parts;
 use crate::reply::WorldReply;
+use crate::{both_agree, by_its_path, one_holder};
 use agreement_laws::{agreement, resets};
 use chan_model::fault::Fault;
 use chan_model::hold_state::HoldState;
@@ -162,6 +163,7 @@ impl World {
         ensures sound { (i : ℕ) → AreSound (spec.worlds_after self.old.world (take i events.now)) }
         ensures ends { EachEnds self.old.world events.now }
         ensures apart { EachApart self.old.world events.now }
+        ensures history { GoesOnSound self.old.world events.now }
     {
         self.run_with(&mut Given { refused: false }, events)
     }
@@ -182,9 +184,13 @@ impl World {
         ensures sound { (i : ℕ) → AreSound (spec.worlds_after self.old.world (take i events.now)) }
         ensures ends { EachEnds self.old.world events.now }
         ensures apart { EachApart self.old.world events.now }
+        ensures history { GoesOnSound self.old.world events.now }
         ensures given { OnOk result (S.refused supply.new ≡ S.refused supply.old) }
         ensures memory { OnErr result ((S.refused supply.new ≡ true) ⊎ (max_steps ≤ self.new.world.steps)) }
     {
+        by_its_path();
+        one_holder();
+        both_agree();
         self.is_sound();
         for event in events {
             self.pass(supply, event)?;
