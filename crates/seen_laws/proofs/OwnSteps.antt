@@ -140,8 +140,8 @@ pub chosen-idle : (sub : Subchannel) (choice : Option ℕ) (t p : ℕ) → sub.s
 chosen-idle sub choice t p e = subst (λ (y : HoldPhase). chosen (with_phase sub y) choice ≡ Idle) (sym e) (idle-at sub choice t p)
 
 pub record IsTurn (over : Bool) (sub : Subchannel) (t : SubTurn) : Type 0 where
-  setup : t.sub.setup ≡ sub.setup
-  owned : Owned (over_chosen t.reply over) t.sub.state
+  pub setup : t.sub.setup ≡ sub.setup
+  pub owned : Owned (over_chosen t.reply over) t.sub.state
 
 reset-stays : (h : HoldState) (phase : HoldPhase) (path : ℕ) → (hold_after (record h { phase = phase }) (sending_reset (record h { phase = phase }) phase path)).phase ≡ phase
 reset-stays h hold.Free path = refl
@@ -221,9 +221,9 @@ chosen-owned over sub choice k =
 
 -- a signal that came up
 pub record IsMet (over : Bool) (sub : Subchannel) (t : UpTurn) : Type 0 where
-  setup : t.sub.setup ≡ sub.setup
-  owned : Owned over t.sub.state
-  right : IsAcceptRight t.reply over
+  pub setup : t.sub.setup ≡ sub.setup
+  pub owned : Owned over t.sub.state
+  pub right : IsAcceptRight t.reply over
 
 front-owned : (over returns : Bool) (storage : Contents) (sub : Subchannel) (path : ℕ) (front : Option Up) → Owned over sub.state → IfOk (up_front returns storage sub path front) (IsMet over sub)
 front-owned over returns storage sub path None k = tt
