@@ -19,22 +19,26 @@ use Rattle.subchannel_model.specs.declared.state.Program.{Program}
 use Rattle.subchannel_model.specs.declared.state.ProgramPosition.{ProgramPosition}
 use Rattle.subchannel_model.specs.declared.state.SubchannelState.{SubchannelState}
 use Rattle.subchannel_model.specs.declared.state.UpStep.{UpStep}
+use Rattle.subchannel_model.specs.declared.cause.StatusCause.TheVariants as cause
+use Rattle.subchannel_model.specs.Causes.{with_cause}
 use Rattle.subchannel_model.specs.Taking as taking
 use Rattle.subchannel_model.specs.Taking.{goes_ahead, halt_done, path_used, from_start, suspended_as, standing_as, standing}
 use Rattle.program_laws.specs.Traces.{ProgramTrace}
-use Rattle.program_laws.specs.Tells.{IsOver, Begins, Accepted, Meets}
+use Rattle.program_laws.specs.Interrupts.{asked, Interrupts, OnlyInterrupts}
+use Rattle.program_laws.specs.Tells.{command_sent, IsOver, Begins, Accepted, Meets}
 use Rattle.program_laws.specs.Claims.{IsSuspended, has_check, EndsAtCheck}
 use Rattle.program_laws.proofs.Named.{IsRest}
 use Rattle.program_laws.proofs.MachineActs.{with_acts, room_acts, first_acts}
 use Rattle.program_laws.proofs.MachineTraces as stories
 use Rattle.program_laws.proofs.Ties.{AreLaws}
 use Rattle.program_laws.proofs.Parts.{WentOn, goes-on}
-use Rattle.program_laws.proofs.Shows.{ShowsRest, interrupted-shows, rest-stays, suspended-shows, fault-shows}
+use Rattle.program_laws.proofs.Shows.{ShowsRestOf, interrupted-shows, rest-stays, suspended-shows, fault-shows}
 use Rattle.program_laws.proofs.StatusCounts.{none-counted, of-program, halt-shows}
 use Rattle.program_laws.proofs.Holds.{IsPhase, IsStanding, IsHeld, done-held}
 use Rattle.program_laws.proofs.Fetches.{goes-fetched}
-use Rattle.program_laws.proofs.Goings.{begins-goes}
+use Rattle.program_laws.proofs.Goings.{begins-goes, let_go-silent}
 use Rattle.program_laws.proofs.Advances.{advance-some}
+use Rattle.program_laws.proofs.Asks.{BeginsAsking, goes-asking, asked-interrupts, only-asked, none-sent}
 use Rattle.program_laws.proofs.Standing.{suspended-unchecked, suspended-next}
 use Rattle.program_laws.proofs.Offers.{IsOffered, IsOfferedAt, beginning, begins-same, ahead-over}
 
@@ -90,22 +94,47 @@ longer more before l e =
     absurd (omega (arith, l, many, same))
 
 module _ (laws : AreLaws) where
-  -- a program goes on from where it stands, and what status shows then is its count
-  abbrev Starts : Contents → ℕ → UpStep → ProgramTrace → ProgramTrace → Type 0
-  Starts storage made x k after = IsHeld x.state after → Begins storage x.came.sent k after × ShowsRest made x.state after
+  -- a program goes on from where it stands, and what status shows then are its address and its count
+  abbrev Starts : Contents → SubchannelState → UpStep → ProgramTrace → ProgramTrace → Type 0
+  Starts storage s x k after = IsHeld x.state after → Begins storage x.came.sent k after × ShowsRestOf s.serials.made x.state after × Interrupts s x.state k after
+      × (is_some (command_sent x.came.sent) ≡ true → OnlyInterrupts s x.state k after)
 
   starts-shows : (storage : Contents) (s : SubchannelState) (p t : ℕ) (st : ProgramPosition) (walk : WalkPlace) (k : ProgramTrace) (c : CommandStart) (acts : List Act) (n : ℕ) →
       WentOn k.earlier laws storage k.orb k.now.acts (acts ++ k.now.acts) n walk c → IsRest st.count k →
       IsHeld (taking.beginning storage s p t st walk c).state (stories.trace_goes_on storage c acts k) →
-      ShowsRest s.serials.made (taking.beginning storage s p t st walk c).state (stories.trace_goes_on storage c acts k)
+      ShowsRestOf s.serials.made (taking.beginning storage s p t st walk c).state (stories.trace_goes_on storage c acts k)
   starts-shows storage s p t st walk k (came.Begins transfer) acts n w r h =
       let u = (begun_with_room storage transfer).transfer in
       interrupted-shows (taking.taking_over s st.program u) (record { program = st.program; primary_shown = false; transfer = u })
       (stories.trace_goes_on storage (came.Begins transfer) acts k) u.pci_pending h
   starts-shows storage s p t st walk k came.Suspends acts n w r h =
-      suspended-shows s st.program walk st.count (record k { now = with_acts k.now acts }) st.program.orb.suppress_suspended (rest-stays k acts k.now.acts st.count w.1 refl r)
+      suspended-shows s st.program walk st.count (record k { now = with_acts k.now acts }) st.program.orb.suppress_suspended (rest-stays k acts k.now.acts walk st.count w.4 w.1 refl r)
   starts-shows storage s p t st walk k (came.Stops check) acts n w r h =
-      fault-shows s s.begun walk.tried check st.count (record k { now = with_acts k.now acts }) (rest-stays k acts k.now.acts st.count w.1 refl r)
+      fault-shows s s.begun walk.tried check st.count (record k { now = with_acts k.now acts }) (rest-stays k acts k.now.acts walk st.count w.5 w.1 refl r)
+
+  -- and a block that asks for an interruption gets one
+  starts-asks : (storage : Contents) (s : SubchannelState) (p t : ℕ) (st : ProgramPosition) (walk : WalkPlace) (k : ProgramTrace) (c : CommandStart) (acts : List Act) →
+      BeginsAsking storage (asked k.orb k.now.acts) (asked k.orb (acts ++ k.now.acts)) c →
+      Interrupts s (taking.beginning storage s p t st walk c).state k (stories.trace_goes_on storage c acts k)
+  starts-asks storage s p t st walk k (came.Begins transfer) acts a =
+      let u = (begun_with_room storage transfer).transfer in
+      asked-interrupts (taking.taking_over s st.program u) (record { program = st.program; primary_shown = false; transfer = u })
+      (asked k.orb k.now.acts) (asked k.orb (acts ++ k.now.acts)) u.pci_pending a.0
+  starts-asks storage s p t st walk k came.Suspends acts a = λ l on. absurd (omega (arith, a, l))
+  starts-asks storage s p t st walk k (came.Stops check) acts a = λ l on. absurd (omega (arith, a, l))
+
+  starts-only : (storage : Contents) (s : SubchannelState) (p t : ℕ) (st : ProgramPosition) (walk : WalkPlace) (k : ProgramTrace) (c : CommandStart) (acts : List Act) →
+      BeginsAsking storage (asked k.orb k.now.acts) (asked k.orb (acts ++ k.now.acts)) c →
+      is_some (command_sent (taking.beginning storage s p t st walk c).came.sent) ≡ true →
+      OnlyInterrupts s (taking.beginning storage s p t st walk c).state k (stories.trace_goes_on storage c acts k)
+  starts-only storage s p t st walk k (came.Begins transfer) acts a e =
+      let u = (begun_with_room storage transfer).transfer in
+      only-asked (taking.taking_over s st.program u) (record { program = st.program; primary_shown = false; transfer = u })
+      (asked k.orb k.now.acts) (asked k.orb (acts ++ k.now.acts)) u.pci_pending a.1
+  starts-only storage s p t st walk k came.Suspends acts a e =
+      none-sent (let_go-silent (taking.suspending s st.program walk st.count)) e
+  starts-only storage s p t st walk k (came.Stops check) acts a e =
+      none-sent (let_go-silent (with_cause s (cause.FetchFault walk.tried check st.count))) e
 
   -- something is fetched
   starts-some : (storage : Contents) (c : CommandStart) (acts : List Act) (k : ProgramTrace) → 1 ≤ length acts →
@@ -125,7 +154,7 @@ module _ (laws : AreLaws) where
   starts-on : (storage : Contents) (s : SubchannelState) (p t : ℕ) (st : ProgramPosition) (k : ProgramTrace) → st.walk ≡ walk_place k.orb k.now.acts →
       (role_of k.orb k.now.acts).chained ≡ false → length (commands k.orb k.now.acts) ≡ k.earlier → IsProgram k.orb k.now.acts → t ≡ k.number → k.sent ≡ 0 → IsRest st.count k →
       has_check k.orb k.now.acts ≡ false → EndsAtCheck k.orb k.now.acts → (address : ℕ) → next k.orb k.now.acts ≡ Some address →
-      Starts storage s.serials.made (taking.begin_standing storage s p t (Some st)) k (stories.trace_begins storage st.walk k)
+      Starts storage s (taking.begin_standing storage s p t (Some st)) k (stories.trace_begins storage st.walk k)
   starts-on storage s p t st k w c l p' f z r hc en address at =
       let old : WalkPlace = walk_place k.orb k.now.acts in
       let many : length (commands k.orb k.now.acts) + 1 ≡ k.earlier + 1 = ap (λ (n : ℕ). n + 1) l in
@@ -135,7 +164,7 @@ module _ (laws : AreLaws) where
       let all : length (first_acts storage old) ≡ length (room_acts storage first.came) + length (advance_acts storage old) =
       length-append (room_acts storage first.came) (advance_acts storage old) in
       subst
-      (λ (x : WalkPlace). Starts storage s.serials.made (taking.beginning storage s p t st (first_command storage x).walk (first_command storage x).came) k
+      (λ (x : WalkPlace). Starts storage s (taking.beginning storage s p t st (first_command storage x).walk (first_command storage x).came) k
       (stories.trace_begins storage x k))
       (sym w)
       (λ h. (
@@ -150,12 +179,14 @@ module _ (laws : AreLaws) where
           whole = starts-whole storage k (first_acts storage old) 1 first.walk first.came went;
         },
         starts-shows storage s p t st first.walk k first.came (first_acts storage old) 1 went r h,
+        starts-asks storage s p t st first.walk k first.came (first_acts storage old) (goes-asking storage k.orb k.now.acts 1),
+        starts-only storage s p t st first.walk k first.came (first_acts storage old) (goes-asking storage k.orb k.now.acts 1),
       ))
 
   again-on : (storage : Contents) (s : SubchannelState) (p t : ℕ) (st : ProgramPosition) (k : ProgramTrace) (x : Bool) → is_some (if x then Some st else None) ≡ true →
       st.walk ≡ walk_place k.orb k.now.acts → (role_of k.orb k.now.acts).chained ≡ false → IsProgram k.orb k.now.acts → t ≡ k.number → k.sent ≡ 0 → IsRest st.count k →
       IsSuspended k.orb k.now.acts → EndsAtCheck k.orb k.now.acts →
-      Starts storage s.serials.made (taking.begin_standing storage s p t (if x then Some st else None)) (beginning None k) (if x then stories.begins_again storage st k else k)
+      Starts storage s (taking.begin_standing storage s p t (if x then Some st else None)) (beginning None k) (if x then stories.begins_again storage st k else k)
   again-on storage s p t st k true e w c p' f z r su en =
       let at = suspended-next k.orb k.now.acts su in
       starts-on storage s p t st (beginning None k) w c refl p' f z r (suspended-unchecked k.orb k.now.acts su en) en at.0 at.1
@@ -163,13 +194,13 @@ module _ (laws : AreLaws) where
 
   suspended-on : (storage : Contents) (s : SubchannelState) (p t : ℕ) (b : Option ActiveProgram) (st : Option ProgramPosition) (start : ℕ) (k : ProgramTrace) →
       is_some (suspended_as st start) ≡ true → IsStanding None b st k → IsProgram k.orb k.now.acts → EndsAtCheck k.orb k.now.acts → t ≡ k.number → k.sent ≡ 0 →
-      Starts storage s.serials.made (taking.begin_standing storage s p t (suspended_as st start)) (beginning None k) (stories.again_as storage st start k)
+      Starts storage s (taking.begin_standing storage s p t (suspended_as st start)) (beginning None k) (stories.again_as storage st start k)
   suspended-on storage s p t b None start k e x p' en f z = absurd (cc e)
   suspended-on storage s p t b (Some st) start k e x p' en f z = again-on storage s p t st k (st.program.start == start) e x.2 x.3 p' f z x.4 x.5 en
 
   anew-on : (storage : Contents) (s : SubchannelState) (p t : ℕ) (program : Program) (b : Option ActiveProgram) (st : Option ProgramPosition) (start : ℕ) (k : ProgramTrace) (x : Bool) →
       is_some (if x then Some (from_start program) else suspended_as st start) ≡ true → IsStanding (Some program) b st k → t ≡ k.number → k.sent ≡ 0 →
-      Starts storage s.serials.made (taking.begin_standing storage s p t (if x then Some (from_start program) else suspended_as st start)) (beginning (Some program) k)
+      Starts storage s (taking.begin_standing storage s p t (if x then Some (from_start program) else suspended_as st start)) (beginning (Some program) k)
       (if x then stories.begins_anew storage program k else stories.again_as storage st start k)
   anew-on storage s p t program b st start k true e x f z = starts-on storage s p t (from_start program) (beginning (Some program) k) refl refl refl tt f z refl refl tt program.orb.program refl
   anew-on storage s p t program b None start k false e x f z = absurd (cc e)
@@ -177,7 +208,7 @@ module _ (laws : AreLaws) where
 
   standing-on : (storage : Contents) (s : SubchannelState) (p t : ℕ) (w : Option Program) (b : Option ActiveProgram) (st : Option ProgramPosition) (start : ℕ) (k : ProgramTrace) →
       is_some (standing_as w st start) ≡ true → IsStanding w b st k → IsProgram k.orb k.now.acts → EndsAtCheck k.orb k.now.acts → t ≡ k.number → k.sent ≡ 0 →
-      Starts storage s.serials.made (taking.begin_standing storage s p t (standing_as w st start)) (beginning w k) (stories.begins_as storage w st start k)
+      Starts storage s (taking.begin_standing storage s p t (standing_as w st start)) (beginning w k) (stories.begins_as storage w st start k)
   standing-on storage s p t None b st start k e x p' en f z = suspended-on storage s p t b st start k e x p' en f z
   standing-on storage s p t (Some program) b st start k e x p' en f z = anew-on storage s p t program b st start k (program.start == start) e x f z
 
@@ -205,10 +236,10 @@ module _ (laws : AreLaws) where
       let done = done-held s k h in
       let same : beginning s.waiting k ≡ k = begins-same s.waiting s.begun s.suspended s.offered k stands h.standing o.0 o.1 in
       let starts =
-      subst (λ (y : ProgramTrace). Starts storage s.serials.made x y (stories.begins_as storage s.waiting s.suspended s.offered k)) same
+      subst (λ (y : ProgramTrace). Starts storage on x y (stories.begins_as storage s.waiting s.suspended s.offered k)) same
       (standing-on storage on q t s.waiting s.begun s.suspended s.offered k stands h.standing done.program done.ends f z) g in
       taken-meets storage s u x k (stories.begins_as storage s.waiting s.suspended s.offered k) (i ∙ f) (standing-taken storage on q t (standing s))
-      (inr (ahead-over s e, starts.0, starts.1))
+      (inr (ahead-over s e, starts.0, starts.1, starts.2, starts.3))
   begun-meets storage s k u t q false e i h o f z g =
       let letting : SubchannelState = record s { hold = record s.hold { phase = hold.Letting t q; seen = 0; first_path = Some q }; pmcw = path_used s.pmcw q } in
       (i ∙ f, refl, inl (over s e, refl, refl, of-program s (halt_done letting) (Some k) h (halt-shows letting)))

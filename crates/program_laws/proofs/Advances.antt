@@ -29,7 +29,7 @@ fetch_or_check P true address answer b u = u Program
 fetch_or_check P false address (Ok bytes) b u = b bytes
 fetch_or_check P false address (Err fault) b u = u (check_of fault)
 
-fetch_cases : (P : Act → Type 0) (storage : Contents) (orb : Orb) (role : Role) (address : ℕ) → ((bytes : List ℕ) → P (Block address bytes)) →
+pub fetch_cases : (P : Act → Type 0) (storage : Contents) (orb : Orb) (role : Role) (address : ℕ) → ((bytes : List ℕ) → P (Block address bytes)) →
     ((check : Check) → P (Unfetched address check)) → P (fetch_act storage orb role address)
 fetch_cases P storage orb role address b u = fetch_or_check P (role.first && is_program_misplaced orb address) address (fetched storage orb.key address 8) b u
 

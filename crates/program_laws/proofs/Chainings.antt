@@ -20,7 +20,7 @@ use Rattle.idaw.specs.Places.{Reach, place_of_byte, each_below, places_of_bytes}
 use Rattle.data_move.specs.Moving as movement
 use Rattle.data_move.specs.Moving.{Moving, moved, next_place, residual, IsAt}
 use Rattle.transfer.specs.declared.Transfer.{Transfer}
-use Rattle.transfer.specs.Commands.{is_skipped, data_of}
+use Rattle.transfer.specs.Commands.{data_of}
 use Rattle.transfer.specs.Chunks.{chains_data, chained_to, chained_from, chained, with_moved, moved_on}
 use Rattle.program_laws.proofs.Named.{chained_reach}
 use Rattle.program_laws.specs.Claims.{has_check, EndsAtCheck}
@@ -32,7 +32,7 @@ use Rattle.program_laws.proofs.MachineActs.{chained_acts, with_acts, with_places
 use Rattle.program_laws.proofs.Lists.{none-some}
 use Rattle.program_laws.proofs.Advances.{Went, UnlessStops, advance-went, advance-ends}
 use Rattle.program_laws.proofs.Standing.{Stands, acts-stand, suspended-unchained}
-use Rattle.program_laws.proofs.Ties.{AreLaws, HasCode, IsMovedTo, Tied, none-next, spot-changed, ccw-of, done-within, with_moved-tied}
+use Rattle.program_laws.proofs.Ties.{AreLaws, data-begins, HasCode, IsMovedTo, Tied, none-next, spot-changed, ccw-of, done-within, with_moved-tied}
 
 module _ (laws : AreLaws) where
   -- where the count is used up, the places are all of them
@@ -58,7 +58,7 @@ module _ (laws : AreLaws) where
       ps ≡ places_of_bytes (block (kind_of orb)) rs → IsMovedTo orb (chained_reach cs rs ccw) (record t { walk = walk; moving = data_of walk t.code ccw; pci_pending = ccw.program_controlled }) ps
   joined-spot orb [] rs t walk ps ccw e h w = absurd h
   joined-spot orb (x ∷ xs) rs t walk ps ccw e h w =
-      (subst (λ (c : ℕ). IsAt (reach c ccw) (data_of walk t.code ccw)) (sym h) (laws.begins (kind_of walk.orb) ccw (is_skipped t.code ccw)), w ∙ sym (append-nil (places_of_bytes (block (kind_of orb)) rs)))
+      (subst (λ (c : ℕ). IsAt (reach c ccw) (data_of walk t.code ccw)) (sym h) (data-begins laws (kind_of walk.orb) t.code ccw), w ∙ sym (append-nil (places_of_bytes (block (kind_of orb)) rs)))
 
   -- so many commands were sent under earlier numbers
   module _ (earlier : ℕ) where

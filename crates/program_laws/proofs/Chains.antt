@@ -15,7 +15,7 @@ use Rattle.channel_program.specs.Walks.{WalkPlace}
 use Rattle.transfer.specs.declared.Beginning.{Beginning}
 use Rattle.transfer.specs.declared.CommandStart.{CommandStart}
 use Rattle.transfer.specs.declared.CommandStart.TheVariants as came
-use Rattle.transfer.specs.Commands.{next_command}
+use Rattle.transfer.specs.Commands.{next_command, begun_with_room}
 use Rattle.scsw_irb.specs.declared.serials.Serials.{Serials}
 use Rattle.subchannel_model.specs.declared.signals.EndSignal.{EndSignal}
 use Rattle.subchannel_model.specs.declared.state.ActiveProgram.{ActiveProgram}
@@ -29,12 +29,16 @@ use Rattle.ccw_codec.specs.declared.Ccw.{Ccw}
 use Rattle.channel_program.specs.declared.Latest.{Latest}
 use Rattle.data_move.specs.Moving.{residual}
 use Rattle.subchannel_model.specs.Status.{serials_made}
+use Rattle.subchannel_model.specs.declared.cause.StatusCause.TheVariants as cause
+use Rattle.subchannel_model.specs.Causes.{with_cause}
 use Rattle.subchannel_model.specs.Taking as taking
 use Rattle.subchannel_model.specs.Parts as taking_parts
 use Rattle.subchannel_model.specs.Taking.{let_go, with_end}
 use Rattle.program_laws.specs.Traces.{CommandTrace, ProgramTrace}
-use Rattle.program_laws.specs.Shows.{IsCountBy}
-use Rattle.program_laws.specs.Tells.{is_length_wrong, IsChained, Chains, Meets}
+use Rattle.program_laws.specs.Shows.{IsShownBy}
+use Rattle.program_laws.specs.Interrupts.{asked, Interrupts, OnlyInterrupts}
+use Rattle.program_laws.specs.Tells.{command_sent, is_length_wrong, IsChained, Chains, Meets}
+use Rattle.program_laws.proofs.Asks.{BeginsAsking, next-asking, asked-interrupts, only-asked, none-sent}
 use Rattle.program_laws.proofs.Latest.{IsLatest, latest-of, next-chains}
 use Rattle.program_laws.proofs.Used.{rest-none}
 use Rattle.program_laws.proofs.Ties.{spot-counts}
@@ -130,12 +134,55 @@ module _ (laws : AreLaws) (accesses : AreAccesses) where
         ),
       )
 
+  -- whose block may ask for an interruption
+  chains-asks : (storage : Contents) (s : SubchannelState) (b : ActiveProgram) (k : ProgramTrace) (signal : EndSignal) (walk : WalkPlace) (c : CommandStart) (acts : List Act) →
+      BeginsAsking storage (asked k.orb k.now.acts) (asked k.orb (acts ++ k.now.acts)) c →
+      Interrupts s (taking.chaining storage s b signal walk c).state k (stories.trace_goes_on storage c acts k)
+  chains-asks storage s b k signal walk (came.Begins transfer) acts a =
+      let u = (begun_with_room storage transfer).transfer in
+      asked-interrupts (taking.with_transfer s b u) (record b { transfer = u }) (asked k.orb k.now.acts) (asked k.orb (acts ++ k.now.acts)) u.pci_pending a.0
+  chains-asks storage s b k signal walk came.Suspends acts a = λ l on. absurd (omega (arith, a, l))
+  chains-asks storage s b k signal walk (came.Stops check) acts a = λ l on. absurd (omega (arith, a, l))
+
+  next-asks : (storage : Contents) (s : SubchannelState) (b : ActiveProgram) (k : ProgramTrace) (signal : EndSignal) → HasWork (Some b) k →
+      let next : Beginning = next_command storage b.transfer (has_status_modifier signal.status) in
+      Interrupts s (taking_parts.chain_with storage s (with_end b) signal next).state k
+      (stories.trace_goes_on storage next.came (next_acts storage b.transfer (has_status_modifier signal.status)) k)
+  next-asks storage s b k signal w =
+      let modifier : Bool = has_status_modifier signal.status in
+      let next : Beginning = next_command storage b.transfer modifier in
+      chains-asks storage s (with_end b) k signal next.walk next.came (next_acts storage b.transfer modifier)
+      (next-asking storage k.orb k.now.acts b.transfer modifier w.0.tied.walk)
+
+  chains-only : (storage : Contents) (s : SubchannelState) (b : ActiveProgram) (k : ProgramTrace) (signal : EndSignal) (walk : WalkPlace) (c : CommandStart) (acts : List Act) →
+      BeginsAsking storage (asked k.orb k.now.acts) (asked k.orb (acts ++ k.now.acts)) c →
+      is_some (command_sent (taking.chaining storage s b signal walk c).came.sent) ≡ true →
+      OnlyInterrupts s (taking.chaining storage s b signal walk c).state k (stories.trace_goes_on storage c acts k)
+  chains-only storage s b k signal walk (came.Begins transfer) acts a e =
+      let u = (begun_with_room storage transfer).transfer in
+      only-asked (taking.with_transfer s b u) (record b { transfer = u }) (asked k.orb k.now.acts) (asked k.orb (acts ++ k.now.acts)) u.pci_pending a.1
+  chains-only storage s b k signal walk came.Suspends acts a e =
+      none-sent (let_go-silent (taking.suspending (taking.end_taken s signal) b.program walk (residual b.transfer.moving))) e
+  chains-only storage s b k signal walk (came.Stops check) acts a e =
+      none-sent (let_go-silent (with_cause (taking.end_taken s signal) (cause.FetchFault walk.tried check (residual b.transfer.moving)))) e
+
+  next-only : (storage : Contents) (s : SubchannelState) (b : ActiveProgram) (k : ProgramTrace) (signal : EndSignal) → HasWork (Some b) k →
+      let next : Beginning = next_command storage b.transfer (has_status_modifier signal.status) in
+      let x : UpStep = taking_parts.chain_with storage s (with_end b) signal next in
+      is_some (command_sent x.came.sent) ≡ true →
+      OnlyInterrupts s x.state k (stories.trace_goes_on storage next.came (next_acts storage b.transfer (has_status_modifier signal.status)) k)
+  next-only storage s b k signal w e =
+      let modifier : Bool = has_status_modifier signal.status in
+      let next : Beginning = next_command storage b.transfer modifier in
+      chains-only storage s (with_end b) k signal next.walk next.came (next_acts storage b.transfer modifier)
+      (next-asking storage k.orb k.now.acts b.transfer modifier w.0.tied.walk) e
+
   -- none
   stops-meets : (storage : Contents) (s : SubchannelState) (b : ActiveProgram) (k : ProgramTrace) (signal : EndSignal) (shown : Shown) (last : Bool) →
       IsChained false s.scsw.functions.halt signal.status signal.more k → signal.number ≡ k.number → signal.command ≡ k.sent →
       let x : UpStep = if last then let_go (end-left laws accesses s b signal shown last) else taking.quietly (end-left laws accesses s b signal shown last) in
       let after : ProgramTrace = stories.ends_alone signal.status k in
-      IsCountBy (is_none s.waiting || not (is_last_end signal.status)) s x.state after →
+      IsShownBy (is_none s.waiting || not (is_last_end signal.status)) s x.state after →
       Meets storage storage s x.state (up.End signal.number signal.command signal.status signal.more) x.came.taken x.came.sent k after
   stops-meets storage s b k signal shown true c m n r = (m, n, refl, inl (c, refl, let_go-silent (end-left laws accesses s b signal shown true), made-more s.pmcw.enabled s.serials, r))
   stops-meets storage s b k signal shown false c m n r = (m, n, refl, inl (c, refl, refl, made-more s.pmcw.enabled s.serials, r))
@@ -153,9 +200,20 @@ module _ (laws : AreLaws) (accesses : AreAccesses) where
       let x : UpStep = taking_parts.chain_with storage s (with_end b) signal next in
       let after : ProgramTrace = stories.trace_goes_on storage next.came (next_acts storage b.transfer (has_status_modifier signal.status)) k in
       subst (λ (t : Bool). Meets storage storage s x.state (up.End signal.number signal.command signal.status signal.more) t x.came.sent k after)
-      (sym (chaining-taken storage s (with_end b) signal next.walk next.came)) (m, n, refl, inr (is-chained s b k signal.status signal.more true w c, chains-on storage s b k signal c d w m, next-shows laws accesses storage s b k signal c w r))
+      (sym (chaining-taken storage s (with_end b) signal next.walk next.came)) (
+        m,
+        n,
+        refl,
+        inr (
+          is-chained s b k signal.status signal.more true w c,
+          chains-on storage s b k signal c d w m,
+          next-shows laws accesses storage s b k signal c w r,
+          next-asks storage s b k signal w,
+          next-only storage s b k signal w,
+        ),
+      )
   goes-meets storage s b k signal true false c d e w m n r =
-      (m, n, refl, inr (is-chained s b k signal.status signal.more true w c, inr (d, refl, refl), unmade s.serials.made (record (taking.end_taken s signal) { begun = Some (with_end b) }) (stories.with_ended k) refl))
+      (m, n, refl, inr (is-chained s b k signal.status signal.more true w c, inr (d, refl, refl), unmade s.serials.made (record (taking.end_taken s signal) { begun = Some (with_end b) }) (stories.with_ended k) refl, λ l on. absurd (omega (arith, l)), λ c l. absurd (omega (arith, l))))
   goes-meets storage s b k signal false y c d e w m n r =
       stops-meets storage s b k signal (end_shown s b signal.status signal.more) (is_last_end signal.status) (is-chained s b k signal.status signal.more false w c) m n
       (stops-shows laws accesses s b k signal w)

@@ -10,6 +10,7 @@ use Rattle.chan_model.specs.declared.signal.Load.{Load}
 use Rattle.chan_model.specs.declared.signal.Up.TheVariants as up
 use Rattle.chan_model.specs.Loads.{load_length}
 use Rattle.chan_model.specs.UnitReports.{is_outward}
+use Rattle.channel_program.specs.Walks.{walk_place}
 use Rattle.transfer.specs.declared.NextChunk.{NextChunk}
 use Rattle.transfer.specs.declared.Transfer.{Transfer}
 use Rattle.transfer.specs.Commands.{located_transfer}
@@ -22,7 +23,10 @@ use Rattle.subchannel_model.proofs.Named as pieces
 use Rattle.subchannel_model.specs.Taking.{Met, bytes_of_load}
 use Rattle.program_laws.specs.Traces.{CommandTrace, ProgramTrace}
 use Rattle.program_laws.specs.Fetches.{AddsFetched}
+use Rattle.program_laws.specs.Interrupts.{asked, Interrupts, OnlyInterrupts}
 use Rattle.program_laws.specs.Tells.{is_used_up, acts_used, Moves, Meets}
+use Rattle.program_laws.proofs.Asks.{asked-interrupts, only-asked, gives-asking, takes_in-asking}
+use Rattle.program_laws.proofs.Unasked.{IsUnasked}
 use Rattle.program_laws.proofs.MachineActs.{gives, takes_in}
 use Rattle.program_laws.proofs.MachineTraces as stories
 use Rattle.program_laws.proofs.Accesses.{AreAccesses}
@@ -30,7 +34,7 @@ use Rattle.program_laws.proofs.Ties.{AreLaws}
 use Rattle.program_laws.proofs.Parts.{IsSame, IsAtWork, absorbed-same, next_given-same, located-same, brought-same, gives-work, takes_in-work}
 use Rattle.program_laws.proofs.Holds.{IsPhase, IsMarked, HasWork, IsHeld}
 use Rattle.program_laws.proofs.Fetches.{gives-adds, takes_in-adds}
-use Rattle.program_laws.proofs.Shows.{ShowsRest, data-shows}
+use Rattle.program_laws.proofs.Shows.{ShowsRestOf, data-shows}
 use Rattle.program_laws.proofs.StatusCounts.{none-counted}
 use Rattle.program_laws.proofs.Moves.{work-codes}
 use Rattle.program_laws.proofs.NextChunks.{gives-next, takes-next, gives-flags, takes-flags}
@@ -88,6 +92,47 @@ module _ (laws : AreLaws) (accesses : AreAccesses) where
         takes-next laws accesses k.earlier storage k.orb k.now t signal.sequence bytes w marks at,
       )
 
+  -- a block that data is chained to may ask for an interruption
+  out-asks : (storage : Contents) (s : SubchannelState) (b : ActiveProgram) (k : ProgramTrace) (signal : DataSignal) (load : Load) → b.transfer.walk ≡ walk_place k.orb k.now.acts → b.transfer.pci_pending ≡ false →
+      Interrupts s (pieces.give_next storage s b signal (load_length load)).state k (record k { now = gives storage b.transfer signal.sequence (load_length load) k.now })
+  out-asks storage s b k signal load e f =
+      let count : ℕ = load_length load in
+      let now : CommandTrace = gives storage b.transfer signal.sequence count k.now in
+      let t : Transfer = (next_given storage (taken_by_device storage b.transfer signal.sequence count)).transfer in
+      asked-interrupts (taking.with_transfer s b t) (record b { transfer = t }) (asked k.orb k.now.acts) (asked k.orb now.acts) t.pci_pending
+      (gives-asking storage k.orb k.now b.transfer signal.sequence count e f).0
+
+  in-asks : (storage : Contents) (s : SubchannelState) (b : ActiveProgram) (k : ProgramTrace) (signal : DataSignal) (load : Load) → b.transfer.walk ≡ walk_place k.orb k.now.acts → b.transfer.pci_pending ≡ false →
+      Interrupts s (taking.take_in s b signal (brought storage b.transfer signal.sequence (bytes_of_load load))).step.state k
+      (record k { now = takes_in storage b.transfer signal.sequence (bytes_of_load load) k.now })
+  in-asks storage s b k signal load e f =
+      let bytes : List ℕ = bytes_of_load load in
+      let now : CommandTrace = takes_in storage b.transfer signal.sequence bytes k.now in
+      let x : Brought = brought storage b.transfer signal.sequence bytes in
+      let t : Transfer = located_transfer x.storage x.transfer in
+      asked-interrupts (taking.with_transfer s b t) (record b { transfer = t }) (asked k.orb k.now.acts) (asked k.orb now.acts) t.pci_pending
+      (takes_in-asking storage k.orb k.now b.transfer signal.sequence bytes e f).0
+
+  out-only : (storage : Contents) (s : SubchannelState) (b : ActiveProgram) (k : ProgramTrace) (signal : DataSignal) (load : Load) → b.transfer.walk ≡ walk_place k.orb k.now.acts → b.transfer.pci_pending ≡ false →
+      OnlyInterrupts s (pieces.give_next storage s b signal (load_length load)).state k (record k { now = gives storage b.transfer signal.sequence (load_length load) k.now })
+  out-only storage s b k signal load e f =
+      let count : ℕ = load_length load in
+      let now : CommandTrace = gives storage b.transfer signal.sequence count k.now in
+      let t : Transfer = (next_given storage (taken_by_device storage b.transfer signal.sequence count)).transfer in
+      only-asked (taking.with_transfer s b t) (record b { transfer = t }) (asked k.orb k.now.acts) (asked k.orb now.acts) t.pci_pending
+      (gives-asking storage k.orb k.now b.transfer signal.sequence count e f).1
+
+  in-only : (storage : Contents) (s : SubchannelState) (b : ActiveProgram) (k : ProgramTrace) (signal : DataSignal) (load : Load) → b.transfer.walk ≡ walk_place k.orb k.now.acts → b.transfer.pci_pending ≡ false →
+      OnlyInterrupts s (taking.take_in s b signal (brought storage b.transfer signal.sequence (bytes_of_load load))).step.state k
+      (record k { now = takes_in storage b.transfer signal.sequence (bytes_of_load load) k.now })
+  in-only storage s b k signal load e f =
+      let bytes : List ℕ = bytes_of_load load in
+      let now : CommandTrace = takes_in storage b.transfer signal.sequence bytes k.now in
+      let x : Brought = brought storage b.transfer signal.sequence bytes in
+      let t : Transfer = located_transfer x.storage x.transfer in
+      only-asked (taking.with_transfer s b t) (record b { transfer = t }) (asked k.orb k.now.acts) (asked k.orb now.acts) t.pci_pending
+      (takes_in-asking storage k.orb k.now b.transfer signal.sequence bytes e f).1
+
   and-left : (a b : Bool) → (a && b) ≡ true → a ≡ true
   and-left true b e = refl
   and-left false b e = absurd (cc e)
@@ -108,46 +153,61 @@ module _ (laws : AreLaws) (accesses : AreAccesses) where
   -- a Data
   abbrev DataBy : Contents → SubchannelState → DataSignal → Load → Met → ProgramTrace → ProgramTrace → Type 0
   DataBy storage s signal load x k after =
-      ShowsRest s.serials.made x.step.state after →
+      ShowsRestOf s.serials.made x.step.state after →
       Meets storage x.storage s x.step.state (up.Data signal.number signal.connection signal.command signal.sequence load) x.step.came.taken x.step.came.sent k after
 
   moves-meets : (storage : Contents) (s : SubchannelState) (b : ActiveProgram) (k : ProgramTrace) (signal : DataSignal) (load : Load) (x : Bool) → s.begun ≡ Some b → is_outward b.transfer.code ≡ x →
+      b.transfer.pci_pending ≡ false →
       signal.number ≡ k.number → signal.command ≡ k.sent → IsMarked k.now b.transfer →
       ((signal.sequence == b.transfer.sequence) || (signal.sequence == b.transfer.sequence + 1)) ≡ true → IsAtWork k.earlier k.orb k.now b.transfer (is_outward b.transfer.code) →
       DataBy storage s signal load (if x then taking.meets storage (pieces.give_next storage s b signal (load_length load))
       else taking.take_in s b signal (brought storage b.transfer signal.sequence (bytes_of_load load))) k
       (if x then record k { now = gives storage b.transfer signal.sequence (load_length load) k.now } else record k { now = takes_in storage b.transfer signal.sequence (bytes_of_load load) k.now })
-  moves-meets storage s b k signal load true is d u n marks at w r =
-      (u, n, (refl, refl, refl, refl), out-told storage s b k signal load (subst (λ (y : Bool). IsAtWork k.earlier k.orb k.now b.transfer y) d w) marks at, r)
-  moves-meets storage s b k signal load false is d u n marks at w r =
-      (u, n, (refl, refl, refl), in-told storage s b k signal load (subst (λ (y : Bool). IsAtWork k.earlier k.orb k.now b.transfer y) d w) marks at, r)
+  moves-meets storage s b k signal load true is d c u n marks at w r = (
+    u,
+    n,
+    (refl, refl, refl, refl),
+    out-told storage s b k signal load (subst (λ (y : Bool). IsAtWork k.earlier k.orb k.now b.transfer y) d w) marks at,
+    r,
+    out-asks storage s b k signal load w.tied.walk c,
+    out-only storage s b k signal load w.tied.walk c,
+  )
+  moves-meets storage s b k signal load false is d c u n marks at w r = (
+    u,
+    n,
+    (refl, refl, refl),
+    in-told storage s b k signal load (subst (λ (y : Bool). IsAtWork k.earlier k.orb k.now b.transfer y) d w) marks at,
+    r,
+    in-asks storage s b k signal load w.tied.walk c,
+    in-only storage s b k signal load w.tied.walk c,
+  )
 
-  answers-meets : (storage : Contents) (s : SubchannelState) (b : ActiveProgram) (k : ProgramTrace) (signal : DataSignal) (load : Load) (x : Bool) → is_answered b.transfer signal.command signal.sequence ≡ x → s.begun ≡ Some b →
+  answers-meets : (storage : Contents) (s : SubchannelState) (b : ActiveProgram) (k : ProgramTrace) (signal : DataSignal) (load : Load) (x : Bool) → is_answered b.transfer signal.command signal.sequence ≡ x → s.begun ≡ Some b → b.transfer.pci_pending ≡ false →
       signal.number ≡ k.number → b.transfer.command ≡ k.sent → IsMarked k.now b.transfer → IsAtWork k.earlier k.orb k.now b.transfer (is_outward b.transfer.code) →
       DataBy storage s signal load (if x then taking.move_bytes storage s b signal load else taking.meets storage (taking.ignoring s)) k
       (if x then stories.moves storage b.transfer signal.sequence load k else k)
-  answers-meets storage s b k signal load true e is u m marks w r =
+  answers-meets storage s b k signal load true e is c u m marks w r =
       let n : signal.command ≡ b.transfer.command = eqb-true signal.command b.transfer.command (and-left _ _ (and-left _ _ e)) in
-      moves-meets storage s b k signal load (is_outward b.transfer.code) is refl u (n ∙ m) marks (and-right _ _ (and-left _ _ e)) w r
-  answers-meets storage s b k signal load false e is u m marks w r = (refl, refl, none-counted s s k refl)
+      moves-meets storage s b k signal load (is_outward b.transfer.code) is refl c u (n ∙ m) marks (and-right _ _ (and-left _ _ e)) w r
+  answers-meets storage s b k signal load false e is c u m marks w r = (refl, refl, none-counted s s k refl)
 
-  work-meets : (storage : Contents) (s : SubchannelState) (b : Option ActiveProgram) (k : ProgramTrace) (signal : DataSignal) (load : Load) → s.begun ≡ b → HasWork b k → signal.number ≡ k.number →
+  work-meets : (storage : Contents) (s : SubchannelState) (b : Option ActiveProgram) (k : ProgramTrace) (signal : DataSignal) (load : Load) → s.begun ≡ b → IsUnasked b → HasWork b k → signal.number ≡ k.number →
       DataBy storage s signal load (taking.move_data storage s b signal load) k (stories.answers storage b signal.command signal.sequence load k)
-  work-meets storage s None k signal load is w u r = (refl, refl, none-counted s s k refl)
-  work-meets storage s (Some b) k signal load is w u r = answers-meets storage s b k signal load (is_answered b.transfer signal.command signal.sequence) refl is u w.1 w.3 w.0 r
+  work-meets storage s None k signal load is c w u r = (refl, refl, none-counted s s k refl)
+  work-meets storage s (Some b) k signal load is c w u r = answers-meets storage s b k signal load (is_answered b.transfer signal.command signal.sequence) refl is c u w.1 w.3 w.0 r
 
-  data-by : (storage : Contents) (s : SubchannelState) (k : ProgramTrace) (signal : DataSignal) (load : Load) (x : Bool) → is_connected s.hold.phase signal.path signal.number signal.connection ≡ x → IsHeld s k →
+  data-by : (storage : Contents) (s : SubchannelState) (k : ProgramTrace) (signal : DataSignal) (load : Load) (x : Bool) → is_connected s.hold.phase signal.path signal.number signal.connection ≡ x → IsHeld s k → IsUnasked s.begun →
       DataBy storage s signal load (if x then taking.move_data storage s s.begun signal load else taking.meets storage (taking.ignoring s)) k
       (if x then stories.answers storage s.begun signal.command signal.sequence load k else k)
-  data-by storage s k signal load true e h r =
-      work-meets storage s s.begun k signal load refl h.work (connected-number s.hold.phase signal k.number s.begun k.sent e h.phase) r
-  data-by storage s k signal load false e h r = (refl, refl, none-counted s s k refl)
+  data-by storage s k signal load true e h c r =
+      work-meets storage s s.begun k signal load refl c h.work (connected-number s.hold.phase signal k.number s.begun k.sent e h.phase) r
+  data-by storage s k signal load false e h c r = (refl, refl, none-counted s s k refl)
 
-  pub data-meets : (storage : Contents) (s : SubchannelState) (k : ProgramTrace) (signal : DataSignal) (load : Load) (x : Bool) → is_connected s.hold.phase signal.path signal.number signal.connection ≡ x → IsHeld s k →
+  pub data-meets : (storage : Contents) (s : SubchannelState) (k : ProgramTrace) (signal : DataSignal) (load : Load) (x : Bool) → is_connected s.hold.phase signal.path signal.number signal.connection ≡ x → IsHeld s k → IsUnasked s.begun →
       let met : Met = if x then taking.move_data storage s s.begun signal load else taking.meets storage (taking.ignoring s) in
       let after : ProgramTrace = if x then stories.answers storage s.begun signal.command signal.sequence load k else k in
       IsHeld met.step.state after →
       Meets storage met.storage s met.step.state (up.Data signal.number signal.connection signal.command signal.sequence load) met.step.came.taken met.step.came.sent k after
-  data-meets storage s k signal load x e h g =
-      data-by storage s k signal load x e h
+  data-meets storage s k signal load x e h c g =
+      data-by storage s k signal load x e h c
       (data-shows storage s signal load (if x then stories.answers storage s.begun signal.command signal.sequence load k else k) x g)

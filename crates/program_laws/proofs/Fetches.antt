@@ -137,6 +137,20 @@ spot-word : (storage : Contents) (orb : Orb) (rs : List Reach) (t : Transfer) (p
 spot-word storage orb [] t ps word e w f k = k
 spot-word storage orb (r ∷ rs) t ps word e w f k = next-word storage orb r rs t.moving word e k.0.ccw k.0.words w f
 
+-- a chunk that is copied is no act
+copy-by : (storage : Contents) (t : Transfer) (r : Result (List ℕ) Check) (p : CommandTrace) →
+    (_ : (with_copy storage t r p).acts ≡ p.acts) × ((with_copy storage t r p).moved ≡ p.moved)
+copy-by storage t (Ok bytes) p = (refl, refl)
+copy-by storage t (Err check) p = (refl, refl)
+
+copy-if : (storage : Contents) (t : Transfer) (r : Result (List ℕ) Check) (p : CommandTrace) (b : Bool) →
+    (_ : (if b then p else with_copy storage t r p).acts ≡ p.acts) × ((if b then p else with_copy storage t r p).moved ≡ p.moved)
+copy-if storage t r p true = (refl, refl)
+copy-if storage t r p false = copy-by storage t r p
+
+pub copy-same : (storage : Contents) (t : Transfer) (p : CommandTrace) → (_ : (copying storage t p).acts ≡ p.acts) × ((copying storage t p).moved ≡ p.moved)
+copy-same storage t p = copy-if storage t (access.copied storage t.walk.orb.key t.moving) p (has_stopped t)
+
 -- so many commands were sent under earlier numbers
 module _ (earlier : ℕ) where
   right-fetched : (storage : Contents) (orb : Orb) (acts : List Act) (ps : List (Option ℕ)) (t : Transfer) (word : ℕ) (f : Option WordFault) →
@@ -229,19 +243,6 @@ module _ (earlier : ℕ) where
         subst (λ (x : Bool). AddsFetched storage orb (acts_used x p.acts) r.acts) (sym (used-by orb kept p q r e))
         (subst (λ (xs : List Act). AddsFetched storage orb (acts_used (is_used_up orb kept p q) p.acts) xs) (sym f)
         (adds-more storage orb (acts_used (is_used_up orb kept p q) p.acts) q.acts acts a b))
-
-    copy-by : (storage : Contents) (t : Transfer) (r : Result (List ℕ) Check) (p : CommandTrace) →
-        (_ : (with_copy storage t r p).acts ≡ p.acts) × ((with_copy storage t r p).moved ≡ p.moved)
-    copy-by storage t (Ok bytes) p = (refl, refl)
-    copy-by storage t (Err check) p = (refl, refl)
-
-    copy-if : (storage : Contents) (t : Transfer) (r : Result (List ℕ) Check) (p : CommandTrace) (b : Bool) →
-        (_ : (if b then p else with_copy storage t r p).acts ≡ p.acts) × ((if b then p else with_copy storage t r p).moved ≡ p.moved)
-    copy-if storage t r p true = (refl, refl)
-    copy-if storage t r p false = copy-by storage t r p
-
-    pub copy-same : (storage : Contents) (t : Transfer) (p : CommandTrace) → (_ : (copying storage t p).acts ≡ p.acts) × ((copying storage t p).moved ≡ p.moved)
-    copy-same storage t p = copy-if storage t (access.copied storage t.walk.orb.key t.moving) p (has_stopped t)
 
     pub gives-adds : (storage : Contents) (orb : Orb) (p : CommandTrace) (t : Transfer) (s count : ℕ) → IsAtWork earlier orb p t true →
         UsedAdds storage orb (is_some t.fault) p (gives storage t s count p)

@@ -30,7 +30,7 @@ use Rattle.machine_model.specs.UpSteps.{returns_at, up_front, up_sub, up_at}
 use Rattle.step_laws.proofs.Places.{get-set, get-other}
 use Rattle.program_laws.specs.Traces.{ProgramTrace}
 use Rattle.chan_model.specs.ResetCauses.{is_path}
-use Rattle.program_laws.specs.Shows.{IsCountLeft}
+use Rattle.program_laws.specs.Shows.{IsStandingShown}
 use Rattle.program_laws.specs.Tells.{Meets, MeetsNone, OfBoth, ShowsBy, AtPlace, GoesBy}
 use Rattle.program_laws.proofs.MachineTraces.{met_with, met_at, trace_meets, trace_after}
 use Rattle.program_laws.proofs.Accesses.{AreAccesses}
@@ -38,6 +38,7 @@ use Rattle.program_laws.proofs.Ties.{AreLaws}
 use Rattle.program_laws.proofs.Holds.{IsHeld, IsUntold, HeldBy}
 use Rattle.program_laws.proofs.HoldMeets.{signal-held}
 use Rattle.program_laws.proofs.Accepts.{accept-meets}
+use Rattle.program_laws.proofs.Unasked.{IsUnasked}
 use Rattle.program_laws.proofs.DataMeets.{data-meets}
 use Rattle.program_laws.proofs.Chains.{end-meets}
 use Rattle.program_laws.proofs.Choices.{unheld-by}
@@ -52,12 +53,12 @@ module _ (laws : AreLaws) (accesses : AreAccesses) where
   abbrev MeetsBy : Contents → SubchannelState → Up → Met → ProgramTrace → ProgramTrace → Type 0
   MeetsBy storage s signal x k after = Meets storage x.storage s x.step.state signal x.step.came.taken x.step.came.sent k after
 
-  signal-meets : (returns : Bool) (storage : Contents) (s : SubchannelState) (p : ℕ) (signal : Up) (k : ProgramTrace) → IsHeld s k → IsOffered s k →
+  signal-meets : (returns : Bool) (storage : Contents) (s : SubchannelState) (p : ℕ) (signal : Up) (k : ProgramTrace) → IsHeld s k → IsOffered s k × IsUnasked s.begun →
       MeetsBy storage s signal (takes_up returns storage s p signal) k (trace_meets storage s p signal k)
   signal-meets returns storage s p (up.Accept t) k h o =
-      accept-meets laws storage s k t s.hold.phase refl h o (signal-held laws accesses returns storage s p (up.Accept t) k h)
+      accept-meets laws storage s k t s.hold.phase refl h o.0 (signal-held laws accesses returns storage s p (up.Accept t) k h)
   signal-meets returns storage s p (up.Data t c n seq load) k h o =
-      data-meets laws accesses storage s k (record { path = p; number = t; connection = c; command = n; sequence = seq }) load (is_connected s.hold.phase p t c) refl h
+      data-meets laws accesses storage s k (record { path = p; number = t; connection = c; command = n; sequence = seq }) load (is_connected s.hold.phase p t c) refl h o.1
       (signal-held laws accesses returns storage s p (up.Data t c n seq load) k h)
   signal-meets returns storage s p (up.End t n status more) k h o =
       end-meets laws accesses storage s k (record { path = p; number = t; command = n; status = status; more = more }) (is_on s.hold.phase t) refl h
@@ -75,20 +76,20 @@ module _ (laws : AreLaws) (accesses : AreAccesses) where
   unoffered : (returns : Bool) (storage : Contents) (s : SubchannelState) (p : ℕ) (signal : Up) → IsUntold s → MeetsNone storage (takes_up returns storage s p signal).storage s (takes_up returns storage s p signal).step.state signal
   unoffered returns storage s p (up.Accept t) u = (
     refl,
-    unheld-by (λ x. IsCountLeft s (accept storage s (offer_accepted s.hold x t (goes_ahead s))).state) s.hold.phase s.drawn u.phase (none-left s s refl) (λ r. none-left s s refl),
+    unheld-by (λ x. IsStandingShown s (accept storage s (offer_accepted s.hold x t (goes_ahead s))).state) s.hold.phase s.drawn u.phase (none-left s s refl) (λ r. none-left s s refl),
   )
   unoffered returns storage s p (up.Data t c n seq load) u = (
     unheld-by
         (λ x. (if is_connected x p t c then move_data storage s s.begun (record { path = p; number = t; connection = c; command = n; sequence = seq }) load
         else meets storage (ignoring s)).storage ≡ storage) s.hold.phase s.drawn u.phase refl (λ r. refl),
     unheld-by
-        (λ x. IsCountLeft s (if is_connected x p t c then move_data storage s s.begun (record { path = p; number = t; connection = c; command = n; sequence = seq }) load
+        (λ x. IsStandingShown s (if is_connected x p t c then move_data storage s s.begun (record { path = p; number = t; connection = c; command = n; sequence = seq }) load
         else meets storage (ignoring s)).step.state) s.hold.phase s.drawn u.phase (none-left s s refl) (λ r. none-left s s refl),
   )
   unoffered returns storage s p (up.End t n status more) u = (
     refl,
     unheld-by
-        (λ x. IsCountLeft s (if is_on x t then end_of storage s s.begun (record { path = p; number = t; command = n; status = status; more = more }) else ignoring s).state)
+        (λ x. IsStandingShown s (if is_on x t then end_of storage s s.begun (record { path = p; number = t; command = n; status = status; more = more }) else ignoring s).state)
         s.hold.phase s.drawn u.phase (none-left s s refl) (λ r. none-left s s refl),
   )
   unoffered returns storage s p (up.Busy t) u = (
@@ -124,9 +125,9 @@ module _ (laws : AreLaws) (accesses : AreAccesses) where
   abbrev TurnMeets : Contents → Subchannel → UpTurn → Option ProgramTrace → Option ProgramTrace → Type 0
   TurnMeets storage sub t k after =
       (signal : Up) × (taken : Bool) × (sent : Option (OnPath Down)) × (t.reply ≡ reply.Up signal taken sent)
-      × (HeldBy sub.state k → OfferedBy sub.state k → OfBoth (MeetsNone storage t.storage sub.state t.sub.state signal) (Meets storage t.storage sub.state t.sub.state signal taken sent) k after)
+      × (HeldBy sub.state k → OfferedBy sub.state k × IsUnasked sub.state.begun → OfBoth (MeetsNone storage t.storage sub.state t.sub.state signal) (Meets storage t.storage sub.state t.sub.state signal taken sent) k after)
 
-  any-meets : (returns : Bool) (storage : Contents) (s : SubchannelState) (p : ℕ) (signal : Up) (k : Option ProgramTrace) → HeldBy s k → OfferedBy s k →
+  any-meets : (returns : Bool) (storage : Contents) (s : SubchannelState) (p : ℕ) (signal : Up) (k : Option ProgramTrace) → HeldBy s k → OfferedBy s k × IsUnasked s.begun →
       let x : Met = takes_up returns storage s p signal in
       OfBoth (MeetsNone storage x.storage s x.step.state signal) (Meets storage x.storage s x.step.state signal x.step.came.taken x.step.came.sent) k (met_with storage s p (Some signal) k)
   any-meets returns storage s p signal None h o = unoffered returns storage s p signal h
@@ -148,7 +149,7 @@ module _ (laws : AreLaws) (accesses : AreAccesses) where
       (front-meets returns storage sub path (slice_get (queue sub.wires.up path) 0) k) tt
 
   module _ (s : State) (place : ℕ) (k : Option ProgramTrace) (held : (sub : Subchannel) → slice_get s.subs place ≡ Some sub → HeldBy sub.state k)
-      (offers : (sub : Subchannel) → slice_get s.subs place ≡ Some sub → OfferedBy sub.state k) where
+      (offers : (sub : Subchannel) → slice_get s.subs place ≡ Some sub → OfferedBy sub.state k × IsUnasked sub.state.begun) where
     abbrev Goes : Event → Reply → State → Type 0
     Goes e r new = GoesBy place s e r new k (trace_after place s e r k)
 

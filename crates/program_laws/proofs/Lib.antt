@@ -47,6 +47,8 @@ mod RunFlows
 mod Latest
 mod Used
 mod Kept
+mod Asks
+mod Unasked
 mod Fetches
 mod Shows
 mod Goings

@@ -3,7 +3,7 @@ use Rattle.std.specs.Prelude.{◌≡◌, ◌⊎◌, ℕ, ◌+◌, ◌^◌, ◌==
 use Rattle.orb_block.specs.declared.Orb.{Orb}
 use Rattle.ccw_codec.specs.declared.Ccw.{Ccw}
 use Rattle.channel_program.specs.Acts.{Act, PlacedBytes}
-use Rattle.channel_program.specs.Programs.{Command, next, commands, code}
+use Rattle.channel_program.specs.Programs.{Command, next, tried, commands, code}
 use Rattle.idaw.specs.Places.{Reach, reach_with_word}
 use Rattle.idaw.specs.declared.ListKind.{ListKind}
 use Rattle.idaw.specs.declared.ListKind.TheVariants.{Short}
@@ -13,7 +13,7 @@ use Rattle.subchannel_model.specs.declared.state.Program.{Program}
 use Rattle.subchannel_model.specs.declared.state.SubchannelState.{SubchannelState}
 use Rattle.program_laws.specs.Claims.{IsBeginning, IsSuspended}
 use Rattle.program_laws.specs.DataAreas.{reach, data_areas, counts}
-use Rattle.program_laws.specs.Shows.{IsCountOf, IsCountZero}
+use Rattle.program_laws.specs.Shows.{IsShownOf, IsZeroShown}
 use Rattle.program_laws.specs.Traces.{ProgramTrace, trace_offered, trace_resumed, absorbs}
 use Rattle.idaw.specs.declared.WordFault.{WordFault}
 use Rattle.data_move.specs.Moving.{Moving}
@@ -32,11 +32,15 @@ resumed_for t k = option_map (trace_resumed t) k
 abbrev pub offered_for : Option Program → ℕ → Option ProgramTrace → Option ProgramTrace
 offered_for waiting t k = elim waiting [ None ↦ k | Some program ↦ Some (trace_offered t program.orb) ]
 
-abbrev pub IsCountOfChoice : Option Chosen → SubchannelState → SubchannelState → Option ProgramTrace → Type 0
-IsCountOfChoice clear s next k = elim clear [ None ↦ IsCountOf s next k | Some act ↦ IsCountZero s next ]
+abbrev pub IsShownOfChoice : Option Chosen → SubchannelState → SubchannelState → Option ProgramTrace → Type 0
+IsShownOfChoice clear s next k = elim clear [ None ↦ IsShownOf s next k | Some act ↦ IsZeroShown s next ]
 
 abbrev pub IsRest : ℕ → ProgramTrace → Type 0
 IsRest count k = counts (data_areas k.orb k.now.acts) ≡ length k.now.moved + count
+
+-- an address and a count of the program
+abbrev pub IsRestAt : ℕ → ℕ → ProgramTrace → Type 0
+IsRestAt address count k = (address ≡ tried k.orb k.now.acts) × IsRest count k
 
 abbrev pub is_of_program : SubchannelState → Bool
 is_of_program s = is_none s.waiting && (is_some s.begun || is_some s.suspended)

@@ -142,7 +142,7 @@ module _ (laws : AreLaws) (accesses : AreAccesses) (earlier : ℕ) where
       let fa = answered-so storage t s count next in
       let fu : SameFlags a u = located-same-flags storage a in
       let fv : GivenFlags u given = given-flags u (access.copied storage u.walk.orb.key u.moving) (has_stopped u) in
-      let same = copy-same earlier laws storage u r in
+      let same = copy-same storage u r in
       let located = located-kept earlier storage orb q.acts q.moved a wa.tied in
       let number : (if s == t.sequence + 1 then min count (room t.moving) else 0) ≡ absorbed_of orb p s count =
       ap (λ (n : ℕ). if s == n + 1 then min count (room t.moving) else 0) (sym marks.0)

@@ -367,6 +367,7 @@ module _ (earlier : ℕ) where
         IsProgram orb acts × (data_areas orb acts ≡ data_areas orb before) × (commands orb acts ≡ commands orb before) × ((role_of orb acts).chained ≡ false) × (walk ≡ walk_place orb acts) × IsSuspended orb acts × EndsAtCheck orb acts
     WentOn storage orb before acts n walk (came.Stops check) =
         IsProgram orb acts × (data_areas orb acts ≡ data_areas orb before) × (commands orb acts ≡ commands orb before) × (next orb acts ≡ None) × EndsAtCheck orb acts
+        × (walk ≡ walk_place orb acts)
 
     right-commands : (orb : Orb) (acts : List Act) (word : ℕ) (f : Option WordFault) → commands orb (doing.act_of_right f word ++ acts) ≡ commands orb acts
     right-commands orb acts word None = refl
@@ -417,7 +418,7 @@ module _ (earlier : ℕ) where
     went-by storage orb before acts n walk (came.Begins t) w k =
         (room-tied earlier laws storage orb acts t k.0, k.1, (k.2.0, room-commands storage orb acts t (brings (class_of t.code)) ∙ k.2.1, k.2.2, room-fresh storage t k.2.3), begins-data storage orb acts t k.0 k.3 k.2.3 (brings (class_of t.code)) refl)
     went-by storage orb before acts n walk came.Suspends w k = (k.0, k.1, k.2, k.3, w, k.4, k.5)
-    went-by storage orb before acts n walk (came.Stops check) w k = k
+    went-by storage orb before acts n walk (came.Stops check) w k = (k.0, k.1, k.2, k.3, k.4, w)
 
     pub goes-on : (storage : Contents) (orb : Orb) (before : List Act) (n : ℕ) → (role_of orb before).chained ≡ false → length (commands orb before) + 1 ≡ earlier + n →
         IsProgram orb before → has_check orb before ≡ false → EndsAtCheck orb before →

@@ -1,6 +1,6 @@
--- The counts of status that the program's device does not bring: of a halt and a clear that are performed, of attention, of an
+-- The addresses and counts of status that the program's device does not bring: of a halt and a clear that are performed, of attention, of an
 -- interface-control check, and of a program that finds no path.
-use Rattle.std.proofs.Common.{◌≡◌, refl, ◌∙◌, subst, arith, ℕ, ◌+◌, ◌<◌, Bool, true, false, List, ◌∷◌, Option, None, Some, Result, Ok}
+use Rattle.std.proofs.Common.{◌≡◌, refl, ap, subst, arith, ℕ, ◌+◌, ◌<◌, Bool, true, false, List, ◌∷◌, Option, None, Some, Result, Ok}
 use Rattle.std.specs.Prelude.{if◌then◌else◌, ◌&&◌, ◌||◌, ◌==◌, not, is_none, is_some, unwrap_or, IfOk, IfSome}
 use Rattle.allegiance.specs.PathUse.{is_any, reachable_paths}
 use Rattle.chan_model.specs.declared.fault.Fault.{Fault}
@@ -10,7 +10,9 @@ use Rattle.chan_model.specs.declared.signal.Down.TheVariants as down
 use Rattle.chan_model.specs.HoldTable as hold_table
 use Rattle.chan_model.specs.HoldTable.{HoldStep}
 use Rattle.chan_events.specs.declared.reply.Reply.TheVariants as reply
+use Rattle.channel_program.specs.Walks.{WalkPlace}
 use Rattle.data_move.specs.Moving.{residual}
+use Rattle.scsw_irb.specs.declared.scsw.Scsw.{Scsw}
 use Rattle.scsw_irb.specs.declared.status.DeviceStatus.{DeviceStatus}
 use Rattle.subchannel_model.specs.declared.cause.StatusCause.TheVariants as cause
 use Rattle.subchannel_model.specs.declared.state.ActiveProgram.{ActiveProgram}
@@ -22,7 +24,7 @@ use Rattle.subchannel_model.specs.declared.state.ProgramPosition.{ProgramPositio
 use Rattle.subchannel_model.specs.declared.state.Subchannel.{Subchannel}
 use Rattle.subchannel_model.specs.declared.state.SubchannelState.{SubchannelState}
 use Rattle.subchannel_model.proofs.Named.{count_by, with_row, with_attention, with_known}
-use Rattle.subchannel_model.specs.Causes.{attention_shown, count_shown, interface_shown, no_path_shown, plain_shown, program_shown, with_cause, without_waiting}
+use Rattle.subchannel_model.specs.Causes.{attention_shown, address_shown, count_shown, of_program, interface_shown, no_path_shown, plain_shown, program_shown, with_cause, without_waiting}
 use Rattle.subchannel_model.specs.Parts.{clear_scsw, scsw_joined, without_intermediate, halt_chosen, offer_chosen, has_any}
 use Rattle.subchannel_model.specs.Choosing.{candidate, chosen, clear_chosen, first_some, halt_sent, marked_sub, offered, over_unless, path_use, reset_chosen, reset_sent, unsent_reset}
 use Rattle.subchannel_model.specs.Losing.{is_offered_or_held, reset_drawn, reset_with, reset_for}
@@ -34,69 +36,78 @@ use Rattle.machine_model.specs.Turns.{SubTurn}
 use Rattle.machine_model.specs.declared.state.Sweep.{Sweep}
 use Rattle.machine_model.specs.PathSteps.{swept}
 use Rattle.program_laws.proofs.Named.{is_of_program}
-use Rattle.program_laws.specs.Shows.{IsCountLeft, IsCountZero, IsCountBy, IsCountOf}
+use Rattle.program_laws.specs.Shows.{IsStandingShown, IsZeroShown, IsShownBy, IsShownOf}
 use Rattle.program_laws.specs.Traces.{ProgramTrace}
 use Rattle.program_laws.proofs.Holds.{HasWork, IsStanding, HeldBy}
-use Rattle.program_laws.proofs.Shows.{status-count, counted, rest-of}
+use Rattle.program_laws.proofs.Shows.{HasPlace, status-count, counted, rest-of}
 use Rattle.program_laws.proofs.Sweeps.{swept-kept}
 use Rattle.program_laws.proofs.Vanishing.{send-ok}
 
 -- no status is made
-pub none-left : (s next : SubchannelState) → next.serials.made ≡ s.serials.made → IsCountLeft s next
+pub none-left : (s next : SubchannelState) → next.serials.made ≡ s.serials.made → IsStandingShown s next
 none-left s next e = λ l. absurd (omega (arith, e, l))
 
-none-by : (x : Bool) (s next : SubchannelState) (k : ProgramTrace) → next.serials.made ≡ s.serials.made → IsCountBy x s next k
+none-by : (x : Bool) (s next : SubchannelState) (k : ProgramTrace) → next.serials.made ≡ s.serials.made → IsShownBy x s next k
 none-by true s next k e = λ l. absurd (omega (arith, e, l))
 none-by false s next k e = none-left s next e
 
-pub none-counted : (s next : SubchannelState) (k : ProgramTrace) → next.serials.made ≡ s.serials.made → IsCountOf s next (Some k)
+pub none-counted : (s next : SubchannelState) (k : ProgramTrace) → next.serials.made ≡ s.serials.made → IsShownOf s next (Some k)
 none-counted s next k e = none-by (is_of_program s) s next k e
 
--- where a status was made, its count is that of the program of which it speaks
-abbrev pub ShowsCount : SubchannelState → SubchannelState → Type 0
-ShowsCount s next = s.serials.made < next.serials.made → next.scsw.count ≡ count_shown s
+-- where a status was made, its address and its count are those of the program of which it speaks
+abbrev pub ShowsItsProgram : SubchannelState → SubchannelState → Type 0
+ShowsItsProgram s next = s.serials.made < next.serials.made → HasPlace next.scsw (address_shown s) (count_shown s)
 
-pub none-made : (s next : SubchannelState) → next.serials.made ≡ s.serials.made → ShowsCount s next
+-- by its programs
+abbrev address_by : ℕ → Option Program → Option ActiveProgram → Option ProgramPosition → ℕ
+address_by stands waiting begun suspended = of_program stands (λ b. b.transfer.walk.tried) (λ st. st.walk.tried) waiting begun suspended
+
+abbrev HasPlaceBy : Scsw → Scsw → Option Program → Option ActiveProgram → Option ProgramPosition → Type 0
+HasPlaceBy next scsw waiting begun suspended =
+    HasPlace next (address_by scsw.command_address waiting begun suspended) (count_by scsw.count waiting begun suspended)
+
+pub none-made : (s next : SubchannelState) → next.serials.made ≡ s.serials.made → ShowsItsProgram s next
 none-made s next e = λ l. absurd (omega (arith, e, l))
 
--- so it is the rest of the program at work, or of the suspended one; or it stands
+-- so they are of the program at work, or of the suspended one; or they stand
 count-of : (s next : SubchannelState) (w : Option Program) (b : Option ActiveProgram) (st : Option ProgramPosition) (k : ProgramTrace) → HasWork b k → IsStanding w b st k →
-    (s.serials.made < next.serials.made → next.scsw.count ≡ count_by s.scsw.count w b st) → IsCountBy (is_none w && (is_some b || is_some st)) s next k
+    (s.serials.made < next.serials.made → HasPlaceBy next.scsw s.scsw w b st) → IsShownBy (is_none w && (is_some b || is_some st)) s next k
 count-of s next (Some program) b st k h x f = f
-count-of s next None (Some b) st k h x f = λ l. counted next.scsw.count (residual b.transfer.moving) k (f l) (rest-of b k h)
-count-of s next None None (Some st) k h x f = λ l. counted next.scsw.count st.count k (f l) x.4
+count-of s next None (Some b) st k h x f = λ l. counted next.scsw b.transfer.walk.tried (residual b.transfer.moving) k (f l) (rest-of b k h)
+count-of s next None None (Some st) k h x f = λ l. counted next.scsw st.walk.tried st.count k (f l) (ap (λ (y : WalkPlace). y.tried) x.2, x.4)
 count-of s next None None None k h x f = f
 
-count-stands : (count : ℕ) (w : Option Program) (b : Option ActiveProgram) (st : Option ProgramPosition) → b ≡ None → st ≡ None → count_by count w b st ≡ count
-count-stands count (Some program) b st e f = refl
-count-stands count None None None e f = refl
-count-stands count None None (Some st) e f = absurd (cc f)
-count-stands count None (Some b) st e f = absurd (cc e)
+place-stands : (next scsw : Scsw) (w : Option Program) (b : Option ActiveProgram) (st : Option ProgramPosition) → b ≡ None → st ≡ None →
+    HasPlaceBy next scsw w b st → HasPlace next scsw.command_address scsw.count
+place-stands next scsw (Some program) b st e f g = g
+place-stands next scsw None None None e f g = g
+place-stands next scsw None None (Some st) e f g = absurd (cc f)
+place-stands next scsw None (Some b) st e f g = absurd (cc e)
 
-pub of-program : (s next : SubchannelState) (k : Option ProgramTrace) → HeldBy s k → ShowsCount s next → IsCountOf s next k
-of-program s next None h f = λ l. f l ∙ count-stands s.scsw.count s.waiting s.begun s.suspended h.begun h.suspended
+pub of-program : (s next : SubchannelState) (k : Option ProgramTrace) → HeldBy s k → ShowsItsProgram s next → IsShownOf s next k
+of-program s next None h f = λ l. place-stands next.scsw s.scsw s.waiting s.begun s.suspended h.begun h.suspended (f l)
 of-program s next (Some k) h f = count-of s next s.waiting s.begun s.suspended k h.work h.standing f
 
 -- a halt that is performed
-halt-count : (s : SubchannelState) → ShowsCount s (with_cause s cause.HaltDone)
+halt-count : (s : SubchannelState) → ShowsItsProgram s (with_cause s cause.HaltDone)
 halt-count s l = status-count s.pmcw.enabled (scsw_joined s.pmcw.enabled s.scsw (without_intermediate s.scsw)) s.serials (program_shown s) l
 
-pub halt-shows : (s : SubchannelState) → ShowsCount s (halt_done s)
+pub halt-shows : (s : SubchannelState) → ShowsItsProgram s (halt_done s)
 halt-shows s = by s.scsw.activity.halt_pending
   where
-    by : (b : Bool) → ShowsCount s (if b then with_cause s cause.HaltDone else s)
+    by : (b : Bool) → ShowsItsProgram s (if b then with_cause s cause.HaltDone else s)
     by true = halt-count s
     by false = none-made s s refl
 
 -- a clear that is performed
-clear-count : (s : SubchannelState) → IsCountZero s (with_cause s cause.ClearDone)
+clear-count : (s : SubchannelState) → IsZeroShown s (with_cause s cause.ClearDone)
 clear-count s l = status-count s.pmcw.enabled (scsw_joined s.pmcw.enabled s.scsw clear_scsw) s.serials (plain_shown 0 0) l
 
-clear-zero : (s : SubchannelState) (b : Bool) → IsCountZero s (if b then with_cause s cause.ClearDone else s)
+clear-zero : (s : SubchannelState) (b : Bool) → IsZeroShown s (if b then with_cause s cause.ClearDone else s)
 clear-zero s true = clear-count s
 clear-zero s false = λ l. absurd (omega (arith, l))
 
-pub cleared-zero : (s : SubchannelState) (phase : HoldPhase) (u : ℕ) → IsCountZero s (reset_taken s (hold_table.reset_cleared s.hold phase u)).state
+pub cleared-zero : (s : SubchannelState) (phase : HoldPhase) (u : ℕ) → IsZeroShown s (reset_taken s (hold_table.reset_cleared s.hold phase u)).state
 cleared-zero s hold.Free u = λ l. absurd (omega (arith, l))
 cleared-zero s (hold.Offer t p) u = λ l. absurd (omega (arith, l))
 cleared-zero s (hold.On t p c) u = λ l. absurd (omega (arith, l))
@@ -104,36 +115,36 @@ cleared-zero s (hold.Away t) u = λ l. absurd (omega (arith, l))
 cleared-zero s (hold.Letting t p) u = λ l. absurd (omega (arith, l))
 cleared-zero s (hold.Reset r) u = by (u == r)
   where
-    by : (x : Bool) → IsCountZero s (reset_taken s (if x then Some (hold_table.hold_quietly (record s.hold { phase = hold.Free; reset_path = None })) else None)).state
+    by : (x : Bool) → IsZeroShown s (reset_taken s (if x then Some (hold_table.hold_quietly (record s.hold { phase = hold.Free; reset_path = None })) else None)).state
     by true = clear-zero (record s { hold = record s.hold { phase = hold.Free; reset_path = None } }) s.scsw.activity.clear_pending
     by false = λ l. absurd (omega (arith, l))
 
 -- attention
-attention-left : (s : SubchannelState) (shows : Bool) → IsCountLeft s (with_attention s shows)
+attention-left : (s : SubchannelState) (shows : Bool) → IsStandingShown s (with_attention s shows)
 attention-left s true = λ l. status-count s.pmcw.enabled (scsw_joined s.pmcw.enabled s.scsw s.scsw) s.serials (attention_shown s) l
 attention-left s false = none-left s s refl
 
 pub attended-left : (s : SubchannelState) (p a : ℕ) (status : DeviceStatus) →
-    IsCountLeft s (taking.attend s status (hold_table.attended s.hold s.hold.phase p a (taking.may_attend s))).state
+    IsStandingShown s (taking.attend s status (hold_table.attended s.hold s.hold.phase p a (taking.may_attend s))).state
 attended-left s p a status =
     let step : Option HoldStep = hold_table.attended s.hold s.hold.phase p a (taking.may_attend s) in
     attention-left (record s { hold = hold_table.hold_after s.hold step }) ((hold_table.came_of step).taken && not (status.0 == 0x20))
 
 -- the hold is to be reset as a path is lost, or as the unit was restarted
-reset-shows : (s : SubchannelState) (shows : Bool) → ShowsCount s (reset_with s shows)
+reset-shows : (s : SubchannelState) (shows : Bool) → ShowsItsProgram s (reset_with s shows)
 reset-shows s true = λ l. status-count s.pmcw.enabled (scsw_joined s.pmcw.enabled s.scsw s.scsw) s.serials (interface_shown (reset_drawn s)) l
 reset-shows s false = none-made s (reset_with s false) refl
 
-lost-shows : (s : SubchannelState) → ShowsCount s (reset_for s)
+lost-shows : (s : SubchannelState) → ShowsItsProgram s (reset_for s)
 lost-shows s = reset-shows s (is_offered_or_held s.hold.phase && has_any s.waiting s.begun s.suspended)
 
-pub noticed-shows : (s : SubchannelState) (b : ℕ) (more : Bool) → ShowsCount s (if more then taking.quietly (reset_for (with_known s b)) else taking.ignoring s).state
+pub noticed-shows : (s : SubchannelState) (b : ℕ) (more : Bool) → ShowsItsProgram s (if more then taking.quietly (reset_for (with_known s b)) else taking.ignoring s).state
 noticed-shows s b true = lost-shows (with_known s b)
 noticed-shows s b false = none-made s s refl
 
-pub swept-shows : (what : Sweep) (x : Subchannel) → ShowsCount x.state (swept what x).state
+pub swept-shows : (what : Sweep) (x : Subchannel) → ShowsItsProgram x.state (swept what x).state
 swept-shows what x =
-    swept-kept x (λ y. ShowsCount x.state y.state) (λ y path up f. f) (λ path f. f) (λ wires f. lost-shows x.state)
+    swept-kept x (λ y. ShowsItsProgram x.state y.state) (λ y path up f. f) (λ path f. f) (λ wires f. lost-shows x.state)
     (λ f. none-made x.state (state_reset x.state) refl) what (none-made x.state x.state refl)
 
 -- what is chosen: a clear is performed where one is pending and a Reset is due, and then nothing else makes status
@@ -202,22 +213,22 @@ chosen-clear sub choice =
 
 -- and its count is zero; otherwise the status speaks of the program
 abbrev pub ChooseShows : Option Chosen → SubchannelState → SubchannelState → Type 0
-ChooseShows None s next = ShowsCount s next
-ChooseShows (Some c) s next = IsCountZero s next
+ChooseShows None s next = ShowsItsProgram s next
+ChooseShows (Some c) s next = IsZeroShown s next
 
 quiet-shows : (clear : Option Chosen) (s next : SubchannelState) → next.serials.made ≡ s.serials.made → ChooseShows clear s next
 quiet-shows None s next e = none-made s next e
 quiet-shows (Some c) s next e = λ l. absurd (omega (arith, e, l))
 
-zero-shows : (clear : Option Chosen) (s next : SubchannelState) → is_some clear ≡ true → IsCountZero s next → ChooseShows clear s next
+zero-shows : (clear : Option Chosen) (s next : SubchannelState) → is_some clear ≡ true → IsZeroShown s next → ChooseShows clear s next
 zero-shows None s next e z = absurd (cc e)
 zero-shows (Some c) s next e z = z
 
-other-shows : (clear : Option Chosen) (s next : SubchannelState) → clear ≡ None → ShowsCount s next → ChooseShows clear s next
+other-shows : (clear : Option Chosen) (s next : SubchannelState) → clear ≡ None → ShowsItsProgram s next → ChooseShows clear s next
 other-shows None s next e f = f
 other-shows (Some c) s next e f = absurd (cc e)
 
-path-shows : (s : SubchannelState) (w : Option Program) → ShowsCount s (with_row s (record { shown = no_path_shown s; left = without_waiting w s }) s.scsw)
+path-shows : (s : SubchannelState) (w : Option Program) → ShowsItsProgram s (with_row s (record { shown = no_path_shown s; left = without_waiting w s }) s.scsw)
 path-shows s None = λ l. status-count s.pmcw.enabled (scsw_joined s.pmcw.enabled s.scsw s.scsw) s.serials (no_path_shown s) l
 path-shows s (Some program) = λ l. status-count s.pmcw.enabled (scsw_joined s.pmcw.enabled s.scsw s.scsw) s.serials (no_path_shown s) l
 

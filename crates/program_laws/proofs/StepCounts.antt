@@ -1,4 +1,4 @@
--- The count of the status that a step makes in which no signal comes up.
+-- The address and the count of the status that a step makes in which no signal comes up.
 use Rattle.std.proofs.Common.{◌≡◌, refl, sym, ◌∙◌, ap, subst, arith, ℕ, Bool, true, false, Option, None, Some, List, Result, inl, inr}
 use Rattle.std.specs.Prelude.{slice_get, slice_set, if◌then◌else◌, IfOk}
 use Rattle.chan_events.specs.declared.event.Event.{Event}
@@ -23,8 +23,8 @@ use Rattle.machine_model.specs.Turns.{DownTurn}
 use Rattle.step_laws.specs.Walks as walked
 use Rattle.step_laws.specs.Walks.{Walked, Function, IsQuiet, effect_of}
 use Rattle.step_laws.proofs.Places.{set-get, map-get}
-use Rattle.program_laws.specs.Shows.{IsCountZero, IsCountOf}
-use Rattle.program_laws.proofs.Named.{IsCountOfChoice}
+use Rattle.program_laws.specs.Shows.{IsZeroShown, IsShownOf}
+use Rattle.program_laws.proofs.Named.{IsShownOfChoice}
 use Rattle.program_laws.specs.Tells.{ShowsBy, AtPlace}
 use Rattle.program_laws.specs.Traces.{ProgramTrace}
 use Rattle.program_laws.proofs.Holds.{HeldBy}
@@ -32,12 +32,12 @@ use Rattle.program_laws.proofs.StatusCounts.{none-left, none-counted, clear_of, 
 use Rattle.program_laws.proofs.Turns.{IsSameSub, down-same, report-same}
 use Rattle.program_laws.proofs.UnitActs.{IsActed, act-acted}
 
--- the count of a program, unless a clear is performed and it is zero
-by-choice : (clear : Option Chosen) (s next : SubchannelState) (k : Option ProgramTrace) → IsCountOf s next k → IsCountZero s next → IsCountOfChoice clear s next k
+-- those of a program, unless a clear is performed and they are zero
+by-choice : (clear : Option Chosen) (s next : SubchannelState) (k : Option ProgramTrace) → IsShownOf s next k → IsZeroShown s next → IsShownOfChoice clear s next k
 by-choice None s next k i z = i
 by-choice (Some c) s next k i z = z
 
-by-event : (e : Event) (s next : SubchannelState) (k : Option ProgramTrace) → IsCountOf s next k → ((word : ℕ) → e ≡ event.Choose word → IsCountZero s next) → ShowsBy e s next k
+by-event : (e : Event) (s next : SubchannelState) (k : Option ProgramTrace) → IsShownOf s next k → ((word : ℕ) → e ≡ event.Choose word → IsZeroShown s next) → ShowsBy e s next k
 by-event (event.Put address bytes) s next k i z = i
 by-event (event.SetKey address key) s next k i z = i
 by-event (event.SetPrefix cpu address) s next k i z = i
@@ -56,7 +56,7 @@ by-event (event.PathReset chpid) s next k i z = i
 by-event event.SystemReset s next k i z = i
 
 -- no status is made
-none-zero : (s next : SubchannelState) → next.serials.made ≡ s.serials.made → IsCountZero s next
+none-zero : (s next : SubchannelState) → next.serials.made ≡ s.serials.made → IsZeroShown s next
 none-zero s next m = λ l. absurd (omega (arith, m, l))
 
 none-made : (e : Event) (s next : SubchannelState) (k : Option ProgramTrace) → next.serials.made ≡ s.serials.made → ShowsBy e s next k
@@ -124,7 +124,7 @@ module _ (s : State) (place : ℕ) where
     one-unshown e new at sub after there subs m =
         one-changes new at sub after (λ x y. ShowsBy e x y k) there subs (λ here. none-made e sub.state after.state k m) (λ x. none-made e x x k refl)
 
-    choose-by : (clear : Option Chosen) (x y : SubchannelState) → HeldBy x k → ChooseShows clear x y → IsCountOfChoice clear x y k
+    choose-by : (clear : Option Chosen) (x y : SubchannelState) → HeldBy x k → ChooseShows clear x y → IsShownOfChoice clear x y k
     choose-by None x y h f = of-program x y k h f
     choose-by (Some c) x y h f = f
 

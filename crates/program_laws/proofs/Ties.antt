@@ -1,7 +1,7 @@
 -- What is kept of a transfer agrees with what was done for its program, act by act.
 use Rattle.std.proofs.Common.{◌≡◌, refl, ap, sym, ◌∙◌, subst, ℕ, suc, ◌+◌, ◌%◌, ◌≤◌, ◌<◌, Bool, true, false, List, [], ◌∷◌, ◌++◌, length, Option, Some, None, Result, Ok, Err, inl, inr, arith, append_assoc, length-append}
-use Rattle.std.specs.Prelude.{◌⊎◌, ◌&&◌, ◌==◌, not, min, nat_lt, is_some, IsSome, ◌↔◌, if◌then◌else◌}
-use Rattle.std.proofs.lemmas.Bool.{and_parts, eqb-true, ltb-true}
+use Rattle.std.specs.Prelude.{◌⊎◌, ◌&&◌, ◌||◌, ◌==◌, not, min, nat_lt, is_some, IsSome, ◌↔◌, if◌then◌else◌}
+use Rattle.std.proofs.lemmas.Bool.{and_parts, eqb-true, eqb-false, ltb-true}
 use Rattle.std.proofs.Math.Nat.{min-le_right}
 use Rattle.orb_block.specs.declared.Orb.{Orb}
 use Rattle.ccw_codec.specs.declared.Ccw.{Ccw}
@@ -37,7 +37,7 @@ use Rattle.channel_config.specs.Setup.{Setup}
 use Rattle.machine_model.specs.State.{State, opening_of}
 use Rattle.machine_model.specs.Steps.{Run}
 use Rattle.program_laws.proofs.Named.{word_after, has_leftmost_bit, is_outside, where_right}
-use Rattle.program_laws.specs.DataAreas.{reach, data_areas, reaches_after, counts}
+use Rattle.program_laws.specs.DataAreas.{reach, brings_in, data_areas, reaches_after, counts}
 use Rattle.program_laws.proofs.Named.{reaches_with}
 use Rattle.program_laws.proofs.MachineActs.{act_of_right, act_of_word, word_acts, located_acts, room_acts}
 use Rattle.program_laws.specs.Claims.{IsBeginning, IsSuspended, has_check, EndsAtCheck}
@@ -64,6 +64,26 @@ pub record AreLaws : Type 0 where
 abbrev pub HasCode : List Command → ℕ → Type 0
 HasCode [] c = ⊥
 HasCode (x ∷ xs) c = code x ≡ c
+
+-- write and control are the codes of bytes that go to the device
+outward-codes : (code : ℕ) (a b c : Bool) → (code % 4 == 1) ≡ a → (code % 4 == 3) ≡ b → (code % 2 == 1) ≡ c → c ≡ (a || b)
+outward-codes code true true c e f g = absurd (omega (arith, eqb-true (code % 4) 1 e, eqb-true (code % 4) 3 f))
+outward-codes code true false true e f g = refl
+outward-codes code true false false e f g = absurd (omega (arith, eqb-true (code % 4) 1 e, eqb-false (code % 2) 1 g))
+outward-codes code false true true e f g = refl
+outward-codes code false true false e f g = absurd (omega (arith, eqb-true (code % 4) 3 f, eqb-false (code % 2) 1 g))
+outward-codes code false false true e f g = absurd (omega (arith, eqb-false (code % 4) 1 e, eqb-false (code % 4) 3 f, eqb-true (code % 2) 1 g))
+outward-codes code false false false e f g = refl
+
+skipped-same : (code : ℕ) (ccw : Ccw) → is_skipped code ccw ≡ (ccw.skip && brings_in code)
+skipped-same code ccw =
+    ap (λ (outward : Bool). ccw.skip && not outward) (outward-codes code (code % 4 == 1) (code % 4 == 3) (code % 2 == 1) refl refl refl)
+
+-- the data of a block as it takes control
+pub data-begins : AreLaws → (kind : ListKind) (code : ℕ) (ccw : Ccw) → IsAt (reach code ccw) (moving_begun kind ccw (is_skipped code ccw))
+data-begins laws kind code ccw =
+    subst (λ (skips : Bool). IsAt (record { ccw = ccw; skipped = skips; words = [] }) (moving_begun kind ccw (is_skipped code ccw))) (skipped-same code ccw)
+    (laws.begins kind ccw (is_skipped code ccw))
 
 -- the places of the bytes that were moved are those of the blocks before, and the first of the latest
 abbrev pub IsMovedTo : Orb → List Reach → Transfer → List (Option ℕ) → Type 0
@@ -190,7 +210,7 @@ module _ (earlier : ℕ) where
             kind = ap (λ (x : WalkPlace). kind_of x.orb) w;
             spot =
                 subst (λ (rs : List Reach). IsMovedTo orb rs (transfer_of walk n ccw) []) (sym reached)
-                (laws.begins (kind_of walk.orb) ccw (is_skipped ccw.command ccw), refl);
+                (data-begins laws (kind_of walk.orb) ccw.command ccw, refl);
             number = ap length commanded ∙ (let z : suc (length cs) ≡ length cs + 1 = omega arith in z) ∙ l;
             ends = en;
             checked = λ z. hc;

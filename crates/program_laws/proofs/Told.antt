@@ -23,6 +23,7 @@ use Rattle.program_laws.proofs.LinkNeeds.{held-needs}
 use Rattle.program_laws.proofs.RunOrders.{AllNeeds, run-takes}
 use Rattle.program_laws.proofs.Choices.{IsKept, KeptBy, kept-held, run-held}
 use Rattle.program_laws.proofs.OfferRuns.{run-offers}
+use Rattle.program_laws.proofs.Unasked.{run-unasked}
 use Rattle.program_laws.proofs.RunFlows.{AllHeld, run-absorbs}
 
 module _ (laws : AreLaws) (accesses : AreAccesses) where
@@ -67,7 +68,7 @@ module _ (laws : AreLaws) (accesses : AreAccesses) where
         k,
         run-place setup lawful h old run place a.0 a.1,
         step-goes laws accesses old place k (λ x f. kept-held x.state k (run-held laws accesses setup lawful h old run place x f))
-            (λ x f. (run-offers laws accesses setup lawful h old run place x f).1) e r new step,
+            (λ x f. ((run-offers laws accesses setup lawful h old run place x f).1, run-unasked laws.walks setup lawful h old run place x f)) e r new step,
         correct-if (trace_after place old e r k) (λ after f. run-correct setup lawful _ _ (Stepped h old e r new run step) place sub after at f),
       )
 

@@ -1,5 +1,5 @@
 -- The data of the command at work, block by block (SA22-7832, chapter 15).
-use Rattle.std.specs.Prelude.{ℕ, ◌+◌, Bool, if◌then◌else◌, List, [], ◌∷◌}
+use Rattle.std.specs.Prelude.{ℕ, ◌+◌, ◌%◌, ◌==◌, ◌&&◌, ◌||◌, not, Bool, if◌then◌else◌, List, [], ◌∷◌}
 use Rattle.orb_block.specs.declared.Orb.{Orb}
 use Rattle.ccw_codec.specs.declared.Ccw.{Ccw}
 use Rattle.channel_program.specs.declared.Reading.{Reading}
@@ -8,11 +8,15 @@ use Rattle.channel_program.specs.Acts.{Act, Block, Word}
 use Rattle.channel_program.specs.Blocks.{reads}
 use Rattle.channel_program.specs.Programs.{Command, role_of, commands, code}
 use Rattle.idaw.specs.Places.{Reach, reach_with_word}
-use Rattle.transfer.specs.Commands.{is_skipped}
 
--- a block that took control in a command of this code, of whose list no word was fetched
+-- read, read backward and sense bring bytes to storage; write, whose low bits are 01, and control, whose are 11, bring none
+abbrev pub brings_in : ℕ → Bool
+brings_in code = not (code % 4 == 1 || code % 4 == 3)
+
+-- a block that took control in a command of this code, of whose list no word was fetched. Where its SKIP flag is one, a read, a
+-- read backward and a sense store nothing (skipping)
 abbrev pub reach : ℕ → Ccw → Reach
-reach code ccw = record { ccw = ccw; skipped = is_skipped code ccw; words = [] }
+reach code ccw = record { ccw = ccw; skipped = ccw.skip && brings_in code; words = [] }
 
 -- data that is chained is of the command at work, whose code it has; otherwise a command begins
 abbrev pub reaches_after : Bool → List Command → List Reach → Reading → List Reach

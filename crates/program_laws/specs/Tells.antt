@@ -35,7 +35,8 @@ use Rattle.program_laws.specs.DataAreas.{data_areas, counts}
 use Rattle.program_laws.specs.Fetches.{AddsFetched}
 use Rattle.program_laws.specs.Claims.{IsBeginning, places_of, IsSuspended, has_check, TraceCorrect}
 use Rattle.program_laws.specs.Reached.{BeginsData, room_of, is_short, skips, CantReach, CantStore, CantFetch}
-use Rattle.program_laws.specs.Shows.{IsCountShown, IsCountLeft, IsCountZero, IsCountBy, IsCountOf}
+use Rattle.program_laws.specs.Interrupts.{Interrupts, OnlyInterrupts}
+use Rattle.program_laws.specs.Shows.{IsProgramShown, IsStandingShown, IsZeroShown, IsShownBy, IsShownOf}
 
 -- a command that was sent: the number of its program, which of the commands under that number it is, its code, and how many bytes may come
 pub record SentCommand : Type 0 where
@@ -79,8 +80,9 @@ pub record Begins (storage : Contents) (sent : Option (OnPath Down)) (k after : 
 
 abbrev pub Accepted : Contents → SubchannelState → SubchannelState → Option (OnPath Down) → ProgramTrace → ProgramTrace → Type 0
 Accepted storage s next sent k after =
-    (IsOver s × (command_sent sent ≡ None) × (after ≡ k) × IsCountOf s next (Some k))
-    ⊎ ((IsOver s → ⊥) × Begins storage sent k after × IsCountShown s next after)
+    (IsOver s × (command_sent sent ≡ None) × (after ≡ k) × IsShownOf s next (Some k))
+    ⊎ ((IsOver s → ⊥) × Begins storage sent k after × IsProgramShown s next after × Interrupts s next k after
+    × (is_some (command_sent sent) ≡ true → OnlyInterrupts s next k after))
 
 -- How many bytes a Data moves: of a write, of those that the device says it absorbed, where it is the next, as many as there is room
 -- for at the next places; and of a write, how many are given next
@@ -207,40 +209,41 @@ Chains storage status sent k after =
     ((has_device_end status ≡ true) × GoesOn storage sent (ended true status ∷ k.now.acts) k after)
     ⊎ ((has_device_end status ≡ false) × (sent ≡ None) × (after ≡ record k { now = record k.now { ended = true } }))
 
--- or none is, and status is made; the last End of a program while a start waits leaves the count of that start
+-- or none is, and status is made; the last End of a program while a start waits leaves the address and the count of that start
 abbrev pub Ends : Contents → SubchannelState → SubchannelState → DeviceStatus → Bool → Option (OnPath Down) → ProgramTrace → ProgramTrace → Type 0
 Ends storage s next status more sent k after =
     (IsChained false s.scsw.functions.halt status more k × (after ≡ record k { now = record k.now { acts = ended false status ∷ k.now.acts; ended = true; unchained = true } })
     × (command_sent sent ≡ None) × (s.pmcw.enabled ≡ true → s.serials.made < next.serials.made)
-    × IsCountBy (is_none s.waiting || not (is_last_end status)) s next after)
-    ⊎ (IsChained true s.scsw.functions.halt status more k × Chains storage status sent k after × IsCountShown s next after)
+    × IsShownBy (is_none s.waiting || not (is_last_end status)) s next after)
+    ⊎ (IsChained true s.scsw.functions.halt status more k × Chains storage status sent k after × IsProgramShown s next after
+    × Interrupts s next k after × (is_some (command_sent sent) ≡ true → OnlyInterrupts s next k after))
 
--- what a signal that is taken tells, and the count of the status that it makes
+-- what a signal that is taken tells, and the address and the count of the status that it makes
 abbrev pub Meets : Contents → Contents → SubchannelState → SubchannelState → Up → Bool → Option (OnPath Down) → ProgramTrace → ProgramTrace → Type 0
 Meets former storage s next (up.Accept t) true sent k after = (t ≡ k.number) × (storage ≡ former) × Accepted storage s next sent k after
 Meets former storage s next (up.Data t c n seq load) true sent k after =
     (t ≡ k.number) × (n ≡ k.sent) × IsAnswerTo t c n seq sent
-    × Moves former storage seq load sent k after × IsCountShown s next after
+    × Moves former storage seq load sent k after × IsProgramShown s next after × Interrupts s next k after × OnlyInterrupts s next k after
 Meets former storage s next (up.End t n status more) true sent k after = (t ≡ k.number) × (n ≡ k.sent) × (storage ≡ former) × Ends storage s next status more sent k after
-Meets former storage s next (up.Cleared r) taken sent k after = (after ≡ k) × (storage ≡ former) × IsCountZero s next
-Meets former storage s next (up.Attn a status) taken sent k after = (after ≡ k) × (storage ≡ former) × IsCountLeft s next
-Meets former storage s next signal taken sent k after = (after ≡ k) × (storage ≡ former) × IsCountOf s next (Some k)
+Meets former storage s next (up.Cleared r) taken sent k after = (after ≡ k) × (storage ≡ former) × IsZeroShown s next
+Meets former storage s next (up.Attn a status) taken sent k after = (after ≡ k) × (storage ≡ former) × IsStandingShown s next
+Meets former storage s next signal taken sent k after = (after ≡ k) × (storage ≡ former) × IsShownOf s next (Some k)
 
 -- and where there is no program
 abbrev pub MeetsNone : Contents → Contents → SubchannelState → SubchannelState → Up → Type 0
-MeetsNone former storage s next (up.Cleared r) = (storage ≡ former) × IsCountZero s next
-MeetsNone former storage s next signal = (storage ≡ former) × IsCountLeft s next
+MeetsNone former storage s next (up.Cleared r) = (storage ≡ former) × IsZeroShown s next
+MeetsNone former storage s next signal = (storage ≡ former) × IsStandingShown s next
 
 abbrev pub OfBoth : Type 0 → (ProgramTrace → ProgramTrace → Type 0) → Option ProgramTrace → Option ProgramTrace → Type 0
 OfBoth N P None None = N
 OfBoth N P (Some k) (Some after) = P k after
 OfBoth N P k after = ⊥
 
--- the count of the status that another event makes: of a clear that is pending where a Reset is due, Choose shows zero
+-- the address and the count of the status that another event makes: of a clear that is pending where a Reset is due, Choose shows zero
 abbrev pub ShowsBy : Event → SubchannelState → SubchannelState → Option ProgramTrace → Type 0
 ShowsBy (event.Choose word) s next k =
-    elim (clear_chosen (unsent_reset s.hold) s.scsw.activity.clear_pending) [ None ↦ IsCountOf s next k | Some clear ↦ IsCountZero s next ]
-ShowsBy e s next k = IsCountOf s next k
+    elim (clear_chosen (unsent_reset s.hold) s.scsw.activity.clear_pending) [ None ↦ IsShownOf s next k | Some clear ↦ IsZeroShown s next ]
+ShowsBy e s next k = IsShownOf s next k
 
 -- of the subchannel at a place, before a step and after it
 abbrev pub AtPlace : ℕ → State → State → (SubchannelState → SubchannelState → Type 0) → Type 0

@@ -23,10 +23,13 @@ use storage_keys::law as storage;
 /// bytes were moved that use up the counts so far, and no check was kept before; a chunk that is given is copied from the next
 /// places, as many bytes as there is room for, or none where the transfer has stopped; an End chains a command exactly where by
 /// the program one is next, nothing breaks the chain and no earlier End of the command was shown, and otherwise makes status;
-/// and the count of status that an Accept, a Data or an End makes is the sum of the counts of the command's blocks less the
-/// bytes that were moved, but for the last End of a program while a start waits, which leaves the count. Status of a halt, of
-/// an interface-control check and of a program that finds no path shows the count of the program at work or suspended, and
-/// leaves it where a start waits or no program is there; attention leaves it, and a clear shows zero. After each step each
+/// and the command address of status that an Accept, a Data or an End makes is eight more than the address of the block whose
+/// fetch was tried last, and its count the sum of the counts of the command's blocks less the bytes that were moved, but for the
+/// last End of a program while a start waits, which leaves both. Status of a halt, of an interface-control check and of a program
+/// that finds no path shows the address and the count of the program at work or suspended, and leaves them where a start waits
+/// or no program is there; attention leaves them, and a clear shows zero. A block that takes control with its PCI flag one makes
+/// intermediate status with PCI at once, and neither a Data nor a command that is sent makes status of anything else. After each
+/// step each
 /// block stands where the blocks before it say, none was fetched after a check, and each that is next was fetched, but of a
 /// program that did not begin or that was suspended; the device took consecutive commands of the program under the number of its offer, each once, from the first
 /// on, or where it was suspended from the first that was not sent before; the bytes that were moved are those at the first
