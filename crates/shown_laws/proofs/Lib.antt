@@ -25,3 +25,6 @@ mod RequestRuns
 mod Lowest
 mod Order
 mod Oldest
+mod Words
+mod WordRuns
+mod LogicalOffers

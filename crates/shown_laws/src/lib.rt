@@ -10,6 +10,7 @@ ghost use Rattle.shown_laws.specs.Choices.{AreChoicesRight};
 ghost use Rattle.shown_laws.specs.Codes.{AreCodesRight, AreThree};
 ghost use Rattle.shown_laws.specs.Functions.{DoFunctionsFollow};
 ghost use Rattle.shown_laws.specs.Interruptions.{IsAskedFor, IsGivenOnce, IsLowestFirst, IsOldestFirst};
+ghost use Rattle.shown_laws.specs.Paths.{AreOffersLogical};
 ghost use Rattle.shown_laws.specs.Serials.{AreMade, ArePendingShown};
 
 use machine_laws::{numbers, setups, steps};
@@ -72,4 +73,14 @@ pub fn requests()
     setups();
     steps();
     event_laws::codes();
+}
+
+/// In each run each program is offered, anew or resumed, by a path of the logical-path mask that STORE SUBCHANNEL shows just before
+/// (SA22-7832, chapter 15).
+pub fn logical_offers()
+    ensures logical { (setup : Setup) (h : List Entry) (s : State) → Run (opening_of setup) h s → AreOffersLogical (set_count setup) h }
+{
+    walks();
+    setups();
+    steps();
 }
