@@ -28,3 +28,5 @@ mod Oldest
 mod Words
 mod WordRuns
 mod LogicalOffers
+mod Using
+mod LastUsed

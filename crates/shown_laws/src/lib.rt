@@ -10,7 +10,7 @@ ghost use Rattle.shown_laws.specs.Choices.{AreChoicesRight};
 ghost use Rattle.shown_laws.specs.Codes.{AreCodesRight, AreThree};
 ghost use Rattle.shown_laws.specs.Functions.{DoFunctionsFollow};
 ghost use Rattle.shown_laws.specs.Interruptions.{IsAskedFor, IsGivenOnce, IsLowestFirst, IsOldestFirst};
-ghost use Rattle.shown_laws.specs.Paths.{AreOffersLogical};
+ghost use Rattle.shown_laws.specs.Paths.{AreOffersLogical, ShowsLastUsed};
 ghost use Rattle.shown_laws.specs.Serials.{AreMade, ArePendingShown};
 
 use machine_laws::{numbers, setups, steps};
@@ -79,6 +79,16 @@ pub fn requests()
 /// (SA22-7832, chapter 15).
 pub fn logical_offers()
     ensures logical { (setup : Setup) (h : List Entry) (s : State) → Run (opening_of setup) h s → AreOffersLogical (set_count setup) h }
+{
+    walks();
+    setups();
+    steps();
+}
+
+/// In each run the last-path-used mask that STORE SUBCHANNEL shows is of the path by which an Accept was answered last, or a
+/// reconnection granted, since the subchannel was cleared or reset; it is zero where there is none (SA22-7832, chapter 15).
+pub fn last_used()
+    ensures used { (setup : Setup) (h : List Entry) (s : State) → Run (opening_of setup) h s → ShowsLastUsed (set_count setup) h }
 {
     walks();
     setups();
