@@ -30,3 +30,5 @@ mod WordRuns
 mod LogicalOffers
 mod Using
 mod LastUsed
+mod Coding
+mod Deferring

@@ -6,3 +6,4 @@ pub mod Serials
 pub mod Choices
 pub mod Interruptions
 pub mod Paths
+pub mod Deferred
