@@ -1,5 +1,5 @@
 -- Which deferred condition code a status brings.
-use Rattle.std.proofs.Common.{◌≡◌, refl, sym, ◌∙◌, ap, subst, arith, ℕ, ◌+◌, ◌<◌, ◌==◌, ◌&&◌, nat_lt, Bool, true, false, not, Option, None, Some, inl, inr}
+use Rattle.std.proofs.Common.{◌≡◌, refl, sym, ◌∙◌, ap, subst, ℕ, ◌+◌, ◌==◌, ◌&&◌, nat_lt, Bool, true, false, not, Option, None, Some, inl, inr}
 use Rattle.std.specs.Prelude.{◌⊎◌, is_some, option_map, unwrap_or, if◌then◌else◌}
 use Rattle.std.proofs.lemmas.Bool.{and_parts}
 use Rattle.scsw_irb.specs.declared.scsw.DeferredCode.{DeferredCode}
@@ -39,7 +39,7 @@ use Rattle.subchannel_model.specs.declared.state.UpStep.{UpStep}
 use Rattle.subchannel_model.specs.declared.status.Shown.{Shown}
 use Rattle.subchannel_model.specs.Causes.{row_of, scsw_before, with_cause}
 use Rattle.subchannel_model.specs.Ends.{has_status_modifier, chains_command, last_shown, work_shown}
-use Rattle.subchannel_model.specs.Losing.{is_offered_or_held, reset_drawn, reset_with, reset_for, loses_at, shows_at}
+use Rattle.subchannel_model.specs.Losing.{is_offered_or_held, reset_drawn, reset_with, reset_for, loses_at}
 use Rattle.subchannel_model.specs.Parts.{suspended_alone, standing_still, chain_with, end_shown_at, has_any, scsw_joined}
 use Rattle.subchannel_model.specs.Status.{scsw_made, serials_made, with_joined, no_device_status, no_subchannel_status}
 use Rattle.subchannel_model.proofs.Named.{with_known, with_attention}
@@ -56,7 +56,7 @@ abbrev pub Coded : (DeferredCode → Type 0) → SubchannelState → SubchannelS
 Coded P s y = ((y.serials.made ≡ s.serials.made) × (y.scsw.deferred ≡ s.scsw.deferred)) ⊎ ((y.serials.made ≡ s.serials.made + 1) × P y.scsw.deferred)
 
 pub coded-if : (P Q : DeferredCode → Type 0) (s y : SubchannelState) → ((d : DeferredCode) → P d → Q d) → Coded P s y → Coded Q s y
-coded-if P Q s y f c = elim c [ | inl k ↦ inl k | inr k ↦ inr (k.0, f y.scsw.deferred k.1) ]
+coded-if P Q s y f c = elim c [ inl k ↦ inl k | inr k ↦ inr (k.0, f y.scsw.deferred k.1) ]
 
 abbrev pub Stays : SubchannelState → SubchannelState → Type 0
 Stays s y = Coded (λ d. d ≡ s.scsw.deferred) s y
@@ -73,8 +73,11 @@ status-coded : (e f : Bool) (x : Serials) (scsw joins : Scsw) (shown : Shown) �
     (((serials_made e x).made ≡ x.made) × ((scsw_made e (scsw_joined f scsw joins) shown).deferred ≡ scsw.deferred))
     ⊎ (((serials_made e x).made ≡ x.made + 1) × ((scsw_made e (scsw_joined f scsw joins) shown).deferred ≡ unwrap_or shown.deferred joins.deferred))
 status-coded true true x scsw joins shown e =
-    inr (refl, either-code joins.status.pending (with_joined joins joins.status joins.device_status joins.subchannel_status shown)
-    (with_joined joins no_status no_device_status no_subchannel_status shown) (unwrap_or shown.deferred joins.deferred) refl refl)
+    inr (
+      refl,
+      either-code joins.status.pending (with_joined joins joins.status joins.device_status joins.subchannel_status shown)
+          (with_joined joins no_status no_device_status no_subchannel_status shown) (unwrap_or shown.deferred joins.deferred) refl refl,
+    )
 status-coded false false x scsw joins shown e = inl (refl, refl)
 status-coded true false x scsw joins shown e = absurd (cc e)
 status-coded false true x scsw joins shown e = absurd (cc e)

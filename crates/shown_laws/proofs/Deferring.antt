@@ -1,6 +1,6 @@
 -- After each step the deferred condition code is the one that is due.
-use Rattle.std.proofs.Common.{◌≡◌, refl, sym, ◌∙◌, ap, subst, arith, ℕ, ◌+◌, ◌<◌, ◌&&◌, not, Bool, true, false, Option, None, Some, List, inl, inr}
-use Rattle.std.specs.Prelude.{slice_get, if◌then◌else◌}
+use Rattle.std.proofs.Common.{◌≡◌, refl, sym, ◌∙◌, ap, subst, arith, ℕ, ◌&&◌, not, Bool, true, false, Option, None, Some, List, inl, inr}
+use Rattle.std.specs.Prelude.{if◌then◌else◌}
 use Rattle.scsw_irb.specs.declared.scsw.DeferredCode.{DeferredCode}
 use Rattle.scsw_irb.specs.declared.scsw.DeferredCode.TheVariants as deferred
 use Rattle.scsw_irb.specs.declared.scsw.Scsw.{Scsw}
@@ -35,15 +35,15 @@ use Rattle.subchannel_model.specs.Causes.{with_cause}
 use Rattle.subchannel_model.specs.Choosing.{chosen, marked_sub}
 use Rattle.subchannel_model.specs.Conditions.{left_by}
 use Rattle.subchannel_model.specs.Halt.{drops_status, halt_begun, status_dropped}
-use Rattle.subchannel_model.specs.Losing.{loses, loses_at, path_index, shows_at}
+use Rattle.subchannel_model.specs.Losing.{loses, path_index, shows_at}
 use Rattle.subchannel_model.specs.Parts.{starting, resuming}
 use Rattle.subchannel_model.specs.Programs.{without_programs}
 use Rattle.subchannel_model.specs.Status.{intermediate_alone, without_status}
-use Rattle.subchannel_model.specs.Test.{ends_suspended, ended_scsw, suspended_scsw, tested, tested_scsw, tested_wholly}
+use Rattle.subchannel_model.specs.Test.{ends_suspended, ended_scsw, suspended_scsw, tested, tested_scsw}
 use Rattle.shown_laws.specs.Deferred.{deferred_by, deferred_after, IsChoiceCode, IsCodeDue, IsDeferredRight, AreDeferredRight}
 use Rattle.shown_laws.specs.Shown.{names, is_about, is_accepted}
 use Rattle.shown_laws.proofs.Chosen.{IsCandidate, IsWhy, why-chosen}
-use Rattle.shown_laws.proofs.Coding.{Coded, coded-if, Stays, cause_code, cause-coded, loses-stays, takes-coded}
+use Rattle.shown_laws.proofs.Coding.{Coded, coded-if, cause-coded, loses-stays, takes-coded}
 use Rattle.shown_laws.proofs.Effects.{seen}
 use Rattle.shown_laws.proofs.Executed.{IsEffect, reply_of, code_for, state_left}
 use Rattle.shown_laws.proofs.Fitting.{Fits, run-fits}

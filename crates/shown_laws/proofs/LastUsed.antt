@@ -30,7 +30,7 @@ use Rattle.subchannel_model.specs.Losing.{loses, path_index}
 use Rattle.subchannel_model.specs.Places.{place_in}
 use Rattle.subchannel_model.specs.Programs.{without_programs}
 use Rattle.subchannel_model.specs.Test.{ends_suspended, tested}
-use Rattle.shown_laws.specs.Paths.{IsWordShown, used_met, used_after, used_through, used_in, ShowsLastUsed}
+use Rattle.shown_laws.specs.Paths.{used_met, used_after, used_through, used_in, ShowsLastUsed}
 use Rattle.shown_laws.specs.Shown.{names, is_about, is_accepted}
 use Rattle.shown_laws.proofs.Executed.{IsEffect, reply_of, code_for, state_left}
 use Rattle.shown_laws.proofs.Runs.{AreLaws, IsPassed, passed, passed-next, sets-stay, run-keeps}

@@ -1,9 +1,9 @@
 -- A program is offered by a path of the logical-path mask.
-use Rattle.std.proofs.Common.{◌≡◌, refl, sym, ◌∙◌, ap, subst, ℕ, ◌+◌, ◌<◌, Bool, true, false, Option, None, Some, Result, List, [], ◌∷◌, ◌++◌}
+use Rattle.std.proofs.Common.{◌≡◌, sym, ◌∙◌, ap, subst, ℕ, ◌+◌, ◌<◌, Bool, true, false, Option, None, Some, Result, List, [], ◌∷◌, ◌++◌}
 use Rattle.std.specs.Prelude.{slice_get, if◌then◌else◌, IfOk}
 use Rattle.std.proofs.lemmas.Bool.{and_parts}
 use Rattle.std.proofs.lemmas.Option.{same_Some}
-use Rattle.allegiance.specs.PathUse.{is_member, keeps_dedicated, is_allowed, allowed_paths, in_both, reachable_paths, usable_paths}
+use Rattle.allegiance.specs.PathUse.{is_member, keeps_dedicated, is_allowed, allowed_paths, in_both, reachable_paths}
 use Rattle.zbits.specs.Bits.{field_of}
 use Rattle.chan_events.specs.declared.event.Event.{Event}
 use Rattle.chan_events.specs.declared.event.Event.TheVariants as event
@@ -28,11 +28,11 @@ use Rattle.subchannel_model.specs.Sending.{carried_by, finds_full}
 use Rattle.machine_laws.specs.Claims.{is_id}
 use Rattle.machine_model.specs.ChooseSteps.{choose_sub}
 use Rattle.machine_model.specs.State.{State, opening_of, place_of, sub_of}
-use Rattle.machine_model.specs.Steps.{Run, Step}
+use Rattle.machine_model.specs.Steps.{Run}
 use Rattle.machine_model.specs.Turns.{SubTurn}
 use Rattle.step_laws.specs.Walks as walked
 use Rattle.step_laws.specs.Walks.{Walked, IsQuiet, Suits}
-use Rattle.shown_laws.specs.Paths.{IsWordShown, IsOfferLogical, IsEntryLogical, AreOffersLogical}
+use Rattle.shown_laws.specs.Paths.{IsOfferLogical, IsEntryLogical, AreOffersLogical}
 use Rattle.shown_laws.specs.Shown.{names}
 use Rattle.shown_laws.proofs.Named.{same-id}
 use Rattle.shown_laws.proofs.Runs.{AreLaws, IsPassed, passed, passed-next, sets-stay}

@@ -1,6 +1,6 @@
 -- What each step leaves of the path that a subchannel used last.
-use Rattle.std.proofs.Common.{◌≡◌, refl, sym, ◌∙◌, ap, subst, ℕ, ◌+◌, ◌==◌, ◌&&◌, nat_lt, Bool, true, false, not, Option, None, Some}
-use Rattle.std.specs.Prelude.{is_some, ◌||◌, if◌then◌else◌}
+use Rattle.std.proofs.Common.{◌≡◌, refl, sym, ◌∙◌, ap, ℕ, ◌==◌, ◌&&◌, nat_lt, Bool, true, false, not, Option, None, Some}
+use Rattle.std.specs.Prelude.{is_some, if◌then◌else◌}
 use Rattle.std.proofs.lemmas.Bool.{and_parts}
 use Rattle.storage_keys.specs.Storage.{Contents}
 use Rattle.channel_program.specs.Walks.{WalkPlace}
@@ -19,7 +19,6 @@ use Rattle.data_move.specs.Moving.{residual}
 use Rattle.transfer.specs.declared.Beginning.{Beginning}
 use Rattle.transfer.specs.declared.CommandStart.{CommandStart}
 use Rattle.transfer.specs.declared.CommandStart.TheVariants as came
-use Rattle.transfer.specs.declared.Transfer.{Transfer}
 use Rattle.transfer.specs.Commands.{first_command, next_command, begun_with_room, with_room}
 use Rattle.transfer.specs.Chunks.{taken_by_device, next_given, brought, is_answered}
 use Rattle.subchannel_model.specs.declared.cause.StatusCause.{StatusCause}
@@ -38,8 +37,8 @@ use Rattle.subchannel_model.specs.Causes.{without_begun, without_waiting, progra
 use Rattle.subchannel_model.specs.Ends.{has_status_modifier, chains_command}
 use Rattle.subchannel_model.specs.Losing.{is_offered_or_held, reset_with, reset_for, loses_at, shows_at}
 use Rattle.subchannel_model.specs.Parts.{suspended_alone, standing_still, chain_with, end_shown_at, has_any}
-use Rattle.subchannel_model.proofs.Named.{with_known, give_next, with_attention}
-use Rattle.subchannel_model.specs.Taking.{Met, meets, ignoring, quietly, let_go, by_hold, without_pci, interrupted, standing, goes_ahead, path_used, taking_over, suspending, beginning, begin_standing, halt_done, clear_done, accept, back, moving_on, giving, take_in, bytes_of_load, move_bytes, move_data, with_end, with_transfer, end_taken, chaining, goes_on, stops_at, command_ended, end_of, reset_taken, may_attend, takes_up}
+use Rattle.subchannel_model.proofs.Named.{with_known, with_attention}
+use Rattle.subchannel_model.specs.Taking.{Met, meets, ignoring, quietly, let_go, by_hold, without_pci, interrupted, standing, goes_ahead, path_used, taking_over, suspending, beginning, begin_standing, halt_done, clear_done, accept, back, giving, take_in, bytes_of_load, move_bytes, move_data, with_end, with_transfer, end_taken, chaining, goes_on, stops_at, command_ended, end_of, reset_taken, may_attend, takes_up}
 use Rattle.shown_laws.specs.Paths.{used_met}
 use Rattle.shown_laws.proofs.Turned.{state_chosen}
 

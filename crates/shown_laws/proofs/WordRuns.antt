@@ -1,7 +1,6 @@
 -- Where word 2 of the block of a subchannel is shown, it has the masks of that subchannel.
-use Rattle.std.proofs.Common.{◌≡◌, refl, sym, ◌∙◌, ap, subst, ℕ, zero, suc, ◌+◌, Bool, true, false, Option, None, Some, Result, Ok, Err, List, [], ◌∷◌, ◌++◌, map}
+use Rattle.std.proofs.Common.{◌≡◌, refl, sym, ◌∙◌, ap, subst, ℕ, zero, suc, ◌+◌, Bool, true, false, Option, None, Some, Result, Ok, Err, List, [], ◌∷◌}
 use Rattle.std.specs.Prelude.{slice_get, slice_set, slice_index, if◌then◌else◌}
-use Rattle.std.proofs.lemmas.Option.{same_Some}
 use Rattle.zbits.specs.Bits.{field_of}
 use Rattle.zbits.specs.Layout.{image_of}
 use Rattle.schib_block.specs.SchibTable.{schib_tables}
@@ -16,23 +15,21 @@ use Rattle.chan_events.specs.declared.reply.Entry.{Entry}
 use Rattle.chan_events.specs.declared.reply.Reply.{Reply}
 use Rattle.chan_events.specs.declared.reply.Reply.TheVariants as reply
 use Rattle.channel_config.specs.declared.names.SubchannelId.{SubchannelId}
-use Rattle.channel_config.specs.Setup.{Setup, set_count}
 use Rattle.channel_config.specs.SubchannelWords.{subchannel_named}
 use Rattle.subchannel_model.specs.declared.state.Subchannel.{Subchannel}
 use Rattle.subchannel_model.specs.Places.{Found, found_at, place_in}
 use Rattle.subchannel_model.specs.Store.{schib_of}
 use Rattle.machine_laws.specs.Claims.{is_id}
-use Rattle.machine_model.specs.InstructionSteps.{store_at, with_schib}
+use Rattle.machine_model.specs.InstructionSteps.{store_at}
 use Rattle.machine_model.specs.Requests.{settled}
-use Rattle.machine_model.specs.State.{State, opening_of}
-use Rattle.machine_model.specs.Steps.{Run, Step}
+use Rattle.machine_model.specs.State.{State}
+use Rattle.machine_model.specs.Steps.{Step}
 use Rattle.machine_model.specs.StorageSteps.{storage_turn}
 use Rattle.machine_model.specs.Turns.{Turn, Outcome, does, where_tested}
 use Rattle.machine_model.proofs.Named.{Executes_on, requests_settled, show_turn_of}
 use Rattle.shown_laws.specs.Paths.{IsWordShown}
 use Rattle.shown_laws.specs.Shown.{names, is_accepted}
 use Rattle.shown_laws.proofs.Named.{found-there, same-id}
-use Rattle.shown_laws.proofs.Runs.{AreLaws, IsPassed, passed, passed-next, sets-stay}
 use Rattle.shown_laws.proofs.Words.{shows-masks}
 
 -- what a turn left, but for the requests for interruptions

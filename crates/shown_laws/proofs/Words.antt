@@ -1,20 +1,18 @@
 -- Word 2 of a subchannel-information block, as it stands in storage after STORE SUBCHANNEL by a CPU whose prefix is zero.
-use Rattle.std.proofs.Common.{◌≡◌, ◌≢◌, refl, sym, ◌∙◌, ap, subst, arith, lit<, ℕ, zero, suc, ◌+◌, ◌*◌, ◌/◌, ◌%◌, ◌^◌, ◌<◌, ◌≤◌, Bool, true, false, ◌||◌, ◌==◌, Option, None, Some, Result, Ok, Err, List, [], ◌∷◌, ◌++◌, length, map, set, get_or}
+use Rattle.std.proofs.Common.{◌≡◌, refl, sym, ◌∙◌, ap, subst, arith, lit<, ℕ, zero, suc, ◌+◌, ◌^◌, ◌<◌, ◌≤◌, Bool, true, false, ◌||◌, ◌==◌, Option, None, Some, Ok, Err, List, [], ◌∷◌, length, map, set, get_or}
 use Rattle.std.specs.Prelude.{nat_lt, nat_le, slice_index, slice_set, slice_range, if◌then◌else◌}
 use Rattle.std.specs.List.{range_with_len}
 use Rattle.std.proofs.lemmas.Bool.{eq-eqb}
 use Rattle.std.proofs.lemmas.Bool.Decides.{nat_tests}
 use Rattle.std.proofs.lemmas.List.{get_or-set_other, get_or-set_same, length-set}
 use Rattle.std.proofs.Math.Nat.{div-le_self}
-use Rattle.byteorder.specs.Endian.{big_bytes, big_number}
+use Rattle.byteorder.specs.Endian.{big_number}
 use Rattle.zbits.specs.Bits.{field_of}
 use Rattle.zbits.specs.Layout.{AllFit, ShowsFields, bit_number, image_of, word_of}
-use Rattle.zbits.specs.Words.{bytes_of_words}
 use Rattle.zbits.proofs.LayoutLemmas.{bit_number-lt, shows_word_of, word_of-lt}
 use Rattle.zbits.proofs.OneImage.{big_number-big_bytes}
-use Rattle.storage_keys.specs.declared.StorageFault.{StorageFault}
 use Rattle.storage_keys.specs.declared.StorageFault.TheVariants.{Addressing}
-use Rattle.storage_keys.specs.Storage.{Contents, absolute_under, absolute, absolute_places, is_inside, operand_stored, shown, with_values}
+use Rattle.storage_keys.specs.Storage.{Contents, absolute_under, absolute, absolute_places, operand_stored, shown, with_values}
 use Rattle.storage_keys.proofs.OperandLemmas.{map-slice_index-range}
 use Rattle.schib_block.specs.declared.schib.Schib.{Schib}
 use Rattle.schib_block.specs.SchibTable.{schib_tables, word_2}

@@ -6,7 +6,6 @@ use Rattle.scsw_irb.specs.declared.scsw.ActivityControl.{ActivityControl}
 use Rattle.scsw_irb.specs.declared.scsw.DeferredCode.{DeferredCode}
 use Rattle.scsw_irb.specs.declared.scsw.DeferredCode.TheVariants as deferred
 use Rattle.scsw_irb.specs.declared.scsw.Scsw.{Scsw}
-use Rattle.scsw_irb.specs.declared.status.DeviceStatus.{DeviceStatus}
 use Rattle.chan_events.specs.declared.event.Event.{Event}
 use Rattle.chan_events.specs.declared.event.Event.TheVariants as event
 use Rattle.chan_events.specs.declared.event.Instruction.{Instruction}

@@ -2,7 +2,7 @@
 -- (SA22-7832, chapter 15, the path-management-control word). They stand in word 2 of the block that it stores at real addresses; where the
 -- prefix of its CPU is zero these are absolute, and what stands there is shown. None of this changes anything of the subchannel, so what is
 -- claimed of an entry right after it, and of the entries before it, is claimed of what the subchannel has then.
-use Rattle.std.specs.Prelude.{◌≡◌, ℕ, ◌+◌, ◌&&◌, Bool, true, false, if◌then◌else◌, Option, None, Some, List, [], ◌∷◌, ◌++◌}
+use Rattle.std.specs.Prelude.{◌≡◌, ℕ, ◌+◌, ◌&&◌, true, if◌then◌else◌, Option, None, Some, List, [], ◌∷◌, ◌++◌}
 use Rattle.byteorder.specs.Endian.{big_number}
 use Rattle.zbits.specs.Bits.{field_of}
 use Rattle.chan_events.specs.declared.event.Event.{Event}
