@@ -25,7 +25,7 @@ IsWhy s (Resets r path) = Unit {0}
 IsWhy s PerformsClear = s.scsw.activity.clear_pending ≡ true
 IsWhy s (Halts t path) = s.scsw.activity.halt_pending ≡ true
 IsWhy s PerformsHalt = s.scsw.activity.halt_pending ≡ true
-IsWhy s FindsNoPath = (c : Candidate) × IsCandidate s c × (is_held s.hold.phase ≡ false)
+IsWhy s FindsNoPath = (c : Candidate) × IsCandidate s c × (is_held s.hold.phase ≡ false) × (s.scsw.activity.halt_pending ≡ false)
 IsWhy s (Offers c path) = IsCandidate s c × (s.scsw.activity.halt_pending ≡ false) × (s.hold.phase ≡ hold.Free)
 
 abbrev IfThere : {A : Type 0} → (A → Type 0) → Option A → Type 0
@@ -68,19 +68,24 @@ free-halt : (pending : Bool) (choice : Option ℕ) → halt_chosen pending hold.
 free-halt false choice e = refl
 free-halt true choice e = absurd (cc e)
 
-over-why : (s : SubchannelState) (c : Candidate) (reachable : Bool) → IsCandidate s c → is_held s.hold.phase ≡ false → IfThere (IsWhy s) (over_unless reachable)
-over-why s c true k e = tt
-over-why s c false k e = (c, k, e)
+reset-halt : (pending : Bool) (r : ℕ) (choice : Option ℕ) → halt_chosen pending (hold.Reset r) choice ≡ None → pending ≡ false
+reset-halt false r choice e = refl
+reset-halt true r choice e = absurd (cc e)
+
+over-why : (s : SubchannelState) (c : Candidate) (reachable : Bool) → IsCandidate s c → is_held s.hold.phase ≡ false → s.scsw.activity.halt_pending ≡ false →
+    IfThere (IsWhy s) (over_unless reachable)
+over-why s c true k e idle = tt
+over-why s c false k e idle = (c, k, e, idle)
 
 offer_at-why : (s : SubchannelState) (phase : HoldPhase) (c : Candidate) (reachable : Bool) (choice : Option ℕ) → s.hold.phase ≡ phase →
     halt_chosen s.scsw.activity.halt_pending phase choice ≡ None → IsCandidate s c → IfThere (IsWhy s) (offer_at phase c reachable choice)
-offer_at-why s hold.Free c reachable None e none k = over-why s c reachable k (ap is_held e)
+offer_at-why s hold.Free c reachable None e none k = over-why s c reachable k (ap is_held e) (free-halt s.scsw.activity.halt_pending None none)
 offer_at-why s hold.Free c reachable (Some path) e none k = (k, free-halt s.scsw.activity.halt_pending (Some path) none, e)
 offer_at-why s (hold.Offer t p) c reachable choice e none k = tt
 offer_at-why s (hold.On t p d) c reachable choice e none k = tt
 offer_at-why s (hold.Away t) c reachable choice e none k = tt
 offer_at-why s (hold.Letting t p) c reachable choice e none k = tt
-offer_at-why s (hold.Reset r) c reachable choice e none k = over-why s c reachable k (ap is_held e)
+offer_at-why s (hold.Reset r) c reachable choice e none k = over-why s c reachable k (ap is_held e) (reset-halt s.scsw.activity.halt_pending r choice none)
 
 two-candidates : (a b : Option Candidate) (c : Candidate) → first_some (a ∷ b ∷ []) ≡ Some c → (a ≡ Some c) ⊎ ((a ≡ None) × (b ≡ Some c))
 two-candidates None None c e = absurd (cc e)

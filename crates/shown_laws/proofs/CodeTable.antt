@@ -1,5 +1,5 @@
 -- The code that is due is that of the instruction's column.
-use Rattle.std.proofs.Common.{◌≡◌, refl, Bool, true, false, Some}
+use Rattle.std.proofs.Common.{◌≡◌, refl, Some}
 use Rattle.chan_events.specs.declared.event.Instruction.{Instruction}
 use Rattle.chan_events.specs.declared.event.Instruction.TheVariants as instruction
 use Rattle.event_laws.specs.Codes.{code_by}

@@ -36,7 +36,7 @@ none-counted k y e f = record {
 }
 
 -- a cause leaves the serials and whether the subchannel is enabled to what it makes
-abbrev IsKept : SubchannelState → SubchannelState → Type 0
+abbrev pub IsKept : SubchannelState → SubchannelState → Type 0
 IsKept s x = (x.pmcw.enabled ≡ s.pmcw.enabled) × (x.serials ≡ s.serials)
 
 end-kept : (s : SubchannelState) (b : ActiveProgram) (last : Bool) → IsKept s (programs_after_end s b last)
@@ -51,7 +51,7 @@ waiting-kept : (s : SubchannelState) (w : Option Program) → IsKept s (without_
 waiting-kept s None = (refl, refl)
 waiting-kept s (Some w) = (refl, refl)
 
-cause-kept : (s : SubchannelState) (c : StatusCause) → IsKept s (row_of s c).left
+pub cause-kept : (s : SubchannelState) (c : StatusCause) → IsKept s (row_of s c).left
 cause-kept s (cause.End b status more) = end-kept s b (is_last_end status)
 cause-kept s (cause.FetchFault tried check count) = begun-kept s s.begun
 cause-kept s cause.Attention = (refl, refl)

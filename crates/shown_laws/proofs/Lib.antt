@@ -25,3 +25,10 @@ mod RequestRuns
 mod Lowest
 mod Order
 mod Oldest
+mod Words
+mod WordRuns
+mod LogicalOffers
+mod Using
+mod LastUsed
+mod Coding
+mod Deferring

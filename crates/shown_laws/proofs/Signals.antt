@@ -72,7 +72,7 @@ not-true : (b : Bool) → not b ≡ true → b ≡ false
 not-true true e = absurd (cc e)
 not-true false e = refl
 
-chains-free : (s : SubchannelState) (b : ActiveProgram) (signal : EndSignal) → chains_command s.scsw b signal.status signal.more ≡ true → b.transfer.unchained ≡ false
+pub chains-free : (s : SubchannelState) (b : ActiveProgram) (signal : EndSignal) → chains_command s.scsw b signal.status signal.more ≡ true → b.transfer.unchained ≡ false
 chains-free s b signal e =
     let breaks : Bool = breaks_chain s.scsw b signal.status signal.more in
     let first = and_parts b.transfer.moving.ccw.chain_command (not b.transfer.moving.ccw.chain_data && (not b.transfer.unchained && not breaks)) e in

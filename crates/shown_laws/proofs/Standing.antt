@@ -185,7 +185,7 @@ or-left : (a b : Bool) → (a || b) ≡ false → a ≡ false
 or-left true b e = absurd (cc e)
 or-left false b e = refl
 
-open-none : (pending : Bool) (a : ActivityControl) → (not pending && is_open a) ≡ true → (a.device_active ≡ false) × (a.suspended ≡ false)
+pub open-none : (pending : Bool) (a : ActivityControl) → (not pending && is_open a) ≡ true → (a.device_active ≡ false) × (a.suspended ≡ false)
 open-none true a e = absurd (cc e)
 open-none false a e =
     let all : (a.resume_pending || (a.halt_pending || (a.clear_pending || (a.subchannel_active || (a.device_active || a.suspended))))) ≡ false = not-true _ e in
@@ -197,7 +197,7 @@ open-none false a e =
     not-true true e = absurd (cc e)
     not-true false e = refl
 
-none-begun : (k : Seen) → Stands k → k.scsw.activity.device_active ≡ false → k.begun ≡ None
+pub none-begun : (k : Seen) → Stands k → k.scsw.activity.device_active ≡ false → k.begun ≡ None
 none-begun k t e = by k.begun refl
   where
     by : (o : Option ActiveProgram) → k.begun ≡ o → o ≡ None

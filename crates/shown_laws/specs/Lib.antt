@@ -5,3 +5,5 @@ pub mod Functions
 pub mod Serials
 pub mod Choices
 pub mod Interruptions
+pub mod Paths
+pub mod Deferred

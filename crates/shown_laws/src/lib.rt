@@ -8,8 +8,10 @@ ghost use Rattle.machine_model.specs.State.{State, opening_of};
 ghost use Rattle.machine_model.specs.Steps.{Run};
 ghost use Rattle.shown_laws.specs.Choices.{AreChoicesRight};
 ghost use Rattle.shown_laws.specs.Codes.{AreCodesRight, AreThree};
+ghost use Rattle.shown_laws.specs.Deferred.{AreDeferredRight};
 ghost use Rattle.shown_laws.specs.Functions.{DoFunctionsFollow};
 ghost use Rattle.shown_laws.specs.Interruptions.{IsAskedFor, IsGivenOnce, IsLowestFirst, IsOldestFirst};
+ghost use Rattle.shown_laws.specs.Paths.{AreOffersLogical, ShowsLastUsed};
 ghost use Rattle.shown_laws.specs.Serials.{AreMade, ArePendingShown};
 
 use machine_laws::{numbers, setups, steps};
@@ -72,4 +74,36 @@ pub fn requests()
     setups();
     steps();
     event_laws::codes();
+}
+
+/// In each run each program is offered, anew or resumed, by a path of the logical-path mask that STORE SUBCHANNEL shows just before
+/// (SA22-7832, chapter 15).
+pub fn logical_offers()
+    ensures logical { (setup : Setup) (h : List Entry) (s : State) → Run (opening_of setup) h s → AreOffersLogical (set_count setup) h }
+{
+    walks();
+    setups();
+    steps();
+}
+
+/// In each run the last-path-used mask that STORE SUBCHANNEL shows is of the path by which an Accept was answered last, or a
+/// reconnection granted, since the subchannel was cleared or reset; it is zero where there is none (SA22-7832, chapter 15).
+pub fn last_used()
+    ensures used { (setup : Setup) (h : List Entry) (s : State) → Run (opening_of setup) h s → ShowsLastUsed (set_count setup) h }
+{
+    walks();
+    setups();
+    steps();
+}
+
+/// In each run a status that an entry makes shows the deferred condition code that is due: 1 where attention, or the last status of
+/// the program before, ends a start that STORE SUBCHANNEL showed to be pending just before, 3 where no path was found, zero of a
+/// clear, and otherwise the one that was shown before; and only START, CLEAR and TEST SUBCHANNEL set it beside (SA22-7832, chapter
+/// 16).
+pub fn deferred_codes()
+    ensures due { (setup : Setup) (h : List Entry) (s : State) → Run (opening_of setup) h s → AreDeferredRight (set_count setup) h }
+{
+    walks();
+    setups();
+    steps();
 }
