@@ -25,16 +25,16 @@ mod MemberSteps
 pub mod UnitTurns
 pub mod HolderRuns
 mod Agrees
-mod LinkHolds
+pub mod LinkHolds
 mod LinkMeets
 mod LinkUnits
 mod LinkPaths
 mod LinkLosses
-mod LinkSubs
+pub mod LinkSubs
 mod LinkPassing
 mod LinkChoices
-mod LinkLists
-mod LinkRuns
+pub mod LinkLists
+pub mod LinkRuns
 mod EngineRuns
 mod PathSteps
 mod PathReportRuns

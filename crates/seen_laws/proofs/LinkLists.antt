@@ -53,7 +53,7 @@ tied-subs old new g (k ∷ ks) (x ∷ xs) h all = (h k x all.0, tied-subs old ne
 named-same : (is_up : ℕ → Bool) (id : SubchannelId) (k : SubSeen) (sub : Subchannel) (b : Bool) → IsTied is_up k sub → is_named id sub ≡ b → ((k.setup.id.set == id.set) && (k.setup.id.number == id.number)) ≡ b
 named-same is_up id k sub b tie e = ap (λ (s : SubchannelSetup). (s.id.set == id.set) && (s.id.number == id.number)) tie.setup ∙ e
 
-of-first : (is_up : ℕ → Bool) (P : SubSeen → Type 0) (id : SubchannelId) (ks : List SubSeen) (subs : List Subchannel) (place : ℕ) (sub : Subchannel) → place_in id subs ≡ Some place →
+pub of-first : (is_up : ℕ → Bool) (P : SubSeen → Type 0) (id : SubchannelId) (ks : List SubSeen) (subs : List Subchannel) (place : ℕ) (sub : Subchannel) → place_in id subs ≡ Some place →
     slice_get subs place ≡ Some sub → ((k : SubSeen) → IsTied is_up k sub → P k) → AreTied is_up ks subs → OfSub P (first_seen id ks)
 of-first is_up P id [] [] place sub e there f all = absurd (cc there)
 of-first is_up P id [] (x ∷ xs) place sub e there f all = absurd all

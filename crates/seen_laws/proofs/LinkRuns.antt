@@ -41,7 +41,7 @@ use Rattle.path_laws.specs.Engines.{IsOnePath}
 use Rattle.step_laws.specs.Walks as walked
 use Rattle.step_laws.specs.Walks.{AreWalks, Walked, IsQuiet, OneSub, OneUnit, Function, Resumes, Clears, Cancels, instruction_of, sweep_event}
 use Rattle.seen_laws.specs.BeginsItsOwn.{is_code_zero}
-use Rattle.seen_laws.specs.Links.{SubSeen, Seen, with_up, sub_met, sub_chosen, sub_reset, sub_cleared, sub_lost, change_named, seen_after, nothing_seen, Throughout, IsMetRight, IsChosenRight, IsEntryRight, KeepsLinks}
+use Rattle.seen_laws.specs.Links.{SubSeen, Seen, with_up, sub_met, sub_chosen, sub_reset, sub_cleared, sub_lost, change_named, seen_after, seen_through, nothing_seen, Throughout, IsMetRight, IsChosenRight, IsEntryRight, KeepsLinks}
 use Rattle.seen_laws.proofs.LinkChoices.{IsChoiceTied, chosen-for, choice-available, due-choice, choose-tied}
 use Rattle.seen_laws.proofs.LinkLists.{AreTied, tied-set, tied-map, tied-subs, of-named, named-tied, named-none, opening-tied}
 use Rattle.seen_laws.proofs.LinkPassing.{MayReturn, IsUpTied, IsDownTied, met-tied, sunk-tied, report-tied, act-tied}
@@ -292,10 +292,6 @@ step-seen walks s (event.Act at what) r new k step engaged tied = walked-seen s 
 step-seen walks s (event.Restart at) r new k step engaged tied = walked-seen s _ r new k (walks s _ r new step) tt engaged tied
 
 -- along a run
-abbrev pub seen_through : ℕ → Seen → List Entry → Seen
-seen_through sets k [] = k
-seen_through sets k (x ∷ xs) = seen_through sets (seen_after sets x.event x.reply k) xs
-
 pub through-more : (sets : ℕ) (k : Seen) (h : List Entry) (x : Entry) → seen_through sets k (h ++ x ∷ []) ≡ seen_after sets x.event x.reply (seen_through sets k h)
 through-more sets k [] x = refl
 through-more sets k (y ∷ h) x = through-more sets (seen_after sets y.event y.reply k) h x

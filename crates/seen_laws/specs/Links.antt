@@ -177,6 +177,11 @@ nothing_offered setup = record { setup = setup; link = Nowhere; asked = 0; first
 abbrev pub nothing_seen : Setup → Seen
 nothing_seen setup = record { up = has_number setup.paths; subs = map nothing_offered setup.subchannels }
 
+-- after these entries, where this was seen before them
+abbrev pub seen_through : ℕ → Seen → List Entry → Seen
+seen_through sets k [] = k
+seen_through sets k (entry ∷ entries) = seen_through sets (seen_after sets entry.event entry.reply k) entries
+
 -- each of these entries keeps to a claim, where this was seen before them
 abbrev pub Throughout : ℕ → (Seen → Event → Reply → Type 0) → Seen → List Entry → Type 0
 Throughout sets Claim k [] = Unit {0}

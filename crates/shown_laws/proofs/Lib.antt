@@ -13,6 +13,7 @@ mod Absent
 mod Fitting
 mod Following
 mod Choosing
+mod HaltRuns
 mod Counted
 mod Made
 mod Pending

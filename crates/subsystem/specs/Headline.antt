@@ -32,6 +32,7 @@ use Rattle.seen_laws.specs.PathReports.{AnswersByPaths}
 use Rattle.shown_laws.specs.Choices.{AreChoicesRight}
 use Rattle.shown_laws.specs.Codes.{AreCodesRight, AreThree}
 use Rattle.shown_laws.specs.Deferred.{AreDeferredRight}
+use Rattle.shown_laws.specs.Halts.{AreHaltsDone}
 use Rattle.shown_laws.specs.Functions.{DoFunctionsFollow}
 use Rattle.shown_laws.specs.Interruptions.{IsAskedFor, IsGivenOnce, IsLowestFirst, IsOldestFirst}
 use Rattle.shown_laws.specs.Paths.{AreOffersLogical, ShowsLastUsed}
@@ -81,6 +82,8 @@ pub record HeadlineHolds (setup : Setup) (h : List Entry) : Type 0 where
   pub oldest_first : IsOldestFirst setup h
   -- the subsystem chooses by the status that is shown just before
   pub choices : AreChoicesRight (set_count setup) h
+  -- and where a halt is shown pending, what is due by where the program is
+  pub halts : AreHaltsDone setup h
   -- RESET CHANNEL PATH and STORE CHANNEL REPORT WORD answer by the paths that are up, the resets that are asked for and what happened
   pub path_reports : AnswersByPaths setup h
   -- what is done for each program can be told: its blocks and words as storage held them, the commands that are sent, the bytes moved

@@ -16,7 +16,7 @@ use seen_laws::{
     one_holder, path_reports,
 };
 use shown_laws::{
-    choices, codes, deferred_codes, functions, last_used, logical_offers, requests, serials,
+    choices, codes, deferred_codes, functions, halts, last_used, logical_offers, requests, serials,
 };
 
 /// In each run of a lawful set-up the headline holds of the entries.
@@ -41,6 +41,7 @@ pub fn headline()
     deferred_codes();
     requests();
     choices();
+    halts();
     path_reports();
     told_by_entries();
 }

@@ -26,6 +26,7 @@ returns c = record {
     lowest_first = c.requests.ensures.lowest setup h s run;
     oldest_first = c.requests.ensures.oldest setup h s run;
     choices = c.choices.ensures.reasons setup h s run;
+    halts = c.halts.ensures.done setup h s lawful run;
     path_reports = c.path_reports.ensures.paths setup h s run;
     programs = c.told_by_entries.ensures.told setup lawful h s run;
   };
