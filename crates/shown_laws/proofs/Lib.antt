@@ -32,3 +32,5 @@ mod Using
 mod LastUsed
 mod Coding
 mod Deferring
+mod Losing
+mod LossRuns

@@ -7,3 +7,4 @@ pub mod Choices
 pub mod Interruptions
 pub mod Paths
 pub mod Deferred
+pub mod Losses
