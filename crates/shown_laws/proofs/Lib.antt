@@ -33,3 +33,5 @@ mod Using
 mod LastUsed
 mod Coding
 mod Deferring
+mod Losing
+mod LossRuns

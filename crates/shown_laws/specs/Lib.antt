@@ -8,3 +8,4 @@ pub mod Halts
 pub mod Interruptions
 pub mod Paths
 pub mod Deferred
+pub mod Losses

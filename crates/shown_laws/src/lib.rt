@@ -13,6 +13,7 @@ ghost use Rattle.shown_laws.specs.Deferred.{AreDeferredRight};
 ghost use Rattle.shown_laws.specs.Halts.{AreHaltsDone};
 ghost use Rattle.shown_laws.specs.Functions.{DoFunctionsFollow};
 ghost use Rattle.shown_laws.specs.Interruptions.{IsAskedFor, IsGivenOnce, IsLowestFirst, IsOldestFirst};
+ghost use Rattle.shown_laws.specs.Losses.{AreLossesRight};
 ghost use Rattle.shown_laws.specs.Paths.{AreOffersLogical, ShowsLastUsed};
 ghost use Rattle.shown_laws.specs.Serials.{AreMade, ArePendingShown};
 
@@ -117,6 +118,16 @@ pub fn last_used()
 /// 16).
 pub fn deferred_codes()
     ensures due { (setup : Setup) (h : List Entry) (s : State) → Run (opening_of setup) h s → AreDeferredRight (set_count setup) h }
+{
+    walks();
+    setups();
+    steps();
+}
+
+/// In each run a path that is lost, or a Notice of restarts, makes a status of a subchannel only where a program was offered and,
+/// since, neither refused by Busy nor let go by a Release, nor cleared or reset (SA22-7832, chapter 16, interface-control check).
+pub fn losses()
+    ensures held { (setup : Setup) (h : List Entry) (s : State) → Run (opening_of setup) h s → AreLossesRight (set_count setup) h }
 {
     walks();
     setups();

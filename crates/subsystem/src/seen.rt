@@ -16,7 +16,8 @@ use seen_laws::{
     one_holder, path_reports,
 };
 use shown_laws::{
-    choices, codes, deferred_codes, functions, halts, last_used, logical_offers, requests, serials,
+    choices, codes, deferred_codes, functions, halts, last_used, logical_offers, losses, requests,
+    serials,
 };
 
 /// In each run of a lawful set-up the headline holds of the entries.
@@ -39,6 +40,7 @@ pub fn headline()
     functions();
     serials();
     deferred_codes();
+    losses();
     requests();
     choices();
     halts();

@@ -21,6 +21,7 @@ returns c = record {
     made = c.serials.ensures.made setup h s run;
     pending = c.serials.ensures.pending setup h s run;
     deferred_codes = c.deferred_codes.ensures.due setup h s run;
+    losses = c.losses.ensures.held setup h s run;
     asked = c.requests.ensures.asked setup h s run;
     given_once = c.requests.ensures.once setup h s run;
     lowest_first = c.requests.ensures.lowest setup h s run;
