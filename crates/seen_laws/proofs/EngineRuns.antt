@@ -55,12 +55,12 @@ use Rattle.path_laws.proofs.PathSets.{without-parts, each-true, each-from, both-
 use Rattle.path_laws.proofs.Turning.{returns-right}
 use Rattle.step_laws.specs.Walks as walked
 use Rattle.step_laws.specs.Walks.{AreWalks, Walked, IsQuiet}
-use Rattle.seen_laws.specs.Links.{Apart, SubSeen, Seen, engaged_by, is_on, IsUp, nothing_seen}
+use Rattle.seen_laws.specs.Links.{Apart, SubSeen, Seen, engaged_by, is_on, IsUp, nothing_seen, seen_through}
 use Rattle.seen_laws.specs.Engines.{is_served, serves, IsIdle, IsOfferRight, IsGrantRight, IsGrantDue, GoesByIdle, status_byte, status_bytes, ShowsServed, ServesOne, IsEntryRight, HasOneEngine}
 use Rattle.seen_laws.proofs.LinkHolds.{Stands, link_at}
 use Rattle.seen_laws.proofs.LinkLists.{AreTied, of-named}
 use Rattle.seen_laws.proofs.LinkPaths.{member-up}
-use Rattle.seen_laws.proofs.LinkRuns.{AreSeen, AreOnePath, IsRunSeen, run-seen, seen_through, through-more, right-more}
+use Rattle.seen_laws.proofs.LinkRuns.{AreSeen, AreOnePath, IsRunSeen, run-seen, through-more, right-more}
 use Rattle.seen_laws.proofs.LinkSubs.{IsTied}
 use Rattle.seen_laws.proofs.OwnRuns.{settled-answered}
 
