@@ -1,8 +1,8 @@
 mod CodeTable
 mod Named
 mod Executed
-mod Turned
-mod Runs
+pub mod Turned
+pub mod Runs
 mod Chosen
 mod Unchained
 mod Holding
@@ -13,7 +13,6 @@ mod Absent
 mod Fitting
 mod Following
 mod Choosing
-mod HaltRuns
 mod Counted
 mod Made
 mod Pending

@@ -4,7 +4,6 @@ pub mod Codes
 pub mod Functions
 pub mod Serials
 pub mod Choices
-pub mod Halts
 pub mod Interruptions
 pub mod Paths
 pub mod Deferred

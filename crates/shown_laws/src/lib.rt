@@ -3,14 +3,12 @@
 
 ghost use Rattle.std.specs.Prelude.{List};
 ghost use Rattle.chan_events.specs.declared.reply.Entry.{Entry};
-ghost use Rattle.channel_config.specs.Lawful.{IsLawful};
 ghost use Rattle.channel_config.specs.Setup.{Setup, set_count};
 ghost use Rattle.machine_model.specs.State.{State, opening_of};
 ghost use Rattle.machine_model.specs.Steps.{Run};
 ghost use Rattle.shown_laws.specs.Choices.{AreChoicesRight};
 ghost use Rattle.shown_laws.specs.Codes.{AreCodesRight, AreThree};
 ghost use Rattle.shown_laws.specs.Deferred.{AreDeferredRight};
-ghost use Rattle.shown_laws.specs.Halts.{AreHaltsDone};
 ghost use Rattle.shown_laws.specs.Functions.{DoFunctionsFollow};
 ghost use Rattle.shown_laws.specs.Interruptions.{IsAskedFor, IsGivenOnce, IsLowestFirst, IsOldestFirst};
 ghost use Rattle.shown_laws.specs.Losses.{AreLossesRight};
@@ -18,7 +16,6 @@ ghost use Rattle.shown_laws.specs.Paths.{AreOffersLogical, ShowsLastUsed};
 ghost use Rattle.shown_laws.specs.Serials.{AreMade, ArePendingShown};
 
 use machine_laws::{numbers, setups, steps};
-use path_laws::engines;
 use step_laws::walks;
 
 /// In each run an instruction on a subchannel answers the condition code of its table for the status that STORE SUBCHANNEL shows
@@ -63,18 +60,6 @@ pub fn choices()
     walks();
     setups();
     steps();
-}
-
-/// In each run of a lawful set-up, where STORE SUBCHANNEL shows a halt pending just before, the subsystem chooses what is due by where the
-/// subchannel's program is: a Halt goes to it where it is connected, the answer to an offer is waited for, and where no program is
-/// anywhere the halt is performed (SA22-7832, chapter 14).
-pub fn halts()
-    ensures done { (setup : Setup) (h : List Entry) (s : State) → IsLawful setup → Run (opening_of setup) h s → AreHaltsDone setup h }
-{
-    walks();
-    setups();
-    steps();
-    engines();
 }
 
 /// In each run TEST PENDING INTERRUPTION of all subclasses gives a request where one stands; it gives none of a subchannel of

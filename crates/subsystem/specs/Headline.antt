@@ -33,7 +33,7 @@ use Rattle.shown_laws.specs.Choices.{AreChoicesRight}
 use Rattle.shown_laws.specs.Codes.{AreCodesRight, AreThree}
 use Rattle.shown_laws.specs.Deferred.{AreDeferredRight}
 use Rattle.shown_laws.specs.Functions.{DoFunctionsFollow}
-use Rattle.shown_laws.specs.Halts.{AreHaltsDone}
+use Rattle.choice_laws.specs.Halts.{AreHaltsDone}
 use Rattle.shown_laws.specs.Interruptions.{IsAskedFor, IsGivenOnce, IsLowestFirst, IsOldestFirst}
 use Rattle.shown_laws.specs.Losses.{AreLossesRight}
 use Rattle.shown_laws.specs.Paths.{AreOffersLogical, ShowsLastUsed}

@@ -9,6 +9,7 @@ ghost use Rattle.machine_model.specs.State.{State, opening_of};
 ghost use Rattle.machine_model.specs.Steps.{Run};
 ghost use Rattle.subsystem.specs.Headline.{HeadlineHolds};
 
+use choice_laws::halts;
 use machine_laws::beginnings;
 use program_claims::told_by_entries;
 use seen_laws::{
@@ -16,7 +17,7 @@ use seen_laws::{
     one_holder, path_reports,
 };
 use shown_laws::{
-    choices, codes, deferred_codes, functions, halts, last_used, logical_offers, losses, requests,
+    choices, codes, deferred_codes, functions, last_used, logical_offers, losses, requests,
     serials,
 };
 

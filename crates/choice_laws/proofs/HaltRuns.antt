@@ -27,7 +27,7 @@ use Rattle.seen_laws.proofs.LinkHolds.{link_at, Stands}
 use Rattle.seen_laws.proofs.LinkLists.{of-first}
 use Rattle.seen_laws.proofs.LinkRuns.{AreOnePath, IsRunSeen, run-seen}
 use Rattle.seen_laws.proofs.LinkSubs.{IsTied}
-use Rattle.shown_laws.specs.Halts.{IsHaltDone, IsHaltDoneFor, IsHaltRight, AreHaltsDone}
+use Rattle.choice_laws.specs.Halts.{IsHaltDone, IsHaltDoneFor, IsHaltRight, AreHaltsDone}
 use Rattle.shown_laws.specs.Shown.{StoredStatus, is_about}
 use Rattle.shown_laws.proofs.Runs.{AreLaws, status_of, run-between}
 use Rattle.shown_laws.proofs.Turned.{Turned, Executes, Chooses, Meets, Sweeps, Rests, reply_chosen}

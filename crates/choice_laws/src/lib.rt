@@ -1,0 +1,27 @@
+//! What the subsystem chooses for a subchannel, by what STORE SUBCHANNEL shows and by where its program is, in every run: theorems over the
+//! list of its entries alone.
+#![tactic(auto)]
+
+ghost use Rattle.std.specs.Prelude.{List};
+ghost use Rattle.chan_events.specs.declared.reply.Entry.{Entry};
+ghost use Rattle.channel_config.specs.Lawful.{IsLawful};
+ghost use Rattle.channel_config.specs.Setup.{Setup};
+ghost use Rattle.choice_laws.specs.Halts.{AreHaltsDone};
+ghost use Rattle.machine_model.specs.State.{State, opening_of};
+ghost use Rattle.machine_model.specs.Steps.{Run};
+
+use machine_laws::{setups, steps};
+use path_laws::engines;
+use step_laws::walks;
+
+/// In each run of a lawful set-up, where STORE SUBCHANNEL shows a halt pending just before, the subsystem chooses what is due by where the
+/// subchannel's program is: a Halt goes to it where it is connected, the answer to an offer is waited for, and where no program is
+/// anywhere the halt is performed (SA22-7832, chapter 14).
+pub fn halts()
+    ensures done { (setup : Setup) (h : List Entry) (s : State) → IsLawful setup → Run (opening_of setup) h s → AreHaltsDone setup h }
+{
+    walks();
+    setups();
+    steps();
+    engines();
+}
