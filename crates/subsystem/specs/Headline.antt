@@ -31,8 +31,11 @@ use Rattle.seen_laws.specs.OneHolder.{HasOneHolder}
 use Rattle.seen_laws.specs.PathReports.{AnswersByPaths}
 use Rattle.shown_laws.specs.Choices.{AreChoicesRight}
 use Rattle.shown_laws.specs.Codes.{AreCodesRight, AreThree}
+use Rattle.shown_laws.specs.Deferred.{AreDeferredRight}
 use Rattle.shown_laws.specs.Functions.{DoFunctionsFollow}
 use Rattle.shown_laws.specs.Interruptions.{IsAskedFor, IsGivenOnce, IsLowestFirst, IsOldestFirst}
+use Rattle.shown_laws.specs.Losses.{AreLossesRight}
+use Rattle.shown_laws.specs.Paths.{AreOffersLogical, ShowsLastUsed}
 use Rattle.shown_laws.specs.Serials.{AreMade, ArePendingShown}
 
 -- of a history, by its entries alone
@@ -53,6 +56,10 @@ pub record HeadlineHolds (setup : Setup) (h : List Entry) : Type 0 where
   pub begins_its_own : BeginsItsOwn (set_count setup) h
   -- after an End with unit check, offers are by its path
   pub dedicated_offers : dedicated.OffersOnDedicated (set_count setup) h
+  -- an offer is by a path of the logical-path mask that STORE SUBCHANNEL shows just before
+  pub logical_offers : AreOffersLogical (set_count setup) h
+  -- the last-path-used mask that it shows is of the path by which an Accept was answered last, or a reconnection granted
+  pub last_used : ShowsLastUsed (set_count setup) h
   -- each accepted start begins at most one program
   pub begun_once : IsBegunOnce (set_count setup) h
   -- each status is cleared by at most one TEST SUBCHANNEL
@@ -65,6 +72,10 @@ pub record HeadlineHolds (setup : Setup) (h : List Entry) : Type 0 where
   -- each cause makes one status; status is pending exactly where fewer were cleared than made
   pub made : AreMade (set_count setup) h
   pub pending : ArePendingShown (set_count setup) h
+  -- a status that is made shows the deferred condition code that is due
+  pub deferred_codes : AreDeferredRight (set_count setup) h
+  -- a path that is lost makes one only of a program that was offered and not let go since
+  pub losses : AreLossesRight (set_count setup) h
   -- a status that is made asks for an interruption until it is given or taken away; it is given once, lower subclasses first, and of one
   -- subclass the oldest first
   pub asked : IsAskedFor (set_count setup) h

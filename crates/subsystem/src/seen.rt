@@ -15,7 +15,10 @@ use seen_laws::{
     begins_its_own, both_agree, by_its_path, dedicated_offers, device_paths, links, one_engine,
     one_holder, path_reports,
 };
-use shown_laws::{choices, codes, functions, requests, serials};
+use shown_laws::{
+    choices, codes, deferred_codes, functions, last_used, logical_offers, losses, requests,
+    serials,
+};
 
 /// In each run of a lawful set-up the headline holds of the entries.
 pub fn headline()
@@ -29,11 +32,15 @@ pub fn headline()
     both_agree();
     begins_its_own();
     dedicated_offers();
+    logical_offers();
+    last_used();
     beginnings();
     cleared_once();
     codes();
     functions();
     serials();
+    deferred_codes();
+    losses();
     requests();
     choices();
     path_reports();
