@@ -68,9 +68,12 @@ done-for m k phase sent clear found reachable choice (inl e) =
     inl (subst (λ (l : Link). IsHaltDone l (reply_chosen m (chosen_at phase (unsent_at phase sent) clear found reachable choice))) (sym e)
     (done-at m phase sent clear found reachable choice))
 done-for m k phase sent clear found reachable choice (inr d) =
-    inr (d.doubt, subst (λ (y : HoldPhase). IsHaltDone (link_at (hold.Reset d.reset) None) (reply_chosen m (chosen_at y (unsent_at y sent) clear found reachable choice))) (sym d.is_reset)
-    (subst (λ (o : Option ℕ). IsHaltDone (link_at (hold.Reset d.reset) None) (reply_chosen m (chosen_at (hold.Reset d.reset) (unsent_at (hold.Reset d.reset) o) clear found reachable choice))) (sym d.unsent)
-    (done-at m (hold.Reset d.reset) None clear found reachable choice)))
+    inr (
+      d.doubt,
+      subst (λ (y : HoldPhase). IsHaltDone (link_at (hold.Reset d.reset) None) (reply_chosen m (chosen_at y (unsent_at y sent) clear found reachable choice))) (sym d.is_reset)
+          (subst (λ (o : Option ℕ). IsHaltDone (link_at (hold.Reset d.reset) None) (reply_chosen m (chosen_at (hold.Reset d.reset) (unsent_at (hold.Reset d.reset) o) clear found reachable choice))) (sym d.unsent)
+          (done-at m (hold.Reset d.reset) None clear found reachable choice)),
+    )
 
 same-unsent : (phase : HoldPhase) (sent : Option ℕ) → (elim phase [ hold.Reset r ↦ elim sent [ None ↦ Some r | Some path ↦ None ] | other ↦ None ]) ≡ unsent_at phase sent
 same-unsent hold.Free sent = refl

@@ -17,8 +17,7 @@ use seen_laws::{
     one_holder, path_reports,
 };
 use shown_laws::{
-    choices, codes, deferred_codes, functions, last_used, logical_offers, losses, requests,
-    serials,
+    choices, codes, deferred_codes, functions, last_used, logical_offers, losses, requests, serials,
 };
 
 /// In each run of a lawful set-up the headline holds of the entries.
